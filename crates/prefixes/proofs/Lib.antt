@@ -1,0 +1,2 @@
+pub mod DerivedOrder
+pub mod PayloadOrder

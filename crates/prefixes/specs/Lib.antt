@@ -1,0 +1,5 @@
+pub mod Address
+pub mod Fault
+pub mod Payload
+pub mod Text
+pub mod TextRows

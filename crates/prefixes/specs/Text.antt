@@ -1,0 +1,98 @@
+-- The texts of prefixes and of AS numbers (RFC 4632 section 3.1; RFC 4291 sections 2.2 and 2.3; RFC 5952 section 4).
+use Rattle.std.specs.Prelude.{◌≡◌, ◌⊎◌, ℕ, ◌+◌, ◌-◌, ◌/◌, ◌%◌, ◌^◌, ◌≤◌, ◌<◌, List, [], ◌∷◌, ◌++◌, length, map, replicate, Result, Ok, Err, codes, ⊤}
+use Rattle.std.specs.List.{join_with_byte}
+use Rattle.std.specs.Fmt.{decimal}
+use Rattle.std.specs.Net.Text.{dotted_text, hex_groups_text}
+use Rattle.std.specs.Str.Parse.{IsNumeral, digits_value}
+use Rattle.prefixes.specs.Address.{HasNoHostBits, IsPrefix}
+use Rattle.prefixes.specs.Payload.{block_of, width_of}
+use Rattle.prefixes.specs.declared.fault.PrefixFault.{PrefixFault}
+use Rattle.prefixes.specs.declared.fault.PrefixFault.TheVariants as faults
+use Rattle.prefixes.specs.declared.prefix.IpPrefix.{IpPrefix}
+use Rattle.prefixes.specs.declared.prefix.IpPrefix.TheVariants.{V4, V6}
+
+-- What a text says is one thing, and whether that is a prefix another: a text may say a length over the width, or set host bits.
+
+-- An IPv4 address is its four bytes as decimal numbers without leading zeros, joined by dots.
+abbrev pub v4_address : ℕ → List ℕ
+v4_address addr = dotted_text (addr / 2 ^ 24) (addr / 2 ^ 16 % 2 ^ 8) (addr / 2 ^ 8 % 2 ^ 8) (addr % 2 ^ 8)
+
+-- An IPv6 address is eight groups of 16 bits, the highest first.
+abbrev pub groups : ℕ → List ℕ
+groups addr = map (λ k. addr / 2 ^ k % 2 ^ 16) (112 ∷ 96 ∷ 80 ∷ 64 ∷ 48 ∷ 32 ∷ 16 ∷ 0 ∷ [])
+
+-- A group is read from one to four hexadecimal digits of either case.
+abbrev pub IsGroup : ℕ → List ℕ → Type 0
+IsGroup group text = IsNumeral 16 text × (length text ≤ 4) × (digits_value 16 text ≡ group)
+
+abbrev pub AreGroups : List ℕ → List (List ℕ) → Type 0
+AreGroups [] [] = ⊤
+AreGroups (group ∷ more) (text ∷ texts) = IsGroup group text × AreGroups more texts
+AreGroups [] (text ∷ texts) = ⊥
+AreGroups (group ∷ more) [] = ⊥
+
+abbrev pub joined_by_colons : List (List ℕ) → List ℕ
+joined_by_colons texts = join_with_byte 58 texts
+
+-- The eight groups are joined by colons ..
+abbrev pub IsFull : List ℕ → List ℕ → Type 0
+IsFull all text = (texts : List (List ℕ)) × AreGroups all texts × (text ≡ joined_by_colons texts)
+
+-- .. or `::` stands between groups, at most seven, for one zero group or more.
+pub record IsCompressed (all text : List ℕ) : Type 0 where
+  pub before : List ℕ
+  pub after : List ℕ
+  pub zeros : ℕ
+  pub some : 0 < zeros
+  pub all_are : all ≡ before ++ replicate zeros 0 ++ after
+  pub left : List (List ℕ)
+  pub right : List (List ℕ)
+  pub before_are : AreGroups before left
+  pub after_are : AreGroups after right
+  pub text_is : text ≡ joined_by_colons left ++ codes "::" ++ joined_by_colons right
+
+abbrev pub IsV6Address : ℕ → List ℕ → Type 0
+IsV6Address addr text = IsFull (groups addr) text ⊎ IsCompressed (groups addr) text
+
+abbrev pub IsAddress : IpPrefix → List ℕ → Type 0
+IsAddress (V4 p) text = (p.addr < 2 ^ 32) × (text ≡ v4_address p.addr)
+IsAddress (V6 p) text = (p.addr < 2 ^ 128) × IsV6Address p.addr text
+
+-- A text says an address and a length: the address, a slash, and the length in one to three decimal digits without a leading zero.
+pub record Says (p : IpPrefix) (text : List ℕ) : Type 0 where
+  pub address : List ℕ
+  pub is_address : IsAddress p address
+  pub three_digits : (block_of p).len < 1000
+  pub text_is : text ≡ address ++ codes "/" ++ decimal (block_of p).len
+
+-- A text is a readable spelling of a prefix.
+pub record PrefixText (p : IpPrefix) (text : List ℕ) : Type 0 where
+  pub is_prefix : IsPrefix (width_of p) (block_of p)
+  pub says : Says p text
+
+-- What is read from a text: the prefix that it spells, or why it spells none. A text that says no address and length is no
+-- prefix's; then the length is judged, then the host bits.
+abbrev pub ReadsAs : List ℕ → Result IpPrefix PrefixFault → Type 0
+ReadsAs text (Ok p) = PrefixText p text
+ReadsAs text (Err faults.BadText) = (p : IpPrefix) → ¬ (Says p text)
+ReadsAs text (Err faults.TooLong) = (p : IpPrefix) × Says p text × (width_of p < (block_of p).len)
+ReadsAs text (Err faults.HostBits) =
+    (p : IpPrefix) × Says p text × ((block_of p).len ≤ width_of p) × ¬ (HasNoHostBits (width_of p) (block_of p).addr (block_of p).len)
+ReadsAs text (Err faults.MaxLength) = ⊥
+
+-- The one spelling that is written. An IPv6 address is written in lower case without leading zeros, and `::` stands for the
+-- first longest run of two or more zero groups.
+abbrev pub written_address : IpPrefix → List ℕ
+written_address (V4 p) = v4_address p.addr
+written_address (V6 p) = hex_groups_text (groups p.addr)
+
+abbrev pub written_text : IpPrefix → List ℕ
+written_text p = written_address p ++ codes "/" ++ decimal (block_of p).len
+
+-- No text says two things.
+abbrev pub OneReading : Type 0
+OneReading = (text : List ℕ) (p q : IpPrefix) → Says p text → Says q text → p ≡ q
+
+-- What is written for a prefix spells it.
+abbrev pub WrittenIsRead : Type 0
+WrittenIsRead = (p : IpPrefix) → IsPrefix (width_of p) (block_of p) → PrefixText p (written_text p)

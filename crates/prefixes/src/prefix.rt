@@ -1,0 +1,118 @@
+//! Prefixes of one family, and of either.
+ghost use Rattle.std.specs.Prelude.{◌≡◌, ℕ, ◌-◌, ◌/◌, ◌%◌, ◌^◌, ◌<◌, ◌≤◌, ◌↔◌, IsTrue, IfOk, IsOk, Err};
+ghost use Rattle.prefixes.specs.Address.{Block, HasNoHostBits, IsPrefix, contains};
+
+use crate::family::{Family, V4, V6};
+use crate::fault::PrefixFault;
+use std::marker::{Model, PhantomData};
+
+/// A prefix of the family `F`: an address and how many of its first bits count, all others being zero
+/// (RFC 4632 section 3.1, RFC 4291 section 2.3).
+#[derive_where(Clone, Copy, PartialEq, Eq, PartialOrd, Ord, Hash)]
+pub struct Prefix<F: Family> {
+    addr: u128,
+    len: u8,
+    family: PhantomData<F>,
+}
+
+impl<F: Family> Model for Prefix<F> {
+    ghost use Rattle.std.specs.Prelude.{◌≡◌, ℕ, ◌-◌, ◌^◌, ◌<◌, ◌≤◌};
+    ghost use Rattle.prefixes.specs.Address.{Block, IsPrefix};
+
+    ghost Value = { Block };
+
+    ghost view = { λ p. record { addr = p.addr; len = p.len } };
+
+    ghost invariant = { λ p. IsPrefix F.WIDTH (record { addr = p.addr; len = p.len }) };
+
+    ghost inverse = { λ p. record { addr = p.addr; len = p.len; family = record {} } };
+}
+
+impl<F: Family> Prefix<F> {
+    /// The prefix of this address, a number below 2 to the family's width, and of this length in bits.
+    pub fn new(addr: u128, len: u8) -> Result<Self, PrefixFault>
+        requires { addr < 2 ^ F.WIDTH }
+        ensures ok { IfOk result (λ p. p ≡ record { addr = addr; len = len }) }
+        ensures valid { IsOk result ↔ ((len ≤ F.WIDTH) × HasNoHostBits F.WIDTH addr len) }
+        ensures too_long { result ≡ Err PrefixFault.TooLong ↔ (F.WIDTH < len) }
+        ensures host_bits { result ≡ Err PrefixFault.HostBits ↔ ((len ≤ F.WIDTH) × ¬ (HasNoHostBits F.WIDTH addr len)) }
+    {
+        if F::WIDTH < len {
+            return Err(PrefixFault::TooLong);
+        }
+        let host = F::WIDTH - len;
+        let host_bits = if host == 128 {
+            addr
+        } else {
+            addr % (1u128 << host)
+        };
+        if host_bits != 0 {
+            return Err(PrefixFault::HostBits);
+        }
+        Ok(Prefix {
+            addr,
+            len,
+            family: PhantomData,
+        })
+    }
+
+    /// The address, as a number below 2 to the family's width.
+    pub fn addr(&self) -> u128
+        ensures value { result ≡ self.now.addr }
+        ensures prefix { IsPrefix F.WIDTH self.now }
+    {
+        self.addr
+    }
+
+    /// How many of the first bits count.
+    pub fn len(&self) -> u8
+        ensures value { result ≡ self.now.len }
+        ensures prefix { IsPrefix F.WIDTH self.now }
+    {
+        self.len
+    }
+
+    /// Whether each address of `other` is one of this prefix (RFC 6811 section 2, "Covered").
+    pub fn covers(&self, other: &Prefix<F>) -> bool
+        ensures { result ≡ contains F.WIDTH self.now other.now }
+    {
+        if other.len < self.len {
+            return false;
+        }
+        let host = F::WIDTH - self.len;
+        host == 128 || self.addr >> host == other.addr >> host
+    }
+}
+
+/// A prefix of either family. All of IPv4 stand before all of IPv6; within a family the order is by address, then length.
+#[derive(Clone, Copy, PartialEq, Eq, PartialOrd, Ord, Hash)]
+pub enum IpPrefix {
+    V4(Prefix<V4>),
+    V6(Prefix<V6>),
+}
+
+impl IpPrefix {
+    ghost use Rattle.prefixes.specs.Payload.{block_of, covers, width_of};
+
+    /// Whether they are of one family, and each address of `other` is one of this prefix.
+    pub fn covers(&self, other: &IpPrefix) -> bool
+        ensures { result ≡ covers self.now other.now }
+    {
+        match (self, other) {
+            (IpPrefix::V4(p), IpPrefix::V4(q)) => p.covers(q),
+            (IpPrefix::V6(p), IpPrefix::V6(q)) => p.covers(q),
+            _ => false,
+        }
+    }
+
+    /// How many of the first bits count.
+    pub fn len(&self) -> u8
+        ensures value { result ≡ (block_of self.now).len }
+        ensures prefix { IsPrefix (width_of self.now) (block_of self.now) }
+    {
+        match self {
+            IpPrefix::V4(p) => p.len(),
+            IpPrefix::V6(p) => p.len(),
+        }
+    }
+}

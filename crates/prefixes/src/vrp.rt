@@ -1,0 +1,83 @@
+//! Validated ROA payloads.
+ghost use Rattle.std.specs.Prelude.{◌≡◌, ℕ, ◌-◌, ◌/◌, ◌%◌, ◌^◌, ◌<◌, ◌≤◌, ◌↔◌, IsTrue, IfOk, IsOk, OnErr, Err};
+ghost use Rattle.prefixes.specs.Payload.{Payload, IsPayload, width_of, block_of, vrp_cmp};
+
+use crate::asn::Asn;
+use crate::fault::PrefixFault;
+use crate::prefix::IpPrefix;
+use std::cmp::Ordering;
+use std::marker::Model;
+
+/// A validated ROA payload: the AS may originate the prefix, and its parts up to the maximum length
+/// (RFC 6811 section 2). Payloads are ordered by family, address, length, maximum, AS.
+#[derive(Clone, Copy, PartialEq, Eq, PartialOrd, Ord, Hash)]
+pub struct Vrp {
+    prefix: IpPrefix,
+    max_len: u8,
+    asn: Asn,
+}
+
+impl Model for Vrp {
+    ghost use Rattle.prefixes.specs.Payload.{Payload, IsPayload};
+
+    ghost Value = { Payload };
+
+    ghost view = { λ v. record { prefix = v.prefix; max_len = v.max_len; asn = v.asn.0 } };
+
+    ghost invariant = { λ v. IsPayload (record { prefix = v.prefix; max_len = v.max_len; asn = v.asn.0 }) };
+
+    ghost inverse = { λ v. record { prefix = v.prefix; max_len = v.max_len; asn = record { 0 = v.asn } } };
+}
+
+impl Vrp {
+    /// The payload of these, or `MaxLength` where the maximum is below the prefix's length or over its family's width.
+    pub fn new(prefix: IpPrefix, max_len: u8, asn: Asn) -> Result<Self, PrefixFault>
+        ensures ok { IfOk result (λ v. v ≡ record { prefix = prefix; max_len = max_len; asn = asn.0 }) }
+        ensures valid { IsOk result ↔ (((block_of prefix).len ≤ max_len) × (max_len ≤ width_of prefix)) }
+        ensures only { OnErr result (result ≡ Err PrefixFault.MaxLength) }
+    {
+        let (len, width) = match prefix {
+            IpPrefix::V4(p) => (p.len(), 32),
+            IpPrefix::V6(p) => (p.len(), 128),
+        };
+        if max_len < len || width < max_len {
+            return Err(PrefixFault::MaxLength);
+        }
+        Ok(Vrp {
+            prefix,
+            max_len,
+            asn,
+        })
+    }
+
+    /// What the AS may originate.
+    pub fn prefix(&self) -> IpPrefix
+        ensures value { result ≡ self.now.prefix }
+        ensures payload { IsPayload self.now }
+    {
+        self.prefix
+    }
+
+    /// The greatest length, in bits, of a prefix that the AS may originate.
+    pub fn max_len(&self) -> u8
+        ensures value { result ≡ self.now.max_len }
+        ensures payload { IsPayload self.now }
+    {
+        self.max_len
+    }
+
+    /// The AS that may originate the prefix; AS 0 stands for none (RFC 6483 section 4).
+    pub fn asn(&self) -> Asn
+        ensures value { result.0 ≡ self.now.asn }
+        ensures payload { IsPayload self.now }
+    {
+        self.asn
+    }
+}
+
+/// The order in which sets of payloads are listed: family, address, length, maximum, AS.
+pub fn order(a: &Vrp, b: &Vrp) -> Ordering
+    ensures { result ≡ vrp_cmp a.now b.now }
+{
+    a.cmp(b)
+}
