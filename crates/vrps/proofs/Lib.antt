@@ -1,0 +1,5 @@
+pub mod Listed
+pub mod OriginRows
+pub mod SerialRows
+pub mod SetLaws
+pub mod Sorting

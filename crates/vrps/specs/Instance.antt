@@ -1,0 +1,57 @@
+-- What a cache publishes under one session (RFC 8210 sections 2 and 5.1).
+use Rattle.std.specs.Prelude.{◌≡◌, ◌≢◌, ℕ, ◌<◌, ◌^◌, ◌==◌, List, [], ◌∷◌, length, find, Option, option_and_then, ⊤}
+use Rattle.std.specs.Option.{option_map}
+use Rattle.std.specs.List.{AllByRecursion}
+use Rattle.vrps.specs.VrpSet.{VrpSet, IsVrpSet}
+use Rattle.vrps.specs.Serial.{serial_at}
+
+-- An instance of a cache: its session, the serial of its first version, and the sets that it published, the newest first
+pub record Instance : Type 0 where
+  pub session : ℕ
+  pub start : ℕ
+  pub sets : List VrpSet
+
+-- a published set with its serial
+pub record Version : Type 0 where
+  pub serial : ℕ
+  pub set : VrpSet
+
+-- Each version under its serial, the newest first. The oldest set stands at position 0.
+abbrev pub versions_from : ℕ → List VrpSet → List Version
+versions_from start [] = []
+versions_from start (set ∷ older) = record { serial = serial_at start (length older); set = set } ∷ versions_from start older
+
+abbrev pub versions : Instance → List Version
+versions i = versions_from i.start i.sets
+
+-- No set equals the one published before it.
+abbrev pub AreNews : List VrpSet → Type 0
+AreNews [] = ⊤
+AreNews (set ∷ []) = ⊤
+AreNews (set ∷ before ∷ older) = (set ≢ before) × AreNews (before ∷ older)
+
+pub record IsInstance (i : Instance) : Type 0 where
+  pub session : i.session < 2 ^ 16
+  pub start : i.start < 2 ^ 32
+  pub sets : AllByRecursion IsVrpSet i.sets
+  pub news : AreNews i.sets
+
+-- the newest of these versions that has this serial
+abbrev pub with_serial : ℕ → List Version → Option Version
+with_serial serial vs = find (λ v. v.serial == serial) vs
+
+-- What was published under a session and a serial: the newest such set of the instance with that session. The newest instance
+-- stands first.
+abbrev pub named : List Instance → ℕ → ℕ → Option VrpSet
+named instances session serial =
+    option_and_then (λ i. option_map (λ v. v.set) (with_serial serial (versions i))) (find (λ i. i.session == session) instances)
+
+-- The premise that one session number stands for one instance
+abbrev pub SessionsDiffer : List Instance → Type 0
+SessionsDiffer [] = ⊤
+SessionsDiffer (i ∷ older) = AllByRecursion (λ j. i.session ≢ j.session) older × SessionsDiffer older
+
+-- the instances of one cache, under that premise
+pub record AreInstances (instances : List Instance) : Type 0 where
+  pub each : AllByRecursion IsInstance instances
+  pub sessions_differ : SessionsDiffer instances

@@ -1,0 +1,11 @@
+//! Sets of validated ROA payloads, changes between them, serials, and the states of routes.
+#![tactic(auto)]
+
+pub mod laws;
+mod origin;
+mod serial;
+mod set;
+
+pub use origin::{OriginIndex, OriginState};
+pub use serial::Serial;
+pub use set::{SetFault, VrpSet};

@@ -1,0 +1,17 @@
+//! Serial numbers.
+ghost use Rattle.std.specs.Prelude.{◌≡◌};
+ghost use Rattle.vrps.specs.Serial.{is_before};
+
+/// The serial number of a version; it goes on from 2^32 - 1 with 0 (RFC 8210 section 2).
+#[derive(Clone, Copy, Debug, PartialEq, Eq)]
+pub struct Serial(pub u32);
+
+impl Serial {
+    /// Whether `other` is 1 to 2^31 - 1 versions ahead (RFC 1982 section 3.2).
+    pub fn is_before(self, other: Serial) -> bool
+        ensures { result ≡ is_before self.0 other.0 }
+    {
+        let ahead = other.0.wrapping_sub(self.0);
+        1 <= ahead && ahead < 1 << 31
+    }
+}

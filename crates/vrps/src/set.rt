@@ -1,0 +1,122 @@
+//! Sets of validated ROA payloads.
+ghost use Rattle.std.specs.Prelude.{◌≡◌, ℕ, ◌<◌, ◌≤◌, ◌↔◌, IsTrue, IfOk, Err, OnErr};
+ghost use Rattle.std.specs.List.{All};
+ghost use Rattle.std.specs.List.Sorted.{IsStrictlySortedBy};
+ghost use Rattle.prefixes.specs.Payload.{IsPayload, vrp_cmp};
+ghost use Rattle.vrps.specs.VrpSet.{IsVrpSet, empty, has, listing, size, set_of};
+
+use prefixes::Vrp;
+use std::alloc::Global;
+use std::marker::Model;
+
+/// Why there is no set. The numbers are fixed.
+#[derive(Clone, Copy, Debug, PartialEq, Eq)]
+pub enum SetFault {
+    /// Over 16,777,215 different records.
+    TooMany = 1,
+    /// Want of memory.
+    Memory = 2,
+}
+
+impl SetFault {
+    ghost use Rattle.vrps.specs.Fault.{fault_number};
+
+    /// The number by which the fault is printed.
+    pub fn number(self) -> u8
+        ensures { result ≡ fault_number self }
+    {
+        self as u8
+    }
+}
+
+/// A set of validated ROA payloads, at most 16,777,215 of them.
+#[derive(Drop)]
+pub struct VrpSet {
+    items: Vec<Vrp>,
+}
+
+impl Model for VrpSet {
+    ghost use Rattle.std.specs.FinMap as map;
+    ghost use Rattle.prefixes.specs.Payload.{coded_payload};
+    ghost use Rattle.vrps.specs.VrpSet.{VrpSet as Vrps, IsListing, set_of};
+    ghost use base.Stored.{coded_unit};
+
+    ghost Value = { Vrps };
+
+    ghost coded = { map.code coded_payload coded_unit };
+
+    ghost view = { λ s. set_of s.items.items };
+
+    ghost invariant = { λ s. IsListing s.items.items };
+}
+
+impl VrpSet {
+    /// The most records that a set may have.
+    pub const LIMIT: usize = 16_777_215;
+
+    /// The set without a member. It takes no memory.
+    pub fn empty(alloc: Global) -> VrpSet
+        ensures { result ≡ empty }
+    {
+        VrpSet {
+            items: Vec::new(alloc),
+        }
+    }
+
+    /// The set of a list, in which doubles count once. `TooMany` is its only error: the list itself is sorted.
+    pub fn from_list(list: Vec<Vrp>) -> Result<VrpSet, SetFault>
+        ensures ok { IfOk result (λ s. s ≡ set_of list.items) }
+        ensures too_many { result ≡ Err SetFault.TooMany ↔ (16777215 < size (set_of list.items)) }
+        ensures only { OnErr result (result ≡ Err SetFault.TooMany) }
+    {
+        let items = ascending(list);
+        if items.len() > Self::LIMIT {
+            return Err(SetFault::TooMany);
+        }
+        know_payloads(items.as_slice());
+        Ok(VrpSet { items })
+    }
+
+    /// How many members there are.
+    pub fn len(&self) -> usize
+        ensures value { result ≡ size self.now }
+        ensures set { IsVrpSet self.now }
+    {
+        self.items.len()
+    }
+
+    /// Whether there is no member.
+    pub fn is_empty(&self) -> bool
+        ensures { IsTrue result ↔ (size self.now ≡ 0) }
+    {
+        self.len() == 0
+    }
+
+    /// The members in ascending order.
+    pub fn as_slice(&self) -> &[Vrp]
+        ensures value { result.now ≡ listing self.now }
+        ensures set { IsVrpSet self.now }
+    {
+        &self.items
+    }
+}
+
+/// The same records in ascending order, each once.
+fn ascending(list: Vec<Vrp>) -> Vec<Vrp>
+    ensures ascending { IsStrictlySortedBy vrp_cmp result.items }
+    ensures same { set_of result.items ≡ set_of list.items }
+{
+    let mut items = list;
+    items.sort_unstable();
+    items.dedup();
+    items
+}
+
+/// Looks at each record once. That it is a payload is known of a value that is looked at.
+fn know_payloads(records: &[Vrp])
+    ensures { All IsPayload records.now }
+{
+    for vrp in records {
+        let _payload = vrp.asn();
+    }
+}
