@@ -1,0 +1,3 @@
+pub mod CommitLaws
+pub mod HistoryLaws
+pub mod Rows

@@ -1,0 +1,72 @@
+-- What a cache answers (RFC 8210 sections 5, 8 and 12).
+use Rattle.std.specs.Prelude.{◌≡◌, ℕ, Bool, true, false, ◌==◌, List, [], ◌∷◌, ◌++◌, take, map, Option, Some, None, if◌then◌else◌}
+use Rattle.std.specs.List.{flat_map}
+use Rattle.vrps.specs.Change.{Difference, between}
+use Rattle.vrps.specs.Instance.{Instance, Version, versions, with_serial}
+use Rattle.vrps.specs.VrpSet.{VrpSet, listing}
+use Rattle.rtr_pdu.specs.Payloads.{Report}
+use Rattle.rtr_pdu.specs.Unit.{unit_bytes}
+use Rattle.rtr_pdu.specs.declared.unit.Unit.{Unit}
+use Rattle.rtr_pdu.specs.declared.unit.Unit.TheVariants.{SerialNotify, SerialQuery, ResetQuery, CacheResponse, Prefix, EndOfData, CacheReset, RouterKey, ErrorReport}
+use Rattle.rtr_ends.specs.Timing.{Intervals}
+
+-- What a cache sends, and whether the connection goes on after it
+pub record Reply : Type 0 where
+  pub units : List Unit
+  pub goes_on : Bool
+
+abbrev pub and_on : List Unit → Reply
+and_on units = record { units = units; goes_on = true }
+
+abbrev pub and_end : List Unit → Reply
+and_end units = record { units = units; goes_on = false }
+
+-- A unit as it is sent, in protocol version 1
+abbrev pub sent : Unit → List ℕ
+sent u = unit_bytes 1 u
+
+-- the bytes of units, one after the other
+abbrev pub sent_all : List Unit → List ℕ
+sent_all units = flat_map sent units
+
+-- An Error Report with an empty text. What does not fit is left out of the copy (section 5.11).
+abbrev pub report : ℕ → List ℕ → Unit
+report code copy = ErrorReport (record { code = code; copy = take 4080 copy; text = [] })
+
+abbrev pub announcements : VrpSet → List Unit
+announcements s = map (λ v. Prefix true v) (listing s)
+
+abbrev pub withdrawals : VrpSet → List Unit
+withdrawals s = map (λ v. Prefix false v) (listing s)
+
+-- Cache Response, these records, and End of Data of this version (section 8.1)
+abbrev pub response : ℕ → Intervals → Version → List Unit → List Unit
+response session t now records =
+    CacheResponse session ∷ records ++ EndOfData session now.serial t.refresh t.retry t.expire ∷ []
+
+-- To a Reset Query: all of the current version (section 8.1). Where nothing is published: No Data Available (section 8.4).
+abbrev pub whole_answer : ℕ → Intervals → List Version → List Unit
+whole_answer session t [] = report 2 (sent ResetQuery) ∷ []
+whole_answer session t (now ∷ older) = response session t now (announcements now.set)
+
+-- What leads from a version that is kept to the current one, withdrawals first (section 8.2), or a Cache Reset (section 8.3)
+abbrev pub step_answer : ℕ → Intervals → Version → Option Version → List Unit
+step_answer session t now None = CacheReset ∷ []
+step_answer session t now (Some before) =
+    let change = between before.set now.set in
+    response session t now (withdrawals change.withdraw ++ announcements change.announce)
+
+-- To a Serial Query of this session: the newest version of that serial among the current one and the keep versions before it
+abbrev pub serial_answer : ℕ → ℕ → Intervals → ℕ → List Version → List Unit
+serial_answer session keep t serial [] = report 2 (sent (SerialQuery session serial)) ∷ []
+serial_answer session keep t serial (now ∷ older) = step_answer session t now (with_serial serial (now ∷ take keep older))
+
+-- The answer to a unit, as the cache was when the unit was read. Another session than the cache's: Corrupt Data; an Error
+-- Report: nothing; another unit: Invalid Request. After these three the connection ends.
+abbrev pub answer : Instance → ℕ → Intervals → Unit → Reply
+answer i keep t ResetQuery = and_on (whole_answer i.session t (versions i))
+answer i keep t (SerialQuery session serial) =
+    if session == i.session then and_on (serial_answer i.session keep t serial (versions i))
+    else and_end (report 0 (sent (SerialQuery session serial)) ∷ [])
+answer i keep t (ErrorReport r) = and_end []
+answer i keep t u = and_end (report 3 (sent u) ∷ [])

@@ -1,0 +1,162 @@
+-- A connection at the cache: what may happen on it, and what is sent (RFC 8210 sections 5, 7, 8 and 12).
+use Rattle.std.specs.Prelude.{◌≡◌, ℕ, ◌≤◌, Bool, true, false, not, ◌||◌, ◌&&◌, ◌==◌, List, [], ◌∷◌, ◌++◌, length, take, drop, Option, IsTrue, MatchBool, if◌then◌else◌, ⊤}
+use Rattle.vrps.specs.Instance.{Instance, Version, versions}
+use Rattle.vrps.specs.VrpSet.{VrpSet}
+use Rattle.rtr_pdu.specs.Stream.{IsPartial, IsShortest, Shows, Splits, type_of}
+use Rattle.rtr_pdu.specs.Unit.{Reads}
+use Rattle.rtr_pdu.specs.declared.unit.Unit.{Unit}
+use Rattle.rtr_pdu.specs.declared.unit.Unit.TheVariants.{SerialNotify, SerialQuery, ResetQuery}
+use Rattle.rtr_pdu.specs.declared.unit.UnitFault.{UnitFault}
+use Rattle.rtr_pdu.specs.declared.unit.UnitFault.TheVariants as faults
+use Rattle.rtr_ends.specs.Answer.{Reply, and_on, and_end, answer, report, sent_all}
+use Rattle.rtr_ends.specs.Timing.{Intervals}
+
+-- What happens, as the cache is then: bytes were read as a unit; so they were, and memory for its answer was wanting; bytes
+-- show a fault; the router is notified; or this many of the bytes due were pulled.
+pub data Moment : Type 0 where
+  Read : (cache : Instance) → (unit : Unit) → (bytes : List ℕ) → Moment
+  Wanting : (cache : Instance) → (unit : Unit) → (bytes : List ℕ) → Moment
+  Fault : (fault : UnitFault) → (bytes : List ℕ) → Moment
+  Notify : (cache : Instance) → Moment
+  Pull : (count : ℕ) → Moment
+
+-- The bytes that came by it
+abbrev pub bytes_of : Moment → List ℕ
+bytes_of (Read cache unit bytes) = bytes
+bytes_of (Wanting cache unit bytes) = bytes
+bytes_of (Fault fault bytes) = bytes
+bytes_of (Notify cache) = []
+bytes_of (Pull count) = []
+
+-- A query that is read is the agreement on the version (section 7).
+abbrev pub is_query : Unit → Bool
+is_query (SerialQuery session serial) = true
+is_query ResetQuery = true
+is_query u = false
+
+-- The code of a fault (section 12): the version, before and after agreement; the type; corrupt data
+abbrev pub fault_code : Bool → UnitFault → ℕ
+fault_code agreed faults.Version = if agreed then 8 else 4
+fault_code agreed faults.«Type» = 5
+fault_code agreed fault = 0
+
+-- The report on a fault copies the bytes as they came. There is none on a unit of type 10, nor where the input ends in a unit.
+abbrev pub fault_report : Bool → UnitFault → List ℕ → List Unit
+fault_report agreed faults.Truncated bytes = []
+fault_report agreed fault bytes = if type_of bytes == 10 then [] else report (fault_code agreed fault) bytes ∷ []
+
+-- A Serial Notify of the current version, where there is one (section 5.2)
+abbrev pub notice : ℕ → List Version → List Unit
+notice session [] = []
+notice session (now ∷ older) = SerialNotify session now.serial ∷ []
+
+-- What the cache sends at a moment. Want of memory is an Internal Error, and ends the connection.
+abbrev pub reply : ℕ → Intervals → Bool → Moment → Reply
+reply keep t agreed (Read cache unit bytes) = answer cache keep t unit
+reply keep t agreed (Wanting cache unit bytes) = and_end (report 1 [] ∷ [])
+reply keep t agreed (Fault fault bytes) = and_end (fault_report agreed fault bytes)
+reply keep t agreed (Notify cache) = and_on (notice cache.session (versions cache))
+reply keep t agreed (Pull count) = and_on []
+
+abbrev pub agreed_after : Bool → Moment → Bool
+agreed_after agreed (Read cache unit bytes) = agreed || is_query unit
+agreed_after agreed m = agreed
+
+-- What is sent on a connection: the replies in order, to the first that ends it
+abbrev pub replies_from : ℕ → Intervals → Bool → List Moment → List Unit
+replies_from keep t agreed [] = []
+replies_from keep t agreed (m ∷ later) =
+    let now = reply keep t agreed m in
+    now.units ++ (if now.goes_on then replies_from keep t (agreed_after agreed m) later else [])
+
+abbrev pub replies : ℕ → Intervals → List Moment → List ℕ
+replies keep t moments = sent_all (replies_from keep t false moments)
+
+abbrev pub is_published : Instance → Bool
+is_published i = not (length i.sets == 0)
+
+-- the units whose answers take memory: those that list records
+abbrev pub takes_memory : Instance → Unit → Bool
+takes_memory i ResetQuery = is_published i
+takes_memory i (SerialQuery session serial) = session == i.session && is_published i
+takes_memory i u = false
+
+-- A moment is what it says of its bytes and of the cache.
+abbrev pub IsMoment : Moment → Type 0
+IsMoment (Read cache unit bytes) = Reads 1 unit bytes
+IsMoment (Wanting cache unit bytes) = Reads 1 unit bytes × IsTrue (takes_memory cache unit)
+IsMoment (Fault fault bytes) = Shows 1 bytes fault × IsShortest 1 false bytes
+IsMoment (Notify cache) = IsTrue (is_published cache)
+IsMoment (Pull count) = ⊤
+
+-- A connection between two moments: the cache as it was last, whether a version was agreed on, whether it has ended, and the
+-- bytes due, which were sent and not pulled yet
+pub record Connection : Type 0 where
+  pub cache : Instance
+  pub agreed : Bool
+  pub ended : Bool
+  pub due : List ℕ
+
+abbrev pub opened : Instance → Connection
+opened i = record { cache = i; agreed = false; ended = false; due = [] }
+
+abbrev pub cache_after : Instance → Moment → Instance
+cache_after i (Read cache unit bytes) = cache
+cache_after i (Wanting cache unit bytes) = cache
+cache_after i (Notify cache) = cache
+cache_after i m = i
+
+-- One cache is there, which publishes more and more.
+pub record IsLater (earlier later : Instance) : Type 0 where
+  pub session : earlier.session ≡ later.session
+  pub start : earlier.start ≡ later.start
+  pub more : List VrpSet
+  pub sets : later.sets ≡ more ++ earlier.sets
+
+-- Bytes due can be pulled at any time. All else happens only where the connection goes on and nothing is due.
+abbrev pub MayCome : Connection → Moment → Type 0
+MayCome c (Pull count) = count ≤ length c.due
+MayCome c m = (c.ended ≡ false) × (c.due ≡ []) × IsLater c.cache (cache_after c.cache m) × IsMoment m
+
+abbrev pub after : ℕ → Intervals → Connection → Moment → Connection
+after keep t c (Pull count) = record c { due = drop count c.due }
+after keep t c m =
+    let now = reply keep t c.agreed m in
+    record { cache = cache_after c.cache m; agreed = agreed_after c.agreed m; ended = not now.goes_on; due = sent_all now.units }
+
+-- These moments, in their order, are the history of a connection on which these bytes came: each may come where it stands, and
+-- what is left of the bytes is the beginning of a unit in which no fault shows, or nothing where the connection has ended.
+abbrev pub IsHistory : ℕ → Intervals → Connection → List Moment → List ℕ → Type 0
+IsHistory keep t c [] bytes = MatchBool c.ended (bytes ≡ []) (IsPartial 1 bytes)
+IsHistory keep t c (m ∷ later) bytes =
+    MayCome c m × ((rest : List ℕ) × (bytes ≡ bytes_of m ++ rest) × IsHistory keep t (after keep t c m) later rest)
+
+-- the bytes that were pulled
+abbrev pub pulled : ℕ → Intervals → Connection → List Moment → List ℕ
+pulled keep t c [] = []
+pulled keep t c (Pull count ∷ later) = take count c.due ++ pulled keep t (after keep t c (Pull count)) later
+pulled keep t c (m ∷ later) = pulled keep t (after keep t c m) later
+
+-- the connection after these moments
+abbrev pub after_all : ℕ → Intervals → Connection → List Moment → Connection
+after_all keep t c [] = c
+after_all keep t c (m ∷ later) = after_all keep t (after keep t c m) later
+
+-- What was pulled and what is due make up the replies.
+abbrev pub PulledAreReplies : Type 0
+PulledAreReplies =
+    (keep : ℕ) (t : Intervals) (i : Instance) (moments : List Moment) (bytes : List ℕ) → IsHistory keep t (opened i) moments bytes →
+    pulled keep t (opened i) moments ++ (after_all keep t (opened i) moments).due ≡ replies keep t moments
+
+-- the units that were read
+abbrev pub units_of : List Moment → List Unit
+units_of [] = []
+units_of (Read cache unit bytes ∷ later) = unit ∷ units_of later
+units_of (Wanting cache unit bytes ∷ later) = unit ∷ units_of later
+units_of (m ∷ later) = units_of later
+
+-- The units of a history are those by which the stream of its bytes is split.
+abbrev pub HistorySplits : Type 0
+HistorySplits =
+    (keep : ℕ) (t : Intervals) (i : Instance) (moments : List Moment) (bytes : List ℕ) → IsHistory keep t (opened i) moments bytes →
+    (rest : List ℕ) × (fault : Option UnitFault) × Splits 1 false bytes (units_of moments) rest fault

@@ -1,0 +1,4 @@
+pub mod Answer
+pub mod Commit
+pub mod Connection
+pub mod Timing

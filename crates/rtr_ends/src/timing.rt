@@ -1,0 +1,112 @@
+//! The intervals of an End of Data.
+ghost use Rattle.std.specs.Prelude.{◌≡◌, ℕ, ◌≤◌, ◌<◌, ◌↔◌, IfOk, IsOk, Err};
+ghost use Rattle.rtr_ends.specs.Timing.{Intervals, InRange, IsTiming, OutlastsOthers, default_intervals, intervals};
+
+use std::marker::Model;
+
+/// Why intervals are refused. The numbers are fixed.
+#[derive(Clone, Copy, Debug, PartialEq, Eq)]
+pub enum TimingFault {
+    /// An interval is out of its range.
+    OutOfRange = 1,
+    /// Expire is not larger than refresh and retry.
+    ExpireTooSmall = 2,
+}
+
+impl TimingFault {
+    ghost use Rattle.rtr_ends.specs.Timing.{fault_number};
+
+    /// The number by which the fault is printed.
+    pub fn number(self) -> u8
+        ensures { result ≡ fault_number self }
+    {
+        self as u8
+    }
+}
+
+/// The intervals that a cache tells its routers, in seconds (RFC 8210 section 6): when to ask again, when to try again after
+/// a failure, and when to drop what was committed.
+#[derive(Clone, Copy, Debug, PartialEq, Eq)]
+pub struct Timing {
+    refresh: u32,
+    retry: u32,
+    expire: u32,
+}
+
+impl Model for Timing {
+    ghost use Rattle.rtr_ends.specs.Timing.{Intervals, IsTiming};
+
+    ghost Value = { Intervals };
+
+    ghost view = { λ t. record { refresh = t.refresh; retry = t.retry; expire = t.expire } };
+
+    ghost invariant = { λ t. IsTiming (record { refresh = t.refresh; retry = t.retry; expire = t.expire }) };
+
+    ghost inverse = { λ t. record { refresh = t.refresh; retry = t.retry; expire = t.expire } };
+}
+
+impl Timing {
+    /// Refresh from 1 to 86,400, retry from 1 to 7,200, expire from 600 to 172,800 and larger than both others. The ranges
+    /// are judged first.
+    pub fn new(refresh: u32, retry: u32, expire: u32) -> Result<Timing, TimingFault>
+        ensures ok { IfOk result (λ timing. (timing ≡ intervals refresh retry expire) × IsTiming timing) }
+        ensures out_of_range { (result ≡ Err TimingFault.OutOfRange) ↔ (¬ (InRange (intervals refresh retry expire))) }
+        ensures expire_too_small { (result ≡ Err TimingFault.ExpireTooSmall)
+            ↔ (InRange (intervals refresh retry expire) × ¬ (OutlastsOthers (intervals refresh retry expire))) }
+    {
+        if refresh < 1 || refresh > 86_400 {
+            return Err(TimingFault::OutOfRange);
+        }
+        if retry < 1 || retry > 7_200 {
+            return Err(TimingFault::OutOfRange);
+        }
+        if expire < 600 || expire > 172_800 {
+            return Err(TimingFault::OutOfRange);
+        }
+        if expire <= refresh || expire <= retry {
+            return Err(TimingFault::ExpireTooSmall);
+        }
+        Ok(Timing {
+            refresh,
+            retry,
+            expire,
+        })
+    }
+
+    /// How long a router waits after a commit before it asks again, in seconds.
+    pub fn refresh(&self) -> u32
+        ensures value { result ≡ self.now.refresh }
+        ensures timing { IsTiming self.now }
+    {
+        self.refresh
+    }
+
+    /// How long a router waits before it tries again, in seconds.
+    pub fn retry(&self) -> u32
+        ensures value { result ≡ self.now.retry }
+        ensures timing { IsTiming self.now }
+    {
+        self.retry
+    }
+
+    /// How long a router keeps what it committed, in seconds.
+    pub fn expire(&self) -> u32
+        ensures value { result ≡ self.now.expire }
+        ensures timing { IsTiming self.now }
+    {
+        self.expire
+    }
+}
+
+impl Default for Timing {
+    ghost is_default = { λ t. t ≡ default_intervals };
+
+    /// Refresh 3600, retry 600, expire 7200.
+    fn default() -> Timing {
+        Timing {
+            refresh: 3600,
+            retry: 600,
+            expire: 7200,
+        }
+    }
+}

@@ -1,0 +1,81 @@
+-- What a unit's bytes are (RFC 8210 section 5). Numbers are big-endian. Where the standard says "zero", the field is zero when
+-- sent and ignored when received.
+use Rattle.std.specs.Prelude.{◌≡◌, ℕ, ◌+◌, ◌*◌, ◌<◌, ◌≤◌, ◌^◌, Bool, List, ◌∷◌, ◌++◌, length, if◌then◌else◌, ⊤}
+use Rattle.std.specs.Str.{IsUtf8}
+use Rattle.byteorder.specs.Endian.{big_bytes}
+use Rattle.prefixes.specs.Payload.{IsPayload}
+use Rattle.prefixes.specs.declared.prefix.IpPrefix.{IpPrefix}
+use Rattle.prefixes.specs.declared.prefix.IpPrefix.TheVariants.{V4, V6}
+use Rattle.rtr_pdu.specs.Payloads.{AreBytes}
+use Rattle.rtr_pdu.specs.declared.unit.Unit.{Unit}
+use Rattle.rtr_pdu.specs.declared.unit.Unit.TheVariants.{SerialNotify, SerialQuery, ResetQuery, CacheResponse, Prefix, EndOfData, CacheReset, RouterKey, ErrorReport}
+
+-- The lowest flag bit: 1 for an announcement, 0 for a withdrawal
+abbrev pub flag : Bool → ℕ
+flag announce = if announce then 1 else 0
+
+-- What the bits hold that are zero when sent: the two bytes of the header, the other seven flag bits, and the byte after
+-- the maximum length or the flags.
+pub record Ignored : Type 0 where
+  pub header : ℕ
+  pub flags : ℕ
+  pub byte : ℕ
+
+pub record AreBits (z : Ignored) : Type 0 where
+  pub header : z.header < 2 ^ 16
+  pub flags : z.flags < 2 ^ 7
+  pub byte : z.byte < 2 ^ 8
+
+abbrev pub zeros : Ignored
+zeros = record { header = 0; flags = 0; byte = 0 }
+
+-- The header: version, type, two bytes by type, and the length of the whole unit
+abbrev pub header : ℕ → ℕ → ℕ → ℕ → List ℕ
+header version kind field len = version ∷ kind ∷ big_bytes 2 field ++ big_bytes 4 len
+
+-- An IPv4 or IPv6 Prefix (sections 5.6 and 5.7): flags, length, maximum, zero, address, AS
+abbrev pub prefix_bytes : ℕ → Bool → IpPrefix → ℕ → ℕ → Ignored → List ℕ
+prefix_bytes version announce (V4 p) max_len asn z =
+    header version 4 z.header 20 ++ (flag announce + 2 * z.flags) ∷ p.len ∷ max_len ∷ z.byte ∷ big_bytes 4 p.addr ++ big_bytes 4 asn
+prefix_bytes version announce (V6 p) max_len asn z =
+    header version 6 z.header 32 ++ (flag announce + 2 * z.flags) ∷ p.len ∷ max_len ∷ z.byte ∷ big_bytes 16 p.addr ++ big_bytes 4 asn
+
+-- The bytes of a unit of this protocol version, with what is ignored (sections 5.2 to 5.11)
+abbrev pub spelled : ℕ → Unit → Ignored → List ℕ
+spelled version (SerialNotify session serial) z = header version 0 session 12 ++ big_bytes 4 serial
+spelled version (SerialQuery session serial) z = header version 1 session 12 ++ big_bytes 4 serial
+spelled version ResetQuery z = header version 2 z.header 8
+spelled version (CacheResponse session) z = header version 3 session 8
+spelled version (Prefix announce v) z = prefix_bytes version announce v.prefix v.max_len v.asn z
+spelled version (EndOfData session serial refresh retry expire) z =
+    header version 7 session 24 ++ big_bytes 4 serial ++ big_bytes 4 refresh ++ big_bytes 4 retry ++ big_bytes 4 expire
+spelled version CacheReset z = header version 8 z.header 8
+spelled version (RouterKey k) z =
+    version ∷ 9 ∷ (flag k.announce + 2 * z.flags) ∷ z.byte ∷ big_bytes 4 (32 + length k.info) ++ k.identifier ++ big_bytes 4 k.asn ++ k.info
+spelled version (ErrorReport r) z =
+    header version 10 r.code (16 + length r.copy + length r.text) ++ big_bytes 4 (length r.copy) ++ r.copy ++ big_bytes 4 (length r.text) ++ r.text
+
+-- The numbers fit their fields, a record is a payload, and the whole has at most 4,096 bytes.
+abbrev pub IsUnit : Unit → Type 0
+IsUnit (SerialNotify session serial) = (session < 2 ^ 16) × (serial < 2 ^ 32)
+IsUnit (SerialQuery session serial) = (session < 2 ^ 16) × (serial < 2 ^ 32)
+IsUnit ResetQuery = ⊤
+IsUnit (CacheResponse session) = session < 2 ^ 16
+IsUnit (Prefix announce v) = IsPayload v
+IsUnit (EndOfData session serial refresh retry expire) =
+    (session < 2 ^ 16) × (serial < 2 ^ 32) × (refresh < 2 ^ 32) × (retry < 2 ^ 32) × (expire < 2 ^ 32)
+IsUnit CacheReset = ⊤
+IsUnit (RouterKey k) =
+    (length k.identifier ≡ 20) × (k.asn < 2 ^ 32) × (length k.info ≤ 4064) × AreBytes k.identifier × AreBytes k.info
+IsUnit (ErrorReport r) = (r.code < 2 ^ 16) × (length r.copy + length r.text ≤ 4080) × IsUtf8 r.text × AreBytes r.copy
+
+-- These bytes are read as this unit, whatever stands where zeros are sent.
+pub record Reads (version : ℕ) (u : Unit) (bytes : List ℕ) : Type 0 where
+  pub fits : IsUnit u
+  pub ignored : Ignored
+  pub bits : AreBits ignored
+  pub bytes_are : bytes ≡ spelled version u ignored
+
+-- The bytes that are sent for a unit
+abbrev pub unit_bytes : ℕ → Unit → List ℕ
+unit_bytes version u = spelled version u zeros

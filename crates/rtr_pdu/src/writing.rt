@@ -1,0 +1,167 @@
+//! Units as bytes.
+ghost use Rattle.std.specs.Prelude.{◌≡◌, ℕ, ◌+◌, ◌<◌, ◌≤◌, [], ◌∷◌, ◌++◌, length};
+ghost use Rattle.arrayvec.specs.ArrayVec.{array_vec_len};
+ghost use Rattle.byteorder.specs.Endian.{big_bytes};
+ghost use Rattle.rtr_pdu.specs.Unit.{header, unit_bytes, flag};
+
+use crate::unit::{ErrorReport, RouterKey, Unit};
+use arrayvec::ArrayVec;
+use prefixes::{IpPrefix, Vrp};
+
+/// Room for the longest unit.
+pub type UnitBuffer = ArrayVec<u8, 4096>;
+
+fn put(buffer: &mut ArrayVec<u8, 4096>, bytes: &[u8])
+    requires { array_vec_len buffer.old + length bytes.now ≤ 4096 }
+    ensures items { buffer.new.items ≡ buffer.old.items ++ bytes.now }
+    ensures len { array_vec_len buffer.new ≡ array_vec_len buffer.old + length bytes.now }
+{
+    let _fits = buffer.try_extend_from_slice(bytes);
+}
+
+fn put_header(buffer: &mut ArrayVec<u8, 4096>, kind: u8, field: u16, len: u32)
+    ensures items { buffer.new.items ≡ header 1 kind field len }
+    ensures len { array_vec_len buffer.new ≡ 8 }
+{
+    buffer.clear();
+    put(buffer, &[1, kind]);
+    put(buffer, &field.to_be_bytes());
+    put(buffer, &len.to_be_bytes());
+}
+
+pub fn encode_reset_query(buffer: &mut ArrayVec<u8, 4096>)
+    ensures { buffer.new.items ≡ unit_bytes 1 Unit.ResetQuery }
+{
+    put_header(buffer, 2, 0, 8);
+}
+
+pub fn encode_cache_response(session: u16, buffer: &mut ArrayVec<u8, 4096>)
+    ensures { buffer.new.items ≡ unit_bytes 1 (Unit.CacheResponse session) }
+{
+    put_header(buffer, 3, session, 8);
+}
+
+fn put_number(buffer: &mut ArrayVec<u8, 4096>, number: u32)
+    requires { array_vec_len buffer.old + 4 ≤ 4096 }
+    ensures items { buffer.new.items ≡ buffer.old.items ++ big_bytes 4 number }
+    ensures len { array_vec_len buffer.new ≡ array_vec_len buffer.old + 4 }
+{
+    put(buffer, &number.to_be_bytes());
+}
+
+pub fn encode_end_of_data(
+    session: u16,
+    serial: u32,
+    refresh: u32,
+    retry: u32,
+    expire: u32,
+    buffer: &mut ArrayVec<u8, 4096>,
+)
+    ensures { buffer.new.items ≡ unit_bytes 1 (Unit.EndOfData session serial refresh retry expire) }
+{
+    put_header(buffer, 7, session, 24);
+    put_number(buffer, serial);
+    put_number(buffer, refresh);
+    put_number(buffer, retry);
+    put_number(buffer, expire);
+}
+
+fn flag_of(announce: bool) -> u8
+    ensures { result ≡ flag announce }
+{
+    if announce { 1 } else { 0 }
+}
+
+fn put_record(
+    buffer: &mut ArrayVec<u8, 4096>,
+    announce: bool,
+    len: u8,
+    max_len: u8,
+    addr: &[u8],
+    asn: u32,
+)
+    requires { array_vec_len buffer.old + length addr.now + 8 ≤ 4096 }
+    ensures { buffer.new.items ≡ buffer.old.items ++ flag announce ∷ len ∷ max_len ∷ 0 ∷ addr.now ++ big_bytes 4 asn }
+{
+    put(buffer, &[flag_of(announce), len, max_len, 0]);
+    put(buffer, addr);
+    put_number(buffer, asn);
+}
+
+pub fn encode_prefix(announce: bool, vrp: &Vrp, buffer: &mut ArrayVec<u8, 4096>)
+    ensures { buffer.new.items ≡ unit_bytes 1 (Unit.Prefix announce vrp.now) }
+{
+    let max_len = vrp.max_len();
+    let asn = vrp.asn().0;
+    match vrp.prefix() {
+        IpPrefix::V4(p) => {
+            put_header(buffer, 4, 0, 20);
+            let addr = (p.addr() as u32).to_be_bytes();
+            put_record(buffer, announce, p.len(), max_len, &addr, asn);
+        }
+        IpPrefix::V6(p) => {
+            put_header(buffer, 6, 0, 32);
+            let addr = p.addr().to_be_bytes();
+            put_record(buffer, announce, p.len(), max_len, &addr, asn);
+        }
+    }
+}
+
+fn put_serial(kind: u8, session: u16, serial: u32, buffer: &mut ArrayVec<u8, 4096>)
+    ensures { buffer.new.items ≡ header 1 kind session 12 ++ big_bytes 4 serial }
+{
+    put_header(buffer, kind, session, 12);
+    put_number(buffer, serial);
+}
+
+fn put_key(key: &RouterKey, buffer: &mut ArrayVec<u8, 4096>)
+    ensures { buffer.new.items ≡ unit_bytes 1 (Unit.RouterKey key.now) }
+{
+    let info = key.info();
+    buffer.clear();
+    put(buffer, &[1, 9, flag_of(key.announce()), 0]);
+    put_number(buffer, 32 + info.len() as u32);
+    put(buffer, key.identifier());
+    put_number(buffer, key.asn());
+    put(buffer, info);
+}
+
+fn put_report(report: &ErrorReport, buffer: &mut ArrayVec<u8, 4096>)
+    ensures { buffer.new.items ≡ unit_bytes 1 (Unit.ErrorReport report.now) }
+{
+    let copy = report.copy();
+    let text = report.text();
+    put_header(
+        buffer,
+        10,
+        report.code(),
+        16 + copy.len() as u32 + text.len() as u32,
+    );
+    put_number(buffer, copy.len() as u32);
+    put(buffer, copy);
+    put_number(buffer, text.len() as u32);
+    put(buffer, text);
+}
+
+/// Writes a unit: the buffer then holds its bytes and no others.
+pub fn encode(unit: &Unit, buffer: &mut ArrayVec<u8, 4096>)
+    ensures { buffer.new.items ≡ unit_bytes 1 unit.now }
+{
+    match unit {
+        Unit::SerialNotify { session, serial } => put_serial(0, *session, *serial, buffer),
+        Unit::SerialQuery { session, serial } => put_serial(1, *session, *serial, buffer),
+        Unit::ResetQuery => put_header(buffer, 2, 0, 8),
+        Unit::CacheResponse { session } => put_header(buffer, 3, *session, 8),
+        Unit::Prefix { announce, vrp } => encode_prefix(*announce, vrp, buffer),
+        Unit::EndOfData {
+            session,
+            serial,
+            refresh,
+            retry,
+            expire,
+        } => encode_end_of_data(*session, *serial, *refresh, *retry, *expire, buffer),
+        Unit::CacheReset => put_header(buffer, 8, 0, 8),
+        Unit::RouterKey(key) => put_key(key, buffer),
+        Unit::ErrorReport(report) => put_report(report, buffer),
+    }
+}
