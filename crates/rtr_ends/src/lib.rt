@@ -1,7 +1,9 @@
 //! The two ends of the RPKI-to-Router protocol (RFC 8210).
 #![tactic(auto)]
 
+mod cursor;
 pub mod laws;
 mod timing;
 
+pub use cursor::WholeAnswer;
 pub use timing::{Timing, TimingFault};

@@ -5,4 +5,6 @@ mod unit;
 mod writing;
 
 pub use unit::{ErrorReport, Next, RouterKey, Unit, UnitFault};
-pub use writing::{UnitBuffer, encode};
+pub use writing::{
+    UnitBuffer, encode, encode_cache_response, encode_end_of_data, encode_prefix,
+};
