@@ -1,5 +1,5 @@
 -- The derived order of payloads is the order of payloads.
-use Rattle.std.proofs.Common.{◌≡◌, Bool, List, ap, ◌∙◌, refl, subst}
+use Rattle.std.proofs.Common.{◌≡◌, List, ap, ◌∙◌, refl, subst}
 use Rattle.std.specs.List.Sorted.{IsSorted}
 use Rattle.std.specs.Ordering.{eq_by_cmp, is_eq, ordering_then, nat_cmp}
 use Rattle.std.specs.declared.cmp.Ordering.TheVariants.{Less, Equal, Greater}

@@ -1,11 +1,12 @@
 -- The texts of prefixes and of AS numbers (RFC 4632 section 3.1; RFC 4291 sections 2.2 and 2.3; RFC 5952 section 4).
-use Rattle.std.specs.Prelude.{◌≡◌, ◌⊎◌, ℕ, ◌+◌, ◌-◌, ◌/◌, ◌%◌, ◌^◌, ◌≤◌, ◌<◌, List, [], ◌∷◌, ◌++◌, length, map, replicate, Result, Ok, Err, codes, ⊤}
+use Rattle.std.specs.Prelude.{◌≡◌, ◌⊎◌, ℕ, ◌+◌, ◌/◌, ◌%◌, ◌^◌, ◌≤◌, ◌<◌, List, [], ◌∷◌, ◌++◌, length, map, take, drop, replicate, Result, Ok, Err, codes, ⊤}
 use Rattle.std.specs.List.{join_with_byte}
 use Rattle.std.specs.Fmt.{decimal}
-use Rattle.std.specs.Net.Text.{dotted_text, hex_groups_text}
+use Rattle.std.specs.Net.Text.{dotted_text, groups_text, hex_groups_text}
 use Rattle.std.specs.Str.Parse.{IsNumeral, digits_value}
 use Rattle.prefixes.specs.Address.{HasNoHostBits, IsPrefix}
 use Rattle.prefixes.specs.Payload.{block_of, width_of}
+use Rattle.prefixes.specs.declared.asn.Asn.{Asn}
 use Rattle.prefixes.specs.declared.fault.PrefixFault.{PrefixFault}
 use Rattle.prefixes.specs.declared.fault.PrefixFault.TheVariants as faults
 use Rattle.prefixes.specs.declared.prefix.IpPrefix.{IpPrefix}
@@ -80,6 +81,14 @@ ReadsAs text (Err faults.HostBits) =
     (p : IpPrefix) × Says p text × ((block_of p).len ≤ width_of p) × ¬ (HasNoHostBits (width_of p) (block_of p).addr (block_of p).len)
 ReadsAs text (Err faults.MaxLength) = ⊥
 
+-- What is read from the text of an AS number: the number below 2 to the 32 of which it is the decimal text, or that there is none.
+abbrev pub ReadsAsNumber : List ℕ → Result Asn PrefixFault → Type 0
+ReadsAsNumber text (Ok a) = (a.0 < 2 ^ 32) × (text ≡ decimal a.0)
+ReadsAsNumber text (Err faults.BadText) = (n : ℕ) → n < 2 ^ 32 → ¬ (text ≡ decimal n)
+ReadsAsNumber text (Err faults.TooLong) = ⊥
+ReadsAsNumber text (Err faults.HostBits) = ⊥
+ReadsAsNumber text (Err faults.MaxLength) = ⊥
+
 -- The one spelling that is written. An IPv6 address is written in lower case without leading zeros, and `::` stands for the
 -- first longest run of two or more zero groups.
 abbrev pub written_address : IpPrefix → List ℕ
@@ -96,3 +105,29 @@ OneReading = (text : List ℕ) (p q : IpPrefix) → Says p text → Says q text 
 -- What is written for a prefix spells it.
 abbrev pub WrittenIsRead : Type 0
 WrittenIsRead = (p : IpPrefix) → IsPrefix (width_of p) (block_of p) → PrefixText p (written_text p)
+
+-- From the group at start on, len groups are zero.
+pub record IsZeroRun (all : List ℕ) (start len : ℕ) : Type 0 where
+  pub within : start + len ≤ length all
+  pub zeros : take len (drop start all) ≡ replicate len 0
+
+-- A run of two or more zero groups: none is longer, and none as long begins before it (RFC 5952 section 4.2).
+pub record IsFirstLongest (all : List ℕ) (start len : ℕ) : Type 0 where
+  pub run : IsZeroRun all start len
+  pub two : 2 ≤ len
+  pub longest : (other n : ℕ) → IsZeroRun all other n → n ≤ len
+  pub first : (other : ℕ) → IsZeroRun all other len → start ≤ other
+
+-- `::` is written for one run of zero groups ..
+pub record ReplacesRun (all : List ℕ) (start len : ℕ) : Type 0 where
+  pub chosen : IsFirstLongest all start len
+  pub text_is : hex_groups_text all ≡ groups_text (take start all) ++ codes "::" ++ groups_text (drop (start + len) all)
+
+-- .. or for none, where no two zero groups stand side by side.
+pub record ReplacesNone (all : List ℕ) : Type 0 where
+  pub none : (start : ℕ) → ¬ (IsZeroRun all start 2)
+  pub text_is : hex_groups_text all ≡ groups_text all
+
+-- In what is written, `::` stands for the first longest run of two or more zero groups, and nowhere else.
+abbrev pub FirstLongestRun : Type 0
+FirstLongestRun = (all : List ℕ) → ((start : ℕ) × (len : ℕ) × ReplacesRun all start len) ⊎ ReplacesNone all

@@ -4,8 +4,12 @@
 mod asn;
 mod family;
 mod fault;
+pub mod laws;
 mod prefix;
 mod route;
+#[cfg(test)]
+mod tests;
+mod text;
 mod vrp;
 
 pub use asn::Asn;

@@ -6,7 +6,7 @@ ghost use Rattle.rtr_ends.specs.Cursor.{Hands};
 
 use crate::timing::Timing;
 use prefixes::Vrp;
-use rtr_pdu::{UnitBuffer, encode_cache_response, encode_end_of_data, encode_prefix};
+use rtr_pdu::{Unit, UnitBuffer, encode};
 use std::marker::Model;
 use vrps::{Serial, VrpSet};
 
@@ -59,20 +59,20 @@ impl<'a> WholeAnswer<'a> {
     {
         match self.stage {
             Stage::Begin => {
-                encode_cache_response(self.session, buffer);
+                let session = self.session;
+                encode(&Unit::CacheResponse { session }, buffer);
                 self.stage = Stage::Records;
                 true
             }
             Stage::Records => {
                 match self.records.split_first() {
                     Some((vrp, others)) => {
-                        encode_prefix(true, vrp, buffer);
+                        let vrp = *vrp;
+                        encode(&Unit::Prefix { announce: true, vrp }, buffer);
                         self.records = others;
                     }
                     None => {
-                        let (refresh, retry, expire) =
-                            (self.timing.refresh(), self.timing.retry(), self.timing.expire());
-                        encode_end_of_data(self.session, self.serial, refresh, retry, expire, buffer);
+                        encode(&end_of_data(self.session, self.serial, &self.timing), buffer);
                         self.stage = Stage::Done;
                     }
                 }
@@ -80,5 +80,18 @@ impl<'a> WholeAnswer<'a> {
             }
             Stage::Done => false,
         }
+    }
+}
+
+/// The End of Data of a version (RFC 8210 section 5.8).
+fn end_of_data(session: u16, serial: u32, timing: &Timing) -> Unit
+    ensures { result ≡ Unit.EndOfData session serial timing.now.refresh timing.now.retry timing.now.expire }
+{
+    Unit::EndOfData {
+        session,
+        serial,
+        refresh: timing.refresh(),
+        retry: timing.retry(),
+        expire: timing.expire(),
     }
 }

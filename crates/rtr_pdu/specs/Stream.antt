@@ -8,7 +8,7 @@ use Rattle.rtr_pdu.specs.declared.unit.Unit.TheVariants.{SerialNotify}
 use Rattle.rtr_pdu.specs.declared.unit.UnitFault.{UnitFault}
 use Rattle.rtr_pdu.specs.declared.unit.UnitFault.TheVariants as faults
 use Rattle.rtr_pdu.specs.Payloads.{AreBytes}
-use Rattle.rtr_pdu.specs.Unit.{Reads}
+use Rattle.rtr_pdu.specs.Unit.{IsUnit, Reads, unit_bytes}
 
 -- The fields of a header: version, type, and the length of the whole unit
 abbrev pub version_of : List ℕ → ℕ
@@ -133,3 +133,13 @@ EachSplits =
 abbrev pub IsShortest : ℕ → Bool → List ℕ → Type 0
 IsShortest version any bytes =
     (front : List ℕ) (back : List ℕ) → bytes ≡ front ++ back → 0 < length back → IsPartial version (as_read version any front)
+
+-- What is encoded is read again.
+abbrev pub WrittenIsRead : Type 0
+WrittenIsRead = (version : ℕ) (u : Unit) → IsUnit u → Reads version u (unit_bytes version u)
+
+-- No unit's bytes begin another's: where two stand at the front of the same bytes, they are the same, and so is what follows.
+abbrev pub NoBeginning : Type 0
+NoBeginning =
+    (version : ℕ) (u v : Unit) (front other back rest : List ℕ) → Reads version u front → Reads version v other → front ++ back ≡ other ++ rest →
+    (u ≡ v) × (back ≡ rest)

@@ -1,16 +1,17 @@
 //! Units as bytes.
-ghost use Rattle.std.specs.Prelude.{◌≡◌, ℕ, ◌+◌, ◌<◌, ◌≤◌, [], ◌∷◌, ◌++◌, length};
+ghost use Rattle.std.specs.Prelude.{◌≡◌, ◌+◌, ◌≤◌, ◌∷◌, ◌++◌, length};
 ghost use Rattle.arrayvec.specs.ArrayVec.{array_vec_len};
 ghost use Rattle.byteorder.specs.Endian.{big_bytes};
-ghost use Rattle.rtr_pdu.specs.Unit.{header, unit_bytes, flag};
+ghost use Rattle.rtr_pdu.specs.Unit.{IsUnit, header, unit_bytes, flag};
 
 use crate::unit::{ErrorReport, RouterKey, Unit};
 use arrayvec::ArrayVec;
 use prefixes::{IpPrefix, Vrp};
 
-/// Room for the longest unit.
+/// Room for the longest unit, of 4,096 bytes.
 pub type UnitBuffer = ArrayVec<u8, 4096>;
 
+/// Appends bytes.
 fn put(buffer: &mut ArrayVec<u8, 4096>, bytes: &[u8])
     requires { array_vec_len buffer.old + length bytes.now ≤ 4096 }
     ensures items { buffer.new.items ≡ buffer.old.items ++ bytes.now }
@@ -19,6 +20,7 @@ fn put(buffer: &mut ArrayVec<u8, 4096>, bytes: &[u8])
     let _fits = buffer.try_extend_from_slice(bytes);
 }
 
+/// Begins a unit in an empty buffer.
 fn put_header(buffer: &mut ArrayVec<u8, 4096>, kind: u8, field: u16, len: u32)
     ensures items { buffer.new.items ≡ header 1 kind field len }
     ensures len { array_vec_len buffer.new ≡ 8 }
@@ -29,18 +31,6 @@ fn put_header(buffer: &mut ArrayVec<u8, 4096>, kind: u8, field: u16, len: u32)
     put(buffer, &len.to_be_bytes());
 }
 
-pub fn encode_reset_query(buffer: &mut ArrayVec<u8, 4096>)
-    ensures { buffer.new.items ≡ unit_bytes 1 Unit.ResetQuery }
-{
-    put_header(buffer, 2, 0, 8);
-}
-
-pub fn encode_cache_response(session: u16, buffer: &mut ArrayVec<u8, 4096>)
-    ensures { buffer.new.items ≡ unit_bytes 1 (Unit.CacheResponse session) }
-{
-    put_header(buffer, 3, session, 8);
-}
-
 fn put_number(buffer: &mut ArrayVec<u8, 4096>, number: u32)
     requires { array_vec_len buffer.old + 4 ≤ 4096 }
     ensures items { buffer.new.items ≡ buffer.old.items ++ big_bytes 4 number }
@@ -49,7 +39,7 @@ fn put_number(buffer: &mut ArrayVec<u8, 4096>, number: u32)
     put(buffer, &number.to_be_bytes());
 }
 
-pub fn encode_end_of_data(
+fn put_end_of_data(
     session: u16,
     serial: u32,
     refresh: u32,
@@ -88,8 +78,9 @@ fn put_record(
     put_number(buffer, asn);
 }
 
-pub fn encode_prefix(announce: bool, vrp: &Vrp, buffer: &mut ArrayVec<u8, 4096>)
-    ensures { buffer.new.items ≡ unit_bytes 1 (Unit.Prefix announce vrp.now) }
+fn put_prefix(announce: bool, vrp: &Vrp, buffer: &mut ArrayVec<u8, 4096>)
+    ensures bytes { buffer.new.items ≡ unit_bytes 1 (Unit.Prefix announce vrp.now) }
+    ensures unit { IsUnit (Unit.Prefix announce vrp.now) }
 {
     let max_len = vrp.max_len();
     let asn = vrp.asn().0;
@@ -115,7 +106,8 @@ fn put_serial(kind: u8, session: u16, serial: u32, buffer: &mut ArrayVec<u8, 409
 }
 
 fn put_key(key: &RouterKey, buffer: &mut ArrayVec<u8, 4096>)
-    ensures { buffer.new.items ≡ unit_bytes 1 (Unit.RouterKey key.now) }
+    ensures bytes { buffer.new.items ≡ unit_bytes 1 (Unit.RouterKey key.now) }
+    ensures unit { IsUnit (Unit.RouterKey key.now) }
 {
     let info = key.info();
     buffer.clear();
@@ -127,7 +119,8 @@ fn put_key(key: &RouterKey, buffer: &mut ArrayVec<u8, 4096>)
 }
 
 fn put_report(report: &ErrorReport, buffer: &mut ArrayVec<u8, 4096>)
-    ensures { buffer.new.items ≡ unit_bytes 1 (Unit.ErrorReport report.now) }
+    ensures bytes { buffer.new.items ≡ unit_bytes 1 (Unit.ErrorReport report.now) }
+    ensures unit { IsUnit (Unit.ErrorReport report.now) }
 {
     let copy = report.copy();
     let text = report.text();
@@ -143,23 +136,25 @@ fn put_report(report: &ErrorReport, buffer: &mut ArrayVec<u8, 4096>)
     put(buffer, text);
 }
 
-/// Writes a unit: the buffer then holds its bytes and no others.
+/// Writes a unit of version 1 (RFC 8210 section 5), with zeros where the standard says zero. The buffer then holds the
+/// bytes of the unit and no others, and they are read as this unit.
 pub fn encode(unit: &Unit, buffer: &mut ArrayVec<u8, 4096>)
-    ensures { buffer.new.items ≡ unit_bytes 1 unit.now }
+    ensures bytes { buffer.new.items ≡ unit_bytes 1 unit.now }
+    ensures unit { IsUnit unit.now }
 {
     match unit {
         Unit::SerialNotify { session, serial } => put_serial(0, *session, *serial, buffer),
         Unit::SerialQuery { session, serial } => put_serial(1, *session, *serial, buffer),
         Unit::ResetQuery => put_header(buffer, 2, 0, 8),
         Unit::CacheResponse { session } => put_header(buffer, 3, *session, 8),
-        Unit::Prefix { announce, vrp } => encode_prefix(*announce, vrp, buffer),
+        Unit::Prefix { announce, vrp } => put_prefix(*announce, vrp, buffer),
         Unit::EndOfData {
             session,
             serial,
             refresh,
             retry,
             expire,
-        } => encode_end_of_data(*session, *serial, *refresh, *retry, *expire, buffer),
+        } => put_end_of_data(*session, *serial, *refresh, *retry, *expire, buffer),
         Unit::CacheReset => put_header(buffer, 8, 0, 8),
         Unit::RouterKey(key) => put_key(key, buffer),
         Unit::ErrorReport(report) => put_report(report, buffer),

@@ -1,0 +1,18 @@
+//! Laws of the texts of prefixes.
+ghost use Rattle.prefixes.specs.Text.{FirstLongestRun, OneReading, WrittenIsRead};
+
+/// No text says two prefixes.
+pub fn one_reading()
+    ensures { OneReading }
+{}
+
+/// What is written for a prefix spells it.
+pub fn written_is_read()
+    ensures { WrittenIsRead }
+{}
+
+/// In what is written for an IPv6 address, `::` stands for the first longest run of two or more zero groups, and nowhere else
+/// (RFC 5952 section 4.2).
+pub fn first_longest_run()
+    ensures { FirstLongestRun }
+{}

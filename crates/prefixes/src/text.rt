@@ -1,0 +1,139 @@
+//! Prefixes and AS numbers as text.
+ghost use Rattle.std.specs.Prelude.{◌≡◌, ℕ, ◌<◌, ◌^◌, ◌↔◌, IsTrue, Some};
+ghost use Rattle.std.specs.Fmt.{decimal};
+ghost use Rattle.prefixes.specs.Reading.{Begins, IsOnly, IsJudged};
+ghost use Rattle.prefixes.specs.Text.{IsV6Address, v4_address};
+
+use crate::asn::Asn;
+use crate::family::Family;
+use crate::fault::PrefixFault;
+use crate::prefix::{IpPrefix, Prefix};
+use std::fmt::{self, Display};
+use std::net::{Ipv4Addr, Ipv6Addr};
+
+impl IpPrefix {
+    ghost use Rattle.prefixes.specs.Text.{ReadsAs};
+
+    /// The prefix that a text spells: an address, a slash, and the length in one to three decimal digits without a leading zero
+    /// (RFC 4632 section 3.1, RFC 4291 sections 2.2 and 2.3). An IPv6 address has no part in dotted decimal. Other text is
+    /// `BadText`; then a length over the family's width is `TooLong`; then a bit set after the first bits is `HostBits`.
+    pub fn parse(text: &str) -> Result<IpPrefix, PrefixFault>
+        ensures { ReadsAs text.now result }
+    {
+        let Some((address, length)) = text.split_once('/') else {
+            return Err(PrefixFault::BadText);
+        };
+        let Some(len) = number(length) else {
+            return Err(PrefixFault::BadText);
+        };
+        if 1000 <= len {
+            return Err(PrefixFault::BadText);
+        }
+        if let Some(addr) = v4_number(address) {
+            return Ok(IpPrefix::V4(judged(addr as u128, len)?));
+        }
+        let Some(addr) = v6_number(address) else {
+            return Err(PrefixFault::BadText);
+        };
+        Ok(IpPrefix::V6(judged(addr, len)?))
+    }
+}
+
+/// An IPv4 address in dotted decimal, or an IPv6 address as RFC 5952 section 4 has it: in lower case, without leading zeros, with
+/// `::` for the first longest run of two or more zero groups, and never in dotted decimal; then a slash and the length in decimal.
+impl Display for IpPrefix {
+    ghost use Rattle.prefixes.specs.Text.{written_text};
+
+    ghost output = { λ p. Some (written_text p) };
+
+    fn fmt<W: fmt::Write>(&self, f: &mut fmt::Formatter<W>) -> fmt::Result {
+        match self {
+            IpPrefix::V4(p) => {
+                let address = Ipv4Addr::from_bits(p.addr() as u32);
+                write!(f, "{}/{}", address, p.len())
+            }
+            IpPrefix::V6(p) => {
+                let address = Ipv6Addr::from_bits(p.addr());
+                write!(f, "{}/{}", address.hex_groups(), p.len())
+            }
+        }
+    }
+}
+
+impl Asn {
+    ghost use Rattle.prefixes.specs.Text.{ReadsAsNumber};
+
+    /// The AS number that a text writes in decimal digits without a leading zero (RFC 5396, "asplain"). Other text, and a number of
+    /// more than 32 bits, is `BadText`.
+    pub fn parse(text: &str) -> Result<Asn, PrefixFault>
+        ensures { ReadsAsNumber text.now result }
+    {
+        match number(text) {
+            Some(n) => Ok(Asn(n)),
+            None => Err(PrefixFault::BadText),
+        }
+    }
+}
+
+/// The number in decimal (RFC 5396, "asplain").
+impl Display for Asn {
+    ghost output = { λ a. Some (decimal a.0) };
+
+    fn fmt<W: fmt::Write>(&self, f: &mut fmt::Formatter<W>) -> fmt::Result {
+        write!(f, "{}", self.0)
+    }
+}
+
+/// The prefix of this address and this length, or the first fault: a length over the width, then host bits.
+fn judged<F: Family>(addr: u128, len: u32) -> Result<Prefix<F>, PrefixFault>
+    requires { addr < 2 ^ F.WIDTH }
+    ensures { IsJudged F.WIDTH (record { addr = addr; len = len }) result }
+{
+    if len > F::WIDTH as u32 {
+        return Err(PrefixFault::TooLong);
+    }
+    Prefix::new(addr, len as u8)
+}
+
+/// The IPv4 address that a text spells, as a number.
+fn v4_number(text: &str) -> Option<u32>
+    ensures { IsOnly (2 ^ 32) (λ addr. text.now ≡ v4_address addr) result }
+{
+    match text.parse::<Ipv4Addr>() {
+        Ok(address) => Some(address.to_bits()),
+        Err(_) => None,
+    }
+}
+
+/// The IPv6 address that a text spells, as a number.
+fn v6_number(text: &str) -> Option<u128>
+    ensures { IsOnly (2 ^ 128) (λ addr. IsV6Address addr text.now) result }
+{
+    if text.contains('.') {
+        return None;
+    }
+    match text.parse::<Ipv6Addr>() {
+        Ok(address) => Some(address.to_bits()),
+        Err(_) => None,
+    }
+}
+
+/// The number that a text writes in decimal digits without leading zeros.
+fn number(text: &str) -> Option<u32>
+    ensures { IsOnly (2 ^ 32) (λ n. text.now ≡ decimal n) result }
+{
+    if !begins_number(text.as_bytes()) {
+        return None;
+    }
+    match text.parse::<u32>() {
+        Ok(n) => Some(n),
+        Err(_) => None,
+    }
+}
+
+/// Whether a text begins as a number does: with a digit, which is 0 only where it stands alone.
+fn begins_number(bytes: &[u8]) -> bool
+    ensures { IsTrue result ↔ Begins bytes.now }
+{
+    !bytes.is_empty() && b'0' <= bytes[0] && (bytes[0] != b'0' || bytes.len() == 1)
+}

@@ -1,0 +1,137 @@
+//! Payload lists, read from JSON.
+ghost use Rattle.std.specs.Prelude.{◌≡◌, ◌<◌, ◌≤◌, ℕ, List, IfOk, IfSome, IfNone, IsErrOf, option_map};
+ghost use Rattle.serde_json.specs.View.{view, items_view};
+ghost use Rattle.prefixes.specs.Payload.{Payload};
+ghost use Rattle.vrps.specs.VrpSet.{VrpSet as Vrps, set_of, size};
+ghost use Rattle.rpkirtr.specs.Reading.{Makes};
+ghost use Rattle.rpkirtr.specs.PayloadList.{AreEntries, IsEntry, IsPayloadList, Lists, text_at, whole_at};
+
+use prefixes::{Asn, IpPrefix, Vrp};
+use serde_json::Value;
+use std::alloc::{AllocError, Global};
+use vrps::VrpSet;
+
+/// Why bytes give no set. The numbers are fixed.
+#[derive(Clone, Copy, Debug, PartialEq, Eq)]
+pub enum ListFault {
+    /// The bytes are no payload list.
+    NoList = 1,
+    /// Want of memory.
+    Memory = 2,
+}
+
+impl From<AllocError> for ListFault {
+    ghost use Rattle.rpkirtr.specs.declared.listing.ListFault.TheVariants.{Memory};
+
+    ghost from_gives = { λ _ e. e ≡ Memory };
+
+    fn from(_error: AllocError) -> ListFault {
+        ListFault::Memory
+    }
+}
+
+/// The whole number under a key.
+fn whole(value: &Value, key: &str) -> Option<u64>
+    ensures { result ≡ whole_at key.now (view value.now) }
+{
+    value.get(key).and_then(Value::as_u64)
+}
+
+/// The text under a key.
+fn text<'a>(value: &'a Value, key: &str) -> Option<&'a str>
+    ensures { option_map (λ s. s.now) result ≡ text_at key.now (view value.now) }
+{
+    value.get(key).and_then(Value::as_str)
+}
+
+/// The payload of these numbers and this text, if they make one.
+fn payload(asn: u64, max_len: u64, prefix: &str) -> Option<Vrp>
+    ensures some { IfSome result (λ v. Makes asn max_len prefix.now v) }
+    ensures none { IfNone result ((v : Payload) → ¬ (Makes asn max_len prefix.now v)) }
+{
+    let Ok(prefix) = IpPrefix::parse(prefix) else {
+        return None;
+    };
+    let Ok(max_len) = u8::try_from(max_len) else {
+        return None;
+    };
+    let Ok(asn) = u32::try_from(asn) else {
+        return None;
+    };
+    match Vrp::new(prefix, max_len, Asn(asn)) {
+        Ok(vrp) => Some(vrp),
+        Err(_) => None,
+    }
+}
+
+/// The payload of an entry.
+fn entry(value: &Value) -> Option<Vrp>
+    ensures some { IfSome result (λ v. IsEntry (view value.now) v) }
+    ensures none { IfNone result ((v : Payload) → ¬ (IsEntry (view value.now) v)) }
+{
+    let members = value.as_object()?;
+    if members.len() != 3 {
+        return None;
+    }
+    let asn = whole(value, "asn")?;
+    let max_len = whole(value, "maxLength")?;
+    let prefix = text(value, "prefix")?;
+    payload(asn, max_len, prefix)
+}
+
+/// The payloads of the entries, in their order.
+fn records_of(alloc: Global, list: &[Value]) -> Result<Vec<Vrp>, ListFault>
+    ensures ok { IfOk result (λ vs. AreEntries (items_view list.now) vs.items) }
+    ensures no_list { IsErrOf result ListFault.NoList → (vs : List Payload) → ¬ (AreEntries (items_view list.now) vs) }
+{
+    let mut records = Vec::new(alloc);
+    for item in list {
+        let Some(vrp) = entry(item) else {
+            return Err(ListFault::NoList);
+        };
+        if records.push(vrp).is_err() {
+            return Err(ListFault::Memory);
+        }
+    }
+    Ok(records)
+}
+
+/// The set of these records, if they are not too many.
+fn set_from(records: Vec<Vrp>) -> Result<VrpSet, ListFault>
+    ensures ok { IfOk result (λ s. (s ≡ set_of records.items) × (size s ≤ 16777215)) }
+    ensures no_list { IsErrOf result ListFault.NoList → 16777215 < size (set_of records.items) }
+{
+    match VrpSet::from_list(records) {
+        Ok(set) => {
+            let _within_limit = set.len();
+            Ok(set)
+        }
+        Err(_) => Err(ListFault::NoList),
+    }
+}
+
+/// The set of an array of entries.
+fn set_of_items(alloc: Global, list: &[Value]) -> Result<VrpSet, ListFault>
+    ensures ok { IfOk result (λ s. Lists (items_view list.now) s) }
+    ensures no_list { IsErrOf result ListFault.NoList → (s : Vrps) → ¬ (Lists (items_view list.now) s) }
+{
+    let records = records_of(alloc, list)?;
+    set_from(records)
+}
+
+/// The set of a payload list: a JSON array of objects with exactly the keys `asn`, `maxLength` and `prefix`. Of a key that
+/// stands twice in an object, `serde_json` reads the last.
+pub fn read_list(alloc: Global, bytes: &[u8]) -> Result<VrpSet, ListFault>
+    ensures ok { IfOk result (λ s. IsPayloadList bytes.now s) }
+    ensures no_list { IsErrOf result ListFault.NoList → (s : Vrps) → ¬ (IsPayloadList bytes.now s) }
+{
+    let value = match Value::from_slice(alloc, bytes) {
+        Ok(value) => value,
+        Err(error) if error.is_memory() => return Err(ListFault::Memory),
+        Err(_) => return Err(ListFault::NoList),
+    };
+    match value.as_array() {
+        Some(list) => set_of_items(alloc, list.as_slice()),
+        None => Err(ListFault::NoList),
+    }
+}

@@ -1,0 +1,112 @@
+//! The words of the command line.
+use crate::runner::ProgramFault;
+use clap::error::ErrorKind;
+use clap::{Arg, ArgAction, ArgMatches, Command, Error};
+use std::alloc::{AllocError, Global};
+
+/// A command: its name, its options, which take one value each, and its other words.
+struct Form {
+    name: &'static str,
+    options: &'static [&'static str],
+    words: &'static [&'static str],
+}
+
+static FORMS: [Form; 1] = [Form {
+    name: "answer",
+    options: &["session", "serial", "vrps"],
+    words: &["HEX"],
+}];
+
+fn word<'a>(alloc: Global, name: &'static str) -> Arg<'a> {
+    Arg::new(alloc, name).required(true).action(ArgAction::Set)
+}
+
+fn subcommand<'a>(alloc: Global, form: &Form) -> Result<Command<'a>, AllocError> {
+    let mut command = Command::new(alloc, form.name);
+    for name in form.options {
+        command = command.arg(word(alloc, name).long(name))?;
+    }
+    for name in form.words {
+        command = command.arg(word(alloc, name))?;
+    }
+    Ok(command)
+}
+
+/// The command line of the program: one level of commands, without help or version.
+pub fn command_line<'a>(alloc: Global) -> Result<Command<'a>, AllocError> {
+    let mut all = Command::new(alloc, "rpkirtr")
+        .no_binary_name(true)
+        .disable_help_flag(true)
+        .disable_help_subcommand(true)
+        .disable_version_flag(true)
+        .subcommand_required(true);
+    for form in &FORMS {
+        all = all.subcommand(subcommand(alloc, form)?)?;
+    }
+    Ok(all)
+}
+
+/// What the words ask for.
+#[derive(Clone, Copy)]
+pub enum Order<'a> {
+    /// The answers of a cache to the bytes that HEX spells.
+    Answer {
+        session: u16,
+        serial: u32,
+        vrps: &'a str,
+        hex: &'a str,
+    },
+}
+
+fn fault_of(error: Error) -> ProgramFault {
+    if error.kind() == ErrorKind::OutOfMemory {
+        ProgramFault::Memory
+    } else {
+        ProgramFault::Words
+    }
+}
+
+/// The value of an option or a word.
+fn value<'a>(found: &ArgMatches<'a>, name: &str) -> Result<&'a str, ProgramFault> {
+    found.get_str(name).ok_or(ProgramFault::Words)
+}
+
+/// The number that a text writes in decimal digits without a leading zero or a sign.
+fn decimal(text: &str) -> Option<u64> {
+    match text.as_bytes() {
+        [b'+', ..] => None,
+        [b'0', _, ..] => None,
+        _ => text.parse::<u64>().ok(),
+    }
+}
+
+/// The number of 16 bits under this name.
+fn number_16(found: &ArgMatches<'_>, name: &str) -> Result<u16, ProgramFault> {
+    let number = decimal(value(found, name)?).ok_or(ProgramFault::Words)?;
+    u16::try_from(number).map_err(|_| ProgramFault::Words)
+}
+
+/// The number of 32 bits under this name.
+fn number_32(found: &ArgMatches<'_>, name: &str) -> Result<u32, ProgramFault> {
+    let number = decimal(value(found, name)?).ok_or(ProgramFault::Words)?;
+    u32::try_from(number).map_err(|_| ProgramFault::Words)
+}
+
+fn answer_order<'a>(found: &ArgMatches<'a>) -> Result<Order<'a>, ProgramFault> {
+    Ok(Order::Answer {
+        session: number_16(found, "session")?,
+        serial: number_32(found, "serial")?,
+        vrps: value(found, "vrps")?,
+        hex: value(found, "HEX")?,
+    })
+}
+
+/// Reads the words.
+pub fn read_words(alloc: Global, words: &[String]) -> Result<Order<'_>, ProgramFault> {
+    let command = command_line(alloc)?;
+    let matches = command.try_get_matches_from(words).map_err(fault_of)?;
+    match matches.subcommand() {
+        Some(("answer", found)) => answer_order(found),
+        _ => Err(ProgramFault::Words),
+    }
+}

@@ -1,0 +1,349 @@
+-- Bytes are the beginning of a unit, begin with a unit, or show a fault. A fault that shows stays, whatever follows.
+use Rattle.std.specs.Prelude.{◌≡◌, ◌⊎◌, ℕ, ◌+◌, ◌-◌, ◌/◌, ◌%◌, ◌<◌, ◌≤◌, ◌^◌, Bool, true, false, not, ◌&&◌, ◌||◌, ◌==◌, nat_lt, nat_le, List, [], ◌∷◌, ◌++◌, length, take, drop, slice_index, Option, Some, None, if◌then◌else◌, refl}
+use Rattle.std.specs.List.{list_any}
+use Rattle.std.proofs.Common.{sym, ap, ◌∙◌, subst, arith, inl, inr}
+use Rattle.std.proofs.lemmas.List.{length-drop, length-append, drop-append-le, take-append-le, get_or_append_left}
+use Rattle.std.proofs.lemmas.Bool.{cases_eq, and_parts, or_cases, cases_Bool, cases_lt}
+use Rattle.std.proofs.lemmas.Bool.Decides.{nat_tests}
+use Rattle.std.proofs.lemmas.Str.{IsUtf8-from_is_utf8, is_utf8-from_IsUtf8}
+use Rattle.std.specs.Str.{IsUtf8, is_utf8}
+use Rattle.byteorder.specs.Endian.{big_number}
+use Rattle.byteorder.specs.Numbers.{big_from-append}
+use Rattle.rtr_pdu.specs.declared.unit.Unit.{Unit}
+use Rattle.rtr_pdu.specs.declared.unit.UnitFault.{UnitFault}
+use Rattle.rtr_pdu.specs.declared.unit.UnitFault.TheVariants as faults
+use Rattle.rtr_pdu.specs.Unit.{Reads}
+use Rattle.rtr_pdu.specs.Stream.{version_of, type_of, length_of, is_type, has_length, header_fault, IsWhole, IsRecord, IsReport, Shows}
+use Rattle.rtr_pdu.proofs.ModeLaws.{type_of-append, length_of-append, not_short}
+use Rattle.rtr_pdu.specs.Payloads.{AreBytes}
+use Rattle.rtr_pdu.specs.Reading.{number_at, IsSized}
+use Rattle.rtr_pdu.proofs.ReadLaws.{reads_0, reads_1, reads_2, reads_3, reads_4, reads_6, reads_7, reads_8, reads_9, reads_10}
+
+-- the tests of a header, in order
+abbrev pub chain : Bool → Bool → Bool → Bool → Bool → Option UnitFault
+chain a b c d e =
+    if a then None
+    else if not b then Some faults.Version
+    else if not c then Some faults.«Type»
+    else if not d then Some faults.Length
+    else if e then Some faults.TooLong
+    else None
+
+-- where no test fails
+chain_none : (a b c d e : Bool) → chain a b c d e ≡ None → a ≡ false → (b ≡ true) × (c ≡ true) × (d ≡ true) × (e ≡ false)
+chain_none true b c d e h k = absurd (let e : true ≡ false = k in cc)
+chain_none false false c d e h k = absurd (let e : ◌≡◌ {A = Option UnitFault} (Some faults.Version) None = h in cc)
+chain_none false true false d e h k = absurd (let e : ◌≡◌ {A = Option UnitFault} (Some faults.«Type») None = h in cc)
+chain_none false true true false e h k = absurd (let e : ◌≡◌ {A = Option UnitFault} (Some faults.Length) None = h in cc)
+chain_none false true true true true h k = absurd (let e : ◌≡◌ {A = Option UnitFault} (Some faults.TooLong) None = h in cc)
+chain_none false true true true false h k = (refl, refl, refl, refl)
+
+-- what the tests of numbers say
+is_same : (a b : ℕ) → (a == b) ≡ true → a ≡ b
+is_same a b h = grind (arith, nat_tests)
+
+-- the test of a least number
+is_least : (a b : ℕ) → nat_le a b ≡ true → a ≤ b
+is_least a b h = grind (arith, nat_tests)
+
+-- the test of a greatest number
+is_most : (a b : ℕ) → nat_lt a b ≡ false → b ≤ a
+is_most a b h = grind (arith, nat_tests)
+
+-- the types with their lengths
+pub data Kinds (type len : ℕ) : Type 0 where
+  notify : type ≡ 0 → len ≡ 12 → Kinds type len
+  query : type ≡ 1 → len ≡ 12 → Kinds type len
+  reset_query : type ≡ 2 → len ≡ 8 → Kinds type len
+  response : type ≡ 3 → len ≡ 8 → Kinds type len
+  v4 : type ≡ 4 → len ≡ 20 → Kinds type len
+  v6 : type ≡ 6 → len ≡ 32 → Kinds type len
+  end_of_data : type ≡ 7 → len ≡ 24 → Kinds type len
+  cache_reset : type ≡ 8 → len ≡ 8 → Kinds type len
+  key : type ≡ 9 → 32 ≤ len → Kinds type len
+  report : type ≡ 10 → 16 ≤ len → Kinds type len
+
+-- one test of several
+one_of : {P : Type 0} (type k len l : ℕ) (more : Bool) → (type ≡ k → len ≡ l → P) → (more ≡ true → P) → ((type == k && len == l) || more) ≡ true → P
+one_of type k len l more here later h =
+    elim (or_cases (type == k && len == l) more h) [
+      | inl both ↦ (let p = and_parts (type == k) (len == l) both in here (is_same type k p.0) (is_same len l p.1))
+      | inr other ↦ later other
+    ]
+
+-- the types with a least length
+abbrev last_two : ℕ → ℕ → Bool
+last_two type len = (type == 9 && nat_le 32 len) || (type == 10 && nat_le 16 len)
+
+-- one of the last two
+two_kinds : (type len : ℕ) → last_two type len ≡ true → Kinds type len
+two_kinds type len h =
+    elim (or_cases (type == 9 && nat_le 32 len) (type == 10 && nat_le 16 len) h) [
+      | inl nine ↦ (let p = and_parts (type == 9) (nat_le 32 len) nine in key (is_same type 9 p.0) (is_least 32 len p.1))
+      | inr ten ↦ (let p = and_parts (type == 10) (nat_le 16 len) ten in report (is_same type 10 p.0) (is_least 16 len p.1))
+    ]
+
+-- false is not true
+pub false_true : {P : Type 0} → false ≡ true → P
+false_true h = absurd (let e : false ≡ true = h in cc)
+
+-- A type with a length of its own is one of the ten.
+pub kinds_of : (type len : ℕ) → has_length type len ≡ true → Kinds type len
+kinds_of type len h =
+    elim (or_cases (list_any (λ (e : ℕ × ℕ). type == e.0 && len == e.1) ((0, 12) ∷ (1, 12) ∷ (2, 8) ∷ (3, 8) ∷ (4, 20) ∷ (6, 32) ∷ (7, 24) ∷ (8, 8) ∷ [])) (last_two type len) h) [
+      | inr two ↦ two_kinds type len two
+      | inl fixed ↦
+          one_of type 0 len 12 _ notify
+          (one_of type 1 len 12 _ query
+          (one_of type 2 len 8 _ reset_query
+          (one_of type 3 len 8 _ response
+          (one_of type 4 len 20 _ v4
+          (one_of type 6 len 32 _ v6
+          (one_of type 7 len 24 _ end_of_data
+          (one_of type 8 len 8 _ cache_reset false_true))))))) fixed
+    ]
+
+-- each length is that of a header or more
+least_length : (t l : ℕ) → Kinds t l → 8 ≤ l
+least_length t l (notify k e) = omega (arith, e)
+least_length t l (query k e) = omega (arith, e)
+least_length t l (reset_query k e) = omega (arith, e)
+least_length t l (response k e) = omega (arith, e)
+least_length t l (v4 k e) = omega (arith, e)
+least_length t l (v6 k e) = omega (arith, e)
+least_length t l (end_of_data k e) = omega (arith, e)
+least_length t l (cache_reset k e) = omega (arith, e)
+least_length t l (key k e) = omega (arith, e)
+least_length t l (report k e) = omega (arith, e)
+
+-- what the test of a length is at one type
+only : (b : Bool) → ((b || false) || false) ≡ true → b ≡ true
+only true h = refl
+only false h = h
+
+-- the same behind the table
+or_none : (b : Bool) → (b || false) ≡ true → b ≡ true
+or_none true h = refl
+or_none false h = h
+
+-- a type is at most 10
+high_type : (type : ℕ) → is_type type ≡ true → type ≤ 10
+high_type type h = grind (arith, nat_tests)
+
+-- there is no type 5
+not_five : (type : ℕ) → is_type type ≡ true → type ≡ 5 → ⊥
+not_five type h e = let k : is_type 5 ≡ true = ap (λ n. is_type n) (sym e) ∙ h in false_true k
+
+-- A type has one length, but for the two that have a least one.
+pub sized_of : (type len : ℕ) → is_type type ≡ true → has_length type len ≡ true → len ≤ 4096 → IsSized type len
+sized_of type len kind has most =
+    let tested : (k : ℕ) → type ≡ k → has_length k len ≡ true = λ k e. ap (λ t. has_length t len) (sym e) ∙ has in
+    record {
+      eight = least_length type len (kinds_of type len has);
+      most = most;
+      high = high_type type kind;
+      not_5 = not_five type kind;
+      at_0 = λ e. is_same len 12 (only (len == 12) (tested 0 e));
+      at_1 = λ e. is_same len 12 (only (len == 12) (tested 1 e));
+      at_2 = λ e. is_same len 8 (only (len == 8) (tested 2 e));
+      at_3 = λ e. is_same len 8 (only (len == 8) (tested 3 e));
+      at_4 = λ e. is_same len 20 (only (len == 20) (tested 4 e));
+      at_6 = λ e. is_same len 32 (only (len == 32) (tested 6 e));
+      at_7 = λ e. is_same len 24 (only (len == 24) (tested 7 e));
+      at_8 = λ e. is_same len 8 (only (len == 8) (tested 8 e));
+      at_9 = λ e. is_least 32 len (or_none (nat_le 32 len) (tested 9 e));
+      at_10 = λ e. is_least 16 len (tested 10 e);
+    }
+
+-- facts that can be decided
+abbrev Decided : Type 0 → Type 0
+Decided P = P ⊎ ¬ P
+
+-- two facts that can be decided
+both_decided : {P Q : Type 0} → Decided P → Decided Q → Decided (P × Q)
+both_decided (inl p) (inl q) = inl (p, q)
+both_decided (inl p) (inr n) = inr (λ h. n h.1)
+both_decided (inr n) q = inr (λ h. n h.0)
+
+-- an order
+le_decided : (a b : ℕ) → Decided (a ≤ b)
+le_decided a b = elim (cases_lt b a) [ inl more ↦ inr (λ h. absurd (omega (arith, more, h))) | inr less ↦ inl less ]
+
+-- an equation
+same_decided : (a b : ℕ) → Decided (a ≡ b)
+same_decided a b = cases_eq a b
+
+-- whether bytes are UTF-8
+utf8_decided : (bytes : List ℕ) → Decided (IsUtf8 bytes)
+utf8_decided bytes =
+    elim (cases_Bool (is_utf8 bytes)) [
+      | inl valid ↦ inl (IsUtf8-from_is_utf8 bytes valid)
+      | inr broken ↦ inr (λ h. let valid = is_utf8-from_IsUtf8 bytes h in false_true (sym broken ∙ valid))
+    ]
+
+-- whether a prefix unit holds a payload
+pub record_decided : (width : ℕ) (bytes : List ℕ) → Decided (IsRecord width bytes)
+record_decided width bytes =
+    let low = le_decided (slice_index bytes 9) (slice_index bytes 10) in
+    let high = le_decided (slice_index bytes 10) width in
+    let host = same_decided (big_number (width / 8) (drop 12 bytes) % 2 ^ (width - slice_index bytes 9)) 0 in
+    three low high host
+  where
+    -- three facts
+    three : {P Q R : Type 0} → Decided P → Decided Q → Decided R → Decided (P × Q × R)
+    three (inl p) (inl q) (inl r) = inl (p, q, r)
+    three (inr n) q r = inr (λ h. n h.0)
+    three (inl p) (inr n) r = inr (λ h. n h.1)
+    three (inl p) (inl q) (inr n) = inr (λ h. n h.2)
+
+-- whether an Error Report holds a report
+pub report_decided : (bytes : List ℕ) → Decided (IsReport bytes)
+report_decided bytes =
+    both_decided (same_decided (16 + number_at 4 8 bytes + number_at 4 (12 + number_at 4 8 bytes) bytes) (length_of bytes))
+    (utf8_decided (take (number_at 4 (12 + number_at 4 8 bytes) bytes) (drop (16 + number_at 4 8 bytes) bytes)))
+
+-- a number in a front is that of the whole
+number-append : (n i : ℕ) (front more : List ℕ) → i + n ≤ length front → number_at n i (front ++ more) ≡ number_at n i front
+number-append n i front more h =
+    let room : n ≤ length (drop i front) = omega (arith, length-drop i front, h) in
+    ap (big_number n) (drop-append-le i front more (omega (arith, h))) ∙ big_from-append n (drop i front) more room
+
+-- a payload in the whole is one in the front
+record_front : (width : ℕ) (front more : List ℕ) → 12 + width / 8 ≤ length front → IsRecord width (front ++ more) → IsRecord width front
+record_front width front more l h =
+    let a = get_or_append_left front more 0 9 (omega (arith, l)) in
+    let b = get_or_append_left front more 0 10 (omega (arith, l)) in
+    let n = number-append (width / 8) 12 front more l in
+    (omega (arith, a, b, h.0), omega (arith, b, h.1), (λ i. sym n i % 2 ^ (width - sym a i)) ∙ h.2)
+
+-- a report in the whole is one in the front that has its length
+report_front : (front more : List ℕ) → 16 ≤ length front → length_of front ≤ length front → IsReport (front ++ more) → IsReport front
+report_front front more l size h =
+    let copy = number-append 4 8 front more (omega (arith, l)) in
+    let len = length_of-append front more (omega (arith, l)) in
+    let room : 12 + number_at 4 8 front + 4 ≤ length front = omega (arith, h.0, copy, len, size) in
+    let text : number_at 4 (12 + number_at 4 8 (front ++ more)) (front ++ more) ≡ number_at 4 (12 + number_at 4 8 front) front =
+    ap (λ (k : ℕ). number_at 4 (12 + k) (front ++ more)) copy ∙ number-append 4 (12 + number_at 4 8 front) front more room in
+    let sum : 16 + number_at 4 8 front + number_at 4 (12 + number_at 4 8 front) front ≡ length_of front = omega (arith, h.0, copy, len, text) in
+    let tail = length-drop (16 + number_at 4 8 front) front in
+    let is : take (number_at 4 (12 + number_at 4 8 (front ++ more)) (front ++ more)) (drop (16 + number_at 4 8 (front ++ more)) (front ++ more))
+    ≡ take (number_at 4 (12 + number_at 4 8 front) front) (drop (16 + number_at 4 8 front) front) =
+    (λ i. take (text i) (drop (16 + copy i) (front ++ more)))
+    ∙ ap (take (number_at 4 (12 + number_at 4 8 front) front)) (drop-append-le (16 + number_at 4 8 front) front more (omega (arith, room)))
+    ∙ take-append-le (number_at 4 (12 + number_at 4 8 front) front) (drop (16 + number_at 4 8 front) front) more (omega (arith, tail, sum, size)) in
+    (sum, subst (λ x. IsUtf8 x) is h.1)
+
+-- no fault is not a fault
+pub none_some : (o : Option UnitFault) (fault : UnitFault) → o ≡ None → o ≡ Some fault → ⊥
+none_some o fault a b = let e : ◌≡◌ {A = Option UnitFault} None (Some fault) = sym a ∙ b in cc
+
+-- what a header without a fault tells
+pub record IsHeader (version : ℕ) (bytes : List ℕ) : Type 0 where
+  pub version_is : version_of bytes ≡ version
+  pub kind : is_type (type_of bytes) ≡ true
+  pub has : has_length (type_of bytes) (length_of bytes) ≡ true
+  pub high : length_of bytes ≤ 4096
+
+module _ (version : ℕ) where
+  pub is_header : (bytes : List ℕ) → 8 ≤ length bytes → header_fault version bytes ≡ None → IsHeader version bytes
+  is_header bytes eight h =
+      let t = chain_none (nat_lt (length bytes) 8) (version_of bytes == version) (is_type (type_of bytes)) (has_length (type_of bytes) (length_of bytes)) (nat_lt 4096 (length_of bytes)) h (not_short (length bytes) eight) in
+      record { version_is = is_same (version_of bytes) version t.0; kind = t.1; has = t.2; high = is_most 4096 (length_of bytes) t.3 }
+
+  -- a header has no fault, or shows the one that it has
+  abbrev HasFault : List ℕ → Type 0
+  HasFault bytes = (fault : UnitFault) × Shows version bytes fault
+
+  header_cases : (bytes : List ℕ) (a b c d e : Bool) → header_fault version bytes ≡ chain a b c d e → (header_fault version bytes ≡ None) ⊎ HasFault bytes
+  header_cases bytes true b c d e h = inl h
+  header_cases bytes false false c d e h = inr (faults.Version, h)
+  header_cases bytes false true false d e h = inr (faults.«Type», h)
+  header_cases bytes false true true false e h = inr (faults.Length, h)
+  header_cases bytes false true true true true h = inr (faults.TooLong, h)
+  header_cases bytes false true true true false h = inl h
+
+  pub header_judged : (bytes : List ℕ) → (header_fault version bytes ≡ None) ⊎ HasFault bytes
+  header_judged bytes = header_cases bytes (nat_lt (length bytes) 8) (version_of bytes == version) (is_type (type_of bytes)) (has_length (type_of bytes) (length_of bytes)) (nat_lt 4096 (length_of bytes)) refl
+
+  -- A whole unit behind a header without a fault is read, or shows a fault.
+  abbrev pub IsJudged : List ℕ → Type 0
+  IsJudged bytes = HasFault bytes ⊎ ((u : Unit) × Reads version u bytes)
+
+  whole_of : (bytes : List ℕ) → header_fault version bytes ≡ None → 8 ≤ length bytes → length bytes ≡ length_of bytes → IsWhole version bytes
+  whole_of bytes none eight size = (none, eight, omega (arith, size))
+
+  unit_judged : (bytes : List ℕ) → AreBytes bytes → IsWhole version bytes → length bytes ≡ length_of bytes → IsHeader version bytes → Kinds (type_of bytes) (length_of bytes) → IsJudged bytes
+  unit_judged bytes each w size h (notify k l) = inr (_, reads_0 version bytes (record { each = each; version_is = h.version_is; type_is = k; size = size; eight = w.1 }) (size ∙ l))
+  unit_judged bytes each w size h (query k l) = inr (_, reads_1 version bytes (record { each = each; version_is = h.version_is; type_is = k; size = size; eight = w.1 }) (size ∙ l))
+  unit_judged bytes each w size h (reset_query k l) = inr (_, reads_2 version bytes (record { each = each; version_is = h.version_is; type_is = k; size = size; eight = w.1 }) (size ∙ l))
+  unit_judged bytes each w size h (response k l) = inr (_, reads_3 version bytes (record { each = each; version_is = h.version_is; type_is = k; size = size; eight = w.1 }) (size ∙ l))
+  unit_judged bytes each w size h (end_of_data k l) = inr (_, reads_7 version bytes (record { each = each; version_is = h.version_is; type_is = k; size = size; eight = w.1 }) (size ∙ l))
+  unit_judged bytes each w size h (cache_reset k l) = inr (_, reads_8 version bytes (record { each = each; version_is = h.version_is; type_is = k; size = size; eight = w.1 }) (size ∙ l))
+  unit_judged bytes each w size h (key k l) = inr (_, reads_9 version bytes (record { each = each; version_is = h.version_is; type_is = k; size = size; eight = w.1 }) (omega (arith, size, l)) (omega (arith, size, h.high)))
+  unit_judged bytes each w size h (v4 k l) =
+      elim (record_decided 32 bytes) [
+        | inl good ↦ inr (_, reads_4 version bytes (record { each = each; version_is = h.version_is; type_is = k; size = size; eight = w.1 }) (size ∙ l) good)
+        | inr bad ↦ inl (faults.Record, (w, inl (k, bad)))
+      ]
+  unit_judged bytes each w size h (v6 k l) =
+      elim (record_decided 128 bytes) [
+        | inl good ↦ inr (_, reads_6 version bytes (record { each = each; version_is = h.version_is; type_is = k; size = size; eight = w.1 }) (size ∙ l) good)
+        | inr bad ↦ inl (faults.Record, (w, inr (k, bad)))
+      ]
+  unit_judged bytes each w size h (report k l) =
+      elim (report_decided bytes) [
+        | inl good ↦ inr (_, reads_10 version bytes (record { each = each; version_is = h.version_is; type_is = k; size = size; eight = w.1 }) (omega (arith, size, l)) (omega (arith, size, h.high)) good)
+        | inr bad ↦ inl (faults.ErrorReport, (w, k, bad))
+      ]
+
+  pub judged : (bytes : List ℕ) → AreBytes bytes → IsWhole version bytes → length bytes ≡ length_of bytes → IsJudged bytes
+  judged bytes each w size =
+      let h = is_header bytes w.1 w.0 in
+      unit_judged bytes each w size h (kinds_of (type_of bytes) (length_of bytes) h.has)
+
+  -- A front of 8 bytes or more has the header of the whole.
+  pub header_fault-append : (front more : List ℕ) → 8 ≤ length front → header_fault version (front ++ more) ≡ header_fault version front
+  header_fault-append front more h =
+      let long : 8 ≤ length (front ++ more) = omega (arith, length-append front more, h) in
+      let short = not_short (length (front ++ more)) long ∙ sym (not_short (length front) h) in
+      let first = get_or_append_left front more 0 0 (omega (arith, h)) in
+      λ i. chain (short i) (first i == version) (is_type (type_of-append front more h i)) (has_length (type_of-append front more h i) (length_of-append front more h i)) (nat_lt 4096 (length_of-append front more h i))
+
+  pub short_none : (bytes : List ℕ) → length bytes < 8 → header_fault version bytes ≡ None
+  short_none bytes h =
+      let short : nat_lt (length bytes) 8 ≡ true = grind (arith, nat_tests) in
+      ap (λ b. chain b (version_of bytes == version) (is_type (type_of bytes)) (has_length (type_of bytes) (length_of bytes)) (nat_lt 4096 (length_of bytes))) short
+
+  pub fault_long : (bytes : List ℕ) (fault : UnitFault) → header_fault version bytes ≡ Some fault → 8 ≤ length bytes
+  fault_long bytes fault h =
+      elim (cases_lt (length bytes) 8) [ inl less ↦ absurd (none_some (header_fault version bytes) fault (short_none bytes less) h) | inr long ↦ long ]
+
+  pub header_sized : (bytes : List ℕ) → 8 ≤ length bytes → header_fault version bytes ≡ None → IsSized (type_of bytes) (length_of bytes)
+  header_sized bytes long none = let h = is_header bytes long none in sized_of (type_of bytes) (length_of bytes) h.kind h.has h.high
+
+  whole-append : (front more : List ℕ) → IsWhole version front → IsWhole version (front ++ more)
+  whole-append front more w =
+      let len = length_of-append front more w.1 in
+      (header_fault-append front more w.1 ∙ w.0, omega (arith, length-append front more, w.1), omega (arith, length-append front more, len, w.2))
+
+  -- A fault that shows stays, whatever follows.
+  pub Shows-append : (front more : List ℕ) (fault : UnitFault) → Shows version front fault → Shows version (front ++ more) fault
+  Shows-append front more faults.Version h = header_fault-append front more (fault_long front faults.Version h) ∙ h
+  Shows-append front more faults.«Type» h = header_fault-append front more (fault_long front faults.«Type» h) ∙ h
+  Shows-append front more faults.Length h = header_fault-append front more (fault_long front faults.Length h) ∙ h
+  Shows-append front more faults.TooLong h = header_fault-append front more (fault_long front faults.TooLong h) ∙ h
+  Shows-append front more faults.Truncated h = absurd h
+  Shows-append front more faults.ErrorReport h =
+      let w = h.0 in
+      let long = (header_sized front w.1 w.0).at_10 h.1 in
+      (whole-append front more w, type_of-append front more w.1 ∙ h.1, λ good. h.2 (report_front front more (omega (arith, long, w.2)) w.2 good))
+  Shows-append front more faults.Record h =
+      let w = h.0 in (
+        whole-append front more w,
+        elim h.1 [
+          | inl four ↦ (let long = (header_sized front w.1 w.0).at_4 four.0 in
+              inl (type_of-append front more w.1 ∙ four.0, λ good. four.1 (record_front 32 front more (omega (arith, long, w.2)) good)))
+          | inr six ↦ (let long = (header_sized front w.1 w.0).at_6 six.0 in
+              inr (type_of-append front more w.1 ∙ six.0, λ good. six.1 (record_front 128 front more (omega (arith, long, w.2)) good)))
+        ],
+      )

@@ -1,0 +1,9 @@
+pub mod BodyLaws
+pub mod JudgeLaws
+pub mod ModeLaws
+pub mod ReadLaws
+pub mod ReaderLaws
+pub mod RunLaws
+pub mod SplitLaws
+pub mod StreamLaws
+pub mod UnitLaws

@@ -1,0 +1,88 @@
+-- A reader of units of version 1, as contracts see it.
+use Rattle.std.specs.Prelude.{◌≡◌, ◌⊎◌, ℕ, ◌<◌, Bool, true, false, nat_lt, List, [], ◌++◌, length, Option, Some, None, if◌then◌else◌, MatchOption}
+use Rattle.rtr_pdu.specs.declared.unit.Unit.{Unit}
+use Rattle.rtr_pdu.specs.declared.unit.UnitFault.{UnitFault}
+use Rattle.rtr_pdu.specs.declared.unit.UnitFault.TheVariants as faults
+use Rattle.rtr_pdu.specs.declared.unit.Next.{Next}
+use Rattle.rtr_pdu.specs.declared.unit.Next.TheVariants as next
+use Rattle.rtr_pdu.specs.Unit.{Reads}
+use Rattle.rtr_pdu.specs.Stream.{as_read, length_of, IsPartial, Shows, IsShortest, end_fault, is_notify}
+
+-- The bytes that no unit has given back, whether a Serial Notify among them, and one after them, may show any version, and
+-- the fault, once one was found
+pub record Reader : Type 0 where
+  pub held : List ℕ
+  pub any : Bool
+  pub later : Bool
+  pub fault : Option UnitFault
+
+-- How many bytes are held at a fault: the header, the whole unit, or what there was
+abbrev pub fault_size : UnitFault → List ℕ → ℕ
+fault_size faults.Record bytes = length_of bytes
+fault_size faults.ErrorReport bytes = length_of bytes
+fault_size faults.Truncated bytes = length bytes
+fault_size _ bytes = 8
+
+-- This fault shows in these bytes, and not in fewer.
+pub record IsFaulty (any : Bool) (bytes : List ℕ) (fault : UnitFault) : Type 0 where
+  pub shows : Shows 1 (as_read 1 any bytes) fault
+  pub shortest : IsShortest 1 any bytes
+  pub size : length bytes ≡ fault_size fault (as_read 1 any bytes)
+
+-- These bytes are this unit, and no fewer are one.
+pub record IsRead (any : Bool) (bytes : List ℕ) (u : Unit) : Type 0 where
+  pub reads : Reads 1 u (as_read 1 any bytes)
+  pub shortest : IsShortest 1 any bytes
+
+-- What these bytes of a unit are, where this is left of the piece
+abbrev pub Judges : Bool → List ℕ → Next → List ℕ → Type 0
+Judges any bytes (next.Unit u) rest = IsRead any bytes u
+Judges any bytes next.NeedMore rest = IsPartial 1 (as_read 1 any bytes) × (rest ≡ [])
+Judges any bytes (next.Fault fault) rest = IsFaulty any bytes fault
+
+-- Behind these bytes some of the piece are taken, and this is left.
+pub record Advances (any : Bool) (held piece : List ℕ) (answer : Next) (rest now : List ℕ) : Type 0 where
+  pub taken : List ℕ
+  pub piece_is : piece ≡ taken ++ rest
+  pub now_is : now ≡ held ++ taken
+  pub judged : Judges any now answer rest
+
+-- What holds of each reader
+abbrev pub Stands : Bool → List ℕ → UnitFault → Type 0
+Stands any bytes faults.Truncated = IsPartial 1 (as_read 1 any bytes) × (0 < length bytes)
+Stands any bytes fault = IsFaulty any bytes fault
+
+-- It holds the beginning of a unit, or a fault and the bytes that show it.
+abbrev pub IsReader : Reader → Type 0
+IsReader r = MatchOption r.fault (IsPartial 1 (as_read 1 r.any r.held)) (Stands r.any r.held)
+
+-- A reader that holds nothing
+abbrev pub fresh : Bool → Reader
+fresh any = record { held = []; any = any; later = any; fault = None }
+
+-- The reader after an answer for which this was taken
+abbrev pub Gives : Reader → List ℕ → Next → List ℕ → Reader → Type 0
+Gives old taken (next.Unit u) rest new = (old.fault ≡ None) × IsRead old.any (old.held ++ taken) u × (new ≡ fresh old.later)
+Gives old taken next.NeedMore rest new =
+    (old.fault ≡ None) × IsPartial 1 (as_read 1 old.any (old.held ++ taken)) × (rest ≡ []) × (new ≡ record old { held = old.held ++ taken })
+Gives old taken (next.Fault fault) rest new =
+    ((old.fault ≡ None) × IsFaulty old.any (old.held ++ taken) fault × (new ≡ record old { held = old.held ++ taken; fault = Some fault }))
+    ⊎ ((old.fault ≡ Some fault) × (taken ≡ []) × (new ≡ old))
+
+-- A call of `next`: what it takes stands at the front of the piece, and nothing else changes.
+pub record Takes (old : Reader) (piece : List ℕ) (answer : Next) (rest : List ℕ) (new : Reader) : Type 0 where
+  pub taken : List ℕ
+  pub piece_is : piece ≡ taken ++ rest
+  pub gives : Gives old taken answer rest new
+
+-- A header that has not come whole is read as after agreement.
+abbrev pub after_agreed : Reader → Reader
+after_agreed r = record r { any = (if nat_lt (length r.held) 8 then false else r.any); later = false }
+
+-- At a router, a unit that is no Serial Notify is agreement.
+abbrev pub told : Unit → Reader → Reader
+told u r = elim (is_notify u) [ true ↦ r | false ↦ after_agreed r ]
+
+-- The fault of the input if it ends where the reader stands
+abbrev pub at_end : Reader → Option UnitFault
+at_end r = end_fault r.held r.fault

@@ -1,0 +1,79 @@
+-- What the bytes of a whole unit say.
+use Rattle.std.specs.Prelude.{◌≡◌, ℕ, ◌+◌, ◌-◌, ◌%◌, ◌≤◌, Bool, ◌==◌, List, ◌++◌, length, take, drop, slice_index}
+use Rattle.byteorder.specs.Endian.{big_number}
+use Rattle.prefixes.specs.Payload.{Payload}
+use Rattle.prefixes.specs.declared.prefix.IpPrefix.TheVariants.{V4, V6}
+use Rattle.rtr_pdu.specs.Payloads.{Report, Key}
+use Rattle.rtr_pdu.specs.Stream.{as_read, type_of, length_of, IsWhole}
+
+-- the number of n bytes at place i
+abbrev pub number_at : ℕ → ℕ → List ℕ → ℕ
+number_at n i bytes = big_number n (drop i bytes)
+
+-- whether the lowest bit is set, as of flags
+abbrev pub is_odd : ℕ → Bool
+is_odd n = n % 2 == 1
+
+-- The payload in an IPv4 Prefix
+abbrev pub v4_in : List ℕ → Payload
+v4_in bytes = record {
+  prefix = V4 (record { addr = number_at 4 12 bytes; len = slice_index bytes 9 });
+  max_len = slice_index bytes 10;
+  asn = number_at 4 16 bytes;
+}
+
+-- The payload in an IPv6 Prefix
+abbrev pub v6_in : List ℕ → Payload
+v6_in bytes = record {
+  prefix = V6 (record { addr = number_at 16 12 bytes; len = slice_index bytes 9 });
+  max_len = slice_index bytes 10;
+  asn = number_at 4 28 bytes;
+}
+
+-- The key in a Router Key
+abbrev pub key_in : List ℕ → Key
+key_in bytes = record {
+  announce = is_odd (slice_index bytes 2);
+  identifier = take 20 (drop 8 bytes);
+  asn = number_at 4 28 bytes;
+  info = drop 32 bytes;
+}
+
+-- The report in an Error Report, whose text goes to its end
+abbrev pub report_in : List ℕ → Report
+report_in bytes = record {
+  code = number_at 2 2 bytes;
+  copy = take (number_at 4 8 bytes) (drop 12 bytes);
+  text = drop (16 + number_at 4 8 bytes) bytes;
+}
+
+-- The lengths of the types, within 4,096
+pub record IsSized (type len : ℕ) : Type 0 where
+  pub eight : 8 ≤ len
+  pub most : len ≤ 4096
+  pub high : type ≤ 10
+  pub not_5 : ¬ (type ≡ 5)
+  pub at_0 : type ≡ 0 → len ≡ 12
+  pub at_1 : type ≡ 1 → len ≡ 12
+  pub at_2 : type ≡ 2 → len ≡ 8
+  pub at_3 : type ≡ 3 → len ≡ 8
+  pub at_4 : type ≡ 4 → len ≡ 20
+  pub at_6 : type ≡ 6 → len ≡ 32
+  pub at_7 : type ≡ 7 → len ≡ 24
+  pub at_8 : type ≡ 8 → len ≡ 8
+  pub at_9 : type ≡ 9 → 32 ≤ len
+  pub at_10 : type ≡ 10 → 16 ≤ len
+
+-- A unit of version 1 has come whole, and no more than it.
+pub record IsBody (any : Bool) (bytes : List ℕ) : Type 0 where
+  pub whole : IsWhole 1 (as_read 1 any bytes)
+  pub exact : length bytes ≡ length_of (as_read 1 any bytes)
+  pub sized : IsSized (type_of bytes) (length bytes)
+
+-- What was held, filled up from a piece to a size
+abbrev pub filled : ℕ → List ℕ → List ℕ → List ℕ
+filled size held piece = held ++ take (size - length held) piece
+
+-- What is left of the piece then
+abbrev pub unfilled : ℕ → List ℕ → List ℕ → List ℕ
+unfilled size held piece = drop (size - length held) piece

@@ -1,0 +1,130 @@
+-- Units, faults and readings of single headers, worked out.
+use Rattle.std.specs.Prelude.{◌≡◌, ℕ, true, false, List, [], ◌∷◌, take, Some, None, refl}
+use Rattle.prefixes.specs.Payload.{Payload}
+use Rattle.prefixes.specs.declared.prefix.IpPrefix.TheVariants.{V4, V6}
+use Rattle.rtr_pdu.specs.declared.unit.Unit.TheVariants.{SerialNotify, SerialQuery, ResetQuery, CacheResponse, Prefix, EndOfData, CacheReset, RouterKey, ErrorReport}
+use Rattle.rtr_pdu.specs.declared.unit.UnitFault.TheVariants as faults
+use Rattle.rtr_pdu.specs.Unit.{unit_bytes}
+use Rattle.rtr_pdu.specs.Stream.{as_read, end_fault, header_fault}
+
+-- a Serial Notify of session 0x1234 and serial number 5
+abbrev serial_notify : List ℕ
+serial_notify = 0x01 ∷ 0x00 ∷ 0x12 ∷ 0x34 ∷ 0x00 ∷ 0x00 ∷ 0x00 ∷ 0x0c ∷ 0x00 ∷ 0x00 ∷ 0x00 ∷ 0x05 ∷ []
+
+-- a Reset Query
+abbrev reset_query : List ℕ
+reset_query = 0x01 ∷ 0x02 ∷ 0x00 ∷ 0x00 ∷ 0x00 ∷ 0x00 ∷ 0x00 ∷ 0x08 ∷ []
+
+-- 192.0.2.0/24 up to 24 of AS 64496
+abbrev documented_v4 : Payload
+documented_v4 = record { prefix = V4 (record { addr = 0xc0000200; len = 24 }); max_len = 24; asn = 64496 }
+
+-- 2001:db8::/32 up to 48 of AS 64496
+abbrev documented_v6 : Payload
+documented_v6 = record { prefix = V6 (record { addr = 0x20010db8000000000000000000000000; len = 32 }); max_len = 48; asn = 64496 }
+
+-- the bytes of units
+row_serial_notify : unit_bytes 1 (SerialNotify 0x1234 5) ≡ serial_notify
+row_serial_notify = refl
+
+-- a Serial Query
+row_serial_query : unit_bytes 1 (SerialQuery 0x1234 5) ≡ 0x01 ∷ 0x01 ∷ 0x12 ∷ 0x34 ∷ 0x00 ∷ 0x00 ∷ 0x00 ∷ 0x0c ∷ 0x00 ∷ 0x00 ∷ 0x00 ∷ 0x05 ∷ []
+row_serial_query = refl
+
+-- a Reset Query
+row_reset_query : unit_bytes 1 ResetQuery ≡ reset_query
+row_reset_query = refl
+
+-- a Cache Response
+row_cache_response : unit_bytes 1 (CacheResponse 0x1234) ≡ 0x01 ∷ 0x03 ∷ 0x12 ∷ 0x34 ∷ 0x00 ∷ 0x00 ∷ 0x00 ∷ 0x08 ∷ []
+row_cache_response = refl
+
+-- an announcement of IPv4
+row_v4 : unit_bytes 1 (Prefix true documented_v4)
+    ≡ 0x01 ∷ 0x04 ∷ 0x00 ∷ 0x00 ∷ 0x00 ∷ 0x00 ∷ 0x00 ∷ 0x14 ∷ 0x01 ∷ 0x18 ∷ 0x18 ∷ 0x00 ∷ 0xc0 ∷ 0x00 ∷ 0x02 ∷ 0x00 ∷ 0x00 ∷ 0x00 ∷ 0xfb ∷ 0xf0 ∷ []
+row_v4 = refl
+
+-- a withdrawal differs in the flag
+row_withdrawal : unit_bytes 1 (Prefix false documented_v4)
+    ≡ 0x01 ∷ 0x04 ∷ 0x00 ∷ 0x00 ∷ 0x00 ∷ 0x00 ∷ 0x00 ∷ 0x14 ∷ 0x00 ∷ 0x18 ∷ 0x18 ∷ 0x00 ∷ 0xc0 ∷ 0x00 ∷ 0x02 ∷ 0x00 ∷ 0x00 ∷ 0x00 ∷ 0xfb ∷ 0xf0 ∷ []
+row_withdrawal = refl
+
+-- an announcement of IPv6
+row_v6 : unit_bytes 1 (Prefix true documented_v6)
+    ≡ 0x01 ∷ 0x06 ∷ 0x00 ∷ 0x00 ∷ 0x00 ∷ 0x00 ∷ 0x00 ∷ 0x20 ∷ 0x01 ∷ 0x20 ∷ 0x30 ∷ 0x00
+    ∷ 0x20 ∷ 0x01 ∷ 0x0d ∷ 0xb8 ∷ 0x00 ∷ 0x00 ∷ 0x00 ∷ 0x00 ∷ 0x00 ∷ 0x00 ∷ 0x00 ∷ 0x00 ∷ 0x00 ∷ 0x00 ∷ 0x00 ∷ 0x00 ∷ 0x00 ∷ 0x00 ∷ 0xfb ∷ 0xf0 ∷ []
+row_v6 = refl
+
+-- End of Data: ask again after an hour, after a failure in ten minutes, and drop the data after two hours
+row_end_of_data : unit_bytes 1 (EndOfData 0x1234 5 3600 600 7200)
+    ≡ 0x01 ∷ 0x07 ∷ 0x12 ∷ 0x34 ∷ 0x00 ∷ 0x00 ∷ 0x00 ∷ 0x18 ∷ 0x00 ∷ 0x00 ∷ 0x00 ∷ 0x05
+    ∷ 0x00 ∷ 0x00 ∷ 0x0e ∷ 0x10 ∷ 0x00 ∷ 0x00 ∷ 0x02 ∷ 0x58 ∷ 0x00 ∷ 0x00 ∷ 0x1c ∷ 0x20 ∷ []
+row_end_of_data = refl
+
+-- a Cache Reset
+row_cache_reset : unit_bytes 1 CacheReset ≡ 0x01 ∷ 0x08 ∷ 0x00 ∷ 0x00 ∷ 0x00 ∷ 0x00 ∷ 0x00 ∷ 0x08 ∷ []
+row_cache_reset = refl
+
+-- No Data Available (2), with the Reset Query that it answers and no text
+row_error_report : unit_bytes 1 (ErrorReport (record { code = 2; copy = reset_query; text = [] }))
+    ≡ 0x01 ∷ 0x0a ∷ 0x00 ∷ 0x02 ∷ 0x00 ∷ 0x00 ∷ 0x00 ∷ 0x18 ∷ 0x00 ∷ 0x00 ∷ 0x00 ∷ 0x08
+    ∷ 0x01 ∷ 0x02 ∷ 0x00 ∷ 0x00 ∷ 0x00 ∷ 0x00 ∷ 0x00 ∷ 0x08 ∷ 0x00 ∷ 0x00 ∷ 0x00 ∷ 0x00 ∷ []
+row_error_report = refl
+
+-- a Router Key with an info of two bytes
+row_router_key : unit_bytes 1 (RouterKey (record { announce = true; identifier = 1 ∷ 2 ∷ 3 ∷ 4 ∷ 5 ∷ 6 ∷ 7 ∷ 8 ∷ 9 ∷ 10 ∷ 11 ∷ 12 ∷ 13 ∷ 14 ∷ 15 ∷ 16 ∷ 17 ∷ 18 ∷ 19 ∷ 20 ∷ []; asn = 64496; info = 0x30 ∷ 0x59 ∷ [] }))
+    ≡ 0x01 ∷ 0x09 ∷ 0x01 ∷ 0x00 ∷ 0x00 ∷ 0x00 ∷ 0x00 ∷ 0x22
+    ∷ 1 ∷ 2 ∷ 3 ∷ 4 ∷ 5 ∷ 6 ∷ 7 ∷ 8 ∷ 9 ∷ 10 ∷ 11 ∷ 12 ∷ 13 ∷ 14 ∷ 15 ∷ 16 ∷ 17 ∷ 18 ∷ 19 ∷ 20 ∷ 0x00 ∷ 0x00 ∷ 0xfb ∷ 0xf0 ∷ 0x30 ∷ 0x59 ∷ []
+row_router_key = refl
+
+-- the faults of headers
+row_version : header_fault 1 (0x00 ∷ 0x02 ∷ 0x00 ∷ 0x00 ∷ 0x00 ∷ 0x00 ∷ 0x00 ∷ 0x08 ∷ []) ≡ Some faults.Version
+row_version = refl
+
+-- there is no type 5, and none above 10
+row_types : (header_fault 1 (0x01 ∷ 0x05 ∷ 0x00 ∷ 0x00 ∷ 0x00 ∷ 0x00 ∷ 0x00 ∷ 0x08 ∷ []) ≡ Some faults.«Type»)
+    × (header_fault 1 (0x01 ∷ 0x0b ∷ 0x00 ∷ 0x00 ∷ 0x00 ∷ 0x00 ∷ 0x00 ∷ 0x08 ∷ []) ≡ Some faults.«Type»)
+row_types = (refl, refl)
+
+-- an IPv4 Prefix has 20 bytes, whatever it says
+row_fixed_length : header_fault 1 (0x01 ∷ 0x04 ∷ 0x00 ∷ 0x00 ∷ 0xff ∷ 0xff ∷ 0xff ∷ 0xff ∷ []) ≡ Some faults.Length
+row_fixed_length = refl
+
+-- an Error Report has 16 bytes or more
+row_report_lengths : (header_fault 1 (0x01 ∷ 0x0a ∷ 0x00 ∷ 0x00 ∷ 0x00 ∷ 0x00 ∷ 0x00 ∷ 0x0f ∷ []) ≡ Some faults.Length)
+    × (header_fault 1 (0x01 ∷ 0x0a ∷ 0x00 ∷ 0x00 ∷ 0x00 ∷ 0x00 ∷ 0x00 ∷ 0x10 ∷ []) ≡ None)
+row_report_lengths = (refl, refl)
+
+-- a Router Key has 32 bytes or more, and no unit more than 4,096
+row_key_lengths : (header_fault 1 (0x01 ∷ 0x09 ∷ 0x00 ∷ 0x00 ∷ 0x00 ∷ 0x00 ∷ 0x00 ∷ 0x1f ∷ []) ≡ Some faults.Length)
+    × (header_fault 1 (0x01 ∷ 0x09 ∷ 0x00 ∷ 0x00 ∷ 0x00 ∷ 0x00 ∷ 0x10 ∷ 0x00 ∷ []) ≡ None)
+    × (header_fault 1 (0x01 ∷ 0x09 ∷ 0x00 ∷ 0x00 ∷ 0x00 ∷ 0x00 ∷ 0x10 ∷ 0x01 ∷ []) ≡ Some faults.TooLong)
+row_key_lengths = (refl, refl, refl)
+
+-- seven bytes are no header yet
+row_begun : header_fault 1 (take 7 (0x00 ∷ reset_query)) ≡ None
+row_begun = refl
+
+-- Before agreement a router reads a Serial Notify of any version, and nothing else.
+row_any_version : as_read 1 true (0x00 ∷ 0x00 ∷ 0x12 ∷ 0x34 ∷ 0x00 ∷ 0x00 ∷ 0x00 ∷ 0x0c ∷ 0x00 ∷ 0x00 ∷ 0x00 ∷ 0x05 ∷ []) ≡ serial_notify
+unfolding as_read
+row_any_version = refl
+
+-- after agreement bytes are read as they stand
+row_agreed : as_read 1 false (0x00 ∷ 0x00 ∷ 0x12 ∷ 0x34 ∷ 0x00 ∷ 0x00 ∷ 0x00 ∷ 0x0c ∷ []) ≡ 0x00 ∷ 0x00 ∷ 0x12 ∷ 0x34 ∷ 0x00 ∷ 0x00 ∷ 0x00 ∷ 0x0c ∷ []
+unfolding as_read
+row_agreed = refl
+
+-- another length is no notify
+row_other_length : as_read 1 true (0x00 ∷ 0x00 ∷ 0x12 ∷ 0x34 ∷ 0x00 ∷ 0x00 ∷ 0x00 ∷ 0x0d ∷ []) ≡ 0x00 ∷ 0x00 ∷ 0x12 ∷ 0x34 ∷ 0x00 ∷ 0x00 ∷ 0x00 ∷ 0x0d ∷ []
+unfolding as_read
+row_other_length = refl
+
+-- another type is no notify
+row_other_type : as_read 1 true (0x00 ∷ 0x01 ∷ 0x12 ∷ 0x34 ∷ 0x00 ∷ 0x00 ∷ 0x00 ∷ 0x0c ∷ []) ≡ 0x00 ∷ 0x01 ∷ 0x12 ∷ 0x34 ∷ 0x00 ∷ 0x00 ∷ 0x00 ∷ 0x0c ∷ []
+unfolding as_read
+row_other_type = refl
+
+-- The input ends behind a unit, within one, and behind a fault.
+row_ends : (end_fault [] None ≡ None) × (end_fault (0x01 ∷ []) None ≡ Some faults.Truncated) × (end_fault [] (Some faults.Version) ≡ Some faults.Version)
+row_ends = (refl, refl, refl)

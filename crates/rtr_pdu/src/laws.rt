@@ -1,0 +1,22 @@
+//! Laws of the definitions. These functions do nothing: their contracts are the laws.
+ghost use Rattle.rtr_pdu.specs.Stream.{EachSplits, NoBeginning, OneSplit, WrittenIsRead};
+
+/// A stream is split into units in one way, at the cache and at a router, for each version.
+pub fn one_split()
+    ensures { OneSplit }
+{}
+
+/// Each list of bytes has a split, for each version below 256.
+pub fn each_splits()
+    ensures { EachSplits }
+{}
+
+/// What is encoded is read again, for each version.
+pub fn written_is_read()
+    ensures { WrittenIsRead }
+{}
+
+/// No unit's bytes begin another's of the same version.
+pub fn no_beginning()
+    ensures { NoBeginning }
+{}

@@ -1,0 +1,220 @@
+use crate::{Next, Unit, UnitFault, UnitReader, encode, read_all};
+use arrayvec::ArrayVec;
+use std::alloc::{AllocError, Global};
+use std::test::Fail;
+
+const SERIAL_NOTIFY: [u8; 12] = [
+    0x01, 0x00, 0x12, 0x34, 0x00, 0x00, 0x00, 0x0c, 0x00, 0x00, 0x00, 0x05,
+];
+
+const SERIAL_QUERY: [u8; 12] = [
+    0x01, 0x01, 0x12, 0x34, 0x00, 0x00, 0x00, 0x0c, 0x00, 0x00, 0x00, 0x05,
+];
+
+const RESET_QUERY: [u8; 8] = [0x01, 0x02, 0x00, 0x00, 0x00, 0x00, 0x00, 0x08];
+
+/// A Cache Response, an announcement of 192.0.2.0/24 up to 24 of AS 64496, and End of Data.
+const ANSWER: [u8; 52] = [
+    0x01, 0x03, 0x12, 0x34, 0x00, 0x00, 0x00, 0x08, 0x01, 0x04, 0x00, 0x00, 0x00, 0x00, 0x00, 0x14,
+    0x01, 0x18, 0x18, 0x00, 0xc0, 0x00, 0x02, 0x00, 0x00, 0x00, 0xfb, 0xf0, 0x01, 0x07, 0x12, 0x34,
+    0x00, 0x00, 0x00, 0x18, 0x00, 0x00, 0x00, 0x05, 0x00, 0x00, 0x0e, 0x10, 0x00, 0x00, 0x02, 0x58,
+    0x00, 0x00, 0x1c, 0x20,
+];
+
+/// An announcement of 2001:db8::/32 up to 48 of AS 64496.
+const ANNOUNCEMENT: [u8; 32] = [
+    0x01, 0x06, 0x00, 0x00, 0x00, 0x00, 0x00, 0x20, 0x01, 0x20, 0x30, 0x00, 0x20, 0x01, 0x0d, 0xb8,
+    0x00, 0x00, 0x00, 0x00, 0x00, 0x00, 0x00, 0x00, 0x00, 0x00, 0x00, 0x00, 0x00, 0x00, 0xfb, 0xf0,
+];
+
+const CACHE_RESET: [u8; 8] = [0x01, 0x08, 0x00, 0x00, 0x00, 0x00, 0x00, 0x08];
+
+/// No Data Available, with the Reset Query that it answers.
+const ERROR_REPORT: [u8; 24] = [
+    0x01, 0x0a, 0x00, 0x02, 0x00, 0x00, 0x00, 0x18, 0x00, 0x00, 0x00, 0x08, 0x01, 0x02, 0x00, 0x00,
+    0x00, 0x00, 0x00, 0x08, 0x00, 0x00, 0x00, 0x00,
+];
+
+/// The bytes of these units.
+fn written(alloc: Global, units: &[Unit]) -> Result<Vec<u8>, AllocError> {
+    let mut bytes = Vec::new(alloc);
+    let mut buffer = ArrayVec::new();
+    for unit in units {
+        encode(unit, &mut buffer);
+        bytes.extend_from_slice(buffer.as_slice())?;
+    }
+    Ok(bytes)
+}
+
+/// Whether units are read from these bytes, cut at this place, that are written as the same bytes.
+fn comes_back(alloc: Global, bytes: &[u8], cut: usize) -> Result<bool, AllocError> {
+    let (first, second) = bytes.split_at(cut.min(bytes.len()));
+    let mut pieces = Vec::new(alloc);
+    pieces.push(first.to_vec(alloc)?)?;
+    pieces.push(second.to_vec(alloc)?)?;
+    let (units, fault) = read_all(alloc, false, pieces.as_slice())?;
+    let again = written(alloc, units.as_slice())?;
+    Ok(fault.is_none() && again.as_slice() == bytes)
+}
+
+/// The same for the bytes one by one.
+fn comes_back_by_bytes(alloc: Global, bytes: &[u8]) -> Result<bool, AllocError> {
+    let mut pieces = Vec::new(alloc);
+    for byte in bytes {
+        pieces.push([*byte].to_vec(alloc)?)?;
+    }
+    let (units, fault) = read_all(alloc, false, pieces.as_slice())?;
+    let again = written(alloc, units.as_slice())?;
+    Ok(fault.is_none() && again.as_slice() == bytes)
+}
+
+/// Whether they come back in every cutting into two pieces, and byte by byte.
+fn always_comes_back(alloc: Global, bytes: &[u8]) -> Result<bool, AllocError> {
+    for cut in 0..bytes.len() {
+        if !comes_back(alloc, bytes, cut)? {
+            return Ok(false);
+        }
+    }
+    comes_back_by_bytes(alloc, bytes)
+}
+
+/// The fault of the first unit, how many bytes are held then, and how many are left.
+fn first_fault(router: bool, bytes: &[u8]) -> (Option<UnitFault>, usize, usize) {
+    let mut reader = if router {
+        UnitReader::for_router()
+    } else {
+        UnitReader::for_cache()
+    };
+    let mut piece = bytes;
+    let fault = match reader.next(&mut piece) {
+        Next::Fault(fault) => Some(fault),
+        Next::NeedMore => reader.end_of_input(),
+        Next::Unit(_) => None,
+    };
+    (fault, reader.held().len(), piece.len())
+}
+
+#[test]
+fn units_in_every_cutting(rt: HostRuntime) -> Result<(), Fail> {
+    assert!(rt; always_comes_back(rt.alloc(), &SERIAL_NOTIFY)?);
+    assert!(rt; always_comes_back(rt.alloc(), &SERIAL_QUERY)?);
+    assert!(rt; always_comes_back(rt.alloc(), &RESET_QUERY)?);
+    assert!(rt; always_comes_back(rt.alloc(), &ANSWER)?);
+    assert!(rt; always_comes_back(rt.alloc(), &ANNOUNCEMENT)?);
+    assert!(rt; always_comes_back(rt.alloc(), &CACHE_RESET)?);
+    assert!(rt; always_comes_back(rt.alloc(), &ERROR_REPORT)?);
+    Ok(())
+}
+
+#[test]
+fn longest_units(rt: HostRuntime) -> Result<(), Fail> {
+    let heads = [
+        [
+            0x01, 0x09, 0x01, 0x00, 0x00, 0x00, 0x10, 0x00, 7, 7, 7, 7, 7, 7, 7, 7,
+        ],
+        [
+            0x01, 0x0a, 0x00, 0x00, 0x00, 0x00, 0x10, 0x00, 0, 0, 0, 0, 0, 0, 0x0f, 0xf0,
+        ],
+    ];
+    for head in heads {
+        let mut unit = vec![in rt.alloc(); 7u8; 4096]?;
+        assert_eq!(rt; unit.len(), 4096);
+        for i in 0..16usize {
+            unit[i] = head[i];
+        }
+        for cut in [0, 7, 8, 9, 4095, 4096usize] {
+            assert!(rt; comes_back(rt.alloc(), unit.as_slice(), cut)?);
+        }
+    }
+    Ok(())
+}
+
+#[test]
+fn faults(rt: HostRuntime) {
+    let version = [0x00, 0x02, 0x00, 0x00, 0x00, 0x00, 0x00, 0x08];
+    assert_eq!(rt;
+        first_fault(true, &version),
+        (Some(UnitFault::Version), 8, 0)
+    );
+    let kind = [0x01, 0x05, 0x00, 0x00, 0x00, 0x00, 0x00, 0x08, 0x01];
+    assert_eq!(rt; first_fault(false, &kind), (Some(UnitFault::Type), 8, 1));
+    let length = [0x01, 0x04, 0x00, 0x00, 0xff, 0xff, 0xff, 0xff, 0x01];
+    assert_eq!(rt;
+        first_fault(false, &length),
+        (Some(UnitFault::Length), 8, 1)
+    );
+    let long = [0x01, 0x09, 0x00, 0x00, 0xff, 0xff, 0xff, 0xff, 0x01, 0x01];
+    assert_eq!(rt; first_fault(false, &long), (Some(UnitFault::TooLong), 8, 2));
+    let record = [
+        0x01, 0x04, 0x00, 0x00, 0x00, 0x00, 0x00, 0x14, 0x01, 0x18, 0x17, 0x00, 0xc0, 0x00, 0x02,
+        0x00, 0x00, 0x00, 0xfb, 0xf0, 0x01,
+    ];
+    assert_eq!(rt;
+        first_fault(false, &record),
+        (Some(UnitFault::Record), 20, 1)
+    );
+    let report = [
+        0x01, 0x0a, 0x00, 0x00, 0x00, 0x00, 0x00, 0x10, 0x00, 0x00, 0x00, 0x01, 0x00, 0x00, 0x00,
+        0x00,
+    ];
+    assert_eq!(rt;
+        first_fault(false, &report),
+        (Some(UnitFault::ErrorReport), 16, 0)
+    );
+    assert_eq!(rt;
+        first_fault(false, &[0x01, 0x02]),
+        (Some(UnitFault::Truncated), 2, 0)
+    );
+    assert_eq!(rt; first_fault(false, &[]), (None, 0, 0));
+    assert_eq!(rt; UnitFault::Truncated.number(), 7);
+}
+
+#[test]
+fn reserved_bits(rt: HostRuntime) -> Result<(), Fail> {
+    let mut unit = ANNOUNCEMENT;
+    unit[2] = 0xff;
+    unit[8] = 0x81;
+    unit[11] = 0xff;
+    let mut pieces = Vec::new(rt.alloc());
+    pieces.push(unit.as_slice().to_vec(rt.alloc())?)?;
+    let (units, fault) = read_all(rt.alloc(), false, pieces.as_slice())?;
+    assert_eq!(rt; fault, None);
+    assert_eq!(rt;
+        written(rt.alloc(), units.as_slice())?.as_slice(),
+        ANNOUNCEMENT.as_slice()
+    );
+    Ok(())
+}
+
+#[test]
+fn a_fault_is_answered_again(rt: HostRuntime) {
+    let mut reader = UnitReader::for_cache();
+    let bytes = [0x02, 0x00, 0x12, 0x34, 0x00, 0x00, 0x00, 0x0c, 0x00];
+    let mut piece = bytes.as_slice();
+    assert!(rt; matches!(reader.next(&mut piece), Next::Fault(UnitFault::Version)));
+    assert!(rt; matches!(reader.next(&mut piece), Next::Fault(UnitFault::Version)));
+    assert_eq!(rt; piece.len(), 1);
+    assert_eq!(rt; reader.held().len(), 8);
+    assert_eq!(rt; reader.end_of_input(), Some(UnitFault::Version));
+}
+
+#[test]
+fn agreement_within_a_unit(rt: HostRuntime) {
+    let mut notify = SERIAL_NOTIFY;
+    notify[0] = 2;
+    let mut reader = UnitReader::for_router();
+    let (mut front, mut back) = notify.as_slice().split_at(9);
+    assert!(rt; matches!(reader.next(&mut front), Next::NeedMore));
+    reader.agreed();
+    let read = reader.next(&mut back);
+    let is_notify = matches!(
+        read,
+        Next::Unit(Unit::SerialNotify {
+            session: 0x1234,
+            serial: 5
+        })
+    );
+    assert!(rt; is_notify);
+    let mut again = notify.as_slice();
+    assert!(rt; matches!(reader.next(&mut again), Next::Fault(UnitFault::Version)));
+}
