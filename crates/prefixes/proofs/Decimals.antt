@@ -12,7 +12,7 @@ use Rattle.prefixes.proofs.Lacks.{Lacks, digits_lack}
 own : IsNumeralModel (AllDigits 10) (digits_value 10)
 own = numerals_by_value (AllDigits 10) tells_digits
 
--- The decimal text of a number begins with a digit, which is 0 only where it stands alone.
+-- The decimal text of a number begins with no sign, and with 0 only where 0 is all of it.
 pub begins : (n : ℕ) (bs : List ℕ) → n < 2 ^ 32 → bs ≡ decimal n → Begins bs
 begins zero bs small e =
     let is : bs ≡ 48 ∷ [] = e ∙ decimal_digit 0 (omega arith) in

@@ -4,18 +4,18 @@ use Rattle.prefixes.specs.Address.{Block, HasNoHostBits, IsPrefix}
 use Rattle.prefixes.specs.declared.fault.PrefixFault.{PrefixFault}
 use Rattle.prefixes.specs.declared.fault.PrefixFault.TheVariants as faults
 
--- A text of decimal digits without leading zeros begins with a digit, which is 0 only where it stands alone.
+-- A text of decimal digits without leading zeros begins with no sign, and with 0 only where 0 is all of it.
 pub record Begins (text : List ℕ) : Type 0 where
   pub some : 0 < length text
   pub digit : 48 ≤ slice_index text 0
   pub lone_zero : slice_index text 0 ≡ 48 → length text ≡ 1
 
--- The number below a bound whose text this is, or that there is none
+-- The number below a bound of which a text is one, or that there is none
 abbrev pub IsOnly : ℕ → (ℕ → Type 0) → Option ℕ → Type 0
 IsOnly bound IsText (Some n) = (n < bound) × IsText n
 IsOnly bound IsText None = (n : ℕ) → n < bound → ¬ (IsText n)
 
--- Of an address and a length: the prefix, or the first fault
+-- The prefix of an address and a length, or its first fault: a length over the width, then host bits
 abbrev pub IsJudged : ℕ → Block → Result Block PrefixFault → Type 0
 IsJudged width p (Ok q) = (q ≡ p) × IsPrefix width p
 IsJudged width p (Err faults.TooLong) = width < p.len

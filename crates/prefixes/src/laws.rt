@@ -1,7 +1,7 @@
-//! Laws of the texts of prefixes.
+//! Laws of the texts of prefixes. The functions do nothing: each states a law, which is proved.
 ghost use Rattle.prefixes.specs.Text.{FirstLongestRun, OneReading, WrittenIsRead};
 
-/// No text says two prefixes.
+/// A text says one address and one length at most.
 pub fn one_reading()
     ensures { OneReading }
 {}

@@ -131,7 +131,7 @@ fn number(text: &str) -> Option<u32>
     }
 }
 
-/// Whether a text begins as a number does: with a digit, which is 0 only where it stands alone.
+/// Whether a text begins as a number without leading zeros does: with no sign, and with 0 only where 0 is all of it.
 fn begins_number(bytes: &[u8]) -> bool
     ensures { IsTrue result ↔ Begins bytes.now }
 {

@@ -1,0 +1,30 @@
+#!/usr/bin/env bash
+# The script `run` starts the program in the caller's folder, with its words, its output and its status.
+set -u
+top=$(cd "$(dirname "${BASH_SOURCE[0]}")/.." && pwd) || exit 1
+folder=$(mktemp -d) || exit 1
+trap 'rm -rf "$folder"' EXIT
+cd "$folder" || exit 1
+printf '%s' '[{"asn":64496,"maxLength":24,"prefix":"192.0.2.0/24"}]' >vrps.json
+
+expect() { # expect STATUS OUTPUT WORD..
+    local status=$1 output=$2 found
+    shift 2
+    found=$("$top/run" "$@" 2>errors)
+    local got=$?
+    [ "$got" -eq "$status" ] && [ "$found" = "$output" ] && return
+    echo "run $*: status $got, output:" >&2
+    printf '%s\n' "$found" >&2
+    exit 1
+}
+
+answer='0103123400000008
+010400000000001401181800c00002000000fbf0
+01071234000000180000000500000e100000025800001c20'
+expect 0 "$answer" answer --session 4660 --serial 5 --vrps vrps.json 0102000000000008
+expect 0 "$answer" answer --vrps vrps.json 0102000000000008 --serial=5 --session 4660
+expect 2 '' answer --session 4660 --serial 05 --vrps vrps.json 0102000000000008
+grep -q '^rpkirtr: bad words$' errors || exit 1
+expect 3 '' answer --session 4660 --serial 5 --vrps nothing.json 0102000000000008
+grep -q '^rpkirtr: device failed$' errors || exit 1
+expect 1 'refused list' answer --session 4660 --serial 5 --vrps errors 0102000000000008
