@@ -48,7 +48,7 @@ pub start : (i : Instance) (keep : ℕ) (bytes : List ℕ) (old : Option (List �
 start i keep bytes old = record { queries = []; front = []; whole = refl; resets = refl; printed = Appends-nil old }
 
 -- the reader that holds nothing, before a piece
-abbrev begun : Reader
+abbrev pub begun : Reader
 begun = fresh false
 
 pub more : (i : Instance) (keep : ℕ) (bytes rest left : List ℕ) (old mid new : Option (List ℕ)) (reader : Reader)
@@ -61,8 +61,8 @@ more i keep bytes rest left old mid new reader b t after =
       whole = b.whole ∙ ap (λ x. b.front ++ x) t.piece_is ∙ sym (append_assoc b.front t.taken left);
       resets = resets-append b.queries b.front t.taken b.resets query;
       printed = subst (λ x. Appends old new x)
-      (sym (lines-append (replies_from keep default_intervals false (moments_of i b.queries)) (answer i keep default_intervals ResetQuery).units) ∙ ap (λ us. lines_of us) (sym (replies-append keep default_intervals false i b.queries t.taken)))
-      (Appends-trans old mid new _ _ b.printed after);
+          (sym (lines-append (replies_from keep default_intervals false (moments_of i b.queries)) (answer i keep default_intervals ResetQuery).units) ∙ ap (λ us. lines_of us) (sym (replies-append keep default_intervals false i b.queries t.taken)))
+          (Appends-trans old mid new _ _ b.printed after);
     }
 
 place : (bytes front rest : List ℕ) (offset : ℕ) → bytes ≡ front ++ rest → offset ≡ length bytes - length rest → offset ≡ length front

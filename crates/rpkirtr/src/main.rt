@@ -4,6 +4,8 @@
 pub mod answering;
 pub mod listing;
 pub mod runner;
+#[cfg(test)]
+mod tests;
 pub mod words;
 
 use std::process::ExitCode;

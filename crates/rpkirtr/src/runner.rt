@@ -2,9 +2,12 @@
 ghost use Rattle.std.specs.Prelude.{◌≡◌, ◌≤◌, ◌⊎◌, codes, IfOk};
 ghost use Rattle.std.specs.Io.KnownBytes.{Appends};
 
+use crate::answering::{Answered, Published, answer_queries};
+use crate::listing::{ListFault, read_list};
 use crate::words::{Order, read_words};
+use hex::FromHexError;
 use std::alloc::AllocError;
-use std::io::{ErrorKind, Write};
+use std::io::{BufWriter, ErrorKind, Write};
 use std::net::Net;
 use std::rt::Files;
 use std::{fs, io};
@@ -95,8 +98,67 @@ fn run<R: Files + Net + AllocGlobal, O: Write>(
             serial,
             vrps,
             hex,
-        } => Ok(0),
+        } => answer(rt, session, serial, vrps, hex, out),
     }
+}
+
+/// The command `answer`: the answers of a cache that published the list of the file `vrps` alone, to the bytes that `hex` spells.
+fn answer<R: Files + AllocGlobal, O: Write>(
+    rt: &R,
+    session: u16,
+    serial: u32,
+    vrps: &str,
+    hex: &str,
+    out: &mut O,
+) -> Result<u8, ProgramFault>
+    ensures { IfOk result (λ s. s ≤ 1) }
+{
+    let text = read_file(rt, vrps)?;
+    let set = match read_list(rt.alloc(), text.as_slice()) {
+        Ok(set) => set,
+        Err(ListFault::NoList) => return refuse("list", out),
+        Err(ListFault::Memory) => return Err(ProgramFault::Memory),
+    };
+    let bytes = match hex::decode(rt.alloc(), hex) {
+        Ok(bytes) => bytes,
+        Err(FromHexError::OutOfMemory) => return Err(ProgramFault::Memory),
+        Err(_) => return refuse("hex", out),
+    };
+    let published = Published {
+        session,
+        serial,
+        set: &set,
+    };
+    let mut lines = BufWriter::new(rt.alloc(), out)?;
+    let answered = answer_queries(rt.alloc(), &published, bytes.as_slice(), &mut lines)?;
+    let status = tell_rest(answered, &mut lines)?;
+    lines.flush()?;
+    Ok(status)
+}
+
+/// Tells what follows the queries that were answered, with the status.
+fn tell_rest<O: Write>(answered: Answered, out: &mut O) -> Result<u8, ProgramFault>
+    ensures { IfOk result (λ s. s ≤ 1) }
+{
+    match answered {
+        Answered::Whole => Ok(0),
+        Answered::Left(offset) => {
+            writeln!(out, "refused 7 at {offset}")?;
+            Ok(1)
+        }
+        Answered::Refused(offset) => {
+            writeln!(out, "refused unit at {offset}")?;
+            Ok(1)
+        }
+    }
+}
+
+/// Tells what was refused, with the status.
+fn refuse<O: Write>(what: &str, out: &mut O) -> Result<u8, ProgramFault>
+    ensures { IfOk result (λ s. s ≤ 1) }
+{
+    writeln!(out, "refused {what}")?;
+    Ok(1)
 }
 
 /// The bytes of a file.

@@ -1,5 +1,5 @@
 -- What the histories of connections satisfy.
-use Rattle.std.proofs.Common.{◌≡◌, ◌∙◌, sym, ap, refl, subst, arith, ℕ, ◌<◌, Bool, true, false, not, ◌&&◌, List, [], ◌∷◌, ◌++◌, length, take, drop, append_assoc, append-nil, Option, Some, None, if◌then◌else◌, inl}
+use Rattle.std.proofs.Common.{◌≡◌, ◌∙◌, sym, ap, refl, subst, arith, ℕ, ◌⊎◌, Bool, true, false, not, ◌&&◌, List, [], ◌∷◌, ◌++◌, length, take, drop, append_assoc, append-nil, Option, Some, None, if◌then◌else◌, inl}
 use Rattle.std.specs.Bool.{MatchBool}
 use Rattle.std.proofs.lemmas.List.{take-append-drop}
 use Rattle.std.proofs.lemmas.List.Concat.{flat_map-append}
@@ -9,7 +9,7 @@ use Rattle.rtr_pdu.specs.Unit.{Reads}
 use Rattle.rtr_pdu.specs.declared.unit.Unit.{Unit}
 use Rattle.rtr_pdu.specs.declared.unit.UnitFault.{UnitFault}
 use Rattle.rtr_ends.specs.Answer.{Reply, sent, sent_all}
-use Rattle.rtr_ends.specs.Connection.{Moment, Read, Wanting, Fault, Notify, Pull, Connection, IsHistory, MayCome, PulledAreReplies, HistorySplits, after, after_all, agreed_after, bytes_of, opened, pulled, replies_from, reply, units_of}
+use Rattle.rtr_ends.specs.Connection.{Moment, Read, Wanting, Fault, Notify, Pull, Connection, IsHistory, MayHold, PulledAreReplies, HistorySplits, after, after_all, agreed_after, bytes_of, opened, pulled, replies_from, reply, units_of}
 use Rattle.rtr_ends.specs.Timing.{Intervals}
 
 -- what is still to be sent
@@ -76,8 +76,11 @@ record Nothing (moments : List Moment) (bytes : List ℕ) : Type 0 where
   pub bytes_are : bytes ≡ []
   pub units_are : units_of moments ≡ []
 
+at_end : (c : Connection) (bytes : List ℕ) → c.ended ≡ true → MayHold c bytes → bytes ≡ []
+at_end c bytes e h = subst (λ b. MatchBool b (bytes ≡ []) (IsPartial 1 bytes × ((bytes ≡ []) ⊎ ((c.due ≡ []) ⊎ (c.notified ≡ true))))) e h
+
 quiet : (keep : ℕ) (t : Intervals) (c : Connection) (moments : List Moment) (bytes : List ℕ) → c.ended ≡ true → IsHistory keep t c moments bytes → Nothing moments bytes
-quiet keep t c [] bytes e h = record { bytes_are = subst (λ b. MatchBool b (bytes ≡ []) (IsPartial 1 bytes)) e h; units_are = refl }
+quiet keep t c [] bytes e h = record { bytes_are = at_end c bytes e h; units_are = refl }
 quiet keep t c (Pull count ∷ later) bytes e h =
     let more = quiet keep t (after keep t c (Pull count)) later h.1.0 e h.1.2 in
     record { bytes_are = h.1.1 ∙ more.bytes_are; units_are = more.units_are }
@@ -110,9 +113,9 @@ empty_partial : IsPartial 1 []
 empty_partial = (refl, inl (omega arith))
 
 -- where the connection ends or goes on without a byte more
-at_last : (ended : Bool) (bytes : List ℕ) → MatchBool ended (bytes ≡ []) (IsPartial 1 bytes) → HasSplit bytes []
-at_last true bytes h = only_rest bytes (subst (λ x. IsPartial 1 x) (sym h) empty_partial)
-at_last false bytes h = only_rest bytes h
+at_last : (P : Type 0) (ended : Bool) (bytes : List ℕ) → MatchBool ended (bytes ≡ []) (IsPartial 1 bytes × P) → HasSplit bytes []
+at_last P true bytes h = only_rest bytes (subst (λ x. IsPartial 1 x) (sym h) empty_partial)
+at_last P false bytes h = only_rest bytes h.0
 
 -- a fault, and then nothing
 with_fault : (fault : UnitFault) (front rest bytes : List ℕ) (later : List Moment) → bytes ≡ front ++ rest → Shows 1 front fault → Nothing later rest → HasSplit bytes (units_of later)
@@ -122,15 +125,15 @@ with_fault fault front rest bytes later e h none =
     (bytes, Some fault, record { front = []; whole = refl; read = refl; after = subst (λ x. Shows 1 x fault) (sym (read_plainly bytes ∙ whole)) h })
 
 split_of : (keep : ℕ) (t : Intervals) (c : Connection) (moments : List Moment) (bytes : List ℕ) → IsHistory keep t c moments bytes → HasSplit bytes (units_of moments)
-split_of keep t c [] bytes h = at_last c.ended bytes h
+split_of keep t c [] bytes h = at_last _ c.ended bytes h
 split_of keep t c (Pull count ∷ later) bytes h =
     subst (λ x. HasSplit x (units_of later)) (sym h.1.1) (split_of keep t (after keep t c (Pull count)) later h.1.0 h.1.2)
 split_of keep t c (Read cache unit bytes' ∷ later) bytes h =
-    with_unit unit bytes' h.1.0 bytes (units_of later) h.1.1 h.0.3 (split_of keep t (after keep t c (Read cache unit bytes')) later h.1.0 h.1.2)
+    with_unit unit bytes' h.1.0 bytes (units_of later) h.1.1 h.0.4 (split_of keep t (after keep t c (Read cache unit bytes')) later h.1.0 h.1.2)
 split_of keep t c (Wanting cache unit bytes' ∷ later) bytes h =
-    with_unit unit bytes' h.1.0 bytes (units_of later) h.1.1 h.0.3.0 (split_of keep t (after keep t c (Wanting cache unit bytes')) later h.1.0 h.1.2)
+    with_unit unit bytes' h.1.0 bytes (units_of later) h.1.1 h.0.4.0 (split_of keep t (after keep t c (Wanting cache unit bytes')) later h.1.0 h.1.2)
 split_of keep t c (Fault fault bytes' ∷ later) bytes h =
-    with_fault fault bytes' h.1.0 bytes later h.1.1 h.0.3.0 (quiet keep t (after keep t c (Fault fault bytes')) later h.1.0 refl h.1.2)
+    with_fault fault bytes' h.1.0 bytes later h.1.1 h.0.4.0 (quiet keep t (after keep t c (Fault fault bytes')) later h.1.0 refl h.1.2)
 split_of keep t c (Notify cache ∷ later) bytes h =
     subst (λ x. HasSplit x (units_of later)) (sym h.1.1) (split_of keep t (after keep t c (Notify cache)) later h.1.0 h.1.2)
 

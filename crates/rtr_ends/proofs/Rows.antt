@@ -1,16 +1,17 @@
 -- Whole answers, byte by byte.
-use Rattle.std.proofs.Common.{◌≡◌, ℕ, true, false, List, [], ◌∷◌, ◌++◌, map, drop, refl, ap}
+use Rattle.std.proofs.Common.{◌≡◌, ℕ, arith, inl, inr, true, false, List, [], ◌∷◌, ◌++◌, map, drop, refl, ap}
 use Rattle.std.specs.List.Sorted.{IsStrictlySortedBy}
 use Rattle.prefixes.specs.Payload.{Payload, vrp_cmp}
 use Rattle.prefixes.specs.declared.prefix.IpPrefix.TheVariants.{V4, V6}
-use Rattle.vrps.specs.Instance.{Instance}
+use Rattle.vrps.specs.Instance.{Instance, IsInstance}
 use Rattle.vrps.specs.VrpSet.{VrpSet, set_of, empty}
 use Rattle.vrps.proofs.SetLaws.{listing-set_of, listing-without-set_of}
+use Rattle.rtr_pdu.specs.Unit.{Reads, zeros}
 use Rattle.rtr_pdu.specs.declared.unit.Unit.{Unit}
 use Rattle.rtr_pdu.specs.declared.unit.Unit.TheVariants.{SerialQuery, ResetQuery, CacheReset, Prefix}
 use Rattle.rtr_pdu.specs.declared.unit.UnitFault.TheVariants as faults
 use Rattle.rtr_ends.specs.Answer.{answer, and_end, and_on, response, sent, sent_all}
-use Rattle.rtr_ends.specs.Connection.{Moment, Read, Wanting, Fault, Notify, fault_report, replies}
+use Rattle.rtr_ends.specs.Connection.{Moment, Read, Wanting, Fault, Notify, Pull, IsHistory, IsLater, fault_report, opened, replies}
 use Rattle.rtr_ends.specs.Timing.{default_intervals}
 
 -- 192.0.2.0/24 maximum 24 AS64496, and 198.51.100.0/24 maximum 24 AS64497
@@ -166,3 +167,22 @@ notified = refl
 -- want of memory
 pub wanted : replies 2 default_intervals (Wanting (cache 5 (just_v ∷ [])) ResetQuery reset_bytes ∷ []) ≡ 0x01 ∷ 0x0a ∷ 0 ∷ 0x01 ∷ 0 ∷ 0 ∷ 0 ∷ 0x10 ∷ 0 ∷ 0 ∷ 0 ∷ 0 ∷ 0 ∷ 0 ∷ 0 ∷ 0 ∷ []
 wanted = refl
+
+-- A whole history: a query, its report pulled in two parts, another query, and the beginning of a third
+two_queries : IsInstance (cache 5 []) → IsHistory 2 default_intervals (opened (cache 5 []))
+    (Read (cache 5 []) ResetQuery reset_bytes ∷ Pull 10 ∷ Pull 14 ∷ Read (cache 5 []) ResetQuery reset_bytes ∷ Pull 24 ∷ []) (reset_bytes ++ reset_bytes ++ 1 ∷ [])
+two_queries is =
+    ((refl, refl, is, stays, reads), (left, refl,
+    (omega arith, (left, refl,
+    (omega arith, (left, refl,
+    ((refl, refl, is, stays, reads), (1 ∷ [], refl,
+    (omega arith, (1 ∷ [], refl, ((refl, inl (omega arith)), inr (inl refl))))))))))))
+  where
+    left : List ℕ
+    left = reset_bytes ++ 1 ∷ []
+
+    stays : IsLater (cache 5 []) (cache 5 [])
+    stays = record { session = refl; start = refl; more = []; sets = refl }
+
+    reads : Reads 1 ResetQuery reset_bytes
+    reads = record { fits = tt; ignored = zeros; bits = record { header = omega arith; flags = omega arith; byte = omega arith }; bytes_are = refl }

@@ -1,6 +1,6 @@
 -- A connection at the cache: what may happen on it, and what is sent (RFC 8210 sections 5, 7, 8 and 12).
-use Rattle.std.specs.Prelude.{◌≡◌, ℕ, ◌≤◌, Bool, true, false, not, ◌||◌, ◌&&◌, ◌==◌, List, [], ◌∷◌, ◌++◌, length, take, drop, Option, IsTrue, MatchBool, if◌then◌else◌, ⊤}
-use Rattle.vrps.specs.Instance.{Instance, Version, versions}
+use Rattle.std.specs.Prelude.{◌≡◌, ◌⊎◌, ℕ, ◌≤◌, Bool, true, false, not, ◌||◌, ◌&&◌, ◌==◌, List, [], ◌∷◌, ◌++◌, length, take, drop, Option, IsTrue, MatchBool, if◌then◌else◌, ⊤}
+use Rattle.vrps.specs.Instance.{Instance, IsInstance, Version, versions}
 use Rattle.vrps.specs.VrpSet.{VrpSet}
 use Rattle.rtr_pdu.specs.Stream.{IsPartial, IsShortest, Shows, Splits, type_of}
 use Rattle.rtr_pdu.specs.Unit.{Reads}
@@ -60,6 +60,7 @@ reply keep t agreed (Pull count) = and_on []
 
 abbrev pub agreed_after : Bool → Moment → Bool
 agreed_after agreed (Read cache unit bytes) = agreed || is_query unit
+agreed_after agreed (Wanting cache unit bytes) = agreed || is_query unit
 agreed_after agreed m = agreed
 
 -- What is sent on a connection: the replies in order, to the first that ends it
@@ -75,7 +76,7 @@ replies keep t moments = sent_all (replies_from keep t false moments)
 abbrev pub is_published : Instance → Bool
 is_published i = not (length i.sets == 0)
 
--- the units whose answers take memory: those that list records
+-- The units whose answers may take memory: queries that are answered from what is published. Reports and notifies take none.
 abbrev pub takes_memory : Instance → Unit → Bool
 takes_memory i ResetQuery = is_published i
 takes_memory i (SerialQuery session serial) = session == i.session && is_published i
@@ -89,16 +90,21 @@ IsMoment (Fault fault bytes) = Shows 1 bytes fault × IsShortest 1 false bytes
 IsMoment (Notify cache) = IsTrue (is_published cache)
 IsMoment (Pull count) = ⊤
 
--- A connection between two moments: the cache as it was last, whether a version was agreed on, whether it has ended, and the
--- bytes due, which were sent and not pulled yet
+-- A connection between two moments: the cache as it was last, whether a version was agreed on, whether it has ended, the bytes
+-- due, which were sent and not pulled yet, and whether what was sent last is a notify
 pub record Connection : Type 0 where
   pub cache : Instance
   pub agreed : Bool
   pub ended : Bool
   pub due : List ℕ
+  pub notified : Bool
 
 abbrev pub opened : Instance → Connection
-opened i = record { cache = i; agreed = false; ended = false; due = [] }
+opened i = record { cache = i; agreed = false; ended = false; due = []; notified = false }
+
+abbrev pub is_notice : Moment → Bool
+is_notice (Notify cache) = true
+is_notice m = false
 
 abbrev pub cache_after : Instance → Moment → Instance
 cache_after i (Read cache unit bytes) = cache
@@ -116,18 +122,31 @@ pub record IsLater (earlier later : Instance) : Type 0 where
 -- Bytes due can be pulled at any time. All else happens only where the connection goes on and nothing is due.
 abbrev pub MayCome : Connection → Moment → Type 0
 MayCome c (Pull count) = count ≤ length c.due
-MayCome c m = (c.ended ≡ false) × (c.due ≡ []) × IsLater c.cache (cache_after c.cache m) × IsMoment m
+MayCome c m =
+    (c.ended ≡ false) × (c.due ≡ []) × IsInstance (cache_after c.cache m) × IsLater c.cache (cache_after c.cache m) × IsMoment m
 
 abbrev pub after : ℕ → Intervals → Connection → Moment → Connection
 after keep t c (Pull count) = record c { due = drop count c.due }
 after keep t c m =
     let now = reply keep t c.agreed m in
-    record { cache = cache_after c.cache m; agreed = agreed_after c.agreed m; ended = not now.goes_on; due = sent_all now.units }
+    record {
+      cache = cache_after c.cache m;
+      agreed = agreed_after c.agreed m;
+      ended = not now.goes_on;
+      due = sent_all now.units;
+      notified = is_notice m;
+    }
+
+-- What may be left of the bytes that came: nothing where the connection has ended or an answer is due, else the beginning of a
+-- unit in which no fault shows. A notify may be due in the middle of a unit.
+abbrev pub MayHold : Connection → List ℕ → Type 0
+MayHold c bytes =
+    MatchBool c.ended (bytes ≡ []) (IsPartial 1 bytes × ((bytes ≡ []) ⊎ ((c.due ≡ []) ⊎ (c.notified ≡ true))))
 
 -- These moments, in their order, are the history of a connection on which these bytes came: each may come where it stands, and
--- what is left of the bytes is the beginning of a unit in which no fault shows, or nothing where the connection has ended.
+-- the bytes are those that came by them and what may be left.
 abbrev pub IsHistory : ℕ → Intervals → Connection → List Moment → List ℕ → Type 0
-IsHistory keep t c [] bytes = MatchBool c.ended (bytes ≡ []) (IsPartial 1 bytes)
+IsHistory keep t c [] bytes = MayHold c bytes
 IsHistory keep t c (m ∷ later) bytes =
     MayCome c m × ((rest : List ℕ) × (bytes ≡ bytes_of m ++ rest) × IsHistory keep t (after keep t c m) later rest)
 

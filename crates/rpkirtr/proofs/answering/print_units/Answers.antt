@@ -5,6 +5,8 @@ use Rattle.rpkirtr.proofs.answering.print_units.Goals as goal
 pub loop-left-preserved : goal.loop-left-preserved
 loop-left-preserved g c =
     let (done, is, printed) = c.loop-left.invariant in
-    let (first, left, spelled) = c.loop-left-test.ensures in
-    (done ++ first ∷ [], is ∙ ap (λ us. done ++ us) left ∙ sym (append_assoc done (first ∷ []) c.next.new.self),
-    prints_line _ _ _ done first _ _ printed (c.as_slice.ensures.value ∙ spelled) c.in_ok-text.ensures c.in_ok-writeln.ensures.bytes)
+    let (first, left, spelled) = c.loop-left-test.ensures in (
+      done ++ first ∷ [],
+      is ∙ ap (λ us. done ++ us) left ∙ sym (append_assoc done (first ∷ []) c.next.new.self),
+      prints_line _ _ _ done first _ _ printed (c.as_slice.ensures.value ∙ spelled) c.in_ok-text.ensures c.in_ok-writeln.ensures.bytes,
+    )

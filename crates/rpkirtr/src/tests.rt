@@ -1,0 +1,176 @@
+use crate::listing::{ListFault, read_list};
+use crate::runner::run_words;
+use std::alloc::{AllocError, Global};
+use std::fs;
+use std::test::Fail;
+
+const V: &str = "[{\"asn\":64496,\"maxLength\":24,\"prefix\":\"192.0.2.0/24\"}]";
+
+const ANSWER: &str =
+    "0103123400000008\n010400000000001401181800c00002000000fbf0\n01071234000000180000000500000e100000025800001c20\n";
+
+/// The words of a text, which are parted by blanks.
+fn words_of(alloc: Global, text: &str) -> Result<Vec<String>, AllocError> {
+    let mut words = Vec::new(alloc);
+    for word in text.split(' ') {
+        words.push(String::from_str(alloc, word)?)?;
+    }
+    Ok(words)
+}
+
+/// Runs words and compares what they give.
+fn expect(
+    rt: &HostRuntime,
+    text: &str,
+    status: u8,
+    output: &str,
+    errors: &str,
+) -> Result<(), Fail> {
+    let words = words_of(rt.alloc(), text)?;
+    let mut out: Vec<u8> = Vec::new(rt.alloc());
+    let mut err: Vec<u8> = Vec::new(rt.alloc());
+    let found = run_words(rt, words.as_slice(), &mut out, &mut err);
+    assert_eq!(rt; found, status, "{text}");
+    assert!(rt; out.as_slice() == output.as_bytes(), "{text}");
+    assert!(rt; err.as_slice() == errors.as_bytes(), "{text}");
+    Ok(())
+}
+
+#[test]
+fn answers_reset_queries(rt: HostRuntime) -> Result<(), Fail> {
+    fs::write(&rt, "v.json", V)?;
+    fs::write(
+        &rt,
+        "twice.json",
+        "[{\"asn\":64496,\"maxLength\":24,\"prefix\":\"192.0.2.0/24\"},{\"prefix\":\"192.0.2.0/24\",\"maxLength\":24,\"asn\":64496}]",
+    )?;
+    fs::write(&rt, "none.json", "[]")?;
+    let one = "answer --session 4660 --serial 5 --vrps v.json 0102000000000008";
+    expect(&rt, one, 0, ANSWER, "")?;
+    let doubled = "answer --session 4660 --serial 5 --vrps twice.json 0102000000000008";
+    expect(&rt, doubled, 0, ANSWER, "")?;
+    let two = "answer --session 4660 --serial 5 --vrps v.json 01020000000000080102ffff00000008";
+    let both = format!(in rt.alloc(); "{ANSWER}{ANSWER}")?;
+    expect(&rt, two, 0, both.as_str(), "")?;
+    let empty = "answer --session 4660 --serial 5 --vrps none.json 0102000000000008";
+    let nothing = "0103123400000008\n01071234000000180000000500000e100000025800001c20\n";
+    expect(&rt, empty, 0, nothing, "")?;
+    Ok(())
+}
+
+#[test]
+fn refuses(rt: HostRuntime) -> Result<(), Fail> {
+    fs::write(&rt, "w.json", V)?;
+    fs::write(&rt, "bad.json", "[{\"asn\":1}]")?;
+    let cases = [
+        ("w.json 01020000000000", "refused 7 at 0\n"),
+        ("w.json 010", "refused hex\n"),
+        ("w.json 0x", "refused hex\n"),
+        ("bad.json 010", "refused list\n"),
+        ("w.json 010112340000000c00000005", "refused unit at 0\n"),
+        ("w.json 0105000000000008", "refused unit at 0\n"),
+    ];
+    for (rest, output) in cases {
+        let text = format!(in rt.alloc(); "answer --session 4660 --serial 5 --vrps {rest}")?;
+        expect(&rt, text.as_str(), 1, output, "")?;
+    }
+    let later = "answer --session 4660 --serial 5 --vrps w.json 01020000000000080102";
+    let lines = format!(in rt.alloc(); "{ANSWER}refused 7 at 8\n")?;
+    expect(&rt, later, 1, lines.as_str(), "")
+}
+
+#[test]
+fn tells_bad_words_and_devices(rt: HostRuntime) -> Result<(), Fail> {
+    let bad = "rpkirtr: bad words\n";
+    let cases = [
+        "nothing",
+        "--help",
+        "-h",
+        "--version",
+        "answer",
+        "answer --session 4660 --serial 5 0102000000000008",
+        "answer --session 4660 --session 1 --serial 5 --vrps v.json 00",
+        "answer --session 65536 --serial 5 --vrps v.json 00",
+        "answer --session 04 --serial 5 --vrps v.json 00",
+        "answer --session +4 --serial 5 --vrps v.json 00",
+        "answer --session 4 --serial 4294967296 --vrps v.json 00",
+        "answer --session 4 --serial 5 --vrps v.json --other 1 00",
+        "answer --session 4 --serial 5 --vrps v.json",
+    ];
+    for text in cases {
+        expect(&rt, text, 2, "", bad)?;
+    }
+    let gone = "answer --session 4660 --serial 5 --vrps gone.json 0102000000000008";
+    expect(&rt, gone, 3, "", "rpkirtr: device failed\n")
+}
+
+#[test]
+fn reads_lists(rt: HostRuntime) {
+    let cases = [
+        ("[]", Some(0)),
+        (V, Some(1)),
+        (
+            " [ { \"prefix\" : \"2001:DB8:0::/32\" , \"asn\" : 1 , \"maxLength\" : 48 } ] \n",
+            Some(1),
+        ),
+        (
+            "[{\"asn\":1,\"asn\":64496,\"maxLength\":24,\"prefix\":\"192.0.2.0/24\"}]",
+            Some(1),
+        ),
+        (
+            "[{\"asn\":1.0,\"maxLength\":24,\"prefix\":\"192.0.2.0/24\"}]",
+            None,
+        ),
+        (
+            "[{\"asn\":-1,\"maxLength\":24,\"prefix\":\"192.0.2.0/24\"}]",
+            None,
+        ),
+        (
+            "[{\"asn\":4294967296,\"maxLength\":24,\"prefix\":\"192.0.2.0/24\"}]",
+            None,
+        ),
+        (
+            "[{\"asn\":\"1\",\"maxLength\":24,\"prefix\":\"192.0.2.0/24\"}]",
+            None,
+        ),
+        (
+            "[{\"asn\":1,\"maxLength\":23,\"prefix\":\"192.0.2.0/24\"}]",
+            None,
+        ),
+        (
+            "[{\"asn\":1,\"maxLength\":33,\"prefix\":\"192.0.2.0/24\"}]",
+            None,
+        ),
+        (
+            "[{\"asn\":1,\"maxLength\":280,\"prefix\":\"192.0.2.0/24\"}]",
+            None,
+        ),
+        (
+            "[{\"asn\":1,\"maxLength\":24,\"prefix\":\"192.0.2.1/24\"}]",
+            None,
+        ),
+        (
+            "[{\"asn\":1,\"maxLength\":24,\"prefix\":\"192.0.2.0/24\",\"x\":1}]",
+            None,
+        ),
+        ("[{\"asn\":1,\"maxLength\":24}]", None),
+        (
+            "[{\"asn\":1,\"maxLength\":24,\"other\":\"192.0.2.0/24\"}]",
+            None,
+        ),
+        ("[[1,24,\"192.0.2.0/24\"]]", None),
+        ("[] x", None),
+        ("{}", None),
+        ("", None),
+    ];
+    for (text, wanted) in cases {
+        let found = match read_list(rt.alloc(), text.as_bytes()) {
+            Ok(set) => Some(set.len()),
+            Err(ListFault::NoList) => None,
+            Err(ListFault::Memory) => Some(99),
+        };
+        assert_eq!(rt; found, wanted, "{text}");
+    }
+    let bad = read_list(rt.alloc(), b"[\"\xff\"]".as_slice());
+    assert!(rt; bad.is_err());
+}
