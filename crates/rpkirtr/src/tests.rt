@@ -2,6 +2,9 @@ use crate::listing::{ListFault, read_list};
 use crate::runner::run_words;
 use std::alloc::{AllocError, Global};
 use std::fs;
+use std::net::Net;
+use std::process::Abort;
+use std::rt::Files;
 use std::test::Fail;
 
 const V: &str = "[{\"asn\":64496,\"maxLength\":24,\"prefix\":\"192.0.2.0/24\"}]";
@@ -19,8 +22,8 @@ fn words_of(alloc: Global, text: &str) -> Result<Vec<String>, AllocError> {
 }
 
 /// Runs words and compares what they give.
-fn expect(
-    rt: &HostRuntime,
+fn expect<R: Files + Net + AllocGlobal + Abort>(
+    rt: &R,
     text: &str,
     status: u8,
     output: &str,
