@@ -6,4 +6,5 @@ pub mod Lacks
 pub mod LongestRun
 pub mod Numbers
 pub mod PayloadOrder
+pub mod RefusedRows
 pub mod Spelling

@@ -1,11 +1,13 @@
 -- Payload lists: JSON arrays of objects with exactly the keys asn, maxLength and prefix.
-use Rattle.std.specs.Prelude.{◌≡◌, ℕ, ◌≤◌, suc, List, [], ◌∷◌, Option, Some, None, option_and_then, codes, ⊤}
+use Rattle.std.specs.Prelude.{◌≡◌, ℕ, ◌≤◌, suc, List, [], ◌∷◌, ◌++◌, map, Option, Some, None, option_and_then, codes, ⊤}
+use Rattle.std.specs.Fmt.{decimal}
+use Rattle.std.specs.List.{concat, join_with_byte}
 use Rattle.std.specs.Str.{IsUtf8}
 use Rattle.serde_json.specs.Data.{Data, Items, no_items, item, Members, no_members, member}
 use Rattle.serde_json.specs.Find.{get, as_number, as_u64, as_str, as_array, as_object}
 use Rattle.serde_json.specs.Read as json
 use Rattle.prefixes.specs.Payload.{Payload, IsPayload}
-use Rattle.prefixes.specs.Text.{PrefixText}
+use Rattle.prefixes.specs.Text.{PrefixText, written_text}
 use Rattle.vrps.specs.VrpSet.{VrpSet, set_of, size}
 
 abbrev pub member_count : Members → ℕ
@@ -54,3 +56,11 @@ pub record IsPayloadList (bytes : List ℕ) (s : VrpSet) : Type 0 where
   pub items : Items
   pub is_array : as_array value ≡ Some items
   pub lists : Lists items s
+
+-- The text of an entry, and that of a list of these records: compact, on one line
+abbrev pub entry_text : Payload → List ℕ
+entry_text v =
+    concat (codes "{\"asn\":" ∷ decimal v.asn ∷ codes ",\"maxLength\":" ∷ decimal v.max_len ∷ codes ",\"prefix\":\"" ∷ written_text v.prefix ∷ codes "\"}" ∷ [])
+
+abbrev pub list_text : List Payload → List ℕ
+list_text vs = codes "[" ++ join_with_byte 44 (map entry_text vs) ++ codes "]"

@@ -1,10 +1,11 @@
 //! Payload lists, read from JSON.
-ghost use Rattle.std.specs.Prelude.{◌≡◌, ◌<◌, ◌≤◌, ℕ, List, IfOk, IfSome, IfNone, IsErrOf, option_map};
+ghost use Rattle.std.specs.Prelude.{◌≡◌, ◌==◌, ◌<◌, ◌≤◌, ◌++◌, ◌∷◌, [], if◌then◌else◌, ℕ, List, string_bytes, OnOk, IfOk, IfSome, IfNone, IsErrOf, option_map};
 ghost use Rattle.serde_json.specs.View.{view, items_view};
-ghost use Rattle.prefixes.specs.Payload.{Payload};
+ghost use Rattle.std.specs.List.Sorted.{IsStrictlySortedBy};
+ghost use Rattle.prefixes.specs.Payload.{Payload, vrp_cmp};
 ghost use Rattle.vrps.specs.VrpSet.{VrpSet as Vrps, set_of, size};
 ghost use Rattle.rpkirtr.specs.Reading.{Makes};
-ghost use Rattle.rpkirtr.specs.PayloadList.{AreEntries, IsEntry, IsPayloadList, Lists, text_at, whole_at};
+ghost use Rattle.rpkirtr.specs.PayloadList.{AreEntries, IsEntry, IsPayloadList, Lists, entry_text, list_text, text_at, whole_at};
 
 use prefixes::{Asn, IpPrefix, Vrp};
 use serde_json::Value;
@@ -134,4 +135,40 @@ pub fn read_list(alloc: Global, bytes: &[u8]) -> Result<VrpSet, ListFault>
         Some(list) => set_of_items(alloc, list.as_slice()),
         None => Err(ListFault::NoList),
     }
+}
+
+/// Appends the text of an entry.
+fn push_entry(text: &mut String, vrp: &Vrp) -> Result<(), AllocError>
+    ensures { OnOk result (string_bytes text.new ≡ string_bytes text.old ++ entry_text vrp.now) }
+{
+    let (asn, max_len, prefix) = (vrp.asn(), vrp.max_len(), vrp.prefix());
+    write!(
+        text,
+        "{{\"asn\":{asn},\"maxLength\":{max_len},\"prefix\":\"{prefix}\"}}"
+    )
+}
+
+/// Appends a comma, but for the first entry.
+fn push_comma(text: &mut String, index: usize) -> Result<(), AllocError>
+    ensures { OnOk result (string_bytes text.new ≡ string_bytes text.old ++ (if index == 0 then [] else 44 ∷ [])) }
+{
+    if index == 0 {
+        return Ok(());
+    }
+    text.push(',')
+}
+
+/// The payload list of these records, compact and without a newline. It is asked with strictly ascending records, such as those
+/// of a set.
+pub fn write_list(alloc: Global, records: &[Vrp]) -> Result<String, AllocError>
+    requires { IsStrictlySortedBy vrp_cmp records.now }
+    ensures { IfOk result (λ text. string_bytes text ≡ list_text records.now) }
+{
+    let mut text = String::from_str(alloc, "[")?;
+    for (index, vrp) in records.iter().enumerate() {
+        push_comma(&mut text, index)?;
+        push_entry(&mut text, vrp)?;
+    }
+    text.push(']')?;
+    Ok(text)
 }

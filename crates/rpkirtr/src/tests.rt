@@ -1,4 +1,4 @@
-use crate::listing::{ListFault, read_list};
+use crate::listing::{ListFault, read_list, write_list};
 use crate::runner::run_words;
 use std::alloc::{AllocError, Global};
 use std::fs;
@@ -176,4 +176,23 @@ fn reads_lists(rt: HostRuntime) {
     }
     let bad = read_list(rt.alloc(), b"[\"\xff\"]".as_slice());
     assert!(rt; bad.is_err());
+}
+
+#[test]
+fn writes_lists(rt: HostRuntime) -> Result<(), Fail> {
+    let one = "{\"asn\":64496,\"maxLength\":24,\"prefix\":\"192.0.2.0/24\"}";
+    let two = "{\"asn\":64497,\"maxLength\":48,\"prefix\":\"2001:db8::/32\"}";
+    let mixed = format!(in rt.alloc(); "[{two},{one},{one}]")?;
+    let Ok(set) = read_list(rt.alloc(), mixed.as_str().as_bytes()) else {
+        return Err(Fail::from("refused"));
+    };
+    let text = write_list(rt.alloc(), set.as_slice())?;
+    let wanted = format!(in rt.alloc(); "[{one},{two}]")?;
+    assert!(rt; text.as_str() == wanted.as_str());
+    let Ok(empty) = read_list(rt.alloc(), b"[]".as_slice()) else {
+        return Err(Fail::from("refused"));
+    };
+    let none = write_list(rt.alloc(), empty.as_slice())?;
+    assert!(rt; none.as_str() == "[]");
+    Ok(())
 }

@@ -2,6 +2,7 @@ pub mod BodyLaws
 pub mod JudgeLaws
 pub mod ModeLaws
 pub mod ReadLaws
+pub mod ReadingRows
 pub mod ReaderLaws
 pub mod RunLaws
 pub mod SplitLaws

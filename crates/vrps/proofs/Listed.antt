@@ -1,8 +1,8 @@
 -- What the listing of a set keeps.
-use Rattle.std.proofs.Common.{◌≡◌, ◌≤◌, ℕ, List, [], ◌∷◌, length, ap, sym, ◌∙◌, subst, arith}
+use Rattle.std.proofs.Common.{◌≡◌, List, [], ◌∷◌, length, ap, sym, ◌∙◌, subst, arith}
 use Rattle.std.specs.List.{All}
 use Rattle.std.specs.List.Sorted.{IsStrictlySortedBy}
-use Rattle.prefixes.specs.Payload.{Payload, IsPayload, vrp_cmp}
+use Rattle.prefixes.specs.Payload.{Payload, IsPayload}
 use Rattle.vrps.specs.VrpSet.{VrpSet, IsVrpSet, IsListing, listing, set_of, size}
 use Rattle.vrps.proofs.SetLaws.{listing-set_of, listing_ascends, set_of-listing, size-set_of}
 

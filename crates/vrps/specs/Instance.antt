@@ -1,5 +1,5 @@
 -- What a cache publishes under one session (RFC 8210 sections 2 and 5.1).
-use Rattle.std.specs.Prelude.{◌≡◌, ◌≢◌, ℕ, ◌<◌, ◌^◌, ◌==◌, List, [], ◌∷◌, length, find, Option, option_and_then, ⊤}
+use Rattle.std.specs.Prelude.{◌≢◌, ℕ, ◌<◌, ◌^◌, ◌==◌, List, [], ◌∷◌, length, find, Option, option_and_then, ⊤}
 use Rattle.std.specs.Option.{option_map}
 use Rattle.std.specs.List.{AllByRecursion}
 use Rattle.vrps.specs.VrpSet.{VrpSet, IsVrpSet}

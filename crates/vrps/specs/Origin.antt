@@ -1,5 +1,5 @@
 -- The state of a route (RFC 6811 section 2).
-use Rattle.std.specs.Prelude.{ℕ, Bool, true, false, not, ◌&&◌, ◌==◌, nat_le, List, Option, Some, None, filter, if◌then◌else◌}
+use Rattle.std.specs.Prelude.{ℕ, Bool, false, not, ◌&&◌, ◌==◌, nat_le, List, Option, Some, None, filter, if◌then◌else◌}
 use Rattle.std.specs.List.{list_any}
 use Rattle.prefixes.specs.Payload.{Payload, block_of, covers}
 use Rattle.prefixes.specs.declared.route.Route.{Route}

@@ -5,6 +5,8 @@ pub mod laws;
 mod origin;
 mod serial;
 mod set;
+#[cfg(test)]
+mod tests;
 
 pub use origin::{OriginIndex, OriginState};
 pub use serial::Serial;

@@ -2,12 +2,15 @@
 ghost use Rattle.std.specs.Prelude.{◌≡◌, ℕ, ◌<◌, ◌≤◌, ◌↔◌, IsTrue, IfOk, Err, OnErr};
 ghost use Rattle.std.specs.List.{All};
 ghost use Rattle.std.specs.List.Sorted.{IsStrictlySortedBy};
+ghost use Rattle.std.specs.Iterator.Adapters.{IterYieldsInOrder};
+ghost use Rattle.std.specs.Slice.Iter.{iter_rest};
 ghost use Rattle.prefixes.specs.Payload.{IsPayload, vrp_cmp};
 ghost use Rattle.vrps.specs.VrpSet.{IsVrpSet, empty, has, listing, size, set_of};
 
 use prefixes::Vrp;
-use std::alloc::Global;
+use std::alloc::{AllocError, Global};
 use std::marker::Model;
+use std::slice::Iter;
 
 /// Why there is no set. The numbers are fixed.
 #[derive(Clone, Copy, Debug, PartialEq, Eq)]
@@ -95,9 +98,33 @@ impl VrpSet {
     /// The members in ascending order.
     pub fn as_slice(&self) -> &[Vrp]
         ensures value { result.now ≡ listing self.now }
+        ensures ascends { IsStrictlySortedBy vrp_cmp result.now }
         ensures set { IsVrpSet self.now }
     {
         &self.items
+    }
+
+    /// Whether the record is a member. The time is logarithmic in the number of members.
+    pub fn contains(&self, vrp: &Vrp) -> bool
+        ensures { result ≡ has self.now vrp.now }
+    {
+        self.items.binary_search(vrp).is_ok()
+    }
+
+    /// Yields the members in ascending order.
+    pub fn iter(&self) -> Iter<'_, Vrp>
+        ensures rest { iter_rest result ≡ listing self.now }
+        ensures runs { IterYieldsInOrder Vrp }
+    {
+        self.as_slice().iter()
+    }
+
+    /// The same set in memory of its own.
+    pub fn duplicate(&self) -> Result<VrpSet, AllocError>
+        ensures { IfOk result (λ s. s ≡ self.now) }
+    {
+        let items = self.items.clone()?;
+        Ok(VrpSet { items })
     }
 }
 

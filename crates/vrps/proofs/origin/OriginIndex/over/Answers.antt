@@ -1,5 +1,4 @@
-use Rattle.std.proofs.Common.{◌≡◌, ◌∙◌, List, ap, sym, subst}
-use Rattle.prefixes.specs.Payload.{Payload}
+use Rattle.std.proofs.Common.{◌≡◌, ◌∙◌, ap, sym, subst}
 use Rattle.vrps.specs.VrpSet.{IsListing, listing, set_of}
 use Rattle.vrps.proofs.Listed.{lists}
 use Rattle.vrps.proofs.SetLaws.{set_of-listing}

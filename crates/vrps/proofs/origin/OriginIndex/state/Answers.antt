@@ -1,7 +1,6 @@
-use Rattle.std.proofs.Common.{◌≡◌, ◌∙◌, Bool, true, false, List, ap, sym, refl}
+use Rattle.std.proofs.Common.{◌≡◌, ◌∙◌, Bool, true, false, List, ap, sym}
 use Rattle.std.specs.List.{list_any}
 use Rattle.prefixes.specs.Payload.{Payload}
-use Rattle.prefixes.specs.declared.route.Route.{Route}
 use Rattle.vrps.specs.Origin.{covers_route, matches}
 use Rattle.vrps.specs.VrpSet.{VrpSet, IsListing, listing, set_of}
 use Rattle.vrps.proofs.Listed.{listing_is}

@@ -1,0 +1,45 @@
+-- The text of a list, entry by entry.
+use Rattle.std.proofs.Common.{◌≡◌, ◌==◌, false, ne_eqb, ◌<◌, ◌+◌, ℕ, List, [], ◌∷◌, ◌++◌, length, map, take, get_or, ap, sym, refl, subst, ◌∙◌, append_assoc, if◌then◌else◌, arith}
+use Rattle.std.proofs.lemmas.List.{length-map, length-take-le, take_more}
+use Rattle.std.specs.List.{join_with_byte}
+use Rattle.prefixes.specs.Payload.{Payload}
+use Rattle.rpkirtr.specs.PayloadList.{entry_text}
+
+-- what stands before a piece that follows these
+abbrev separator : ℕ → List (List ℕ) → List ℕ
+separator c [] = []
+separator c (x ∷ xs) = c ∷ []
+
+above_zero : (n : ℕ) → 0 < n → (n == 0) ≡ false
+above_zero n h = ne_eqb n 0 (omega arith)
+
+separator_is : (c : ℕ) (xs : List (List ℕ)) → separator c xs ≡ (if length xs == 0 then [] else c ∷ [])
+separator_is c [] = refl
+separator_is c (x ∷ xs) = ap (λ b. if b then [] else c ∷ []) (sym (above_zero (length (x ∷ xs)) (omega arith)))
+
+-- one piece more
+join-append : (c : ℕ) (xs : List (List ℕ)) (y : List ℕ) → join_with_byte c (xs ++ y ∷ []) ≡ join_with_byte c xs ++ (separator c xs ++ y)
+join-append c [] y = refl
+join-append c (x ∷ []) y = refl
+join-append c (x ∷ z ∷ xs) y = ap (λ t. x ++ (c ∷ t)) (join-append c (z ∷ xs) y) ∙ sym (append_assoc x (c ∷ join_with_byte c (z ∷ xs)) (c ∷ y))
+
+map-snoc : (vs : List Payload) (v : Payload) → map entry_text (vs ++ v ∷ []) ≡ map entry_text vs ++ entry_text v ∷ []
+map-snoc [] v = refl
+map-snoc (w ∷ vs) v = ap (λ xs. entry_text w ∷ xs) (map-snoc vs v)
+
+pub entries-more : (vs : List Payload) (i : ℕ) (v : Payload) → i < length vs → v ≡ get_or vs i v
+    → join_with_byte 44 (map entry_text (take (i + 1) vs)) ≡ join_with_byte 44 (map entry_text (take i vs)) ++ ((if i == 0 then [] else 44 ∷ []) ++ entry_text v)
+entries-more vs i v h e =
+    let cut : take (i + 1) vs ≡ take i vs ++ v ∷ [] = take_more vs i v h ∙ ap (λ x. take i vs ++ x ∷ []) (sym e) in
+    let count : length (map entry_text (take i vs)) ≡ i = length-map (take i vs) entry_text ∙ length-take-le i vs (omega (arith, h)) in
+    ap (λ xs. join_with_byte 44 (map entry_text xs)) cut ∙ ap (join_with_byte 44) (map-snoc (take i vs) v) ∙ join-append 44 (map entry_text (take i vs)) (entry_text v)
+    ∙ ap (λ t. join_with_byte 44 (map entry_text (take i vs)) ++ (t ++ entry_text v)) (separator_is 44 (map entry_text (take i vs)))
+    ∙ ap (λ n. join_with_byte 44 (map entry_text (take i vs)) ++ ((if n == 0 then [] else 44 ∷ []) ++ entry_text v)) count
+
+-- the text behind one entry more
+pub text-more : (vs : List Payload) (i : ℕ) (v : Payload) (old mid new : List ℕ) → i < length vs → v ≡ get_or vs i v → old ≡ 91 ∷ join_with_byte 44 (map entry_text (take i vs))
+    → mid ≡ old ++ (if i == 0 then [] else 44 ∷ []) → new ≡ mid ++ entry_text v → new ≡ 91 ∷ join_with_byte 44 (map entry_text (take (i + 1) vs))
+text-more vs i v old mid new h e was comma entry =
+    entry ∙ ap (λ t. t ++ entry_text v) (comma ∙ ap (λ t. t ++ (if i == 0 then [] else 44 ∷ [])) was)
+    ∙ append_assoc (91 ∷ join_with_byte 44 (map entry_text (take i vs))) (if i == 0 then [] else 44 ∷ []) (entry_text v)
+    ∙ ap (λ t. 91 ∷ t) (sym (entries-more vs i v h e))
