@@ -1,5 +1,5 @@
 -- The entries of a payload list.
-use Rattle.std.proofs.Common.{◌≡◌, ◌≢◌, ℕ, ◌<◌, ◌+◌, suc, drop, get_or, drop-cons, ◌≤◌, ◌++◌, IfSome, append_assoc, append-nil, List, [], ◌∷◌, Option, Some, None, Result, Ok, Err, map, length, refl, sym, ap, ◌∙◌, subst, arith, rules, add-one, codes, String}
+use Rattle.std.proofs.Common.{◌≡◌, ◌≢◌, ℕ, ◌<◌, ◌+◌, suc, drop, get_or, drop-cons, ◌≤◌, ◌++◌, IfSome, append_assoc, append-nil, List, [], ◌∷◌, Option, Some, None, Result, Ok, Err, length, refl, sym, ap, ◌∙◌, subst, arith, rules, add-one, codes, String}
 use Rattle.std.proofs.lemmas.List.{length-map}
 use Rattle.std.specs.declared.alloc.Global.{Global}
 use Rattle.serde_json.specs.Data.{Data, Items, no_items, item, Members}
@@ -7,7 +7,7 @@ use Rattle.serde_json.specs.Find.{as_array, as_object}
 use Rattle.serde_json.specs.Read as json
 use Rattle.serde_json.specs.View.{view, items_view, members_of, members_view}
 use Rattle.serde_json.specs.declared.value.Value.{Value}
-use Rattle.prefixes.specs.Payload.{Payload, IsPayload, block_of, width_of}
+use Rattle.prefixes.specs.Payload.{Payload, block_of, width_of}
 use Rattle.prefixes.specs.Text.{PrefixText, ReadsAs}
 use Rattle.prefixes.specs.declared.fault.PrefixFault.{PrefixFault}
 use Rattle.prefixes.specs.declared.fault.PrefixFault.TheVariants as faults

@@ -1,5 +1,5 @@
 -- The text of a list, entry by entry.
-use Rattle.std.proofs.Common.{◌≡◌, ◌==◌, false, ne_eqb, ◌<◌, ◌+◌, ℕ, List, [], ◌∷◌, ◌++◌, length, map, take, get_or, ap, sym, refl, subst, ◌∙◌, append_assoc, if◌then◌else◌, arith}
+use Rattle.std.proofs.Common.{◌≡◌, ◌==◌, false, ne_eqb, ◌<◌, ◌+◌, ℕ, List, [], ◌∷◌, ◌++◌, length, map, take, get_or, ap, sym, refl, ◌∙◌, append_assoc, if◌then◌else◌, arith}
 use Rattle.std.proofs.lemmas.List.{length-map, length-take-le, take_more}
 use Rattle.std.specs.List.{join_with_byte}
 use Rattle.prefixes.specs.Payload.{Payload}

@@ -15,7 +15,7 @@ use Rattle.rtr_pdu.specs.declared.unit.UnitFault.{UnitFault}
 use Rattle.rtr_ends.specs.Answer.{answer}
 use Rattle.rtr_ends.specs.Connection.{replies_from}
 use Rattle.rtr_ends.specs.Timing.{Intervals, default_intervals}
-use Rattle.rpkirtr.specs.Answered.{AreResetQueries, Answers, Ends, IsOther, moments_of}
+use Rattle.rpkirtr.specs.Answered.{AreResetQueries, Answers, Ends, moments_of}
 use Rattle.rpkirtr.specs.declared.answering.Answered.{Answered}
 use Rattle.rpkirtr.specs.declared.answering.Answered.TheVariants.{Whole, Left, Refused}
 use Rattle.rpkirtr.specs.Lines.{lines_of}

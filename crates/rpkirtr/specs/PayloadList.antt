@@ -1,5 +1,5 @@
 -- Payload lists: JSON arrays of objects with exactly the keys asn, maxLength and prefix.
-use Rattle.std.specs.Prelude.{◌≡◌, ℕ, ◌≤◌, suc, List, [], ◌∷◌, ◌++◌, map, Option, Some, None, option_and_then, codes, ⊤}
+use Rattle.std.specs.Prelude.{◌≡◌, ℕ, ◌≤◌, suc, List, [], ◌∷◌, ◌++◌, map, Option, Some, option_and_then, codes, ⊤}
 use Rattle.std.specs.Fmt.{decimal}
 use Rattle.std.specs.List.{concat, join_with_byte}
 use Rattle.std.specs.Str.{IsUtf8}

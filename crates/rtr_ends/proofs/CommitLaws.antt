@@ -1,9 +1,8 @@
 -- What commits satisfy.
-use Rattle.std.proofs.Common.{◌≡◌, ◌∙◌, sym, ap, refl, Bool, true, false, ◌&&◌, not, List}
-use Rattle.std.specs.List.{AllByRecursion}
+use Rattle.std.proofs.Common.{◌≡◌, ◌∙◌, sym, refl, Bool, true, false, ◌&&◌, not}
 use Rattle.std.proofs.lemmas.Map.Keys.{IsDistinct-from_sorted}
 use Rattle.prefixes.specs.Payload.{vrp_cmp}
-use Rattle.vrps.specs.VrpSet.{VrpSet, listing, union, without}
+use Rattle.vrps.specs.VrpSet.{union, without}
 use Rattle.vrps.proofs.SetLaws.{all_of_members, apply-between, has-without, listing_ascends, set_of-listing}
 use Rattle.rtr_ends.specs.Commit.{ChangeCommits, OneCommit}
 

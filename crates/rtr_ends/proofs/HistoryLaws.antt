@@ -1,15 +1,14 @@
 -- What the histories of connections satisfy.
-use Rattle.std.proofs.Common.{◌≡◌, ◌∙◌, sym, ap, refl, subst, arith, ℕ, ◌⊎◌, Bool, true, false, not, ◌&&◌, List, [], ◌∷◌, ◌++◌, length, take, drop, append_assoc, append-nil, Option, Some, None, if◌then◌else◌, inl}
+use Rattle.std.proofs.Common.{◌≡◌, ◌∙◌, sym, ap, refl, subst, arith, ℕ, ◌⊎◌, Bool, true, false, not, List, [], ◌∷◌, ◌++◌, take, drop, append_assoc, append-nil, Option, Some, None, if◌then◌else◌, inl}
 use Rattle.std.specs.Bool.{MatchBool}
 use Rattle.std.proofs.lemmas.List.{take-append-drop}
 use Rattle.std.proofs.lemmas.List.Concat.{flat_map-append}
-use Rattle.vrps.specs.Instance.{Instance}
-use Rattle.rtr_pdu.specs.Stream.{IsPartial, Shows, Splits, any_after, as_read}
+use Rattle.rtr_pdu.specs.Stream.{IsPartial, Shows, Splits, as_read}
 use Rattle.rtr_pdu.specs.Unit.{Reads}
 use Rattle.rtr_pdu.specs.declared.unit.Unit.{Unit}
 use Rattle.rtr_pdu.specs.declared.unit.UnitFault.{UnitFault}
 use Rattle.rtr_ends.specs.Answer.{Reply, sent, sent_all}
-use Rattle.rtr_ends.specs.Connection.{Moment, Read, Wanting, Fault, Notify, Pull, Connection, IsHistory, MayHold, PulledAreReplies, HistorySplits, after, after_all, agreed_after, bytes_of, opened, pulled, replies_from, reply, units_of}
+use Rattle.rtr_ends.specs.Connection.{Moment, Read, Wanting, Fault, Notify, Pull, Connection, IsHistory, MayHold, PulledAreReplies, HistorySplits, after, after_all, agreed_after, opened, pulled, replies_from, reply, units_of}
 use Rattle.rtr_ends.specs.Timing.{Intervals}
 
 -- what is still to be sent

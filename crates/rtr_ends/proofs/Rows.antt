@@ -10,8 +10,8 @@ use Rattle.rtr_pdu.specs.Unit.{Reads, zeros}
 use Rattle.rtr_pdu.specs.declared.unit.Unit.{Unit}
 use Rattle.rtr_pdu.specs.declared.unit.Unit.TheVariants.{SerialQuery, ResetQuery, CacheReset, Prefix}
 use Rattle.rtr_pdu.specs.declared.unit.UnitFault.TheVariants as faults
-use Rattle.rtr_ends.specs.Answer.{answer, and_end, and_on, response, sent, sent_all}
-use Rattle.rtr_ends.specs.Connection.{Moment, Read, Wanting, Fault, Notify, Pull, IsHistory, IsLater, fault_report, opened, replies}
+use Rattle.rtr_ends.specs.Answer.{answer, response, sent, sent_all}
+use Rattle.rtr_ends.specs.Connection.{Read, Wanting, Fault, Notify, Pull, IsHistory, IsLater, fault_report, opened, replies}
 use Rattle.rtr_ends.specs.Timing.{default_intervals}
 
 -- 192.0.2.0/24 maximum 24 AS64496, and 198.51.100.0/24 maximum 24 AS64497
@@ -171,12 +171,35 @@ wanted = refl
 -- A whole history: a query, its report pulled in two parts, another query, and the beginning of a third
 two_queries : IsInstance (cache 5 []) → IsHistory 2 default_intervals (opened (cache 5 []))
     (Read (cache 5 []) ResetQuery reset_bytes ∷ Pull 10 ∷ Pull 14 ∷ Read (cache 5 []) ResetQuery reset_bytes ∷ Pull 24 ∷ []) (reset_bytes ++ reset_bytes ++ 1 ∷ [])
-two_queries is =
-    ((refl, refl, is, stays, reads), (left, refl,
-    (omega arith, (left, refl,
-    (omega arith, (left, refl,
-    ((refl, refl, is, stays, reads), (1 ∷ [], refl,
-    (omega arith, (1 ∷ [], refl, ((refl, inl (omega arith)), inr (inl refl))))))))))))
+two_queries is = (
+  (refl, refl, is, stays, reads),
+  (
+    left,
+    refl,
+    (
+      omega arith,
+      (
+        left,
+        refl,
+        (
+          omega arith,
+          (
+            left,
+            refl,
+            (
+              (refl, refl, is, stays, reads),
+              (
+                1 ∷ [],
+                refl,
+                (omega arith, (1 ∷ [], refl, ((refl, inl (omega arith)), inr (inl refl)))),
+              ),
+            ),
+          ),
+        ),
+      ),
+    ),
+  ),
+)
   where
     left : List ℕ
     left = reset_bytes ++ 1 ∷ []

@@ -1,13 +1,12 @@
 -- What a cache answers (RFC 8210 sections 5, 8 and 12).
-use Rattle.std.specs.Prelude.{◌≡◌, ℕ, Bool, true, false, ◌==◌, List, [], ◌∷◌, ◌++◌, take, map, Option, Some, None, if◌then◌else◌}
+use Rattle.std.specs.Prelude.{ℕ, Bool, true, false, ◌==◌, List, [], ◌∷◌, ◌++◌, take, map, Option, Some, None, if◌then◌else◌}
 use Rattle.std.specs.List.{flat_map}
-use Rattle.vrps.specs.Change.{Difference, between}
+use Rattle.vrps.specs.Change.{between}
 use Rattle.vrps.specs.Instance.{Instance, Version, versions, with_serial}
 use Rattle.vrps.specs.VrpSet.{VrpSet, listing}
-use Rattle.rtr_pdu.specs.Payloads.{Report}
 use Rattle.rtr_pdu.specs.Unit.{unit_bytes}
 use Rattle.rtr_pdu.specs.declared.unit.Unit.{Unit}
-use Rattle.rtr_pdu.specs.declared.unit.Unit.TheVariants.{SerialNotify, SerialQuery, ResetQuery, CacheResponse, Prefix, EndOfData, CacheReset, RouterKey, ErrorReport}
+use Rattle.rtr_pdu.specs.declared.unit.Unit.TheVariants.{SerialQuery, ResetQuery, CacheResponse, Prefix, EndOfData, CacheReset, ErrorReport}
 use Rattle.rtr_ends.specs.Timing.{Intervals}
 
 -- What a cache sends, and whether the connection goes on after it

@@ -68,11 +68,20 @@ impl<'a> WholeAnswer<'a> {
                 match self.records.split_first() {
                     Some((vrp, others)) => {
                         let vrp = *vrp;
-                        encode(&Unit::Prefix { announce: true, vrp }, buffer);
+                        encode(
+                            &Unit::Prefix {
+                                announce: true,
+                                vrp,
+                            },
+                            buffer,
+                        );
                         self.records = others;
                     }
                     None => {
-                        encode(&end_of_data(self.session, self.serial, &self.timing), buffer);
+                        encode(
+                            &end_of_data(self.session, self.serial, &self.timing),
+                            buffer,
+                        );
                         self.stage = Stage::Done;
                     }
                 }

@@ -1,6 +1,6 @@
 -- Streams and faults of reading, worked out.
-use Rattle.std.proofs.Common.{◌≡◌, ℕ, true, false, List, [], ◌∷◌, ◌++◌, Some, refl, arith, inl, inr}
-use Rattle.rtr_pdu.specs.Stream.{AreRead, IsReport, Shows, Splits, as_read}
+use Rattle.std.proofs.Common.{ℕ, true, List, [], ◌∷◌, ◌++◌, Some, refl, arith, inl}
+use Rattle.rtr_pdu.specs.Stream.{Shows, Splits, as_read}
 use Rattle.rtr_pdu.specs.Unit.{Reads, zeros}
 use Rattle.rtr_pdu.specs.declared.unit.Unit.TheVariants.{CacheResponse, SerialNotify}
 use Rattle.rtr_pdu.specs.declared.unit.UnitFault.TheVariants as faults

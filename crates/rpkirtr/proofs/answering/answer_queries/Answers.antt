@@ -1,6 +1,6 @@
 use Rattle.std.proofs.Common.{◌≡◌, true, false, refl}
 use Rattle.rpkirtr.specs.Lines.{cache_of}
-use Rattle.rpkirtr.proofs.Queries.{begun, ends, goes_on, refused_fault, refused_unit, rest_within, takes_begun}
+use Rattle.rpkirtr.proofs.Queries.{ends, goes_on, refused_fault, refused_unit, rest_within, takes_begun}
 use Rattle.rpkirtr.proofs.answering.answer_queries.Goals as goal
 
 pub overflow_sub-offset : goal.overflow_sub-offset

@@ -1,4 +1,4 @@
-use Rattle.std.proofs.Common.{◌≡◌, ◌∙◌, sym, length}
+use Rattle.std.proofs.Common.{◌≡◌, ◌∙◌, sym}
 use Rattle.serde_json.specs.View.{view, members_view}
 use Rattle.rpkirtr.specs.PayloadList.{member_count}
 use Rattle.rpkirtr.proofs.Entries.{count_view, if_some, is_entry, not_three}

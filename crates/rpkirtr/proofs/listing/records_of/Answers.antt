@@ -1,6 +1,5 @@
-use Rattle.std.proofs.Common.{◌≡◌, ◌+◌, ◌++◌, ◌∷◌, if◌then◌else◌, ◌∙◌, [], length, drop, subst, sym, ap}
+use Rattle.std.proofs.Common.{◌≡◌, ◌+◌, ◌++◌, ◌∷◌, if◌then◌else◌, ◌∙◌, [], drop, subst, sym, ap}
 use Rattle.std.proofs.lemmas.List.{drop_all}
-use Rattle.serde_json.specs.Data.{Items, no_items, item}
 use Rattle.serde_json.specs.View.{items_view, view}
 use Rattle.rpkirtr.proofs.Entries.{SoFar, finish, next_item, step, stop}
 use Rattle.rpkirtr.proofs.listing.records_of.Goals as goal

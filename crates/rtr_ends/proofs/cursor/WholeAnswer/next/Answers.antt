@@ -16,6 +16,6 @@ pub returns-in-Some : goal.returns-in-Some
 returns-in-Some c = (
   Prefix true c.in-Some.vrp.now,
   sym c.self.view_is
-  ∙ announces_first c.self.inside.stage c.self.inside.session c.self.inside.serial c.self.inside.timing c.self.inside.records.now c.in-Some.others.now c.in-Some.vrp.now c.in-Records.is c.in-Some.ensures.cases.0,
+      ∙ announces_first c.self.inside.stage c.self.inside.session c.self.inside.serial c.self.inside.timing c.self.inside.records.now c.in-Some.others.now c.in-Some.vrp.now c.in-Records.is c.in-Some.ensures.cases.0,
   c.encode-in-Some.ensures.bytes,
 )
