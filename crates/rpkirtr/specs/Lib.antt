@@ -1,4 +1,5 @@
 pub mod Answered
+pub mod Fault
 pub mod Lines
 pub mod PayloadList
 pub mod Reading

@@ -21,6 +21,17 @@ pub enum ListFault {
     Memory = 2,
 }
 
+impl ListFault {
+    ghost use Rattle.rpkirtr.specs.Fault.{fault_number};
+
+    /// The number by which the fault is printed.
+    pub fn number(self) -> u8
+        ensures { result ≡ fault_number self }
+    {
+        self as u8
+    }
+}
+
 impl From<AllocError> for ListFault {
     ghost use Rattle.rpkirtr.specs.declared.listing.ListFault.TheVariants.{Memory};
 

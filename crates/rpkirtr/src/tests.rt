@@ -103,8 +103,21 @@ fn tells_bad_words_and_devices(rt: HostRuntime) -> Result<(), Fail> {
     for text in cases {
         expect(&rt, text, 2, "", bad)?;
     }
+    // The words come before the file, the file before HEX.
+    let both = "answer --session x --serial 5 --vrps gone.json 010";
+    expect(&rt, both, 2, "", bad)?;
+    let failed = "rpkirtr: device failed\n";
     let gone = "answer --session 4660 --serial 5 --vrps gone.json 0102000000000008";
-    expect(&rt, gone, 3, "", "rpkirtr: device failed\n")
+    expect(&rt, gone, 3, "", failed)?;
+    let gone_too = "answer --session 4660 --serial 5 --vrps gone.json 010";
+    expect(&rt, gone_too, 3, "", failed)?;
+    let none: Vec<String> = Vec::new(rt.alloc());
+    let mut out: Vec<u8> = Vec::new(rt.alloc());
+    let mut err: Vec<u8> = Vec::new(rt.alloc());
+    let found = run_words(&rt, none.as_slice(), &mut out, &mut err);
+    assert_eq!(rt; found, 2);
+    assert!(rt; err.as_slice() == bad.as_bytes());
+    Ok(())
 }
 
 #[test]
@@ -176,6 +189,8 @@ fn reads_lists(rt: HostRuntime) {
     }
     let bad = read_list(rt.alloc(), b"[\"\xff\"]".as_slice());
     assert!(rt; bad.is_err());
+    assert_eq!(rt; ListFault::NoList.number(), 1);
+    assert_eq!(rt; ListFault::Memory.number(), 2);
 }
 
 #[test]
