@@ -1,0 +1,9 @@
+pub mod Rules
+pub mod Heads
+pub mod Lengths
+pub mod Elements
+pub mod Exact
+pub mod GrammarLaws
+pub mod Once
+pub mod Texts
+pub mod Plain

@@ -1,0 +1,123 @@
+-- What the cursor reads is what the grammar of its element says.
+use Rattle.std.proofs.Common.{◌≡◌, ◌⊎◌, ℕ, Bool, List, [], ◌++◌, Result, Ok, Err, refl, sym, ap, subst, ◌∙◌, inl, inr}
+use Rattle.der_lite.specs.Place.{Place, Fault, place_of}
+use Rattle.der_lite.specs.Der.{IsBytes, head_rules, tlv}
+use Rattle.der_lite.specs.Grammar.{Element, Breaks, behind, inside, primitive, plain}
+use Rattle.der_lite.specs.Reading.{◌>>=◌, judged, element_at, content_at, content_place, next_place}
+use Rattle.der_lite.specs.Decoding.{Read, ReadContent, read_element, read_primitive}
+use Rattle.der_lite.specs.Laws.{Found}
+use Rattle.der_lite.proofs.Rules.{judged-bind, judged-kept, judged_ok, judged_err, judged_breaks, ok, err, ok_is, err_is}
+use Rattle.der_lite.proofs.Elements.{Stands, stands, stands_again}
+use Rattle.der_lite.proofs.Exact.{ExactElement, IsHead, exact_element, exact_primitive}
+use Rattle.der_lite.proofs.GrammarLaws.{one_front}
+
+-- the usual rules of a head
+pub usual_head : (tag : ℕ) → IsHead tag (head_rules tag)
+usual_head tag = record { usual = λ bytes h. h; keeps = λ bytes h. h }
+
+-- an element as a cursor reads it: the head first, and then the content at its own place
+pub element_is : {V : Type 0} (tag : ℕ) (content : ReadContent V) (p : Place) → read_element (head_rules tag) content p ≡ (element_at tag p >>= λ x. content p.at x.0 >>= λ v. Ok (v, x.1))
+unfolding element_at
+element_is tag content p = sym (judged-bind (head_rules tag p.rest) p.at (Ok (content_place p, next_place p)) (λ x. content p.at x.0 >>= λ v. Ok (v, x.1)))
+
+-- reading in another way that gives the same
+pub exact_along : {V : Type 0} (e : Element V) (read other : Read V) → ((p : Place) → read p ≡ other p) → ExactElement e read → ExactElement e other
+exact_along e read other same x = record {
+  takes = λ p v q bytes d. x.takes p v q bytes (same p ∙ d);
+  again = λ at v front rest s. sym (same (place_of at (front ++ rest))) ∙ x.again at v front rest s;
+  faults = λ p f bytes d. x.faults p f bytes (same p ∙ d);
+  refuses = λ p f d. sym (same p) ∙ x.refuses p f d;
+  some = x.some;
+}
+
+-- the content of a primitive element, as it is
+pub plain_is : (tag : ℕ) (rules : List ℕ → List (ℕ × Bool)) (p : Place) → read_element (head_rules tag) (read_primitive rules (λ inner. inner)) p ≡ content_at tag rules p
+unfolding content_at element_at
+plain_is tag rules p =
+    let inner = (content_place p).rest in
+    let with_next : List ℕ → Result (List ℕ × Place) Fault = λ v. Ok (v, next_place p) in
+    let at_places : Place × Place → Result (List ℕ × Place) Fault = λ x. judged (rules x.0.rest) p.at (Ok (x.0.rest, x.1)) in
+    ap (λ (r : Result (List ℕ × Place) Fault). judged (head_rules tag p.rest) p.at r) (judged-bind (rules inner) p.at (Ok inner) with_next)
+    ∙ sym (judged-bind (head_rules tag p.rest) p.at (Ok (content_place p, next_place p)) at_places)
+
+-- reading it is exact
+pub exact_plain : (tag : ℕ) (rules : List ℕ → List (ℕ × Bool)) → ExactElement (plain tag rules) (content_at tag rules)
+exact_plain tag rules =
+    let read = read_primitive rules (λ inner. inner) in
+    let c = exact_primitive (λ content inner. content ≡ inner) rules (λ inner. inner) (λ inner bytes k. refl) (λ inner v k s. sym s) in
+    exact_along (plain tag rules) (read_element (head_rules tag) read) (content_at tag rules) (plain_is tag rules)
+    (exact_element tag (head_rules tag) (primitive (λ content inner. content ≡ inner) rules) read (usual_head tag) c)
+
+-- ---- laws
+
+module _ (tag : ℕ) (rules : List ℕ → List (ℕ × Bool)) where
+  -- what is read stands there, and what stands there is read
+  pub found_reads : (p : Place) (content : List ℕ) (q : Place) → Found tag rules p content q → content_at tag rules p ≡ Ok (content, q)
+  found_reads p content q h =
+      ap (λ (l : List ℕ). content_at tag rules (place_of p.at l)) h.parts
+      ∙ (exact_plain tag rules).again p.at content h.front q.rest h.spells
+      ∙ ap (λ (r : Place). Ok (content, r)) (sym h.behind_is)
+
+  -- what is read stands there
+  pub reads_found : (p : Place) (content : List ℕ) (q : Place) → IsBytes p.rest → content_at tag rules p ≡ Ok (content, q) → Found tag rules p content q
+  reads_found p content q bytes e =
+      let t = (exact_plain tag rules).takes p content q bytes e in
+      record { front = t.front; parts = t.parts; spells = t.spells; behind_is = t.behind_is }
+
+  -- at most one fault stands at a place
+  pub plain_fault : (p : Place) (f g : Fault) → (plain tag rules).FaultAt p f → (plain tag rules).FaultAt p g → f ≡ g
+  plain_fault p f g s t = err_is {A = List ℕ × Place} f g (sym ((exact_plain tag rules).refuses p f s) ∙ (exact_plain tag rules).refuses p g t)
+
+  -- none where an element stands
+  pub plain_apart : (p : Place) (content : List ℕ) (q : Place) (f : Fault) → Found tag rules p content q → (plain tag rules).FaultAt p f → ⊥
+  plain_apart p content q f h d =
+      let e : ok {A = List ℕ × Place} (content, q) ≡ err f = sym (found_reads p content q h) ∙ (exact_plain tag rules).refuses p f d in absurd cc
+
+  -- and one everywhere else
+  pub plain_either : (p : Place) → IsBytes p.rest → ((content : List ℕ) × (q : Place) × Found tag rules p content q) ⊎ ((f : Fault) × (plain tag rules).FaultAt p f)
+  plain_either p bytes = decided (content_at tag rules p) refl
+    where
+      decided : (r : Result (List ℕ × Place) Fault) → content_at tag rules p ≡ r → ((content : List ℕ) × (q : Place) × Found tag rules p content q) ⊎ ((f : Fault) × (plain tag rules).FaultAt p f)
+      decided (Ok x) e = inl (x.0, x.1, reads_found p x.0 x.1 bytes e)
+      decided (Err f) e = inr (f, (exact_plain tag rules).faults p f bytes e)
+
+  -- a spelling that begins with another is that one
+  pub plain_front : (v w a b more rest : List ℕ) → (plain tag rules).Spells v a → (plain tag rules).Spells w b → a ++ more ≡ b ++ rest → (v ≡ w) × (more ≡ rest)
+  plain_front v w a b more rest s t h = one_front (plain tag rules) (content_at tag rules) (exact_plain tag rules) v w a b more rest s t h
+
+  -- a content has one spelling
+  pub plain_once : (v a b : List ℕ) → (plain tag rules).Spells v a → (plain tag rules).Spells v b → a ≡ b
+  plain_once v a b s t = s.1.spelled ∙ ap (λ (l : List ℕ). tlv tag l) (sym s.2.0 ∙ t.2.0) ∙ sym t.1.spelled
+
+-- what is opened stands there
+pub opens_found : (tag : ℕ) (p inner next : Place) → IsBytes p.rest → element_at tag p ≡ Ok (inner, next) → Found tag (λ content. []) p inner.rest next × (inner ≡ inside p.at inner.rest)
+unfolding element_at
+opens_found tag p inner next bytes e =
+    let j = judged_ok (head_rules tag p.rest) p.at (Ok (content_place p, next_place p)) (inner, next) e in
+    let s = subst (λ (x : Place × Place). Stands tag p x.0 x.1) (ok_is (content_place p, next_place p) (inner, next) j.1) (stands tag p bytes j.0) in
+    (record { front = tlv tag inner.rest; parts = s.parts; spells = (inner.rest, record { short = s.short; spelled = refl }, (refl, refl)); behind_is = s.r_is }, s.q_is)
+
+-- what stands there is opened
+pub found_opens : (tag : ℕ) (p inner next : Place) → Found tag (λ content. []) p inner.rest next → inner ≡ inside p.at inner.rest → element_at tag p ≡ Ok (inner, next)
+unfolding element_at
+found_opens tag p inner next h inner_is =
+    let content = h.spells.0 in
+    let same : content ≡ inner.rest = sym h.spells.2.0 in
+    let a = stands_again tag p.at content next.rest h.spells.1.short in
+    let q = place_of p.at (tlv tag content ++ next.rest) in
+    let place : p ≡ q = ap (place_of p.at) (h.parts ∙ ap (λ (l : List ℕ). l ++ next.rest) h.spells.1.spelled) in
+    let first : content_place q ≡ inner = a.content_is ∙ ap (λ (l : List ℕ). inside p.at l) same ∙ sym inner_is in
+    let second : next_place q ≡ next = a.next_is ∙ ap (λ (l : List ℕ). behind p.at l next.rest) (sym h.spells.1.spelled) ∙ sym h.behind_is in
+    ap (element_at tag) place
+    ∙ judged-kept (head_rules tag q.rest) q.at (Ok (content_place q, next_place q)) a.kept
+    ∙ ap (λ (x : Place). Ok (x, next_place q)) first ∙ ap (λ (x : Place). Ok (inner, x)) second
+
+-- a fault at opening is that of the head
+pub opens_breaks : (tag : ℕ) (p : Place) (f : Fault) → element_at tag p ≡ Err f → Breaks (head_rules tag p.rest) p.at f
+unfolding element_at
+opens_breaks tag p f e = elim (judged_err (head_rules tag p.rest) p.at (Ok (content_place p, next_place p)) f e) [ inl b ↦ b | inr k ↦ absurd (let h = k.1 in cc) ]
+
+-- and such a fault is read
+pub breaks_opens : (tag : ℕ) (p : Place) (f : Fault) → Breaks (head_rules tag p.rest) p.at f → element_at tag p ≡ Err f
+unfolding element_at
+breaks_opens tag p f b = judged_breaks (head_rules tag p.rest) p.at (Ok (content_place p, next_place p)) f b

@@ -1,0 +1,130 @@
+-- Elements of the distinguished encoding rules (X.690).
+use Rattle.std.specs.Prelude.{◌≡◌, ℕ, zero, suc, ◌+◌, ◌-◌, ◌*◌, ◌/◌, ◌%◌, ◌^◌, ◌<◌, Bool, true, false, not, ◌&&◌, ◌||◌, nat_lt, nat_le, ◌==◌, if◌then◌else◌, List, [], ◌∷◌, ◌++◌, length, take, drop, slice_index, replicate, ℤ, pos, ◌-ℤ◌}
+
+-- bytes are numbers below 256
+abbrev pub IsBytes : List ℕ → Type 0
+IsBytes bytes = (i : ℕ) → slice_index bytes i < 256
+
+-- the number that bytes spell, the highest byte first
+abbrev pub number : List ℕ → ℕ
+number [] = 0
+number (byte ∷ bytes) = byte * 256 ^ length bytes + number bytes
+
+-- a number in a count of bytes, the highest first
+abbrev pub base_256 : ℕ → ℕ → List ℕ
+base_256 zero n = []
+base_256 (suc count) n = base_256 count (n / 256) ++ (n % 256) ∷ []
+
+-- 8.1.3 and 10.1: the length of a content in the fewest bytes. Below 128 it is one byte;
+-- otherwise 128 and the count of its bytes, and then these.
+unfoldable pub length_bytes : ℕ → List ℕ
+length_bytes n =
+    if nat_lt n 128 then n ∷ []
+    else if nat_lt n (256 ^ 1) then 129 ∷ base_256 1 n
+    else if nat_lt n (256 ^ 2) then 130 ∷ base_256 2 n
+    else if nat_lt n (256 ^ 3) then 131 ∷ base_256 3 n
+    else 132 ∷ base_256 4 n
+
+-- 8.1.1: the tag, the length of the content, the content
+abbrev pub tlv : ℕ → List ℕ → List ℕ
+tlv tag content = tag ∷ length_bytes (length content) ++ content
+
+-- The bytes are the element of this tag and content. At most four bytes say the length.
+pub record Tlv (tag : ℕ) (content bytes : List ℕ) : Type 0 where
+  pub short : length content < 2 ^ 32
+  pub spelled : bytes ≡ tlv tag content
+
+-- 8.3.3: the whole number of a content, in two's complement
+abbrev pub twos_complement : List ℕ → ℤ
+twos_complement bytes = if nat_lt (slice_index bytes 0) 128 then pos (number bytes) else pos (number bytes) -ℤ pos (256 ^ length bytes)
+
+-- 8.3.1 and 8.3.2: one byte or more, of which the first nine bits are neither all 0 nor all 1
+abbrev pub is_integer : List ℕ → Bool
+is_integer [] = false
+is_integer (first ∷ []) = true
+is_integer (first ∷ second ∷ more) = not (first == 0 && nat_lt second 128) && not (first == 255 && nat_le 128 second)
+
+-- 8.3: the content spells this whole number, in the fewest bytes
+pub record IntSpells (n : ℤ) (bytes : List ℕ) : Type 0 where
+  pub value : twos_complement bytes ≡ n
+  pub fewest : is_integer bytes ≡ true
+
+-- the eight bits of a byte, the highest first
+abbrev pub bits_of_byte : ℕ → List Bool
+bits_of_byte byte =
+    (byte / 128 % 2 == 1) ∷ (byte / 64 % 2 == 1) ∷ (byte / 32 % 2 == 1) ∷ (byte / 16 % 2 == 1)
+    ∷ (byte / 8 % 2 == 1) ∷ (byte / 4 % 2 == 1) ∷ (byte / 2 % 2 == 1) ∷ (byte % 2 == 1) ∷ []
+
+-- the bits of bytes, in their order
+abbrev pub bits_of : List ℕ → List Bool
+bits_of [] = []
+bits_of (byte ∷ bytes) = bits_of_byte byte ++ bits_of bytes
+
+-- 8.6.2 and 11.2: the count of unused bits, below 8, then the bits and that many zeros; without bits, the count 0 alone
+pub record BitsSpell (bits : List Bool) (bytes : List ℕ) : Type 0 where
+  pub unused : ℕ
+  pub body : List ℕ
+  pub counted : bytes ≡ unused ∷ body
+  pub few : unused < 8
+  pub padded : bits_of body ≡ bits ++ replicate unused false
+
+-- ---- what is judged of an element before its content
+
+-- how many bytes of length a first length byte announces
+abbrev pub announced : ℕ → ℕ
+announced first = if nat_lt 128 first && nat_lt first 133 then first - 128 else 0
+
+-- the length that a first length byte and those that it announces tell
+abbrev pub told_length : ℕ → List ℕ → ℕ
+told_length first more = if nat_lt first 128 then first else number more
+
+-- they are a length in the fewest bytes
+abbrev pub is_length : ℕ → List ℕ → Bool
+is_length first more = nat_lt first 128 || (nat_lt 0 (slice_index more 0) && nat_le 128 (number more))
+
+-- of bytes that begin with an element: the tag, the first length byte, those that it announces
+abbrev pub tag_of : List ℕ → ℕ
+tag_of bytes = slice_index bytes 0
+
+-- the byte behind the tag
+abbrev pub first_length_byte : List ℕ → ℕ
+first_length_byte bytes = slice_index bytes 1
+
+-- the length bytes that it announces
+abbrev pub later_length_bytes : List ℕ → List ℕ
+later_length_bytes bytes = take (announced (first_length_byte bytes)) (drop 2 bytes)
+
+-- the length is in the fewest bytes
+unfoldable pub has_length : List ℕ → Bool
+has_length bytes = is_length (first_length_byte bytes) (later_length_bytes bytes)
+
+-- where the length ends, and where the content does
+unfoldable pub length_end : List ℕ → ℕ
+length_end bytes = 2 + announced (first_length_byte bytes)
+
+-- where the content ends, counted as the length tells it
+unfoldable pub content_end : List ℕ → ℕ
+content_end bytes = length_end bytes + told_length (first_length_byte bytes) (later_length_bytes bytes)
+
+-- the tag, the length or the content do not all stand here
+unfoldable pub is_truncated : List ℕ → Bool
+is_truncated bytes = nat_lt (length bytes) (length_end bytes) || (has_length bytes && nat_lt (length bytes) (content_end bytes))
+
+-- Truncated, WrongTag, BadLength, in this order
+unfoldable pub head_rules : ℕ → List ℕ → List (ℕ × Bool)
+head_rules tag bytes = (1, is_truncated bytes) ∷ (2, not (tag_of bytes == tag)) ∷ (3, not (has_length bytes)) ∷ []
+
+-- a count of unused bits, 0 to 7, and then bytes, whose last unused bits are zero. Without bytes the count is 0.
+abbrev pub is_bit_string : List ℕ → Bool
+is_bit_string [] = false
+is_bit_string (unused ∷ []) = unused == 0
+is_bit_string (unused ∷ first ∷ more) = nat_lt unused 8 && slice_index (first ∷ more) (length more) % 2 ^ unused == 0
+
+-- how many bits a content has that is a bit string
+abbrev pub bit_count : List ℕ → ℕ
+bit_count content = 8 * (length content - 1) - slice_index content 0
+
+-- 8.23: each byte is an ASCII character
+abbrev pub is_ia5 : List ℕ → Bool
+is_ia5 [] = true
+is_ia5 (byte ∷ bytes) = nat_lt byte 128 && is_ia5 bytes

@@ -1,0 +1,49 @@
+//! The contents of primitive elements.
+
+ghost use Rattle.std.specs.Prelude.{◌≡◌, Some, None, if◌then◌else◌, option_map};
+ghost use Rattle.der_lite.specs.Der.{is_integer as is_integer_of, is_bit_string as is_bit_string_of, is_ia5};
+
+/// A bit string: bytes, of which the lowest bits of the last one are not used (X.690, 8.6).
+#[derive(Clone, Copy, Debug)]
+pub struct Bits<'a> {
+    /// How many bits of the last byte are not used, 0 to 7. Without bytes it is 0.
+    pub unused: u8,
+    /// The bits, the first one highest. Unused bits are zero.
+    pub bytes: &'a [u8],
+}
+
+/// Whether the content is a whole number in the fewest bytes (X.690, 8.3).
+pub(crate) fn is_integer(content: &[u8]) -> bool
+    ensures { result ≡ is_integer_of content.now }
+{
+    match content {
+        [] => false,
+        [_] => true,
+        [first, second, ..] => !(*first == 0 && *second < 128)
+            && !(*first == 255 && *second >= 128),
+    }
+}
+
+/// Whether the content is a bit string whose unused bits are zero (X.690, 8.6 and 11.2).
+pub(crate) fn is_bit_string(content: &[u8]) -> bool
+    ensures { result ≡ is_bit_string_of content.now }
+{
+    match content {
+        [] => false,
+        [unused] => *unused == 0,
+        [unused, .., last] => *unused < 8 && *last % (1 << *unused) == 0,
+    }
+}
+
+/// The content as a text, if it is one of ASCII alone (X.690, 8.23).
+pub(crate) fn ia5_text(content: &[u8]) -> Option<&str>
+    ensures { option_map (λ text. text.now) result ≡ (if is_ia5 content.now then Some content.now else None) }
+{
+    if !content.is_ascii() {
+        return None;
+    }
+    match str::from_utf8(content) {
+        Ok(text) => Some(text),
+        Err(_) => None,
+    }
+}

@@ -1,0 +1,200 @@
+//! A cursor over the elements that stand in one enclosing element.
+
+ghost use Rattle.std.specs.Prelude.{IfOk, ◌≡◌, IsTrue, ◌↔◌, slice_get, []};
+ghost use Rattle.der_lite.specs.Der.{is_integer as is_integer_of, is_bit_string as is_bit_string_of, is_ia5};
+ghost use Rattle.der_lite.specs.Reading.{element_at, integer_at, bits_at, octets_at, oid_at, ia5_at, end_at};
+ghost use Rattle.der_lite.specs.Cursors.{Gives, Finds, Ends};
+ghost use Rattle.der_lite.specs.Place.{place_of};
+
+use crate::content::{ia5_text, is_bit_string, is_integer};
+use crate::head::read_head;
+use crate::{Bits, DerFault, DerFaultKind};
+use std::marker::Model;
+
+/// Reads the elements that stand in an enclosing one, in order.
+///
+/// What it hands out lies in the bytes that it was made over. No call takes memory. A read that
+/// answers a fault leaves the cursor where it stood. The faults of a read are judged in this order:
+/// `Truncated`, `WrongTag`, `BadLength`, `BadContent`.
+#[derive(Debug, Drop)]
+pub struct Cursor<'a> {
+    at: usize,
+    rest: &'a [u8],
+}
+
+impl<'a> Model for Cursor<'a> {
+    ghost use Rattle.der_lite.specs.Place.{Place, IsCursor, place_of};
+
+    ghost Value = { Place };
+
+    ghost view = { λ c. place_of c.at c.rest.now };
+
+    ghost invariant = { λ c. IsCursor c.at c.rest.now };
+}
+
+impl<'a> Cursor<'a> {
+    ghost use Rattle.der_lite.specs.Cursors.{bits_content};
+
+    /// A cursor over a whole payload, at offset 0.
+    pub fn new(payload: &'a [u8]) -> Cursor<'a>
+        ensures { result ≡ place_of 0 payload.now }
+    {
+        Cursor {
+            at: 0,
+            rest: payload,
+        }
+    }
+
+    /// Cursors over the content of the element of this tag that stands here, and behind it.
+    fn element(&self, tag: u8) -> Result<(Cursor<'a>, Cursor<'a>), DerFault>
+        ensures { Finds result (element_at tag self.now) }
+    {
+        let at = self.at;
+        let rest = self.rest;
+        match read_head(tag, rest) {
+            Err(kind) => Err(DerFault { kind, offset: at }),
+            Ok(head) => {
+                let content = Cursor {
+                    at: at + head.length_end,
+                    rest: &rest[head.length_end..head.content_end],
+                };
+                let behind = Cursor {
+                    at: at + head.content_end,
+                    rest: &rest[head.content_end..],
+                };
+                Ok((content, behind))
+            }
+        }
+    }
+
+    /// The fault of an element that stands here with a content that is none of its type.
+    fn bad_content(&self) -> DerFault
+        ensures offset { result.offset ≡ self.now.at }
+        ensures kind { result.kind ≡ DerFaultKind.BadContent }
+    {
+        DerFault {
+            kind: DerFaultKind::BadContent,
+            offset: self.at,
+        }
+    }
+
+    /// A cursor over the members of the SEQUENCE (tag 48) that stands here (X.690, 8.9).
+    pub fn sequence(&mut self) -> Result<Cursor<'a>, DerFault>
+        ensures { Gives (λ c. c) result self.old self.new (element_at 48 self.old) }
+    {
+        let (content, behind) = self.element(48)?;
+        *self = behind;
+        Ok(content)
+    }
+
+    /// The content of the INTEGER (tag 2) that stands here, in two's complement, the highest byte
+    /// first (X.690, 8.3). `BadContent` if it is empty or not in the fewest bytes.
+    #[tactic(auto, unfolding(crate::specs::Reading::content_at))]
+    pub fn integer(&mut self) -> Result<&'a [u8], DerFault>
+        ensures exact { Gives (λ content. content.now) result self.old self.new (integer_at self.old) }
+        ensures fewest { IfOk result (λ content. IsTrue (is_integer_of content.now)) }
+    {
+        let (content, behind) = self.element(2)?;
+        if !is_integer(content.rest) {
+            return Err(self.bad_content());
+        }
+        *self = behind;
+        Ok(content.rest)
+    }
+
+    /// The bits of the BIT STRING (tag 3) that stands here (X.690, 8.6 and 11.2). `BadContent` if
+    /// the count of unused bits is missing, above 7, or not 0 where no bytes follow, or if an
+    /// unused bit is set.
+    #[tactic(auto, unfolding(crate::specs::Reading::content_at))]
+    pub fn bits(&mut self) -> Result<Bits<'a>, DerFault>
+        ensures exact { Gives bits_content result self.old self.new (bits_at self.old) }
+        ensures valid { IfOk result (λ bits. IsTrue (is_bit_string_of (bits_content bits))) }
+    {
+        let (content, behind) = self.element(3)?;
+        if let [unused, bytes @ ..] = content.rest
+            && is_bit_string(content.rest)
+        {
+            *self = behind;
+            return Ok(Bits {
+                unused: *unused,
+                bytes,
+            });
+        }
+        Err(self.bad_content())
+    }
+
+    /// The content of the OCTET STRING (tag 4) that stands here (X.690, 8.7).
+    #[tactic(auto, unfolding(crate::specs::Reading::content_at))]
+    pub fn octets(&mut self) -> Result<&'a [u8], DerFault>
+        ensures { Gives (λ content. content.now) result self.old self.new (octets_at self.old) }
+    {
+        let (content, behind) = self.element(4)?;
+        *self = behind;
+        Ok(content.rest)
+    }
+
+    /// The content of the OBJECT IDENTIFIER (tag 6) that stands here, which is not judged: it is
+    /// only there to be compared (X.690, 8.19).
+    #[tactic(auto, unfolding(crate::specs::Reading::content_at))]
+    pub fn oid(&mut self) -> Result<&'a [u8], DerFault>
+        ensures { Gives (λ content. content.now) result self.old self.new (oid_at self.old) }
+    {
+        let (content, behind) = self.element(6)?;
+        *self = behind;
+        Ok(content.rest)
+    }
+
+    /// The text of the IA5String (tag 22) that stands here (X.690, 8.23). `BadContent` if a byte is
+    /// 128 or above.
+    #[tactic(auto, unfolding(crate::specs::Reading::content_at))]
+    pub fn ia5(&mut self) -> Result<&'a str, DerFault>
+        ensures exact { Gives (λ text. text.now) result self.old self.new (ia5_at self.old) }
+        ensures ascii { IfOk result (λ text. IsTrue (is_ia5 text.now)) }
+    {
+        let (content, behind) = self.element(22)?;
+        match ia5_text(content.rest) {
+            None => Err(self.bad_content()),
+            Some(text) => {
+                *self = behind;
+                Ok(text)
+            }
+        }
+    }
+
+    /// The byte that stands here, which is the tag of the next element; `None` at the end of the
+    /// enclosing one.
+    pub fn peek_tag(&self) -> Option<u8>
+        ensures { result ≡ slice_get self.now.rest 0 }
+    {
+        self.rest.first().copied()
+    }
+
+    /// Whether the enclosing element ends here.
+    pub fn at_end(&self) -> bool
+        ensures { IsTrue result ↔ (self.now.rest ≡ []) }
+    {
+        self.rest.is_empty()
+    }
+
+    /// Where the cursor stands, in bytes from the start of the whole payload.
+    pub fn offset(&self) -> usize
+        ensures { result ≡ self.now.at }
+    {
+        self.at
+    }
+
+    /// Lets go of the cursor at the end of the enclosing element. `Trailing`, at the first byte
+    /// that remains, if bytes do.
+    #[tactic(auto, unfolding(crate::specs::Reading::end_at))]
+    pub fn finish(self) -> Result<(), DerFault>
+        ensures { Ends result (end_at self.entry) }
+    {
+        if !self.rest.is_empty() {
+            return Err(DerFault {
+                kind: DerFaultKind::Trailing,
+                offset: self.at,
+            });
+        }
+        Ok(())
+    }
+}

@@ -1,0 +1,54 @@
+//! What can be wrong with an element.
+
+ghost use Rattle.std.specs.Prelude.{◌≡◌};
+ghost use Rattle.der_lite.specs.Cursors.{kind_number};
+
+/// What is wrong with an element. Each kind has a fixed number.
+#[derive(Clone, Copy, Debug, PartialEq, Eq)]
+pub enum DerFaultKind {
+    /// 1: the tag, the length or the content does not stand before the end of the enclosing element.
+    Truncated,
+    /// 2: an element of another tag stands here (X.690, 8.1.2).
+    WrongTag,
+    /// 3: the length is indefinite, has more than four bytes, or is not in the fewest bytes
+    /// (X.690, 8.1.3 and 10.1).
+    BadLength,
+    /// 4: the content is none of this type.
+    BadContent,
+    /// 5: bytes remain where the enclosing element should end.
+    Trailing,
+}
+
+impl DerFaultKind {
+    /// The number of the kind, 1 to 5.
+    pub fn number(self) -> u8
+        ensures { result ≡ kind_number self }
+    {
+        match self {
+            DerFaultKind::Truncated => 1,
+            DerFaultKind::WrongTag => 2,
+            DerFaultKind::BadLength => 3,
+            DerFaultKind::BadContent => 4,
+            DerFaultKind::Trailing => 5,
+        }
+    }
+}
+
+/// What is wrong with an element, and where the element begins.
+#[derive(Clone, Copy, Debug, PartialEq, Eq)]
+pub struct DerFault {
+    /// What is wrong.
+    pub kind: DerFaultKind,
+    /// The offset of the element's first byte, in bytes from the start of the whole payload. For
+    /// `Trailing` it is that of the first byte that remains.
+    pub offset: usize,
+}
+
+impl DerFault {
+    /// The number of the fault's kind, 1 to 5.
+    pub fn number(&self) -> u8
+        ensures { result ≡ kind_number self.now.kind }
+    {
+        self.kind.number()
+    }
+}

@@ -1,0 +1,20 @@
+//! Elements of the distinguished encoding rules of ASN.1 (ITU-T X.690), read in place and written.
+//!
+//! A [`Cursor`] reads the elements that stand in an enclosing one, in order, and copies nothing.
+//! A [`DerWriter`] writes each element in its one spelling.
+#![tactic(auto)]
+
+mod content;
+mod cursor;
+mod fault;
+mod head;
+pub mod laws;
+mod length;
+#[cfg(test)]
+mod tests;
+mod writer;
+
+pub use content::Bits;
+pub use cursor::Cursor;
+pub use fault::{DerFault, DerFaultKind};
+pub use writer::DerWriter;

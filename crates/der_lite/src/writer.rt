@@ -1,0 +1,153 @@
+//! Elements as bytes.
+
+ghost use Rattle.std.specs.Prelude.{◌≡◌, ◌<◌, ◌+◌, ◌^◌, ◌++◌, ◌∷◌, [], length, take, OnOk, OnErr, IsTrue};
+ghost use Rattle.der_lite.specs.Der.{length_bytes, tlv, is_integer, is_bit_string, is_ia5};
+ghost use Rattle.der_lite.specs.Cursors.{bits_content};
+ghost use Rattle.der_lite.specs.Writing.{Adds};
+
+use crate::Bits;
+use std::alloc::{AllocError, Global};
+use std::marker::Model;
+
+/// Adds the tag and the length of a content, in the fewest bytes. Without memory nothing is added.
+#[tactic(auto, unfolding(crate::specs::Der::length_bytes))]
+fn push_head(out: &mut Vec<u8>, tag: u8, len: usize) -> Result<(), AllocError>
+    requires { len < 2 ^ 32 }
+    ensures added { OnOk result (out.new.items ≡ out.old.items ++ tag ∷ length_bytes len) }
+    ensures kept { OnErr result (out.new.items ≡ out.old.items) }
+{
+    let low = (len % 256) as u8;
+    let second = (len / 256 % 256) as u8;
+    let third = (len / 256 / 256 % 256) as u8;
+    let fourth = (len / 256 / 256 / 256 % 256) as u8;
+    if len < 128 {
+        out.extend_from_slice(&[tag, len as u8])
+    } else if len < 256 {
+        out.extend_from_slice(&[tag, 129, low])
+    } else if len < 65536 {
+        out.extend_from_slice(&[tag, 130, second, low])
+    } else if len < 16777216 {
+        out.extend_from_slice(&[tag, 131, third, second, low])
+    } else {
+        out.extend_from_slice(&[tag, 132, fourth, third, second, low])
+    }
+}
+
+/// Adds an element whose content comes in two parts. Without memory only a beginning of it may be
+/// added.
+fn push_element(out: &mut Vec<u8>, tag: u8, first: &[u8], rest: &[u8]) -> Result<(), AllocError>
+    requires { length first.now + length rest.now < 2 ^ 32 }
+    ensures added { OnOk result (out.new.items ≡ out.old.items ++ tlv tag (first.now ++ rest.now)) }
+    ensures kept { OnErr result (take (length out.old.items) out.new.items ≡ out.old.items) }
+{
+    push_head(out, tag, first.len() + rest.len())?;
+    out.extend_from_slice(first)?;
+    out.extend_from_slice(rest)
+}
+
+/// Writes elements, each behind the one before, in the one spelling that X.690 gives it.
+///
+/// Contents are shorter than 2^32 bytes. A call answers an `AllocError` where memory is wanting, and
+/// then nothing was written.
+#[derive(Debug, Drop)]
+pub struct DerWriter {
+    bytes: Vec<u8>,
+}
+
+impl Model for DerWriter {
+    ghost use Rattle.std.specs.Prelude.{List, ℕ};
+
+    ghost Value = { List ℕ };
+
+    ghost view = { λ w. w.bytes.items };
+}
+
+impl DerWriter {
+    /// A writer that has written nothing.
+    pub fn new(alloc: Global) -> DerWriter
+        ensures { result ≡ [] }
+    {
+        DerWriter {
+            bytes: Vec::new(alloc),
+        }
+    }
+
+    /// Writes an element whose content comes in two parts.
+    fn element(&mut self, tag: u8, first: &[u8], rest: &[u8]) -> Result<(), AllocError>
+        requires { length first.now + length rest.now < 2 ^ 32 }
+        ensures { Adds result tag (first.now ++ rest.now) self.old self.new }
+    {
+        let bytes = &mut self.bytes;
+        let old_len = bytes.len();
+        let added = push_element(bytes, tag, first, rest);
+        if added.is_err() {
+            bytes.truncate(old_len);
+        }
+        added
+    }
+
+    /// Writes a SEQUENCE (tag 48) of members that are written already.
+    pub fn sequence(&mut self, members: &[u8]) -> Result<(), AllocError>
+        requires { length members.now < 2 ^ 32 }
+        ensures { Adds result 48 members.now self.old self.new }
+    {
+        self.element(48, &[], members)
+    }
+
+    /// Writes an INTEGER (tag 2) of this content: two's complement in the fewest bytes.
+    pub fn integer(&mut self, content: &[u8]) -> Result<(), AllocError>
+        requires short { length content.now < 2 ^ 32 }
+        requires fewest { IsTrue (is_integer content.now) }
+        ensures { Adds result 2 content.now self.old self.new }
+    {
+        self.element(2, &[], content)
+    }
+
+    /// Writes a BIT STRING (tag 3), whose unused bits are zero.
+    pub fn bits(&mut self, bits: Bits) -> Result<(), AllocError>
+        requires short { length (bits_content bits) < 2 ^ 32 }
+        requires valid { IsTrue (is_bit_string (bits_content bits)) }
+        ensures { Adds result 3 (bits_content bits.entry) self.old self.new }
+    {
+        self.element(3, &[bits.unused], bits.bytes)
+    }
+
+    /// Writes an OCTET STRING (tag 4).
+    pub fn octets(&mut self, content: &[u8]) -> Result<(), AllocError>
+        requires { length content.now < 2 ^ 32 }
+        ensures { Adds result 4 content.now self.old self.new }
+    {
+        self.element(4, &[], content)
+    }
+
+    /// Writes an OBJECT IDENTIFIER (tag 6) of this content.
+    pub fn oid(&mut self, content: &[u8]) -> Result<(), AllocError>
+        requires { length content.now < 2 ^ 32 }
+        ensures { Adds result 6 content.now self.old self.new }
+    {
+        self.element(6, &[], content)
+    }
+
+    /// Writes an IA5String (tag 22), of ASCII alone.
+    pub fn ia5(&mut self, text: &str) -> Result<(), AllocError>
+        requires short { length text.now < 2 ^ 32 }
+        requires ascii { IsTrue (is_ia5 text.now) }
+        ensures { Adds result 22 text.now self.old self.new }
+    {
+        self.element(22, &[], text.as_bytes())
+    }
+
+    /// What was written.
+    pub fn as_slice(&self) -> &[u8]
+        ensures { result.now ≡ self.now }
+    {
+        &self.bytes
+    }
+
+    /// What was written, as a vector of its own.
+    pub fn into_bytes(self) -> Vec<u8>
+        ensures { result.items ≡ self }
+    {
+        self.bytes
+    }
+}
