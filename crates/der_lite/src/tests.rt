@@ -169,3 +169,100 @@ fn writes_each_element(rt: HostRuntime) -> Result<(), Fail> {
     );
     Ok(())
 }
+
+/// How many bytes of address the elements hold that are nested as in a ROA with one prefix: an AS
+/// number, and a family with one address.
+fn walk(payload: &[u8]) -> Result<usize, DerFault> {
+    let mut whole = Cursor::new(payload);
+    let mut attestation = whole.sequence()?;
+    attestation.integer()?;
+    let mut blocks = attestation.sequence()?;
+    let mut family = blocks.sequence()?;
+    family.octets()?;
+    let mut addresses = family.sequence()?;
+    let mut entry = addresses.sequence()?;
+    let address = entry.bits()?;
+    entry.finish()?;
+    addresses.finish()?;
+    family.finish()?;
+    blocks.finish()?;
+    attestation.finish()?;
+    whole.finish()?;
+    Ok(address.bytes.len())
+}
+
+const ATTESTATION: &[u8; 25] =
+    b"\x30\x17\x02\x03\x00\xfb\xf0\x30\x10\x30\x0e\x04\x02\x00\x01\x30\x08\x30\x06\x03\x04\x00\xc0\x00\x02";
+
+/// The number and the offset of the fault of nested elements.
+fn walk_fault(payload: &[u8]) -> Option<(u8, usize)> {
+    match walk(payload) {
+        Ok(_) => None,
+        Err(fault) => Some((fault.number(), fault.offset)),
+    }
+}
+
+#[test]
+fn walks_nested_elements(rt: HostRuntime) {
+    assert_eq!(rt; walk(ATTESTATION).ok(), Some(3));
+    let of_no_bits =
+        b"\x30\x14\x02\x03\x00\xfb\xf0\x30\x0d\x30\x0b\x04\x02\x00\x01\x30\x05\x30\x03\x03\x01\x00".as_slice();
+    assert_eq!(rt; walk(of_no_bits).ok(), Some(0));
+    for (payload, number, offset) in [
+        (b"".as_slice(), 1u8, 0usize),
+        (b"\x30".as_slice(), 1, 0),
+        (b"\x30\x80".as_slice(), 3, 0),
+        (b"\x30\x04\x02\x02\x00\x01".as_slice(), 4, 2),
+        (b"\x30\x05\x02\x03\x00\xfb\xf0".as_slice(), 1, 7),
+        (b"\x30\x84\xff\xff\xff\xff".as_slice(), 1, 0),
+        (b"\x30\x85\x00\x00\x00\x00\x01".as_slice(), 3, 0),
+        (b"\x1f\x00".as_slice(), 2, 0),
+        (b"\xa0\x00".as_slice(), 2, 0),
+        (b"\x30\x01\xa0".as_slice(), 1, 2),
+    ] {
+        assert_eq!(rt;
+            walk_fault(payload),
+            Some((number, offset)),
+            "at {payload:?}"
+        );
+    }
+}
+
+#[test]
+fn walks_no_beginning_and_nothing_more(rt: HostRuntime) -> Result<(), Fail> {
+    let alloc = rt.alloc();
+    let whole = ATTESTATION.as_slice();
+    for cut in 0..25usize {
+        assert_eq!(rt; walk_fault(&whole[..cut]), Some((1, 0)), "{cut} bytes");
+    }
+    let mut more = Vec::new(alloc);
+    more.extend_from_slice(whole)?;
+    more.push(0u8)?;
+    assert_eq!(rt; walk_fault(more.as_slice()), Some((5, 25)));
+    let mut long = Vec::new(alloc);
+    long.extend_from_slice(b"\x30\x81".as_slice())?;
+    long.extend_from_slice(&whole[1..])?;
+    assert_eq!(rt; walk_fault(long.as_slice()), Some((3, 0)));
+    Ok(())
+}
+
+#[test]
+fn tells_faults_inside_the_payload(rt: HostRuntime) {
+    for index in 0..25usize {
+        for byte in 0..=255u8 {
+            let mut payload = *ATTESTATION;
+            payload[index] = byte;
+            let inside = match walk(&payload) {
+                Ok(_) => true,
+                Err(fault) => fault.number() < 6 && fault.offset <= 25,
+            };
+            assert!(rt; inside, "{byte} at {index}");
+        }
+    }
+    let mut longer = *ATTESTATION;
+    longer[16] = 9;
+    assert_eq!(rt; walk_fault(&longer), Some((1, 15)));
+    let mut past = *ATTESTATION;
+    past[18] = 5;
+    assert_eq!(rt; walk_fault(&past), Some((1, 19)));
+}

@@ -1,7 +1,7 @@
 //! Elements as bytes.
 
-ghost use Rattle.std.specs.Prelude.{◌≡◌, ◌<◌, ◌+◌, ◌^◌, ◌++◌, ◌∷◌, [], length, take, OnOk, OnErr, IsTrue};
-ghost use Rattle.der_lite.specs.Der.{length_bytes, tlv, is_integer, is_bit_string, is_ia5};
+ghost use Rattle.std.specs.Prelude.{◌≡◌, ◌<◌, ◌+◌, ◌^◌, ◌++◌, ◌∷◌, [], length, take, OnOk, OnErr};
+ghost use Rattle.der_lite.specs.Der.{length_bytes, tlv};
 ghost use Rattle.der_lite.specs.Cursors.{bits_content};
 ghost use Rattle.der_lite.specs.Writing.{Adds};
 
@@ -47,8 +47,9 @@ fn push_element(out: &mut Vec<u8>, tag: u8, first: &[u8], rest: &[u8]) -> Result
 
 /// Writes elements, each behind the one before, in the one spelling that X.690 gives it.
 ///
-/// Contents are shorter than 2^32 bytes. A call answers an `AllocError` where memory is wanting, and
-/// then nothing was written.
+/// Contents are shorter than 2^32 bytes. They are written as they are: one that is none of the
+/// element's type gives bytes that no read of a `Cursor` takes. A call answers an `AllocError` where
+/// memory is wanting, and then nothing was written.
 #[derive(Debug, Drop)]
 pub struct DerWriter {
     bytes: Vec<u8>,
@@ -96,8 +97,7 @@ impl DerWriter {
 
     /// Writes an INTEGER (tag 2) of this content: two's complement in the fewest bytes.
     pub fn integer(&mut self, content: &[u8]) -> Result<(), AllocError>
-        requires short { length content.now < 2 ^ 32 }
-        requires fewest { IsTrue (is_integer content.now) }
+        requires { length content.now < 2 ^ 32 }
         ensures { Adds result 2 content.now self.old self.new }
     {
         self.element(2, &[], content)
@@ -105,8 +105,7 @@ impl DerWriter {
 
     /// Writes a BIT STRING (tag 3), whose unused bits are zero.
     pub fn bits(&mut self, bits: Bits) -> Result<(), AllocError>
-        requires short { length (bits_content bits) < 2 ^ 32 }
-        requires valid { IsTrue (is_bit_string (bits_content bits)) }
+        requires { length (bits_content bits) < 2 ^ 32 }
         ensures { Adds result 3 (bits_content bits.entry) self.old self.new }
     {
         self.element(3, &[bits.unused], bits.bytes)
@@ -130,8 +129,7 @@ impl DerWriter {
 
     /// Writes an IA5String (tag 22), of ASCII alone.
     pub fn ia5(&mut self, text: &str) -> Result<(), AllocError>
-        requires short { length text.now < 2 ^ 32 }
-        requires ascii { IsTrue (is_ia5 text.now) }
+        requires { length text.now < 2 ^ 32 }
         ensures { Adds result 22 text.now self.old self.new }
     {
         self.element(22, &[], text.as_bytes())
