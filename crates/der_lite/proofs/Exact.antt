@@ -266,7 +266,7 @@ module _ {A : Type 0} (e : Element A) (read : Read A) (x : ExactElement e read) 
   }
 
 -- what is done with a value alone adds no fault
-mapped_err : {A B : Type 0} (r : Result A Fault) (h : A → B) (f : Fault) → (r >>= λ a. Ok (h a)) ≡ Err f → r ≡ Err f
+pub mapped_err : {A B : Type 0} (r : Result A Fault) (h : A → B) (f : Fault) → (r >>= λ a. Ok (h a)) ≡ Err f → r ≡ Err f
 mapped_err (Ok a) h f e = absurd cc
 mapped_err {A} {B} (Err g) h f e = ap (λ (k : Fault). err {A = A} k) (err_is {A = B} g f e)
 

@@ -7,3 +7,7 @@ pub mod GrammarLaws
 pub mod Once
 pub mod Texts
 pub mod Plain
+pub mod BitStrings
+pub mod Integers
+pub mod Fields
+pub mod Loops

@@ -6,3 +6,5 @@ pub mod Decoding
 pub mod Cursors
 pub mod Laws
 pub mod Writing
+pub mod Values
+pub mod Fields

@@ -1,7 +1,10 @@
 //! The contents of primitive elements.
 
-ghost use Rattle.std.specs.Prelude.{◌≡◌, Some, None, if◌then◌else◌, option_map};
-ghost use Rattle.der_lite.specs.Der.{is_integer as is_integer_of, is_bit_string as is_bit_string_of, is_ia5};
+ghost use Rattle.std.specs.Prelude.{◌≡◌, ◌||◌, IsTrue, Some, None, if◌then◌else◌, nat_lt, option_map};
+ghost use Rattle.der_lite.specs.Der.{is_integer as is_integer_of, is_bit_string as is_bit_string_of, is_ia5, number as number_of};
+ghost use Rattle.der_lite.specs.Values.{is_negative};
+
+use crate::length::number;
 
 /// A bit string: bytes, of which the lowest bits of the last one are not used (X.690, 8.6).
 #[derive(Clone, Copy, Debug)]
@@ -45,5 +48,24 @@ pub(crate) fn ia5_text(content: &[u8]) -> Option<&str>
     match str::from_utf8(content) {
         Ok(text) => Some(text),
         Err(_) => None,
+    }
+}
+
+/// The number of an INTEGER's content, if it is not negative and below 2^32 (X.690, 8.3.3).
+pub fn unsigned(content: &[u8]) -> Option<u32>
+    requires { IsTrue (is_integer_of content.now) }
+    ensures { result ≡ (if is_negative content.now || nat_lt 4294967295 (number_of content.now) then None else Some (number_of content.now)) }
+{
+    let [first, digits @ ..] = content else {
+        return None;
+    };
+    if *first >= 128 {
+        None
+    } else if content.len() <= 4 {
+        Some(number(content))
+    } else if *first == 0 && digits.len() == 4 {
+        Some(number(digits))
+    } else {
+        None
     }
 }

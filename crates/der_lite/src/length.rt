@@ -16,7 +16,7 @@ pub(crate) fn announced(first: u8) -> usize
 }
 
 /// The number that at most four bytes spell, the highest first.
-fn number(bytes: &[u8]) -> u32
+pub(crate) fn number(bytes: &[u8]) -> u32
     requires { length bytes.now ≤ 4 }
     ensures { result ≡ number_of bytes.now }
 {

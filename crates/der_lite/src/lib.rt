@@ -14,7 +14,7 @@ mod length;
 mod tests;
 mod writer;
 
-pub use content::Bits;
+pub use content::{Bits, unsigned};
 pub use cursor::Cursor;
 pub use fault::{DerFault, DerFaultKind};
 pub use writer::DerWriter;

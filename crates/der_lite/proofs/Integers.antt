@@ -1,0 +1,130 @@
+-- Integers that are not negative: a content has one number, and a number one content.
+use Rattle.std.proofs.Common.{◌≡◌, ◌≢◌, ℕ, zero, suc, ◌+◌, ◌*◌, ◌/◌, ◌^◌, ◌<◌, ◌≤◌, Bool, true, false, not, ◌&&◌, ◌||◌, cond, eqb, ltb, leb, List, [], ◌∷◌, length, get_or, ℤ, pos, Option, Some, None, refl, sym, ap, subst, ◌∙◌, inl, inr, arith}
+use Rattle.std.proofs.lemmas.Bool.{or_parts, or_right, leb-false, ltb-true, ltb-false, lt-ltb, cases_lt, cond-true}
+use Rattle.std.proofs.lemmas.Bool.Decides.{nat_tests}
+use Rattle.std.proofs.lemmas.Nat.{div-mul-add}
+use Rattle.std.proofs.Math.Nat.{pow-suc, pow-le-pow_right, mul-le-mul_right}
+use Rattle.der_lite.specs.Place.{first_of}
+use Rattle.der_lite.specs.Der.{IsBytes, number, twos_complement, is_integer, IntSpells}
+use Rattle.der_lite.specs.Grammar.{Keeps, primitive}
+use Rattle.der_lite.specs.Decoding.{read_primitive}
+use Rattle.der_lite.specs.Values.{is_negative, between_rules, integer_between}
+use Rattle.der_lite.proofs.Exact.{ExactContent, exact_primitive}
+use Rattle.der_lite.proofs.Once.{Once, once_primitive}
+
+-- two rules are kept
+pub kept_2 : (m n : ℕ) (a b : Bool) → first_of ((m, not a) ∷ (n, b) ∷ []) ≡ None → (a ≡ true) × (b ≡ false)
+kept_2 m n true true h = absurd cc
+kept_2 m n true false h = (refl, refl)
+kept_2 m n false b h = absurd cc
+
+-- an integer that is not negative
+pub value_is : (content : List ℕ) → is_negative content ≡ false → twos_complement content ≡ pos (number content)
+value_is content h = rw (lt-ltb (get_or content 0 0) 128 (leb-false 128 (get_or content 0 0) h)) refl
+
+pub pos_is : (m n : ℕ) → pos m ≡ pos n → m ≡ n
+pos_is m n e = cc
+
+module _ (least most fault : ℕ) where
+  pub between_kept : (content : List ℕ) → Keeps (between_rules least most fault content) → (is_integer content ≡ true) × (is_negative content ≡ false) × (least ≤ number content) × (number content ≤ most)
+  between_kept content h =
+      let k = kept_2 4 fault (is_integer content) (is_negative content || ltb (number content) least || ltb most (number content)) h in
+      let o = or_parts (is_negative content || ltb (number content) least) (ltb most (number content)) k.1 in
+      let n = or_parts (is_negative content) (ltb (number content) least) o.0 in
+      (k.0, n.0, ltb-false (number content) least n.1, ltb-false most (number content) o.1)
+
+  pub exact_between : ExactContent (integer_between least most fault) (read_primitive (between_rules least most fault) number)
+  exact_between = exact_primitive (λ n content. IntSpells (pos n) content) (between_rules least most fault) number
+      (λ content bytes kept. let k = between_kept content kept in record { value = value_is content k.1; fewest = k.0 })
+      (λ content n kept s. let k = between_kept content kept in pos_is (number content) n (sym (value_is content k.1) ∙ s.value))
+
+-- ---- a number has one content
+
+number_bound : (xs : List ℕ) → IsBytes xs → number xs < 256 ^ length xs
+number_bound [] h = omega arith
+number_bound (x ∷ xs) h =
+    let most : x * 256 ^ length xs ≤ 255 * 256 ^ length xs = mul-le-mul_right (256 ^ length xs) (omega (arith, h zero)) in
+    omega (arith, most, number_bound xs (λ i. h (suc i)), pow-suc 256 (length xs))
+
+digits_one : (xs ys : List ℕ) → length xs ≡ length ys → IsBytes xs → IsBytes ys → number xs ≡ number ys → xs ≡ ys
+digits_one [] [] l hx hy e = refl
+digits_one [] (y ∷ ys) l hx hy e = absurd (omega (arith, l))
+digits_one (x ∷ xs) [] l hx hy e = absurd (omega (arith, l))
+digits_one (x ∷ xs) (y ∷ ys) l hx hy e =
+    let tails : length xs ≡ length ys = omega (arith, l) in
+    let w = 256 ^ length xs in
+    let by : number ys < w = subst (λ (n : ℕ). number ys < 256 ^ n) (sym tails) (number_bound ys (λ i. hy (suc i))) in
+    let e2 : x * w + number xs ≡ y * w + number ys = e ∙ ap (λ (n : ℕ). y * 256 ^ n + number ys) (sym tails) in
+    let same : x ≡ y = sym (div-mul-add x w (number xs) (number_bound xs (λ i. hx (suc i)))) ∙ ap (λ (n : ℕ). n / w) e2 ∙ div-mul-add y w (number ys) by in
+    let rest : number xs ≡ number ys = let p : x * w ≡ y * w = ap (λ (n : ℕ). n * w) same in omega (arith, e2, p) in
+    ap (λ (n : ℕ). n ∷ xs) same ∙ ap (λ (t : List ℕ). y ∷ t) (digits_one xs ys tails (λ i. hx (suc i)) (λ i. hy (suc i)) rest)
+
+small : (x : ℕ) (xs : List ℕ) → x < 128 → IsBytes xs → number (x ∷ xs) < 128 * 256 ^ length xs
+small x xs h b =
+    let most : x * 256 ^ length xs ≤ 127 * 256 ^ length xs = mul-le-mul_right (256 ^ length xs) (omega (arith, h)) in
+    omega (arith, most, number_bound xs b)
+
+not_both : (p q r : Bool) → (not (p && q) && r) ≡ true → p ≡ true → q ≡ false
+not_both true true r h e = absurd cc
+not_both true false r h e = refl
+not_both false q r h e = absurd cc
+
+large : (f s : ℕ) (more : List ℕ) → is_integer (f ∷ s ∷ more) ≡ true → 128 * 256 ^ length more ≤ number (f ∷ s ∷ more)
+large zero s more h =
+    let high : 128 ≤ s = ltb-false s 128 (not_both (eqb 0 0) (ltb s 128) (not (eqb 0 255 && leb 128 s)) h refl) in
+    let least : 128 * 256 ^ length more ≤ s * 256 ^ length more = mul-le-mul_right (256 ^ length more) high in
+    omega (arith, least)
+large (suc f) s more h =
+    let least : 1 * 256 ^ suc (length more) ≤ suc f * 256 ^ suc (length more) = mul-le-mul_right (256 ^ suc (length more)) (omega arith) in
+    omega (arith, least, pow-suc 256 (length more))
+
+not_longer : (a b : List ℕ) → IsBytes a → is_integer a ≡ true → is_negative a ≡ false → is_integer b ≡ true → number a ≡ number b → length a < length b → ⊥
+not_longer [] b ba ia na ib e l = absurd cc
+not_longer (x ∷ xs) [] ba ia na ib e l = omega (arith, l)
+not_longer (x ∷ xs) (f ∷ []) ba ia na ib e l = omega (arith, l)
+not_longer (x ∷ xs) (f ∷ s ∷ more) ba ia na ib e l =
+    let up : 256 ^ length xs ≤ 256 ^ length more = pow-le-pow_right (omega arith) (omega (arith, l)) in
+    omega (arith, up, small x xs (leb-false 128 x na) (λ i. ba (suc i)), large f s more ib, e)
+
+pub once_between : (least most fault : ℕ) → Once (integer_between least most fault).Spells
+once_between least most fault = once_primitive (λ n content. IntSpells (pos n) content) (between_rules least most fault) (λ n a b ba bb ka kb s t.
+    let p = between_kept least most fault a ka in
+    let q = between_kept least most fault b kb in
+    let e : number a ≡ number b = pos_is (number a) (number b) (sym (value_is a p.1) ∙ s.value ∙ sym t.value ∙ value_is b q.1) in
+    let same : length a ≡ length b =
+      elim (cases_lt (length a) (length b)) [
+        | inl less ↦ absurd (not_longer a b ba p.0 p.1 q.0 e less)
+        | inr other ↦ elim (cases_lt (length b) (length a)) [
+          | inl less ↦ absurd (not_longer b a bb q.0 q.1 p.0 (sym e) less)
+          | inr equal ↦ omega (arith, other, equal) ] ] in
+    digits_one a b same ba bb e)
+
+-- a longer number
+wide : (digits : List ℕ) → 4 ≤ length digits → 4294967296 ≤ 256 ^ length digits
+wide digits h = pow-le-pow_right {n = 256} (omega arith) h
+
+second_is_high : (d n : ℕ) → (not (true && ltb d 128) && true) ≡ true → 128 ≤ d
+second_is_high d n h = grind (arith, nat_tests)
+
+pub is_large : (first : ℕ) (digits : List ℕ) → is_integer (first ∷ digits) ≡ true → 4 ≤ length digits → (first ≡ 0 → length digits ≢ 4) → 4294967295 < number (first ∷ digits)
+is_large zero [] f h n = absurd (omega arith)
+is_large zero (d ∷ more) f h n =
+    let long : 4 ≤ length more = omega (arith, n refl) in
+    let big = wide more long in
+    let high : 128 ≤ d = second_is_high d (length more) f in
+    omega (arith, big, mul-le-mul_right (256 ^ length more) high)
+is_large (suc k) digits f h n =
+    let big = wide digits h in
+    let one : 1 ≤ suc k = omega arith in
+    omega (arith, big, mul-le-mul_right (256 ^ length digits) one)
+
+abbrev nothing : Option ℕ
+nothing = None
+
+pub too_large : (content : List ℕ) → is_integer content ≡ true → 4 < length content → (get_or content 0 0 ≡ 0 → length content ≢ 5)
+    → cond (is_negative content || ltb 4294967295 (number content)) None (Some (number content)) ≡ nothing
+too_large [] f h n = absurd (omega arith)
+too_large (first ∷ digits) f h n =
+    let large = is_large first digits f (omega arith) (λ z l. absurd (n z (omega arith))) in
+    cond-true (is_negative (first ∷ digits) || ltb 4294967295 (number (first ∷ digits))) None (Some (number (first ∷ digits)))
+        (or_right (is_negative (first ∷ digits)) (ltb 4294967295 (number (first ∷ digits))) (lt-ltb 4294967295 (number (first ∷ digits)) large))

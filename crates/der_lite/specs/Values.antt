@@ -1,0 +1,25 @@
+-- What primitive contents mean: numbers in a range, and bits.
+use Rattle.std.specs.Prelude.{ℕ, ◌+◌, ◌-◌, ◌^◌, ◌||◌, Bool, not, nat_lt, nat_le, if◌then◌else◌, List, [], ◌∷◌, length, take, drop, slice_index, pos}
+use Rattle.der_lite.specs.Der.{number, is_integer, IntSpells, bits_of, bit_count}
+use Rattle.der_lite.specs.Grammar.{Content, primitive}
+
+-- 8.3.3: the highest bit of an integer's content is its sign
+abbrev pub is_negative : List ℕ → Bool
+is_negative content = nat_le 128 (slice_index content 0)
+
+-- an integer from least to most; any other breaks the second rule
+abbrev pub between_rules : ℕ → ℕ → ℕ → List ℕ → List (ℕ × Bool)
+between_rules least most fault content = (4, not (is_integer content)) ∷ (fault, is_negative content || nat_lt (number content) least || nat_lt most (number content)) ∷ []
+
+-- INTEGER (least..most)
+abbrev pub integer_between : ℕ → ℕ → ℕ → Content ℕ
+integer_between least most fault = primitive (λ n content. IntSpells (pos n) content) (between_rules least most fault)
+
+-- the bits of a bit string's content
+abbrev pub bits_value : List ℕ → List Bool
+bits_value content = take (bit_count content) (bits_of (drop 1 content))
+
+-- bits as a number of so many bits, where those that are missing are zeros
+abbrev pub bits_number : List Bool → ℕ → ℕ
+bits_number [] width = 0
+bits_number (bit ∷ bits) width = (if bit then 2 ^ (width - 1) else 0) + bits_number bits (width - 1)

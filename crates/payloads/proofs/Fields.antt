@@ -1,0 +1,143 @@
+-- The fields of a ROA are read exactly.
+use Rattle.std.proofs.Common.{◌≡◌, ℕ, zero, suc, pos, None, ◌≤◌, Bool, true, false, not, ◌&&◌, ◌||◌, cond, eqb, ltb, List, [], ◌∷◌, ◌++◌, length, get_or, Option, Result, Ok, Err, refl, sym, ap, subst, ◌∙◌, arith}
+use Rattle.std.proofs.lemmas.Bool.{and_parts, or_parts, eqb-true, ne_eqb}
+use Rattle.der_lite.specs.Place.{Place, Fault, first_of}
+use Rattle.der_lite.specs.Der.{number, is_integer, IntSpells, is_bit_string, bit_count, head_rules, is_truncated, has_length, tag_of}
+use Rattle.der_lite.specs.Grammar.{element, primitive}
+use Rattle.der_lite.specs.Reading.{◌>>=◌, judged, element_at, content_at, integer_at, content_place, next_place}
+use Rattle.der_lite.specs.Decoding.{Read, read_element, read_primitive}
+use Rattle.der_lite.specs.Values.{integer_between, between_rules, bits_value}
+use Rattle.der_lite.specs.Fields.{field_at}
+use Rattle.der_lite.proofs.Rules.{judged-bind}
+use Rattle.der_lite.proofs.Elements.{head_kept}
+use Rattle.der_lite.proofs.Exact.{ExactElement, ExactContent, IsHead, exact_element, exact_primitive}
+use Rattle.der_lite.proofs.Plain.{exact_along}
+use Rattle.der_lite.proofs.Fields.{judged-append, exact_field}
+use Rattle.der_lite.proofs.Integers.{kept_2, exact_between}
+use Rattle.der_lite.proofs.BitStrings.{taken, bits_spelled}
+use Rattle.prefixes.specs.Payload.{block_of, width_of}
+use Rattle.prefixes.specs.declared.prefix.IpPrefix.{IpPrefix}
+use Rattle.payloads.specs.declared.family.AddressFamily.{AddressFamily}
+use Rattle.payloads.specs.declared.family.AddressFamily.TheVariants.{Ipv4, Ipv6}
+use Rattle.payloads.specs.Roa.{first_head, as_id, family_number, number_before, is_family, family_rules, FamilySpells, address_family, family_width, of_bits, PrefixSpells, address_rules, address, max_length}
+use Rattle.payloads.specs.RoaReading.{version_fault, with_version, range_rules, as_id_at, family_in, address_family_at, prefix_in, address_at, max_length_at}
+
+-- ---- the place of the version
+
+-- what is kept behind two rules that are kept
+head_usual : (a b : Bool) (rules : List (ℕ × Bool)) → first_of ((1, a) ∷ (6, b) ∷ rules) ≡ None → first_of rules ≡ None
+head_usual true b rules h = absurd cc
+head_usual false true rules h = absurd cc
+head_usual false false rules h = h
+
+-- two more rules that are kept
+head_keeps : (a b : Bool) (rules : List (ℕ × Bool)) → a ≡ false → b ≡ false → first_of rules ≡ None → first_of ((1, a) ∷ (6, b) ∷ rules) ≡ None
+head_keeps a b rules ha hb h = rw (ha, hb) h
+
+-- an INTEGER has no tag of a version
+version_head : IsHead 2 first_head
+version_head = record {
+  usual = λ bytes h. head_usual (is_truncated bytes) (eqb (tag_of bytes) 160) (head_rules 2 bytes) h;
+  keeps = λ bytes h.
+      let k = head_kept 2 bytes h in
+      head_keeps (is_truncated bytes) (eqb (tag_of bytes) 160) (head_rules 2 bytes) k.whole (ne_eqb (tag_of bytes) 160 (λ n. absurd (omega (arith, k.tag_is)))) h;
+}
+
+-- where there is no version the read is as it was
+with_no_version : {V : Type 0} (r : Result V Fault) → with_version false r ≡ r
+with_no_version (Ok x) = refl
+with_no_version (Err f) = refl
+
+-- the rules of this head are the usual ones, and then a version for a wrong tag
+heads : {A V : Type 0} (a b c d : Bool) (at : ℕ) (i : Result A Fault) (h : A → Result V Fault) → (b ≡ true → c ≡ false)
+    → judged ((1, a) ∷ (6, b) ∷ (1, a) ∷ (2, not c) ∷ (3, not d) ∷ []) at (i >>= h) ≡ (with_version b (judged ((1, a) ∷ (2, not c) ∷ (3, not d) ∷ []) at i) >>= h)
+heads true true c d at i h n = refl
+heads true false c d at i h n = refl
+heads false true true d at i h n = absurd (let k = n refl in cc)
+heads false true false d at i h n = refl
+heads false false false d at i h n = refl
+heads false false true false at i h n = refl
+heads false false true true at i h n = ap (λ r. r >>= h) (sym (with_no_version i))
+
+-- the AS is read with this head
+as_id_is : (p : Place) → read_element first_head (read_primitive (between_rules 0 4294967295 7) number) p ≡ as_id_at p
+unfolding as_id_at content_at element_at head_rules
+as_id_is p =
+    let c = (content_place p).rest in
+    let own : List ℕ → List (ℕ × Bool) = λ k. (4, not (is_integer k)) ∷ [] in
+    let range = range_rules 0 4294967295 7 in
+    let then_next : ℕ → Result (ℕ × Place) Fault = λ v. Ok (v, next_place p) in
+    let own_then : Place × Place → Result (List ℕ × Place) Fault = λ x. judged (own x.0.rest) p.at (Ok (x.0.rest, x.1)) in
+    let rules_then : List ℕ × Place → Result (ℕ × Place) Fault = λ x. judged (range x.0) p.at (Ok (number x.0, x.1)) in
+    let read : Result (List ℕ × Place) Fault = judged (own c) p.at (Ok (c, next_place p)) in
+    let inner : (judged (own c ++ range c) p.at (Ok (number c)) >>= then_next) ≡ (read >>= rules_then) =
+    ap (λ (r : Result ℕ Fault). r >>= then_next) (judged-append (own c) (range c) p.at (Ok (number c)))
+    ∙ judged-bind (own c) p.at (judged (range c) p.at (Ok (number c))) then_next ∙ ap (judged (own c) p.at) (judged-bind (range c) p.at (Ok (number c)) then_next)
+    ∙ sym (judged-bind (own c) p.at (Ok (c, next_place p)) rules_then) in
+    ap (judged (first_head p.rest) p.at) inner
+    ∙ heads (is_truncated p.rest) (eqb (tag_of p.rest) 160) (eqb (tag_of p.rest) 2) (has_length p.rest) p.at read rules_then (λ n. ne_eqb (tag_of p.rest) 2 (λ m. absurd (omega (arith, eqb-true (tag_of p.rest) 160 n))))
+    ∙ ap (λ (r : Result (List ℕ × Place) Fault). with_version (eqb (tag_of p.rest) 160) r >>= rules_then) (sym (judged-bind (head_rules 2 p.rest) p.at (Ok (content_place p, next_place p)) own_then))
+
+pub exact_as_id : ExactElement as_id as_id_at
+unfolding as_id
+exact_as_id =
+    exact_along (element 2 first_head (integer_between 0 4294967295 7)) (read_element first_head (read_primitive (between_rules 0 4294967295 7) number)) as_id_at as_id_is
+    (exact_element 2 first_head (integer_between 0 4294967295 7) (read_primitive (between_rules 0 4294967295 7) number) version_head (exact_between 0 4294967295 7))
+
+-- ---- the family
+
+-- a list of two
+two_cells : (content : List ℕ) → length content ≡ 2 → content ≡ get_or content 0 0 ∷ get_or content 1 0 ∷ []
+two_cells [] h = absurd cc
+two_cells (a ∷ []) h = absurd (omega arith)
+two_cells (a ∷ b ∷ []) h = refl
+two_cells (a ∷ b ∷ c ∷ more) h = absurd (omega arith)
+
+-- the first of two rules is kept
+kept_or : (m n : ℕ) (a b c : Bool) → first_of ((m, not a || b) ∷ (n, c) ∷ []) ≡ None → (a ≡ true) × (b ≡ false) × (c ≡ false)
+kept_or m n true true c h = absurd cc
+kept_or m n true false true h = absurd cc
+kept_or m n true false false h = (refl, refl, refl)
+kept_or m n false b c h = absurd cc
+
+-- the number of a family that is 1 or 2
+number_by : (n : ℕ) (is_one : Bool) → eqb n 1 ≡ is_one → (is_one || eqb n 2) ≡ true → family_number (cond is_one Ipv4 Ipv6) ≡ n
+number_by n true e h = sym (eqb-true n 1 e)
+number_by n false e h = sym (eqb-true n 2 h)
+
+-- a content that is a family's
+family_is : (content : List ℕ) → is_family content ≡ true → FamilySpells (family_in content) content
+family_is content h =
+    let a = and_parts (eqb (length content) 2 && eqb (get_or content 0 0) 0) (eqb (get_or content 1 0) 1 || eqb (get_or content 1 0) 2) h in
+    let b = and_parts (eqb (length content) 2) (eqb (get_or content 0 0) 0) a.0 in
+    two_cells content (eqb-true (length content) 2 b.0) ∙ ap (λ (n : ℕ). n ∷ get_or content 1 0 ∷ []) (eqb-true (get_or content 0 0) 0 b.1)
+    ∙ ap (λ (n : ℕ). 0 ∷ n ∷ []) (sym (number_by (get_or content 1 0) (eqb (get_or content 1 0) 1) refl a.1))
+
+-- the family of the number
+family_again : (family : AddressFamily) → family_in (0 ∷ family_number family ∷ []) ≡ family
+family_again Ipv4 = refl
+family_again Ipv6 = refl
+
+pub exact_address_family : (before : Option AddressFamily) → ExactElement (address_family before) (address_family_at before)
+unfolding address_family address_family_at
+exact_address_family before =
+    exact_field 4 (λ content. []) (family_rules before) family_in FamilySpells
+    (exact_primitive FamilySpells (family_rules before) family_in
+      (λ content bytes kept. family_is content (kept_or 8 12 (is_family content) (eqb (get_or content 1 0) (number_before before)) (ltb (get_or content 1 0) (number_before before)) kept).0)
+      (λ content family kept s. ap family_in s ∙ family_again family))
+
+-- ---- the prefix and its maximum
+
+pub exact_address : (family : AddressFamily) → ExactElement (address family) (address_at family)
+unfolding address address_at
+exact_address family =
+    exact_field 3 (λ content. (4, not (is_bit_string content)) ∷ []) (λ content. (10, ltb (family_width family) (bit_count content)) ∷ []) (prefix_in family) (PrefixSpells family)
+    (exact_primitive (PrefixSpells family) (address_rules family) (prefix_in family)
+      (λ content bytes kept. record { bits = bits_value content; spelled = bits_spelled content (kept_2 4 10 (is_bit_string content) (ltb (family_width family) (bit_count content)) kept).0; is = refl })
+      (λ content prefix kept s. ap (of_bits family) (ap bits_value s.spelled.counted ∙ taken s.spelled.unused s.spelled.body s.bits s.spelled.padded) ∙ sym s.is))
+
+pub exact_max_length : (prefix : IpPrefix) → ExactElement (max_length prefix) (max_length_at prefix)
+unfolding max_length max_length_at
+exact_max_length prefix =
+    exact_field 2 (λ content. (4, not (is_integer content)) ∷ []) (range_rules (block_of prefix).len (width_of prefix) 11) number (λ n content. IntSpells (pos n) content)
+    (exact_between (block_of prefix).len (width_of prefix) 11)

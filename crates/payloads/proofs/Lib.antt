@@ -1,0 +1,5 @@
+pub mod Fields
+pub mod Roas
+pub mod RoaOnce
+pub mod Flats
+pub mod RoaLaws

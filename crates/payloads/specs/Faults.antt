@@ -1,0 +1,23 @@
+-- Faults by their numbers.
+use Rattle.std.specs.Prelude.{ℕ}
+use Rattle.der_lite.specs.Place.{Fault}
+use Rattle.der_lite.specs.Cursors.{kind_number as element_number}
+use Rattle.payloads.specs.declared.fault.GrammarFaultKind.{GrammarFaultKind}
+use Rattle.payloads.specs.declared.fault.GrammarFaultKind.TheVariants.{Element, VersionPresent, AsnRange, Family, Empty, PrefixTooLong, MaxLength, Order, TooMany}
+use Rattle.payloads.specs.declared.fault.GrammarFault.{GrammarFault}
+
+-- the number of each kind of fault
+abbrev pub kind_number : GrammarFaultKind → ℕ
+kind_number (Element kind) = element_number kind
+kind_number VersionPresent = 6
+kind_number AsnRange = 7
+kind_number Family = 8
+kind_number Empty = 9
+kind_number PrefixTooLong = 10
+kind_number MaxLength = 11
+kind_number Order = 12
+kind_number TooMany = 19
+
+-- a fault by its number
+abbrev pub fault_of : GrammarFault → Fault
+fault_of fault = record { number = kind_number fault.kind; offset = fault.offset }

@@ -1,0 +1,42 @@
+-- What the functions that read give.
+use Rattle.std.specs.Prelude.{◌≡◌, ℕ, ◌+◌, List, ◌++◌, length, take, Result, Ok, Err}
+use Rattle.der_lite.specs.Place.{Place, Fault}
+use Rattle.payloads.specs.declared.entry.RoaEntry.{RoaEntry}
+use Rattle.payloads.specs.declared.fault.GrammarFault.{GrammarFault}
+use Rattle.payloads.specs.declared.fault.PayloadFault.{PayloadFault}
+use Rattle.payloads.specs.declared.fault.PayloadFault.TheVariants.{At, Memory}
+use Rattle.payloads.specs.Faults.{kind_number, fault_of}
+use Rattle.payloads.specs.RoaValues.{RoaValue, RoaSpells, RoaFaultAt}
+
+-- What was read and where the cursor stands now, or the first fault.
+abbrev pub GivesNext : {X V : Type 0} → (X → V) → Result X GrammarFault → Place → Result (V × Place) Fault → Type 0
+GivesNext view (Ok x) new read = read ≡ Ok (view x, new)
+GivesNext view (Err e) new read = read ≡ Err (fault_of e)
+
+-- What was read to the end, or the first fault.
+abbrev pub GivesAll : {X V : Type 0} → (X → V) → Result X GrammarFault → Result V Fault → Type 0
+GivesAll view (Ok x) read = read ≡ Ok (view x)
+GivesAll view (Err e) read = read ≡ Err (fault_of e)
+
+-- How many entries came so far, for how many there is room, and the first of them, as many as there is room for.
+pub record Progress : Type 0 where
+  pub count : ℕ
+  pub room : ℕ
+  pub listed : List RoaEntry
+
+-- More entries came.
+pub record Grows (old new : Progress) (more : List RoaEntry) : Type 0 where
+  pub counted : new.count ≡ old.count + length more
+  pub room : new.room ≡ old.room
+  pub kept : new.listed ≡ take old.room (old.listed ++ more)
+
+-- What was read, of which these entries were listed; or the first fault.
+abbrev pub Lists : {X V : Type 0} → (X → V → Type 0) → (V → List RoaEntry) → Result X GrammarFault → Progress → Progress → Result V Fault → Type 0
+Lists {X} {V} Is entries (Ok x) old new read = (v : V) × (read ≡ Ok v) × Is x v × Grows old new (entries v)
+Lists Is entries (Err e) old new read = read ≡ Err (fault_of e)
+
+-- The bytes spell this ROA; or this fault is their first; or they spell one and memory was wanting.
+abbrev pub Decodes : Result RoaValue PayloadFault → List ℕ → Type 0
+Decodes (Ok roa) bytes = RoaSpells roa bytes
+Decodes (Err (At fault)) bytes = RoaFaultAt bytes fault.offset (kind_number fault.kind)
+Decodes (Err Memory) bytes = (roa : RoaValue) × RoaSpells roa bytes

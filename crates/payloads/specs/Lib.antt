@@ -1,0 +1,7 @@
+pub mod Faults
+pub mod Entry
+pub mod Roa
+pub mod RoaReading
+pub mod RoaValues
+pub mod Gives
+pub mod Laws

@@ -1,0 +1,40 @@
+-- The value of a ROA as programs hold it: all entries in one list.
+use Rattle.std.specs.Prelude.{◌≡◌, ℕ, List, [], ◌++◌, map, Option, Some, None}
+use Rattle.der_lite.specs.Place.{place_of}
+use Rattle.prefixes.specs.Payload.{Payload}
+use Rattle.payloads.specs.declared.entry.RoaEntry.{RoaEntry}
+use Rattle.payloads.specs.Entry.{payload_of}
+use Rattle.payloads.specs.Roa.{Family, Blocks, RoaTree, roa_payload}
+
+-- an AS and the entries, those of IPv4 before those of IPv6
+pub record RoaValue : Type 0 where
+  pub asn : ℕ
+  pub entries : List RoaEntry
+
+abbrev pub entries_of : Option Family → List RoaEntry
+entries_of None = []
+entries_of (Some family) = family.1
+
+abbrev pub all_entries : Blocks → List RoaEntry
+all_entries blocks = blocks.0.1 ++ entries_of blocks.1
+
+-- the entries of the families behind one another
+abbrev pub flat : RoaTree → RoaValue
+flat tree = record { asn = tree.0; entries = all_entries tree.1 }
+
+unfoldable pub TreeSpells : RoaTree → List ℕ → Type 0
+TreeSpells = roa_payload.Spells
+
+-- The bytes spell a tree of the grammar that lies flat as this value (RFC 9582 section 4).
+pub record RoaSpells (roa : RoaValue) (bytes : List ℕ) : Type 0 where
+  pub tree : RoaTree
+  pub spelled : TreeSpells tree bytes
+  pub is_flat : flat tree ≡ roa
+
+-- What is at the offset fails with this number, and all that is judged before it holds.
+unfoldable pub RoaFaultAt : List ℕ → ℕ → ℕ → Type 0
+RoaFaultAt bytes offset number = roa_payload.FaultAt (place_of 0 bytes) (record { number = number; offset = offset })
+
+-- what a ROA validates: a payload for each entry
+abbrev pub payloads_of : RoaValue → List Payload
+payloads_of roa = map (payload_of roa.asn) roa.entries

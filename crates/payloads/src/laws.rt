@@ -1,0 +1,13 @@
+//! What holds of the definitions of payloads. Nothing here runs.
+
+ghost use Rattle.payloads.specs.Laws.{OneFault, OneSpelling};
+
+/// At most one fault fits bytes, and one fits exactly where they spell no value.
+pub fn one_fault()
+    ensures { OneFault }
+{}
+
+/// No value has two spellings, no bytes spell two values, and no spelling begins another.
+pub fn one_spelling()
+    ensures { OneSpelling }
+{}

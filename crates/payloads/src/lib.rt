@@ -1,0 +1,15 @@
+//! Payloads of the RPKI: what the objects hold whose signatures a validator has verified.
+//!
+//! [`decode_roa`] reads the payload of a ROA (RFC 9582 section 4) and [`encode_roa`] writes it.
+#![tactic(auto)]
+
+mod entries;
+mod entry;
+mod family;
+mod fault;
+pub mod laws;
+mod reading;
+mod roa;
+
+pub use entry::RoaEntry;
+pub use fault::{GrammarFault, GrammarFaultKind, PayloadFault, ValueFault};
