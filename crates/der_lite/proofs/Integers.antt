@@ -1,8 +1,10 @@
 -- Integers that are not negative: a content has one number, and a number one content.
-use Rattle.std.proofs.Common.{◌≡◌, ◌≢◌, ℕ, zero, suc, ◌+◌, ◌*◌, ◌/◌, ◌^◌, ◌<◌, ◌≤◌, Bool, true, false, not, ◌&&◌, ◌||◌, cond, eqb, ltb, leb, List, [], ◌∷◌, length, get_or, ℤ, pos, Option, Some, None, refl, sym, ap, subst, ◌∙◌, inl, inr, arith}
+use Rattle.std.proofs.Common.{◌≡◌, ◌≢◌, ℕ, zero, suc, ◌+◌, ◌*◌, ◌/◌, ◌^◌, ◌<◌, ◌≤◌, Bool, true, false, not, ◌&&◌, ◌||◌, cond, eqb, ltb, leb, List, [], ◌∷◌, ◌++◌, length, get_or, take, drop, ℤ, pos, Option, Some, None, refl, sym, ap, subst, ◌∙◌, inl, inr, arith, length-append}
 use Rattle.std.proofs.lemmas.Bool.{or_parts, or_right, leb-false, ltb-true, ltb-false, lt-ltb, cases_lt, cond-true}
 use Rattle.std.proofs.lemmas.Bool.Decides.{nat_tests}
 use Rattle.std.proofs.lemmas.Nat.{div-mul-add}
+use Rattle.std.proofs.lemmas.List.{length-take-le, take-append-drop}
+use Rattle.std.proofs.Math.Seq.{take-suc}
 use Rattle.std.proofs.Math.Nat.{pow-suc, pow-le-pow_right, mul-le-mul_right}
 use Rattle.der_lite.specs.Place.{first_of}
 use Rattle.der_lite.specs.Der.{IsBytes, number, twos_complement, is_integer, IntSpells}
@@ -10,7 +12,7 @@ use Rattle.der_lite.specs.Grammar.{Keeps, primitive}
 use Rattle.der_lite.specs.Decoding.{read_primitive}
 use Rattle.der_lite.specs.Values.{is_negative, between_rules, integer_between}
 use Rattle.der_lite.proofs.Exact.{ExactContent, exact_primitive}
-use Rattle.der_lite.proofs.Once.{Once, once_primitive}
+use Rattle.der_lite.proofs.Once.{Once, front_bytes, once_primitive}
 
 -- two rules are kept
 pub kept_2 : (m n : ℕ) (a b : Bool) → first_of ((m, not a) ∷ (n, b) ∷ []) ≡ None → (a ≡ true) × (b ≡ false)
@@ -40,7 +42,7 @@ module _ (least most fault : ℕ) where
 
 -- ---- a number has one content
 
-number_bound : (xs : List ℕ) → IsBytes xs → number xs < 256 ^ length xs
+pub number_bound : (xs : List ℕ) → IsBytes xs → number xs < 256 ^ length xs
 number_bound [] h = omega arith
 number_bound (x ∷ xs) h =
     let most : x * 256 ^ length xs ≤ 255 * 256 ^ length xs = mul-le-mul_right (256 ^ length xs) (omega (arith, h zero)) in
@@ -128,3 +130,31 @@ too_large (first ∷ digits) f h n =
     let large = is_large first digits f (omega arith) (λ z l. absurd (n z (omega arith))) in
     cond-true (is_negative (first ∷ digits) || ltb 4294967295 (number (first ∷ digits))) None (Some (number (first ∷ digits)))
         (or_right (is_negative (first ∷ digits)) (ltb 4294967295 (number (first ∷ digits))) (lt-ltb 4294967295 (number (first ∷ digits)) large))
+
+-- ---- a number byte by byte
+
+-- one byte more
+number_more : (bytes : List ℕ) (byte : ℕ) → number (bytes ++ byte ∷ []) ≡ number bytes * 256 + byte
+number_more [] byte = omega arith
+number_more (first ∷ bytes) byte =
+    let count : length (bytes ++ byte ∷ []) ≡ suc (length bytes) = omega (arith, length-append bytes (byte ∷ [])) in
+    let power : first * 256 ^ suc (length bytes) ≡ first * (256 * 256 ^ length bytes) = ap (λ (n : ℕ). first * n) (omega (arith, pow-suc 256 (length bytes))) in
+    ap (λ (n : ℕ). first * 256 ^ n + number (bytes ++ byte ∷ [])) count ∙ omega (arith, power, number_more bytes byte)
+
+-- one byte more of those in front
+pub number_next : (bytes : List ℕ) (i : ℕ) → i < length bytes → number (take (i + 1) bytes) ≡ number (take i bytes) * 256 + get_or bytes i 0
+number_next bytes i h =
+    let next : i + 1 ≡ suc i = omega arith in
+    ap (λ (n : ℕ). number (take n bytes)) next ∙ ap number (take-suc bytes i 0 h) ∙ number_more (take i bytes) (get_or bytes i 0)
+
+-- those in front are below so many powers
+pub number_front : (bytes : List ℕ) (i : ℕ) → IsBytes bytes → i ≤ length bytes → number (take i bytes) < 256 ^ i
+number_front bytes i h short =
+    subst (λ (n : ℕ). number (take i bytes) < 256 ^ n) (length-take-le i bytes short)
+    (number_bound (take i bytes) (front_bytes (take i bytes) (drop i bytes) (subst IsBytes (sym (take-append-drop i bytes)) h)))
+
+-- and below the power of any greater count
+pub number_within : (bytes : List ℕ) (i most : ℕ) → IsBytes bytes → i ≤ length bytes → i ≤ most → number (take i bytes) < 256 ^ most
+number_within bytes i most h short le =
+    let power : 256 ^ i ≤ 256 ^ most = pow-le-pow_right {n = 256} (omega arith) le in
+    omega (arith, number_front bytes i h short, power)

@@ -8,7 +8,7 @@ abbrev pub Once : {V : Type 0} → (V → List ℕ → Type 0) → Type 0
 Once {V} Spells = (v : V) (a b : List ℕ) → IsBytes a → IsBytes b → Spells v a → Spells v b → a ≡ b
 
 -- the front of bytes is bytes
-front_bytes : (front rest : List ℕ) → IsBytes (front ++ rest) → IsBytes front
+pub front_bytes : (front rest : List ℕ) → IsBytes (front ++ rest) → IsBytes front
 front_bytes [] rest h i = omega arith
 front_bytes (x ∷ xs) rest h zero = h zero
 front_bytes (x ∷ xs) rest h (suc i) = front_bytes xs rest (λ j. h (suc j)) i

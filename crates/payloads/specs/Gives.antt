@@ -1,5 +1,5 @@
 -- What the functions that read give.
-use Rattle.std.specs.Prelude.{◌≡◌, ℕ, ◌+◌, List, ◌++◌, length, take, Result, Ok, Err}
+use Rattle.std.specs.Prelude.{◌≡◌, ℕ, ◌+◌, ◌-◌, List, ◌++◌, length, take, Result, Ok, Err}
 use Rattle.der_lite.specs.Place.{Place, Fault}
 use Rattle.payloads.specs.declared.entry.RoaEntry.{RoaEntry}
 use Rattle.payloads.specs.declared.fault.GrammarFault.{GrammarFault}
@@ -24,11 +24,11 @@ pub record Progress : Type 0 where
   pub room : ℕ
   pub listed : List RoaEntry
 
--- More entries came.
+-- More entries came. They are listed behind the others, as long as there is room.
 pub record Grows (old new : Progress) (more : List RoaEntry) : Type 0 where
   pub counted : new.count ≡ old.count + length more
   pub room : new.room ≡ old.room
-  pub kept : new.listed ≡ take old.room (old.listed ++ more)
+  pub kept : new.listed ≡ old.listed ++ take (old.room - length old.listed) more
 
 -- What was read, of which these entries were listed; or the first fault.
 abbrev pub Lists : {X V : Type 0} → (X → V → Type 0) → (V → List RoaEntry) → Result X GrammarFault → Progress → Progress → Result V Fault → Type 0

@@ -65,9 +65,13 @@ abbrev pub prefix_of : AddressFamily → Block → IpPrefix
 prefix_of Ipv4 block = V4 block
 prefix_of Ipv6 block = V6 block
 
--- the prefix of these bits: those that an address has behind them are zero
+-- the address and the length of these bits: those that an address of this width has behind them are zero
+abbrev pub block_of_bits : ℕ → List Bool → Block
+block_of_bits width bits = record { addr = bits_number bits width; len = length bits }
+
+-- the prefix of these bits
 abbrev pub of_bits : AddressFamily → List Bool → IpPrefix
-of_bits family bits = prefix_of family (record { addr = bits_number bits (family_width family); len = length bits })
+of_bits family bits = prefix_of family (block_of_bits (family_width family) bits)
 
 -- the content spells the bits of the prefix
 pub record PrefixSpells (family : AddressFamily) (prefix : IpPrefix) (content : List ℕ) : Type 0 where

@@ -3,6 +3,7 @@
 //! [`decode_roa`] reads the payload of a ROA (RFC 9582 section 4) and [`encode_roa`] writes it.
 #![tactic(auto)]
 
+mod bits;
 mod entries;
 mod entry;
 mod family;
@@ -13,3 +14,4 @@ mod roa;
 
 pub use entry::RoaEntry;
 pub use fault::{GrammarFault, GrammarFaultKind, PayloadFault, ValueFault};
+pub use roa::{Roa, decode_roa};

@@ -1,12 +1,14 @@
 //! Reading the payload of a ROA, from top to bottom (RFC 9582 section 4).
 
-ghost use Rattle.std.specs.Prelude.{◌≡◌, ◌==◌, ◌<◌, IfOk, IsTrue};
+ghost use Rattle.std.specs.Prelude.{◌≡◌, ◌==◌, ◌<◌, IfOk, IsTrue, Some, ⊤};
 ghost use Rattle.der_lite.specs.Der.{is_integer, tag_of};
 ghost use Rattle.der_lite.specs.Reading.{integer_at};
+ghost use Rattle.der_lite.specs.Fields.{optional_at};
 ghost use Rattle.payloads.specs.RoaReading.{with_version, as_id_at, address_family_at, address_at, max_length_at, maximum_at, entry_at, entries_at, addresses_at, ip_family_at, blocks_at, payload_at};
 ghost use Rattle.payloads.specs.RoaValues.{entries_of, all_entries};
 ghost use Rattle.payloads.specs.Gives.{GivesNext, GivesAll, Lists};
 
+use crate::bits::prefix_of;
 use crate::entries::Entries;
 use crate::family::AddressFamily;
 use crate::{GrammarFault, GrammarFaultKind, RoaEntry};
@@ -79,11 +81,31 @@ fn address_family(cursor: &mut Cursor, before: Option<AddressFamily>) -> Result<
 }
 
 
+/// address BIT STRING (SIZE(0..ub)) (4.3.2).
+#[tactic(auto, unfolding(crate::specs::RoaReading::address_at))]
+fn address(cursor: &mut Cursor, family: AddressFamily) -> Result<IpPrefix, GrammarFault>
+    ensures { GivesNext (λ prefix. prefix) result cursor.new (address_at family cursor.old) }
+{
+    let offset = cursor.offset();
+    let bits = cursor.bits()?;
+    let prefix = match family {
+        AddressFamily::Ipv4 => prefix_of(bits).map(IpPrefix::V4),
+        AddressFamily::Ipv6 => prefix_of(bits).map(IpPrefix::V6),
+    };
+    match prefix {
+        Some(prefix) => Ok(prefix),
+        None => Err(GrammarFault {
+            kind: GrammarFaultKind::PrefixTooLong,
+            offset,
+        }),
+    }
+}
+
 /// maxLength INTEGER (0..ub) OPTIONAL, not below the length of the prefix, and the end of the
 /// ROAIPAddress (4.3.2).
 #[tactic(auto, unfolding(crate::specs::RoaReading::maximum_at, crate::specs::RoaReading::max_length_at))]
-fn maximum(members: Cursor, prefix: IpPrefix) -> Result<Option<u8>, GrammarFault>
-    ensures { GivesAll (λ maximum. maximum) result (maximum_at prefix members.entry) }
+fn maximum(members: Cursor, prefix: &IpPrefix) -> Result<Option<u8>, GrammarFault>
+    ensures { GivesAll (λ maximum. maximum) result (maximum_at prefix.now members.entry) }
 {
     let mut members = members;
     if members.at_end() {
@@ -105,4 +127,119 @@ fn maximum(members: Cursor, prefix: IpPrefix) -> Result<Option<u8>, GrammarFault
             offset,
         }),
     }
+}
+
+/// ROAIPAddress, behind so many entries of the payload, and behind the one before it in its family
+/// (4.3.2).
+#[tactic(auto, unfolding(crate::specs::RoaReading::entry_at))]
+fn entry(cursor: &mut Cursor, family: AddressFamily, count: usize, before: Option<RoaEntry>) -> Result<RoaEntry, GrammarFault>
+    ensures exact { GivesNext (λ entry. entry) result cursor.new (entry_at family count before cursor.old) }
+    ensures few { IfOk result (λ _. count < 65536) }
+{
+    let offset = cursor.offset();
+    let mut members = cursor.sequence()?;
+    if count >= LIMIT {
+        return Err(GrammarFault {
+            kind: GrammarFaultKind::TooMany,
+            offset,
+        });
+    }
+    let prefix = address(&mut members, family)?;
+    let max_len = maximum(members, &prefix)?;
+    let entry = RoaEntry { prefix, max_len };
+    if entry.is_not_above(before) {
+        return Err(GrammarFault {
+            kind: GrammarFaultKind::Order,
+            offset,
+        });
+    }
+    Ok(entry)
+}
+
+/// SEQUENCE OF ROAIPAddress of a family, to the end (4.3.1).
+fn each_entry(members: Cursor, family: AddressFamily, entries: &mut Entries) -> Result<(), GrammarFault>
+    ensures { Lists (λ _ _. ⊤) (λ more. more) result entries.old entries.new (entries_at family entries.old.count members.entry) }
+{
+    let mut members = members;
+    let mut before = None;
+    while !members.at_end() {
+        let entry = entry(&mut members, family, entries.count(), before)?;
+        entries.add(entry.prefix, entry.max_len);
+        before = Some(entry);
+    }
+    Ok(())
+}
+
+/// addresses SEQUENCE (SIZE(1..MAX)) OF ROAIPAddress (4.3.1).
+#[tactic(auto, unfolding(crate::specs::RoaReading::addresses_at))]
+fn addresses(cursor: &mut Cursor, family: AddressFamily, entries: &mut Entries) -> Result<(), GrammarFault>
+    ensures { Lists (λ _ read. read.1 ≡ cursor.new) (λ read. read.0) result entries.old entries.new (addresses_at family entries.old.count cursor.old) }
+{
+    let offset = cursor.offset();
+    let members = cursor.sequence()?;
+    if members.at_end() {
+        return Err(GrammarFault {
+            kind: GrammarFaultKind::Empty,
+            offset,
+        });
+    }
+    each_entry(members, family, entries)
+}
+
+/// ROAIPAddressFamily, behind the family before it (4.3.1).
+#[tactic(auto, unfolding(crate::specs::RoaReading::ip_family_at))]
+fn ip_family(cursor: &mut Cursor, before: Option<AddressFamily>, entries: &mut Entries) -> Result<AddressFamily, GrammarFault>
+    ensures { Lists (λ family read. (read.0.0 ≡ family) × (read.1 ≡ cursor.new)) (λ read. read.0.1) result entries.old entries.new (ip_family_at before entries.old.count cursor.old) }
+{
+    let mut members = cursor.sequence()?;
+    let family = address_family(&mut members, before)?;
+    addresses(&mut members, family, entries)?;
+    members.finish()?;
+    Ok(family)
+}
+
+/// A second ROAIPAddressFamily if bytes remain, and the end of ipAddrBlocks (4.3).
+fn second_family(members: Cursor, first: AddressFamily, entries: &mut Entries) -> Result<(), GrammarFault>
+    ensures { Lists (λ _ _. ⊤) entries_of result entries.old entries.new (optional_at (ip_family_at (Some first) entries.old.count) members.entry) }
+{
+    let mut members = members;
+    if members.at_end() {
+        return Ok(());
+    }
+    ip_family(&mut members, Some(first), entries)?;
+    members.finish()?;
+    Ok(())
+}
+
+/// ipAddrBlocks SEQUENCE (SIZE(1..2)) OF ROAIPAddressFamily (4.3).
+#[tactic(auto, unfolding(crate::specs::RoaReading::blocks_at))]
+fn ip_addr_blocks(cursor: &mut Cursor, entries: &mut Entries) -> Result<(), GrammarFault>
+    requires { entries.old.count ≡ 0 }
+    ensures { Lists (λ _ read. read.1 ≡ cursor.new) (λ read. all_entries read.0) result entries.old entries.new (blocks_at cursor.old) }
+{
+    let offset = cursor.offset();
+    let mut members = cursor.sequence()?;
+    if members.at_end() {
+        return Err(GrammarFault {
+            kind: GrammarFaultKind::Empty,
+            offset,
+        });
+    }
+    let first = ip_family(&mut members, None, entries)?;
+    second_family(members, first, entries)
+}
+
+/// RouteOriginAttestation, and nothing behind it (4).
+#[tactic(auto, unfolding(crate::specs::RoaReading::payload_at, crate::specs::RoaReading::attestation_at))]
+pub(crate) fn route_origin_attestation(payload: &[u8], entries: &mut Entries) -> Result<Asn, GrammarFault>
+    requires { entries.old.count ≡ 0 }
+    ensures { Lists (λ asn tree. tree.0 ≡ asn.0) (λ tree. all_entries tree.1) result entries.old entries.new (payload_at payload.now) }
+{
+    let mut whole = Cursor::new(payload);
+    let mut members = whole.sequence()?;
+    let asn = as_id(&mut members)?;
+    ip_addr_blocks(&mut members, entries)?;
+    members.finish()?;
+    whole.finish()?;
+    Ok(asn)
 }
