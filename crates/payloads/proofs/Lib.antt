@@ -6,3 +6,4 @@ pub mod Flats
 pub mod RoaLaws
 pub mod Growing
 pub mod Decoding
+pub mod Refusals

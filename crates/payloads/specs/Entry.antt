@@ -1,5 +1,5 @@
 -- Entries of a ROA: their order and what each validates.
-use Rattle.std.specs.Prelude.{ℕ, Bool, true, false, not, nat_lt, ◌||◌, Option, Some, None, unwrap_or, List, map}
+use Rattle.std.specs.Prelude.{ℕ, Bool, true, false, not, nat_lt, ◌||◌, ◌==◌, Option, Some, None, unwrap_or, List, map}
 use Rattle.std.specs.Ordering.{nat_cmp, ordering_then}
 use Rattle.std.specs.declared.cmp.Ordering.{Ordering}
 use Rattle.std.specs.declared.cmp.Ordering.TheVariants.{Less, Equal, Greater}
@@ -31,3 +31,12 @@ is_bad_maximum entry = nat_lt (greatest_length entry) (block_of entry.prefix).le
 -- what the entry validates: prefixes of the AS up to the maximum length
 abbrev pub payload_of : ℕ → RoaEntry → Payload
 payload_of asn entry = record { prefix = entry.prefix; max_len = greatest_length entry; asn = asn }
+
+-- the maximum is there and is this length
+abbrev pub is_length : Option ℕ → ℕ → Bool
+is_length None len = false
+is_length (Some maximum) len = maximum == len
+
+-- the maximum length is there and says nothing
+abbrev pub is_superfluous : RoaEntry → Bool
+is_superfluous entry = is_length entry.max_len (block_of entry.prefix).len

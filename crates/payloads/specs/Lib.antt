@@ -3,5 +3,6 @@ pub mod Entry
 pub mod Roa
 pub mod RoaReading
 pub mod RoaValues
+pub mod Refusal
 pub mod Gives
 pub mod Laws

@@ -1,6 +1,6 @@
 //! Reading the payload of a ROA, from top to bottom (RFC 9582 section 4).
 
-ghost use Rattle.std.specs.Prelude.{◌≡◌, ◌==◌, ◌<◌, IfOk, IsTrue, Some, ⊤};
+ghost use Rattle.std.specs.Prelude.{◌≡◌, ◌==◌, ◌<◌, IfOk, IsTrue, Some, option_copied, ⊤};
 ghost use Rattle.der_lite.specs.Der.{is_integer, tag_of};
 ghost use Rattle.der_lite.specs.Reading.{integer_at};
 ghost use Rattle.der_lite.specs.Fields.{optional_at};
@@ -10,13 +10,11 @@ ghost use Rattle.payloads.specs.Gives.{GivesNext, GivesAll, Lists};
 
 use crate::bits::prefix_of;
 use crate::entries::Entries;
+use crate::entry::LIMIT;
 use crate::family::AddressFamily;
 use crate::{GrammarFault, GrammarFaultKind, RoaEntry};
 use der_lite::{Bits, Cursor, DerFault, DerFaultKind, unsigned};
 use prefixes::{Asn, IpPrefix, Prefix, V4, V6};
-
-/// How many entries a payload may have.
-pub(crate) const LIMIT: usize = 65_536;
 
 /// The content of the INTEGER at the start of the outer SEQUENCE. A version (tag `a0`) that stands
 /// in its place is `VersionPresent` (4.1).
@@ -132,8 +130,8 @@ fn maximum(members: Cursor, prefix: &IpPrefix) -> Result<Option<u8>, GrammarFaul
 /// ROAIPAddress, behind so many entries of the payload, and behind the one before it in its family
 /// (4.3.2).
 #[tactic(auto, unfolding(crate::specs::RoaReading::entry_at))]
-fn entry(cursor: &mut Cursor, family: AddressFamily, count: usize, before: Option<RoaEntry>) -> Result<RoaEntry, GrammarFault>
-    ensures exact { GivesNext (λ entry. entry) result cursor.new (entry_at family count before cursor.old) }
+fn entry(cursor: &mut Cursor, family: AddressFamily, count: usize, before: Option<&RoaEntry>) -> Result<RoaEntry, GrammarFault>
+    ensures exact { GivesNext (λ entry. entry) result cursor.new (entry_at family count (option_copied before.entry) cursor.old) }
     ensures few { IfOk result (λ _. count < 65536) }
 {
     let offset = cursor.offset();
@@ -163,7 +161,7 @@ fn each_entry(members: Cursor, family: AddressFamily, entries: &mut Entries) -> 
     let mut members = members;
     let mut before = None;
     while !members.at_end() {
-        let entry = entry(&mut members, family, entries.count(), before)?;
+        let entry = entry(&mut members, family, entries.count(), before.as_ref())?;
         entries.add(entry.prefix, entry.max_len);
         before = Some(entry);
     }

@@ -1,12 +1,15 @@
 //! ROAs.
 
+ghost use Rattle.std.specs.Prelude.{◌≡◌, IfOk};
+ghost use Rattle.payloads.specs.RoaValues.{notes_of, payloads_of};
 ghost use Rattle.payloads.specs.Gives.{Decodes};
+ghost use Rattle.payloads.specs.Refusal.{roa_refusal, IsRoa, Makes, Finds};
 
 use crate::entries::Entries;
 use crate::reading::route_origin_attestation;
-use crate::{PayloadFault, RoaEntry};
-use prefixes::Asn;
-use std::alloc::Global;
+use crate::{GrammarFaultKind, PayloadFault, RoaEntry, ValueFault};
+use prefixes::{Asn, Vrp};
+use std::alloc::{AllocError, Global};
 use std::marker::Model;
 
 /// A ROA: an AS and the prefixes that it may originate, one or more, in strictly ascending order by
@@ -19,10 +22,81 @@ pub struct Roa {
 
 impl Model for Roa {
     ghost use Rattle.payloads.specs.RoaValues.{RoaValue};
+    ghost use Rattle.payloads.specs.Refusal.{IsRoa};
 
     ghost Value = { RoaValue };
 
     ghost view = { λ r. record { asn = r.asn.0; entries = r.entries.items } };
+
+    ghost invariant = { λ r. IsRoa r.entries.items };
+}
+
+impl Roa {
+    /// The ROA of this AS and these entries, or the first fault: `Empty`, then entry by entry
+    /// `TooMany`, `Order` of the family, `MaxLength`, `Order`.
+    pub fn new(asn: Asn, entries: Vec<RoaEntry>) -> Result<Roa, ValueFault>
+        ensures { Makes result asn.0 entries.items }
+    {
+        match refusal(entries.as_slice()) {
+            Some(fault) => Err(fault),
+            None => Ok(Roa { asn, entries }),
+        }
+    }
+
+    /// The AS that may originate the prefixes.
+    pub fn asn(&self) -> Asn
+        ensures { result.0 ≡ self.now.asn }
+    {
+        self.asn
+    }
+
+    /// The entries, in strictly ascending order.
+    pub fn entries(&self) -> &[RoaEntry]
+        ensures value { result.now ≡ self.now.entries }
+        ensures right { IsRoa result.now }
+    {
+        &self.entries
+    }
+
+    /// How many entries have a maximum length that says nothing: it is the length of the prefix.
+    pub fn notes(&self) -> usize
+        ensures { result ≡ notes_of self.now }
+    {
+        self.entries.iter().filter(|entry| entry.is_superfluous()).count()
+    }
+
+    /// What the ROA validates: a payload for each entry, in their order. The maximum length of an
+    /// entry that has none is the length of its prefix.
+    pub fn vrps(&self, alloc: Global) -> Result<Vec<Vrp>, AllocError>
+        ensures { IfOk result (λ vrps. vrps.items ≡ payloads_of self.now) }
+    {
+        let mut vrps = Vec::with_capacity(alloc, self.entries.len())?;
+        for entry in self.entries.iter() {
+            vrps.push(entry.vrp(self.asn))?;
+        }
+        Ok(vrps)
+    }
+}
+
+/// The first fault of the entries of a ROA.
+#[tactic(auto, unfolding(crate::specs::Refusal::roa_refusal))]
+fn refusal(entries: &[RoaEntry]) -> Option<ValueFault>
+    ensures { Finds result (roa_refusal entries.now) }
+{
+    if entries.is_empty() {
+        return Some(ValueFault {
+            kind: GrammarFaultKind::Empty,
+            index: 0,
+        });
+    }
+    let mut before = None;
+    for (index, entry) in entries.iter().enumerate() {
+        if let Some(kind) = entry.fault(index, before) {
+            return Some(ValueFault { kind, index });
+        }
+        before = Some(entry);
+    }
+    None
 }
 
 /// The ROA that the bytes spell, or the first fault (RFC 9582 section 4). All of the payload is
