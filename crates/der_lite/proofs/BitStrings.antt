@@ -1,5 +1,5 @@
 -- Bit strings: the content that spells bits, and the number that bits make.
-use Rattle.std.proofs.Common.{◌≡◌, ℕ, zero, suc, ◌+◌, ◌-◌, ◌*◌, ◌/◌, ◌%◌, ◌^◌, ◌<◌, ◌≤◌, Bool, true, false, ◌&&◌, cond, eqb, ltb, List, [], ◌∷◌, ◌++◌, length, get_or, take, drop, replicate, refl, sym, ap, subst, ◌∙◌, arith, append_assoc, length-append}
+use Rattle.std.proofs.Common.{◌≡◌, ℕ, zero, suc, ◌+◌, ◌-◌, ◌*◌, ◌/◌, ◌%◌, ◌^◌, ◌<◌, ◌≤◌, Bool, true, false, cond, eqb, ltb, List, [], ◌∷◌, ◌++◌, length, get_or, take, drop, replicate, refl, sym, ap, subst, ◌∙◌, arith, append_assoc, length-append}
 use Rattle.std.proofs.lemmas.Bool.{and_parts, eqb-true, ne_eqb, ltb-true}
 use Rattle.std.proofs.lemmas.List.{take_at, append-nil, length-replicate}
 use Rattle.std.proofs.lemmas.Nat.{pow-add}
@@ -80,14 +80,24 @@ pub bits_spelled : (content : List ℕ) → is_bit_string content ≡ true → B
 bits_spelled [] h = absurd cc
 bits_spelled (unused ∷ []) h =
     let zero_is : unused ≡ 0 = eqb-true unused 0 h in
-    record { unused = unused; body = []; counted = refl; few = omega arith;
-      padded = subst (λ (l : List Bool). [] ≡ l ++ replicate unused false) (sym (taken unused [] [] (nothing unused zero_is))) (nothing unused zero_is) }
+    record {
+      unused = unused;
+      body = [];
+      counted = refl;
+      few = omega arith;
+      padded = subst (λ (l : List Bool). [] ≡ l ++ replicate unused false) (sym (taken unused [] [] (nothing unused zero_is))) (nothing unused zero_is);
+    }
 bits_spelled (unused ∷ first ∷ more) h =
     let a = and_parts (ltb unused 8) (eqb (get_or (first ∷ more) (length more) 0 % 2 ^ unused) 0) h in
     let few = ltb-true unused 8 a.0 in
     let p = padded_from unused first more few (eqb-true (get_or (first ∷ more) (length more) 0 % 2 ^ unused) 0 a.1) in
-    record { unused = unused; body = first ∷ more; counted = refl; few = few;
-      padded = p.1 ∙ ap (λ (l : List Bool). l ++ replicate unused false) (sym (taken unused (first ∷ more) p.0 p.1)) }
+    record {
+      unused = unused;
+      body = first ∷ more;
+      counted = refl;
+      few = few;
+      padded = p.1 ∙ ap (λ (l : List Bool). l ++ replicate unused false) (sym (taken unused (first ∷ more) p.0 p.1));
+    }
 
 -- ---- bits have one content
 
@@ -160,7 +170,6 @@ bits_one (true ∷ bits) (false ∷ others) (suc w) h l e =
     absurd (omega (arith, e, bits_cons true bits w, bits_cons false others w, bits_bound others w (omega (arith, h, l))))
 bits_one (false ∷ bits) (true ∷ others) (suc w) h l e =
     absurd (omega (arith, e, bits_cons false bits w, bits_cons true others w, bits_bound bits w (omega (arith, h))))
-
 
 -- ---- the number of bits is that of the bytes that they fill
 

@@ -1,8 +1,8 @@
 -- Reading over what a cursor's reads give is exact too.
 use Rattle.std.proofs.Common.{◌≡◌, ℕ, ◌<◌, Bool, true, false, eqb, cond, List, [], ◌∷◌, ◌++◌, length, Option, Some, None, Result, Ok, Err, refl, sym, ap, subst, ◌∙◌, arith, length-drop}
 use Rattle.der_lite.specs.Place.{Place, Fault}
-use Rattle.der_lite.specs.Der.{IsBytes, head_rules, content_end, length_end}
-use Rattle.der_lite.specs.Grammar.{Element, Members, Content, element, primitive, constructed, last, optional}
+use Rattle.der_lite.specs.Der.{head_rules, content_end, length_end}
+use Rattle.der_lite.specs.Grammar.{Element, Members, element, primitive, constructed, last, optional}
 use Rattle.der_lite.specs.Reading.{◌>>=◌, judged, element_at, content_at, end_at, content_place, next_place}
 use Rattle.der_lite.specs.Decoding.{Read, ReadAll, read_element, read_primitive, read_constructed, read_last, read_optional, ended}
 use Rattle.der_lite.specs.Fields.{field_at, sequence_at, last_at, optional_at, valued_at, valued}
@@ -91,7 +91,7 @@ unfolding some_of
 exact_optional_at {V} e read x =
     members_along (optional e) (read_optional read) (optional_at read)
     (λ p. ap (λ (r : Result (Option V) Fault). cond (eqb (length p.rest) 0) (Ok None) r)
-      (bind-same (read p) (λ y. ended y.1 (some_of y.0)) (λ y. end_at y.1 >>= λ _. Ok (some_of y.0)) (λ y. ended_is y.1 (some_of y.0))))
+    (bind-same (read p) (λ y. ended y.1 (some_of y.0)) (λ y. end_at y.1 >>= λ _. Ok (some_of y.0)) (λ y. ended_is y.1 (some_of y.0))))
     (exact_optional e read x)
 
 module _ {A B : Type 0} (make : A → B) (parts : B → A) (parts_is : (a : A) → parts (make a) ≡ a) (make_is : (b : B) → make (parts b) ≡ b) where
@@ -121,9 +121,9 @@ module _ {V : Type 0} (before : List ℕ → List (ℕ × Bool)) (m : Members V)
       let judge : V → Result V Fault = λ v. judged (whole v) p.at (Ok v) in
       let at_places : Place × Place → Result (V × Place) Fault = λ x. judged (before x.0.rest) p.at (read x.0 >>= λ v. judged (whole v) p.at (Ok (v, x.1))) in
       ap (judged (head_rules 48 p.rest) p.at)
-        (judged-bind (before inner.rest) p.at (read inner >>= judge) then_next
-        ∙ ap (judged (before inner.rest) p.at)
-          (bind-bind (read inner) judge then_next ∙ bind-same (read inner) (λ v. judge v >>= then_next) (λ v. judged (whole v) p.at (Ok (v, next_place p))) (λ v. judged-bind (whole v) p.at (Ok v) then_next)))
+      (judged-bind (before inner.rest) p.at (read inner >>= judge) then_next
+      ∙ ap (judged (before inner.rest) p.at)
+      (bind-bind (read inner) judge then_next ∙ bind-same (read inner) (λ v. judge v >>= then_next) (λ v. judged (whole v) p.at (Ok (v, next_place p))) (λ v. judged-bind (whole v) p.at (Ok v) then_next)))
       ∙ sym (judged-bind (head_rules 48 p.rest) p.at (Ok (content_place p, next_place p)) at_places)
 
   -- a SEQUENCE is read exactly if its members are

@@ -1,6 +1,6 @@
 -- Integers that are not negative: a content has one number, and a number one content.
-use Rattle.std.proofs.Common.{◌≡◌, ◌≢◌, ℕ, zero, suc, ◌+◌, ◌*◌, ◌/◌, ◌^◌, ◌<◌, ◌≤◌, Bool, true, false, not, ◌&&◌, ◌||◌, cond, eqb, ltb, leb, List, [], ◌∷◌, ◌++◌, length, get_or, take, drop, ℤ, pos, Option, Some, None, refl, sym, ap, subst, ◌∙◌, inl, inr, arith, length-append}
-use Rattle.std.proofs.lemmas.Bool.{or_parts, or_right, leb-false, ltb-true, ltb-false, lt-ltb, cases_lt, cond-true}
+use Rattle.std.proofs.Common.{◌≡◌, ◌≢◌, ℕ, zero, suc, ◌+◌, ◌*◌, ◌/◌, ◌^◌, ◌<◌, ◌≤◌, Bool, true, false, not, ◌&&◌, ◌||◌, cond, eqb, ltb, leb, List, [], ◌∷◌, ◌++◌, length, get_or, take, drop, pos, Option, Some, None, refl, sym, ap, subst, ◌∙◌, inl, inr, arith, length-append}
+use Rattle.std.proofs.lemmas.Bool.{or_parts, or_right, leb-false, ltb-false, lt-ltb, cases_lt, cond-true}
 use Rattle.std.proofs.lemmas.Bool.Decides.{nat_tests}
 use Rattle.std.proofs.lemmas.Nat.{div-mul-add}
 use Rattle.std.proofs.lemmas.List.{length-take-le, take-append-drop}
@@ -8,7 +8,7 @@ use Rattle.std.proofs.Math.Seq.{take-suc}
 use Rattle.std.proofs.Math.Nat.{pow-suc, pow-le-pow_right, mul-le-mul_right}
 use Rattle.der_lite.specs.Place.{first_of}
 use Rattle.der_lite.specs.Der.{IsBytes, number, twos_complement, is_integer, IntSpells}
-use Rattle.der_lite.specs.Grammar.{Keeps, primitive}
+use Rattle.der_lite.specs.Grammar.{Keeps}
 use Rattle.der_lite.specs.Decoding.{read_primitive}
 use Rattle.der_lite.specs.Values.{is_negative, between_rules, integer_between}
 use Rattle.der_lite.proofs.Exact.{ExactContent, exact_primitive}
@@ -94,11 +94,13 @@ once_between least most fault = once_primitive (λ n content. IntSpells (pos n) 
     let q = between_kept least most fault b kb in
     let e : number a ≡ number b = pos_is (number a) (number b) (sym (value_is a p.1) ∙ s.value ∙ sym t.value ∙ value_is b q.1) in
     let same : length a ≡ length b =
-      elim (cases_lt (length a) (length b)) [
-        | inl less ↦ absurd (not_longer a b ba p.0 p.1 q.0 e less)
-        | inr other ↦ elim (cases_lt (length b) (length a)) [
-          | inl less ↦ absurd (not_longer b a bb q.0 q.1 p.0 (sym e) less)
-          | inr equal ↦ omega (arith, other, equal) ] ] in
+    elim (cases_lt (length a) (length b)) [
+      | inl less ↦ absurd (not_longer a b ba p.0 p.1 q.0 e less)
+      | inr other ↦ elim (cases_lt (length b) (length a)) [
+        | inl less ↦ absurd (not_longer b a bb q.0 q.1 p.0 (sym e) less)
+        | inr equal ↦ omega (arith, other, equal)
+      ]
+    ] in
     digits_one a b same ba bb e)
 
 -- a longer number
@@ -129,7 +131,7 @@ too_large [] f h n = absurd (omega arith)
 too_large (first ∷ digits) f h n =
     let large = is_large first digits f (omega arith) (λ z l. absurd (n z (omega arith))) in
     cond-true (is_negative (first ∷ digits) || ltb 4294967295 (number (first ∷ digits))) None (Some (number (first ∷ digits)))
-        (or_right (is_negative (first ∷ digits)) (ltb 4294967295 (number (first ∷ digits))) (lt-ltb 4294967295 (number (first ∷ digits)) large))
+    (or_right (is_negative (first ∷ digits)) (ltb 4294967295 (number (first ∷ digits))) (lt-ltb 4294967295 (number (first ∷ digits)) large))
 
 -- ---- a number byte by byte
 

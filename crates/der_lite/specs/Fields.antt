@@ -1,5 +1,5 @@
 -- Reading by a grammar over what the reads of a cursor give.
-use Rattle.std.specs.Prelude.{◌≡◌, ℕ, Bool, ◌==◌, if◌then◌else◌, List, length, Option, Some, None, Result, Ok, Err}
+use Rattle.std.specs.Prelude.{ℕ, Bool, ◌==◌, if◌then◌else◌, List, length, Option, Some, None, Result, Ok}
 use Rattle.der_lite.specs.Place.{Place, Fault}
 use Rattle.der_lite.specs.Grammar.{Members}
 use Rattle.der_lite.specs.Reading.{◌>>=◌, judged, element_at, end_at}

@@ -1,5 +1,5 @@
 -- What primitive contents mean: numbers in a range, and bits.
-use Rattle.std.specs.Prelude.{ℕ, ◌+◌, ◌-◌, ◌^◌, ◌||◌, Bool, not, nat_lt, nat_le, if◌then◌else◌, List, [], ◌∷◌, length, take, drop, slice_index, pos}
+use Rattle.std.specs.Prelude.{ℕ, ◌+◌, ◌-◌, ◌^◌, ◌||◌, Bool, not, nat_lt, nat_le, if◌then◌else◌, List, [], ◌∷◌, take, drop, slice_index, pos}
 use Rattle.der_lite.specs.Der.{number, is_integer, IntSpells, bits_of, bit_count}
 use Rattle.der_lite.specs.Grammar.{Content, primitive}
 

@@ -1,16 +1,15 @@
 -- The fields of a ROA are read exactly.
-use Rattle.std.proofs.Common.{◌≡◌, ℕ, zero, suc, pos, None, ◌≤◌, Bool, true, false, not, ◌&&◌, ◌||◌, cond, eqb, ltb, List, [], ◌∷◌, ◌++◌, length, get_or, Option, Result, Ok, Err, refl, sym, ap, subst, ◌∙◌, arith}
-use Rattle.std.proofs.lemmas.Bool.{and_parts, or_parts, eqb-true, ne_eqb}
+use Rattle.std.proofs.Common.{◌≡◌, ℕ, pos, None, Bool, true, false, not, ◌&&◌, ◌||◌, cond, eqb, ltb, List, [], ◌∷◌, ◌++◌, length, get_or, Option, Result, Ok, Err, refl, sym, ap, ◌∙◌, arith}
+use Rattle.std.proofs.lemmas.Bool.{and_parts, eqb-true, ne_eqb}
 use Rattle.der_lite.specs.Place.{Place, Fault, first_of}
 use Rattle.der_lite.specs.Der.{number, is_integer, IntSpells, is_bit_string, bit_count, head_rules, is_truncated, has_length, tag_of}
-use Rattle.der_lite.specs.Grammar.{element, primitive}
-use Rattle.der_lite.specs.Reading.{◌>>=◌, judged, element_at, content_at, integer_at, content_place, next_place}
-use Rattle.der_lite.specs.Decoding.{Read, read_element, read_primitive}
+use Rattle.der_lite.specs.Grammar.{element}
+use Rattle.der_lite.specs.Reading.{◌>>=◌, judged, element_at, content_at, content_place, next_place}
+use Rattle.der_lite.specs.Decoding.{read_element, read_primitive}
 use Rattle.der_lite.specs.Values.{integer_between, between_rules, bits_value}
-use Rattle.der_lite.specs.Fields.{field_at}
 use Rattle.der_lite.proofs.Rules.{judged-bind}
 use Rattle.der_lite.proofs.Elements.{head_kept}
-use Rattle.der_lite.proofs.Exact.{ExactElement, ExactContent, IsHead, exact_element, exact_primitive}
+use Rattle.der_lite.proofs.Exact.{ExactElement, IsHead, exact_element, exact_primitive}
 use Rattle.der_lite.proofs.Plain.{exact_along}
 use Rattle.der_lite.proofs.Fields.{judged-append, exact_field}
 use Rattle.der_lite.proofs.Integers.{kept_2, exact_between}
@@ -20,7 +19,7 @@ use Rattle.prefixes.specs.declared.prefix.IpPrefix.{IpPrefix}
 use Rattle.payloads.specs.declared.family.AddressFamily.{AddressFamily}
 use Rattle.payloads.specs.declared.family.AddressFamily.TheVariants.{Ipv4, Ipv6}
 use Rattle.payloads.specs.Roa.{first_head, as_id, family_number, number_before, is_family, family_rules, FamilySpells, address_family, family_width, of_bits, PrefixSpells, address_rules, address, max_length}
-use Rattle.payloads.specs.RoaReading.{version_fault, with_version, range_rules, as_id_at, family_in, address_family_at, prefix_in, address_at, max_length_at}
+use Rattle.payloads.specs.RoaReading.{with_version, range_rules, as_id_at, family_in, address_family_at, prefix_in, address_at, max_length_at}
 
 -- ---- the place of the version
 
@@ -123,8 +122,8 @@ unfolding address_family address_family_at
 exact_address_family before =
     exact_field 4 (λ content. []) (family_rules before) family_in FamilySpells
     (exact_primitive FamilySpells (family_rules before) family_in
-      (λ content bytes kept. family_is content (kept_or 8 12 (is_family content) (eqb (get_or content 1 0) (number_before before)) (ltb (get_or content 1 0) (number_before before)) kept).0)
-      (λ content family kept s. ap family_in s ∙ family_again family))
+    (λ content bytes kept. family_is content (kept_or 8 12 (is_family content) (eqb (get_or content 1 0) (number_before before)) (ltb (get_or content 1 0) (number_before before)) kept).0)
+    (λ content family kept s. ap family_in s ∙ family_again family))
 
 -- ---- the prefix and its maximum
 
@@ -133,8 +132,8 @@ unfolding address address_at
 exact_address family =
     exact_field 3 (λ content. (4, not (is_bit_string content)) ∷ []) (λ content. (10, ltb (family_width family) (bit_count content)) ∷ []) (prefix_in family) (PrefixSpells family)
     (exact_primitive (PrefixSpells family) (address_rules family) (prefix_in family)
-      (λ content bytes kept. record { bits = bits_value content; spelled = bits_spelled content (kept_2 4 10 (is_bit_string content) (ltb (family_width family) (bit_count content)) kept).0; is = refl })
-      (λ content prefix kept s. ap (of_bits family) (ap bits_value s.spelled.counted ∙ taken s.spelled.unused s.spelled.body s.bits s.spelled.padded) ∙ sym s.is))
+    (λ content bytes kept. record { bits = bits_value content; spelled = bits_spelled content (kept_2 4 10 (is_bit_string content) (ltb (family_width family) (bit_count content)) kept).0; is = refl })
+    (λ content prefix kept s. ap (of_bits family) (ap bits_value s.spelled.counted ∙ taken s.spelled.unused s.spelled.body s.bits s.spelled.padded) ∙ sym s.is))
 
 pub exact_max_length : (prefix : IpPrefix) → ExactElement (max_length prefix) (max_length_at prefix)
 unfolding max_length max_length_at

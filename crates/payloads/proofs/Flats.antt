@@ -1,5 +1,5 @@
 -- A flat value lies over one spelled tree only.
-use Rattle.std.proofs.Common.{◌≡◌, ◌≢◌, ℕ, ◌+◌, Bool, true, false, not, ◌||◌, eqb, ltb, List, [], ◌∷◌, ◌++◌, length, get_or, Option, Some, None, refl, sym, ap, subst, ◌∙◌}
+use Rattle.std.proofs.Common.{◌≡◌, ◌≢◌, ℕ, Bool, true, false, not, ◌||◌, eqb, ltb, List, [], ◌∷◌, ◌++◌, length, get_or, Option, Some, None, refl, sym, ap, subst, ◌∙◌}
 use Rattle.std.proofs.lemmas.Bool.{or_parts, eq-eqb}
 use Rattle.std.proofs.lemmas.List.{append-nil}
 use Rattle.der_lite.specs.Place.{first_of}
@@ -9,7 +9,7 @@ use Rattle.prefixes.specs.declared.prefix.IpPrefix.TheVariants.{V4, V6}
 use Rattle.payloads.specs.declared.family.AddressFamily.{AddressFamily}
 use Rattle.payloads.specs.declared.family.AddressFamily.TheVariants.{Ipv4, Ipv6}
 use Rattle.payloads.specs.declared.entry.RoaEntry.{RoaEntry}
-use Rattle.payloads.specs.Roa.{family_number, number_before, is_family, address_family, address, of_bits, ip_address, entry_behind, addresses, Family, ip_family, ip_addr_blocks, RoaTree, route_origin_attestation, roa_payload}
+use Rattle.payloads.specs.Roa.{family_number, is_family, address_family, address, of_bits, ip_address, entry_behind, addresses, Family, ip_family, ip_addr_blocks, RoaTree, route_origin_attestation, roa_payload}
 use Rattle.payloads.specs.RoaValues.{RoaValue, entries_of, flat, TreeSpells, RoaSpells}
 
 -- ---- entries of one family

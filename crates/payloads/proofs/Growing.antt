@@ -1,5 +1,5 @@
 -- Entries that come one after the other.
-use Rattle.std.proofs.Common.{◌≡◌, ◌≢◌, ℕ, zero, suc, ◌+◌, ◌-◌, ◌<◌, ◌≤◌, min, List, [], ◌∷◌, ◌++◌, length, take, Option, Some, None, Result, Ok, Err, refl, sym, ap, ◌∙◌, arith, append_assoc, length-append}
+use Rattle.std.proofs.Common.{◌≡◌, ◌≢◌, ℕ, zero, suc, ◌-◌, ◌<◌, List, [], ◌∷◌, ◌++◌, length, take, Option, Some, None, Result, Ok, Err, refl, sym, ap, ◌∙◌, arith, append_assoc, length-append}
 use Rattle.std.specs.Prelude.{⊤}
 use Rattle.std.proofs.lemmas.Bool.{ne_eqb}
 use Rattle.std.proofs.lemmas.List.{append-nil, length-take, nil_from_length}
@@ -49,9 +49,9 @@ grows_on old mid new more others g h =
       counted = omega (arith, g.counted, h.counted, length-append more others);
       room = h.room ∙ g.room;
       kept = h.kept ∙ ap (λ (l : List RoaEntry). l ++ take (mid.room - length mid.listed) others) g.kept
-      ∙ append_assoc old.listed (take k more) (take (mid.room - length mid.listed) others)
-      ∙ ap (λ (n : ℕ). old.listed ++ (take k more ++ take n others)) left
-      ∙ ap (λ (l : List RoaEntry). old.listed ++ l) (sym (take_append k more others));
+          ∙ append_assoc old.listed (take k more) (take (mid.room - length mid.listed) others)
+          ∙ ap (λ (n : ℕ). old.listed ++ (take k more ++ take n others)) left
+          ∙ ap (λ (l : List RoaEntry). old.listed ++ l) (sym (take_append k more others));
     }
 
 -- the last is the one that came last

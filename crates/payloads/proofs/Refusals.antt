@@ -1,19 +1,18 @@
 -- Nothing is wrong with a value that is spelled.
-use Rattle.std.proofs.Common.{◌≡◌, ◌≢◌, ◌⊎◌, ℕ, zero, suc, ◌+◌, ◌<◌, ◌≤◌, Bool, true, false, not, ◌||◌, eqb, ltb, leb, List, [], ◌∷◌, ◌++◌, length, get_or, Option, Some, None, unwrap_or, refl, sym, ap, subst, ◌∙◌, inl, inr, arith, length-append}
-use Rattle.std.proofs.lemmas.Bool.{le-ltb, ltb-false, leb-false, or_parts, or_left}
+use Rattle.std.proofs.Common.{◌≡◌, ◌≢◌, ◌⊎◌, ℕ, zero, suc, ◌+◌, ◌<◌, ◌≤◌, Bool, true, false, not, ◌||◌, eqb, ltb, leb, List, [], ◌∷◌, ◌++◌, length, get_or, Option, Some, None, refl, sym, ap, subst, ◌∙◌, inl, inr, arith, length-append}
+use Rattle.std.proofs.lemmas.Bool.{le-ltb, or_parts}
 use Rattle.der_lite.specs.Place.{first_of}
 use Rattle.der_lite.specs.Grammar.{EachSpells}
 use Rattle.der_lite.proofs.Integers.{between_kept, value_is, pos_is}
-use Rattle.prefixes.specs.Address.{Block}
 use Rattle.prefixes.specs.Payload.{block_of, width_of}
 use Rattle.prefixes.specs.declared.prefix.IpPrefix.{IpPrefix}
 use Rattle.prefixes.specs.declared.prefix.IpPrefix.TheVariants.{V4, V6}
 use Rattle.payloads.specs.declared.family.AddressFamily.{AddressFamily}
 use Rattle.payloads.specs.declared.family.AddressFamily.TheVariants.{Ipv4, Ipv6}
 use Rattle.payloads.specs.declared.entry.RoaEntry.{RoaEntry}
-use Rattle.payloads.specs.Entry.{greatest_length, is_not_above, is_bad_maximum}
-use Rattle.payloads.specs.Roa.{family_number, is_family, family_rules, address_family, family_width, of_bits, PrefixSpells, address, max_length, entry_members, ip_address, last_of, entry_behind, addresses, Family, ip_family, ip_addr_blocks, RoaTree, route_origin_attestation, roa_payload}
-use Rattle.payloads.specs.RoaValues.{entries_of, all_entries, TreeSpells, RoaValue, RoaSpells}
+use Rattle.payloads.specs.Entry.{is_not_above, is_bad_maximum}
+use Rattle.payloads.specs.Roa.{family_number, is_family, address_family, family_width, of_bits, address, max_length, entry_members, ip_address, last_of, entry_behind, addresses, ip_family, ip_addr_blocks, RoaTree, route_origin_attestation, roa_payload}
+use Rattle.payloads.specs.RoaValues.{all_entries, TreeSpells, RoaValue, RoaSpells}
 use Rattle.payloads.specs.Refusal.{goes_back, is_family_below, entry_rules, at_index, entries_refusal, roa_refusal}
 use Rattle.payloads.proofs.RoaOnce.{few_bits}
 use Rattle.payloads.proofs.Flats.{family_of, AllIn, IsAddresses, kept_first, addresses_are}
@@ -168,10 +167,12 @@ families_are first family bytes s = by first family (not_same (kept_first 8 (not
   where
     number_is : get_or s.0 1 0 ≡ family_number family
     number_is = ap (λ (l : List ℕ). get_or l 1 0) s.2.0
+
     not_same : ((not (is_family s.0) || eqb (get_or s.0 1 0) (family_number first)) ≡ false) × (first_of ((12, ltb (get_or s.0 1 0) (family_number first)) ∷ []) ≡ None) → (eqb (family_number family) (family_number first) ≡ false) × (ltb (family_number family) (family_number first) ≡ false)
     not_same k =
         let o = or_parts (not (is_family s.0)) (eqb (get_or s.0 1 0) (family_number first)) k.0 in
         (ap (λ (n : ℕ). eqb n (family_number first)) (sym number_is) ∙ o.1, ap (λ (n : ℕ). ltb n (family_number first)) (sym number_is) ∙ (kept_first 12 (ltb (get_or s.0 1 0) (family_number first)) [] k.1).0)
+
     by : (f g : AddressFamily) → (eqb (family_number g) (family_number f) ≡ false) × (ltb (family_number g) (family_number f) ≡ false) → (f ≡ Ipv4) × (g ≡ Ipv6)
     by Ipv4 Ipv4 k = absurd (let h = k.0 in cc)
     by Ipv4 Ipv6 k = (refl, refl)
@@ -207,7 +208,7 @@ tree_right (asn, ((first, es), Some (second, others))) bytes s =
     let b = last_of_some first es some families.0 in
     refusal_is (es ++ others) (not_empty_with es others some.some)
     (parts_right 0 None es others (first_right first es spelled.1 spelled.4)
-      (ap (λ (n : ℕ). entries_refusal n (last_behind None es) others) (omega arith) ∙ second_right second (length es) others (last_behind None es) b.0 behind.1 behind.4 families.1 b.1 b.2))
+    (ap (λ (n : ℕ). entries_refusal n (last_behind None es) others) (omega arith) ∙ second_right second (length es) others (last_behind None es) b.0 behind.1 behind.4 families.1 b.1 b.2))
 
 -- nor with a value that is spelled
 pub roa_right : (roa : RoaValue) (bytes : List ℕ) → RoaSpells roa bytes → roa_refusal roa.entries ≡ None

@@ -1,15 +1,14 @@
 -- No ROA has two spellings.
-use Rattle.std.proofs.Common.{◌≡◌, ℕ, ◌+◌, ◌≤◌, Bool, true, false, None, not, eqb, ltb, List, [], ◌∷◌, length, Option, Some, refl, sym, ap, subst, ◌∙◌, arith}
+use Rattle.std.proofs.Common.{◌≡◌, ℕ, ◌+◌, ◌≤◌, Bool, true, false, None, not, ltb, List, [], ◌∷◌, length, Option, Some, refl, sym, ap, subst, ◌∙◌, arith}
 use Rattle.std.proofs.lemmas.Bool.{ltb-false}
 use Rattle.der_lite.specs.Place.{first_of}
 use Rattle.der_lite.specs.Der.{BitsSpell, is_bit_string, bit_count, head_rules}
-use Rattle.der_lite.specs.Grammar.{Members, Keeps, primitive, constructed, member, last, optional, each}
+use Rattle.der_lite.specs.Grammar.{Keeps, primitive, constructed, member, last, optional, each}
 use Rattle.der_lite.specs.Values.{integer_between}
 use Rattle.der_lite.proofs.Once.{Once, once_element, once_primitive, once_constructed, once_last, once_member, once_optional, once_each}
 use Rattle.der_lite.proofs.Fields.{once_valued}
 use Rattle.der_lite.proofs.Integers.{once_between}
 use Rattle.der_lite.proofs.BitStrings.{once_bits, bits_one, spelled_count}
-use Rattle.prefixes.specs.Address.{Block}
 use Rattle.prefixes.specs.Payload.{block_of, width_of}
 use Rattle.prefixes.specs.declared.prefix.IpPrefix.{IpPrefix}
 use Rattle.payloads.specs.declared.family.AddressFamily.{AddressFamily}
@@ -41,8 +40,8 @@ once_address : (family : AddressFamily) → Once (address family).Spells
 unfolding address
 once_address family =
     once_element 3 (head_rules 3) (primitive (PrefixSpells family) (address_rules family)) (once_primitive (PrefixSpells family) (address_rules family) (λ prefix a b ba bb ka kb s t.
-      let same : s.bits ≡ t.bits = bits_from family s.bits t.bits (few_bits family prefix a s ka) (sym s.is ∙ t.is) in
-      once_bits t.bits a b ba bb (subst (λ (bits : List Bool). BitsSpell bits a) same s.spelled) t.spelled))
+    let same : s.bits ≡ t.bits = bits_from family s.bits t.bits (few_bits family prefix a s ka) (sym s.is ∙ t.is) in
+    once_bits t.bits a b ba bb (subst (λ (bits : List Bool). BitsSpell bits a) same s.spelled) t.spelled))
 
 -- ---- the other fields
 
@@ -64,8 +63,8 @@ once_entry : (family : AddressFamily) (count : ℕ) (before : Option RoaEntry) �
 unfolding ip_address
 once_entry family count before = once_element 48 (head_rules 48) (constructed (too_many_rules count) (entry_members family) (order_rules before))
     (once_constructed (too_many_rules count) (entry_members family) (order_rules before)
-      (once_valued entry_parts (member (address family) (λ prefix. optional (max_length prefix)))
-        (once_member (address family) (λ prefix. optional (max_length prefix)) (once_address family) (λ prefix. once_optional (max_length prefix) (once_max_length prefix)))))
+    (once_valued entry_parts (member (address family) (λ prefix. optional (max_length prefix)))
+    (once_member (address family) (λ prefix. optional (max_length prefix)) (once_address family) (λ prefix. once_optional (max_length prefix) (once_max_length prefix)))))
 
 once_addresses : (family : AddressFamily) (count : ℕ) → Once (addresses family count).Spells
 unfolding addresses
@@ -76,14 +75,14 @@ once_ip_family : (before : Option AddressFamily) (count : ℕ) → Once (ip_fami
 unfolding ip_family
 once_ip_family before count = once_element 48 (head_rules 48) (constructed no_rules (member (address_family before) (λ family. last (addresses family count))) no_rules)
     (once_constructed no_rules (member (address_family before) (λ family. last (addresses family count))) no_rules
-      (once_member (address_family before) (λ family. last (addresses family count)) (once_address_family before) (λ family. once_last (addresses family count) (once_addresses family count))))
+    (once_member (address_family before) (λ family. last (addresses family count)) (once_address_family before) (λ family. once_last (addresses family count) (once_addresses family count))))
 
 once_blocks : Once ip_addr_blocks.Spells
 unfolding ip_addr_blocks
 once_blocks = once_element 48 (head_rules 48) (constructed not_empty (member (ip_family None 0) (λ first. optional (ip_family (Some first.0) (length first.1)))) no_rules)
     (once_constructed not_empty (member (ip_family None 0) (λ first. optional (ip_family (Some first.0) (length first.1)))) no_rules
-      (once_member (ip_family None 0) (λ first. optional (ip_family (Some first.0) (length first.1))) (once_ip_family None 0)
-        (λ first. once_optional (ip_family (Some first.0) (length first.1)) (once_ip_family (Some first.0) (length first.1)))))
+    (once_member (ip_family None 0) (λ first. optional (ip_family (Some first.0) (length first.1))) (once_ip_family None 0)
+    (λ first. once_optional (ip_family (Some first.0) (length first.1)) (once_ip_family (Some first.0) (length first.1)))))
 
 once_attestation : Once route_origin_attestation.Spells
 unfolding route_origin_attestation

@@ -4,7 +4,6 @@ use Rattle.der_lite.specs.Place.{first_of}
 use Rattle.prefixes.specs.declared.prefix.IpPrefix.{IpPrefix}
 use Rattle.prefixes.specs.declared.prefix.IpPrefix.TheVariants.{V4, V6}
 use Rattle.payloads.specs.declared.entry.RoaEntry.{RoaEntry}
-use Rattle.payloads.specs.declared.fault.GrammarFaultKind.{GrammarFaultKind}
 use Rattle.payloads.specs.declared.fault.ValueFault.{ValueFault}
 use Rattle.payloads.specs.Faults.{kind_number}
 use Rattle.payloads.specs.Entry.{is_not_above, is_bad_maximum}

@@ -1,7 +1,7 @@
 -- The payload of a ROA (RFC 9582 section 4), and the first fault of bytes that spell none.
-use Rattle.std.specs.Prelude.{◌≡◌, ℕ, ◌+◌, ◌&&◌, ◌||◌, Bool, not, nat_lt, nat_le, ◌==◌, if◌then◌else◌, List, [], ◌∷◌, length, slice_index, Option, Some, None}
+use Rattle.std.specs.Prelude.{◌≡◌, ℕ, ◌+◌, ◌&&◌, ◌||◌, Bool, not, nat_lt, nat_le, ◌==◌, List, [], ◌∷◌, length, slice_index, Option, Some, None}
 use Rattle.der_lite.specs.Der.{BitsSpell, is_bit_string, bit_count, is_truncated, tag_of, head_rules}
-use Rattle.der_lite.specs.Grammar.{Element, Members, Content, element, primitive, constructed, last, member, optional, each}
+use Rattle.der_lite.specs.Grammar.{Element, Members, element, primitive, constructed, last, member, optional, each}
 use Rattle.der_lite.specs.Values.{integer_between, bits_number}
 use Rattle.der_lite.specs.Fields.{valued}
 use Rattle.prefixes.specs.Address.{Block}

@@ -1,6 +1,6 @@
 -- Reading the payload of a ROA over what the reads of a cursor give.
 use Rattle.std.specs.Prelude.{ℕ, ◌+◌, ◌==◌, ◌&&◌, ◌||◌, Bool, nat_lt, if◌then◌else◌, List, [], ◌∷◌, length, slice_index, Option, Some, None, Result, Ok, Err}
-use Rattle.der_lite.specs.Place.{Place, Fault, place_of}
+use Rattle.der_lite.specs.Place.{Fault, place_of}
 use Rattle.der_lite.specs.Der.{number, bit_count, tag_of}
 use Rattle.der_lite.specs.Values.{is_negative, bits_value}
 use Rattle.der_lite.specs.Reading.{integer_at, bits_at, octets_at}

@@ -37,7 +37,8 @@ impl RoaEntry {
     {
         match before {
             None => false,
-            Some(before) => (self.prefix, self.greatest_length()) <= (before.prefix, before.greatest_length()),
+            Some(before) => (self.prefix, self.greatest_length())
+                <= (before.prefix, before.greatest_length()),
         }
     }
 
@@ -47,7 +48,10 @@ impl RoaEntry {
     {
         match before {
             None => false,
-            Some(before) => matches!((before.prefix, self.prefix), (IpPrefix::V6(_), IpPrefix::V4(_))),
+            Some(before) => matches!(
+                (before.prefix, self.prefix),
+                (IpPrefix::V6(_), IpPrefix::V4(_))
+            ),
         }
     }
 

@@ -11,6 +11,8 @@ mod fault;
 pub mod laws;
 mod reading;
 mod roa;
+#[cfg(test)]
+mod tests;
 
 pub use entry::RoaEntry;
 pub use fault::{GrammarFault, GrammarFaultKind, PayloadFault, ValueFault};

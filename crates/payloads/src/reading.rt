@@ -51,7 +51,10 @@ fn as_id(cursor: &mut Cursor) -> Result<Asn, GrammarFault>
 
 /// addressFamily OCTET STRING (SIZE(2)), behind the family before it (4.3.1).
 #[tactic(auto, unfolding(crate::specs::RoaReading::address_family_at))]
-fn address_family(cursor: &mut Cursor, before: Option<AddressFamily>) -> Result<AddressFamily, GrammarFault>
+fn address_family(
+    cursor: &mut Cursor,
+    before: Option<AddressFamily>,
+) -> Result<AddressFamily, GrammarFault>
     ensures { GivesNext (λ family. family) result cursor.new (address_family_at before cursor.old) }
 {
     let offset = cursor.offset();
@@ -77,7 +80,6 @@ fn address_family(cursor: &mut Cursor, before: Option<AddressFamily>) -> Result<
         }),
     }
 }
-
 
 /// address BIT STRING (SIZE(0..ub)) (4.3.2).
 #[tactic(auto, unfolding(crate::specs::RoaReading::address_at))]
@@ -130,7 +132,12 @@ fn maximum(members: Cursor, prefix: &IpPrefix) -> Result<Option<u8>, GrammarFaul
 /// ROAIPAddress, behind so many entries of the payload, and behind the one before it in its family
 /// (4.3.2).
 #[tactic(auto, unfolding(crate::specs::RoaReading::entry_at))]
-fn entry(cursor: &mut Cursor, family: AddressFamily, count: usize, before: Option<&RoaEntry>) -> Result<RoaEntry, GrammarFault>
+fn entry(
+    cursor: &mut Cursor,
+    family: AddressFamily,
+    count: usize,
+    before: Option<&RoaEntry>,
+) -> Result<RoaEntry, GrammarFault>
     ensures exact { GivesNext (λ entry. entry) result cursor.new (entry_at family count (option_copied before.entry) cursor.old) }
     ensures few { IfOk result (λ _. count < 65536) }
 {
@@ -155,7 +162,11 @@ fn entry(cursor: &mut Cursor, family: AddressFamily, count: usize, before: Optio
 }
 
 /// SEQUENCE OF ROAIPAddress of a family, to the end (4.3.1).
-fn each_entry(members: Cursor, family: AddressFamily, entries: &mut Entries) -> Result<(), GrammarFault>
+fn each_entry(
+    members: Cursor,
+    family: AddressFamily,
+    entries: &mut Entries,
+) -> Result<(), GrammarFault>
     ensures { Lists (λ _ _. ⊤) (λ more. more) result entries.old entries.new (entries_at family entries.old.count members.entry) }
 {
     let mut members = members;
@@ -170,7 +181,11 @@ fn each_entry(members: Cursor, family: AddressFamily, entries: &mut Entries) -> 
 
 /// addresses SEQUENCE (SIZE(1..MAX)) OF ROAIPAddress (4.3.1).
 #[tactic(auto, unfolding(crate::specs::RoaReading::addresses_at))]
-fn addresses(cursor: &mut Cursor, family: AddressFamily, entries: &mut Entries) -> Result<(), GrammarFault>
+fn addresses(
+    cursor: &mut Cursor,
+    family: AddressFamily,
+    entries: &mut Entries,
+) -> Result<(), GrammarFault>
     ensures { Lists (λ _ read. read.1 ≡ cursor.new) (λ read. read.0) result entries.old entries.new (addresses_at family entries.old.count cursor.old) }
 {
     let offset = cursor.offset();
@@ -186,7 +201,11 @@ fn addresses(cursor: &mut Cursor, family: AddressFamily, entries: &mut Entries) 
 
 /// ROAIPAddressFamily, behind the family before it (4.3.1).
 #[tactic(auto, unfolding(crate::specs::RoaReading::ip_family_at))]
-fn ip_family(cursor: &mut Cursor, before: Option<AddressFamily>, entries: &mut Entries) -> Result<AddressFamily, GrammarFault>
+fn ip_family(
+    cursor: &mut Cursor,
+    before: Option<AddressFamily>,
+    entries: &mut Entries,
+) -> Result<AddressFamily, GrammarFault>
     ensures { Lists (λ family read. (read.0.0 ≡ family) × (read.1 ≡ cursor.new)) (λ read. read.0.1) result entries.old entries.new (ip_family_at before entries.old.count cursor.old) }
 {
     let mut members = cursor.sequence()?;
@@ -197,7 +216,11 @@ fn ip_family(cursor: &mut Cursor, before: Option<AddressFamily>, entries: &mut E
 }
 
 /// A second ROAIPAddressFamily if bytes remain, and the end of ipAddrBlocks (4.3).
-fn second_family(members: Cursor, first: AddressFamily, entries: &mut Entries) -> Result<(), GrammarFault>
+fn second_family(
+    members: Cursor,
+    first: AddressFamily,
+    entries: &mut Entries,
+) -> Result<(), GrammarFault>
     ensures { Lists (λ _ _. ⊤) entries_of result entries.old entries.new (optional_at (ip_family_at (Some first) entries.old.count) members.entry) }
 {
     let mut members = members;
@@ -229,7 +252,10 @@ fn ip_addr_blocks(cursor: &mut Cursor, entries: &mut Entries) -> Result<(), Gram
 
 /// RouteOriginAttestation, and nothing behind it (4).
 #[tactic(auto, unfolding(crate::specs::RoaReading::payload_at, crate::specs::RoaReading::attestation_at))]
-pub(crate) fn route_origin_attestation(payload: &[u8], entries: &mut Entries) -> Result<Asn, GrammarFault>
+pub(crate) fn route_origin_attestation(
+    payload: &[u8],
+    entries: &mut Entries,
+) -> Result<Asn, GrammarFault>
     requires { entries.old.count ≡ 0 }
     ensures { Lists (λ asn tree. tree.0 ≡ asn.0) (λ tree. all_entries tree.1) result entries.old entries.new (payload_at payload.now) }
 {

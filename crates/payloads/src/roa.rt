@@ -62,7 +62,10 @@ impl Roa {
     pub fn notes(&self) -> usize
         ensures { result ≡ notes_of self.now }
     {
-        self.entries.iter().filter(|entry| entry.is_superfluous()).count()
+        self.entries
+            .iter()
+            .filter(|entry| entry.is_superfluous())
+            .count()
     }
 
     /// What the ROA validates: a payload for each entry, in their order. The maximum length of an

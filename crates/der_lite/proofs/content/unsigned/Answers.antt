@@ -1,4 +1,4 @@
-use Rattle.std.proofs.Common.{◌≡◌, ◌≢◌, ◌<◌, sym, arith, length, get_or}
+use Rattle.std.proofs.Common.{◌≡◌, ◌≢◌, sym, arith, length, get_or}
 use Rattle.der_lite.proofs.Integers.{too_large}
 use Rattle.der_lite.proofs.content.unsigned.Goals as goal
 use Rattle.der_lite.proofs.content.unsigned.Goals.{else-first-eq0-via-then-first-eq0+else-digits-eq4, else-first-eq0-via-else-first-eq0}

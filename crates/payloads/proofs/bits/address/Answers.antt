@@ -1,4 +1,4 @@
-use Rattle.std.proofs.Common.{◌≡◌, ◌∙◌, ◌<◌, ◌^◌, ℕ, ap, subst, sym, arith}
+use Rattle.std.proofs.Common.{◌<◌, ◌^◌, ℕ, subst, sym, arith}
 use Rattle.prefixes.specs.Address.{HasNoHostBits}
 use Rattle.der_lite.specs.Der.{bit_count}
 use Rattle.der_lite.specs.Cursors.{bits_content}

@@ -1,5 +1,4 @@
-use Rattle.std.proofs.Common.{◌≡◌, ◌<◌, ◌^◌, arith, take}
-use Rattle.der_lite.specs.Der.{number as number_of}
+use Rattle.std.proofs.Common.{arith}
 use Rattle.der_lite.proofs.Integers.{number_next, number_within}
 use Rattle.payloads.proofs.bits.number.Goals as goal
 

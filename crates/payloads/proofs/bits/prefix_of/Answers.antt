@@ -1,4 +1,4 @@
-use Rattle.std.proofs.Common.{◌≡◌, ◌∙◌, ℕ, ap, arith}
+use Rattle.std.proofs.Common.{◌∙◌, ap, arith}
 use Rattle.der_lite.specs.Values.{bits_value, bits_number}
 use Rattle.der_lite.specs.Cursors.{bits_content}
 use Rattle.payloads.proofs.Addresses.{prefix_is}

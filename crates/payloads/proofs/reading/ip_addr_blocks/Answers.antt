@@ -1,4 +1,4 @@
-use Rattle.std.proofs.Common.{◌≡◌, ◌≢◌, []}
+use Rattle.std.proofs.Common.{◌≢◌, []}
 use Rattle.payloads.proofs.Growing.{blocks_are}
 use Rattle.payloads.proofs.reading.ip_addr_blocks.Goals as goal
 

@@ -1,4 +1,4 @@
-use Rattle.std.proofs.Common.{◌≡◌, refl}
+use Rattle.std.proofs.Common.{refl}
 use Rattle.payloads.specs.RoaReading.{ip_family_at}
 use Rattle.payloads.proofs.reading.ip_family.Goals as goal
 

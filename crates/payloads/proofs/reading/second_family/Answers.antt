@@ -1,7 +1,6 @@
-use Rattle.std.proofs.Common.{◌≡◌, ◌≢◌, [], Some, refl, length, eqb, false}
+use Rattle.std.proofs.Common.{◌≡◌, Some, refl, length, eqb, false}
 use Rattle.std.proofs.lemmas.Bool.{ne_eqb}
 use Rattle.std.proofs.lemmas.List.{nil_from_length}
-use Rattle.payloads.specs.RoaReading.{ip_family_at}
 use Rattle.payloads.proofs.reading.second_family.Goals as goal
 
 pub returns : goal.returns

@@ -1,4 +1,4 @@
-use Rattle.std.proofs.Common.{◌≡◌, ◌∙◌, List, ap, sym}
+use Rattle.std.proofs.Common.{◌∙◌, List, ap}
 use Rattle.payloads.specs.declared.entry.RoaEntry.{RoaEntry}
 use Rattle.payloads.specs.Entry.{is_bad_maximum}
 use Rattle.payloads.specs.Refusal.{roa_refusal}

@@ -1,0 +1,270 @@
+//! ROAs by hand.
+
+use crate::{PayloadFault, Roa, RoaEntry, decode_roa};
+use der_lite::{Bits, DerWriter};
+use prefixes::{Asn, IpPrefix, PrefixFault, Vrp};
+use std::alloc::Global;
+use std::process::Abort;
+use std::test::Fail;
+
+/// AS64496 and 192.0.2.0/24.
+const ONE_PREFIX: &[u8; 25] =
+    b"\x30\x17\x02\x03\x00\xfb\xf0\x30\x10\x30\x0e\x04\x02\x00\x01\x30\x08\x30\x06\x03\x04\x00\xc0\x00\x02";
+
+/// AS64496 and 0.0.0.0/0.
+const NO_BITS: &[u8; 22] =
+    b"\x30\x14\x02\x03\x00\xfb\xf0\x30\x0d\x30\x0b\x04\x02\x00\x01\x30\x05\x30\x03\x03\x01\x00";
+
+/// AS64496 and 2001:db8::/32 with the maximum 48.
+const WITH_MAXIMUM: &[u8; 29] =
+    b"\x30\x1b\x02\x03\x00\xfb\xf0\x30\x14\x30\x12\x04\x02\x00\x02\x30\x0c\x30\x0a\x03\x05\x00\x20\x01\x0d\xb8\x02\x01\x30";
+
+/// The number and the offset of the first fault, if the bytes are refused. Want of memory is 0 at 0.
+fn fault(alloc: Global, payload: &[u8]) -> Option<(u8, usize)> {
+    match decode_roa(alloc, payload) {
+        Ok(_) => None,
+        Err(PayloadFault::At(fault)) => Some((fault.kind.number(), fault.offset)),
+        Err(PayloadFault::Memory) => Some((0, 0)),
+    }
+}
+
+/// The payload of this prefix, this maximum and AS64496.
+fn vrp(text: &str, max_len: u8) -> Result<Vrp, PrefixFault> {
+    Vrp::new(IpPrefix::parse(text)?, max_len, Asn(64496))
+}
+
+#[test]
+fn decodes_roas(rt: HostRuntime) -> Result<(), Fail> {
+    let alloc = rt.alloc();
+    for (payload, text, max_len, notes) in [
+        (ONE_PREFIX.as_slice(), "192.0.2.0/24", 24u8, 0usize),
+        (NO_BITS.as_slice(), "0.0.0.0/0", 0, 0),
+        (WITH_MAXIMUM.as_slice(), "2001:db8::/32", 48, 0),
+        (
+            b"\x30\x1a\x02\x03\x00\xfb\xf0\x30\x13\x30\x11\x04\x02\x00\x01\x30\x0b\x30\x09\x03\x04\x00\xc0\x00\x02\x02\x01\x18".as_slice(),
+            "192.0.2.0/24",
+            24,
+            1,
+        ),
+    ] {
+        let Ok(roa) = decode_roa(alloc, payload) else {
+            assert!(rt; false, "{text}");
+            return Ok(());
+        };
+        assert_eq!(rt; roa.asn(), Asn(64496));
+        assert_eq!(rt; roa.notes(), notes);
+        let vrps = roa.vrps(alloc)?;
+        assert_eq!(rt; vrps.len(), 1);
+        assert!(rt; vrps.first().copied() == vrp(text, max_len).ok(), "{text}");
+    }
+    Ok(())
+}
+
+#[test]
+fn tells_the_first_fault(rt: HostRuntime) {
+    let alloc = rt.alloc();
+    for (payload, number, offset) in [
+        (
+            b"\x30\x1c\xa0\x03\x02\x01\x00\x02\x03\x00\xfb\xf0\x30\x10\x30\x0e\x04\x02\x00\x01\x30\x08\x30\x06\x03\x04\x00\xc0\x00\x02".as_slice(),
+            6u8,
+            2usize,
+        ),
+        (
+            b"\x30\x22\x02\x03\x00\xfb\xf0\x30\x1b\x30\x19\x04\x02\x00\x01\x30\x13\x30\x06\x03\x04\x00\xc0\x00\x02\x30\x09\x03\x04\x00\xc0\x00\x02\x02\x01\x18".as_slice(),
+            12,
+            25,
+        ),
+        (
+            b"\x30\x17\x02\x03\x00\xfb\xf0\x30\x10\x30\x0e\x04\x02\x00\x01\x30\x08\x30\x06\x03\x04\x01\xc0\x00\x03".as_slice(),
+            4,
+            19,
+        ),
+        (
+            b"\x30\x1a\x02\x03\x00\xfb\xf0\x30\x13\x30\x11\x04\x02\x00\x01\x30\x0b\x30\x09\x03\x04\x00\xc0\x00\x02\x02\x01\x21".as_slice(),
+            11,
+            25,
+        ),
+        (
+            b"\x30\x1a\x02\x03\x00\xfb\xf0\x30\x13\x30\x11\x04\x02\x00\x01\x30\x0b\x30\x09\x03\x04\x00\xc0\x00\x02\x02\x01\x17".as_slice(),
+            11,
+            25,
+        ),
+        (
+            b"\x30\x27\x02\x03\x00\xfb\xf0\x30\x20\x30\x0e\x04\x02\x00\x01\x30\x08\x30\x06\x03\x04\x00\xc0\x00\x02\x30\x0e\x04\x02\x00\x01\x30\x08\x30\x06\x03\x04\x00\xc0\x00\x02".as_slice(),
+            8,
+            27,
+        ),
+        (
+            b"\x30\x2b\x02\x03\x00\xfb\xf0\x30\x24\x30\x12\x04\x02\x00\x02\x30\x0c\x30\x0a\x03\x05\x00\x20\x01\x0d\xb8\x02\x01\x30\x30\x0e\x04\x02\x00\x01\x30\x08\x30\x06\x03\x04\x00\xc0\x00\x02".as_slice(),
+            12,
+            31,
+        ),
+        (
+            b"\x30\x3f\x02\x03\x00\xfb\xf0\x30\x38\x30\x0e\x04\x02\x00\x01\x30\x08\x30\x06\x03\x04\x00\xc0\x00\x02\x30\x12\x04\x02\x00\x02\x30\x0c\x30\x0a\x03\x05\x00\x20\x01\x0d\xb8\x02\x01\x30\x30\x12\x04\x02\x00\x02\x30\x0c\x30\x0a\x03\x05\x00\x20\x01\x0d\xb8\x02\x01\x30".as_slice(),
+            5,
+            45,
+        ),
+        (b"\x30\x07\x02\x03\x00\xfb\xf0\x30\x00".as_slice(), 9, 7),
+        (b"\x30\x07\x02\x05\x01\x00\x00\x00\x00".as_slice(), 7, 2),
+        (b"\x30\x80".as_slice(), 3, 0),
+        (b"\x30\x04\x02\x02\x00\x01".as_slice(), 4, 2),
+        (b"\x30\x03\x02\x01\x80".as_slice(), 7, 2),
+        (b"\x30\x05\x02\x03\x00\xfb\xf0".as_slice(), 1, 7),
+        (b"\x30\x84\xff\xff\xff\xff".as_slice(), 1, 0),
+        (b"\x30\x85\x00\x00\x00\x00\x01".as_slice(), 3, 0),
+        (
+            b"\x30\x81\x17\x02\x03\x00\xfb\xf0\x30\x10\x30\x0e\x04\x02\x00\x01\x30\x08\x30\x06\x03\x04\x00\xc0\x00\x02".as_slice(),
+            3,
+            0,
+        ),
+        (b"\x1f\x00".as_slice(), 2, 0),
+        (b"\xa0\x00".as_slice(), 2, 0),
+        (b"\x30\x02\xa0\x00".as_slice(), 6, 2),
+        (b"\x30\x01\xa0".as_slice(), 1, 2),
+        (
+            b"\x30\x17\x02\x03\x00\xfb\xf0\x30\x10\x30\x0e\x04\x02\x00\x01\x30\x09\x30\x06\x03\x04\x00\xc0\x00\x02".as_slice(),
+            1,
+            15,
+        ),
+        (
+            b"\x30\x17\x02\x03\x00\xfb\xf0\x30\x10\x30\x0e\x04\x02\x00\x01\x30\x08\x30\x05\x03\x04\x00\xc0\x00\x02".as_slice(),
+            1,
+            19,
+        ),
+        (
+            b"\x30\x17\x02\x03\x00\xfb\xf0\x30\x10\x30\x0e\x04\x02\x00\x01\x30\x08\x30\x06\x03\x04\x00\xc0\x00\x02\x00".as_slice(),
+            5,
+            25,
+        ),
+    ] {
+        assert_eq!(rt;
+            fault(alloc, payload),
+            Some((number, offset)),
+            "at {payload:?}"
+        );
+    }
+    let whole = ONE_PREFIX.as_slice();
+    for cut in 0..25usize {
+        assert_eq!(rt; fault(alloc, &whole[..cut]), Some((1, 0)), "{cut} bytes");
+    }
+}
+
+#[test]
+fn tells_faults_inside_the_payload(rt: HostRuntime) {
+    let alloc = rt.alloc();
+    for index in 0..29usize {
+        for byte in 0..=255u8 {
+            let mut payload = *WITH_MAXIMUM;
+            payload[index] = byte;
+            let inside = match fault(alloc, &payload) {
+                None => true,
+                Some((number, offset)) => number > 0 && number < 20 && offset <= 29,
+            };
+            assert!(rt; inside, "{byte} at {index}");
+        }
+    }
+}
+
+/// The entries of these prefixes and maxima.
+fn entries_of(alloc: Global, rows: &[(&str, Option<u8>)]) -> Result<Vec<RoaEntry>, Fail> {
+    let mut entries = Vec::new(alloc);
+    for &(text, max_len) in rows {
+        let prefix = IpPrefix::parse(text)?;
+        entries.push(RoaEntry { prefix, max_len })?;
+    }
+    Ok(entries)
+}
+
+#[test]
+fn makes_roas_of_values(rt: HostRuntime) -> Result<(), Fail> {
+    let alloc = rt.alloc();
+    for (rows, refusal) in [
+        (
+            [
+                ("192.0.2.0/24", None),
+                ("192.0.2.0/25", Some(32)),
+                ("2001:db8::/32", Some(48u8)),
+            ]
+            .as_slice(),
+            None,
+        ),
+        ([].as_slice(), Some((9u8, 0usize))),
+        (
+            [("2001:db8::/32", None), ("192.0.2.0/24", Some(40))].as_slice(),
+            Some((12, 1)),
+        ),
+        (
+            [("192.0.2.0/24", None), ("192.0.2.0/24", Some(33))].as_slice(),
+            Some((11, 1)),
+        ),
+        ([("192.0.2.0/24", Some(23))].as_slice(), Some((11, 0))),
+        (
+            [("192.0.2.0/24", None), ("192.0.2.0/24", Some(24))].as_slice(),
+            Some((12, 1)),
+        ),
+        (
+            [("192.0.3.0/24", None), ("192.0.2.0/24", None)].as_slice(),
+            Some((12, 1)),
+        ),
+    ] {
+        let made = Roa::new(Asn(64496), entries_of(alloc, rows)?);
+        let fault = match made {
+            Ok(roa) => {
+                assert_eq!(rt; roa.entries().len(), rows.len());
+                None
+            }
+            Err(fault) => Some((fault.kind.number(), fault.index)),
+        };
+        assert_eq!(rt; fault, refusal);
+    }
+    Ok(())
+}
+
+/// The payload of AS64496 and of so many prefixes of 24 bits, from 10.0.0.0 on.
+fn long_payload(rt: &impl Abort, alloc: Global, count: u32) -> Result<Vec<u8>, Fail> {
+    let mut list = DerWriter::new(alloc);
+    for index in 0..count {
+        let mut entry = DerWriter::new(alloc);
+        let octets = [
+            (index / 65536 % 256) as u8,
+            (index / 256 % 256) as u8,
+            (index % 256) as u8,
+        ];
+        entry.bits(Bits {
+            unused: 0,
+            bytes: octets.as_slice(),
+        })?;
+        assert!(rt; entry.as_slice().len() < 100);
+        list.sequence(entry.as_slice())?;
+    }
+    let mut family = DerWriter::new(alloc);
+    family.octets(b"\x00\x01".as_slice())?;
+    assert!(rt; list.as_slice().len() < 4000000);
+    family.sequence(list.as_slice())?;
+    let mut blocks = DerWriter::new(alloc);
+    assert!(rt; family.as_slice().len() < 4000000);
+    blocks.sequence(family.as_slice())?;
+    let mut members = DerWriter::new(alloc);
+    members.integer(b"\x00\xfb\xf0".as_slice())?;
+    assert!(rt; blocks.as_slice().len() < 4000000);
+    members.sequence(blocks.as_slice())?;
+    let mut whole = DerWriter::new(alloc);
+    assert!(rt; members.as_slice().len() < 4000000);
+    whole.sequence(members.as_slice())?;
+    Ok(whole.into_bytes())
+}
+
+#[test]
+fn takes_65536_entries_and_no_more(rt: HostRuntime) -> Result<(), Fail> {
+    let alloc = rt.alloc();
+    let most = long_payload(&rt, alloc, 65536)?;
+    let Ok(roa) = decode_roa(alloc, most.as_slice()) else {
+        assert!(rt; false);
+        return Ok(());
+    };
+    assert_eq!(rt; roa.entries().len(), 65536);
+    let more = long_payload(&rt, alloc, 65537)?;
+    assert!(rt; more.len() > 8);
+    assert_eq!(rt; fault(alloc, more.as_slice()), Some((19, more.len() - 8)));
+    Ok(())
+}
