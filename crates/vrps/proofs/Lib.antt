@@ -1,6 +1,9 @@
+pub mod Cuts
 pub mod Listed
 pub mod OriginRows
 pub mod Searching
 pub mod SerialRows
 pub mod SetLaws
 pub mod Sorting
+pub mod StateLaws
+pub mod Walks

@@ -203,7 +203,7 @@ and_false true = refl
 and_false false = refl
 
 -- What a filter by a test that answers alike at ties keeps of a member
-kept : (p : Payload → Bool) (q : Payload) → ((x : Payload) → vrp_cmp q x ≡ Equal → p x ≡ p q) → (vs : List Payload) → list_any (same_vrp q) (filter p vs) ≡ (list_any (same_vrp q) vs && p q)
+pub kept : (p : Payload → Bool) (q : Payload) → ((x : Payload) → vrp_cmp q x ≡ Equal → p x ≡ p q) → (vs : List Payload) → list_any (same_vrp q) (filter p vs) ≡ (list_any (same_vrp q) vs && p q)
 kept p q alike [] = refl
 kept p q alike (v ∷ vs) =
     elim (vrp_cmp q v) as (λ o. vrp_cmp q v ≡ o → list_any (same_vrp q) (filter p (v ∷ vs)) ≡ ((is_eq o || list_any (same_vrp q) vs) && p q)) [

@@ -1,22 +1,18 @@
 -- What leads from one set to another (RFC 8210 sections 5.6 and 8.2).
 use Rattle.std.specs.Prelude.{◌≡◌}
 use Rattle.vrps.specs.VrpSet.{VrpSet, union, without}
-
--- the records to be withdrawn and those to be announced
-pub record Difference : Type 0 where
-  pub withdraw : VrpSet
-  pub announce : VrpSet
+use Rattle.vrps.specs.declared.change.Change.{Change}
 
 -- The change between s and t: s without t, and t without s.
-abbrev pub between : VrpSet → VrpSet → Difference
+abbrev pub between : VrpSet → VrpSet → Change
 between s t = record { withdraw = without s t; announce = without t s }
 
 -- s without the withdrawn, together with the announced
-abbrev pub apply : Difference → VrpSet → VrpSet
+abbrev pub apply : Change → VrpSet → VrpSet
 apply c s = union (without s c.withdraw) c.announce
 
 -- One change and then another, as one change: what comes and goes is in neither list.
-abbrev pub merge : Difference → Difference → Difference
+abbrev pub merge : Change → Change → Change
 merge c d = record {
   withdraw = union (without c.withdraw d.announce) (without d.withdraw c.announce);
   announce = union (without c.announce d.withdraw) (without d.announce c.withdraw);

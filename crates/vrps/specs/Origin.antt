@@ -1,11 +1,12 @@
 -- The state of a route (RFC 6811 section 2).
-use Rattle.std.specs.Prelude.{ℕ, Bool, false, not, ◌&&◌, ◌==◌, nat_le, List, Option, Some, None, filter, if◌then◌else◌}
+use Rattle.std.specs.Prelude.{◌≡◌, ◌↔◌, IsTrue, ℕ, Bool, false, not, ◌&&◌, ◌==◌, nat_le, List, [], Option, Some, None, filter, if◌then◌else◌}
 use Rattle.std.specs.List.{list_any}
-use Rattle.prefixes.specs.Payload.{Payload, block_of, covers}
+use Rattle.std.specs.List.Sorted.{IsStrictlySortedBy}
+use Rattle.prefixes.specs.Payload.{Payload, block_of, covers, vrp_cmp}
 use Rattle.prefixes.specs.declared.route.Route.{Route}
 use Rattle.vrps.specs.declared.origin.OriginState.{OriginState}
 use Rattle.vrps.specs.declared.origin.OriginState.TheVariants.{Valid, Invalid, NotFound}
-use Rattle.vrps.specs.VrpSet.{VrpSet, listing}
+use Rattle.vrps.specs.VrpSet.{VrpSet, has, listing, set_of}
 
 -- "Covered": the payload's prefix covers the route's.
 abbrev pub covers_route : Route → Payload → Bool
@@ -33,3 +34,40 @@ state_among vs r =
 
 abbrev pub state : VrpSet → Route → OriginState
 state s r = state_among (listing s) r
+
+-- some member covers the route, or matches it
+abbrev pub IsCovered : VrpSet → Route → Type 0
+IsCovered s r = (v : Payload) × IsTrue (has s v) × IsTrue (covers_route r v)
+
+abbrev pub IsMatched : VrpSet → Route → Type 0
+IsMatched s r = (v : Payload) × IsTrue (has s v) × IsTrue (matches r v)
+
+-- The same states, said of members
+abbrev pub HasState : VrpSet → Route → OriginState → Type 0
+HasState s r Valid = IsMatched s r
+HasState s r Invalid = IsCovered s r × ¬ (IsMatched s r)
+HasState s r NotFound = ¬ (IsCovered s r)
+
+-- The state of a route is that which members give it.
+abbrev pub StateByMembers : Type 0
+StateByMembers = (s : VrpSet) (r : Route) → HasState s r (state s r)
+
+-- A route has one state.
+abbrev pub OneState : Type 0
+OneState = (s : VrpSet) (r : Route) (one other : OriginState) → HasState s r one → HasState s r other → one ≡ other
+
+-- The members that cover are listed, in ascending order, and nothing else.
+pub record ListsCovering (s : VrpSet) (r : Route) : Type 0 where
+  pub ascends : IsStrictlySortedBy vrp_cmp (covering s r)
+  pub members : (v : Payload) → has (set_of (covering s r)) v ≡ (has s v && covers_route r v)
+
+abbrev pub CoveringMembers : Type 0
+CoveringMembers = (s : VrpSet) (r : Route) → ListsCovering s r
+
+-- The members that cover decide the state.
+pub record CoveringDecides (s : VrpSet) (r : Route) : Type 0 where
+  pub valid : (state s r ≡ Valid) ↔ IsTrue (list_any (matches r) (covering s r))
+  pub not_found : (state s r ≡ NotFound) ↔ (covering s r ≡ [])
+
+abbrev pub StateByCovering : Type 0
+StateByCovering = (s : VrpSet) (r : Route) → CoveringDecides s r

@@ -1,5 +1,6 @@
 //! Laws of the definitions. These functions do nothing: their contracts are the laws.
 ghost use Rattle.vrps.specs.Change.{ChangeLeads, ChangesMerge};
+ghost use Rattle.vrps.specs.Origin.{CoveringMembers, OneState, StateByCovering, StateByMembers};
 ghost use Rattle.vrps.specs.VrpSet.{ListedAgain, SameMembers};
 
 /// A set that is listed and read again is the same set.
@@ -20,4 +21,25 @@ pub fn change_leads()
 /// Two changes in a row, merged, are the change between the ends.
 pub fn changes_merge()
     ensures { ChangesMerge }
+{}
+
+/// A route is Valid where some member matches it, Invalid where some member covers it and none matches, and NotFound where none
+/// covers it (RFC 6811 section 2).
+pub fn state_by_members()
+    ensures { StateByMembers }
+{}
+
+/// A route has one state.
+pub fn one_state()
+    ensures { OneState }
+{}
+
+/// The members that cover a route are listed in ascending order, and nothing else.
+pub fn covering_members()
+    ensures { CoveringMembers }
+{}
+
+/// A route is Valid exactly where one of the members that cover it matches, and NotFound exactly where there are none.
+pub fn state_by_covering()
+    ensures { StateByCovering }
 {}

@@ -1,13 +1,17 @@
 //! Sets of validated ROA payloads, changes between them, serials, and the states of routes.
 #![tactic(auto)]
 
+mod change;
 pub mod laws;
 mod origin;
+mod path;
 mod serial;
 mod set;
 #[cfg(test)]
 mod tests;
 
+pub use change::Change;
 pub use origin::{OriginIndex, OriginState};
+pub use path::{PathFault, Segment, SegmentKind, origin_of_path};
 pub use serial::Serial;
 pub use set::{SetFault, VrpSet};

@@ -1,7 +1,7 @@
 //! The states of routes.
-ghost use Rattle.std.specs.Prelude.{◌≡◌, ℕ, IfOk};
+ghost use Rattle.std.specs.Prelude.{◌≡◌, ℕ, IfOk, filter};
 ghost use Rattle.std.specs.List.{list_any};
-ghost use Rattle.vrps.specs.Origin.{covers_route, is_origin, matches, state};
+ghost use Rattle.vrps.specs.Origin.{covering, covers_route, is_origin, matches, state};
 
 use crate::set::VrpSet;
 use prefixes::{Asn, Route, Vrp};
@@ -61,6 +61,24 @@ impl OriginIndex {
             OriginState::NotFound
         }
     }
+
+    /// The records that cover the route, in ascending order.
+    pub fn covering(&self, alloc: Global, route: &Route) -> Result<Vec<Vrp>, AllocError>
+        ensures { IfOk result (λ records. records.items ≡ covering self.now route.now) }
+    {
+        covering_among(alloc, route, &self.records)
+    }
+}
+
+/// Those of the records that cover the route, in their order.
+fn covering_among(alloc: Global, route: &Route, records: &[Vrp]) -> Result<Vec<Vrp>, AllocError>
+    ensures { IfOk result (λ found. found.items ≡ filter (covers_route route.now) records.now) }
+{
+    records
+        .iter()
+        .filter(|vrp| vrp.prefix().covers(&route.prefix))
+        .copied()
+        .collect(alloc)
 }
 
 /// Whether some record matches the route.

@@ -5,7 +5,7 @@ ghost use Rattle.std.specs.List.Sorted.{IsStrictlySortedBy};
 ghost use Rattle.std.specs.Iterator.Adapters.{IterYieldsInOrder};
 ghost use Rattle.std.specs.Slice.Iter.{iter_rest};
 ghost use Rattle.prefixes.specs.Payload.{IsPayload, vrp_cmp};
-ghost use Rattle.vrps.specs.VrpSet.{IsVrpSet, empty, has, listing, size, set_of};
+ghost use Rattle.vrps.specs.VrpSet.{IsListing, IsVrpSet, empty, has, listing, size, set_of};
 
 use prefixes::Vrp;
 use std::alloc::{AllocError, Global};
@@ -29,6 +29,16 @@ impl SetFault {
         ensures { result ≡ fault_number self }
     {
         self as u8
+    }
+}
+
+impl From<AllocError> for SetFault {
+    ghost use Rattle.vrps.specs.declared.set.SetFault.TheVariants.{Memory};
+
+    ghost from_gives = { λ _ e. e ≡ Memory };
+
+    fn from(_error: AllocError) -> SetFault {
+        SetFault::Memory
     }
 }
 
@@ -78,6 +88,22 @@ impl VrpSet {
         }
         know_payloads(items.as_slice());
         Ok(VrpSet { items })
+    }
+
+    /// The set of a listing. It takes no memory.
+    pub(crate) fn from_listing(items: Vec<Vrp>) -> VrpSet
+        requires { IsListing items.items }
+        ensures { result ≡ set_of items.items }
+    {
+        VrpSet { items }
+    }
+
+    /// The members in ascending order, as a list. It takes no memory.
+    pub fn into_list(self) -> Vec<Vrp>
+        ensures { result.items ≡ listing self }
+    {
+        let VrpSet { items } = self;
+        items
     }
 
     /// How many members there are.

@@ -1,6 +1,10 @@
-use crate::{OriginIndex, OriginState, Serial, SetFault, VrpSet};
+use crate::{
+    Change, OriginIndex, OriginState, PathFault, Segment, SegmentKind, Serial, SetFault, VrpSet,
+    origin_of_path,
+};
 use prefixes::{Asn, IpPrefix, Route, Vrp};
 use std::alloc::Global;
+use std::process::Abort;
 use std::test::Fail;
 
 fn payload(text: &str, max_len: u8, asn: u32) -> Result<Vrp, Fail> {
@@ -45,6 +49,77 @@ fn sets_ascend(rt: HostRuntime) -> Result<(), Fail> {
     }
     assert!(rt; !set.contains(&payload("10.0.0.0/8", 9, 1)?));
     assert!(rt; set.duplicate()?.as_slice() == set.as_slice());
+    let list = set.duplicate()?.into_list();
+    assert!(rt; list.as_slice() == set.as_slice());
+    Ok(())
+}
+
+type Row = (&'static str, u8, u32);
+
+type Rows = &'static [Row];
+
+const V: Row = ("192.0.2.0/24", 24, 64496);
+
+const W: Row = ("198.51.100.0/24", 24, 64497);
+
+const X: Row = ("192.0.2.0/24", 25, 64496);
+
+const Y: Row = ("2001:db8::/32", 48, 64496);
+
+const Z: Row = ("10.0.0.0/8", 8, 1);
+
+#[test]
+fn changes_lead_from_set_to_set(rt: HostRuntime) -> Result<(), Fail> {
+    let alloc = rt.alloc();
+    let cases: [(Rows, Rows, Rows, Rows); 9] = [
+        (&[], &[], &[], &[]),
+        (&[], &[V, W], &[], &[V, W]),
+        (&[V, W], &[], &[V, W], &[]),
+        (&[V, W], &[V, W], &[], &[]),
+        (&[V], &[V, W], &[], &[W]),
+        (&[V, W], &[W], &[V], &[]),
+        (&[V, Y], &[Z, X, W], &[V, Y], &[Z, X, W]),
+        (&[Z, V, W, Y], &[V, X, Y], &[Z, W], &[X]),
+        (&[X], &[V, Y], &[X], &[V, Y]),
+    ];
+    for (index, (old, new, withdrawn, announced)) in cases.iter().enumerate() {
+        let (s, t) = (set_of(alloc, old)?, set_of(alloc, new)?);
+        let change = Change::between(alloc, &s, &t)?;
+        let withdraw = set_of(alloc, withdrawn)?;
+        let announce = set_of(alloc, announced)?;
+        assert!(rt;
+            change.withdraw.as_slice() == withdraw.as_slice(),
+            "{index}"
+        );
+        assert!(rt;
+            change.announce.as_slice() == announce.as_slice(),
+            "{index}"
+        );
+        let led = change.apply(alloc, &s)?;
+        assert!(rt; led.as_slice() == t.as_slice(), "{index}");
+    }
+    Ok(())
+}
+
+#[test]
+fn changes_apply_to_any_set(rt: HostRuntime) -> Result<(), Fail> {
+    let alloc = rt.alloc();
+    let cases: [(Rows, Rows, Rows, Rows); 6] = [
+        (&[], &[V], &[W], &[W]),
+        (&[V, W], &[X], &[Y], &[V, W, Y]),
+        (&[W], &[], &[W], &[W]),
+        (&[V], &[V], &[V], &[V]),
+        (&[Z, V, X, W], &[Z, X], &[X, Y], &[V, X, W, Y]),
+        (&[V, W], &[V, W, Y], &[Z], &[Z]),
+    ];
+    for (index, (old, withdrawn, announced, new)) in cases.iter().enumerate() {
+        let change = Change {
+            withdraw: set_of(alloc, withdrawn)?,
+            announce: set_of(alloc, announced)?,
+        };
+        let led = change.apply(alloc, &set_of(alloc, old)?)?;
+        assert!(rt; led.as_slice() == set_of(alloc, new)?.as_slice(), "{index}");
+    }
     Ok(())
 }
 
@@ -52,6 +127,7 @@ fn sets_ascend(rt: HostRuntime) -> Result<(), Fail> {
 fn faults_are_numbered(rt: HostRuntime) {
     assert_eq!(rt; SetFault::TooMany.number(), 1);
     assert_eq!(rt; SetFault::Memory.number(), 2);
+    assert_eq!(rt; PathFault::EmptySequence.number(), 1);
 }
 
 #[test]
@@ -104,4 +180,231 @@ fn serials_go_round(rt: HostRuntime) {
             "{earlier} {later}"
         );
     }
+}
+
+#[test]
+fn the_final_segment_tells_the_origin(rt: HostRuntime) -> Result<(), Fail> {
+    let cases: [(&[(SegmentKind, &[u32])], Result<Option<u32>, PathFault>); 10] = [
+        (&[], Ok(Some(64500))),
+        (&[(SegmentKind::Sequence, &[1, 2, 3])], Ok(Some(3))),
+        (
+            &[(SegmentKind::Sequence, &[1]), (SegmentKind::Set, &[2, 3])],
+            Ok(None),
+        ),
+        (
+            &[(SegmentKind::Set, &[2]), (SegmentKind::Sequence, &[])],
+            Err(PathFault::EmptySequence),
+        ),
+        (
+            &[(SegmentKind::Sequence, &[]), (SegmentKind::ConfedSet, &[7])],
+            Ok(Some(64500)),
+        ),
+        (
+            &[
+                (SegmentKind::Sequence, &[1]),
+                (SegmentKind::ConfedSequence, &[65001, 65002]),
+            ],
+            Ok(Some(64500)),
+        ),
+        (
+            &[
+                (SegmentKind::ConfedSequence, &[65001]),
+                (SegmentKind::Sequence, &[1, 2]),
+            ],
+            Ok(Some(2)),
+        ),
+        (&[(SegmentKind::Set, &[2])], Ok(None)),
+        (&[(SegmentKind::Set, &[])], Ok(None)),
+        (&[(SegmentKind::Sequence, &[0])], Ok(Some(0))),
+    ];
+    for (index, (path, want)) in cases.iter().enumerate() {
+        let mut segments = Vec::new(rt.alloc());
+        for &(kind, numbers) in *path {
+            let numbers = numbers.to_vec(rt.alloc())?;
+            segments.push(Segment { kind, numbers })?;
+        }
+        assert!(rt;
+            origin_of_path(segments.as_slice(), 64500) == *want,
+            "{index}"
+        );
+    }
+    Ok(())
+}
+
+#[test]
+fn covering_members_are_listed(rt: HostRuntime) -> Result<(), Fail> {
+    let alloc = rt.alloc();
+    let set = set_of(
+        alloc,
+        &[
+            ("::/0", 128, 1),
+            ("10.1.0.0/16", 16, 2),
+            ("10.0.0.0/8", 24, 1),
+            ("10.1.0.0/16", 16, 0),
+            ("0.0.0.0/0", 0, 3),
+            ("10.2.0.0/16", 16, 2),
+        ],
+    )?;
+    let index = OriginIndex::over(alloc, &set)?;
+    let cases: [(&str, &[Row]); 4] = [
+        (
+            "10.1.2.0/24",
+            &[
+                ("0.0.0.0/0", 0, 3),
+                ("10.0.0.0/8", 24, 1),
+                ("10.1.0.0/16", 16, 0),
+                ("10.1.0.0/16", 16, 2),
+            ],
+        ),
+        ("10.0.0.0/8", &[("0.0.0.0/0", 0, 3), ("10.0.0.0/8", 24, 1)]),
+        ("10.0.0.0/7", &[("0.0.0.0/0", 0, 3)]),
+        ("2001:db8::/32", &[("::/0", 128, 1)]),
+    ];
+    for (text, want) in cases {
+        let prefix = IpPrefix::parse(text)?;
+        let origin = Some(1);
+        let found = index.covering(alloc, &Route { prefix, origin })?;
+        assert!(rt;
+            found.as_slice() == set_of(alloc, want)?.as_slice(),
+            "{text}"
+        );
+    }
+    let nested = [("10.0.0.0/8", 24, 1), ("10.1.0.0/16", 16, 2)];
+    let both = OriginIndex::over(alloc, &set_of(alloc, &nested)?)?;
+    let prefix = IpPrefix::parse("10.1.2.0/24")?;
+    let found = both.covering(
+        alloc,
+        &Route {
+            prefix,
+            origin: None,
+        },
+    )?;
+    assert!(rt; found.as_slice() == set_of(alloc, &nested)?.as_slice());
+    let none = OriginIndex::over(alloc, &VrpSet::empty(alloc))?;
+    let prefix = IpPrefix::parse("10.0.0.0/8")?;
+    let found = none.covering(
+        alloc,
+        &Route {
+            prefix,
+            origin: None,
+        },
+    )?;
+    assert!(rt; found.is_empty());
+    Ok(())
+}
+
+/// Judges a table of routes over one set.
+fn expect_states<R: AllocGlobal + Abort>(
+    rt: &R,
+    records: &[Row],
+    table: &[(&str, Option<u32>, OriginState)],
+) -> Result<(), Fail> {
+    let index = OriginIndex::over(rt.alloc(), &set_of(rt.alloc(), records)?)?;
+    for &(text, origin, want) in table {
+        let prefix = IpPrefix::parse(text)?;
+        assert_eq!(rt; index.state(&Route { prefix, origin }), want, "{text}");
+    }
+    Ok(())
+}
+
+#[test]
+fn nested_prefixes_are_judged_together(rt: HostRuntime) -> Result<(), Fail> {
+    let records = [
+        ("10.0.0.0/8", 8, 1),
+        ("10.1.0.0/16", 24, 2),
+        ("10.1.2.0/24", 24, 3),
+    ];
+    let table = [
+        ("10.0.0.0/8", Some(1), OriginState::Valid),
+        ("10.0.0.0/9", Some(1), OriginState::Invalid),
+        ("10.1.0.0/16", Some(1), OriginState::Invalid),
+        ("10.1.0.0/16", Some(2), OriginState::Valid),
+        ("10.1.2.0/24", Some(2), OriginState::Valid),
+        ("10.1.2.0/24", Some(3), OriginState::Valid),
+        ("10.1.2.0/25", Some(3), OriginState::Invalid),
+        ("10.1.3.0/24", Some(3), OriginState::Invalid),
+        ("10.1.3.0/24", Some(2), OriginState::Valid),
+        ("10.2.0.0/16", Some(2), OriginState::Invalid),
+        ("10.0.0.0/7", Some(1), OriginState::NotFound),
+        ("11.0.0.0/8", Some(1), OriginState::NotFound),
+        ("10.1.2.0/24", None, OriginState::Invalid),
+        ("9.0.0.0/8", None, OriginState::NotFound),
+    ];
+    expect_states(&rt, &records, &table)
+}
+
+#[test]
+fn one_prefix_has_several_maxima(rt: HostRuntime) -> Result<(), Fail> {
+    let records = [
+        ("198.51.100.0/24", 24, 10),
+        ("198.51.100.0/24", 26, 10),
+        ("198.51.100.0/24", 25, 11),
+    ];
+    let table = [
+        ("198.51.100.0/24", Some(10), OriginState::Valid),
+        ("198.51.100.0/26", Some(10), OriginState::Valid),
+        ("198.51.100.192/26", Some(11), OriginState::Invalid),
+        ("198.51.100.128/25", Some(11), OriginState::Valid),
+        ("198.51.100.0/27", Some(10), OriginState::Invalid),
+        ("198.51.100.0/24", Some(12), OriginState::Invalid),
+        ("198.51.101.0/24", Some(10), OriginState::NotFound),
+        ("198.51.100.0/23", Some(10), OriginState::NotFound),
+    ];
+    expect_states(&rt, &records, &table)
+}
+
+#[test]
+fn as_0_matches_nothing(rt: HostRuntime) -> Result<(), Fail> {
+    let records = [
+        ("203.0.113.0/24", 32, 0),
+        ("203.0.113.0/24", 24, 20),
+        ("192.0.2.0/24", 32, 0),
+    ];
+    let table = [
+        ("203.0.113.0/24", Some(20), OriginState::Valid),
+        ("203.0.113.0/25", Some(20), OriginState::Invalid),
+        ("203.0.113.0/24", Some(0), OriginState::Invalid),
+        ("192.0.2.0/24", Some(20), OriginState::Invalid),
+        ("192.0.2.1/32", Some(0), OriginState::Invalid),
+        ("192.0.2.0/24", None, OriginState::Invalid),
+        ("192.0.0.0/16", Some(0), OriginState::NotFound),
+    ];
+    expect_states(&rt, &records, &table)
+}
+
+#[test]
+fn a_prefix_may_be_all_addresses(rt: HostRuntime) -> Result<(), Fail> {
+    let records = [("0.0.0.0/0", 8, 30), ("::/0", 0, 31)];
+    let table = [
+        ("0.0.0.0/0", Some(30), OriginState::Valid),
+        ("10.0.0.0/8", Some(30), OriginState::Valid),
+        ("10.0.0.0/9", Some(30), OriginState::Invalid),
+        ("255.255.255.255/32", Some(31), OriginState::Invalid),
+        ("::/0", Some(31), OriginState::Valid),
+        ("::/0", Some(30), OriginState::Invalid),
+        ("2001:db8::/32", Some(31), OriginState::Invalid),
+    ];
+    expect_states(&rt, &records, &table)
+}
+
+#[test]
+fn families_are_judged_apart(rt: HostRuntime) -> Result<(), Fail> {
+    let records = [
+        ("2001:db8::/32", 48, 40),
+        ("2001:db8:1::/48", 64, 41),
+        ("0.0.0.0/0", 32, 40),
+    ];
+    let table = [
+        ("2001:db8::/32", Some(40), OriginState::Valid),
+        ("2001:db8:1::/48", Some(40), OriginState::Valid),
+        ("2001:db8:1::/48", Some(41), OriginState::Valid),
+        ("2001:db8:1::/49", Some(40), OriginState::Invalid),
+        ("2001:db8:1::/64", Some(41), OriginState::Valid),
+        ("2001:db8:1::/65", Some(41), OriginState::Invalid),
+        ("2001:db8:2::/64", Some(41), OriginState::Invalid),
+        ("2001:db9::/32", Some(40), OriginState::NotFound),
+        ("2001::/16", Some(40), OriginState::NotFound),
+        ("::/0", Some(40), OriginState::NotFound),
+    ];
+    expect_states(&rt, &records, &table)
 }

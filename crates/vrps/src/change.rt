@@ -1,0 +1,133 @@
+//! Changes from one set to another.
+ghost use Rattle.std.specs.Prelude.{◌≡◌, ◌<◌, ◌≤◌, IfOk, IsErrOf};
+ghost use Rattle.std.specs.List.{All};
+ghost use Rattle.std.specs.List.Sorted.{IsStrictlySortedBy};
+ghost use Rattle.prefixes.specs.Payload.{IsPayload, vrp_cmp};
+ghost use Rattle.vrps.specs.Change.{apply, between};
+ghost use Rattle.vrps.specs.VrpSet.{listing, set_of, size};
+ghost use Rattle.vrps.specs.Walk.{IsCut, left_out};
+
+use crate::set::{SetFault, VrpSet};
+use prefixes::{Vrp, order};
+use std::alloc::{AllocError, Global};
+use std::cmp::Ordering;
+
+/// What leads from one set to another (RFC 8210 sections 5.6 and 8.2).
+#[derive(Drop)]
+pub struct Change {
+    /// The records to be withdrawn.
+    pub withdraw: VrpSet,
+    /// The records to be announced.
+    pub announce: VrpSet,
+}
+
+impl Change {
+    /// The change from `s` to `t`: it withdraws the members of `s` that are none of `t`, and announces the members of `t` that are
+    /// none of `s`. Both sets are walked once, side by side.
+    pub fn between(alloc: Global, s: &VrpSet, t: &VrpSet) -> Result<Change, AllocError>
+        ensures { IfOk result (λ change. change ≡ between s.now t.now) }
+    {
+        let (withdraw, announce) = differences(alloc, s.as_slice(), t.as_slice())?;
+        Ok(Change {
+            withdraw: VrpSet::from_listing(withdraw),
+            announce: VrpSet::from_listing(announce),
+        })
+    }
+
+    /// The set without the withdrawn records, together with the announced ones; the set may be any. `TooMany` where that has more
+    /// members than a set may have. The set and both lists are walked once, side by side.
+    pub fn apply(&self, alloc: Global, set: &VrpSet) -> Result<VrpSet, SetFault>
+        ensures ok { IfOk result (λ t. (t ≡ apply self.now set.now) × (size t ≤ 16777215)) }
+        ensures too_many { IsErrOf result SetFault.TooMany → 16777215 < size (apply self.now set.now) }
+    {
+        let items = applied(alloc, self, set)?;
+        if items.len() > VrpSet::LIMIT {
+            return Err(SetFault::TooMany);
+        }
+        Ok(VrpSet::from_listing(items))
+    }
+}
+
+/// An ascending list, cut at a record.
+#[derive(Clone, Copy)]
+struct Cut<'a> {
+    below: &'a [Vrp],
+    /// Whether the record stands in the list.
+    found: bool,
+    above: &'a [Vrp],
+}
+
+/// Cuts the ascending list at the record. The time is linear in the number of records below it.
+fn cut_at<'a>(records: &'a [Vrp], at: &Vrp) -> Cut<'a>
+    requires { IsStrictlySortedBy vrp_cmp records.now }
+    ensures { IsCut records.now at.now result.below.now result.found result.above.now }
+{
+    for (index, record) in records.iter().enumerate() {
+        match order(record, at) {
+            Ordering::Less => {}
+            Ordering::Equal => {
+                return Cut {
+                    below: &records[..index],
+                    found: true,
+                    above: &records[index + 1..],
+                };
+            }
+            Ordering::Greater => {
+                return Cut {
+                    below: &records[..index],
+                    found: false,
+                    above: &records[index..],
+                };
+            }
+        }
+    }
+    Cut {
+        below: records,
+        found: false,
+        above: &[],
+    }
+}
+
+/// The records of `s` that are none of `t`, and those of `t` that are none of `s`; all lists ascend.
+fn differences(alloc: Global, s: &[Vrp], t: &[Vrp]) -> Result<(Vec<Vrp>, Vec<Vrp>), AllocError>
+    requires s_ascends { IsStrictlySortedBy vrp_cmp s.now }
+    requires t_ascends { IsStrictlySortedBy vrp_cmp t.now }
+    ensures { IfOk result (λ lists. (lists.0.items ≡ left_out s.now t.now) × (lists.1.items ≡ left_out t.now s.now)) }
+{
+    let mut only_s = Vec::new(alloc);
+    let mut only_t = Vec::new(alloc);
+    let mut rest = t;
+    for vrp in s {
+        let parts = cut_at(rest, vrp);
+        only_t.extend_from_slice(parts.below)?;
+        if !parts.found {
+            only_s.push(*vrp)?;
+        }
+        rest = parts.above;
+    }
+    only_t.extend_from_slice(rest)?;
+    Ok((only_s, only_t))
+}
+
+/// The members of the set to which the change leads from this one, in ascending order.
+fn applied(alloc: Global, change: &Change, set: &VrpSet) -> Result<Vec<Vrp>, AllocError>
+    ensures { IfOk result (λ items. (items.items ≡ listing (apply change.now set.now)) × All IsPayload items.items) }
+{
+    let members = set.as_slice();
+    let mut withdraw = change.withdraw.as_slice();
+    let mut announce = change.announce.as_slice();
+    let expected = members.len().saturating_sub(withdraw.len()) + announce.len();
+    let mut items = Vec::with_capacity(alloc, expected)?;
+    for vrp in members {
+        let withdrawn = cut_at(withdraw, vrp);
+        let announced = cut_at(announce, vrp);
+        items.extend_from_slice(announced.below)?;
+        if announced.found || !withdrawn.found {
+            items.push(*vrp)?;
+        }
+        withdraw = withdrawn.above;
+        announce = announced.above;
+    }
+    items.extend_from_slice(announce)?;
+    Ok(items)
+}
