@@ -28,3 +28,7 @@ grep -q '^rpkirtr: bad words$' errors || exit 1
 expect 3 '' answer --session 4660 --serial 5 --vrps nothing.json 0102000000000008
 grep -q '^rpkirtr: device failed$' errors || exit 1
 expect 1 'refused list' answer --session 4660 --serial 5 --vrps errors 0102000000000008
+expect 0 'valid' route --vrps vrps.json 192.0.2.0/24 64496
+expect 0 'invalid' route 192.0.2.0/24 none --vrps=vrps.json
+expect 0 'not-found' route --vrps vrps.json 198.51.100.0/24 64496
+expect 1 'refused word' route --vrps nothing.json 192.0.2.1/24 64496

@@ -3,3 +3,4 @@ pub mod Fault
 pub mod Lines
 pub mod PayloadList
 pub mod Reading
+pub mod RouteWords

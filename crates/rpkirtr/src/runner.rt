@@ -4,6 +4,7 @@ ghost use Rattle.std.specs.Io.KnownBytes.{Appends};
 
 use crate::answering::{Answered, Published, answer_queries};
 use crate::listing::{ListFault, read_list};
+use crate::routing::{print_state, read_route};
 use crate::words::{Order, read_words};
 use hex::FromHexError;
 use std::alloc::AllocError;
@@ -12,6 +13,7 @@ use std::net::Net;
 use std::rt::Files;
 use std::{fs, io};
 use thiserror::Error;
+use vrps::VrpSet;
 
 /// Why a command did not end well. The text is what the program writes on standard error.
 #[derive(Debug, Drop, Error)]
@@ -99,6 +101,11 @@ fn run<R: Files + Net + AllocGlobal, O: Write>(
             vrps,
             hex,
         } => answer(rt, session, serial, vrps, hex, out),
+        Order::Route {
+            vrps,
+            prefix,
+            origin,
+        } => route(rt, vrps, prefix, origin, out),
     }
 }
 
@@ -113,11 +120,8 @@ fn answer<R: Files + AllocGlobal, O: Write>(
 ) -> Result<u8, ProgramFault>
     ensures { IfOk result (λ s. s ≤ 1) }
 {
-    let text = read_file(rt, vrps)?;
-    let set = match read_list(rt.alloc(), text.as_slice()) {
-        Ok(set) => set,
-        Err(ListFault::NoList) => return refuse("list", out),
-        Err(ListFault::Memory) => return Err(ProgramFault::Memory),
+    let Some(set) = read_set(rt, vrps)? else {
+        return refuse("list", out);
     };
     let bytes = match hex::decode(rt.alloc(), hex) {
         Ok(bytes) => bytes,
@@ -134,6 +138,26 @@ fn answer<R: Files + AllocGlobal, O: Write>(
     let status = tell_rest(answered, &mut lines)?;
     lines.flush()?;
     Ok(status)
+}
+
+/// The command `route`: the state of the route that the words name, over the list of the file `vrps`.
+fn route<R: Files + AllocGlobal, O: Write>(
+    rt: &R,
+    vrps: &str,
+    prefix: &str,
+    origin: &str,
+    out: &mut O,
+) -> Result<u8, ProgramFault>
+    ensures { IfOk result (λ s. s ≤ 1) }
+{
+    let Some(route) = read_route(prefix, origin) else {
+        return refuse("word", out);
+    };
+    let Some(set) = read_set(rt, vrps)? else {
+        return refuse("list", out);
+    };
+    print_state(rt.alloc(), &set, &route, out)?;
+    Ok(0)
 }
 
 /// Tells what follows the queries that were answered, with the status.
@@ -159,6 +183,16 @@ fn refuse<O: Write>(what: &str, out: &mut O) -> Result<u8, ProgramFault>
 {
     writeln!(out, "refused {what}")?;
     Ok(1)
+}
+
+/// The set of the payload list in a file, or `None` where the file holds no payload list.
+fn read_set<R: Files + AllocGlobal>(rt: &R, file: &str) -> Result<Option<VrpSet>, ProgramFault> {
+    let text = read_file(rt, file)?;
+    match read_list(rt.alloc(), text.as_slice()) {
+        Ok(set) => Ok(Some(set)),
+        Err(ListFault::NoList) => Ok(None),
+        Err(ListFault::Memory) => Err(ProgramFault::Memory),
+    }
 }
 
 /// The bytes of a file.

@@ -121,6 +121,66 @@ fn tells_bad_words_and_devices(rt: HostRuntime) -> Result<(), Fail> {
 }
 
 #[test]
+fn tells_states_of_routes(rt: HostRuntime) -> Result<(), Fail> {
+    fs::write(
+        &rt,
+        "routes.json",
+        "[{\"asn\":64496,\"maxLength\":25,\"prefix\":\"192.0.2.0/24\"},{\"asn\":0,\"maxLength\":24,\"prefix\":\"192.0.2.0/24\"},{\"asn\":1,\"maxLength\":48,\"prefix\":\"2001:db8::/32\"}]",
+    )?;
+    let cases = [
+        ("192.0.2.0/25 64496", 0, "valid\n"),
+        ("192.0.2.0/26 64496", 0, "invalid\n"),
+        ("192.0.2.0/24 none", 0, "invalid\n"),
+        ("192.0.2.0/24 0", 0, "invalid\n"),
+        ("192.0.0.0/16 64496", 0, "not-found\n"),
+        ("192.0.0.0/16 none", 0, "not-found\n"),
+        ("2001:DB8:0:0::/48 1", 0, "valid\n"),
+        ("192.0.2.0/24 4294967295", 0, "invalid\n"),
+        ("192.0.2.0/24 4294967296", 1, "refused word\n"),
+        ("192.0.2.0/24 064496", 1, "refused word\n"),
+        ("192.0.2.0/24 AS64496", 1, "refused word\n"),
+        ("192.0.2.0/24 NONE", 1, "refused word\n"),
+        ("192.0.2.0/24 ", 1, "refused word\n"),
+        ("192.0.2.1/24 64496", 1, "refused word\n"),
+        ("192.0.2.0/33 64496", 1, "refused word\n"),
+        ("192.0.2.0 64496", 1, "refused word\n"),
+    ];
+    for (rest, status, output) in cases {
+        let text = format!(in rt.alloc(); "route --vrps routes.json {rest}")?;
+        expect(&rt, text.as_str(), status, output, "")?;
+    }
+    let last = "route 192.0.2.0/24 64496 --vrps routes.json";
+    expect(&rt, last, 0, "valid\n", "")
+}
+
+#[test]
+fn refuses_routes_in_order(rt: HostRuntime) -> Result<(), Fail> {
+    fs::write(&rt, "route_bad.json", "[{\"asn\":1}]")?;
+    let bad = "rpkirtr: bad words\n";
+    for rest in [
+        "",
+        "--vrps gone.json",
+        "--vrps gone.json 192.0.2.1/24",
+        "--vrps gone.json 192.0.2.1/24 64496 64497",
+        "192.0.2.1/24 64496",
+        "--vrps gone.json --vrps gone.json 192.0.2.1/24 64496",
+        "--vrps gone.json --serial 1 192.0.2.1/24 64496",
+    ] {
+        let text = format!(in rt.alloc(); "route {rest}")?;
+        expect(&rt, text.as_str(), 2, "", bad)?;
+    }
+    // The words come before the prefix and the origin, these before the file, and the file before its list.
+    let word = "route --vrps gone.json 192.0.2.1/24 64496";
+    expect(&rt, word, 1, "refused word\n", "")?;
+    let file = "route --vrps gone.json 192.0.2.0/24 64496";
+    expect(&rt, file, 3, "", "rpkirtr: device failed\n")?;
+    let both = "route --vrps route_bad.json 192.0.2.0/24 +1";
+    expect(&rt, both, 1, "refused word\n", "")?;
+    let list = "route --vrps route_bad.json 192.0.2.0/24 64496";
+    expect(&rt, list, 1, "refused list\n", "")
+}
+
+#[test]
 fn reads_lists(rt: HostRuntime) {
     let cases = [
         ("[]", Some(0)),

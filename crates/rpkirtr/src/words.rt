@@ -11,11 +11,18 @@ struct Form {
     words: &'static [&'static str],
 }
 
-static FORMS: [Form; 1] = [Form {
-    name: "answer",
-    options: &["session", "serial", "vrps"],
-    words: &["HEX"],
-}];
+static FORMS: [Form; 2] = [
+    Form {
+        name: "answer",
+        options: &["session", "serial", "vrps"],
+        words: &["HEX"],
+    },
+    Form {
+        name: "route",
+        options: &["vrps"],
+        words: &["PREFIX", "ORIGIN"],
+    },
+];
 
 fn word<'a>(alloc: Global, name: &'static str) -> Arg<'a> {
     Arg::new(alloc, name).required(true).action(ArgAction::Set)
@@ -55,6 +62,12 @@ pub enum Order<'a> {
         serial: u32,
         vrps: &'a str,
         hex: &'a str,
+    },
+    /// The state of the route that PREFIX and ORIGIN name.
+    Route {
+        vrps: &'a str,
+        prefix: &'a str,
+        origin: &'a str,
     },
 }
 
@@ -101,12 +114,21 @@ fn answer_order<'a>(found: &ArgMatches<'a>) -> Result<Order<'a>, ProgramFault> {
     })
 }
 
+fn route_order<'a>(found: &ArgMatches<'a>) -> Result<Order<'a>, ProgramFault> {
+    Ok(Order::Route {
+        vrps: value(found, "vrps")?,
+        prefix: value(found, "PREFIX")?,
+        origin: value(found, "ORIGIN")?,
+    })
+}
+
 /// Reads the words.
 pub fn read_words(alloc: Global, words: &[String]) -> Result<Order<'_>, ProgramFault> {
     let command = command_line(alloc)?;
     let matches = command.try_get_matches_from(words).map_err(fault_of)?;
     match matches.subcommand() {
         Some(("answer", found)) => answer_order(found),
+        Some(("route", found)) => route_order(found),
         _ => Err(ProgramFault::Words),
     }
 }

@@ -1,0 +1,62 @@
+//! The states of routes, told in words.
+ghost use Rattle.std.specs.Prelude.{◌≡◌, ◌++◌, ℕ, IfNone, IfSome, OnOk, Option, codes};
+ghost use Rattle.std.specs.Io.KnownBytes.{Appends};
+ghost use Rattle.prefixes.specs.declared.route.Route.{Route};
+ghost use Rattle.vrps.specs.Origin.{state};
+ghost use Rattle.rpkirtr.specs.RouteWords.{OriginText, RouteText, state_word};
+
+use prefixes::{Asn, IpPrefix, Route};
+use std::alloc::Global;
+use std::io::{self, Write};
+use vrps::{OriginIndex, OriginState, VrpSet};
+
+/// The route that two words name: a prefix, and the number of an AS or `none`.
+pub fn read_route(prefix: &str, origin: &str) -> Option<Route>
+    ensures some { IfSome result (λ route. RouteText route prefix.now origin.now) }
+    ensures none { IfNone result ((route : Route) → ¬ (RouteText route prefix.now origin.now)) }
+{
+    let Ok(prefix) = IpPrefix::parse(prefix) else {
+        return None;
+    };
+    let origin = read_origin(origin)?;
+    Some(Route { prefix, origin })
+}
+
+/// The origin that a word names.
+fn read_origin(word: &str) -> Option<Option<u32>>
+    ensures some { IfSome result (λ origin. OriginText origin word.now) }
+    ensures none { IfNone result ((origin : Option ℕ) → ¬ (OriginText origin word.now)) }
+{
+    if word == "none" {
+        return Some(None);
+    }
+    match Asn::parse(word) {
+        Ok(asn) => Some(Some(asn.0)),
+        Err(_) => None,
+    }
+}
+
+/// The word for a state.
+fn word_of(state: OriginState) -> &'static str
+    ensures { result.now ≡ state_word state }
+{
+    match state {
+        OriginState::Valid => "valid",
+        OriginState::Invalid => "invalid",
+        OriginState::NotFound => "not-found",
+    }
+}
+
+/// Prints the state of the route over the set, as a line.
+pub fn print_state<W: Write>(
+    alloc: Global,
+    set: &VrpSet,
+    route: &Route,
+    out: &mut W,
+) -> io::Result<()>
+    ensures { OnOk result (Appends (W.contents out.old) (W.contents out.new) (state_word (state set.now route.now) ++ codes "\n")) }
+{
+    let index = OriginIndex::over(alloc, set)?;
+    let word = word_of(index.state(route));
+    writeln!(out, "{word}")
+}
