@@ -1,6 +1,7 @@
 pub mod Cuts
 pub mod Listed
 pub mod OriginRows
+pub mod PathRows
 pub mod Searching
 pub mod SerialRows
 pub mod SetLaws

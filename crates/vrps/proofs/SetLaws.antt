@@ -34,7 +34,11 @@ or_swap true true c = refl
 or_swap true false c = refl
 or_swap false b c = refl
 
-or_false : (a : Bool) → a ≡ (a || false)
+pub or_true : (a : Bool) → (a || true) ≡ true
+or_true true = refl
+or_true false = refl
+
+pub or_false : (a : Bool) → a ≡ (a || false)
 or_false true = refl
 or_false false = refl
 
@@ -119,10 +123,6 @@ all_listed P (v ∷ vs) h = (
   h v (ap (λ r. is_eq r || list_any (same_vrp v) vs) (tied_itself vrp_total v)),
   all_listed P vs (λ q one. h q (ap (λ b. same_vrp q v || b) one ∙ or_true (same_vrp q v))),
 )
-  where
-    or_true : (a : Bool) → (a || true) ≡ true
-    or_true true = refl
-    or_true false = refl
 
 pub all_of_members : (P : Payload → Type 0) (s : VrpSet) → ((q : Payload) → has s q ≡ true → P q) → AllByRecursion P (listing s)
 all_of_members P s h = all_listed P (listing s) (λ q one. h q (has-listing s q ∙ one))

@@ -13,15 +13,8 @@ use Rattle.vrps.specs.Origin.{CoveringDecides, HasState, IsCovered, IsMatched, L
 use Rattle.vrps.specs.VrpSet.{VrpSet, has, listing}
 use Rattle.vrps.specs.declared.origin.OriginState.{OriginState}
 use Rattle.vrps.specs.declared.origin.OriginState.TheVariants.{Valid, Invalid, NotFound}
-use Rattle.vrps.proofs.SetLaws.{has-listing, has-set_of, kept, listing_ascends, same_vrp}
-
-or_true : (a : Bool) → (a || true) ≡ true
-or_true true = refl
-or_true false = refl
-
-and_left : (a b : Bool) → (a && b) ≡ true → a ≡ true
-and_left true b h = refl
-and_left false b h = absurd (cc)
+use Rattle.vrps.proofs.SetLaws.{has-listing, has-set_of, kept, listing_ascends, or_true, same_vrp}
+use Rattle.vrps.proofs.Walks.{and_left}
 
 -- An element that passes a test is a member that passes it, and the other way round.
 some_member : (p : Payload → Bool) (vs : List Payload) → list_any p vs ≡ true → (v : Payload) × (list_any (same_vrp v) vs ≡ true) × (p v ≡ true)

@@ -12,7 +12,7 @@ use Rattle.vrps.specs.Change.{apply}
 use Rattle.vrps.specs.VrpSet.{VrpSet, listing, set_of, union, without}
 use Rattle.vrps.specs.Walk.{IsCut, led, left_out}
 use Rattle.vrps.specs.declared.change.Change.{Change}
-use Rattle.vrps.proofs.SetLaws.{all_of_members, has-set_of, has-union, has-without, listing-set_of, listing_ascends, same_set, same_vrp, set_of-listing, has-listing}
+use Rattle.vrps.proofs.SetLaws.{all_of_members, has-set_of, has-union, has-without, listing-set_of, listing_ascends, same_set, same_vrp, set_of-listing, has-listing, or_false}
 
 abbrev pub Ascends : List Payload → Type 0
 Ascends vs = IsStrictlySortedBy vrp_cmp vs
@@ -167,43 +167,87 @@ any-left_out q vs ws =
     sym (has-listing (without (set_of vs) (set_of ws)) q) ∙ has-without (set_of vs) (set_of ws) q
     ∙ (λ i. has-set_of vs q i && not (has-set_of ws q i))
 
-and_left : (a b : Bool) → (a && b) ≡ true → a ≡ true
+pub and_left : (a b : Bool) → (a && b) ≡ true → a ≡ true
 and_left true b h = refl
 and_left false b h = absurd (cc)
 
-left_out_above : (x : Payload) (vs ws : List Payload) → Above x vs → Above x (left_out vs ws)
-left_out_above x vs ws h =
-    all_of_members (λ v. vrp_cmp x v ≡ Less) (without (set_of vs) (set_of ws)) (λ q one.
-    of_member (λ v. vrp_cmp x v ≡ Less) vs h q (and_left _ _ (sym ((λ i. has-set_of vs q i && not (has-set_of ws q i))) ∙ sym (has-without (set_of vs) (set_of ws) q) ∙ one)))
+-- the members of one list without those of a second, together with those of a third
+any-led : (q : Payload) (vs ws zs : List Payload) → list_any (same_vrp q) (led vs ws zs) ≡ ((list_any (same_vrp q) vs && not (list_any (same_vrp q) ws)) || list_any (same_vrp q) zs)
+any-led q vs ws zs =
+    sym (has-listing (union (without (set_of vs) (set_of ws)) (set_of zs)) q) ∙ has-union (without (set_of vs) (set_of ws)) (set_of zs) q
+    ∙ (λ i. has-without (set_of vs) (set_of ws) q i || has-set_of zs q i)
+    ∙ (λ i. (has-set_of vs q i && not (has-set_of ws q i)) || list_any (same_vrp q) zs)
+
+led_ascends : (vs ws zs : List Payload) → Ascends (led vs ws zs)
+led_ascends vs ws zs = listing_ascends (union (without (set_of vs) (set_of ws)) (set_of zs))
+
+led_above : (x : Payload) (vs ws zs : List Payload) → Above x vs → Above x zs → Above x (led vs ws zs)
+led_above x vs ws zs h k =
+    all_of_members (λ v. vrp_cmp x v ≡ Less) (union (without (set_of vs) (set_of ws)) (set_of zs)) (λ q one.
+    in_either q _ _ refl refl (sym (any-led q vs ws zs) ∙ sym (has-listing (union (without (set_of vs) (set_of ws)) (set_of zs)) q) ∙ one))
+  where
+    in_either : (q : Payload) (a b : Bool) → (list_any (same_vrp q) vs && not (list_any (same_vrp q) ws)) ≡ a → list_any (same_vrp q) zs ≡ b
+        → ((list_any (same_vrp q) vs && not (list_any (same_vrp q) ws)) || list_any (same_vrp q) zs) ≡ true → vrp_cmp x q ≡ Less
+    in_either q true b first second one = of_member (λ v. vrp_cmp x v ≡ Less) vs h q (and_left _ _ first)
+    in_either q false b first second one = of_member (λ v. vrp_cmp x v ≡ Less) zs k q (sym (λ i. first i || list_any (same_vrp q) zs) ∙ one)
+
+-- A record and those above it, without a list that is cut at the record, together with another that is cut there
+pub led_cut : (x : Payload) (vs ws zs gone : List Payload) (is_gone : Bool) (left new : List Payload) (is_new : Bool) (more : List Payload)
+    → Ascends (x ∷ vs) → Ascends zs → IsCut ws x gone is_gone left → IsCut zs x new is_new more
+    → led (x ∷ vs) ws zs ≡ new ++ cond (is_new || not is_gone) (x ∷ led vs left more) (led vs left more)
+led_cut x vs ws zs gone is_gone left new is_new more h k withdrawn announced =
+    same_listing _ _ (led_ascends (x ∷ vs) ws zs)
+    (kept_ascends x new (led vs left more) (ascends_before new _ (subst (λ l. Ascends l) announced.parts k)) announced.below_it (led_ascends vs left more)
+    (led_above x vs left more (head_below x vs h) announced.above_it) (is_new || not is_gone)) (λ q.
+    any-led q (x ∷ vs) ws zs
+    ∙ (λ i. ((same_vrp q x || list_any (same_vrp q) vs) && not (list_any (same_vrp q) (withdrawn.parts i))) || list_any (same_vrp q) (announced.parts i))
+    ∙ (λ i. ((same_vrp q x || list_any (same_vrp q) vs) && not (any_cut q x gone is_gone left i)) || any_cut q x new is_new more i)
+    ∙ placed (λ s u b a c d. ((s || u) && not (b || ((is_gone && s) || a))) || (c || ((is_new && s) || d)))
+    (λ s u b a c d. c || (((is_new || not is_gone) && s) || ((u && not a) || d)))
+    (λ b c. before is_gone is_new b c) (at is_gone is_new) (λ u a d. after is_gone is_new u a d)
+    q x vs gone left new more (head_below x vs h) withdrawn.below_it withdrawn.above_it announced.below_it announced.above_it
+    ∙ ap (λ b. list_any (same_vrp q) new || (((is_new || not is_gone) && same_vrp q x) || b)) (sym (any-led q vs left more))
+    ∙ ap (λ b. list_any (same_vrp q) new || b) (sym (any_kept q x (is_new || not is_gone) (led vs left more)))
+    ∙ sym (list_any-append (same_vrp q) new (cond (is_new || not is_gone) (x ∷ led vs left more) (led vs left more))))
+  where
+    before : (w n b c : Bool) → (c || ((n && false) || false)) ≡ (c || (((n || not w) && false) || false))
+    before w true b c = refl
+    before true false b c = refl
+    before false false b c = refl
+
+    at : (w n : Bool) → (not ((w && true) || false) || ((n && true) || false)) ≡ (((n || not w) && true) || false)
+    at true true = refl
+    at true false = refl
+    at false true = refl
+    at false false = refl
+
+    after : (w n u a d : Bool) → ((u && not ((w && false) || a)) || ((n && false) || d)) ≡ (((n || not w) && false) || ((u && not a) || d))
+    after true true u a d = refl
+    after true false u a d = refl
+    after false true u a d = refl
+    after false false u a d = refl
+
+pub led_end : (ws zs : List Payload) → Ascends zs → led [] ws zs ≡ zs
+led_end ws zs h = same_listing _ _ (led_ascends [] ws zs) h (λ q. any-led q [] ws zs)
 
 left_out_ascends : (vs ws : List Payload) → Ascends (left_out vs ws)
 left_out_ascends vs ws = listing_ascends (without (set_of vs) (set_of ws))
+
+-- Together with none, the same is what is left out.
+led_none : (vs ws : List Payload) → led vs ws [] ≡ left_out vs ws
+led_none vs ws = same_listing _ _ (led_ascends vs ws []) (left_out_ascends vs ws) (λ q. any-led q vs ws [] ∙ sym (or_false _) ∙ sym (any-left_out q vs ws))
+
+left_out_above : (x : Payload) (vs ws : List Payload) → Above x vs → Above x (left_out vs ws)
+left_out_above x vs ws h = subst (λ l. Above x l) (led_none vs ws) (led_above x vs ws [] h tt)
 
 -- A record and those above it, without a list that is cut at the record
 pub left_out_cut : (x : Payload) (vs ws below : List Payload) (found : Bool) (above : List Payload) → Ascends (x ∷ vs) → IsCut ws x below found above
     → left_out (x ∷ vs) ws ≡ cond (not found) (x ∷ left_out vs above) (left_out vs above)
 left_out_cut x vs ws below found above h cut =
-    same_listing _ _ (left_out_ascends (x ∷ vs) ws) (kept_ascends x [] (left_out vs above) no_records tt (left_out_ascends vs above) (left_out_above x vs above (head_below x vs h)) (not found)) (λ q.
-    any-left_out q (x ∷ vs) ws
-    ∙ ap (λ l. (same_vrp q x || list_any (same_vrp q) vs) && not (list_any (same_vrp q) l)) cut.parts
-    ∙ ap (λ b. (same_vrp q x || list_any (same_vrp q) vs) && not b) (any_cut q x below found above)
-    ∙ placed (λ s u b a c d. (s || u) && not (b || ((found && s) || a))) (λ s u b a c d. (not found && s) || (u && not a))
-    (λ b c. before found) (at found) (λ u a d. after found u a)
-    q x vs below above below above (head_below x vs h) cut.below_it cut.above_it cut.below_it cut.above_it
-    ∙ ap (λ b. (not found && same_vrp q x) || b) (sym (any-left_out q vs above))
-    ∙ sym (any_kept q x (not found) (left_out vs above)))
+    sym (led_none (x ∷ vs) ws) ∙ led_cut x vs ws [] below found above [] false [] h no_records cut nothing ∙ ap (λ l. cond (not found) (x ∷ l) l) (led_none vs above)
   where
-    before : (f : Bool) → false ≡ ((not f && false) || false)
-    before true = refl
-    before false = refl
-
-    at : (f : Bool) → not ((f && true) || false) ≡ ((not f && true) || false)
-    at true = refl
-    at false = refl
-
-    after : (f u a : Bool) → (u && not ((f && false) || a)) ≡ ((not f && false) || (u && not a))
-    after true u a = refl
-    after false u a = refl
+    nothing : IsCut [] x [] false []
+    nothing = record { parts = refl; below_it = tt; above_it = tt }
 
 -- A list that is cut at a record, without the record and those above it
 pub cut_left_out : (x : Payload) (vs ws below : List Payload) (found : Bool) (above : List Payload) → Ascends (x ∷ vs) → Ascends ws → IsCut ws x below found above
@@ -248,65 +292,7 @@ left_out_all vs h = same_listing _ _ (left_out_ascends vs []) h (λ q. any-left_
     and_true false = refl
 
 pub left_out_none : (ws : List Payload) → left_out [] ws ≡ []
-left_out_none ws = same_listing _ _ (left_out_ascends [] ws) no_records (λ q. any-left_out q [] ws)
-
--- The same for a list without the records of a second, together with those of a third
-any-led : (q : Payload) (vs ws zs : List Payload) → list_any (same_vrp q) (led vs ws zs) ≡ ((list_any (same_vrp q) vs && not (list_any (same_vrp q) ws)) || list_any (same_vrp q) zs)
-any-led q vs ws zs =
-    sym (has-listing (union (without (set_of vs) (set_of ws)) (set_of zs)) q) ∙ has-union (without (set_of vs) (set_of ws)) (set_of zs) q
-    ∙ (λ i. has-without (set_of vs) (set_of ws) q i || has-set_of zs q i)
-    ∙ (λ i. (has-set_of vs q i && not (has-set_of ws q i)) || list_any (same_vrp q) zs)
-
-led_ascends : (vs ws zs : List Payload) → Ascends (led vs ws zs)
-led_ascends vs ws zs = listing_ascends (union (without (set_of vs) (set_of ws)) (set_of zs))
-
-led_above : (x : Payload) (vs ws zs : List Payload) → Above x vs → Above x zs → Above x (led vs ws zs)
-led_above x vs ws zs h k =
-    all_of_members (λ v. vrp_cmp x v ≡ Less) (union (without (set_of vs) (set_of ws)) (set_of zs)) (λ q one.
-    in_either q _ _ refl refl (sym (any-led q vs ws zs) ∙ sym (has-listing (union (without (set_of vs) (set_of ws)) (set_of zs)) q) ∙ one))
-  where
-    in_either : (q : Payload) (a b : Bool) → (list_any (same_vrp q) vs && not (list_any (same_vrp q) ws)) ≡ a → list_any (same_vrp q) zs ≡ b
-        → ((list_any (same_vrp q) vs && not (list_any (same_vrp q) ws)) || list_any (same_vrp q) zs) ≡ true → vrp_cmp x q ≡ Less
-    in_either q true b first second one = of_member (λ v. vrp_cmp x v ≡ Less) vs h q (and_left _ _ first)
-    in_either q false b first second one = of_member (λ v. vrp_cmp x v ≡ Less) zs k q (sym ((λ i. first i || list_any (same_vrp q) zs)) ∙ one)
-
-pub led_cut : (x : Payload) (vs ws zs gone : List Payload) (is_gone : Bool) (left new : List Payload) (is_new : Bool) (more : List Payload)
-    → Ascends (x ∷ vs) → Ascends zs → IsCut ws x gone is_gone left → IsCut zs x new is_new more
-    → led (x ∷ vs) ws zs ≡ new ++ cond (is_new || not is_gone) (x ∷ led vs left more) (led vs left more)
-led_cut x vs ws zs gone is_gone left new is_new more h k withdrawn announced =
-    same_listing _ _ (led_ascends (x ∷ vs) ws zs)
-    (kept_ascends x new (led vs left more) (ascends_before new _ (subst (λ l. Ascends l) announced.parts k)) announced.below_it (led_ascends vs left more)
-    (led_above x vs left more (head_below x vs h) announced.above_it) (is_new || not is_gone)) (λ q.
-    any-led q (x ∷ vs) ws zs
-    ∙ (λ i. ((same_vrp q x || list_any (same_vrp q) vs) && not (list_any (same_vrp q) (withdrawn.parts i))) || list_any (same_vrp q) (announced.parts i))
-    ∙ (λ i. ((same_vrp q x || list_any (same_vrp q) vs) && not (any_cut q x gone is_gone left i)) || any_cut q x new is_new more i)
-    ∙ placed (λ s u b a c d. ((s || u) && not (b || ((is_gone && s) || a))) || (c || ((is_new && s) || d)))
-    (λ s u b a c d. c || (((is_new || not is_gone) && s) || ((u && not a) || d)))
-    (λ b c. before is_gone is_new b c) (at is_gone is_new) (λ u a d. after is_gone is_new u a d)
-    q x vs gone left new more (head_below x vs h) withdrawn.below_it withdrawn.above_it announced.below_it announced.above_it
-    ∙ ap (λ b. list_any (same_vrp q) new || (((is_new || not is_gone) && same_vrp q x) || b)) (sym (any-led q vs left more))
-    ∙ ap (λ b. list_any (same_vrp q) new || b) (sym (any_kept q x (is_new || not is_gone) (led vs left more)))
-    ∙ sym (list_any-append (same_vrp q) new (cond (is_new || not is_gone) (x ∷ led vs left more) (led vs left more))))
-  where
-    before : (w n b c : Bool) → (c || ((n && false) || false)) ≡ (c || (((n || not w) && false) || false))
-    before w true b c = refl
-    before true false b c = refl
-    before false false b c = refl
-
-    at : (w n : Bool) → (not ((w && true) || false) || ((n && true) || false)) ≡ (((n || not w) && true) || false)
-    at true true = refl
-    at true false = refl
-    at false true = refl
-    at false false = refl
-
-    after : (w n u a d : Bool) → ((u && not ((w && false) || a)) || ((n && false) || d)) ≡ (((n || not w) && false) || ((u && not a) || d))
-    after true true u a d = refl
-    after true false u a d = refl
-    after false true u a d = refl
-    after false false u a d = refl
-
-pub led_end : (ws zs : List Payload) → Ascends zs → led [] ws zs ≡ zs
-led_end ws zs h = same_listing _ _ (led_ascends [] ws zs) h (λ q. any-led q [] ws zs)
+left_out_none ws = sym (led_none [] ws) ∙ led_end ws [] no_records
 
 -- A list to which a record was added, or not
 pub kept_or_not : (x : Payload) (old new more : List Payload) (keep : Bool) → new ≡ old ++ cond keep (x ∷ []) [] → new ++ more ≡ old ++ cond keep (x ∷ more) more

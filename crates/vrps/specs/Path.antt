@@ -11,7 +11,7 @@ use Rattle.vrps.specs.declared.path.SegmentKind.TheVariants as kinds
 abbrev pub last_of : {X : Type 0} → List X → Option X
 last_of xs = slice_get xs (length xs - 1)
 
--- The rightmost AS of a sequence
+-- the rightmost AS of a sequence, if it has one
 abbrev pub rightmost : Option ℕ → Result (Option ℕ) PathFault
 rightmost (Some n) = Ok (Some n)
 rightmost None = Err EmptySequence
