@@ -4,3 +4,4 @@ pub mod Lines
 pub mod PayloadList
 pub mod Reading
 pub mod RouteWords
+pub mod RoaLines

@@ -3,6 +3,7 @@
 
 pub mod answering;
 pub mod listing;
+pub mod roas;
 pub mod routing;
 pub mod runner;
 #[cfg(test)]

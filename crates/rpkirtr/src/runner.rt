@@ -4,9 +4,11 @@ ghost use Rattle.std.specs.Io.KnownBytes.{Appends};
 
 use crate::answering::{Answered, Published, answer_queries};
 use crate::listing::{ListFault, read_list};
+use crate::roas::print_roa;
 use crate::routing::{print_state, read_route};
 use crate::words::{Order, read_words};
 use hex::FromHexError;
+use payloads::{PayloadFault, decode_roa};
 use std::alloc::AllocError;
 use std::io::{BufWriter, ErrorKind, Write};
 use std::net::Net;
@@ -95,6 +97,7 @@ fn run<R: Files + Net + AllocGlobal, O: Write>(
     ensures { IfOk result (λ s. s ≤ 1) }
 {
     match read_words(rt.alloc(), words)? {
+        Order::Roa { file } => roa(rt, file, out),
         Order::Answer {
             session,
             serial,
@@ -106,6 +109,30 @@ fn run<R: Files + Net + AllocGlobal, O: Write>(
             prefix,
             origin,
         } => route(rt, vrps, prefix, origin, out),
+    }
+}
+
+/// The command `roa`: the entries of the payload of a ROA in a file.
+fn roa<R: Files + AllocGlobal, O: Write>(
+    rt: &R,
+    file: &str,
+    out: &mut O,
+) -> Result<u8, ProgramFault>
+    ensures { IfOk result (λ s. s ≤ 1) }
+{
+    let bytes = read_file(rt, file)?;
+    match decode_roa(rt.alloc(), bytes.as_slice()) {
+        Ok(roa) => {
+            let mut lines = BufWriter::new(rt.alloc(), out)?;
+            print_roa(&roa, &mut lines)?;
+            lines.flush()?;
+            Ok(0)
+        }
+        Err(PayloadFault::At(fault)) => {
+            writeln!(out, "refused {} at {}", fault.kind.number(), fault.offset)?;
+            Ok(1)
+        }
+        Err(PayloadFault::Memory) => Err(ProgramFault::Memory),
     }
 }
 

@@ -121,6 +121,47 @@ fn tells_bad_words_and_devices(rt: HostRuntime) -> Result<(), Fail> {
 }
 
 #[test]
+fn tells_roas(rt: HostRuntime) -> Result<(), Fail> {
+    let cases = [
+        (
+            b"\x30\x17\x02\x03\x00\xfb\xf0\x30\x10\x30\x0e\x04\x02\x00\x01\x30\x08\x30\x06\x03\x04\x00\xc0\x00\x02".as_slice(),
+            0u8,
+            "192.0.2.0/24 24 64496\nnotes 0\n",
+        ),
+        (
+            b"\x30\x1b\x02\x03\x00\xfb\xf0\x30\x14\x30\x12\x04\x02\x00\x02\x30\x0c\x30\x0a\x03\x05\x00\x20\x01\x0d\xb8\x02\x01\x30".as_slice(),
+            0,
+            "2001:db8::/32 48 64496\nnotes 0\n",
+        ),
+        (
+            b"\x30\x1a\x02\x03\x00\xfb\xf0\x30\x13\x30\x11\x04\x02\x00\x01\x30\x0b\x30\x09\x03\x04\x00\xc0\x00\x02\x02\x01\x18".as_slice(),
+            0,
+            "192.0.2.0/24 24 64496\nnotes 1\n",
+        ),
+        (
+            b"\x30\x1c\xa0\x03\x02\x01\x00\x02\x03\x00\xfb\xf0\x30\x10\x30\x0e\x04\x02\x00\x01\x30\x08\x30\x06\x03\x04\x00\xc0\x00\x02".as_slice(),
+            1,
+            "refused 6 at 2\n",
+        ),
+        (
+            b"\x30\x22\x02\x03\x00\xfb\xf0\x30\x1b\x30\x19\x04\x02\x00\x01\x30\x13\x30\x06\x03\x04\x00\xc0\x00\x02\x30\x09\x03\x04\x00\xc0\x00\x02\x02\x01\x18".as_slice(),
+            1,
+            "refused 12 at 25\n",
+        ),
+        (b"".as_slice(), 1, "refused 1 at 0\n"),
+    ];
+    for (payload, status, output) in cases {
+        fs::write(&rt, "payload.der", payload)?;
+        expect(&rt, "roa payload.der", status, output, "")?;
+    }
+    let device = "rpkirtr: device failed\n";
+    expect(&rt, "roa gone.der", 3, "", device)?;
+    let bad = "rpkirtr: bad words\n";
+    expect(&rt, "roa", 2, "", bad)?;
+    expect(&rt, "roa payload.der payload.der", 2, "", bad)
+}
+
+#[test]
 fn tells_states_of_routes(rt: HostRuntime) -> Result<(), Fail> {
     fs::write(
         &rt,

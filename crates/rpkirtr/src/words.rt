@@ -11,7 +11,12 @@ struct Form {
     words: &'static [&'static str],
 }
 
-static FORMS: [Form; 2] = [
+static FORMS: [Form; 3] = [
+    Form {
+        name: "roa",
+        options: &[],
+        words: &["FILE"],
+    },
     Form {
         name: "answer",
         options: &["session", "serial", "vrps"],
@@ -56,6 +61,10 @@ pub fn command_line<'a>(alloc: Global) -> Result<Command<'a>, AllocError> {
 /// What the words ask for.
 #[derive(Clone, Copy)]
 pub enum Order<'a> {
+    /// What the payload of a ROA in FILE says.
+    Roa {
+        file: &'a str,
+    },
     /// The answers of a cache to the bytes that HEX spells.
     Answer {
         session: u16,
@@ -105,6 +114,12 @@ fn number_32(found: &ArgMatches<'_>, name: &str) -> Result<u32, ProgramFault> {
     u32::try_from(number).map_err(|_| ProgramFault::Words)
 }
 
+fn roa_order<'a>(found: &ArgMatches<'a>) -> Result<Order<'a>, ProgramFault> {
+    Ok(Order::Roa {
+        file: value(found, "FILE")?,
+    })
+}
+
 fn answer_order<'a>(found: &ArgMatches<'a>) -> Result<Order<'a>, ProgramFault> {
     Ok(Order::Answer {
         session: number_16(found, "session")?,
@@ -127,6 +142,7 @@ pub fn read_words(alloc: Global, words: &[String]) -> Result<Order<'_>, ProgramF
     let command = command_line(alloc)?;
     let matches = command.try_get_matches_from(words).map_err(fault_of)?;
     match matches.subcommand() {
+        Some(("roa", found)) => roa_order(found),
         Some(("answer", found)) => answer_order(found),
         Some(("route", found)) => route_order(found),
         _ => Err(ProgramFault::Words),

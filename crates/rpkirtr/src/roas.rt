@@ -1,0 +1,27 @@
+//! ROAs, told in lines.
+ghost use Rattle.std.specs.Prelude.{◌≡◌, OnOk};
+ghost use Rattle.std.specs.Io.KnownBytes.{Appends};
+ghost use Rattle.rpkirtr.specs.RoaLines.{entry_line, roa_lines};
+
+use payloads::{Roa, RoaEntry};
+use prefixes::Asn;
+use std::io::{self, Write};
+
+/// Prints an entry: the prefix, the maximum length and the AS.
+fn print_entry<W: Write>(asn: Asn, entry: &RoaEntry, out: &mut W) -> io::Result<()>
+    ensures { OnOk result (Appends (W.contents out.old) (W.contents out.new) (entry_line asn.0 entry.now)) }
+{
+    let max_len = entry.greatest_length();
+    writeln!(out, "{} {} {}", entry.prefix, max_len, asn)
+}
+
+/// Prints a line for each entry, and then how many maximum lengths say nothing.
+pub fn print_roa<W: Write>(roa: &Roa, out: &mut W) -> io::Result<()>
+    ensures { OnOk result (Appends (W.contents out.old) (W.contents out.new) (roa_lines roa.now)) }
+{
+    let asn = roa.asn();
+    for entry in roa.entries() {
+        print_entry(asn, entry, out)?;
+    }
+    writeln!(out, "notes {}", roa.notes())
+}
