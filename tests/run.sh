@@ -32,3 +32,7 @@ expect 0 'valid' route --vrps vrps.json 192.0.2.0/24 64496
 expect 0 'invalid' route 192.0.2.0/24 none --vrps=vrps.json
 expect 0 'not-found' route --vrps vrps.json 198.51.100.0/24 64496
 expect 1 'refused word' route --vrps nothing.json 192.0.2.1/24 64496
+printf '\x30\x17\x02\x03\x00\xfb\xf0\x30\x10\x30\x0e\x04\x02\x00\x01\x30\x08\x30\x06\x03\x04\x00\xc0\x00\x02' >payload.der
+expect 0 '192.0.2.0/24 24 64496
+notes 0' roa payload.der
+expect 1 'refused 1 at 0' roa /dev/null

@@ -1,0 +1,169 @@
+"""Compares what the program says of ROA payloads with pyasn1's DER decoder.
+
+Usage: roas.py PROGRAM. Payloads are made at random, with a fixed seed, by an encoder of this
+script's own, and each is changed in single bytes. A payload is to be accepted exactly where pyasn1
+decodes all of it, encodes the value to the same bytes, and the value keeps the rules of the profile;
+and then the lines are to be those of the value.
+"""
+
+import ipaddress
+import random
+import subprocess
+import sys
+import tempfile
+
+from pyasn1.codec.der import decoder, encoder
+from pyasn1.type import namedtype, tag, univ
+
+
+class Address(univ.Sequence):
+    componentType = namedtype.NamedTypes(
+        namedtype.NamedType("address", univ.BitString()),
+        namedtype.OptionalNamedType("maxLength", univ.Integer()),
+    )
+
+
+class Addresses(univ.SequenceOf):
+    componentType = Address()
+
+
+class AddressFamily(univ.Sequence):
+    componentType = namedtype.NamedTypes(
+        namedtype.NamedType("addressFamily", univ.OctetString()),
+        namedtype.NamedType("addresses", Addresses()),
+    )
+
+
+class Blocks(univ.SequenceOf):
+    componentType = AddressFamily()
+
+
+class Attestation(univ.Sequence):
+    componentType = namedtype.NamedTypes(
+        namedtype.DefaultedNamedType(
+            "version",
+            univ.Integer(0).subtype(explicitTag=tag.Tag(tag.tagClassContext, tag.tagFormatSimple, 0)),
+        ),
+        namedtype.NamedType("asID", univ.Integer()),
+        namedtype.NamedType("ipAddrBlocks", Blocks()),
+    )
+
+
+WIDTHS = {b"\x00\x01": 32, b"\x00\x02": 128}
+
+
+def element(number, content):
+    length = len(content)
+    if length < 128:
+        return bytes([number, length]) + content
+    octets = length.to_bytes((length.bit_length() + 7) // 8, "big")
+    return bytes([number, 128 + len(octets)]) + octets + content
+
+
+def integer(value):
+    return element(2, value.to_bytes(value.bit_length() // 8 + 1, "big"))
+
+
+def bits(address, length, width):
+    count = (length + 7) // 8
+    octets = (address >> (width - 8 * count)).to_bytes(count, "big") if count else b""
+    return element(3, bytes([8 * count - length]) + octets)
+
+
+def random_entries(rng, width):
+    entries = set()
+    for _ in range(rng.choice([1, 1, 2, 3, 5])):
+        length = rng.choice([0, 1, 7, 8, 9, width // 2, width - 1, width, rng.randint(0, width)])
+        address = rng.getrandbits(width) >> (width - length) << (width - length) if length else 0
+        maximum = rng.choice([None, None, length, width, rng.randint(length, width)])
+        entries.add((address, length, length if maximum is None else maximum, maximum is None))
+    chosen, quadruples = [], set()
+    for entry in sorted(entries):
+        if entry[:3] not in quadruples:
+            quadruples.add(entry[:3])
+            chosen.append(entry)
+    return chosen
+
+
+def random_payload(rng):
+    blocks = b""
+    for family in rng.choice([(b"\x00\x01",), (b"\x00\x02",), (b"\x00\x01", b"\x00\x02")]):
+        width = WIDTHS[family]
+        addresses = b""
+        for address, length, maximum, absent in random_entries(rng, width):
+            members = bits(address, length, width) + (b"" if absent else integer(maximum))
+            addresses += element(48, members)
+        blocks += element(48, element(4, family) + element(48, addresses))
+    asn = rng.choice([0, 127, 128, 64496, 2**31, 2**32 - 1, rng.getrandbits(32)])
+    return element(48, integer(asn) + element(48, blocks))
+
+
+def lines_of(payload):
+    """The lines of a payload that is to be accepted, or None."""
+    try:
+        value, rest = decoder.decode(payload, asn1Spec=Attestation())
+        if rest or encoder.encode(value) != payload or int(value["version"]) != 0:
+            return None
+    except Exception:
+        return None
+    asn = int(value["asID"])
+    families = [bytes(block["addressFamily"]) for block in value["ipAddrBlocks"]]
+    if not 0 <= asn < 2**32 or families not in ([b"\0\1"], [b"\0\2"], [b"\0\1", b"\0\2"]):
+        return None
+    lines, notes = [], 0
+    for block in value["ipAddrBlocks"]:
+        width = WIDTHS[bytes(block["addressFamily"])]
+        before = None
+        if len(block["addresses"]) == 0:
+            return None
+        for entry in block["addresses"]:
+            text = entry["address"].asBinary() if len(entry["address"]) else ""
+            length = len(entry["address"])
+            text = text.zfill(length)
+            if length > width:
+                return None
+            address = int(text, 2) << (width - length) if length else 0
+            present = entry["maxLength"].isValue
+            maximum = int(entry["maxLength"]) if present else length
+            if not length <= maximum <= width or (before is not None and (address, length, maximum) <= before):
+                return None
+            before = (address, length, maximum)
+            notes += present and maximum == length
+            kind = ipaddress.IPv4Network if width == 32 else ipaddress.IPv6Network
+            network = kind((address, length))
+            lines.append(f"{network} {maximum} {asn}")
+    return "".join(line + "\n" for line in lines) + f"notes {notes}\n"
+
+
+def main():
+    program = sys.argv[1]
+    rng = random.Random(9582)
+    accepted = runs = 0
+    with tempfile.NamedTemporaryFile() as file:
+        for _ in range(160):
+            whole = random_payload(rng)
+            payloads = [whole]
+            for _ in range(16):
+                changed = bytearray(whole)
+                changed[rng.randrange(len(whole))] = rng.randrange(256)
+                payloads.append(bytes(changed))
+            for number, payload in enumerate(payloads):
+                file.seek(0)
+                file.truncate()
+                file.write(payload)
+                file.flush()
+                done = subprocess.run([program, "roa", file.name], capture_output=True, text=True)
+                expected = lines_of(payload)
+                runs += 1
+                if number == 0 and expected is None:
+                    sys.exit(f"the payload that was made is refused by pyasn1: {payload.hex()}")
+                if expected is not None:
+                    accepted += 1
+                    if (done.returncode, done.stdout) != (0, expected):
+                        sys.exit(f"{payload.hex()}: {done.stdout!r}, expected {expected!r}")
+                elif done.returncode != 1 or not done.stdout.startswith("refused "):
+                    sys.exit(f"{payload.hex()}: {done.stdout!r}, expected a refusal")
+    print(f"{runs} payloads, {accepted} of them accepted")
+
+
+main()
