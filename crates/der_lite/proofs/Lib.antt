@@ -11,3 +11,4 @@ pub mod BitStrings
 pub mod Integers
 pub mod Fields
 pub mod Loops
+pub mod Moments

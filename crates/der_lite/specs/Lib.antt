@@ -8,3 +8,6 @@ pub mod Laws
 pub mod Writing
 pub mod Values
 pub mod Fields
+pub mod Moments
+pub mod MomentRows
+pub mod Civils

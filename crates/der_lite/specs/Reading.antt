@@ -2,6 +2,7 @@
 use Rattle.std.specs.Prelude.{ℕ, ◌+◌, Bool, not, ◌==◌, if◌then◌else◌, List, [], ◌∷◌, length, drop, slice_range, Result, Ok, Err}
 use Rattle.der_lite.specs.Place.{Place, Fault}
 use Rattle.der_lite.specs.Der.{length_end, content_end, head_rules, is_integer, is_bit_string, is_ia5}
+use Rattle.der_lite.specs.Moments.{CivilMoment, moment_of, is_time}
 
 -- what is read first, and then what is read with it; or the first fault
 infixl 10 ◌>>=◌
@@ -49,6 +50,10 @@ oid_at = content_at 6 (λ content. [])
 -- an IA5String
 abbrev pub ia5_at : Place → Result (List ℕ × Place) Fault
 ia5_at = content_at 22 (λ content. (4, not (is_ia5 content)) ∷ [])
+
+-- a GeneralizedTime, read as the moment whose text it is
+unfoldable pub time_at : Place → Result (CivilMoment × Place) Fault
+time_at p = content_at 24 (λ content. (4, not (is_time content)) ∷ []) p >>= λ x. Ok (moment_of x.0, x.1)
 
 -- the end of the enclosing element
 unfoldable pub end_at : Place → Result (Unit {0}) Fault

@@ -2,13 +2,14 @@
 
 ghost use Rattle.std.specs.Prelude.{IfOk, ◌≡◌, IsTrue, ◌↔◌, slice_get, []};
 ghost use Rattle.der_lite.specs.Der.{is_integer as is_integer_of, is_bit_string as is_bit_string_of, is_ia5};
-ghost use Rattle.der_lite.specs.Reading.{element_at, integer_at, bits_at, octets_at, oid_at, ia5_at, end_at};
+ghost use Rattle.der_lite.specs.Moments.{is_moment};
+ghost use Rattle.der_lite.specs.Reading.{element_at, integer_at, bits_at, octets_at, oid_at, ia5_at, time_at, end_at};
 ghost use Rattle.der_lite.specs.Cursors.{Gives, Finds, Ends};
 ghost use Rattle.der_lite.specs.Place.{place_of};
 
 use crate::content::{ia5_text, is_bit_string, is_integer};
 use crate::head::read_head;
-use crate::{Bits, DerFault, DerFaultKind};
+use crate::{Bits, DerFault, DerFaultKind, Moment};
 use std::marker::Model;
 
 /// Reads the elements that stand in an enclosing one, in order.
@@ -159,6 +160,22 @@ impl<'a> Cursor<'a> {
                 Ok(text)
             }
         }
+    }
+
+    /// The moment of the GeneralizedTime (tag 24) that stands here, `YYYYMMDDHHMMSSZ` (X.690, 8.25
+    /// and 11.7). `BadContent` if the content has another form, a fraction of a second among them,
+    /// or is no real date and time of the years 1970 to 9999.
+    #[tactic(auto, unfolding(crate::specs::Reading::time_at, crate::specs::Reading::content_at, crate::specs::Moments::moment_in))]
+    pub fn time(&mut self) -> Result<Moment, DerFault>
+        ensures exact { Gives (λ moment. moment) result self.old self.new (time_at self.old) }
+        ensures real { IfOk result (λ moment. IsTrue (is_moment moment)) }
+    {
+        let (content, behind) = self.element(24)?;
+        let Some(moment) = Moment::from_text(content.rest) else {
+            return Err(self.bad_content());
+        };
+        *self = behind;
+        Ok(moment)
     }
 
     /// The byte that stands here, which is the tag of the next element; `None` at the end of the

@@ -10,6 +10,7 @@ mod fault;
 mod head;
 pub mod laws;
 mod length;
+mod moment;
 #[cfg(test)]
 mod tests;
 mod writer;
@@ -17,4 +18,5 @@ mod writer;
 pub use content::{Bits, unsigned};
 pub use cursor::Cursor;
 pub use fault::{DerFault, DerFaultKind};
+pub use moment::Moment;
 pub use writer::DerWriter;

@@ -3,9 +3,10 @@
 ghost use Rattle.std.specs.Prelude.{◌≡◌, ◌<◌, ◌+◌, ◌^◌, ◌++◌, ◌∷◌, [], length, take, OnOk, OnErr};
 ghost use Rattle.der_lite.specs.Der.{length_bytes, tlv};
 ghost use Rattle.der_lite.specs.Cursors.{bits_content};
+ghost use Rattle.der_lite.specs.Moments.{is_moment, moment_text};
 ghost use Rattle.der_lite.specs.Writing.{Adds};
 
-use crate::Bits;
+use crate::{Bits, Moment};
 use std::alloc::{AllocError, Global};
 use std::marker::Model;
 
@@ -133,6 +134,14 @@ impl DerWriter {
         ensures { Adds result 22 text.now self.old self.new }
     {
         self.element(22, &[], text.as_bytes())
+    }
+
+    /// Writes a GeneralizedTime (tag 24), `YYYYMMDDHHMMSSZ`.
+    pub fn time(&mut self, moment: &Moment) -> Result<(), AllocError>
+        ensures added { Adds result 24 (moment_text moment.now) self.old self.new }
+        ensures real { IsTrue (is_moment moment.now) }
+    {
+        self.element(24, &moment.text(), &[])
     }
 
     /// What was written.

@@ -1,0 +1,118 @@
+-- Moments, worked out.
+use Rattle.std.specs.Prelude.{◌≡◌, true, false, codes, Some, None, refl}
+use Rattle.der_lite.specs.Moments.{told, is_moment, moment_before, moment_digits, moment_text, moment_of, is_time, moment_in}
+
+-- the last second of all
+written : moment_text (told 9999 12 31 23 59 59) ≡ codes "99991231235959Z"
+unfolding moment_text moment_digits
+written = refl
+
+-- the first one, which has zeros in each number
+written_first : moment_text (told 1970 1 1 0 0 0) ≡ codes "19700101000000Z"
+unfolding moment_text moment_digits
+written_first = refl
+
+read_first : moment_in (codes "19700101000000Z") ≡ Some (told 1970 1 1 0 0 0)
+unfolding moment_in is_time moment_of moment_text moment_digits is_moment
+read_first = refl
+
+read_last : moment_in (codes "99991231235959Z") ≡ Some (told 9999 12 31 23 59 59)
+unfolding moment_in is_time moment_of moment_text moment_digits is_moment
+read_last = refl
+
+-- 29 February in each fourth year, but of the centuries only in each fourth
+february_1972 : moment_in (codes "19720229000000Z") ≡ Some (told 1972 2 29 0 0 0)
+unfolding moment_in is_time moment_of moment_text moment_digits is_moment
+february_1972 = refl
+
+february_2000 : moment_in (codes "20000229235959Z") ≡ Some (told 2000 2 29 23 59 59)
+unfolding moment_in is_time moment_of moment_text moment_digits is_moment
+february_2000 = refl
+
+february_2400 : moment_in (codes "24000229000000Z") ≡ Some (told 2400 2 29 0 0 0)
+unfolding moment_in is_time moment_of moment_text moment_digits is_moment
+february_2400 = refl
+
+february_2100 : moment_in (codes "21000229000000Z") ≡ None
+unfolding moment_in is_time moment_of moment_text moment_digits is_moment
+february_2100 = refl
+
+february_2025 : moment_in (codes "20250229000000Z") ≡ None
+unfolding moment_in is_time moment_of moment_text moment_digits is_moment
+february_2025 = refl
+
+-- April has thirty days
+april : moment_in (codes "20250431000000Z") ≡ None
+unfolding moment_in is_time moment_of moment_text moment_digits is_moment
+april = refl
+
+thirteenth_month : moment_in (codes "20251301000000Z") ≡ None
+unfolding moment_in is_time moment_of moment_text moment_digits is_moment
+thirteenth_month = refl
+
+no_month : moment_in (codes "20250001000000Z") ≡ None
+unfolding moment_in is_time moment_of moment_text moment_digits is_moment
+no_month = refl
+
+no_day : moment_in (codes "20250100000000Z") ≡ None
+unfolding moment_in is_time moment_of moment_text moment_digits is_moment
+no_day = refl
+
+hour_24 : moment_in (codes "20250101240000Z") ≡ None
+unfolding moment_in is_time moment_of moment_text moment_digits is_moment
+hour_24 = refl
+
+minute_60 : moment_in (codes "20250101006000Z") ≡ None
+unfolding moment_in is_time moment_of moment_text moment_digits is_moment
+minute_60 = refl
+
+-- a leap second
+second_60 : moment_in (codes "20161231235960Z") ≡ None
+unfolding moment_in is_time moment_of moment_text moment_digits is_moment
+second_60 = refl
+
+year_1969 : moment_in (codes "19691231235959Z") ≡ None
+unfolding moment_in is_time moment_of moment_text moment_digits is_moment
+year_1969 = refl
+
+-- 14 bytes, without the Z and without a digit
+no_zone : moment_in (codes "20250101000000") ≡ None
+unfolding moment_in is_time moment_of moment_text moment_digits is_moment
+no_zone = refl
+
+thirteen_digits : moment_in (codes "2025010100000Z") ≡ None
+unfolding moment_in is_time moment_of moment_text moment_digits is_moment
+thirteen_digits = refl
+
+-- 16 bytes
+sixteen : moment_in (codes "20250101000000ZZ") ≡ None
+unfolding moment_in is_time moment_of moment_text moment_digits is_moment
+sixteen = refl
+
+-- a small letter, and a blank in place of a digit
+small_letter : moment_in (codes "20250101000000z") ≡ None
+unfolding moment_in is_time moment_of moment_text moment_digits is_moment
+small_letter = refl
+
+blank : moment_in (codes "2025 101000000Z") ≡ None
+unfolding moment_in is_time moment_of moment_text moment_digits is_moment
+blank = refl
+
+-- a colon, which follows 9, does not stand for ten
+colon : moment_in (codes "202501:1000000Z") ≡ None
+unfolding moment_in is_time moment_of moment_text moment_digits is_moment
+colon = refl
+
+-- one second before
+before_new_year : moment_before (told 2025 12 31 23 59 59) (told 2026 1 1 0 0 0) ≡ true
+unfolding moment_before
+before_new_year = refl
+
+not_before_itself : moment_before (told 2026 1 1 0 0 0) (told 2026 1 1 0 0 0) ≡ false
+unfolding moment_before
+not_before_itself = refl
+
+-- the earlier number decides, not the sum of them
+year_decides : moment_before (told 2026 1 1 0 0 0) (told 2025 12 31 23 59 59) ≡ false
+unfolding moment_before
+year_decides = refl
