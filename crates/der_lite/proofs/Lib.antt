@@ -12,3 +12,4 @@ pub mod Integers
 pub mod Fields
 pub mod Loops
 pub mod Moments
+pub mod Times

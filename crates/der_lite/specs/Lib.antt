@@ -4,6 +4,7 @@ pub mod Grammar
 pub mod Reading
 pub mod Decoding
 pub mod Cursors
+pub mod Times
 pub mod Laws
 pub mod Writing
 pub mod Values

@@ -12,6 +12,8 @@ pub mod laws;
 mod length;
 mod moment;
 #[cfg(test)]
+mod moment_tests;
+#[cfg(test)]
 mod tests;
 mod writer;
 
