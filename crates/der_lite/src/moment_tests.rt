@@ -130,7 +130,10 @@ fn tells_the_first_fault_of_a_time(rt: HostRuntime) {
     ] {
         let mut cursor = Cursor::new(bytes);
         assert_eq!(rt;
-            cursor.time().err().map(|fault| (fault.number(), fault.offset)),
+            cursor
+                .time()
+                .err()
+                .map(|fault| (fault.number(), fault.offset)),
             Some((number, 0)),
             "at {bytes:?}"
         );
