@@ -318,3 +318,10 @@ text_by_twos m =
 -- the moment of a text is real
 pub found_real : (text : List ℕ) (m : CivilMoment) → Some m ≡ moment_in text → is_moment m ≡ true
 found_real text m e = let s : IsMomentOf text (Some m) = subst (IsMomentOf text) (sym e) (says text) in s.real
+
+-- the moment that is found in its text
+pub text_found : (m : CivilMoment) → is_moment m ≡ true → moment_in (moment_text m) ≡ Some m
+unfolding moment_in
+text_found m h =
+    let s = spelled_is (moment_text m) m (record { text = refl; real = h }) in
+    ap (λ (b : Bool). if b then Some (moment_of (moment_text m)) else None) s.0 ∙ ap (λ (n : CivilMoment). Some n) s.1

@@ -1,15 +1,14 @@
 -- What the cursor reads is what the grammar of its element says.
-use Rattle.std.proofs.Common.{◌≡◌, ◌⊎◌, ℕ, Bool, List, [], ◌++◌, Result, Ok, Err, refl, sym, ap, subst, ◌∙◌, inl, inr}
+use Rattle.std.proofs.Common.{◌≡◌, ℕ, Bool, List, [], ◌++◌, Result, Ok, Err, refl, sym, ap, subst, ◌∙◌, inl, inr}
 use Rattle.der_lite.specs.Place.{Place, Fault, place_of}
 use Rattle.der_lite.specs.Der.{IsBytes, head_rules, tlv}
 use Rattle.der_lite.specs.Grammar.{Element, Breaks, behind, inside, primitive, plain}
 use Rattle.der_lite.specs.Reading.{◌>>=◌, judged, element_at, content_at, content_place, next_place}
 use Rattle.der_lite.specs.Decoding.{Read, ReadContent, read_element, read_primitive}
 use Rattle.der_lite.specs.Laws.{Found}
-use Rattle.der_lite.proofs.Rules.{judged-bind, judged-kept, judged_ok, judged_err, judged_breaks, ok, err, ok_is, err_is}
+use Rattle.der_lite.proofs.Rules.{judged-bind, judged-kept, judged_ok, judged_err, judged_breaks, ok_is}
 use Rattle.der_lite.proofs.Elements.{Stands, stands, stands_again}
 use Rattle.der_lite.proofs.Exact.{ExactElement, IsHead, exact_element, exact_primitive}
-use Rattle.der_lite.proofs.GrammarLaws.{one_front}
 
 -- the usual rules of a head
 pub usual_head : (tag : ℕ) → IsHead tag (head_rules tag)
@@ -50,44 +49,9 @@ exact_plain tag rules =
 
 -- ---- laws
 
-module _ (tag : ℕ) (rules : List ℕ → List (ℕ × Bool)) where
-  -- what is read stands there, and what stands there is read
-  pub found_reads : (p : Place) (content : List ℕ) (q : Place) → Found tag rules p content q → content_at tag rules p ≡ Ok (content, q)
-  found_reads p content q h =
-      ap (λ (l : List ℕ). content_at tag rules (place_of p.at l)) h.parts
-      ∙ (exact_plain tag rules).again p.at content h.front q.rest h.spells
-      ∙ ap (λ (r : Place). Ok (content, r)) (sym h.behind_is)
-
-  -- what is read stands there
-  pub reads_found : (p : Place) (content : List ℕ) (q : Place) → IsBytes p.rest → content_at tag rules p ≡ Ok (content, q) → Found tag rules p content q
-  reads_found p content q bytes e =
-      let t = (exact_plain tag rules).takes p content q bytes e in
-      record { front = t.front; parts = t.parts; spells = t.spells; behind_is = t.behind_is }
-
-  -- at most one fault stands at a place
-  pub plain_fault : (p : Place) (f g : Fault) → (plain tag rules).FaultAt p f → (plain tag rules).FaultAt p g → f ≡ g
-  plain_fault p f g s t = err_is {A = List ℕ × Place} f g (sym ((exact_plain tag rules).refuses p f s) ∙ (exact_plain tag rules).refuses p g t)
-
-  -- none where an element stands
-  pub plain_apart : (p : Place) (content : List ℕ) (q : Place) (f : Fault) → Found tag rules p content q → (plain tag rules).FaultAt p f → ⊥
-  plain_apart p content q f h d =
-      let e : ok {A = List ℕ × Place} (content, q) ≡ err f = sym (found_reads p content q h) ∙ (exact_plain tag rules).refuses p f d in absurd cc
-
-  -- and one everywhere else
-  pub plain_either : (p : Place) → IsBytes p.rest → ((content : List ℕ) × (q : Place) × Found tag rules p content q) ⊎ ((f : Fault) × (plain tag rules).FaultAt p f)
-  plain_either p bytes = decided (content_at tag rules p) refl
-    where
-      decided : (r : Result (List ℕ × Place) Fault) → content_at tag rules p ≡ r → ((content : List ℕ) × (q : Place) × Found tag rules p content q) ⊎ ((f : Fault) × (plain tag rules).FaultAt p f)
-      decided (Ok x) e = inl (x.0, x.1, reads_found p x.0 x.1 bytes e)
-      decided (Err f) e = inr (f, (exact_plain tag rules).faults p f bytes e)
-
-  -- a spelling that begins with another is that one
-  pub plain_front : (v w a b more rest : List ℕ) → (plain tag rules).Spells v a → (plain tag rules).Spells w b → a ++ more ≡ b ++ rest → (v ≡ w) × (more ≡ rest)
-  plain_front v w a b more rest s t h = one_front (plain tag rules) (content_at tag rules) (exact_plain tag rules) v w a b more rest s t h
-
-  -- a content has one spelling
-  pub plain_once : (v a b : List ℕ) → (plain tag rules).Spells v a → (plain tag rules).Spells v b → a ≡ b
-  plain_once v a b s t = s.1.spelled ∙ ap (λ (l : List ℕ). tlv tag l) (sym s.2.0 ∙ t.2.0) ∙ sym t.1.spelled
+-- a content has one spelling
+pub plain_once : (tag : ℕ) (rules : List ℕ → List (ℕ × Bool)) (v a b : List ℕ) → (plain tag rules).Spells v a → (plain tag rules).Spells v b → a ≡ b
+plain_once tag rules v a b s t = s.1.spelled ∙ ap (λ (l : List ℕ). tlv tag l) (sym s.2.0 ∙ t.2.0) ∙ sym t.1.spelled
 
 -- what is opened stands there
 pub opens_found : (tag : ℕ) (p inner next : Place) → IsBytes p.rest → element_at tag p ≡ Ok (inner, next) → Found tag (λ content. []) p inner.rest next × (inner ≡ inside p.at inner.rest)

@@ -1,20 +1,22 @@
 -- Reading a GeneralizedTime gives the moment that the grammar says.
-use Rattle.std.proofs.Common.{◌≡◌, ℕ, Bool, true, false, not, List, [], ◌∷◌, Some, None, Result, Ok, Err, refl, sym, ap, ◌∙◌}
-use Rattle.std.specs.Ordering.{ordering_reverse, is_lt, is_le}
+use Rattle.std.proofs.Common.{◌≡◌, ℕ, Bool, true, false, not, List, [], ◌∷◌, get_or, None, Result, Ok, Err, refl, sym, ap, ◌∙◌, ◌⊎◌, inl, inr}
+use Rattle.std.specs.Ordering.{ordering_reverse, nat_cmp, is_eq, is_lt, is_le}
 use Rattle.std.specs.declared.cmp.Ordering.{Ordering}
 use Rattle.std.specs.declared.cmp.Ordering.TheVariants.{Less, Equal, Greater}
-use Rattle.std.specs.Cmp.{nat_cmp_total}
-use Rattle.std.specs.Cmp.Lexicographic.{lists_total}
+use Rattle.std.specs.Cmp.{IsTotalOrder, nat_cmp_total}
+use Rattle.std.specs.Cmp.Lexicographic.{slice_cmp, lists_total}
+use Rattle.std.proofs.lemmas.Map.Text.{is_eq-slice_cmp}
+use Rattle.std.proofs.lemmas.Slice.Eq.{bytes_eq-Decides}
 use Rattle.der_lite.specs.Place.{Place, Fault, first_of}
-use Rattle.der_lite.specs.Der.{head_rules}
-use Rattle.der_lite.specs.Moments.{CivilMoment, numbers_of, moment_cmp, moment_before, moment_of, is_time, TimeSpells}
-use Rattle.der_lite.specs.Grammar.{Keeps, primitive}
+use Rattle.der_lite.specs.Der.{tlv, head_rules}
+use Rattle.der_lite.specs.Moments.{CivilMoment, told, numbers_of, moment_cmp, moment_before, moment_of, is_time, TimeSpells}
+use Rattle.der_lite.specs.Grammar.{primitive}
 use Rattle.der_lite.specs.Reading.{◌>>=◌, judged, element_at, content_at, time_at}
 use Rattle.der_lite.specs.Decoding.{ReadContent, read_element, read_primitive}
 use Rattle.der_lite.specs.Times.{time_rules, timed, timed_at}
-use Rattle.der_lite.proofs.Rules.{judged-bind, judged-kept}
+use Rattle.der_lite.proofs.Rules.{judged-bind}
 use Rattle.der_lite.proofs.Exact.{ExactElement, exact_element, exact_primitive}
-use Rattle.der_lite.proofs.Once.{Once, once_element, once_primitive}
+use Rattle.der_lite.proofs.Once.{Once}
 use Rattle.der_lite.proofs.Plain.{usual_head, element_is, exact_along}
 use Rattle.der_lite.proofs.Moments.{time_is, spelled_is}
 
@@ -75,8 +77,12 @@ module _ (rules : CivilMoment → List (ℕ × Bool)) where
       (exact_element 24 (head_rules 24) (primitive TimeSpells (time_rules rules)) read_time (usual_head 24) c)
 
   -- a moment has one spelling
+  pub spelled_once : (m : CivilMoment) (a b : List ℕ) → (timed rules).Spells m a → (timed rules).Spells m b → a ≡ b
+  spelled_once m a b s t = s.1.spelled ∙ ap (λ (l : List ℕ). tlv 24 l) (s.2.0.text ∙ sym t.2.0.text) ∙ sym t.1.spelled
+
+  -- as a member of a grammar, too
   pub once_timed : Once (timed rules).Spells
-  once_timed = once_element 24 (head_rules 24) (primitive TimeSpells (time_rules rules)) (once_primitive TimeSpells (time_rules rules) (λ v a b ba bb ka kb s t. s.text ∙ sym t.text))
+  once_timed m a b ba bb s t = spelled_once m a b s t
 
 -- without rules, what is read is what the cursor reads
 timed_alone : (p : Place) → timed_at (λ m. []) p ≡ time_at p
@@ -92,6 +98,10 @@ exact_time = exact_along (timed (λ m. [])) (timed_at (λ m. [])) time_at timed_
 
 -- ---- order
 
+-- the order is total
+total : IsTotalOrder (slice_cmp nat_cmp)
+total = lists_total nat_cmp_total
+
 reversed : (o : Ordering) → is_le (ordering_reverse o) ≡ not (is_lt o)
 reversed Less = refl
 reversed Equal = refl
@@ -100,4 +110,42 @@ reversed Greater = refl
 -- a moment is not after another exactly where the other is not before it
 pub le_not_before : (m n : CivilMoment) → is_le (moment_cmp n m) ≡ not (moment_before m n)
 unfolding moment_before
-le_not_before m n = ap is_le ((lists_total nat_cmp_total).antisymm (numbers_of n) (numbers_of m)) ∙ reversed (moment_cmp m n)
+le_not_before m n = ap is_le (total.antisymm (numbers_of n) (numbers_of m)) ∙ reversed (moment_cmp m n)
+
+-- what is less, by the test
+less_is : (o : Ordering) → is_lt o ≡ true → o ≡ Less
+less_is Less h = refl
+less_is Equal h = absurd cc
+less_is Greater h = absurd cc
+
+-- no order of a thing with itself
+itself : (o : Ordering) → o ≡ ordering_reverse o → is_lt o ≡ true → ⊥
+itself Less e h = absurd cc
+itself Equal e h = absurd cc
+itself Greater e h = absurd cc
+
+-- no moment is before itself
+pub not_before_itself : (m : CivilMoment) → ¬ (moment_before m m ≡ true)
+unfolding moment_before
+not_before_itself m h = itself (moment_cmp m m) (total.antisymm (numbers_of m) (numbers_of m)) h
+
+-- a moment is before those behind later ones
+pub before_chain : (m n k : CivilMoment) → moment_before m n ≡ true → moment_before n k ≡ true → moment_before m k ≡ true
+unfolding moment_before
+before_chain m n k h g = ap is_lt (total.trans (numbers_of m) (numbers_of n) (numbers_of k) (less_is (moment_cmp m n) h) (less_is (moment_cmp n k) g))
+
+-- moments of the same numbers are one
+same_moment : (m n : CivilMoment) → slice_cmp nat_cmp (numbers_of m) (numbers_of n) ≡ Equal → m ≡ n
+same_moment m n h =
+    let same : numbers_of m ≡ numbers_of n = (bytes_eq-Decides (numbers_of m) (numbers_of n)).0 (sym (is_eq-slice_cmp (numbers_of m) (numbers_of n)) ∙ ap is_eq h) in
+    λ i. told (get_or (same i) 0 0) (get_or (same i) 1 0) (get_or (same i) 2 0) (get_or (same i) 3 0) (get_or (same i) 4 0) (get_or (same i) 5 0)
+
+-- of two moments that differ one is before the other
+pub one_before : (m n : CivilMoment) → (m ≡ n) ⊎ (moment_before m n ≡ true) ⊎ (moment_before n m ≡ true)
+unfolding moment_before
+one_before m n = by_order (moment_cmp m n) refl
+  where
+    by_order : (o : Ordering) → moment_cmp m n ≡ o → (m ≡ n) ⊎ (is_lt (moment_cmp m n) ≡ true) ⊎ (is_lt (moment_cmp n m) ≡ true)
+    by_order Less e = inr (inl (ap is_lt e))
+    by_order Equal e = inl (same_moment m n e)
+    by_order Greater e = inr (inr (ap is_lt (total.antisymm (numbers_of n) (numbers_of m) ∙ ap ordering_reverse e)))

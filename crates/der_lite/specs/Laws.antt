@@ -1,16 +1,22 @@
--- What holds of the definitions of single elements: those that are read as their content, which keeps rules.
-use Rattle.std.specs.Prelude.{◌≡◌, ◌↔◌, ℕ, Bool, ◌⊎◌, List, [], ◌++◌, Ok, Err}
+-- What holds of the definitions of single elements: those that are read as their content, which keeps rules, and those of a moment.
+use Rattle.std.specs.Prelude.{◌≡◌, ◌↔◌, ℕ, Bool, true, ◌⊎◌, List, [], ◌++◌, Some, Ok, Err}
 use Rattle.der_lite.specs.Place.{Place, Fault}
 use Rattle.der_lite.specs.Der.{IsBytes, head_rules}
-use Rattle.der_lite.specs.Grammar.{Breaks, plain, behind, inside}
-use Rattle.der_lite.specs.Reading.{element_at, content_at}
+use Rattle.der_lite.specs.Moments.{CivilMoment, is_moment, moment_before, moment_text, moment_in, TimeSpells}
+use Rattle.der_lite.specs.Grammar.{Element, Breaks, plain, behind, inside}
+use Rattle.der_lite.specs.Reading.{element_at, content_at, time_at}
+use Rattle.der_lite.specs.Times.{timed}
 
--- An element of this tag stands at the front of place p, with this content, and q is the place behind it.
-pub record Found (tag : ℕ) (rules : List ℕ → List (ℕ × Bool)) (p : Place) (content : List ℕ) (q : Place) : Type 0 where
+-- An element that spells this value stands at the front of place p, and q is the place behind it.
+pub record Stands {V : Type 0} (e : Element V) (p : Place) (v : V) (q : Place) : Type 0 where
   pub front : List ℕ
   pub parts : p.rest ≡ front ++ q.rest
-  pub spells : (plain tag rules).Spells content front
+  pub spells : e.Spells v front
   pub behind_is : q ≡ behind p.at front q.rest
+
+-- An element of this tag, with this content.
+abbrev pub Found : ℕ → (List ℕ → List (ℕ × Bool)) → Place → List ℕ → Place → Type 0
+Found tag rules = Stands (plain tag rules)
 
 -- Reading gives a content exactly where its element stands, and a fault exactly where that fault stands.
 abbrev pub ReadsExactly : Type 0
@@ -40,3 +46,41 @@ OneSpelling =
     (tag : ℕ) (rules : List ℕ → List (ℕ × Bool))
     → ((v a b : List ℕ) → (plain tag rules).Spells v a → (plain tag rules).Spells v b → a ≡ b)
     × ((v w a b more rest : List ℕ) → (plain tag rules).Spells v a → (plain tag rules).Spells w b → a ++ more ≡ b ++ rest → (v ≡ w) × (more ≡ rest))
+
+-- ---- moments
+
+-- Reading gives a moment exactly where its element stands, and a fault exactly where that fault stands.
+abbrev pub ReadsTimesExactly : Type 0
+ReadsTimesExactly =
+    (p : Place) → IsBytes p.rest
+    → ((m : CivilMoment) (q : Place) → (time_at p ≡ Ok (m, q)) ↔ Stands (timed (λ m. [])) p m q)
+    × ((fault : Fault) → (time_at p ≡ Err fault) ↔ (timed (λ m. [])).FaultAt p fault)
+
+-- At most one fault stands where a moment is expected, none where one stands, and one everywhere else.
+abbrev pub OneFaultOfTimes : Type 0
+OneFaultOfTimes =
+    (rules : CivilMoment → List (ℕ × Bool)) (p : Place)
+    → ((f g : Fault) → (timed rules).FaultAt p f → (timed rules).FaultAt p g → f ≡ g)
+    × ((m : CivilMoment) (q : Place) (f : Fault) → Stands (timed rules) p m q → (timed rules).FaultAt p f → ⊥)
+    × (IsBytes p.rest → ((m : CivilMoment) × (q : Place) × Stands (timed rules) p m q) ⊎ ((f : Fault) × (timed rules).FaultAt p f))
+
+-- No moment has two elements; and where one element begins with another, it is that one, of the same moment.
+abbrev pub OneSpellingOfTimes : Type 0
+OneSpellingOfTimes =
+    (rules : CivilMoment → List (ℕ × Bool))
+    → ((m : CivilMoment) (a b : List ℕ) → (timed rules).Spells m a → (timed rules).Spells m b → a ≡ b)
+    × ((m n : CivilMoment) (a b more rest : List ℕ) → (timed rules).Spells m a → (timed rules).Spells n b → a ++ more ≡ b ++ rest → (m ≡ n) × (more ≡ rest))
+
+-- A moment has one text, and a text one moment. What is found in a moment's text is that moment.
+abbrev pub OneText : Type 0
+OneText =
+    ((m : CivilMoment) (a b : List ℕ) → TimeSpells m a → TimeSpells m b → a ≡ b)
+    × ((m n : CivilMoment) (text : List ℕ) → TimeSpells m text → TimeSpells n text → m ≡ n)
+    × ((m : CivilMoment) → is_moment m ≡ true → moment_in (moment_text m) ≡ Some m)
+
+-- No moment is before itself, one is before those behind a later one, and of two that differ one is before the other.
+abbrev pub OneIsBefore : Type 0
+OneIsBefore =
+    ((m : CivilMoment) → ¬ (moment_before m m ≡ true))
+    × ((m n k : CivilMoment) → moment_before m n ≡ true → moment_before n k ≡ true → moment_before m k ≡ true)
+    × ((m n : CivilMoment) → (m ≡ n) ⊎ (moment_before m n ≡ true) ⊎ (moment_before n m ≡ true))

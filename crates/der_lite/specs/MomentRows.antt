@@ -1,6 +1,9 @@
 -- Moments, worked out.
-use Rattle.std.specs.Prelude.{◌≡◌, true, false, codes, Some, None, refl}
+use Rattle.std.specs.Prelude.{◌≡◌, ℕ, ◌∷◌, [], List, ◌++◌, true, false, codes, Some, None, Ok, Err, refl}
 use Rattle.der_lite.specs.Moments.{told, is_moment, moment_before, moment_digits, moment_text, moment_of, is_time, moment_in}
+use Rattle.der_lite.specs.Place.{Place, place_of}
+use Rattle.der_lite.specs.Der.{head_rules, has_length, length_end, content_end, is_truncated}
+use Rattle.der_lite.specs.Reading.{content_place, next_place, element_at, content_at, time_at}
 
 -- the last second of all
 written : moment_text (told 9999 12 31 23 59 59) ≡ codes "99991231235959Z"
@@ -116,3 +119,22 @@ not_before_itself = refl
 year_decides : moment_before (told 2026 1 1 0 0 0) (told 2025 12 31 23 59 59) ≡ false
 unfolding moment_before
 year_decides = refl
+
+-- ---- elements
+
+-- a tag and a content of 15 bytes, at offset 7, with a NULL behind them
+place : ℕ → List ℕ → Place
+place tag text = place_of 7 (tag ∷ 15 ∷ text ++ 5 ∷ 0 ∷ [])
+
+read_noon : time_at (place 24 (codes "20250101120000Z")) ≡ Ok (told 2025 1 1 12 0 0, place_of 24 (5 ∷ 0 ∷ []))
+unfolding place time_at content_at element_at content_place next_place head_rules is_truncated has_length length_end content_end moment_in is_time moment_of moment_text moment_digits is_moment
+read_noon = refl
+
+-- a UTCTime has another tag
+utc_time : time_at (place 23 (codes "20250101120000Z")) ≡ Err (record { number = 2; offset = 7 })
+unfolding place time_at content_at element_at content_place next_place head_rules is_truncated has_length length_end content_end
+utc_time = refl
+
+common_february : time_at (place 24 (codes "20250229120000Z")) ≡ Err (record { number = 4; offset = 7 })
+unfolding place time_at content_at element_at content_place next_place head_rules is_truncated has_length length_end content_end is_time moment_of moment_text moment_digits is_moment
+common_february = refl

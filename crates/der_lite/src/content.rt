@@ -7,7 +7,7 @@ ghost use Rattle.der_lite.specs.Values.{is_negative};
 use crate::length::number;
 
 /// A bit string: bytes, of which the lowest bits of the last one are not used (X.690, 8.6).
-#[derive(Clone, Copy, Debug)]
+#[derive(Clone, Copy, Debug, PartialEq, Eq)]
 pub struct Bits<'a> {
     /// How many bits of the last byte are not used, 0 to 7. Without bytes it is 0.
     pub unused: u8,
@@ -67,5 +67,29 @@ pub fn unsigned(content: &[u8]) -> Option<u32>
         Some(number(digits))
     } else {
         None
+    }
+}
+
+#[cfg(test)]
+mod tests {
+    use super::Bits;
+
+    #[test]
+    fn compares_the_count_and_the_bytes(rt: HostRuntime) {
+        let bits = Bits {
+            unused: 3,
+            bytes: b"\x08".as_slice(),
+        };
+        let fewer = Bits {
+            unused: 2,
+            bytes: b"\x08".as_slice(),
+        };
+        let others = Bits {
+            unused: 3,
+            bytes: b"\x10".as_slice(),
+        };
+        assert!(rt; bits == bits);
+        assert!(rt; bits != fewer);
+        assert!(rt; bits != others);
     }
 }

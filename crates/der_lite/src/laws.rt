@@ -1,6 +1,6 @@
 //! What holds of the definitions of elements. Nothing here runs.
 
-ghost use Rattle.der_lite.specs.Laws.{OneFault, OneSpelling, OpensExactly, ReadsExactly};
+ghost use Rattle.der_lite.specs.Laws.{OneFault, OneFaultOfTimes, OneIsBefore, OneSpelling, OneSpellingOfTimes, OneText, OpensExactly, ReadsExactly, ReadsTimesExactly};
 
 /// A read gives a content exactly where the element of that content stands, and a fault exactly
 /// where that fault is the first.
@@ -22,4 +22,31 @@ pub fn one_fault()
 /// No content has two spellings, and no spelling begins another.
 pub fn one_spelling()
     ensures { OneSpelling }
+{}
+
+/// A read gives a moment exactly where the element of that moment stands, and a fault exactly where
+/// that fault is the first.
+pub fn reads_times_exactly()
+    ensures { ReadsTimesExactly }
+{}
+
+/// At most one fault stands where a moment is expected, and one stands exactly where no moment does,
+/// also where the moment has to keep rules.
+pub fn one_fault_of_times()
+    ensures { OneFaultOfTimes }
+{}
+
+/// No moment has two elements, and none begins another.
+pub fn one_spelling_of_times()
+    ensures { OneSpellingOfTimes }
+{}
+
+/// A moment has one text, and a text one moment: what is written for a moment is read as that moment.
+pub fn one_text()
+    ensures { OneText }
+{}
+
+/// Of two moments that differ exactly one is before the other.
+pub fn one_is_before()
+    ensures { OneIsBefore }
 {}

@@ -1,5 +1,8 @@
-use Rattle.der_lite.proofs.Plain.{plain_once, plain_front}
+use Rattle.der_lite.specs.Grammar.{plain}
+use Rattle.der_lite.specs.Reading.{content_at}
+use Rattle.der_lite.proofs.GrammarLaws.{one_front}
+use Rattle.der_lite.proofs.Plain.{exact_plain, plain_once}
 use Rattle.der_lite.proofs.laws.one_spelling.Goals as goal
 
 pub returns : goal.returns
-returns c = λ tag rules. (plain_once tag rules, plain_front tag rules)
+returns c = λ tag rules. (plain_once tag rules, one_front (plain tag rules) (content_at tag rules) (exact_plain tag rules))

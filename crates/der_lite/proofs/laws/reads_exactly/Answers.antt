@@ -1,8 +1,12 @@
-use Rattle.der_lite.proofs.Plain.{found_reads, reads_found, exact_plain}
+use Rattle.der_lite.specs.Grammar.{plain}
+use Rattle.der_lite.specs.Reading.{content_at}
+use Rattle.der_lite.proofs.GrammarLaws.{stands_read, read_stands}
+use Rattle.der_lite.proofs.Plain.{exact_plain}
 use Rattle.der_lite.proofs.laws.reads_exactly.Goals as goal
 
 pub returns : goal.returns
-returns c = λ tag rules p bytes. (
-  λ content q. (reads_found tag rules p content q bytes, found_reads tag rules p content q),
-  λ fault. ((exact_plain tag rules).faults p fault bytes, (exact_plain tag rules).refuses p fault),
-)
+returns c = λ tag rules p bytes.
+    let x = exact_plain tag rules in (
+      λ content q. (read_stands (plain tag rules) (content_at tag rules) x p content q bytes, stands_read (plain tag rules) (content_at tag rules) x p content q),
+      λ fault. (x.faults p fault bytes, x.refuses p fault),
+    )
