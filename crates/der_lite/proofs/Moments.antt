@@ -1,5 +1,5 @@
 -- A text is that of a moment exactly where it is fourteen digits and a Z, and the numbers that they spell are a moment.
-use Rattle.std.proofs.Common.{◌≡◌, ℕ, zero, suc, ◌+◌, ◌-◌, ◌/◌, ◌%◌, ◌<◌, ◌≤◌, true, false, ◌&&◌, Bool, List, [], ◌∷◌, ◌++◌, length, length-drop, ap₂, if◌then◌else◌, if◌then◌else◌, take, drop, slice_range, bytes_eq, ℤ, pos, ◌≤ℤ◌, unsigned_abs, Some, None, refl, sym, ap, subst, ◌∙◌, arith, length-append}
+use Rattle.std.proofs.Common.{◌≡◌, ℕ, zero, suc, ◌+◌, ◌-◌, ◌/◌, ◌%◌, ◌<◌, ◌≤◌, true, false, ◌&&◌, Bool, List, [], ◌∷◌, ◌++◌, length, length-drop, ap₂, if◌then◌else◌, if◌then◌else◌, take, drop, slice_range, bytes_eq, ℤ, pos, ◌≤ℤ◌, unsigned_abs, Option, Some, None, IfSome, refl, sym, ap, subst, ◌∙◌, arith, length-append}
 use Rattle.std.specs.Char.{is_ascii_digit}
 use Rattle.std.specs.List.{list_all}
 use Rattle.std.proofs.lemmas.Bool.{and_parts, and_from, false_from_ne_true}
@@ -316,8 +316,9 @@ text_by_twos m =
     λ i. a i ∷ b i ∷ c i ∷ d i ∷ later
 
 -- the moment of a text is real
-pub found_real : (text : List ℕ) (m : CivilMoment) → Some m ≡ moment_in text → is_moment m ≡ true
-found_real text m e = let s : IsMomentOf text (Some m) = subst (IsMomentOf text) (sym e) (says text) in s.real
+pub found_real : (text : List ℕ) (found : Option CivilMoment) → found ≡ moment_in text → IfSome found (λ m. is_moment m ≡ true)
+found_real text None e = tt
+found_real text (Some m) e = let s : IsMomentOf text (Some m) = subst (IsMomentOf text) (sym e) (says text) in s.real
 
 -- the moment that is found in its text
 pub text_found : (m : CivilMoment) → is_moment m ≡ true → moment_in (moment_text m) ≡ Some m

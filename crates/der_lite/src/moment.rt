@@ -1,6 +1,6 @@
 //! Moments: a civil date with a time of day in UTC, and its text.
 
-ghost use Rattle.std.specs.Prelude.{◌≡◌, ◌<◌, ◌≤◌, ◌+◌, ◌==◌, IsTrue, length, take, slice_range, Some};
+ghost use Rattle.std.specs.Prelude.{◌≡◌, ◌<◌, ◌≤◌, ◌+◌, ◌==◌, IfSome, IsTrue, length, take, slice_range, Some};
 ghost use Rattle.std.proofs.Common.{rules};
 ghost use Rattle.std.specs.Char.{is_ascii_digit};
 ghost use Rattle.std.specs.List.{list_all};
@@ -15,6 +15,12 @@ use std::cmp::Ordering;
 use std::fmt::{self, Display};
 use std::marker::Model;
 use std::str;
+
+/// The first year of moments.
+const FIRST_YEAR: u16 = 1970;
+
+/// How many digits a text has before its `Z`.
+const DIGITS: usize = 14;
 
 /// A date with a time of day in UTC, of the years 1970 to 9999, at a whole second.
 ///
@@ -51,10 +57,11 @@ impl Moment {
 
     /// The moment of which these bytes are the text.
     pub(crate) fn from_text(text: &[u8]) -> Option<Moment>
-        ensures { result ≡ moment_in text.now }
+        ensures value { result ≡ moment_in text.now }
+        ensures real { IfSome result (λ moment. IsTrue (is_moment moment)) }
     {
         let digits = text.strip_suffix(b"Z")?;
-        if digits.len() != 14 || !are_digits(digits) {
+        if digits.len() != DIGITS || !are_digits(digits) {
             return None;
         }
         Moment::new(
@@ -77,7 +84,7 @@ impl Moment {
         requires second { second < 100 }
         ensures { result ≡ if_real (told year month day hour minute second) }
     {
-        if year < 1970 {
+        if year < FIRST_YEAR {
             return None;
         }
         let civil = DateTime::new(

@@ -16,14 +16,14 @@ casts year month day hour minute second y m d h n s = record {
   second = to_z_pos w8 second (omega (arith, s));
 }
 
-pub returns-then-year-lt1970 : goal.returns-then-year-lt1970
-returns-then-year-lt1970 c = not_real (told c.args.year c.args.month c.args.day c.args.hour c.args.minute c.args.second) (λ r. absurd (omega (arith, r.year, c.if-year-lt1970.true)))
+pub returns-then-year-lt-FIRST_YEAR : goal.returns-then-year-lt-FIRST_YEAR
+returns-then-year-lt-FIRST_YEAR c = not_real (told c.args.year c.args.month c.args.day c.args.hour c.args.minute c.args.second) (λ r. absurd (omega (arith, r.year, c.if-year-lt-FIRST_YEAR.true)))
 
 pub returns-in-Ok : goal.returns-in-Ok
 returns-in-Ok c =
     let told_by = casts c.args.year c.args.month c.args.day c.args.hour c.args.minute c.args.second c.requires.year c.requires.month c.requires.day c.requires.hour c.requires.minute c.requires.second in
     let value = c.in-Ok.ensures.value in
-    let low : 1970 ≤ c.args.year = omega (arith, c.if-year-lt1970.false) in
+    let low : 1970 ≤ c.args.year = omega (arith, c.if-year-lt-FIRST_YEAR.false) in
     civil_real c.in-Ok.civil (told c.args.year c.args.month c.args.day c.args.hour c.args.minute c.args.second) _ _ _ _ _ _ told_by value.0 value.1 low
 
 pub returns-in-Err : goal.returns-in-Err
