@@ -2,7 +2,7 @@
 use Rattle.std.specs.Prelude.{◌≡◌, ◌↔◌, ℕ, Bool, true, ◌⊎◌, List, [], ◌++◌, Some, Ok, Err}
 use Rattle.der_lite.specs.Place.{Place, Fault}
 use Rattle.der_lite.specs.Der.{IsBytes, head_rules}
-use Rattle.der_lite.specs.Moments.{CivilMoment, is_moment, moment_before, moment_text, moment_in, TimeSpells}
+use Rattle.der_lite.specs.Moments.{CivilMoment, is_moment, moment_before, moment_text, moment_in, TimeSpells, IsMomentOf}
 use Rattle.der_lite.specs.Grammar.{Element, Breaks, plain, behind, inside}
 use Rattle.der_lite.specs.Reading.{element_at, content_at, time_at}
 use Rattle.der_lite.specs.Times.{timed}
@@ -71,10 +71,11 @@ OneSpellingOfTimes =
     → ((m : CivilMoment) (a b : List ℕ) → (timed rules).Spells m a → (timed rules).Spells m b → a ≡ b)
     × ((m n : CivilMoment) (a b more rest : List ℕ) → (timed rules).Spells m a → (timed rules).Spells n b → a ++ more ≡ b ++ rest → (m ≡ n) × (more ≡ rest))
 
--- A moment has one text, and a text one moment. What is found in a moment's text is that moment.
+-- What is found in a text is the moment whose text it is, or else there is none. A moment has one text, and a text one moment.
 abbrev pub OneText : Type 0
 OneText =
-    ((m : CivilMoment) (a b : List ℕ) → TimeSpells m a → TimeSpells m b → a ≡ b)
+    ((text : List ℕ) → IsMomentOf text (moment_in text))
+    × ((m : CivilMoment) (a b : List ℕ) → TimeSpells m a → TimeSpells m b → a ≡ b)
     × ((m n : CivilMoment) (text : List ℕ) → TimeSpells m text → TimeSpells n text → m ≡ n)
     × ((m : CivilMoment) → is_moment m ≡ true → moment_in (moment_text m) ≡ Some m)
 

@@ -13,7 +13,7 @@ pub record CivilMoment : Type 0 where
   pub minute : ℕ
   pub second : ℕ
 
--- six numbers, by themselves
+-- six numbers, as one value
 abbrev pub told : ℕ → ℕ → ℕ → ℕ → ℕ → ℕ → CivilMoment
 told year month day hour minute second = record {
   year = year;
@@ -38,7 +38,7 @@ days_of_month year month =
     if month == 2 then (if is_leap year then 29 else 28)
     else (if month == 4 || month == 6 || month == 9 || month == 11 then 30 else 31)
 
--- a real date of the years 1970 to 9999, and a time of day without a leap second
+-- A real date of the years 1970 to 9999, and a time of day without a leap second.
 unfoldable pub is_moment : CivilMoment → Bool
 is_moment m =
     is_between 1970 9999 m.year && is_between 1 12 m.month && is_between 1 (days_of_month m.year m.month) m.day
@@ -71,7 +71,7 @@ moment_digits m =
     decimals 4 m.year ++ decimals 2 m.month ++ decimals 2 m.day
     ++ decimals 2 m.hour ++ decimals 2 m.minute ++ decimals 2 m.second
 
--- X.690, 11.7, without fractions of a second: the digits, and Z
+-- X.690, 11.7, in the form of RFC 5280, 4.1.2.5.2: the digits and Z, without a fraction of a second
 unfoldable pub moment_text : CivilMoment → List ℕ
 moment_text m = moment_digits m ++ 90 ∷ []
 

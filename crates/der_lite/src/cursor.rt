@@ -163,8 +163,8 @@ impl<'a> Cursor<'a> {
     }
 
     /// The moment of the GeneralizedTime (tag 24) that stands here, `YYYYMMDDHHMMSSZ` (X.690, 8.25
-    /// and 11.7). `BadContent` if the content has another form, a fraction of a second among them,
-    /// or is no real date and time of the years 1970 to 9999.
+    /// and 11.7; RFC 5280, 4.1.2.5.2). `BadContent` if the content has another form, or its numbers
+    /// are no real date and time of the years 1970 to 9999.
     #[tactic(auto, unfolding(crate::specs::Reading::time_at, crate::specs::Reading::content_at, crate::specs::Moments::moment_in))]
     pub fn time(&mut self) -> Result<Moment, DerFault>
         ensures exact { Gives (λ moment. moment) result self.old self.new (time_at self.old) }

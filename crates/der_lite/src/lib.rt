@@ -1,7 +1,8 @@
 //! Elements of the distinguished encoding rules of ASN.1 (ITU-T X.690), read in place and written.
 //!
 //! A [`Cursor`] reads the elements that stand in an enclosing one, in order, and copies nothing.
-//! A [`DerWriter`] writes each element in its one spelling.
+//! A [`DerWriter`] writes each element in its one spelling. A [`Moment`] is the date and time that a
+//! GeneralizedTime says.
 #![tactic(auto)]
 
 mod content;

@@ -46,9 +46,9 @@ impl Model for Moment {
 }
 
 impl Moment {
-    /// The moment of which this is the text, `YYYYMMDDHHMMSSZ` (X.690, 11.7, without fractions of a
-    /// second). `None` if there is none: the text has another form, or the date or the time is none
-    /// of a moment.
+    /// The moment of which this is the text, `YYYYMMDDHHMMSSZ` (X.690, 11.7; RFC 5280, 4.1.2.5.2).
+    /// `None` if there is none: the text has another form, or its numbers are no real date and time
+    /// of the years 1970 to 9999.
     pub fn parse(text: &str) -> Option<Moment>
         ensures { IsMomentOf text.now result }
     {
@@ -208,7 +208,7 @@ impl PartialOrd for Moment {
     }
 }
 
-/// The text, `YYYYMMDDHHMMSSZ` (X.690, 11.7).
+/// The text, `YYYYMMDDHHMMSSZ` (X.690, 11.7; RFC 5280, 4.1.2.5.2).
 impl Display for Moment {
     ghost output = { λ m. Some (moment_text m) };
 
