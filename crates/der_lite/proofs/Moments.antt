@@ -1,5 +1,5 @@
 -- A text is that of a moment exactly where it is fourteen digits and a Z, and the numbers that they spell are a moment.
-use Rattle.std.proofs.Common.{◌≡◌, ℕ, zero, suc, ◌+◌, ◌-◌, ◌/◌, ◌%◌, ◌<◌, ◌≤◌, true, false, ◌&&◌, Bool, List, [], ◌∷◌, ◌++◌, length, length-drop, ap₂, if◌then◌else◌, if◌then◌else◌, take, drop, slice_range, bytes_eq, ℤ, pos, ◌≤ℤ◌, unsigned_abs, Option, Some, None, IfSome, refl, sym, ap, subst, ◌∙◌, arith, length-append}
+use Rattle.std.proofs.Common.{◌≡◌, ℕ, zero, suc, ◌+◌, ◌-◌, ◌/◌, ◌%◌, ◌<◌, ◌≤◌, true, false, ◌&&◌, Bool, List, [], ◌∷◌, ◌++◌, length, length-drop, ap₂, if◌then◌else◌, take, drop, slice_range, bytes_eq, ℤ, pos, ◌≤ℤ◌, unsigned_abs, Option, Some, None, IfSome, refl, sym, ap, subst, ◌∙◌, arith, length-append}
 use Rattle.std.specs.Char.{is_ascii_digit}
 use Rattle.std.specs.List.{list_all}
 use Rattle.std.proofs.lemmas.Bool.{and_parts, and_from, false_from_ne_true}
@@ -28,11 +28,6 @@ digit_is n = grind arith
 all_decimals : (count n : ℕ) → list_all is_ascii_digit (decimals count n) ≡ true
 all_decimals zero n = refl
 all_decimals (suc count) n = list_all-append is_ascii_digit (decimals count (n / 10)) ((48 + n % 10) ∷ []) ∙ and_from _ _ (all_decimals count (n / 10)) (and_from _ _ (digit_is n) refl)
-
--- and in as many as are asked for
-length-decimals : (count n : ℕ) → length (decimals count n) ≡ count
-length-decimals zero n = refl
-length-decimals (suc count) n = omega (arith, length-append (decimals count (n / 10)) ((48 + n % 10) ∷ []), length-decimals count (n / 10))
 
 -- at most four digits are those of the number that they spell
 pub decimals_again : (digits : List ℕ) → length digits ≤ 4 → list_all is_ascii_digit digits ≡ true → decimals (length digits) (decimal_number digits) ≡ digits

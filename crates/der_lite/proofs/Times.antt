@@ -135,10 +135,12 @@ unfolding moment_before
 before_chain m n k h g = ap is_lt (total.trans (numbers_of m) (numbers_of n) (numbers_of k) (less_is (moment_cmp m n) h) (less_is (moment_cmp n k) g))
 
 -- moments of the same numbers are one
-same_moment : (m n : CivilMoment) → slice_cmp nat_cmp (numbers_of m) (numbers_of n) ≡ Equal → m ≡ n
-same_moment m n h =
-    let same : numbers_of m ≡ numbers_of n = (bytes_eq-Decides (numbers_of m) (numbers_of n)).0 (sym (is_eq-slice_cmp (numbers_of m) (numbers_of n)) ∙ ap is_eq h) in
-    λ i. told (get_or (same i) 0 0) (get_or (same i) 1 0) (get_or (same i) 2 0) (get_or (same i) 3 0) (get_or (same i) 4 0) (get_or (same i) 5 0)
+pub same_moment : (m n : CivilMoment) → numbers_of m ≡ numbers_of n → m ≡ n
+same_moment m n same = λ i. told (get_or (same i) 0 0) (get_or (same i) 1 0) (get_or (same i) 2 0) (get_or (same i) 3 0) (get_or (same i) 4 0) (get_or (same i) 5 0)
+
+-- and those that tie
+tied : (m n : CivilMoment) → moment_cmp m n ≡ Equal → m ≡ n
+tied m n h = same_moment m n ((bytes_eq-Decides (numbers_of m) (numbers_of n)).0 (sym (is_eq-slice_cmp (numbers_of m) (numbers_of n)) ∙ ap is_eq h))
 
 -- of two moments that differ one is before the other
 pub one_before : (m n : CivilMoment) → (m ≡ n) ⊎ (moment_before m n ≡ true) ⊎ (moment_before n m ≡ true)
@@ -147,5 +149,5 @@ one_before m n = by_order (moment_cmp m n) refl
   where
     by_order : (o : Ordering) → moment_cmp m n ≡ o → (m ≡ n) ⊎ (is_lt (moment_cmp m n) ≡ true) ⊎ (is_lt (moment_cmp n m) ≡ true)
     by_order Less e = inr (inl (ap is_lt e))
-    by_order Equal e = inl (same_moment m n e)
+    by_order Equal e = inl (tied m n e)
     by_order Greater e = inr (inr (ap is_lt (total.antisymm (numbers_of n) (numbers_of m) ∙ ap ordering_reverse e)))
