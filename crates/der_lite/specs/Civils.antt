@@ -27,6 +27,7 @@ pub record IsWhole (dt : DateTime) : Type 0 where
   pub whole : dt.time.subsec_nanosecond ≡ 0
 
 -- ---- the date-time of six numbers
+-- What follows shows that a moment's six numbers give its date-time back, which a `Copy` type owes. No contract says more by it.
 
 -- what a real moment is, number by number
 pub record IsReal (m : CivilMoment) : Type 0 where
