@@ -1,6 +1,6 @@
 //! Elements as bytes.
 
-ghost use Rattle.std.specs.Prelude.{◌≡◌, ◌<◌, ◌+◌, ◌^◌, ◌++◌, ◌∷◌, [], length, take, OnOk, OnErr};
+ghost use Rattle.std.specs.Prelude.{◌≡◌, ◌<◌, ◌+◌, ◌^◌, ◌++◌, ◌∷◌, [], length, take, IsTrue, OnOk, OnErr};
 ghost use Rattle.der_lite.specs.Der.{length_bytes, tlv};
 ghost use Rattle.der_lite.specs.Cursors.{bits_content};
 ghost use Rattle.der_lite.specs.Moments.{is_moment, moment_text};
