@@ -1,4 +1,4 @@
-use Rattle.std.proofs.Common.{◌≡◌, ◌+◌, List, ap, subst, sym, take}
+use Rattle.std.proofs.Common.{◌+◌, List, subst, sym, take}
 use Rattle.std.specs.List.{flat_map}
 use Rattle.std.specs.Io.KnownBytes.{Appends}
 use Rattle.payloads.specs.declared.entry.RoaEntry.{RoaEntry}
