@@ -7,3 +7,4 @@ pub mod RoaLaws
 pub mod Growing
 pub mod Decoding
 pub mod Refusals
+pub mod RoaRows
