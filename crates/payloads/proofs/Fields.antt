@@ -3,13 +3,14 @@ use Rattle.std.proofs.Common.{◌≡◌, ℕ, pos, None, Bool, true, false, not,
 use Rattle.std.proofs.lemmas.Bool.{and_parts, eqb-true, ne_eqb}
 use Rattle.der_lite.specs.Place.{Place, Fault, first_of}
 use Rattle.der_lite.specs.Der.{number, is_integer, IntSpells, is_bit_string, bit_count, head_rules, is_truncated, has_length, tag_of}
-use Rattle.der_lite.specs.Grammar.{element}
-use Rattle.der_lite.specs.Reading.{◌>>=◌, judged, element_at, content_at, content_place, next_place}
-use Rattle.der_lite.specs.Decoding.{read_element, read_primitive}
+use Rattle.der_lite.specs.Grammar.{element, primitive}
+use Rattle.der_lite.specs.Reading.{◌>>=◌, judged, element_at, content_at, integer_at, content_place, next_place}
+use Rattle.der_lite.specs.Decoding.{Read, read_element, read_primitive}
 use Rattle.der_lite.specs.Values.{integer_between, between_rules, bits_value}
+use Rattle.der_lite.specs.Fields.{field_at}
 use Rattle.der_lite.proofs.Rules.{judged-bind}
 use Rattle.der_lite.proofs.Elements.{head_kept}
-use Rattle.der_lite.proofs.Exact.{ExactElement, IsHead, exact_element, exact_primitive}
+use Rattle.der_lite.proofs.Exact.{ExactElement, ExactContent, IsHead, exact_element, exact_primitive}
 use Rattle.der_lite.proofs.Plain.{exact_along}
 use Rattle.der_lite.proofs.Fields.{judged-append, exact_field}
 use Rattle.der_lite.proofs.Integers.{kept_2, exact_between}
@@ -58,30 +59,42 @@ heads false false false d at i h n = refl
 heads false false true false at i h n = refl
 heads false false true true at i h n = ap (λ r. r >>= h) (sym (with_no_version i))
 
--- the AS is read with this head
-as_id_is : (p : Place) → read_element first_head (read_primitive (between_rules 0 4294967295 7) number) p ≡ as_id_at p
-unfolding as_id_at content_at element_at head_rules
-as_id_is p =
-    let c = (content_place p).rest in
-    let own : List ℕ → List (ℕ × Bool) = λ k. (4, not (is_integer k)) ∷ [] in
-    let range = range_rules 0 4294967295 7 in
-    let then_next : ℕ → Result (ℕ × Place) Fault = λ v. Ok (v, next_place p) in
-    let own_then : Place × Place → Result (List ℕ × Place) Fault = λ x. judged (own x.0.rest) p.at (Ok (x.0.rest, x.1)) in
-    let rules_then : List ℕ × Place → Result (ℕ × Place) Fault = λ x. judged (range x.0) p.at (Ok (number x.0, x.1)) in
-    let read : Result (List ℕ × Place) Fault = judged (own c) p.at (Ok (c, next_place p)) in
-    let inner : (judged (own c ++ range c) p.at (Ok (number c)) >>= then_next) ≡ (read >>= rules_then) =
-    ap (λ (r : Result ℕ Fault). r >>= then_next) (judged-append (own c) (range c) p.at (Ok (number c)))
-    ∙ judged-bind (own c) p.at (judged (range c) p.at (Ok (number c))) then_next ∙ ap (judged (own c) p.at) (judged-bind (range c) p.at (Ok (number c)) then_next)
-    ∙ sym (judged-bind (own c) p.at (Ok (c, next_place p)) rules_then) in
-    ap (judged (first_head p.rest) p.at) inner
-    ∙ heads (is_truncated p.rest) (eqb (tag_of p.rest) 160) (eqb (tag_of p.rest) 2) (has_length p.rest) p.at read rules_then (λ n. ne_eqb (tag_of p.rest) 2 (λ m. absurd (omega (arith, eqb-true (tag_of p.rest) 160 n))))
-    ∙ ap (λ (r : Result (List ℕ × Place) Fault). with_version (eqb (tag_of p.rest) 160) r >>= rules_then) (sym (judged-bind (head_rules 2 p.rest) p.at (Ok (content_place p, next_place p)) own_then))
+module _ {V : Type 0} (rules : List ℕ → List (ℕ × Bool)) (value : List ℕ → V) where
+  -- the rules of the first member, an INTEGER
+  abbrev first_rules : List ℕ → List (ℕ × Bool)
+  first_rules content = (4, not (is_integer content)) ∷ rules content
+
+  -- reading it as a cursor does
+  abbrev first_at : Read V
+  first_at p = field_at (with_version (eqb (tag_of p.rest) 160) (integer_at p)) p.at rules value
+
+  -- the first member is read with this head
+  first_is : (p : Place) → read_element first_head (read_primitive first_rules value) p ≡ first_at p
+  unfolding content_at element_at head_rules
+  first_is p =
+      let c = (content_place p).rest in
+      let own : List ℕ → List (ℕ × Bool) = λ k. (4, not (is_integer k)) ∷ [] in
+      let then_next : V → Result (V × Place) Fault = λ v. Ok (v, next_place p) in
+      let own_then : Place × Place → Result (List ℕ × Place) Fault = λ x. judged (own x.0.rest) p.at (Ok (x.0.rest, x.1)) in
+      let rules_then : List ℕ × Place → Result (V × Place) Fault = λ x. judged (rules x.0) p.at (Ok (value x.0, x.1)) in
+      let read : Result (List ℕ × Place) Fault = judged (own c) p.at (Ok (c, next_place p)) in
+      let inner : (judged (own c ++ rules c) p.at (Ok (value c)) >>= then_next) ≡ (read >>= rules_then) =
+      ap (λ (r : Result V Fault). r >>= then_next) (judged-append (own c) (rules c) p.at (Ok (value c)))
+      ∙ judged-bind (own c) p.at (judged (rules c) p.at (Ok (value c))) then_next ∙ ap (judged (own c) p.at) (judged-bind (rules c) p.at (Ok (value c)) then_next)
+      ∙ sym (judged-bind (own c) p.at (Ok (c, next_place p)) rules_then) in
+      ap (judged (first_head p.rest) p.at) inner
+      ∙ heads (is_truncated p.rest) (eqb (tag_of p.rest) 160) (eqb (tag_of p.rest) 2) (has_length p.rest) p.at read rules_then (λ n. ne_eqb (tag_of p.rest) 2 (λ m. absurd (omega (arith, eqb-true (tag_of p.rest) 160 n))))
+      ∙ ap (λ (r : Result (List ℕ × Place) Fault). with_version (eqb (tag_of p.rest) 160) r >>= rules_then) (sym (judged-bind (head_rules 2 p.rest) p.at (Ok (content_place p, next_place p)) own_then))
+
+  -- and exactly so if its content is
+  pub exact_first : (Spells : V → List ℕ → Type 0) → ExactContent (primitive Spells first_rules) (read_primitive first_rules value) → ExactElement (element 2 first_head (primitive Spells first_rules)) first_at
+  exact_first Spells x =
+      exact_along (element 2 first_head (primitive Spells first_rules)) (read_element first_head (read_primitive first_rules value)) first_at first_is
+      (exact_element 2 first_head (primitive Spells first_rules) (read_primitive first_rules value) version_head x)
 
 pub exact_as_id : ExactElement as_id as_id_at
-unfolding as_id
-exact_as_id =
-    exact_along (element 2 first_head (integer_between 0 4294967295 7)) (read_element first_head (read_primitive (between_rules 0 4294967295 7) number)) as_id_at as_id_is
-    (exact_element 2 first_head (integer_between 0 4294967295 7) (read_primitive (between_rules 0 4294967295 7) number) version_head (exact_between 0 4294967295 7))
+unfolding as_id as_id_at
+exact_as_id = exact_first (range_rules 0 4294967295 7) number (λ n content. IntSpells (pos n) content) (exact_between 0 4294967295 7)
 
 -- ---- the family
 

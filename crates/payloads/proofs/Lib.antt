@@ -8,3 +8,6 @@ pub mod Growing
 pub mod Decoding
 pub mod Refusals
 pub mod RoaRows
+pub mod Manifests
+pub mod ManifestOnce
+pub mod ManifestLaws

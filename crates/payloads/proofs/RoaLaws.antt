@@ -6,8 +6,8 @@ use Rattle.der_lite.specs.Fields.{last_at}
 use Rattle.der_lite.proofs.GrammarLaws as laws
 use Rattle.payloads.specs.Roa.{RoaTree, roa_payload, route_origin_attestation}
 use Rattle.payloads.specs.RoaReading.{attestation_at}
-use Rattle.payloads.specs.RoaValues.{flat, TreeSpells, RoaFaultAt}
-use Rattle.payloads.specs.Laws.{OneFault, OneSpelling}
+use Rattle.payloads.specs.RoaValues.{flat, TreeSpells, RoaSpells, RoaFaultAt}
+use Rattle.payloads.specs.Laws.{OneFaultOf, OneSpellingOf}
 use Rattle.payloads.proofs.Roas.{exact_roa, exact_attestation}
 use Rattle.payloads.proofs.RoaOnce.{once_tree}
 use Rattle.payloads.proofs.Flats.{one_tree}
@@ -17,12 +17,12 @@ abbrev read_roa : Place → Result RoaTree Fault
 read_roa = last_at attestation_at
 
 -- a fault by its offset and number
-abbrev at_offset : ℕ → ℕ → Fault
+abbrev pub at_offset : ℕ → ℕ → Fault
 at_offset offset number = record { number = number; offset = offset }
 
-pub fault_law : OneFault
+pub roa_faults : OneFaultOf RoaSpells RoaFaultAt
 unfolding RoaFaultAt TreeSpells
-fault_law = (
+roa_faults = (
   (λ bytes offset other number second f g.
       let same = laws.one_fault roa_payload read_roa exact_roa (place_of 0 bytes) (at_offset offset number) (at_offset other second) f g in
       (ap (λ (d : Fault). d.offset) same, ap (λ (d : Fault). d.number) same)),
@@ -33,9 +33,9 @@ fault_law = (
   ]),
 )
 
-pub spelling_law : OneSpelling
+pub roa_spellings : OneSpellingOf RoaSpells
 unfolding TreeSpells roa_payload
-spelling_law = (
+roa_spellings = (
   (λ v a b ba bb s t. once_tree t.tree a b ba bb (subst (λ (x : RoaTree). TreeSpells x a) (one_tree v a b s t) s.spelled) t.spelled),
   (λ bytes v w s t. sym s.is_flat ∙ ap flat (laws.one_value roa_payload read_roa exact_roa (place_of 0 bytes) s.tree t.tree s.spelled t.spelled) ∙ t.is_flat),
   (λ a b more v w s t h.

@@ -2,6 +2,7 @@
 use Rattle.std.specs.Prelude.{◌≡◌, ℕ, ◌⊎◌, List, ◌++◌}
 use Rattle.der_lite.specs.Der.{IsBytes}
 use Rattle.payloads.specs.RoaValues.{RoaSpells, RoaFaultAt}
+use Rattle.payloads.specs.Manifest.{ManifestSpells, ManifestFaultAt}
 
 -- At most one fault fits bytes, none fits bytes that spell a value, and one fits all others.
 abbrev pub OneFaultOf : {V : Type 0} → (V → List ℕ → Type 0) → (List ℕ → ℕ → ℕ → Type 0) → Type 0
@@ -17,9 +18,9 @@ OneSpellingOf {V} Spells =
     × ((bytes : List ℕ) (v w : V) → Spells v bytes → Spells w bytes → v ≡ w)
     × ((a b more : List ℕ) (v w : V) → Spells v a → Spells w b → a ++ more ≡ b → a ≡ b)
 
--- of ROAs
+-- of ROAs and of manifests
 abbrev pub OneFault : Type 0
-OneFault = OneFaultOf RoaSpells RoaFaultAt
+OneFault = OneFaultOf RoaSpells RoaFaultAt × OneFaultOf ManifestSpells ManifestFaultAt
 
 abbrev pub OneSpelling : Type 0
-OneSpelling = OneSpellingOf RoaSpells
+OneSpelling = OneSpellingOf RoaSpells × OneSpellingOf ManifestSpells

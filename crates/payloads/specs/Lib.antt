@@ -4,5 +4,7 @@ pub mod Roa
 pub mod RoaReading
 pub mod RoaValues
 pub mod Refusal
+pub mod Manifest
+pub mod ManifestReading
 pub mod Gives
 pub mod Laws

@@ -1,5 +1,6 @@
-use Rattle.payloads.proofs.RoaLaws.{fault_law}
+use Rattle.payloads.proofs.RoaLaws.{roa_faults}
+use Rattle.payloads.proofs.ManifestLaws.{manifest_faults}
 use Rattle.payloads.proofs.laws.one_fault.Goals as goal
 
 pub returns : goal.returns
-returns c = fault_law
+returns c = (roa_faults, manifest_faults)
