@@ -1,5 +1,6 @@
 -- What a payload that was read spells.
-use Rattle.std.proofs.Common.{◌≡◌, ℕ, ◌-◌, List, [], length, take, Ok, Err, refl, sym, ap, ◌∙◌, arith}
+use Rattle.std.proofs.Common.{◌≡◌, ℕ, zero, suc, ◌-◌, Bool, true, ◌&&◌, ltb, List, [], ◌∷◌, length, take, Ok, Err, refl, sym, ap, ◌∙◌, arith}
+use Rattle.std.proofs.lemmas.Bool.{and_parts, ltb-true}
 use Rattle.std.proofs.lemmas.List.{take_all}
 use Rattle.der_lite.specs.Place.{Fault, place_of}
 use Rattle.der_lite.specs.Der.{IsBytes}
@@ -44,3 +45,16 @@ read_twice bytes first second counted listed asn entries are e g d asn_is h entr
     let room : counted.count - 0 ≡ length all = omega (arith, g.counted, ap (λ (t : RoaTree). length (all_entries t.1)) same) in
     let whole : all ≡ entries = sym (entries_are ∙ h.kept ∙ ap (λ (n : ℕ). take n all) room ∙ take_all (length all) all (omega arith)) in
     record { tree = second; spelled = tree_read bytes second are d; is_flat = ap (λ (n : ℕ). value_of n all) asn_is ∙ ap (value_of asn) whole }
+
+-- ---- bytes of examples
+
+-- each number is one of a byte
+abbrev pub all_bytes : List ℕ → Bool
+all_bytes [] = true
+all_bytes (b ∷ bytes) = ltb b 256 && all_bytes bytes
+
+-- so they are bytes
+pub are_bytes : (bytes : List ℕ) → all_bytes bytes ≡ true → IsBytes bytes
+are_bytes [] h i = omega arith
+are_bytes (b ∷ bytes) h zero = ltb-true b 256 (and_parts (ltb b 256) (all_bytes bytes) h).0
+are_bytes (b ∷ bytes) h (suc i) = are_bytes bytes (and_parts (ltb b 256) (all_bytes bytes) h).1 i

@@ -6,7 +6,7 @@ use Rattle.der_lite.specs.Der.{number, is_integer, IntSpells, is_bit_string, bit
 use Rattle.der_lite.specs.Grammar.{element, primitive}
 use Rattle.der_lite.specs.Reading.{◌>>=◌, judged, element_at, content_at, integer_at, content_place, next_place}
 use Rattle.der_lite.specs.Decoding.{Read, read_element, read_primitive}
-use Rattle.der_lite.specs.Values.{integer_between, between_rules, bits_value}
+use Rattle.der_lite.specs.Values.{bits_value}
 use Rattle.der_lite.specs.Fields.{field_at}
 use Rattle.der_lite.proofs.Rules.{judged-bind}
 use Rattle.der_lite.proofs.Elements.{head_kept}

@@ -11,3 +11,4 @@ pub mod RoaRows
 pub mod Manifests
 pub mod ManifestOnce
 pub mod ManifestLaws
+pub mod ManifestRows

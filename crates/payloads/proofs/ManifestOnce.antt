@@ -1,5 +1,5 @@
 -- No manifest has two spellings.
-use Rattle.std.proofs.Common.{◌≡◌, ℕ, List, [], sym, ◌∙◌}
+use Rattle.std.proofs.Common.{List, [], sym, ◌∙◌}
 use Rattle.der_lite.specs.Der.{head_rules}
 use Rattle.der_lite.specs.Moments.{CivilMoment}
 use Rattle.der_lite.specs.Grammar.{primitive, constructed, member, last, each}
@@ -7,7 +7,7 @@ use Rattle.der_lite.proofs.Once.{Once, once_element, once_primitive, once_constr
 use Rattle.der_lite.proofs.Fields.{once_valued}
 use Rattle.der_lite.proofs.Times.{once_timed}
 use Rattle.payloads.specs.Roa.{no_rules, first_head}
-use Rattle.payloads.specs.Manifest.{NumberSpells, number_rules, manifest_number, this_update, next_rules, next_update, AlgorithmSpells, algorithm_rules, hash_algorithm, ListedFile, name_rules, NameSpells, file_name, HashSpells, hash_rules, file_hash, too_many_files, file_parts, file_members, file_and_hash, file_list, ManifestValue, manifest_parts, behind_next, behind_this, manifest_members, manifest, manifest_payload, ManifestSpells}
+use Rattle.payloads.specs.Manifest.{NumberSpells, number_rules, manifest_number, this_update, next_rules, next_update, AlgorithmSpells, algorithm_rules, hash_algorithm, ListedFile, name_rules, NameSpells, file_name, HashSpells, hash_rules, file_hash, too_many_files, file_parts, file_members, file_and_hash, file_list, manifest_parts, behind_next, behind_this, manifest_members, manifest, manifest_payload, ManifestSpells}
 
 once_number : Once manifest_number.Spells
 unfolding manifest_number
@@ -37,8 +37,8 @@ once_file : (before : List ListedFile) → Once (file_and_hash before).Spells
 unfolding file_and_hash
 once_file before = once_element 48 (head_rules 48) (constructed (too_many_files before) (file_members before) no_rules)
     (once_constructed (too_many_files before) (file_members before) no_rules
-      (once_valued file_parts (member (file_name before) (λ name. last file_hash))
-        (once_member (file_name before) (λ name. last file_hash) (once_name before) (λ name. once_last file_hash once_hash))))
+    (once_valued file_parts (member (file_name before) (λ name. last file_hash))
+    (once_member (file_name before) (λ name. last file_hash) (once_name before) (λ name. once_last file_hash once_hash))))
 
 once_files : Once file_list.Spells
 unfolding file_list
@@ -54,8 +54,8 @@ once_element_of : Once manifest.Spells
 unfolding manifest
 once_element_of = once_element 48 (head_rules 48) (constructed no_rules manifest_members no_rules)
     (once_constructed no_rules manifest_members no_rules
-      (once_valued manifest_parts (member manifest_number (λ n. member this_update behind_this))
-        (once_member manifest_number (λ n. member this_update behind_this) once_number (λ n. once_member this_update behind_this once_this once_behind_this))))
+    (once_valued manifest_parts (member manifest_number (λ n. member this_update behind_this))
+    (once_member manifest_number (λ n. member this_update behind_this) once_number (λ n. once_member this_update behind_this once_this once_behind_this))))
 
 pub once_manifest : Once ManifestSpells
 unfolding ManifestSpells manifest_payload

@@ -1,7 +1,6 @@
 -- The definitions at examples: what bytes spell, and their first fault.
-use Rattle.std.proofs.Common.{◌≡◌, ℕ, zero, suc, Bool, true, List, [], ◌∷◌, Option, Some, None, Ok, Err, refl, ltb, ◌&&◌, arith}
-use Rattle.std.proofs.lemmas.Bool.{and_parts, ltb-true}
-use Rattle.der_lite.specs.Der.{IsBytes, length_end, content_end, has_length, is_truncated, head_rules}
+use Rattle.std.proofs.Common.{◌≡◌, ℕ, true, List, [], ◌∷◌, Option, Some, None, Ok, Err, refl}
+use Rattle.der_lite.specs.Der.{length_end, content_end, has_length, is_truncated, head_rules}
 use Rattle.der_lite.specs.Reading.{element_at, content_at, end_at, content_place, next_place}
 use Rattle.prefixes.specs.Address.{Block}
 use Rattle.prefixes.specs.declared.prefix.IpPrefix.{IpPrefix}
@@ -11,17 +10,7 @@ use Rattle.payloads.specs.declared.entry.RoaEntry.{RoaEntry}
 use Rattle.payloads.specs.Roa.{Blocks, RoaTree}
 use Rattle.payloads.specs.RoaReading.{as_id_at, address_family_at, address_at, max_length_at, maximum_at, entry_at, entries_at, addresses_at, ip_family_at, blocks_at, attestation_at, payload_at}
 use Rattle.payloads.specs.RoaValues.{flat, RoaSpells, RoaFaultAt}
-use Rattle.payloads.proofs.Decoding.{flat_read, fault_read}
-
--- each number is one of a byte
-abbrev all_bytes : List ℕ → Bool
-all_bytes [] = true
-all_bytes (b ∷ bytes) = ltb b 256 && all_bytes bytes
-
-are_bytes : (bytes : List ℕ) → all_bytes bytes ≡ true → IsBytes bytes
-are_bytes [] h i = omega arith
-are_bytes (b ∷ bytes) h zero = ltb-true b 256 (and_parts (ltb b 256) (all_bytes bytes) h).0
-are_bytes (b ∷ bytes) h (suc i) = are_bytes bytes (and_parts (ltb b 256) (all_bytes bytes) h).1 i
+use Rattle.payloads.proofs.Decoding.{all_bytes, are_bytes, flat_read, fault_read}
 
 abbrev block : ℕ → ℕ → Block
 block addr len = record { addr = addr; len = len }

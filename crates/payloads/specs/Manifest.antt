@@ -1,5 +1,5 @@
 -- The payload of a manifest (RFC 9286, section 4), and the first fault of bytes that spell none.
-use Rattle.std.specs.Prelude.{◌≡◌, ℕ, ◌+◌, ◌-◌, ◌&&◌, ◌||◌, Bool, false, not, nat_lt, nat_le, ◌==◌, bytes_eq, List, [], ◌∷◌, length, slice_index, take, drop, pos}
+use Rattle.std.specs.Prelude.{◌≡◌, ℕ, ◌-◌, ◌&&◌, ◌||◌, Bool, not, nat_lt, nat_le, ◌==◌, bytes_eq, List, [], ◌∷◌, length, slice_index, take, drop, pos}
 use Rattle.std.specs.List.{list_all, list_any}
 use Rattle.der_lite.specs.Place.{place_of}
 use Rattle.der_lite.specs.Der.{number, is_integer, IntSpells, is_bit_string, bit_count, is_ia5, head_rules}

@@ -1,6 +1,6 @@
 -- Reading the payload of a manifest over what the reads of a cursor give.
-use Rattle.std.specs.Prelude.{ℕ, ◌==◌, Bool, List, [], drop, Result}
-use Rattle.der_lite.specs.Place.{Place, Fault, place_of}
+use Rattle.std.specs.Prelude.{ℕ, ◌==◌, List, drop, Result}
+use Rattle.der_lite.specs.Place.{Fault, place_of}
 use Rattle.der_lite.specs.Der.{tag_of}
 use Rattle.der_lite.specs.Moments.{CivilMoment}
 use Rattle.der_lite.specs.Reading.{integer_at, bits_at, oid_at, ia5_at, time_at}
