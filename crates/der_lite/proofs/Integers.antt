@@ -136,7 +136,7 @@ too_large (first ∷ digits) f h n =
 -- ---- a number byte by byte
 
 -- one byte more
-number_more : (bytes : List ℕ) (byte : ℕ) → number (bytes ++ byte ∷ []) ≡ number bytes * 256 + byte
+pub number_more : (bytes : List ℕ) (byte : ℕ) → number (bytes ++ byte ∷ []) ≡ number bytes * 256 + byte
 number_more [] byte = omega arith
 number_more (first ∷ bytes) byte =
     let count : length (bytes ++ byte ∷ []) ≡ suc (length bytes) = omega (arith, length-append bytes (byte ∷ [])) in

@@ -9,6 +9,7 @@ pub mod Texts
 pub mod Plain
 pub mod BitStrings
 pub mod Integers
+pub mod Numbers
 pub mod Fields
 pub mod Loops
 pub mod Moments

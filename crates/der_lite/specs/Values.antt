@@ -1,6 +1,6 @@
 -- What primitive contents mean: numbers in a range, and bits.
 use Rattle.std.specs.Prelude.{ℕ, ◌+◌, ◌-◌, ◌^◌, ◌||◌, Bool, not, nat_lt, nat_le, if◌then◌else◌, List, [], ◌∷◌, take, drop, slice_index, pos}
-use Rattle.der_lite.specs.Der.{number, is_integer, IntSpells, bits_of, bit_count}
+use Rattle.der_lite.specs.Der.{number, base_256, is_integer, IntSpells, bits_of, bit_count}
 use Rattle.der_lite.specs.Grammar.{Content, primitive}
 
 -- 8.3.3: the highest bit of an integer's content is its sign
@@ -14,6 +14,15 @@ between_rules least most fault content = (4, not (is_integer content)) ∷ (faul
 -- INTEGER (least..most)
 abbrev pub integer_between : ℕ → ℕ → ℕ → Content ℕ
 integer_between least most fault = primitive (λ n content. IntSpells (pos n) content) (between_rules least most fault)
+
+-- 8.3.2: the content of a number below 2^32 in the fewest bytes, of which the highest bit is a sign
+unfoldable pub unsigned_bytes : ℕ → List ℕ
+unsigned_bytes n =
+    if nat_lt n (2 ^ 7) then base_256 1 n
+    else if nat_lt n (2 ^ 15) then base_256 2 n
+    else if nat_lt n (2 ^ 23) then base_256 3 n
+    else if nat_lt n (2 ^ 31) then base_256 4 n
+    else base_256 5 n
 
 -- the bits of a bit string's content
 abbrev pub bits_value : List ℕ → List Bool

@@ -1,6 +1,6 @@
 //! Elements by hand, and their faults.
 
-use crate::{Bits, Cursor, DerFault, DerWriter};
+use crate::{Bits, Cursor, DerFault, DerWriter, unsigned};
 use std::test::Fail;
 
 /// How long the content is of the element of this tag that stands at the cursor. A SEQUENCE is
@@ -167,6 +167,27 @@ fn writes_each_element(rt: HostRuntime) -> Result<(), Fail> {
         writer.as_slice(),
         b"\x30\x16\x02\x02\x00\x80\x03\x02\x03\xf8\x04\x01\x01\x06\x02\x2a\x03\x16\x05a.roa".as_slice()
     );
+    Ok(())
+}
+
+#[test]
+fn writes_numbers_in_the_fewest_bytes(rt: HostRuntime) -> Result<(), Fail> {
+    let alloc = rt.alloc();
+    for (number, element) in [
+        (0u32, b"\x02\x01\x00".as_slice()),
+        (127, b"\x02\x01\x7f".as_slice()),
+        (128, b"\x02\x02\x00\x80".as_slice()),
+        (256, b"\x02\x02\x01\x00".as_slice()),
+        (64496, b"\x02\x03\x00\xfb\xf0".as_slice()),
+        (8388608, b"\x02\x04\x00\x80\x00\x00".as_slice()),
+        (4294967295, b"\x02\x05\x00\xff\xff\xff\xff".as_slice()),
+    ] {
+        let mut writer = DerWriter::new(alloc);
+        writer.unsigned(number)?;
+        assert_eq!(rt; writer.as_slice(), element);
+        let mut cursor = Cursor::new(element);
+        assert_eq!(rt; unsigned(cursor.integer()?), Some(number));
+    }
     Ok(())
 }
 

@@ -4,6 +4,7 @@ ghost use Rattle.std.specs.Prelude.{◌≡◌, ◌<◌, ◌+◌, ◌^◌, ◌++�
 ghost use Rattle.der_lite.specs.Der.{length_bytes, tlv};
 ghost use Rattle.der_lite.specs.Cursors.{bits_content};
 ghost use Rattle.der_lite.specs.Moments.{is_moment, moment_text};
+ghost use Rattle.der_lite.specs.Values.{unsigned_bytes};
 ghost use Rattle.der_lite.specs.Writing.{Adds};
 
 use crate::{Bits, Moment};
@@ -102,6 +103,28 @@ impl DerWriter {
         ensures { Adds result 2 content.now self.old self.new }
     {
         self.element(2, &[], content)
+    }
+
+    /// Writes an INTEGER (tag 2) of this number, in the fewest bytes.
+    #[tactic(auto, unfolding(crate::specs::Values::unsigned_bytes))]
+    pub fn unsigned(&mut self, number: u32) -> Result<(), AllocError>
+        ensures { Adds result 2 (unsigned_bytes number) self.old self.new }
+    {
+        let low = (number % 256) as u8;
+        let second = (number / 256 % 256) as u8;
+        let third = (number / 256 / 256 % 256) as u8;
+        let fourth = (number / 256 / 256 / 256 % 256) as u8;
+        if number < 128 {
+            self.integer(&[low])
+        } else if number < 32768 {
+            self.integer(&[second, low])
+        } else if number < 8388608 {
+            self.integer(&[third, second, low])
+        } else if number < 2147483648 {
+            self.integer(&[fourth, third, second, low])
+        } else {
+            self.integer(&[0, fourth, third, second, low])
+        }
     }
 
     /// Writes a BIT STRING (tag 3), whose unused bits are zero.
