@@ -206,7 +206,7 @@ widened bits w h =
     ap (bits_number bits) (sym total) ∙ ap (λ (b : List Bool). bits_number b (length bits + m)) (sym (append-nil bits)) ∙ number_append bits [] m ∙ omega arith
 
 -- eight bits a byte
-pow_256 : (n : ℕ) → 2 ^ (8 * n) ≡ 256 ^ n
+pub pow_256 : (n : ℕ) → 2 ^ (8 * n) ≡ 256 ^ n
 pow_256 zero = refl
 pow_256 (suc n) =
     let total : 8 * suc n ≡ 8 + 8 * n = omega arith in

@@ -1,13 +1,14 @@
 -- Numbers as bytes, and the bytes of elements: how many there are, and that they are bytes.
-use Rattle.std.proofs.Common.{◌≡◌, ℕ, zero, suc, ◌+◌, ◌*◌, ◌/◌, ◌%◌, ◌^◌, ◌<◌, ◌≤◌, Bool, true, false, not, ◌&&◌, ◌||◌, cond, eqb, ltb, leb, List, [], ◌∷◌, ◌++◌, length, take, pos, refl, sym, ap, ◌∙◌, inl, inr, arith, length-append}
+use Rattle.std.proofs.Common.{◌≡◌, ℕ, zero, suc, ◌+◌, ◌*◌, ◌/◌, ◌%◌, ◌^◌, ◌<◌, ◌≤◌, Bool, true, false, not, ◌&&◌, ◌||◌, cond, eqb, ltb, leb, List, [], ◌∷◌, ◌++◌, length, take, drop, pos, refl, sym, ap, subst, ◌∙◌, inl, inr, arith, length-append}
 use Rattle.std.specs.Int.{byte_at, bytes_high_first}
 use Rattle.std.proofs.lemmas.Bool.{cases_lt, lt-ltb, le-ltb, ltb-true}
 use Rattle.std.proofs.lemmas.Bool.Decides.{nat_tests}
-use Rattle.std.proofs.lemmas.List.{take_all, take-append-le}
+use Rattle.std.proofs.lemmas.List.{take_all, take-append-le, take-append-drop}
 use Rattle.std.proofs.Math.Nat.{pow-suc, div-one, div-div-eq-div-mul}
 use Rattle.der_lite.specs.Der.{IsBytes, number, base_256, length_bytes, tlv, is_integer}
 use Rattle.der_lite.specs.Grammar.{Keeps}
 use Rattle.der_lite.specs.Values.{is_negative, integer_between, unsigned_bytes}
+use Rattle.der_lite.proofs.Once.{front_bytes}
 use Rattle.der_lite.proofs.Integers.{number_more, value_is}
 
 -- ---- lists of bytes
@@ -23,6 +24,9 @@ bytes_cons x xs h hs (suc i) = hs i
 
 pub no_bytes : IsBytes []
 no_bytes i = omega arith
+
+pub bytes_take : (count : ℕ) (xs : List ℕ) → IsBytes xs → IsBytes (take count xs)
+bytes_take count xs h = front_bytes (take count xs) (drop count xs) (subst IsBytes (sym (take-append-drop count xs)) h)
 
 -- ---- a number in a count of bytes
 
@@ -81,8 +85,25 @@ pub record IsUnsigned (n : ℕ) (content : List ℕ) : Type 0 where
   pub fewest : is_integer content ≡ true
   pub positive : is_negative content ≡ false
   pub value : number content ≡ n
-  pub are : IsBytes content
-  pub few : length content ≤ 5
+
+-- what holds of both branches
+both_hold : (P : List ℕ → Type 0) (test : Bool) (xs ys : List ℕ) → (test ≡ true → P xs) → P ys → P (cond test xs ys)
+both_hold P true xs ys h k = h refl
+both_hold P false xs ys h k = k
+
+-- at most five bytes are the content of a number below 2^32
+pub unsigned_few : (n : ℕ) → length (unsigned_bytes n) ≤ 5
+unfolding unsigned_bytes
+unsigned_few n =
+    let Few : List ℕ → Type 0 = λ l. length l ≤ 5 in
+    both_hold Few (ltb n 128) _ _ (λ _. omega arith)
+    (both_hold Few (ltb n 32768) _ _ (λ _. omega arith) (both_hold Few (ltb n 8388608) _ _ (λ _. omega arith) (both_hold Few (ltb n 2147483648) _ _ (λ _. omega arith) (omega arith))))
+
+pub unsigned_are : (n : ℕ) → IsBytes (unsigned_bytes n)
+unfolding unsigned_bytes
+unsigned_are n =
+    both_hold IsBytes (ltb n 128) _ _ (λ _. base_bytes 1 n)
+    (both_hold IsBytes (ltb n 32768) _ _ (λ _. base_bytes 2 n) (both_hold IsBytes (ltb n 8388608) _ _ (λ _. base_bytes 3 n) (both_hold IsBytes (ltb n 2147483648) _ _ (λ _. base_bytes 4 n) (base_bytes 5 n))))
 
 -- the first two bytes of an integer in the fewest
 fewest_by : (first second : ℕ) → first < 128 → (first ≡ 0 → 128 ≤ second) → (not (eqb first 0 && ltb second 128) && not (eqb first 255 && leb 128 second)) ≡ true
@@ -96,37 +117,29 @@ pub unsigned_is : (n : ℕ) → n < 2 ^ 32 → IsUnsigned n (unsigned_bytes n)
 unfolding unsigned_bytes
 unsigned_is n h =
     elim (cases_lt n 128) [
-      | inl a ↦ rw (lt-ltb n 128 a) record { fewest = refl; positive = no_sign (n % 256) (omega arith); value = base_number 1 n (omega arith); are = base_bytes 1 n; few = omega arith }
+      | inl a ↦ rw (lt-ltb n 128 a) record { fewest = refl; positive = no_sign (n % 256) (omega arith); value = base_number 1 n (omega arith) }
       | inr a ↦ elim (cases_lt n 32768) [
         | inl b ↦ rw (le-ltb n 128 a, lt-ltb n 32768 b) record {
           fewest = fewest_by (n / 256 % 256) (n % 256) (omega arith) (λ e. omega arith);
           positive = no_sign (n / 256 % 256) (omega arith);
           value = base_number 2 n (omega arith);
-          are = base_bytes 2 n;
-          few = omega arith;
         }
         | inr b ↦ elim (cases_lt n 8388608) [
           | inl c ↦ rw (le-ltb n 128 a, le-ltb n 32768 b, lt-ltb n 8388608 c) record {
             fewest = fewest_by (n / 256 / 256 % 256) (n / 256 % 256) (omega arith) (λ e. omega arith);
             positive = no_sign (n / 256 / 256 % 256) (omega arith);
             value = base_number 3 n (omega arith);
-            are = base_bytes 3 n;
-            few = omega arith;
           }
           | inr c ↦ elim (cases_lt n 2147483648) [
             | inl d ↦ rw (le-ltb n 128 a, le-ltb n 32768 b, le-ltb n 8388608 c, lt-ltb n 2147483648 d) record {
               fewest = fewest_by (n / 256 / 256 / 256 % 256) (n / 256 / 256 % 256) (omega arith) (λ e. omega arith);
               positive = no_sign (n / 256 / 256 / 256 % 256) (omega arith);
               value = base_number 4 n (omega arith);
-              are = base_bytes 4 n;
-              few = omega arith;
             }
             | inr d ↦ rw (le-ltb n 128 a, le-ltb n 32768 b, le-ltb n 8388608 c, le-ltb n 2147483648 d) record {
               fewest = fewest_by (n / 256 / 256 / 256 / 256 % 256) (n / 256 / 256 / 256 % 256) (omega arith) (λ e. omega arith);
               positive = no_sign (n / 256 / 256 / 256 / 256 % 256) (omega arith);
               value = base_number 5 n (omega arith);
-              are = base_bytes 5 n;
-              few = omega arith;
             }
           ]
         ]
@@ -148,11 +161,6 @@ unsigned_spells least most fault n low high h =
     )
 
 -- ---- elements
-
--- what holds of both branches
-both_hold : (P : List ℕ → Type 0) (test : Bool) (xs ys : List ℕ) → (test ≡ true → P xs) → P ys → P (cond test xs ys)
-both_hold P true xs ys h k = h refl
-both_hold P false xs ys h k = k
 
 length_few : (n : ℕ) → length (length_bytes n) ≤ 5
 unfolding length_bytes

@@ -46,11 +46,11 @@ module _ (unused : ℕ) (body : List ℕ) (width : ℕ) (valid : is_bit_string (
       ap (λ (k : ℕ). k % 2 ^ 128) place ∙ mod-eq_of_lt (omega (arith, address_bound, power))
 
 -- an address and a length
-abbrev block : ℕ → ℕ → Block
+abbrev pub block : ℕ → ℕ → Block
 block addr len = record { addr = addr; len = len }
 
 -- equal ones make equal prefixes
-block_by : (addr len other_addr other_len : ℕ) → addr ≡ other_addr → len ≡ other_len → block addr len ≡ block other_addr other_len
+pub block_by : (addr len other_addr other_len : ℕ) → addr ≡ other_addr → len ≡ other_len → block addr len ≡ block other_addr other_len
 block_by addr len other_addr other_len a l = ap (λ (n : ℕ). block n len) a ∙ ap (λ (n : ℕ). block other_addr n) l
 
 -- the prefix of a content that has no more bits than an address

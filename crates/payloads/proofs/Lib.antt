@@ -12,3 +12,4 @@ pub mod Manifests
 pub mod ManifestOnce
 pub mod ManifestLaws
 pub mod ManifestRows
+pub mod Prefixes

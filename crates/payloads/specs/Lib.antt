@@ -3,6 +3,7 @@ pub mod Entry
 pub mod Roa
 pub mod RoaReading
 pub mod RoaValues
+pub mod RoaBytes
 pub mod Refusal
 pub mod Manifest
 pub mod ManifestReading
