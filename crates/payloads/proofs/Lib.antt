@@ -13,3 +13,4 @@ pub mod ManifestOnce
 pub mod ManifestLaws
 pub mod ManifestRows
 pub mod Prefixes
+pub mod Spellings

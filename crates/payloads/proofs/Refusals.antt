@@ -107,7 +107,7 @@ all_more family [] e a f = (f, tt)
 all_more family (x ∷ seen) e a f = (a.0, all_more family seen e a.1 f)
 
 -- behind an entry that is right, the later ones decide
-later_right : (index : ℕ) (before : Option RoaEntry) (e : RoaEntry) (es : List RoaEntry) → first_of (entry_rules index before e) ≡ None → entries_refusal (suc index) (Some e) es ≡ None → entries_refusal index before (e ∷ es) ≡ None
+pub later_right : (index : ℕ) (before : Option RoaEntry) (e : RoaEntry) (es : List RoaEntry) → first_of (entry_rules index before e) ≡ None → entries_refusal (suc index) (Some e) es ≡ None → entries_refusal index before (e ∷ es) ≡ None
 later_right index before e es h later = ap (λ (n : Option ℕ). at_index index n (entries_refusal (suc index) (Some e) es)) h ∙ later
 
 -- spelled entries of a family are right
@@ -121,12 +121,12 @@ entries_right family count seen (e ∷ es) before bytes s h all those =
     (ap (λ (n : ℕ). entries_refusal n (Some e) es) next ∙ entries_right family count (seen ++ e ∷ []) es (Some e) s.1 s.4 (inl (sym (last_is seen e), more)) more those.1)
 
 -- entries in two parts
-last_behind : Option RoaEntry → List RoaEntry → Option RoaEntry
+unfoldable pub last_behind : Option RoaEntry → List RoaEntry → Option RoaEntry
 last_behind before [] = before
 last_behind before (e ∷ es) = last_behind (Some e) es
 
 -- nothing is wrong at an index, nor later
-none_at : (index : ℕ) (r : Option ℕ) (later : Option (ℕ × ℕ)) → at_index index r later ≡ None → (r ≡ None) × (later ≡ None)
+pub none_at : (index : ℕ) (r : Option ℕ) (later : Option (ℕ × ℕ)) → at_index index r later ≡ None → (r ≡ None) × (later ≡ None)
 none_at index None later h = (refl, h)
 none_at index (Some n) later h = absurd cc
 

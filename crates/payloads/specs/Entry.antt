@@ -3,6 +3,7 @@ use Rattle.std.specs.Prelude.{ℕ, Bool, true, false, not, nat_lt, ◌||◌, ◌
 use Rattle.std.specs.Ordering.{nat_cmp, ordering_then}
 use Rattle.std.specs.declared.cmp.Ordering.{Ordering}
 use Rattle.std.specs.declared.cmp.Ordering.TheVariants.{Less, Equal, Greater}
+use Rattle.prefixes.specs.Address.{IsPrefix}
 use Rattle.prefixes.specs.Payload.{Payload, block_of, width_of, prefix_cmp}
 use Rattle.payloads.specs.declared.entry.RoaEntry.{RoaEntry}
 
@@ -40,3 +41,7 @@ is_length (Some maximum) len = maximum == len
 -- the maximum length is there and says nothing
 abbrev pub is_superfluous : RoaEntry → Bool
 is_superfluous entry = is_length entry.max_len (block_of entry.prefix).len
+
+-- the prefix is one: its length and address are the family's, and no host bit is set
+abbrev pub HasPrefix : RoaEntry → Type 0
+HasPrefix entry = IsPrefix (width_of entry.prefix) (block_of entry.prefix)
