@@ -20,10 +20,11 @@ use Rattle.payloads.specs.Roa.{first_head, as_id, family_number, family_rules, a
 use Rattle.payloads.specs.RoaValues.{RoaValue, all_entries, flat, TreeSpells, RoaSpells}
 use Rattle.payloads.specs.RoaBytes.{address_content, maximum_bytes, entry_bytes, is_of, list_bytes, family_bytes, families_bytes, roa_bytes}
 use Rattle.payloads.specs.Refusal.{goes_back, is_family_below, entry_rules, entries_refusal, roa_refusal}
+use Rattle.payloads.specs.Laws.{RefusesExactly}
 use Rattle.payloads.proofs.Flats.{family_of, AllIn}
 use Rattle.payloads.proofs.Growing.{last_is}
 use Rattle.payloads.proofs.Prefixes.{address_few, address_are, address_spells}
-use Rattle.payloads.proofs.Refusals.{last_behind, none_at, later_right}
+use Rattle.payloads.proofs.Refusals.{last_behind, none_at, later_right, roa_right}
 
 -- ---- how many bytes there are
 
@@ -482,3 +483,7 @@ value_spells asn (e ∷ es) h right all =
       spelled = tree_spells asn b.0 (families_bytes whole) h short (subst (λ (l : List ℕ). ip_addr_blocks.Spells b.0 (tlv 48 l)) (sym same) b.2);
       is_flat = ap (value_of asn) (b.1 ∙ sym p.whole);
     }
+
+-- Nothing is wrong exactly with what some bytes spell.
+pub refusal_law : RefusesExactly
+refusal_law roa h all = ((λ right. (roa_bytes roa, roa_are roa, value_spells roa.asn roa.entries h right all)), λ s. roa_right roa s.0 s.2)

@@ -1,8 +1,13 @@
 -- What holds of the grammars of payloads.
-use Rattle.std.specs.Prelude.{◌≡◌, ℕ, ◌⊎◌, List, ◌++◌}
+use Rattle.std.specs.Prelude.{◌≡◌, ◌↔◌, ℕ, ◌^◌, ◌<◌, ◌⊎◌, List, ◌++◌, None}
+use Rattle.std.specs.List.{All}
 use Rattle.der_lite.specs.Der.{IsBytes}
 use Rattle.payloads.specs.RoaValues.{RoaSpells, RoaFaultAt}
 use Rattle.payloads.specs.Manifest.{ManifestSpells, ManifestFaultAt}
+=======
+use Rattle.payloads.specs.Entry.{HasPrefix}
+use Rattle.payloads.specs.RoaValues.{RoaValue, RoaSpells, RoaFaultAt}
+use Rattle.payloads.specs.Refusal.{roa_refusal}
 
 -- At most one fault fits bytes, none fits bytes that spell a value, and one fits all others.
 abbrev pub OneFaultOf : {V : Type 0} → (V → List ℕ → Type 0) → (List ℕ → ℕ → ℕ → Type 0) → Type 0
@@ -24,3 +29,9 @@ OneFault = OneFaultOf RoaSpells RoaFaultAt × OneFaultOf ManifestSpells Manifest
 
 abbrev pub OneSpelling : Type 0
 OneSpelling = OneSpellingOf RoaSpells × OneSpellingOf ManifestSpells
+
+-- Nothing is wrong with a value exactly where some bytes spell it.
+abbrev pub RefusesExactly : Type 0
+RefusesExactly =
+    (roa : RoaValue) → roa.asn < 2 ^ 32 → All HasPrefix roa.entries
+    → (roa_refusal roa.entries ≡ None) ↔ ((bytes : List ℕ) × IsBytes bytes × RoaSpells roa bytes)

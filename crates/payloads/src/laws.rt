@@ -1,6 +1,6 @@
 //! What holds of the definitions of payloads. Nothing here runs.
 
-ghost use Rattle.payloads.specs.Laws.{OneFault, OneSpelling};
+ghost use Rattle.payloads.specs.Laws.{OneFault, OneSpelling, RefusesExactly};
 
 /// At most one fault fits bytes, and one fits exactly where they spell no value.
 pub fn one_fault()
@@ -10,4 +10,9 @@ pub fn one_fault()
 /// No value has two spellings, no bytes spell two values, and no spelling begins another.
 pub fn one_spelling()
     ensures { OneSpelling }
+{}
+
+/// The values of a ROA that are refused are exactly those that no bytes spell.
+pub fn roa_refuses_exactly()
+    ensures { RefusesExactly }
 {}
