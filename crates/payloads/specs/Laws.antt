@@ -2,10 +2,8 @@
 use Rattle.std.specs.Prelude.{◌≡◌, ◌↔◌, ℕ, ◌^◌, ◌<◌, ◌⊎◌, List, ◌++◌, None}
 use Rattle.std.specs.List.{All}
 use Rattle.der_lite.specs.Der.{IsBytes}
-use Rattle.payloads.specs.RoaValues.{RoaSpells, RoaFaultAt}
-use Rattle.payloads.specs.Manifest.{ManifestSpells, ManifestFaultAt}
-=======
 use Rattle.payloads.specs.Entry.{HasPrefix}
+use Rattle.payloads.specs.Manifest.{ManifestSpells, ManifestFaultAt}
 use Rattle.payloads.specs.RoaValues.{RoaValue, RoaSpells, RoaFaultAt}
 use Rattle.payloads.specs.Refusal.{roa_refusal}
 
