@@ -1,24 +1,24 @@
 -- The content of an address: its bits make the prefix again.
-use Rattle.std.proofs.Common.{◌≡◌, ℕ, zero, suc, ◌+◌, ◌-◌, ◌*◌, ◌/◌, ◌%◌, ◌^◌, ◌<◌, ◌≤◌, Bool, true, false, not, ◌&&◌, eqb, ltb, List, [], ◌∷◌, ◌++◌, length, get_or, take, refl, sym, ap, subst, ◌∙◌, arith, length-append}
+use Rattle.std.proofs.Common.{◌≡◌, ℕ, zero, suc, ◌+◌, ◌-◌, ◌*◌, ◌/◌, ◌%◌, ◌^◌, ◌<◌, ◌≤◌, Bool, true, false, not, ltb, List, [], ◌∷◌, ◌++◌, length, get_or, take, refl, sym, ap, subst, ◌∙◌, arith, length-append}
+use Rattle.std.specs.Int.{bytes_high_first}
 use Rattle.std.proofs.lemmas.Bool.{and_from, eq-eqb, lt-ltb, le-ltb}
 use Rattle.std.proofs.lemmas.List.{length-take}
 use Rattle.std.proofs.lemmas.Nat.{pow-add, div-add-mod'}
 use Rattle.std.proofs.Math.Seq.{get_or-append_seam}
-use Rattle.std.proofs.Math.Nat.{mul_assoc, mul_right_comm, mul-div_cancel, mul-mod_left, div-lt_iff_lt-mul, one-le-pow, min-le_right}
+use Rattle.std.proofs.Math.Nat.{mul_assoc, mul_right_comm, mul-div_cancel, mul-mod_left, div-lt_iff_lt-mul, one-le-pow, min-le_right, div-div-eq-div-mul}
 use Rattle.std.proofs.Math.Pow.{mod-mod-pow}
-use Rattle.der_lite.specs.Place.{first_of}
-use Rattle.der_lite.specs.Der.{IsBytes, number, base_256, Tlv, tlv, is_bit_string, bit_count}
+use Rattle.der_lite.specs.Der.{IsBytes, number, base_256, tlv, is_bit_string, bit_count}
 use Rattle.der_lite.specs.Values.{bits_value, bits_number}
 use Rattle.der_lite.specs.Grammar.{Keeps}
 use Rattle.der_lite.proofs.BitStrings.{pow_256, bits_spelled}
-use Rattle.der_lite.proofs.Numbers.{bytes_cons, bytes_take, base_length, base_bytes, base_number, base_take}
+use Rattle.der_lite.proofs.Numbers.{bytes_cons, bytes_take, base_length, base_bytes, base_number, base_take, base_high_first}
 use Rattle.prefixes.specs.Address.{Block, IsPrefix}
 use Rattle.prefixes.specs.Payload.{block_of, width_of}
 use Rattle.prefixes.specs.declared.prefix.IpPrefix.{IpPrefix}
 use Rattle.prefixes.specs.declared.prefix.IpPrefix.TheVariants.{V4, V6}
-use Rattle.payloads.specs.Roa.{block_of_bits, family_width, address_rules, address}
+use Rattle.payloads.specs.Roa.{block_of_bits, address}
 use Rattle.payloads.specs.RoaBytes.{bytes_of_bits, first_bytes, address_content}
-use Rattle.payloads.proofs.Addresses.{bits_count, address_is, block, block_by}
+use Rattle.payloads.proofs.Addresses.{bits_count, address_is, block_by}
 use Rattle.payloads.proofs.Flats.{family_of}
 
 -- ---- the bytes
@@ -149,17 +149,43 @@ pub address_spells : (prefix : IpPrefix) → IsPrefix (width_of prefix) (block_o
 unfolding address address_content
 address_spells (V4 p) is =
     let content = first_bytes 4 p in
-    let b = first_bits 4 p is in
-    (
+    let b = first_bits 4 p is in (
       content,
       record { short = omega (arith, few_bytes 4 p (omega arith)); spelled = refl },
       (record { bits = bits_value content; spelled = bits_spelled content b.valid; is = ap (λ (x : Block). V4 x) (sym b.block) }, both_kept (is_bit_string content) (ltb 32 (bit_count content)) b.valid (le-ltb 32 (bit_count content) (omega (arith, b.count, is.in_family)))),
     )
 address_spells (V6 p) is =
     let content = first_bytes 16 p in
-    let b = first_bits 16 p is in
-    (
+    let b = first_bits 16 p is in (
       content,
       record { short = omega (arith, few_bytes 16 p (omega arith)); spelled = refl },
       (record { bits = bits_value content; spelled = bits_spelled content b.valid; is = ap (λ (x : Block). V6 x) (sym b.block) }, both_kept (is_bit_string content) (ltb 128 (bit_count content)) b.valid (le-ltb 128 (bit_count content) (omega (arith, b.count, is.in_family)))),
     )
+
+-- ---- the machine's bytes
+
+-- the first bytes of a wider number, whose lower bytes are zero
+pub wider_first : (all octets count n addr : ℕ) → count ≤ octets → octets ≤ all → n ≡ addr * 256 ^ (all - octets) → take count (bytes_high_first all n) ≡ take count (base_256 octets addr)
+wider_first all octets count n addr few narrow is =
+    let p = 256 ^ (all - octets) in
+    let q = 256 ^ (octets - count) in
+    let all_is : all ≡ count + (all - count) = omega (arith, few, narrow) in
+    let octets_is : octets ≡ count + (octets - count) = omega (arith, few) in
+    let behind : all - count ≡ all - octets + (octets - count) = omega (arith, few, narrow) in
+    let some : 0 < p = one-le-pow (all - octets) 256 (omega arith) in
+    let same : n / 256 ^ (all - count) ≡ addr / q =
+    ap (λ (k : ℕ). n / 256 ^ k) behind ∙ ap (λ (k : ℕ). n / k) (pow-add 256 (all - octets) (octets - count)) ∙ sym (div-div-eq-div-mul n p q)
+    ∙ ap (λ (k : ℕ). k / q) (ap (λ (k : ℕ). k / p) is ∙ mul-div_cancel addr some) in
+    ap (λ (l : List ℕ). take count l) (base_high_first all n) ∙ ap (λ (k : ℕ). take count (base_256 k n)) all_is ∙ base_take count (all - count) n ∙ ap (base_256 count) same
+    ∙ sym (ap (λ (k : ℕ). take count (base_256 k addr)) octets_is ∙ base_take count (octets - count) addr)
+
+-- the bytes that are written of a prefix, by the machine's number of its address
+pub written_is : (prefix : IpPrefix) (len : ℕ) (octets : List ℕ) → IsPrefix (width_of prefix) (block_of prefix) → len ≡ (block_of prefix).len → octets ≡ bytes_high_first 16 ((block_of prefix).addr * 2 ^ (128 - width_of prefix))
+    → (8 * bytes_of_bits len - len) ∷ take (bytes_of_bits len) octets ≡ address_content prefix
+unfolding address_content
+written_is (V4 p) len octets is len_is octets_is =
+    ap (λ (n : ℕ). (8 * bytes_of_bits n - n) ∷ take (bytes_of_bits n) octets) len_is ∙ ap (λ (l : List ℕ). (8 * bytes_of_bits p.len - p.len) ∷ take (bytes_of_bits p.len) l) octets_is
+    ∙ ap (λ (l : List ℕ). (8 * bytes_of_bits p.len - p.len) ∷ l) (wider_first 16 4 (bytes_of_bits p.len) (p.addr * 2 ^ 96) p.addr (omega (arith, is.in_family)) (omega arith) (omega arith))
+written_is (V6 p) len octets is len_is octets_is =
+    ap (λ (n : ℕ). (8 * bytes_of_bits n - n) ∷ take (bytes_of_bits n) octets) len_is ∙ ap (λ (l : List ℕ). (8 * bytes_of_bits p.len - p.len) ∷ take (bytes_of_bits p.len) l) octets_is
+    ∙ ap (λ (l : List ℕ). (8 * bytes_of_bits p.len - p.len) ∷ l) (wider_first 16 16 (bytes_of_bits p.len) (p.addr * 1) p.addr (omega (arith, is.in_family)) (omega arith) (omega arith))

@@ -1,13 +1,17 @@
 -- What nothing is wrong with is spelled by its bytes.
-use Rattle.std.proofs.Common.{◌≡◌, ◌≢◌, ◌⊎◌, ℕ, zero, suc, ◌+◌, ◌*◌, ◌^◌, ◌<◌, ◌≤◌, Bool, true, false, not, ◌||◌, cond, eqb, ltb, leb, List, [], ◌∷◌, ◌++◌, length, Option, Some, None, refl, sym, ap, subst, ◌∙◌, inl, inr, arith, length-append, append_assoc}
+use Rattle.std.proofs.Common.{◌≡◌, ◌≢◌, ◌⊎◌, ℕ, suc, ◌+◌, ◌*◌, ◌^◌, ◌<◌, ◌≤◌, Bool, true, false, cond, eqb, ltb, leb, List, [], ◌∷◌, ◌++◌, length, get_or, take, Option, Some, None, refl, sym, ap, subst, ◌∙◌, inl, inr, arith, length-append, append_assoc}
+use Rattle.std.specs.Prelude.{Result, Ok, Err, OnOk}
+use Rattle.std.specs.declared.alloc.AllocError.{AllocError}
 use Rattle.std.specs.List.{All}
 use Rattle.std.proofs.lemmas.Bool.{or_parts, ltb-false, leb-false, ne_eqb}
 use Rattle.std.proofs.lemmas.List.{append-nil}
 use Rattle.std.proofs.lemmas.List.Elements.{All-cons}
+use Rattle.std.proofs.Math.Seq.{take-suc}
 use Rattle.der_lite.specs.Place.{first_of}
-use Rattle.der_lite.specs.Der.{IsBytes, length_bytes, tlv, Tlv}
-use Rattle.der_lite.specs.Grammar.{Keeps, Splits, EachSpells, OptionSpells}
-use Rattle.der_lite.specs.Values.{unsigned_bytes, integer_between}
+use Rattle.der_lite.specs.Der.{IsBytes, length_bytes, tlv}
+use Rattle.der_lite.specs.Grammar.{Keeps, EachSpells, OptionSpells}
+use Rattle.der_lite.specs.Values.{unsigned_bytes}
+use Rattle.der_lite.specs.Writing.{Adds}
 use Rattle.der_lite.proofs.Numbers.{bytes_append, bytes_cons, no_bytes, unsigned_few, unsigned_are, unsigned_spells, tlv_length, tlv_bytes}
 use Rattle.prefixes.specs.Payload.{block_of, width_of}
 use Rattle.prefixes.specs.declared.prefix.IpPrefix.{IpPrefix}
@@ -16,8 +20,8 @@ use Rattle.payloads.specs.declared.family.AddressFamily.{AddressFamily}
 use Rattle.payloads.specs.declared.family.AddressFamily.TheVariants.{Ipv4, Ipv6}
 use Rattle.payloads.specs.declared.entry.RoaEntry.{RoaEntry}
 use Rattle.payloads.specs.Entry.{is_not_above, is_bad_maximum, HasPrefix}
-use Rattle.payloads.specs.Roa.{first_head, as_id, family_number, family_rules, address_family, address, max_length, entry_members, ip_address, last_of, entry_behind, addresses, ip_family, ip_addr_blocks, Blocks, RoaTree, route_origin_attestation, roa_payload}
-use Rattle.payloads.specs.RoaValues.{RoaValue, all_entries, flat, TreeSpells, RoaSpells}
+use Rattle.payloads.specs.Roa.{as_id, family_number, family_rules, address_family, address, max_length, ip_address, last_of, entry_behind, addresses, ip_family, ip_addr_blocks, Blocks, route_origin_attestation, roa_payload}
+use Rattle.payloads.specs.RoaValues.{RoaValue, all_entries, TreeSpells, RoaSpells}
 use Rattle.payloads.specs.RoaBytes.{address_content, maximum_bytes, entry_bytes, is_of, list_bytes, family_bytes, families_bytes, roa_bytes}
 use Rattle.payloads.specs.Refusal.{goes_back, is_family_below, entry_rules, entries_refusal, roa_refusal}
 use Rattle.payloads.specs.Laws.{RefusesExactly}
@@ -55,7 +59,7 @@ entry_are e =
     (bytes_append (tlv 3 (address_content e.prefix)) (maximum_bytes e.max_len) (tlv_bytes 3 (address_content e.prefix) (omega arith) (address_are e.prefix)) (maximum_are e.max_len))
 
 -- those of an entry, if it is of the family
-abbrev chosen : Bool → RoaEntry → List ℕ
+abbrev pub chosen : Bool → RoaEntry → List ℕ
 chosen test e = cond test (entry_bytes e) []
 
 chosen_few : (test : Bool) (e : RoaEntry) → length (chosen test e) ≤ 40
@@ -75,10 +79,10 @@ list_are family [] = no_bytes
 list_are family (e ∷ es) = bytes_append (chosen (is_of family e.prefix) e) (list_bytes family es) (chosen_are (is_of family e.prefix) e) (list_are family es)
 
 -- the members of a family
-abbrev family_members : AddressFamily → List ℕ → List ℕ
+abbrev pub family_members : AddressFamily → List ℕ → List ℕ
 family_members family list = tlv 4 (0 ∷ family_number family ∷ []) ++ tlv 48 list
 
-members_length : (family : AddressFamily) (list : List ℕ) → length (family_members family list) ≤ 14 + length list
+pub members_length : (family : AddressFamily) (list : List ℕ) → length (family_members family list) ≤ 14 + length list
 members_length family list = omega (arith, length-append (tlv 4 (0 ∷ family_number family ∷ [])) (tlv 48 list), tlv_length 4 (0 ∷ family_number family ∷ []), tlv_length 48 list)
 
 number_small : (family : AddressFamily) → family_number family < 256
@@ -107,8 +111,18 @@ family_are family [] h = no_bytes
 family_are family (b ∷ list) h = subst IsBytes (sym (some_family family b list)) (tlv_bytes 48 (family_members family (b ∷ list)) (omega arith) (members_are family (b ∷ list) h))
 
 -- the members of the whole
-abbrev roa_members : RoaValue → List ℕ
+abbrev pub roa_members : RoaValue → List ℕ
 roa_members roa = tlv 2 (unsigned_bytes roa.asn) ++ tlv 48 (families_bytes roa.entries)
+
+-- where they are empty, nothing is added
+pub family_none : (family : AddressFamily) (list old : List ℕ) → length list ≡ 0 → old ≡ old ++ family_bytes family list
+unfolding family_bytes
+family_none family [] old h = sym (append-nil old)
+family_none family (b ∷ list) old h = absurd (omega (arith, h))
+
+pub family_some : (family : AddressFamily) (list : List ℕ) → length list ≢ 0 → family_bytes family list ≡ tlv 48 (family_members family list)
+family_some family [] h = absurd (h refl)
+family_some family (b ∷ list) h = some_family family b list
 
 -- bytes of a ROA are bytes
 pub roa_are : (roa : RoaValue) → IsBytes (roa_bytes roa)
@@ -129,8 +143,7 @@ maximum_spells prefix None h = refl
 maximum_spells prefix (Some m) h =
     let o = or_parts (ltb m (block_of prefix).len) (ltb (width_of prefix) m) h in
     let low : (block_of prefix).len ≤ m = ltb-false m (block_of prefix).len o.0 in
-    let high : m ≤ width_of prefix = ltb-false (width_of prefix) m o.1 in
-    (
+    let high : m ≤ width_of prefix = ltb-false (width_of prefix) m o.1 in (
       unsigned_bytes m,
       record { short = omega (arith, unsigned_few m); spelled = refl },
       unsigned_spells (block_of prefix).len (width_of prefix) 11 m low high (omega (arith, high, narrow prefix)),
@@ -149,8 +162,7 @@ entry_spells : (family : AddressFamily) (count : ℕ) (before : Option RoaEntry)
     → (ip_address family count before).Spells e (entry_bytes e)
 unfolding ip_address entry_bytes
 entry_spells family count before e f is few maximum order =
-    let spelled = subst (λ (x : AddressFamily). (address x).Spells e.prefix (tlv 3 (address_content e.prefix))) f (address_spells e.prefix is) in
-    (
+    let spelled = subst (λ (x : AddressFamily). (address x).Spells e.prefix (tlv 3 (address_content e.prefix))) f (address_spells e.prefix is) in (
       members_bytes e.prefix e.max_len,
       record { short = omega (arith, members_few e.prefix e.max_len); spelled = refl },
       (
@@ -219,8 +231,7 @@ each_spells family count seen (e ∷ es) before right follows those all =
     let r = first_right (count + length seen) before e es right in
     let a = all_first e es all in
     let next : suc (count + length seen) ≡ count + length (seen ++ e ∷ []) = omega (arith, length-append seen (e ∷ [])) in
-    let mine : chosen (is_of family e.prefix) e ≡ entry_bytes e = ap (λ (test : Bool). chosen test e) (of_family family e.prefix those.0) in
-    (
+    let mine : chosen (is_of family e.prefix) e ≡ entry_bytes e = ap (λ (test : Bool). chosen test e) (of_family family e.prefix those.0) in (
       entry_bytes e,
       list_bytes family es,
       record { parts = ap (λ (l : List ℕ). l ++ list_bytes family es) mine },
@@ -259,6 +270,21 @@ pub list_append : (family : AddressFamily) (es others : List RoaEntry) → list_
 list_append family [] others = refl
 list_append family (e ∷ es) others =
     ap (λ (l : List ℕ). chosen (is_of family e.prefix) e ++ l) (list_append family es others) ∙ sym (append_assoc (chosen (is_of family e.prefix) e) (list_bytes family es) (list_bytes family others))
+
+-- one entry more
+list_next : (family : AddressFamily) (es : List RoaEntry) (i : ℕ) (d : RoaEntry) → i < length es
+    → list_bytes family (take (i + 1) es) ≡ list_bytes family (take i es) ++ cond (is_of family (get_or es i d).prefix) (entry_bytes (get_or es i d)) []
+list_next family es i d h =
+    let e = get_or es i d in
+    let next : i + 1 ≡ suc i = omega arith in
+    ap (λ (n : ℕ). list_bytes family (take n es)) next ∙ ap (list_bytes family) (take-suc es i d h) ∙ list_append family (take i es) (e ∷ [])
+    ∙ ap (λ (l : List ℕ). list_bytes family (take i es) ++ l) (append-nil (chosen (is_of family e.prefix) e))
+
+-- the list with one entry more, or without it
+pub list_step : (family : AddressFamily) (es : List RoaEntry) (i : ℕ) (e : RoaEntry) (old new : List ℕ) → i < length es → e ≡ get_or es i e → old ≡ list_bytes family (take i es) → new ≡ old ++ chosen (is_of family e.prefix) e
+    → new ≡ list_bytes family (take (i + 1) es)
+list_step family es i e old new h item old_is new_is =
+    new_is ∙ ap (λ (l : List ℕ). l ++ chosen (is_of family e.prefix) e) old_is ∙ ap (λ (x : RoaEntry). list_bytes family (take i es) ++ chosen (is_of family x.prefix) x) item ∙ sym (list_next family es i e h)
 
 -- some entries of IPv4, and then some of IPv6
 record Parts (es : List RoaEntry) : Type 0 where
@@ -320,15 +346,14 @@ record IsListed (family : AddressFamily) (count : ℕ) (es : List RoaEntry) : Ty
   pub those : AllIn family es
   pub all : All HasPrefix es
 
-list_short : (family : AddressFamily) (es : List RoaEntry) → length es ≤ 65536 → length (list_bytes family es) ≤ 2621440
+pub list_short : (family : AddressFamily) (es : List RoaEntry) → length es ≤ 65536 → length (list_bytes family es) ≤ 2621440
 list_short family es h = omega (arith, h, list_few family es)
 
 addresses_spell : (family : AddressFamily) (count : ℕ) (es : List RoaEntry) → IsListed family count es → (addresses family count).Spells es (tlv 48 (list_bytes family es))
 unfolding addresses
 addresses_spell family count es i =
     let list = list_bytes family es in
-    let s = some_list family es i.some i.those in
-    (
+    let s = some_list family es i.some i.those in (
       list,
       record { short = omega (arith, list_short family es i.few); spelled = refl },
       (
@@ -354,8 +379,7 @@ family_spells before family count es kept i =
     let list = list_bytes family es in
     let content = 0 ∷ family_number family ∷ [] in
     let number : (address_family before).Spells family (tlv 4 content) = (content, record { short = omega arith; spelled = refl }, (refl, kept)) in
-    let spelled : (ip_family before count).Spells (family, es) (tlv 48 (family_members family list)) =
-    (
+    let spelled : (ip_family before count).Spells (family, es) (tlv 48 (family_members family list)) = (
       family_members family list,
       record { short = omega (arith, members_length family list, list_short family es i.few); spelled = refl },
       (refl, (tlv 4 content, tlv 48 list, record { parts = refl }, number, addresses_spell family count es i), refl),
@@ -368,8 +392,7 @@ blocks_spell : (blocks : Blocks) (front rest : List ℕ) → front ≢ [] → le
 unfolding ip_addr_blocks
 blocks_spell blocks [] rest some short s t = absurd (some refl)
 blocks_spell blocks (b ∷ front) rest some short s t =
-    let content = b ∷ front ++ rest in
-    (
+    let content = b ∷ front ++ rest in (
       content,
       record { short = short; spelled = refl },
       (one_kept 9 (eqb (length content) 0) (ne_eqb (length content) 0 (λ n. absurd (omega (arith, n)))), (b ∷ front, rest, record { parts = refl }, s, t), refl),
@@ -382,8 +405,7 @@ unfolding TreeSpells roa_payload route_origin_attestation as_id
 tree_spells asn blocks families h short s =
     let content = tlv 2 (unsigned_bytes asn) ++ tlv 48 families in
     let number : as_id.Spells asn (tlv 2 (unsigned_bytes asn)) =
-    (unsigned_bytes asn, record { short = omega (arith, unsigned_few asn); spelled = refl }, unsigned_spells 0 4294967295 7 asn (omega arith) (omega (arith, h)) h) in
-    (
+    (unsigned_bytes asn, record { short = omega (arith, unsigned_few asn); spelled = refl }, unsigned_spells 0 4294967295 7 asn (omega arith) (omega (arith, h)) h) in (
       content,
       record { short = omega (arith, short, length-append (tlv 2 (unsigned_bytes asn)) (tlv 48 families), tlv_length 2 (unsigned_bytes asn), unsigned_few asn, tlv_length 48 families); spelled = refl },
       (refl, (tlv 2 (unsigned_bytes asn), tlv 48 families, record { parts = refl }, number, s), refl),
@@ -396,6 +418,11 @@ families_few es h =
     let ipv4 = list_bytes Ipv4 es in
     let ipv6 = list_bytes Ipv6 es in
     omega (arith, length-append (family_bytes Ipv4 ipv4) (family_bytes Ipv6 ipv6), family_few Ipv4 ipv4, family_few Ipv6 ipv6, list_short Ipv4 es h, list_short Ipv6 es h)
+
+pub members_short : (roa : RoaValue) → length roa.entries ≤ 65536 → length (roa_members roa) ≤ 5242937
+members_short roa h =
+    let families = families_bytes roa.entries in
+    omega (arith, length-append (tlv 2 (unsigned_bytes roa.asn)) (tlv 48 families), tlv_length 2 (unsigned_bytes roa.asn), unsigned_few roa.asn, tlv_length 48 families, families_few roa.entries h)
 
 no_family : (family : AddressFamily) → family_bytes family [] ≡ []
 unfolding family_bytes
@@ -425,17 +452,15 @@ blocks_of [] [] right some first second all few short = absurd (some refl)
 blocks_of [] (e ∷ es) right some first second all few short =
     let listed : IsListed Ipv6 0 (e ∷ es) = record { some = is_there e es; few = few; before = None; right = right; those = second; all = all } in
     let bytes = family_bytes Ipv6 (list_bytes Ipv6 (e ∷ es)) in
-    let same : bytes ++ [] ≡ family_bytes Ipv4 [] ++ bytes = append-nil bytes ∙ ap (λ (l : List ℕ). l ++ bytes) (sym (no_family Ipv4)) in
-    (
+    let same : bytes ++ [] ≡ family_bytes Ipv4 [] ++ bytes = append-nil bytes ∙ ap (λ (l : List ℕ). l ++ bytes) (sym (no_family Ipv4)) in (
       ((Ipv6, e ∷ es), None),
       append-nil (e ∷ es),
       subst (λ (l : List ℕ). ip_addr_blocks.Spells ((Ipv6, e ∷ es), None) (tlv 48 l)) same
-      (blocks_spell ((Ipv6, e ∷ es), None) bytes [] (family_there Ipv6 (e ∷ es) (is_there e es) second) (subst (λ (l : List ℕ). length l < 2 ^ 32) (sym same) short) (family_spells None Ipv6 0 (e ∷ es) refl listed) refl),
+          (blocks_spell ((Ipv6, e ∷ es), None) bytes [] (family_there Ipv6 (e ∷ es) (is_there e es) second) (subst (λ (l : List ℕ). length l < 2 ^ 32) (sym same) short) (family_spells None Ipv6 0 (e ∷ es) refl listed) refl),
     )
 blocks_of (e ∷ es) [] right some first second all few short =
     let listed : IsListed Ipv4 0 (e ∷ es) =
-    record { some = is_there e es; few = omega (arith, few, length-append (e ∷ es) []); before = None; right = (split_right 0 None (e ∷ es) [] right).0; those = first; all = (all_split (e ∷ es) [] all).0 } in
-    (
+    record { some = is_there e es; few = omega (arith, few, length-append (e ∷ es) []); before = None; right = (split_right 0 None (e ∷ es) [] right).0; those = first; all = (all_split (e ∷ es) [] all).0 } in (
       ((Ipv4, e ∷ es), None),
       refl,
       blocks_spell ((Ipv4, e ∷ es), None) (family_bytes Ipv4 (list_bytes Ipv4 (e ∷ es))) (family_bytes Ipv6 []) (family_there Ipv4 (e ∷ es) (is_there e es) first) short (family_spells None Ipv4 0 (e ∷ es) refl listed) (no_family Ipv6),
@@ -453,16 +478,15 @@ blocks_of (e ∷ es) (x ∷ xs) right some first second all few short =
       right = ap (λ (n : ℕ). entries_refusal n (last_behind None (e ∷ es)) (x ∷ xs)) (omega arith) ∙ r.1;
       those = second;
       all = a.1;
-    } in
-    (
+    } in (
       ((Ipv4, e ∷ es), Some (Ipv6, x ∷ xs)),
       refl,
       blocks_spell ((Ipv4, e ∷ es), Some (Ipv6, x ∷ xs)) (family_bytes Ipv4 (list_bytes Ipv4 (e ∷ es))) (family_bytes Ipv6 (list_bytes Ipv6 (x ∷ xs))) (family_there Ipv4 (e ∷ es) (is_there e es) first) short
-      (family_spells None Ipv4 0 (e ∷ es) refl listed) (family_spells (Some Ipv4) Ipv6 (length (e ∷ es)) (x ∷ xs) refl behind),
+          (family_spells None Ipv4 0 (e ∷ es) refl listed) (family_spells (Some Ipv4) Ipv6 (length (e ∷ es)) (x ∷ xs) refl behind),
     )
 
 -- a value with these entries
-abbrev value_of : ℕ → List RoaEntry → RoaValue
+abbrev pub value_of : ℕ → List RoaEntry → RoaValue
 value_of asn es = record { asn = asn; entries = es }
 
 -- A value with which nothing is wrong is spelled by its bytes.
@@ -487,3 +511,10 @@ value_spells asn (e ∷ es) h right all =
 -- Nothing is wrong exactly with what some bytes spell.
 pub refusal_law : RefusesExactly
 refusal_law roa h all = ((λ right. (roa_bytes roa, roa_are roa, value_spells roa.asn roa.entries h right all)), λ s. roa_right roa s.0 s.2)
+
+-- ---- what is written
+
+-- where an element was added, it is that of the same content
+pub adds_same : (result : Result (Unit {0}) AllocError) (tag : ℕ) (content old new bytes : List ℕ) → tlv tag content ≡ bytes → Adds result tag content old new → OnOk result (new ≡ old ++ bytes)
+adds_same (Ok _) tag content old new bytes same a = a ∙ ap (λ (l : List ℕ). old ++ l) same
+adds_same (Err _) tag content old new bytes same a = tt

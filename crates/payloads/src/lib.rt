@@ -13,7 +13,9 @@ mod reading;
 mod roa;
 #[cfg(test)]
 mod tests;
+mod writing;
 
 pub use entry::RoaEntry;
 pub use fault::{GrammarFault, GrammarFaultKind, PayloadFault, ValueFault};
 pub use roa::{Roa, decode_roa};
+pub use writing::encode_roa;
