@@ -14,6 +14,8 @@ mod roa;
 #[cfg(test)]
 mod tests;
 mod writing;
+#[cfg(test)]
+mod writing_tests;
 
 pub use entry::RoaEntry;
 pub use fault::{GrammarFault, GrammarFaultKind, PayloadFault, ValueFault};

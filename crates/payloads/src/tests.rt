@@ -8,16 +8,20 @@ use std::process::Abort;
 use std::test::Fail;
 
 /// AS64496 and 192.0.2.0/24.
-const ONE_PREFIX: &[u8; 25] =
+pub(crate) const ONE_PREFIX: &[u8; 25] =
     b"\x30\x17\x02\x03\x00\xfb\xf0\x30\x10\x30\x0e\x04\x02\x00\x01\x30\x08\x30\x06\x03\x04\x00\xc0\x00\x02";
 
 /// AS64496 and 0.0.0.0/0.
-const NO_BITS: &[u8; 22] =
+pub(crate) const NO_BITS: &[u8; 22] =
     b"\x30\x14\x02\x03\x00\xfb\xf0\x30\x0d\x30\x0b\x04\x02\x00\x01\x30\x05\x30\x03\x03\x01\x00";
 
 /// AS64496 and 2001:db8::/32 with the maximum 48.
-const WITH_MAXIMUM: &[u8; 29] =
+pub(crate) const WITH_MAXIMUM: &[u8; 29] =
     b"\x30\x1b\x02\x03\x00\xfb\xf0\x30\x14\x30\x12\x04\x02\x00\x02\x30\x0c\x30\x0a\x03\x05\x00\x20\x01\x0d\xb8\x02\x01\x30";
+
+/// AS64496 and 192.0.2.0/24 with the maximum 24, which says nothing.
+pub(crate) const NOTED: &[u8; 28] =
+    b"\x30\x1a\x02\x03\x00\xfb\xf0\x30\x13\x30\x11\x04\x02\x00\x01\x30\x0b\x30\x09\x03\x04\x00\xc0\x00\x02\x02\x01\x18";
 
 /// The number and the offset of the first fault, if the bytes are refused. Want of memory is 0 at 0.
 fn fault(alloc: Global, payload: &[u8]) -> Option<(u8, usize)> {
@@ -40,12 +44,7 @@ fn decodes_roas(rt: HostRuntime) -> Result<(), Fail> {
         (ONE_PREFIX.as_slice(), "192.0.2.0/24", 24u8, 0usize),
         (NO_BITS.as_slice(), "0.0.0.0/0", 0, 0),
         (WITH_MAXIMUM.as_slice(), "2001:db8::/32", 48, 0),
-        (
-            b"\x30\x1a\x02\x03\x00\xfb\xf0\x30\x13\x30\x11\x04\x02\x00\x01\x30\x0b\x30\x09\x03\x04\x00\xc0\x00\x02\x02\x01\x18".as_slice(),
-            "192.0.2.0/24",
-            24,
-            1,
-        ),
+        (NOTED.as_slice(), "192.0.2.0/24", 24, 1),
     ] {
         let Ok(roa) = decode_roa(alloc, payload) else {
             assert!(rt; false, "{text}");
@@ -166,7 +165,10 @@ fn tells_faults_inside_the_payload(rt: HostRuntime) {
 }
 
 /// The entries of these prefixes and maxima.
-fn entries_of(alloc: Global, rows: &[(&str, Option<u8>)]) -> Result<Vec<RoaEntry>, Fail> {
+pub(crate) fn entries_of(
+    alloc: Global,
+    rows: &[(&str, Option<u8>)],
+) -> Result<Vec<RoaEntry>, Fail> {
     let mut entries = Vec::new(alloc);
     for &(text, max_len) in rows {
         let prefix = IpPrefix::parse(text)?;
@@ -221,7 +223,7 @@ fn makes_roas_of_values(rt: HostRuntime) -> Result<(), Fail> {
 }
 
 /// The payload of AS64496 and of so many prefixes of 24 bits, from 10.0.0.0 on.
-fn long_payload(rt: &impl Abort, alloc: Global, count: u32) -> Result<Vec<u8>, Fail> {
+pub(crate) fn long_payload(rt: &impl Abort, alloc: Global, count: u32) -> Result<Vec<u8>, Fail> {
     let mut list = DerWriter::new(alloc);
     for index in 0..count {
         let mut entry = DerWriter::new(alloc);
