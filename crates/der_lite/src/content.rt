@@ -15,8 +15,8 @@ pub struct Bits<'a> {
     pub bytes: &'a [u8],
 }
 
-/// Whether the content is a whole number in the fewest bytes (X.690, 8.3).
-pub(crate) fn is_integer(content: &[u8]) -> bool
+/// Whether the content is that of an INTEGER: a whole number in the fewest bytes (X.690, 8.3).
+pub fn is_integer(content: &[u8]) -> bool
     ensures { result ≡ is_integer_of content.now }
 {
     match content {
@@ -72,7 +72,7 @@ pub fn unsigned(content: &[u8]) -> Option<u32>
 
 #[cfg(test)]
 mod tests {
-    use super::Bits;
+    use super::{Bits, is_integer};
 
     #[test]
     fn compares_the_count_and_the_bytes(rt: HostRuntime) {
@@ -91,5 +91,14 @@ mod tests {
         assert!(rt; bits == bits);
         assert!(rt; bits != fewer);
         assert!(rt; bits != others);
+    }
+    #[test]
+    fn tells_the_fewest_bytes(rt: HostRuntime) {
+        assert!(rt; is_integer(b"\x00"));
+        assert!(rt; is_integer(b"\x00\x80"));
+        assert!(rt; is_integer(b"\xff\x7f"));
+        assert!(rt; !is_integer(b""));
+        assert!(rt; !is_integer(b"\x00\x7f"));
+        assert!(rt; !is_integer(b"\xff\x80"));
     }
 }

@@ -18,7 +18,7 @@ mod moment_tests;
 mod tests;
 mod writer;
 
-pub use content::{Bits, unsigned};
+pub use content::{Bits, is_integer, unsigned};
 pub use cursor::Cursor;
 pub use fault::{DerFault, DerFaultKind};
 pub use moment::Moment;

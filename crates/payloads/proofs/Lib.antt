@@ -14,3 +14,6 @@ pub mod ManifestLaws
 pub mod ManifestRows
 pub mod Prefixes
 pub mod Spellings
+pub mod Lookups
+pub mod Listing
+pub mod ManifestRefusals

@@ -3,7 +3,7 @@ use Rattle.std.specs.Prelude.{ℕ}
 use Rattle.der_lite.specs.Place.{Fault}
 use Rattle.der_lite.specs.Cursors.{kind_number as element_number}
 use Rattle.payloads.specs.declared.fault.GrammarFaultKind.{GrammarFaultKind}
-use Rattle.payloads.specs.declared.fault.GrammarFaultKind.TheVariants.{Element, VersionPresent, AsnRange, Family, Empty, PrefixTooLong, MaxLength, Order, TooMany}
+use Rattle.payloads.specs.declared.fault.GrammarFaultKind.TheVariants.{Element, VersionPresent, AsnRange, Family, Empty, PrefixTooLong, MaxLength, Order, NumberRange, TimesOrder, HashAlg, Name, HashLength, NameTwice, TooMany}
 use Rattle.payloads.specs.declared.fault.GrammarFault.{GrammarFault}
 
 -- the number of each kind of fault
@@ -16,6 +16,12 @@ kind_number Empty = 9
 kind_number PrefixTooLong = 10
 kind_number MaxLength = 11
 kind_number Order = 12
+kind_number NumberRange = 13
+kind_number TimesOrder = 14
+kind_number HashAlg = 15
+kind_number Name = 16
+kind_number HashLength = 17
+kind_number NameTwice = 18
 kind_number TooMany = 19
 
 -- a fault by its number

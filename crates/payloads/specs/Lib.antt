@@ -9,3 +9,5 @@ pub mod Manifest
 pub mod ManifestReading
 pub mod Gives
 pub mod Laws
+pub mod ManifestRefusal
+pub mod Names

@@ -25,14 +25,28 @@ pub enum GrammarFaultKind {
     MaxLength,
     /// 12: it does not stand above what is before it: by family, address, length, maximum length.
     Order,
-    /// 19: it is entry 65,537.
+    /// 13: the number is negative, or its content has more than 20 bytes (RFC 9286 section 4.2.1).
+    /// Of a value: or it is no INTEGER's content.
+    NumberRange,
+    /// 14: nextUpdate is not later than thisUpdate (RFC 9286 section 4.2.1).
+    TimesOrder,
+    /// 15: the hash algorithm is not SHA-256 (RFC 9286 section 4.2.1).
+    HashAlg,
+    /// 16: the name is not letters, digits, `-` or `_`, one dot and three small letters, in all at
+    /// most 255 bytes (RFC 9286 section 4.2.2).
+    Name,
+    /// 17: the hash has not 256 bits (RFC 9286 section 4.2.1).
+    HashLength,
+    /// 18: the name came before (RFC 9286 section 4.2.1).
+    NameTwice,
+    /// 19: it is entry or file 65,537.
     TooMany,
 }
 
 impl GrammarFaultKind {
     ghost use Rattle.payloads.specs.Faults.{kind_number};
 
-    /// The number of the kind, 1 to 12 or 19.
+    /// The number of the kind, 1 to 19.
     pub fn number(self) -> u8
         ensures { result ≡ kind_number self }
     {
@@ -45,8 +59,21 @@ impl GrammarFaultKind {
             GrammarFaultKind::PrefixTooLong => 10,
             GrammarFaultKind::MaxLength => 11,
             GrammarFaultKind::Order => 12,
+            GrammarFaultKind::NumberRange => 13,
+            GrammarFaultKind::TimesOrder => 14,
+            GrammarFaultKind::HashAlg => 15,
+            GrammarFaultKind::Name => 16,
+            GrammarFaultKind::HashLength => 17,
+            GrammarFaultKind::NameTwice => 18,
             GrammarFaultKind::TooMany => 19,
         }
+    }
+
+    /// This, at an offset.
+    pub(crate) fn at(self, offset: usize) -> GrammarFault
+        ensures { result ≡ record { kind = self; offset = offset } }
+    {
+        GrammarFault { kind: self, offset }
     }
 }
 
@@ -92,6 +119,17 @@ impl From<GrammarFault> for PayloadFault {
     }
 }
 
+impl From<DerFault> for PayloadFault {
+    ghost use Rattle.payloads.specs.declared.fault.PayloadFault.TheVariants.{At};
+    ghost use Rattle.payloads.specs.declared.fault.GrammarFaultKind.TheVariants.{Element};
+
+    ghost from_gives = { λ der payload_fault. payload_fault ≡ At (record { kind = Element der.kind; offset = der.offset }) };
+
+    fn from(fault: DerFault) -> PayloadFault {
+        PayloadFault::At(GrammarFault::from(fault))
+    }
+}
+
 impl From<AllocError> for PayloadFault {
     ghost use Rattle.payloads.specs.declared.fault.PayloadFault.TheVariants.{Memory};
 
@@ -109,4 +147,33 @@ pub struct ValueFault {
     pub kind: GrammarFaultKind,
     /// Which entry is, counted from 0.
     pub index: usize,
+}
+
+/// Why there is no manifest of a value.
+#[derive(Clone, Copy, Debug, PartialEq, Eq)]
+pub enum ManifestFault {
+    /// No bytes spell it: the first fault.
+    Value(ValueFault),
+    /// Want of memory.
+    Memory,
+}
+
+impl From<ValueFault> for ManifestFault {
+    ghost use Rattle.payloads.specs.declared.fault.ManifestFault.TheVariants.{Value};
+
+    ghost from_gives = { λ fault manifest_fault. manifest_fault ≡ Value fault };
+
+    fn from(fault: ValueFault) -> ManifestFault {
+        ManifestFault::Value(fault)
+    }
+}
+
+impl From<AllocError> for ManifestFault {
+    ghost use Rattle.payloads.specs.declared.fault.ManifestFault.TheVariants.{Memory};
+
+    ghost from_gives = { λ _ manifest_fault. manifest_fault ≡ Memory };
+
+    fn from(_error: AllocError) -> ManifestFault {
+        ManifestFault::Memory
+    }
 }

@@ -8,7 +8,11 @@ mod entries;
 mod entry;
 mod family;
 mod fault;
+mod files;
 pub mod laws;
+mod manifest;
+mod manifest_reading;
+mod names;
 mod reading;
 mod roa;
 #[cfg(test)]
@@ -18,6 +22,8 @@ mod writing;
 mod writing_tests;
 
 pub use entry::RoaEntry;
-pub use fault::{GrammarFault, GrammarFaultKind, PayloadFault, ValueFault};
+pub use fault::{GrammarFault, GrammarFaultKind, ManifestFault, PayloadFault, ValueFault};
+pub use manifest::{ListedFile, Manifest};
+pub use manifest_reading::decode_manifest;
 pub use roa::{Roa, decode_roa};
 pub use writing::encode_roa;

@@ -18,7 +18,7 @@ use prefixes::{Asn, IpPrefix, Prefix, V4, V6};
 
 /// The content of the INTEGER at the start of the outer SEQUENCE. A version (tag `a0`) that stands
 /// in its place is `VersionPresent` (4.1).
-fn first_integer<'a>(cursor: &mut Cursor<'a>) -> Result<&'a [u8], GrammarFault>
+pub(crate) fn first_integer<'a>(cursor: &mut Cursor<'a>) -> Result<&'a [u8], GrammarFault>
     ensures exact { GivesNext (λ content. content.now) result cursor.new (with_version (tag_of cursor.old.rest == 160) (integer_at cursor.old)) }
     ensures fewest { IfOk result (λ content. IsTrue (is_integer content.now)) }
 {

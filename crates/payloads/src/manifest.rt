@@ -1,0 +1,203 @@
+//! Manifests.
+
+ghost use Rattle.std.specs.Prelude.{◌≡◌, [], ◌∷◌, IfOk, List, length, option_map};
+ghost use Rattle.std.specs.String.{string_bytes};
+ghost use Rattle.der_lite.specs.Place.{first_of};
+ghost use Rattle.payloads.specs.Faults.{kind_number};
+ghost use Rattle.payloads.specs.Manifest.{ListedFile as Listed};
+ghost use Rattle.payloads.specs.Names.{AreNames};
+ghost use Rattle.payloads.specs.Refusal.{Finds};
+ghost use Rattle.payloads.specs.ManifestRefusal.{value_rules, file_rules, files_refusal, manifest_refusal, IsManifest, MakesManifest};
+
+use crate::entry::LIMIT;
+use crate::manifest_reading::{LONGEST_NUMBER, is_negative};
+use crate::names::{Names, is_name};
+use crate::{GrammarFaultKind, ManifestFault, ValueFault};
+use der_lite::{Moment, is_integer};
+use std::alloc::{AllocError, Global};
+use std::marker::Model;
+
+/// A file that a manifest lists (FileAndHash, RFC 9286 section 4.2.2).
+#[derive(Drop)]
+pub struct ListedFile {
+    name: String,
+    hash: [u8; 32],
+}
+
+impl Model for ListedFile {
+    ghost use Rattle.std.specs.String.{string_bytes};
+    ghost use Rattle.payloads.specs.Manifest.{ListedFile as Listed};
+
+    ghost Value = { Listed };
+
+    ghost view = { λ file. record { name = string_bytes file.name; hash = file.hash } };
+}
+
+impl ListedFile {
+    /// A file of this name, whose published object has this SHA-256.
+    pub fn new(name: String, hash: [u8; 32]) -> ListedFile
+        ensures { result ≡ record { name = string_bytes name; hash = hash } }
+    {
+        ListedFile { name, hash }
+    }
+
+    /// The name.
+    pub fn name(&self) -> &str
+        ensures { result.now ≡ self.now.name }
+    {
+        self.name.as_str()
+    }
+
+    /// The SHA-256 of the published object.
+    pub fn hash(&self) -> &[u8; 32]
+        ensures { result.now ≡ self.now.hash }
+    {
+        &self.hash
+    }
+}
+
+/// A manifest: its number, from when to when it holds, and the files that it lists, of which no two
+/// have the same name (RFC 9286 section 4.2).
+#[derive(Drop)]
+pub struct Manifest {
+    pub(crate) number: Vec<u8>,
+    pub(crate) this_update: Moment,
+    pub(crate) next_update: Moment,
+    pub(crate) files: Vec<ListedFile>,
+}
+
+impl Model for Manifest {
+    ghost use Rattle.payloads.specs.Manifest.{ManifestValue};
+    ghost use Rattle.payloads.specs.ManifestRefusal.{IsManifest};
+
+    ghost Value = { ManifestValue };
+
+    ghost view = { λ m. record { number = m.number.items; this_update = m.this_update; next_update = m.next_update; files = m.files.items } };
+
+    ghost invariant = { λ m. IsManifest (record { number = m.number.items; this_update = m.this_update; next_update = m.next_update; files = m.files.items }) };
+}
+
+impl Manifest {
+    /// The manifest of this number (the content of its INTEGER), these times and these files, or
+    /// the first fault: `NumberRange`, also where the content is empty or not in the fewest bytes,
+    /// `TimesOrder`, then file by file `TooMany`, `Name`, `NameTwice`.
+    pub fn new(
+        alloc: Global,
+        number: Vec<u8>,
+        this_update: Moment,
+        next_update: Moment,
+        files: Vec<ListedFile>,
+    ) -> Result<Manifest, ManifestFault>
+        ensures { MakesManifest result (record { number = number.items; this_update = this_update; next_update = next_update; files = files.items }) }
+    {
+        match fault(
+            alloc,
+            number.as_slice(),
+            &this_update,
+            &next_update,
+            files.as_slice(),
+        )? {
+            Some(fault) => Err(ManifestFault::Value(fault)),
+            None => Ok(Manifest {
+                number,
+                this_update,
+                next_update,
+                files,
+            }),
+        }
+    }
+
+    /// The number: the content of its INTEGER, not negative and of at most 20 bytes.
+    pub fn number(&self) -> &[u8]
+        ensures { result.now ≡ self.now.number }
+    {
+        &self.number
+    }
+
+    /// When it was made.
+    pub fn this_update(&self) -> &Moment
+        ensures { result.now ≡ self.now.this_update }
+    {
+        &self.this_update
+    }
+
+    /// Until when the next one is made, later than this one.
+    pub fn next_update(&self) -> &Moment
+        ensures { result.now ≡ self.now.next_update }
+    {
+        &self.next_update
+    }
+
+    /// The files that it lists, at most 65,536, no two of the same name.
+    pub fn files(&self) -> &[ListedFile]
+        ensures value { result.now ≡ self.now.files }
+        ensures right { IsManifest self.now }
+    {
+        &self.files
+    }
+}
+
+/// The first fault of the value of a manifest.
+#[tactic(auto, unfolding(crate::specs::ManifestRefusal::manifest_refusal))]
+fn fault(
+    alloc: Global,
+    number: &[u8],
+    this_update: &Moment,
+    next_update: &Moment,
+    files: &[ListedFile],
+) -> Result<Option<ValueFault>, AllocError>
+    ensures { IfOk result (λ fault. Finds fault (manifest_refusal (record { number = number.now; this_update = this_update.now; next_update = next_update.now; files = files.now }))) }
+{
+    if let Some(kind) = value_fault(number, this_update, next_update) {
+        return Ok(Some(ValueFault { kind, index: 0 }));
+    }
+    files_fault(alloc, files)
+}
+
+/// What is wrong with the number or the times.
+#[tactic(auto, unfolding(der_lite::specs::Moments::moment_before))]
+fn value_fault(
+    number: &[u8],
+    this_update: &Moment,
+    next_update: &Moment,
+) -> Option<GrammarFaultKind>
+    ensures { (files : List Listed) → option_map kind_number result ≡ first_of (value_rules (record { number = number.now; this_update = this_update.now; next_update = next_update.now; files = files })) }
+{
+    if !is_integer(number) || is_negative(number) || number.len() > LONGEST_NUMBER {
+        Some(GrammarFaultKind::NumberRange)
+    } else if this_update < next_update {
+        None
+    } else {
+        Some(GrammarFaultKind::TimesOrder)
+    }
+}
+
+/// The first fault of the files of a manifest.
+fn files_fault(alloc: Global, files: &[ListedFile]) -> Result<Option<ValueFault>, AllocError>
+    ensures { IfOk result (λ fault. Finds fault (files_refusal [] files.now)) }
+{
+    let mut names = Names::new(alloc);
+    for (index, file) in files.iter().enumerate() {
+        if let Some(kind) = file_fault(index, file.name(), &names) {
+            return Ok(Some(ValueFault { kind, index }));
+        }
+        names.add(file.name())?;
+    }
+    Ok(None)
+}
+
+/// What is wrong with a file of this name at this index behind those before it, the first of
+/// `TooMany`, `Name`, `NameTwice`.
+fn file_fault<'a>(index: usize, name: &'a str, before: &Names<'a>) -> Option<GrammarFaultKind>
+    ensures { (files : List Listed) (file : Listed) → length files ≡ index → file.name ≡ name.now → AreNames before.now.set files → option_map kind_number result ≡ first_of (file_rules files file) }
+{
+    if index >= LIMIT {
+        Some(GrammarFaultKind::TooMany)
+    } else if !is_name(name) {
+        Some(GrammarFaultKind::Name)
+    } else if before.has(name) {
+        Some(GrammarFaultKind::NameTwice)
+    } else {
+        None
+    }
+}
