@@ -17,3 +17,5 @@ pub mod Spellings
 pub mod Lookups
 pub mod Listing
 pub mod ManifestRefusals
+pub mod FileNames
+pub mod ManifestSpellings

@@ -24,7 +24,7 @@ use Rattle.payloads.specs.Roa.{as_id, family_number, family_rules, address_famil
 use Rattle.payloads.specs.RoaValues.{RoaValue, all_entries, TreeSpells, RoaSpells}
 use Rattle.payloads.specs.RoaBytes.{address_content, maximum_bytes, entry_bytes, is_of, list_bytes, family_bytes, families_bytes, roa_bytes}
 use Rattle.payloads.specs.Refusal.{goes_back, is_family_below, entry_rules, entries_refusal, roa_refusal}
-use Rattle.payloads.specs.Laws.{RefusesExactly}
+use Rattle.payloads.specs.Laws.{RoaRefusesExactly}
 use Rattle.payloads.proofs.Flats.{family_of, AllIn}
 use Rattle.payloads.proofs.Growing.{last_is}
 use Rattle.payloads.proofs.Prefixes.{address_few, address_are, address_spells}
@@ -509,7 +509,7 @@ value_spells asn (e ∷ es) h right all =
     }
 
 -- Nothing is wrong exactly with what some bytes spell.
-pub refusal_law : RefusesExactly
+pub refusal_law : RoaRefusesExactly
 refusal_law roa h all = ((λ right. (roa_bytes roa, roa_are roa, value_spells roa.asn roa.entries h right all)), λ s. roa_right roa s.0 s.2)
 
 -- ---- what is written

@@ -1,11 +1,13 @@
 -- What holds of the grammars of payloads.
-use Rattle.std.specs.Prelude.{◌≡◌, ◌↔◌, ℕ, ◌^◌, ◌<◌, ◌⊎◌, List, ◌++◌, None}
+use Rattle.std.specs.Prelude.{◌≡◌, ◌↔◌, ℕ, ◌^◌, ◌<◌, ◌⊎◌, true, List, ◌++◌, length, None}
 use Rattle.std.specs.List.{All}
 use Rattle.der_lite.specs.Der.{IsBytes}
+use Rattle.der_lite.specs.Moments.{is_moment}
 use Rattle.payloads.specs.Entry.{HasPrefix}
-use Rattle.payloads.specs.Manifest.{ManifestSpells, ManifestFaultAt}
+use Rattle.payloads.specs.Manifest.{ManifestValue, ManifestSpells, ManifestFaultAt}
 use Rattle.payloads.specs.RoaValues.{RoaValue, RoaSpells, RoaFaultAt}
 use Rattle.payloads.specs.Refusal.{roa_refusal}
+use Rattle.payloads.specs.ManifestRefusal.{manifest_refusal}
 
 -- At most one fault fits bytes, none fits bytes that spell a value, and one fits all others.
 abbrev pub OneFaultOf : {V : Type 0} → (V → List ℕ → Type 0) → (List ℕ → ℕ → ℕ → Type 0) → Type 0
@@ -28,8 +30,19 @@ OneFault = OneFaultOf RoaSpells RoaFaultAt × OneFaultOf ManifestSpells Manifest
 abbrev pub OneSpelling : Type 0
 OneSpelling = OneSpellingOf RoaSpells × OneSpellingOf ManifestSpells
 
--- Nothing is wrong with a value exactly where some bytes spell it.
-abbrev pub RefusesExactly : Type 0
-RefusesExactly =
+-- Nothing is wrong with the value of a ROA exactly where some bytes spell it.
+abbrev pub RoaRefusesExactly : Type 0
+RoaRefusesExactly =
     (roa : RoaValue) → roa.asn < 2 ^ 32 → All HasPrefix roa.entries
     → (roa_refusal roa.entries ≡ None) ↔ ((bytes : List ℕ) × IsBytes bytes × RoaSpells roa bytes)
+
+-- of bytes, 32 of them
+pub record IsHash (hash : List ℕ) : Type 0 where
+  pub bytes : IsBytes hash
+  pub long : length hash ≡ 32
+
+-- Nothing is wrong with the value of a manifest exactly where some bytes spell it.
+abbrev pub ManifestRefusesExactly : Type 0
+ManifestRefusesExactly =
+    (m : ManifestValue) → IsBytes m.number → is_moment m.this_update ≡ true → is_moment m.next_update ≡ true → All (λ file. IsHash file.hash) m.files
+    → (manifest_refusal m ≡ None) ↔ ((bytes : List ℕ) × IsBytes bytes × ManifestSpells m bytes)

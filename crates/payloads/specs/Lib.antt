@@ -11,3 +11,4 @@ pub mod Gives
 pub mod Laws
 pub mod ManifestRefusal
 pub mod Names
+pub mod ManifestBytes

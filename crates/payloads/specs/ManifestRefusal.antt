@@ -1,7 +1,7 @@
 -- Which values are no manifest: the first fault and the index of the file.
-use Rattle.std.specs.Prelude.{◌≡◌, ℕ, ◌||◌, Bool, not, nat_lt, nat_le, List, [], ◌∷◌, ◌++◌, length, Option, Some, None, Result, Ok, Err}
+use Rattle.std.specs.Prelude.{◌≡◌, ℕ, ◌||◌, Bool, not, nat_lt, nat_le, ◌≤◌, List, [], ◌∷◌, ◌++◌, length, Option, Some, None, Result, Ok, Err}
 use Rattle.der_lite.specs.Place.{first_of}
-use Rattle.der_lite.specs.Der.{is_integer, IsBytes}
+use Rattle.der_lite.specs.Der.{is_integer}
 use Rattle.der_lite.specs.Moments.{moment_before}
 use Rattle.der_lite.specs.Values.{is_negative}
 use Rattle.payloads.specs.declared.fault.ManifestFault.{ManifestFault}
@@ -38,8 +38,10 @@ MakesManifest (Ok manifest) m = (manifest ≡ m) × (manifest_refusal m ≡ None
 MakesManifest (Err (Value fault)) m = manifest_refusal m ≡ Some (kind_number fault.kind, fault.index)
 MakesManifest (Err Memory) m = Unit {0}
 
--- the name is of bytes, and the hash of 32
-pub record IsFile (file : ListedFile) : Type 0 where
-  pub name : IsBytes file.name
-  pub hash : IsBytes file.hash
-  pub long : length file.hash ≡ 32
+-- the hash has 32 bytes
+abbrev pub HasHash : ListedFile → Type 0
+HasHash file = length file.hash ≡ 32
+
+-- the name has at most 255 bytes
+abbrev pub HasShortName : ListedFile → Type 0
+HasShortName file = length file.name ≤ 255

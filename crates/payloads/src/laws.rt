@@ -1,6 +1,6 @@
 //! What holds of the definitions of payloads. Nothing here runs.
 
-ghost use Rattle.payloads.specs.Laws.{OneFault, OneSpelling, RefusesExactly};
+ghost use Rattle.payloads.specs.Laws.{OneFault, OneSpelling, RoaRefusesExactly, ManifestRefusesExactly};
 
 /// At most one fault fits bytes, and one fits exactly where they spell no value.
 pub fn one_fault()
@@ -14,5 +14,10 @@ pub fn one_spelling()
 
 /// The values of a ROA that are refused are exactly those that no bytes spell.
 pub fn roa_refuses_exactly()
-    ensures { RefusesExactly }
+    ensures { RoaRefusesExactly }
+{}
+
+/// The values of a manifest that are refused are exactly those that no bytes spell.
+pub fn manifest_refuses_exactly()
+    ensures { ManifestRefusesExactly }
 {}

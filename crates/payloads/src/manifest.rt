@@ -25,12 +25,15 @@ pub struct ListedFile {
 }
 
 impl Model for ListedFile {
+    ghost use Rattle.std.specs.Prelude.{◌≡◌, length};
     ghost use Rattle.std.specs.String.{string_bytes};
     ghost use Rattle.payloads.specs.Manifest.{ListedFile as Listed};
 
     ghost Value = { Listed };
 
     ghost view = { λ file. record { name = string_bytes file.name; hash = file.hash } };
+
+    ghost invariant = { λ file. length file.hash ≡ 32 };
 }
 
 impl ListedFile {
@@ -50,7 +53,8 @@ impl ListedFile {
 
     /// The SHA-256 of the published object.
     pub fn hash(&self) -> &[u8; 32]
-        ensures { result.now ≡ self.now.hash }
+        ensures value { result.now ≡ self.now.hash }
+        ensures long { length self.now.hash ≡ 32 }
     {
         &self.hash
     }
@@ -109,7 +113,8 @@ impl Manifest {
 
     /// The number: the content of its INTEGER, not negative and of at most 20 bytes.
     pub fn number(&self) -> &[u8]
-        ensures { result.now ≡ self.now.number }
+        ensures value { result.now ≡ self.now.number }
+        ensures right { IsManifest self.now }
     {
         &self.number
     }
