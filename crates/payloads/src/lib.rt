@@ -13,6 +13,8 @@ mod files;
 pub mod laws;
 mod manifest;
 mod manifest_reading;
+#[cfg(test)]
+mod manifest_tests;
 mod manifest_writing;
 mod names;
 mod reading;

@@ -5,3 +5,4 @@ pub mod PayloadList
 pub mod Reading
 pub mod RouteWords
 pub mod RoaLines
+pub mod ManifestLines

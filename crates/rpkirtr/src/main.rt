@@ -3,6 +3,7 @@
 
 pub mod answering;
 pub mod listing;
+pub mod manifests;
 pub mod roas;
 pub mod routing;
 pub mod runner;

@@ -4,11 +4,12 @@ ghost use Rattle.std.specs.Io.KnownBytes.{Appends};
 
 use crate::answering::{Answered, Published, answer_queries};
 use crate::listing::{ListFault, read_list};
+use crate::manifests::print_manifest;
 use crate::roas::print_roa;
 use crate::routing::{print_state, read_route};
 use crate::words::{Order, read_words};
 use hex::FromHexError;
-use payloads::{PayloadFault, decode_roa};
+use payloads::{PayloadFault, decode_manifest, decode_roa};
 use std::alloc::AllocError;
 use std::io::{BufWriter, ErrorKind, Write};
 use std::net::Net;
@@ -98,6 +99,7 @@ fn run<R: Files + Net + AllocGlobal, O: Write>(
 {
     match read_words(rt.alloc(), words)? {
         Order::Roa { file } => roa(rt, file, out),
+        Order::Manifest { file } => manifest(rt, file, out),
         Order::Answer {
             session,
             serial,
@@ -128,11 +130,40 @@ fn roa<R: Files + AllocGlobal, O: Write>(
             lines.flush()?;
             Ok(0)
         }
-        Err(PayloadFault::At(fault)) => {
+        Err(fault) => refuse_payload(fault, out),
+    }
+}
+
+/// The command `manifest`: the fields and the files of the payload of a manifest in a file.
+fn manifest<R: Files + AllocGlobal, O: Write>(
+    rt: &R,
+    file: &str,
+    out: &mut O,
+) -> Result<u8, ProgramFault>
+    ensures { IfOk result (λ s. s ≤ 1) }
+{
+    let bytes = read_file(rt, file)?;
+    match decode_manifest(rt.alloc(), bytes.as_slice()) {
+        Ok(manifest) => {
+            let mut lines = BufWriter::new(rt.alloc(), out)?;
+            print_manifest(rt.alloc(), &manifest, &mut lines)?;
+            lines.flush()?;
+            Ok(0)
+        }
+        Err(fault) => refuse_payload(fault, out),
+    }
+}
+
+/// Tells the first fault of a payload, with the status.
+fn refuse_payload<O: Write>(fault: PayloadFault, out: &mut O) -> Result<u8, ProgramFault>
+    ensures { IfOk result (λ s. s ≤ 1) }
+{
+    match fault {
+        PayloadFault::At(fault) => {
             writeln!(out, "refused {} at {}", fault.kind.number(), fault.offset)?;
             Ok(1)
         }
-        Err(PayloadFault::Memory) => Err(ProgramFault::Memory),
+        PayloadFault::Memory => Err(ProgramFault::Memory),
     }
 }
 

@@ -162,6 +162,23 @@ fn tells_roas(rt: HostRuntime) -> Result<(), Fail> {
 }
 
 #[test]
+fn tells_manifests(rt: HostRuntime) -> Result<(), Fail> {
+    let whole =
+        b"\x30\x5e\x02\x01\x01\x18\x0f\x32\x30\x32\x35\x30\x31\x30\x31\x30\x30\x30\x30\x30\x30\x5a\x18\x0f\x32\x30\x32\x35\x30\x31\x30\x32\x30\x30\x30\x30\x30\x30\x5a\x06\x09\x60\x86\x48\x01\x65\x03\x04\x02\x01\x30\x2c\x30\x2a\x16\x05\x61\x2e\x63\x72\x6c\x03\x21\x00\xba\x78\x16\xbf\x8f\x01\xcf\xea\x41\x41\x40\xde\x5d\xae\x22\x23\xb0\x03\x61\xa3\x96\x17\x7a\x9c\xb4\x10\xff\x61\xf2\x00\x15\xad";
+    fs::write(&rt, "whole.der", whole.as_slice())?;
+    let lines = "number 01\nthis 20250101000000Z\nnext 20250102000000Z\nba7816bf8f01cfea414140de5dae2223b00361a396177a9cb410ff61f20015ad a.crl\n";
+    expect(&rt, "manifest whole.der", 0, lines, "")?;
+    let mut equal_times = *whole;
+    equal_times[31] = b'1';
+    fs::write(&rt, "equal.der", equal_times.as_slice())?;
+    expect(&rt, "manifest equal.der", 1, "refused 14 at 22\n", "")?;
+    fs::write(&rt, "empty.der", b"".as_slice())?;
+    expect(&rt, "manifest empty.der", 1, "refused 1 at 0\n", "")?;
+    expect(&rt, "manifest gone.der", 3, "", "rpkirtr: device failed\n")?;
+    expect(&rt, "manifest", 2, "", "rpkirtr: bad words\n")
+}
+
+#[test]
 fn tells_states_of_routes(rt: HostRuntime) -> Result<(), Fail> {
     fs::write(
         &rt,

@@ -11,9 +11,14 @@ struct Form {
     words: &'static [&'static str],
 }
 
-static FORMS: [Form; 3] = [
+static FORMS: [Form; 4] = [
     Form {
         name: "roa",
+        options: &[],
+        words: &["FILE"],
+    },
+    Form {
+        name: "manifest",
         options: &[],
         words: &["FILE"],
     },
@@ -63,6 +68,10 @@ pub fn command_line<'a>(alloc: Global) -> Result<Command<'a>, AllocError> {
 pub enum Order<'a> {
     /// What the payload of a ROA in FILE says.
     Roa {
+        file: &'a str,
+    },
+    /// What the payload of a manifest in FILE says.
+    Manifest {
         file: &'a str,
     },
     /// The answers of a cache to the bytes that HEX spells.
@@ -120,6 +129,12 @@ fn roa_order<'a>(found: &ArgMatches<'a>) -> Result<Order<'a>, ProgramFault> {
     })
 }
 
+fn manifest_order<'a>(found: &ArgMatches<'a>) -> Result<Order<'a>, ProgramFault> {
+    Ok(Order::Manifest {
+        file: value(found, "FILE")?,
+    })
+}
+
 fn answer_order<'a>(found: &ArgMatches<'a>) -> Result<Order<'a>, ProgramFault> {
     Ok(Order::Answer {
         session: number_16(found, "session")?,
@@ -143,6 +158,7 @@ pub fn read_words(alloc: Global, words: &[String]) -> Result<Order<'_>, ProgramF
     let matches = command.try_get_matches_from(words).map_err(fault_of)?;
     match matches.subcommand() {
         Some(("roa", found)) => roa_order(found),
+        Some(("manifest", found)) => manifest_order(found),
         Some(("answer", found)) => answer_order(found),
         Some(("route", found)) => route_order(found),
         _ => Err(ProgramFault::Words),

@@ -1,5 +1,5 @@
 #!/usr/bin/env bash
-# ROA payloads against another DER decoder: Python's pyasn1, which is installed from Debian where it is missing.
+# Payloads of ROAs and manifests against another DER decoder: Python's pyasn1, which is installed from Debian where it is missing.
 set -u
 top=$(cd "$(dirname "${BASH_SOURCE[0]}")/.." && pwd) || exit 1
 python=
@@ -12,4 +12,6 @@ if [ -z "$python" ]; then
 fi
 "$top/run" roa /dev/null >/dev/null 2>&1
 [ $? -eq 1 ] || exit 1
-exec "$python" "$top/tests/roas.py" "$top/crates/rpkirtr/out/rpkirtr"
+for script in roas manifests; do
+    "$python" "$top/tests/$script.py" "$top/crates/rpkirtr/out/rpkirtr" || exit 1
+done
