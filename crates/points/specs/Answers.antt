@@ -1,0 +1,48 @@
+-- What an offer is answered.
+use Rattle.std.specs.Prelude.{ℕ, Option, Some, None, Result, Ok, Err, ⊤}
+use Rattle.payloads.specs.Faults.{fault_of}
+use Rattle.points.specs.Offers.{Judgement, New, Same, BadManifest, NotYet, Stale, OldNumber, OldTime, FileTwice, Missing, HashDiffers, BadRoa}
+use Rattle.points.specs.declared.fault.Offered.{Offered}
+use Rattle.points.specs.declared.fault.Offered.TheVariants as offered
+use Rattle.points.specs.declared.fault.PointFault.{PointFault}
+use Rattle.points.specs.declared.fault.PointFault.TheVariants as faults
+
+-- the number of each fault
+abbrev pub fault_number : PointFault → ℕ
+fault_number (faults.Manifest fault) = 1
+fault_number faults.NotYet = 2
+fault_number faults.Stale = 3
+fault_number faults.OldNumber = 4
+fault_number faults.OldTime = 5
+fault_number (faults.FileTwice i) = 6
+fault_number (faults.Missing i) = 7
+fault_number (faults.HashDiffers i) = 8
+fault_number (faults.Roa i fault) = 9
+fault_number faults.Memory = 10
+
+-- the index of the file that is meant, where one is
+abbrev pub fault_index : PointFault → Option ℕ
+fault_index (faults.FileTwice i) = Some i
+fault_index (faults.Missing i) = Some i
+fault_index (faults.HashDiffers i) = Some i
+fault_index (faults.Roa i fault) = Some i
+fault_index fault = None
+
+-- the judgement that a fault tells; want of memory tells none
+abbrev pub told_by_fault : PointFault → Option Judgement
+told_by_fault (faults.Manifest fault) = Some (BadManifest (fault_of fault))
+told_by_fault faults.NotYet = Some NotYet
+told_by_fault faults.Stale = Some Stale
+told_by_fault faults.OldNumber = Some OldNumber
+told_by_fault faults.OldTime = Some OldTime
+told_by_fault (faults.FileTwice i) = Some (FileTwice i)
+told_by_fault (faults.Missing i) = Some (Missing i)
+told_by_fault (faults.HashDiffers i) = Some (HashDiffers i)
+told_by_fault (faults.Roa i fault) = Some (BadRoa i (fault_of fault))
+told_by_fault faults.Memory = None
+
+-- the judgement that an answer tells
+abbrev pub told_by : Result Offered PointFault → Option Judgement
+told_by (Ok offered.New) = Some New
+told_by (Ok offered.Same) = Some Same
+told_by (Err fault) = told_by_fault fault

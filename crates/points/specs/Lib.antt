@@ -1,0 +1,5 @@
+pub mod Files
+pub mod Accepted
+pub mod Offers
+pub mod Answers
+pub mod Laws

@@ -1,0 +1,133 @@
+-- Which offers to a publication point are acceptable, and how each is judged (RFC 9286, sections 4.2.1 and 6).
+use Rattle.std.specs.Prelude.{◌≡◌, ◌≢◌, ◌⊎◌, ℕ, suc, ◌<◌, Bool, true, false, not, nat_le, bytes_eq, if◌then◌else◌, List, [], ◌∷◌, ◌++◌, Option, Some, None, IsTrue, ⊤}
+use Rattle.std.specs.List.{All, AllPairs, Contains}
+use Rattle.sha2.specs.Sha256.{sha256}
+use Rattle.der_lite.specs.Place.{Fault}
+use Rattle.der_lite.specs.Der.{number}
+use Rattle.der_lite.specs.Moments.{CivilMoment, moment_before}
+use Rattle.payloads.specs.Manifest.{ListedFile, ManifestValue, ManifestSpells, ManifestFaultAt}
+use Rattle.payloads.specs.RoaValues.{RoaValue, RoaSpells, RoaFaultAt}
+use Rattle.points.specs.declared.file.FileIn.{FileIn}
+use Rattle.points.specs.Files.{is_roa_name, is_named, file_named, has_hash}
+use Rattle.points.specs.Accepted.{Accepted}
+
+-- ---- what is acceptable
+
+-- 4.2.1: the number and thisUpdate are above the accepted ones
+abbrev pub IsAbove : Option Accepted → ManifestValue → Type 0
+IsAbove None m = ⊤
+IsAbove (Some last) m =
+    (number last.manifest.number < number m.number) × IsTrue (moment_before last.manifest.this_update m.this_update)
+
+-- no two files share a name
+abbrev pub ShareNoName : List FileIn → Type 0
+ShareNoName files = AllPairs (λ file other. file.name.now ≢ other.name.now) files
+
+-- 6.4 and 6.5: the listed name has a file with the hash that is listed, and the content of a ROA is spelled
+pub record Serves (files : List FileIn) (listed : ListedFile) : Type 0 where
+  pub file : FileIn
+  pub among : Contains files file
+  pub named : file.name.now ≡ listed.name
+  pub hashed : sha256 file.object.now ≡ listed.hash
+  pub spelled : IsTrue (is_roa_name listed.name) → (roa : RoaValue) × RoaSpells roa file.content.now
+
+-- The manifest is spelled and current (6.3), above the accepted one, and each file that it lists is there.
+pub record Acceptable (before : Option Accepted) (bytes : List ℕ) (files : List FileIn) (now : CivilMoment) : Type 0 where
+  pub manifest : ManifestValue
+  pub spelled : ManifestSpells manifest bytes
+  pub begun : moment_before now manifest.this_update ≡ false
+  pub current : moment_before manifest.next_update now ≡ false
+  pub above : IsAbove before manifest
+  pub apart : ShareNoName files
+  pub served : All (Serves files) manifest.files
+
+-- ---- how an offer is judged
+
+-- New, Same, or what is wrong; of a file its index; of a manifest or a ROA its first fault
+pub data Judgement : Type 0 where
+  New : Judgement
+  Same : Judgement
+  BadManifest : (fault : Fault) → Judgement
+  NotYet : Judgement
+  Stale : Judgement
+  OldNumber : Judgement
+  OldTime : Judgement
+  FileTwice : (i : ℕ) → Judgement
+  Missing : (i : ℕ) → Judgement
+  HashDiffers : (i : ℕ) → Judgement
+  BadRoa : (i : ℕ) → (fault : Fault) → Judgement
+
+-- tests are judged in order: the first that holds decides
+abbrev pub first_that_holds : List (Judgement × Bool) → Option Judgement
+first_that_holds [] = None
+first_that_holds ((judgement, holds) ∷ later) = if holds then Some judgement else first_that_holds later
+
+-- the bytes are those that were accepted last
+abbrev pub is_same : Option Accepted → List ℕ → Bool
+is_same None bytes = false
+is_same (Some last) bytes = bytes_eq last.bytes bytes
+
+-- the number is not higher than the accepted one
+abbrev pub is_old_number : Option Accepted → ManifestValue → Bool
+is_old_number None m = false
+is_old_number (Some last) m = nat_le (number m.number) (number last.manifest.number)
+
+-- thisUpdate is not later than the accepted one
+abbrev pub is_old_time : Option Accepted → ManifestValue → Bool
+is_old_time None m = false
+is_old_time (Some last) m = not (moment_before last.manifest.this_update m.this_update)
+
+-- of the manifest and of what was accepted last
+abbrev pub manifest_tests : Option Accepted → ManifestValue → List ℕ → CivilMoment → List (Judgement × Bool)
+manifest_tests before m bytes now =
+    (NotYet, moment_before now m.this_update)
+    ∷ (Stale, moment_before m.next_update now)
+    ∷ (Same, is_same before bytes)
+    ∷ (OldNumber, is_old_number before m)
+    ∷ (OldTime, is_old_time before m)
+    ∷ []
+
+-- file i has the name of an earlier one, from i on
+abbrev pub twice_tests : ℕ → List FileIn → List FileIn → List (Judgement × Bool)
+twice_tests i earlier [] = []
+twice_tests i earlier (file ∷ files) = (FileTwice i, is_named file.name.now earlier) ∷ twice_tests (suc i) (earlier ++ file ∷ []) files
+
+-- all that is judged before the files that are listed
+unfoldable pub tests : Option Accepted → ManifestValue → List ℕ → List FileIn → CivilMoment → List (Judgement × Bool)
+tests before m bytes files now = manifest_tests before m bytes now ++ twice_tests 0 [] files
+
+-- what the tests decide, or else what is later
+abbrev pub Decided : Option Judgement → Judgement → Type 0 → Type 0
+Decided (Some first) judgement Later = judgement ≡ first
+Decided None judgement Later = Later
+
+-- the content of listed file i, which is a ROA or not: its first fault, or else what is later
+abbrev pub AtContent : ℕ → Bool → List ℕ → Judgement → Type 0 → Type 0
+AtContent i false content judgement Later = Later
+AtContent i true content judgement Later =
+    ((fault : Fault) × RoaFaultAt content fault.offset fault.number × (judgement ≡ BadRoa i fault))
+    ⊎ (((roa : RoaValue) × RoaSpells roa content) × Later)
+
+-- the hash of listed file i, which is the object's or not
+abbrev pub AtHash : ℕ → Bool → Judgement → Type 0 → Type 0
+AtHash i false judgement Later = judgement ≡ HashDiffers i
+AtHash i true judgement Later = Later
+
+-- listed file i, with the file of its name, if there is one
+abbrev pub AtFile : ℕ → ListedFile → Option FileIn → Judgement → Type 0 → Type 0
+AtFile i listed None judgement Later = judgement ≡ Missing i
+AtFile i listed (Some file) judgement Later =
+    AtHash i (has_hash listed file) judgement (AtContent i (is_roa_name listed.name) file.content.now judgement Later)
+
+-- the listed files, from i on: the first at which something is wrong, or New
+abbrev pub FromFile : ℕ → List ListedFile → List FileIn → Judgement → Type 0
+FromFile i [] files judgement = judgement ≡ New
+FromFile i (listed ∷ others) files judgement =
+    AtFile i listed (file_named listed.name files) judgement (FromFile (suc i) others files judgement)
+
+-- The manifest is not spelled; or else the first test that holds decides, and where none does, the listed files.
+unfoldable pub Judged : Option Accepted → List ℕ → List FileIn → CivilMoment → Judgement → Type 0
+Judged before bytes files now judgement =
+    ((fault : Fault) × ManifestFaultAt bytes fault.offset fault.number × (judgement ≡ BadManifest fault))
+    ⊎ ((m : ManifestValue) × ManifestSpells m bytes
+    × Decided (first_that_holds (tests before m bytes files now)) judgement (FromFile 0 m.files files judgement))

@@ -1,0 +1,86 @@
+//! What an offer is answered.
+
+ghost use Rattle.std.specs.Prelude.{◌≡◌};
+
+use payloads::GrammarFault;
+use std::alloc::AllocError;
+
+/// What became of an offer that is not refused.
+#[derive(Clone, Copy, Debug, PartialEq, Eq)]
+pub enum Offered {
+    /// It was accepted, and the point holds it now.
+    New,
+    /// It is what the point holds.
+    Same,
+}
+
+/// Why an offer is refused. Each has a fixed number. An index counts from 0: that of a file handed
+/// in at `FileTwice`, and that of a listed file at `Missing`, `HashDiffers` and `Roa`.
+#[derive(Clone, Copy, Debug, PartialEq, Eq)]
+pub enum PointFault {
+    /// 1: the manifest's bytes spell none: their first fault (RFC 9286 section 4.2).
+    Manifest(GrammarFault),
+    /// 2: the moment is before thisUpdate (RFC 9286 section 6.3).
+    NotYet,
+    /// 3: the moment is after nextUpdate (RFC 9286 section 6.3).
+    Stale,
+    /// 4: the number is not higher than that of the manifest accepted last (RFC 9286 section 4.2.1).
+    OldNumber,
+    /// 5: thisUpdate is not later than that of the manifest accepted last (RFC 9286 section 4.2.1).
+    OldTime,
+    /// 6: the file handed in has the name of an earlier one.
+    FileTwice(usize),
+    /// 7: no file of the listed name was handed in (RFC 9286 section 6.4).
+    Missing(usize),
+    /// 8: the object of the listed name has another SHA-256 (RFC 9286 section 6.5).
+    HashDiffers(usize),
+    /// 9: the content of the listed name spells no ROA: its first fault (RFC 9582 section 4).
+    Roa(usize, GrammarFault),
+    /// 10: want of memory.
+    Memory,
+}
+
+impl PointFault {
+    ghost use Rattle.points.specs.Answers.{fault_number, fault_index};
+
+    /// The number by which the fault is printed, 1 to 10.
+    pub fn number(&self) -> u8
+        ensures { result ≡ fault_number self.now }
+    {
+        match self {
+            PointFault::Manifest(_) => 1,
+            PointFault::NotYet => 2,
+            PointFault::Stale => 3,
+            PointFault::OldNumber => 4,
+            PointFault::OldTime => 5,
+            PointFault::FileTwice(_) => 6,
+            PointFault::Missing(_) => 7,
+            PointFault::HashDiffers(_) => 8,
+            PointFault::Roa(_, _) => 9,
+            PointFault::Memory => 10,
+        }
+    }
+
+    /// The index of the file that is meant, where one is.
+    pub fn index(&self) -> Option<usize>
+        ensures { result ≡ fault_index self.now }
+    {
+        match self {
+            PointFault::FileTwice(index)
+            | PointFault::Missing(index)
+            | PointFault::HashDiffers(index)
+            | PointFault::Roa(index, _) => Some(*index),
+            _ => None,
+        }
+    }
+}
+
+impl From<AllocError> for PointFault {
+    ghost use Rattle.points.specs.declared.fault.PointFault.TheVariants.{Memory};
+
+    ghost from_gives = { λ _ fault. fault ≡ Memory };
+
+    fn from(_error: AllocError) -> PointFault {
+        PointFault::Memory
+    }
+}

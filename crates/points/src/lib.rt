@@ -1,0 +1,12 @@
+//! Publication points of the RPKI: what an operator's validator hands in is taken whole or not at all.
+//!
+//! A [`Point`] accepts a manifest with the files that it lists (RFC 9286 section 6); a [`Repository`] has
+//! a point for each name, and lists the payloads that are in use.
+#![tactic(auto)]
+
+mod fault;
+mod file;
+pub mod laws;
+
+pub use fault::{Offered, PointFault};
+pub use file::FileIn;
