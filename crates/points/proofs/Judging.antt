@@ -1,21 +1,20 @@
 -- An offer is judged New exactly where it is acceptable.
-use Rattle.std.proofs.Common.{◌≡◌, ◌≢◌, ◌⊎◌, ◌↔◌, ℕ, zero, suc, ◌+◌, ◌<◌, ◌≤◌, Bool, true, false, not, ◌||◌, leb, get_or, bytes_eq, List, [], ◌∷◌, ◌++◌, length, Option, Some, None, refl, sym, ap, subst, ◌∙◌, inl, inr, arith}
-use Rattle.std.specs.List.{All, AllPairs, Contains}
+use Rattle.std.proofs.Common.{◌≡◌, ◌≢◌, ℕ, suc, Bool, true, false, not, leb, get_or, bytes_eq, List, [], ◌∷◌, ◌++◌, Option, Some, None, refl, sym, ap, subst, ◌∙◌, inl, inr, arith}
+use Rattle.std.specs.List.{All, Contains}
 use Rattle.std.proofs.lemmas.Bool.{or_parts, or_from, leb-false, leb-true, false_from_ne_true}
 use Rattle.std.proofs.lemmas.Slice.Eq.{bytes_eq-Decides}
 use Rattle.std.proofs.lemmas.List.Elements.{All-nil, All-cons, All-head, All-tail, All-weaker, All-contains}
 use Rattle.std.proofs.lemmas.List.Kept.{AllPairs-cons}
 use Rattle.sha2.specs.Sha256.{sha256}
-use Rattle.der_lite.specs.Place.{Fault}
 use Rattle.der_lite.specs.Der.{number}
 use Rattle.der_lite.specs.Moments.{CivilMoment, moment_before}
 use Rattle.payloads.specs.Manifest.{ListedFile, ManifestValue, ManifestSpells}
 use Rattle.payloads.specs.RoaValues.{RoaValue, RoaSpells}
 use Rattle.payloads.proofs.ManifestLaws.{manifest_spellings}
 use Rattle.points.specs.declared.file.FileIn.{FileIn}
-use Rattle.points.specs.Files.{is_roa_name, is_named, file_named, has_hash, has_name}
+use Rattle.points.specs.Files.{is_roa_name, is_named, file_named, has_hash}
 use Rattle.points.specs.Accepted.{Accepted, IsPoint}
-use Rattle.points.specs.Offers.{IsAbove, ShareNoName, Serves, Acceptable, Judgement, New, Same, BadManifest, NotYet, Stale, OldNumber, OldTime, FileTwice, Missing, first_that_holds, is_same, is_old_number, is_old_time, manifest_tests, twice_tests, tests, Decided, AtContent, AtHash, AtFile, FromFile, Judged}
+use Rattle.points.specs.Offers.{IsAbove, ShareNoName, Serves, Acceptable, Judgement, New, Same, NotYet, Stale, OldNumber, OldTime, FileTwice, first_that_holds, is_same, is_old_number, is_old_time, twice_tests, tests, Decided, AtContent, AtHash, AtFile, FromFile, Judged}
 use Rattle.points.specs.Laws.{NewWhereAcceptable}
 use Rattle.points.proofs.Named.{differs, not_equal, contains_cases, named_more, found}
 

@@ -1,14 +1,11 @@
 -- No offer has two judgements.
-use Rattle.std.proofs.Common.{◌≡◌, ℕ, suc, Bool, true, false, List, [], ◌∷◌, Option, Some, None, refl, sym, ap, subst, ◌∙◌, inl, inr}
+use Rattle.std.proofs.Common.{◌≡◌, ℕ, suc, Bool, true, false, List, [], ◌∷◌, Option, Some, None, sym, ap, subst, ◌∙◌, inl, inr}
 use Rattle.der_lite.specs.Place.{Fault}
-use Rattle.der_lite.specs.Moments.{CivilMoment}
-use Rattle.payloads.specs.Manifest.{ListedFile, ManifestValue, ManifestSpells, ManifestFaultAt}
-use Rattle.payloads.specs.RoaValues.{RoaValue, RoaSpells, RoaFaultAt}
+use Rattle.payloads.specs.Manifest.{ListedFile, ManifestValue}
 use Rattle.payloads.proofs.RoaLaws.{roa_faults}
 use Rattle.payloads.proofs.ManifestLaws.{manifest_faults, manifest_spellings}
 use Rattle.points.specs.declared.file.FileIn.{FileIn}
 use Rattle.points.specs.Files.{is_roa_name, file_named, has_hash}
-use Rattle.points.specs.Accepted.{Accepted}
 use Rattle.points.specs.Offers.{Judgement, BadManifest, BadRoa, first_that_holds, tests, Decided, AtContent, AtHash, AtFile, FromFile, Judged}
 use Rattle.points.specs.Laws.{OneJudgement}
 

@@ -1,5 +1,5 @@
 -- What an offer is answered.
-use Rattle.std.specs.Prelude.{ℕ, Option, Some, None, Result, Ok, Err, ⊤}
+use Rattle.std.specs.Prelude.{ℕ, Option, Some, None, Result, Ok, Err}
 use Rattle.payloads.specs.Faults.{fault_of}
 use Rattle.points.specs.Offers.{Judgement, New, Same, BadManifest, NotYet, Stale, OldNumber, OldTime, FileTwice, Missing, HashDiffers, BadRoa}
 use Rattle.points.specs.declared.fault.Offered.{Offered}

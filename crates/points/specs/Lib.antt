@@ -2,4 +2,6 @@ pub mod Files
 pub mod Accepted
 pub mod Offers
 pub mod Answers
+pub mod Finding
+pub mod Numbers
 pub mod Laws

@@ -6,7 +6,10 @@
 
 mod fault;
 mod file;
+mod finding;
 pub mod laws;
+mod numbers;
+mod objects;
 
 pub use fault::{Offered, PointFault};
 pub use file::FileIn;
