@@ -1,5 +1,8 @@
 pub mod Named
 pub mod Maps
 pub mod Orders
-pub mod Judging
-pub mod OneJudged
+pub mod Taking
+pub mod Deciding
+pub mod Exactly
+pub mod NewLaw
+pub mod OneLaw

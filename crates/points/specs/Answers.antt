@@ -1,7 +1,9 @@
 -- What an offer is answered.
-use Rattle.std.specs.Prelude.{ℕ, Option, Some, None, Result, Ok, Err}
+use Rattle.std.specs.Prelude.{◌≡◌, ℕ, List, Option, Some, None, Result, Ok, Err, ⊤}
 use Rattle.payloads.specs.Faults.{fault_of}
 use Rattle.points.specs.Offers.{Judgement, New, Same, BadManifest, NotYet, Stale, OldNumber, OldTime, FileTwice, Missing, HashDiffers, BadRoa}
+use Rattle.points.specs.declared.file.FileIn.{FileIn}
+use Rattle.points.specs.Accepted.{Accepted, Holds}
 use Rattle.points.specs.declared.fault.Offered.{Offered}
 use Rattle.points.specs.declared.fault.Offered.TheVariants as offered
 use Rattle.points.specs.declared.fault.PointFault.{PointFault}
@@ -46,3 +48,15 @@ abbrev pub told_by : Result Offered PointFault → Option Judgement
 told_by (Ok offered.New) = Some New
 told_by (Ok offered.Same) = Some Same
 told_by (Err fault) = told_by_fault fault
+
+-- Want of memory aside, the answer is New exactly where this holds.
+abbrev pub NewExactly : Result Offered PointFault → Type 0 → Type 0
+NewExactly (Ok offered.New) Fact = Fact
+NewExactly (Ok offered.Same) Fact = ¬ Fact
+NewExactly (Err faults.Memory) Fact = ⊤
+NewExactly (Err fault) Fact = ¬ Fact
+
+-- After New the point holds what was offered; after all other answers it holds what it held.
+abbrev pub Becomes : Result Offered PointFault → Option Accepted → Option Accepted → List ℕ → List FileIn → Type 0
+Becomes (Ok offered.New) old new bytes files = (last : Accepted) × (new ≡ Some last) × Holds bytes files last
+Becomes answer old new bytes files = new ≡ old

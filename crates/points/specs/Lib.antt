@@ -4,4 +4,5 @@ pub mod Offers
 pub mod Answers
 pub mod Finding
 pub mod Numbers
+pub mod Steps
 pub mod Laws

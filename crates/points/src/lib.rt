@@ -4,12 +4,16 @@
 //! a point for each name, and lists the payloads that are in use.
 #![tactic(auto)]
 
+mod accepted;
 mod fault;
 mod file;
 mod finding;
+mod judging;
 pub mod laws;
 mod numbers;
 mod objects;
+mod point;
 
 pub use fault::{Offered, PointFault};
 pub use file::FileIn;
+pub use point::Point;

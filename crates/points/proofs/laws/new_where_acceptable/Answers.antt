@@ -1,4 +1,4 @@
-use Rattle.points.proofs.Judging.{new_law}
+use Rattle.points.proofs.NewLaw.{new_law}
 use Rattle.points.proofs.laws.new_where_acceptable.Goals as goal
 
 pub returns : goal.returns

@@ -1,4 +1,4 @@
-use Rattle.points.proofs.OneJudged.{one_judged}
+use Rattle.points.proofs.OneLaw.{one_judged}
 use Rattle.points.proofs.laws.one_judgement.Goals as goal
 
 pub returns : goal.returns

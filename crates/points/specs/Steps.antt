@@ -1,0 +1,51 @@
+-- What the steps of judging give.
+use Rattle.std.specs.Prelude.{◌≡◌, ℕ, suc, Bool, true, false, List, ◌∷◌, Option, Some, None, Result, Ok, Err, IfSome, MatchOption}
+use Rattle.std.specs.List.{AllZip}
+use Rattle.der_lite.specs.Place.{Fault}
+use Rattle.der_lite.specs.Moments.{CivilMoment}
+use Rattle.payloads.specs.Manifest.{ListedFile, ManifestValue, ManifestSpells, ManifestFaultAt}
+use Rattle.payloads.specs.RoaValues.{RoaValue, RoaSpells, RoaFaultAt}
+use Rattle.points.specs.declared.file.FileIn.{FileIn}
+use Rattle.points.specs.declared.fault.PointFault.{PointFault}
+use Rattle.points.specs.Files.{is_roa_name}
+use Rattle.points.specs.Accepted.{Accepted, IsRoaOf, Holds, listed_roas}
+use Rattle.points.specs.Offers.{Judgement, New, Same, BadManifest, BadRoa, FromFile, Judged}
+use Rattle.points.specs.Answers.{told_by_fault}
+
+-- a fault that tells a judgement tells one of which this holds
+abbrev pub Tells : PointFault → (Judgement → Type 0) → Type 0
+Tells fault Holds = IfSome (told_by_fault fault) Holds
+
+-- The manifest that the bytes spell; or their first fault; or memory was wanting.
+abbrev pub ReadsManifest : Result ManifestValue PointFault → List ℕ → Type 0
+ReadsManifest (Ok manifest) bytes = ManifestSpells manifest bytes
+ReadsManifest (Err fault) bytes = Tells fault (λ judgement. (first : Fault) × ManifestFaultAt bytes first.offset first.number × (judgement ≡ BadManifest first))
+
+-- The ROA that the content spells; or its first fault, at this index; or memory was wanting.
+abbrev pub ReadsRoa : Result RoaValue PointFault → ℕ → List ℕ → Type 0
+ReadsRoa (Ok roa) i content = RoaSpells roa content
+ReadsRoa (Err fault) i content = Tells fault (λ judgement. (first : Fault) × RoaFaultAt content first.offset first.number × (judgement ≡ BadRoa i first))
+
+-- the judgement that an answer tells on whether the bytes are those accepted last
+abbrev pub told_of : Result Bool PointFault → Option Judgement
+told_of (Ok true) = Some Same
+told_of (Ok false) = None
+told_of (Err fault) = told_by_fault fault
+
+-- Nothing is wrong with listed file i, and this is its ROA if it is one; or what is wrong with it decides.
+abbrev pub TakesFile : Result (Option RoaValue) PointFault → ℕ → ListedFile → List FileIn → Type 0
+TakesFile (Ok roa) i listed files =
+    ((others : List ListedFile) (judgement : Judgement) → FromFile (suc i) others files judgement → FromFile i (listed ∷ others) files judgement)
+    × MatchOption roa (is_roa_name listed.name ≡ false) (λ r. (is_roa_name listed.name ≡ true) × IsRoaOf files listed r)
+TakesFile (Err fault) i listed files = Tells fault (λ judgement. (others : List ListedFile) → FromFile i (listed ∷ others) files judgement)
+
+-- Nothing is wrong with the listed files, and these are their ROAs; or what is wrong with the first of them decides.
+abbrev pub TakesFiles : {R : Type 0} → (R → List RoaValue) → Result R PointFault → List ListedFile → List FileIn → Type 0
+TakesFiles roas (Ok taken) listed files = FromFile 0 listed files New × AllZip (IsRoaOf files) (listed_roas listed) (roas taken)
+TakesFiles roas (Err fault) listed files = Tells fault (FromFile 0 listed files)
+
+-- This is what the point holds from now on; or what was accepted last; or a fault decides.
+abbrev pub Takes : Result (Option Accepted) PointFault → Option Accepted → List ℕ → List FileIn → CivilMoment → Type 0
+Takes (Ok (Some last)) before bytes files now = Judged before bytes files now New × Holds bytes files last
+Takes (Ok None) before bytes files now = Judged before bytes files now Same
+Takes (Err fault) before bytes files now = Tells fault (Judged before bytes files now)
