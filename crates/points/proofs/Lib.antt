@@ -4,5 +4,7 @@ pub mod Orders
 pub mod Taking
 pub mod Deciding
 pub mod Exactly
+pub mod Repositories
+pub mod Using
 pub mod NewLaw
 pub mod OneLaw

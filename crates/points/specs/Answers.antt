@@ -1,9 +1,10 @@
 -- What an offer is answered.
-use Rattle.std.specs.Prelude.{◌≡◌, ℕ, List, Option, Some, None, Result, Ok, Err, ⊤}
+use Rattle.std.specs.Prelude.{◌≡◌, ◌≢◌, ℕ, List, Option, Some, None, Result, Ok, Err, ⊤}
 use Rattle.payloads.specs.Faults.{fault_of}
 use Rattle.points.specs.Offers.{Judgement, New, Same, BadManifest, NotYet, Stale, OldNumber, OldTime, FileTwice, Missing, HashDiffers, BadRoa}
 use Rattle.points.specs.declared.file.FileIn.{FileIn}
 use Rattle.points.specs.Accepted.{Accepted, Holds}
+use Rattle.points.specs.InUse.{Points, accepted_at}
 use Rattle.points.specs.declared.fault.Offered.{Offered}
 use Rattle.points.specs.declared.fault.Offered.TheVariants as offered
 use Rattle.points.specs.declared.fault.PointFault.{PointFault}
@@ -60,3 +61,10 @@ NewExactly (Err fault) Fact = ¬ Fact
 abbrev pub Becomes : Result Offered PointFault → Option Accepted → Option Accepted → List ℕ → List FileIn → Type 0
 Becomes (Ok offered.New) old new bytes files = (last : Accepted) × (new ≡ Some last) × Holds bytes files last
 Becomes answer old new bytes files = new ≡ old
+
+-- The same for the point of a name; what the points of other names hold never changes.
+abbrev pub BecomesAt : Result Offered PointFault → List ℕ → Points → Points → List ℕ → List FileIn → Type 0
+BecomesAt (Ok offered.New) name old new bytes files =
+    ((last : Accepted) × (accepted_at new name ≡ Some last) × Holds bytes files last)
+    × ((other : List ℕ) → other ≢ name → accepted_at new other ≡ accepted_at old other)
+BecomesAt answer name old new bytes files = new ≡ old

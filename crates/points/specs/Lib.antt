@@ -1,6 +1,8 @@
 pub mod Files
 pub mod Accepted
 pub mod Offers
+pub mod InUse
+pub mod Codes
 pub mod Answers
 pub mod Finding
 pub mod Numbers

@@ -88,7 +88,7 @@ fn is_accepted(
 
 /// Whether the first moment is before the second.
 #[tactic(auto, unfolding(der_lite::specs::Moments::moment_before))]
-fn is_before(one: &Moment, other: &Moment) -> bool
+pub(crate) fn is_before(one: &Moment, other: &Moment) -> bool
     ensures { result ≡ moment_before one.now other.now }
 {
     one < other

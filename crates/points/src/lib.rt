@@ -13,7 +13,9 @@ pub mod laws;
 mod numbers;
 mod objects;
 mod point;
+mod repository;
 
 pub use fault::{Offered, PointFault};
 pub use file::FileIn;
 pub use point::Point;
+pub use repository::Repository;
