@@ -6,5 +6,6 @@ pub mod Deciding
 pub mod Exactly
 pub mod Repositories
 pub mod Using
+pub mod PointRows
 pub mod NewLaw
 pub mod OneLaw

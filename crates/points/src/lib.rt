@@ -14,6 +14,8 @@ mod numbers;
 mod objects;
 mod point;
 mod repository;
+#[cfg(test)]
+mod tests;
 
 pub use fault::{Offered, PointFault};
 pub use file::FileIn;

@@ -12,7 +12,7 @@ returns c = λ files are.
     let file = c.in-Some.file.now in
     let named : file_named listed.name files ≡ Some file =
     ap (λ (n : List ℕ). file_named n files) (sym c.name.ensures) ∙ sym (c.named.ensures files are) ∙ ap (λ (r : Option (Bor FileIn)). option_map (λ (f : Bor FileIn). f.now) r) c.in-Some.is in
-    let hashed : has_hash listed file ≡ true = ap (λ (h : List ℕ). bytes_eq (sha256 file.object.now) h) (sym c.hash.ensures) ∙ sym c.if-not-has_hash.ensures in
+    let hashed : has_hash listed file ≡ true = ap (λ (h : List ℕ). bytes_eq (sha256 file.object.now) h) (sym c.hash.ensures.value) ∙ sym c.if-not-has_hash.ensures in
     let ends : is_roa_name listed.name ≡ true = ap (λ (n : List ℕ). is_roa_name n) (sym c.name-2.ensures) ∙ sym c.if-not-is_roa_name.ensures in
     let roa = c.in_ok-roa.roa in
     (goes_on c.args.index listed files file named hashed ends roa c.in_ok-roa.ensures, (ends, is_roa c.args.index listed files file named hashed ends roa c.in_ok-roa.ensures))
@@ -24,6 +24,6 @@ returns-in_err-roa c = λ files are.
     let file = c.in-Some.file.now in
     let named : file_named listed.name files ≡ Some file =
     ap (λ (n : List ℕ). file_named n files) (sym c.name.ensures) ∙ sym (c.named.ensures files are) ∙ ap (λ (r : Option (Bor FileIn)). option_map (λ (f : Bor FileIn). f.now) r) c.in-Some.is in
-    let hashed : has_hash listed file ≡ true = ap (λ (h : List ℕ). bytes_eq (sha256 file.object.now) h) (sym c.hash.ensures) ∙ sym c.if-not-has_hash.ensures in
+    let hashed : has_hash listed file ≡ true = ap (λ (h : List ℕ). bytes_eq (sha256 file.object.now) h) (sym c.hash.ensures.value) ∙ sym c.if-not-has_hash.ensures in
     let ends : is_roa_name listed.name ≡ true = ap (λ (n : List ℕ). is_roa_name n) (sym c.name-2.ensures) ∙ sym c.if-not-is_roa_name.ensures in
     rw (p.1, p.2) (stops c.args.index listed files file named hashed ends c.in_err-roa.field-0.0 c.in_err-roa.ensures)
