@@ -6,3 +6,4 @@ pub mod Reading
 pub mod RouteWords
 pub mod RoaLines
 pub mod ManifestLines
+pub mod OfferLines

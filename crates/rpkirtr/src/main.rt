@@ -2,8 +2,10 @@
 #![tactic(auto)]
 
 pub mod answering;
+pub mod directories;
 pub mod listing;
 pub mod manifests;
+pub mod offering;
 pub mod roas;
 pub mod routing;
 pub mod runner;

@@ -3,13 +3,17 @@ ghost use Rattle.std.specs.Prelude.{◌≡◌, ◌≤◌, ◌⊎◌, codes, IfOk
 ghost use Rattle.std.specs.Io.KnownBytes.{Appends};
 
 use crate::answering::{Answered, Published, answer_queries};
-use crate::listing::{ListFault, read_list};
+use crate::directories::read_directories;
+use crate::listing::{ListFault, read_list, write_list};
 use crate::manifests::print_manifest;
+use crate::offering::{offer_directory, tell_answer};
 use crate::roas::print_roa;
 use crate::routing::{print_state, read_route};
 use crate::words::{Order, read_words};
+use der_lite::Moment;
 use hex::FromHexError;
 use payloads::{PayloadFault, decode_manifest, decode_roa};
+use points::Repository;
 use std::alloc::AllocError;
 use std::io::{BufWriter, ErrorKind, Write};
 use std::net::Net;
@@ -71,7 +75,7 @@ fn tell<E: Write>(fault: ProgramFault, err: &mut E) {
 
 /// Does all that the program does for these words, and answers its status: 0 done, 1 refused input, 2 the words do not parse,
 /// 3 a file, a socket or an output failed, 4 want of memory.
-pub fn run_words<R: Files + Net + AllocGlobal, O: Write, E: Write>(
+pub fn run_words<R: Files + Net + AllocGlobal + Clone + Drop, O: Write, E: Write>(
     rt: &R,
     words: &[String],
     out: &mut O,
@@ -79,7 +83,7 @@ pub fn run_words<R: Files + Net + AllocGlobal, O: Write, E: Write>(
 ) -> u8
     ensures { result ≤ 4 }
 {
-    match run(rt, words, out) {
+    match run(rt, words, out, err) {
         Ok(status) => status,
         Err(ProgramFault::Words) => bad_words(err),
         Err(ProgramFault::Memory) => out_of_memory(err),
@@ -90,16 +94,20 @@ pub fn run_words<R: Files + Net + AllocGlobal, O: Write, E: Write>(
     }
 }
 
-fn run<R: Files + Net + AllocGlobal, O: Write>(
+fn run<R: Files + Net + AllocGlobal + Clone + Drop, O: Write, E: Write>(
     rt: &R,
     words: &[String],
     out: &mut O,
+    err: &mut E,
 ) -> Result<u8, ProgramFault>
     ensures { IfOk result (λ s. s ≤ 1) }
 {
     match read_words(rt.alloc(), words)? {
         Order::Roa { file } => roa(rt, file, out),
         Order::Manifest { file } => manifest(rt, file, out),
+        Order::Payloads { now, directories } => {
+            payloads(rt, now, directories.as_slice(), out, err)
+        }
         Order::Answer {
             session,
             serial,
@@ -152,6 +160,36 @@ fn manifest<R: Files + AllocGlobal, O: Write>(
         }
         Err(fault) => refuse_payload(fault, out),
     }
+}
+
+/// The command `payloads`: the payloads in use at a moment, after each directory was offered to the
+/// point of its name. All files are read before anything is told.
+fn payloads<R: Files + AllocGlobal + Clone + Drop, O: Write, E: Write>(
+    rt: &R,
+    now: &str,
+    names: &[&str],
+    out: &mut O,
+    err: &mut E,
+) -> Result<u8, ProgramFault>
+    ensures { IfOk result (λ s. s ≤ 1) }
+{
+    let Some(now) = Moment::parse(now) else {
+        return refuse("word", out);
+    };
+    let directories = read_directories(rt, names)?;
+    let mut repository = Repository::new(rt.alloc());
+    let mut status = 0u8;
+    for directory in directories.iter() {
+        let answer = offer_directory(rt.alloc(), &mut repository, directory, &now)?;
+        tell_answer(directory.name(), &answer, err)?;
+        if answer.is_err() {
+            status = 1;
+        }
+    }
+    let vrps = repository.payloads(now)?;
+    let text = write_list(rt.alloc(), vrps.as_slice())?;
+    writeln!(out, "{text}")?;
+    Ok(status)
 }
 
 /// Tells the first fault of a payload, with the status.
@@ -254,7 +292,7 @@ fn read_set<R: Files + AllocGlobal>(rt: &R, file: &str) -> Result<Option<VrpSet>
 }
 
 /// The bytes of a file.
-fn read_file<R: Files + AllocGlobal>(rt: &R, file: &str) -> io::Result<Vec<u8>> {
+pub(crate) fn read_file<R: Files + AllocGlobal>(rt: &R, file: &str) -> io::Result<Vec<u8>> {
     let mut opened = fs::open(rt, file)?;
     let mut bytes = Vec::new(rt.alloc());
     io::Read::read_to_end(&mut opened, &mut bytes)?;

@@ -22,7 +22,7 @@ fn words_of(alloc: Global, text: &str) -> Result<Vec<String>, AllocError> {
 }
 
 /// Runs words and compares what they give.
-fn expect<R: Files + Net + AllocGlobal + Abort>(
+fn expect<R: Files + Net + AllocGlobal + Clone + Drop + Abort>(
     rt: &R,
     text: &str,
     status: u8,
@@ -166,7 +166,8 @@ fn tells_manifests(rt: HostRuntime) -> Result<(), Fail> {
     let whole =
         b"\x30\x5e\x02\x01\x01\x18\x0f\x32\x30\x32\x35\x30\x31\x30\x31\x30\x30\x30\x30\x30\x30\x5a\x18\x0f\x32\x30\x32\x35\x30\x31\x30\x32\x30\x30\x30\x30\x30\x30\x5a\x06\x09\x60\x86\x48\x01\x65\x03\x04\x02\x01\x30\x2c\x30\x2a\x16\x05\x61\x2e\x63\x72\x6c\x03\x21\x00\xba\x78\x16\xbf\x8f\x01\xcf\xea\x41\x41\x40\xde\x5d\xae\x22\x23\xb0\x03\x61\xa3\x96\x17\x7a\x9c\xb4\x10\xff\x61\xf2\x00\x15\xad";
     fs::write(&rt, "whole.der", whole.as_slice())?;
-    let lines = "number 01\nthis 20250101000000Z\nnext 20250102000000Z\nba7816bf8f01cfea414140de5dae2223b00361a396177a9cb410ff61f20015ad a.crl\n";
+    let lines =
+        "number 01\nthis 20250101000000Z\nnext 20250102000000Z\nba7816bf8f01cfea414140de5dae2223b00361a396177a9cb410ff61f20015ad a.crl\n";
     expect(&rt, "manifest whole.der", 0, lines, "")?;
     let mut equal_times = *whole;
     equal_times[31] = b'1';
@@ -176,6 +177,59 @@ fn tells_manifests(rt: HostRuntime) -> Result<(), Fail> {
     expect(&rt, "manifest empty.der", 1, "refused 1 at 0\n", "")?;
     expect(&rt, "manifest gone.der", 3, "", "rpkirtr: device failed\n")?;
     expect(&rt, "manifest", 2, "", "rpkirtr: bad words\n")
+}
+
+/// AS64496 and 192.0.2.0/24.
+const ONE_PREFIX: &[u8; 25] =
+    b"\x30\x17\x02\x03\x00\xfb\xf0\x30\x10\x30\x0e\x04\x02\x00\x01\x30\x08\x30\x06\x03\x04\x00\xc0\x00\x02";
+
+/// Number 1, from 2025-01-01 to 2025-01-02, of the one file `a.roa`, whose object is that ROA.
+const OF_ROA: &[u8; 96] =
+    b"\x30\x5e\x02\x01\x01\x18\x0f\x32\x30\x32\x35\x30\x31\x30\x31\x30\x30\x30\x30\x30\x30\x5a\x18\x0f\x32\x30\x32\x35\x30\x31\x30\x32\x30\x30\x30\x30\x30\x30\x5a\x06\x09\x60\x86\x48\x01\x65\x03\x04\x02\x01\x30\x2c\x30\x2a\x16\x05\x61\x2e\x72\x6f\x61\x03\x21\x00\xda\x32\xbf\xbe\x0d\x8e\xea\x0f\x5d\x3b\x56\x02\x3c\x55\xd1\xc2\x3a\xa9\x1d\xf5\x02\x33\xf8\x9c\x32\x50\x86\xb2\xb2\x06\xd5\xa2";
+
+/// That ROA with a version.
+const WITH_VERSION: &[u8; 30] =
+    b"\x30\x1c\xa0\x03\x02\x01\x00\x02\x03\x00\xfb\xf0\x30\x10\x30\x0e\x04\x02\x00\x01\x30\x08\x30\x06\x03\x04\x00\xc0\x00\x02";
+
+/// Number 2, from noon of 2025-01-01 to 2025-01-03, of the one file `a.roa`, whose object is the one
+/// with a version.
+const OF_VERSION: &[u8; 96] =
+    b"\x30\x5e\x02\x01\x02\x18\x0f\x32\x30\x32\x35\x30\x31\x30\x31\x31\x32\x30\x30\x30\x30\x5a\x18\x0f\x32\x30\x32\x35\x30\x31\x30\x33\x30\x30\x30\x30\x30\x30\x5a\x06\x09\x60\x86\x48\x01\x65\x03\x04\x02\x01\x30\x2c\x30\x2a\x16\x05\x61\x2e\x72\x6f\x61\x03\x21\x00\x9f\x55\x22\x2e\xd8\x34\x96\x05\x1a\xc4\xe6\x10\x6e\x82\xb4\x4f\xdf\xbb\x6d\x5a\x95\x90\x34\x27\xbb\x3a\x7c\x2a\xc6\x32\xb6\xaa";
+
+#[test]
+fn tells_payloads(rt: HostRuntime) -> Result<(), Fail> {
+    for directory in [
+        "one", "one/objects", "one/contents", "two", "two/objects", "two/contents", "bare",
+    ] {
+        fs::create_dir(&rt, directory)?;
+    }
+    fs::write(&rt, "one/manifest.der", OF_ROA.as_slice())?;
+    fs::write(&rt, "one/objects/a.roa", ONE_PREFIX.as_slice())?;
+    fs::write(&rt, "one/contents/a.roa", ONE_PREFIX.as_slice())?;
+    fs::write(&rt, "one/objects/other.txt", b"not listed".as_slice())?;
+    fs::write(&rt, "two/manifest.der", OF_VERSION.as_slice())?;
+    fs::write(&rt, "two/objects/a.roa", WITH_VERSION.as_slice())?;
+    fs::write(&rt, "two/contents/a.roa", WITH_VERSION.as_slice())?;
+    let v = "[{\"asn\":64496,\"maxLength\":24,\"prefix\":\"192.0.2.0/24\"}]\n";
+    for (words, status, output, errors) in [
+        ("payloads --now 20250101000000Z one", 0u8, v, "one new\n"),
+        ("payloads --now 20250102000000Z one one", 0, v, "one new\none same\n"),
+        ("payloads one two --now 20250101120000Z", 1, v, "one new\ntwo refused 9 0\n"),
+        ("payloads --now 20250101120000Z two", 1, "[]\n", "two refused 9 0\n"),
+        ("payloads --now 20250102000001Z one", 1, "[]\n", "one refused 3\n"),
+        ("payloads --now 20241231235959Z one", 1, "[]\n", "one refused 2\n"),
+        ("payloads --now 20251301000000Z gone", 1, "refused word\n", ""),
+        ("payloads --now 20250101000000Z one gone", 3, "", "rpkirtr: device failed\n"),
+        ("payloads --now 20250101000000Z bare", 3, "", "rpkirtr: device failed\n"),
+        ("payloads --now 20250101000000Z", 2, "", "rpkirtr: bad words\n"),
+        ("payloads one", 2, "", "rpkirtr: bad words\n"),
+    ] {
+        expect(&rt, words, status, output, errors)?;
+    }
+    fs::remove_file(&rt, "one/contents/a.roa")?;
+    expect(&rt, "payloads --now 20250101000000Z one", 1, "[]\n", "one refused 9 0\n")?;
+    fs::remove_file(&rt, "one/objects/a.roa")?;
+    expect(&rt, "payloads --now 20250101000000Z one", 1, "[]\n", "one refused 7 0\n")
 }
 
 #[test]

@@ -4,33 +4,45 @@ use clap::error::ErrorKind;
 use clap::{Arg, ArgAction, ArgMatches, Command, Error};
 use std::alloc::{AllocError, Global};
 
-/// A command: its name, its options, which take one value each, and its other words.
+/// A command: its name, its options, which take one value each, its other words, and words that come
+/// once or more.
 struct Form {
     name: &'static str,
     options: &'static [&'static str],
     words: &'static [&'static str],
+    lists: &'static [&'static str],
 }
 
-static FORMS: [Form; 4] = [
+static FORMS: [Form; 5] = [
     Form {
         name: "roa",
         options: &[],
         words: &["FILE"],
+        lists: &[],
     },
     Form {
         name: "manifest",
         options: &[],
         words: &["FILE"],
+        lists: &[],
+    },
+    Form {
+        name: "payloads",
+        options: &["now"],
+        words: &[],
+        lists: &["DIR"],
     },
     Form {
         name: "answer",
         options: &["session", "serial", "vrps"],
         words: &["HEX"],
+        lists: &[],
     },
     Form {
         name: "route",
         options: &["vrps"],
         words: &["PREFIX", "ORIGIN"],
+        lists: &[],
     },
 ];
 
@@ -45,6 +57,10 @@ fn subcommand<'a>(alloc: Global, form: &Form) -> Result<Command<'a>, AllocError>
     }
     for name in form.words {
         command = command.arg(word(alloc, name))?;
+    }
+    for name in form.lists {
+        let words = word(alloc, name).num_args(1..).action(ArgAction::Append);
+        command = command.arg(words)?;
     }
     Ok(command)
 }
@@ -64,7 +80,7 @@ pub fn command_line<'a>(alloc: Global) -> Result<Command<'a>, AllocError> {
 }
 
 /// What the words ask for.
-#[derive(Clone, Copy)]
+#[derive(Drop)]
 pub enum Order<'a> {
     /// What the payload of a ROA in FILE says.
     Roa {
@@ -73,6 +89,11 @@ pub enum Order<'a> {
     /// What the payload of a manifest in FILE says.
     Manifest {
         file: &'a str,
+    },
+    /// The payloads in use at the moment `now`, after the directories were offered to their points.
+    Payloads {
+        now: &'a str,
+        directories: Vec<&'a str>,
     },
     /// The answers of a cache to the bytes that HEX spells.
     Answer {
@@ -135,6 +156,19 @@ fn manifest_order<'a>(found: &ArgMatches<'a>) -> Result<Order<'a>, ProgramFault>
     })
 }
 
+fn payloads_order<'a>(alloc: Global, found: &ArgMatches<'a>) -> Result<Order<'a>, ProgramFault> {
+    let mut directories = Vec::new(alloc);
+    for &directory in found.get_strs("DIR").ok_or(ProgramFault::Words)? {
+        if directories.push(directory).is_err() {
+            return Err(ProgramFault::Memory);
+        }
+    }
+    Ok(Order::Payloads {
+        now: value(found, "now")?,
+        directories,
+    })
+}
+
 fn answer_order<'a>(found: &ArgMatches<'a>) -> Result<Order<'a>, ProgramFault> {
     Ok(Order::Answer {
         session: number_16(found, "session")?,
@@ -159,6 +193,7 @@ pub fn read_words(alloc: Global, words: &[String]) -> Result<Order<'_>, ProgramF
     match matches.subcommand() {
         Some(("roa", found)) => roa_order(found),
         Some(("manifest", found)) => manifest_order(found),
+        Some(("payloads", found)) => payloads_order(alloc, found),
         Some(("answer", found)) => answer_order(found),
         Some(("route", found)) => route_order(found),
         _ => Err(ProgramFault::Words),

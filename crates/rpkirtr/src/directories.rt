@@ -1,0 +1,122 @@
+//! Directories that hold what is offered to a publication point.
+use crate::runner::read_file;
+use points::FileIn;
+use std::alloc::{AllocError, Global};
+use std::io::ErrorKind;
+use std::rt::Files;
+use std::{fs, io};
+
+/// A file as it was read.
+#[derive(Drop)]
+struct Fetched {
+    name: String,
+    object: Vec<u8>,
+    content: Vec<u8>,
+}
+
+/// What a directory holds: a manifest, and files, sorted by their names.
+#[derive(Drop)]
+pub struct Directory<'a> {
+    name: &'a str,
+    manifest: Vec<u8>,
+    files: Vec<Fetched>,
+}
+
+impl<'a> Directory<'a> {
+    /// The name by which it was read.
+    pub fn name(&self) -> &str {
+        self.name
+    }
+
+    /// The content of the manifest.
+    pub fn manifest(&self) -> &[u8] {
+        &self.manifest
+    }
+
+    /// The files, as they are handed in.
+    pub fn files(&self, alloc: Global) -> Result<Vec<FileIn<'_>>, AllocError> {
+        let mut files = Vec::with_capacity(alloc, self.files.len())?;
+        for file in self.files.iter() {
+            files.push(FileIn {
+                name: file.name.as_str(),
+                object: file.object.as_slice(),
+                content: file.content.as_slice(),
+            })?;
+        }
+        Ok(files)
+    }
+}
+
+/// Reads directories, in their order.
+pub fn read_directories<'a, R: Files + AllocGlobal + Clone + Drop>(
+    rt: &R,
+    names: &[&'a str],
+) -> io::Result<Vec<Directory<'a>>> {
+    let mut directories = Vec::new(rt.alloc());
+    for &name in names {
+        directories.push(read_directory(rt, name)?)?;
+    }
+    Ok(directories)
+}
+
+/// Reads `manifest.der`, and each file of `objects` with the file of the same name in `contents`, or
+/// with empty content where there is none.
+fn read_directory<'a, R: Files + AllocGlobal + Clone + Drop>(
+    rt: &R,
+    name: &'a str,
+) -> io::Result<Directory<'a>> {
+    let alloc = rt.alloc();
+    let manifest = read_file(rt, path_in(alloc, name, "manifest.der")?.as_str())?;
+    let objects = path_in(alloc, name, "objects")?;
+    let contents = path_in(alloc, name, "contents")?;
+    let mut files = Vec::new(alloc);
+    for file in names_in(rt, objects.as_str())? {
+        let object = read_file(
+            rt,
+            path_in(alloc, objects.as_str(), file.as_str())?.as_str(),
+        )?;
+        let content = read_or_empty(
+            rt,
+            path_in(alloc, contents.as_str(), file.as_str())?.as_str(),
+        )?;
+        files.push(Fetched {
+            name: file,
+            object,
+            content,
+        })?;
+    }
+    Ok(Directory {
+        name,
+        manifest,
+        files,
+    })
+}
+
+/// The path of a file in a directory.
+fn path_in(alloc: Global, directory: &str, name: &str) -> Result<String, AllocError> {
+    let mut path = String::from_str(alloc, directory)?;
+    path.push('/')?;
+    path.push_str(name)?;
+    Ok(path)
+}
+
+/// The names of what a directory holds, sorted.
+fn names_in<R: Files + AllocGlobal + Clone + Drop>(
+    rt: &R,
+    directory: &str,
+) -> io::Result<Vec<String>> {
+    let mut names = Vec::new(rt.alloc());
+    for entry in fs::read_dir(rt, directory)? {
+        names.push(String::from_str(rt.alloc(), entry?.file_name())?)?;
+    }
+    names.sort_unstable();
+    Ok(names)
+}
+
+/// The bytes of a file, none where there is no such file.
+fn read_or_empty<R: Files + AllocGlobal>(rt: &R, file: &str) -> io::Result<Vec<u8>> {
+    match read_file(rt, file) {
+        Err(error) if error.kind() == ErrorKind::NotFound => Ok(Vec::new(rt.alloc())),
+        read => read,
+    }
+}
