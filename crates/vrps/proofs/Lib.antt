@@ -7,4 +7,5 @@ pub mod SerialRows
 pub mod SetLaws
 pub mod Sorting
 pub mod StateLaws
+pub mod VersionLaws
 pub mod Walks

@@ -4,5 +4,6 @@ pub mod Instance
 pub mod Origin
 pub mod Path
 pub mod Serial
+pub mod Store
 pub mod VrpSet
 pub mod Walk

@@ -1,6 +1,7 @@
 //! Laws of the definitions. These functions do nothing: their contracts are the laws.
 ghost use Rattle.vrps.specs.Change.{ChangeLeads, ChangesMerge};
 ghost use Rattle.vrps.specs.Origin.{CoveringMembers, OneState, StateByCovering, StateByMembers};
+ghost use Rattle.vrps.specs.Store.{IsBeforeNewer, KeptIsItself, NamesItself, PublishedIsInstance, SameExactly};
 ghost use Rattle.vrps.specs.VrpSet.{ListedAgain, SameMembers};
 
 /// A set that is listed and read again is the same set.
@@ -42,4 +43,22 @@ pub fn covering_members()
 /// A route is Valid exactly where one of the members that cover it matches, and NotFound exactly where there are none.
 pub fn state_by_covering()
     ensures { StateByCovering }
+{}
+
+/// Two sets list the same members exactly where they are one.
+pub fn same_exactly()
+    ensures { SameExactly }
+{}
+
+/// An instance stays one when a set is published.
+pub fn published_is_instance()
+    ensures { PublishedIsInstance }
+{}
+
+/// While fewer than 2^31 versions are newer, the serial of a version names it, what is kept under it is it or nothing, and it is
+/// before those of newer versions (RFC 1982 section 3.2; RFC 8210 section 2).
+pub fn serials_name_versions()
+    ensures names { NamesItself }
+    ensures kept { KeptIsItself }
+    ensures before { IsBeforeNewer }
 {}

@@ -1,0 +1,5 @@
+use Rattle.vrps.proofs.VersionLaws.{published_is_instance}
+use Rattle.vrps.proofs.laws.published_is_instance.Goals as goal
+
+pub returns : goal.returns
+returns c = published_is_instance

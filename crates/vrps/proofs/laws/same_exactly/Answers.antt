@@ -1,0 +1,5 @@
+use Rattle.vrps.proofs.VersionLaws.{same_exactly}
+use Rattle.vrps.proofs.laws.same_exactly.Goals as goal
+
+pub returns : goal.returns
+returns c = same_exactly
