@@ -1,5 +1,6 @@
 pub mod BodyLaws
 pub mod JudgeLaws
+pub mod JudgingLaws
 pub mod ModeLaws
 pub mod ReadLaws
 pub mod ReadingRows

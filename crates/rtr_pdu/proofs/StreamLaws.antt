@@ -13,7 +13,8 @@ use Rattle.rtr_pdu.specs.Unit.{Ignored, zeros, IsUnit, spelled, prefix_bytes, Re
 use Rattle.rtr_pdu.proofs.JudgeLaws.{none_some, false_true}
 use Rattle.rtr_pdu.proofs.ModeLaws.{length-as_read, as_read-append}
 use Rattle.rtr_pdu.specs.Stream.{as_read, is_notify, any_after, AreRead, type_of, length_of, header_fault, IsPartial, IsWhole, IsRecord, IsReport, Shows, SameSplit, OneSplit, WrittenIsRead, NoBeginning}
-use Rattle.rtr_pdu.proofs.UnitLaws.{unit_in, unit_in-spelled, opens, is_report, back}
+use Rattle.rtr_pdu.specs.Judging.{unit_in}
+use Rattle.rtr_pdu.proofs.UnitLaws.{unit_in-spelled, opens, is_report, back}
 
 -- The body of a unit has no fault.
 record IsSound (bytes : List ℕ) : Type 0 where
@@ -78,7 +79,7 @@ module _ (version : ℕ) where
   kinds bytes faults.TooLong h = inl h
 
   -- Bytes that begin with a unit show no fault, and are no beginning of one.
-  not_shown : (u : Unit) (z : Ignored) (rest : List ℕ) → IsUnit u → (fault : UnitFault) → Shows version (spelled version u z ++ rest) fault → ⊥
+  pub not_shown : (u : Unit) (z : Ignored) (rest : List ℕ) → IsUnit u → (fault : UnitFault) → Shows version (spelled version u z ++ rest) fault → ⊥
   not_shown u z rest fits fault h =
       elim (kinds (spelled version u z ++ rest) fault h) [
         | inl head ↦ none_some _ fault (opens version u z rest fits).fault head

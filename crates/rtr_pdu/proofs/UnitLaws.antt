@@ -1,11 +1,12 @@
 -- No bytes are read as two units, and no unit's bytes begin another's.
-use Rattle.std.specs.Prelude.{◌≡◌, ℕ, ◌+◌, ◌-◌, ◌*◌, ◌%◌, ◌<◌, ◌≤◌, ◌^◌, Bool, true, false, ◌==◌, List, [], ◌++◌, length, take, drop, slice_index, Some, None, if◌then◌else◌, refl, not, ◌||◌, nat_lt, nat_le}
+use Rattle.std.specs.Prelude.{◌≡◌, ℕ, ◌+◌, ◌-◌, ◌*◌, ◌%◌, ◌<◌, ◌≤◌, ◌^◌, Bool, true, false, ◌==◌, List, [], ◌++◌, length, take, drop, Some, None, if◌then◌else◌, refl, not, ◌||◌, nat_lt, nat_le}
 use Rattle.std.proofs.Common.{sym, ap, ◌∙◌, subst, arith, append_assoc}
 use Rattle.std.proofs.Math.Seq.{take-append_seam, drop-append_seam, drop-append-add}
 use Rattle.byteorder.specs.Endian.{big_bytes, big_number}
 use Rattle.byteorder.specs.Numbers.{big_number-reads_back}
 use Rattle.prefixes.specs.Payload.{Payload, IsPayload}
 use Rattle.prefixes.specs.declared.prefix.IpPrefix.TheVariants.{V4, V6}
+use Rattle.rtr_pdu.specs.Judging.{unit_in}
 use Rattle.rtr_pdu.specs.Payloads.{Report}
 use Rattle.rtr_pdu.specs.Reading.{number_at, is_odd}
 use Rattle.rtr_pdu.proofs.ModeLaws.{not_short}
@@ -17,37 +18,6 @@ use Rattle.rtr_pdu.specs.declared.unit.UnitFault.TheVariants as faults
 use Rattle.std.specs.Str.{IsUtf8}
 use Rattle.std.proofs.lemmas.List.{append-nil, length-append}
 use Rattle.std.proofs.lemmas.Bool.Decides.{nat_tests}
-
--- What bytes are read as, by their type: a front of them, if they begin with a unit
-abbrev pub unit_in : List ℕ → Unit
-unit_in bytes =
-    if type_of bytes == 0 then SerialNotify (number_at 2 2 bytes) (number_at 4 8 bytes)
-    else if type_of bytes == 1 then SerialQuery (number_at 2 2 bytes) (number_at 4 8 bytes)
-    else if type_of bytes == 2 then ResetQuery
-    else if type_of bytes == 3 then CacheResponse (number_at 2 2 bytes)
-    else if type_of bytes == 4 then Prefix (is_odd (slice_index bytes 8)) (record {
-      prefix = V4 (record { addr = number_at 4 12 bytes; len = slice_index bytes 9 });
-      max_len = slice_index bytes 10;
-      asn = number_at 4 16 bytes;
-    })
-    else if type_of bytes == 6 then Prefix (is_odd (slice_index bytes 8)) (record {
-      prefix = V6 (record { addr = number_at 16 12 bytes; len = slice_index bytes 9 });
-      max_len = slice_index bytes 10;
-      asn = number_at 4 28 bytes;
-    })
-    else if type_of bytes == 7 then EndOfData (number_at 2 2 bytes) (number_at 4 8 bytes) (number_at 4 12 bytes) (number_at 4 16 bytes) (number_at 4 20 bytes)
-    else if type_of bytes == 8 then CacheReset
-    else if type_of bytes == 9 then RouterKey (record {
-      announce = is_odd (slice_index bytes 2);
-      identifier = take 20 (drop 8 bytes);
-      asn = number_at 4 28 bytes;
-      info = take (length_of bytes - 32) (drop 32 bytes);
-    })
-    else ErrorReport (record {
-      code = number_at 2 2 bytes;
-      copy = take (number_at 4 8 bytes) (drop 12 bytes);
-      text = take (number_at 4 (12 + number_at 4 8 bytes) bytes) (drop (16 + number_at 4 8 bytes) bytes);
-    })
 
 -- a number, back from its bytes
 pub back : (n x : ℕ) → x < 256 ^ n → big_number n (big_bytes n x) ≡ x

@@ -1,4 +1,5 @@
 pub mod Fault
+pub mod Judging
 pub mod Payloads
 pub mod Reader
 pub mod Reading

@@ -1,4 +1,5 @@
 //! Laws of the definitions. These functions do nothing: their contracts are the laws.
+ghost use Rattle.rtr_pdu.specs.Judging.{BeginsExactly, FaultyExactly, WholeExactly};
 ghost use Rattle.rtr_pdu.specs.Stream.{EachSplits, NoBeginning, OneSplit, WrittenIsRead};
 
 /// A stream is split into units in one way, at the cache and at a router, for each version.
@@ -19,4 +20,12 @@ pub fn written_is_read()
 /// No unit's bytes begin another's of the same version.
 pub fn no_beginning()
     ensures { NoBeginning }
+{}
+
+/// Bytes are judged the beginning of a unit, a fault, or a unit exactly where they are one: a unit where they are bytes of the
+/// length that their header tells.
+pub fn judges_exactly()
+    ensures begins { BeginsExactly }
+    ensures faulty { FaultyExactly }
+    ensures whole { WholeExactly }
 {}

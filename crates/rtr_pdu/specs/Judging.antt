@@ -1,0 +1,95 @@
+-- What bytes are, byte by byte: the beginning of a unit, a unit, or a fault (RFC 8210 sections 5 and 12).
+use Rattle.std.specs.Prelude.{◌≡◌, ◌↔◌, ℕ, ◌+◌, ◌-◌, ◌/◌, ◌%◌, ◌^◌, ◌<◌, Bool, not, ◌&&◌, ◌==◌, nat_lt, nat_le, List, length, take, drop, slice_index, Option, Some, None, if◌then◌else◌}
+use Rattle.std.specs.Str.{is_utf8}
+use Rattle.byteorder.specs.Endian.{big_number}
+use Rattle.rtr_pdu.specs.declared.unit.Unit.{Unit}
+use Rattle.rtr_pdu.specs.declared.unit.Unit.TheVariants.{SerialNotify, SerialQuery, ResetQuery, CacheResponse, Prefix, EndOfData, CacheReset, RouterKey, ErrorReport}
+use Rattle.rtr_pdu.specs.declared.unit.UnitFault.{UnitFault}
+use Rattle.rtr_pdu.specs.declared.unit.UnitFault.TheVariants as faults
+use Rattle.rtr_pdu.specs.Payloads.{AreBytes}
+use Rattle.rtr_pdu.specs.Reading.{number_at, is_odd, v4_in, v6_in}
+use Rattle.rtr_pdu.specs.Stream.{as_read, type_of, length_of, header_fault, IsPartial, Shows}
+use Rattle.rtr_pdu.specs.Unit.{Reads}
+
+-- What bytes are read as, by their type: a front of them, if they begin with a unit
+abbrev pub unit_in : List ℕ → Unit
+unit_in bytes =
+    if type_of bytes == 0 then SerialNotify (number_at 2 2 bytes) (number_at 4 8 bytes)
+    else if type_of bytes == 1 then SerialQuery (number_at 2 2 bytes) (number_at 4 8 bytes)
+    else if type_of bytes == 2 then ResetQuery
+    else if type_of bytes == 3 then CacheResponse (number_at 2 2 bytes)
+    else if type_of bytes == 4 then Prefix (is_odd (slice_index bytes 8)) (v4_in bytes)
+    else if type_of bytes == 6 then Prefix (is_odd (slice_index bytes 8)) (v6_in bytes)
+    else if type_of bytes == 7 then EndOfData (number_at 2 2 bytes) (number_at 4 8 bytes) (number_at 4 12 bytes) (number_at 4 16 bytes) (number_at 4 20 bytes)
+    else if type_of bytes == 8 then CacheReset
+    else if type_of bytes == 9 then RouterKey (record {
+      announce = is_odd (slice_index bytes 2);
+      identifier = take 20 (drop 8 bytes);
+      asn = number_at 4 28 bytes;
+      info = take (length_of bytes - 32) (drop 32 bytes);
+    })
+    else ErrorReport (record {
+      code = number_at 2 2 bytes;
+      copy = take (number_at 4 8 bytes) (drop 12 bytes);
+      text = take (number_at 4 (12 + number_at 4 8 bytes) bytes) (drop (16 + number_at 4 8 bytes) bytes);
+    })
+
+-- `IsRecord` as a test
+abbrev pub has_record : ℕ → List ℕ → Bool
+has_record width bytes =
+    nat_le (slice_index bytes 9) (slice_index bytes 10)
+    && (nat_le (slice_index bytes 10) width && big_number (width / 8) (drop 12 bytes) % 2 ^ (width - slice_index bytes 9) == 0)
+
+-- `IsReport` as a test
+abbrev pub has_report : List ℕ → Bool
+has_report bytes =
+    let copy = number_at 4 8 bytes in
+    let text = number_at 4 (12 + copy) bytes in
+    16 + copy + text == length_of bytes && is_utf8 (take text (drop (16 + copy) bytes))
+
+-- The fault of a whole unit, behind a header without a fault
+abbrev pub body_fault : List ℕ → Option UnitFault
+body_fault bytes =
+    if type_of bytes == 4 && not (has_record 32 bytes) then Some faults.Record
+    else if type_of bytes == 6 && not (has_record 128 bytes) then Some faults.Record
+    else if type_of bytes == 10 && not (has_report bytes) then Some faults.ErrorReport
+    else None
+
+-- Bytes of a stream, from the beginning of a unit on, are the beginning of a unit in which no fault shows yet, or begin with a
+-- unit, or show a fault.
+pub data Judgement : Type 0 where
+  Begins : Judgement
+  Whole : Unit → Judgement
+  Faulty : UnitFault → Judgement
+
+abbrev pub by_body : List ℕ → Option UnitFault → Judgement
+by_body bytes None = Whole (unit_in bytes)
+by_body bytes (Some fault) = Faulty fault
+
+abbrev pub by_header : List ℕ → Option UnitFault → Judgement
+by_header bytes (Some fault) = Faulty fault
+by_header bytes None =
+    if nat_lt (length bytes) 8 then Begins
+    else if nat_lt (length bytes) (length_of bytes) then Begins
+    else by_body bytes (body_fault bytes)
+
+-- What bytes are where units of this version are expected, at a cache and at a router (any)
+unfoldable pub judge : ℕ → Bool → List ℕ → Judgement
+judge version any bytes = let seen = as_read version any bytes in by_header seen (header_fault version seen)
+
+-- They are judged the beginning of a unit exactly where they are one.
+abbrev pub BeginsExactly : Type 0
+BeginsExactly = (version : ℕ) (any : Bool) (bytes : List ℕ) → (judge version any bytes ≡ Begins) ↔ IsPartial version (as_read version any bytes)
+
+-- They are judged to show a fault exactly where it shows.
+abbrev pub FaultyExactly : Type 0
+FaultyExactly =
+    (version : ℕ) (any : Bool) (bytes : List ℕ) (fault : UnitFault) →
+    (judge version any bytes ≡ Faulty fault) ↔ Shows version (as_read version any bytes) fault
+
+-- Bytes of the length that their header tells are judged a unit exactly where they are it.
+abbrev pub WholeExactly : Type 0
+WholeExactly =
+    (version : ℕ) (any : Bool) (bytes : List ℕ) (u : Unit) → version < 256 → AreBytes bytes →
+    length bytes ≡ length_of (as_read version any bytes) →
+    (judge version any bytes ≡ Whole u) ↔ Reads version u (as_read version any bytes)
