@@ -1,3 +1,6 @@
 pub mod CommitLaws
+pub mod FeedingLaws
 pub mod HistoryLaws
+pub mod RouterRows
 pub mod Rows
+pub mod TakenLaws

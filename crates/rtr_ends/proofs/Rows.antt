@@ -43,25 +43,25 @@ both_ascend : IsStrictlySortedBy vrp_cmp (v ∷ w ∷ [])
 unfolding IsStrictlySortedBy
 both_ascend = ((refl, tt), (tt, tt))
 
-abbrev reset_bytes : List ℕ
+abbrev pub reset_bytes : List ℕ
 reset_bytes = 0x01 ∷ 0x02 ∷ 0 ∷ 0 ∷ 0 ∷ 0 ∷ 0 ∷ 0x08 ∷ []
 
-abbrev serial_bytes : List ℕ
+abbrev pub serial_bytes : List ℕ
 serial_bytes = 0x01 ∷ 0x01 ∷ 0x12 ∷ 0x34 ∷ 0 ∷ 0 ∷ 0 ∷ 0x0c ∷ 0 ∷ 0 ∷ 0 ∷ 0x05 ∷ []
 
-abbrev response_bytes : List ℕ
+abbrev pub response_bytes : List ℕ
 response_bytes = 0x01 ∷ 0x03 ∷ 0x12 ∷ 0x34 ∷ 0 ∷ 0 ∷ 0 ∷ 0x08 ∷ []
 
-abbrev v_bytes : List ℕ
+abbrev pub v_bytes : List ℕ
 v_bytes = 0x01 ∷ 0x04 ∷ 0 ∷ 0 ∷ 0 ∷ 0 ∷ 0 ∷ 0x14 ∷ 0x01 ∷ 0x18 ∷ 0x18 ∷ 0 ∷ 0xc0 ∷ 0 ∷ 0x02 ∷ 0 ∷ 0 ∷ 0 ∷ 0xfb ∷ 0xf0 ∷ []
 
-abbrev w_bytes : List ℕ
+abbrev pub w_bytes : List ℕ
 w_bytes = 0x01 ∷ 0x04 ∷ 0 ∷ 0 ∷ 0 ∷ 0 ∷ 0 ∷ 0x14 ∷ 0x01 ∷ 0x18 ∷ 0x18 ∷ 0 ∷ 0xc6 ∷ 0x33 ∷ 0x64 ∷ 0 ∷ 0 ∷ 0 ∷ 0xfb ∷ 0xf1 ∷ []
 
-abbrev end_bytes : ℕ → List ℕ
+abbrev pub end_bytes : ℕ → List ℕ
 end_bytes serial = 0x01 ∷ 0x07 ∷ 0x12 ∷ 0x34 ∷ 0 ∷ 0 ∷ 0 ∷ 0x18 ∷ 0 ∷ 0 ∷ 0 ∷ serial ∷ 0 ∷ 0 ∷ 0x0e ∷ 0x10 ∷ 0 ∷ 0 ∷ 0x02 ∷ 0x58 ∷ 0 ∷ 0 ∷ 0x1c ∷ 0x20 ∷ []
 
-abbrev no_data_bytes : List ℕ
+abbrev pub no_data_bytes : List ℕ
 no_data_bytes = 0x01 ∷ 0x0a ∷ 0 ∷ 0x02 ∷ 0 ∷ 0 ∷ 0 ∷ 0x18 ∷ 0 ∷ 0 ∷ 0 ∷ 0x08 ∷ reset_bytes ++ 0 ∷ 0 ∷ 0 ∷ 0 ∷ []
 
 reset_query : sent ResetQuery ≡ reset_bytes

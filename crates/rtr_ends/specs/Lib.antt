@@ -1,5 +1,9 @@
 pub mod Answer
+pub mod Cache
 pub mod Commit
 pub mod Connection
 pub mod Cursor
+pub mod Feeding
+pub mod Router
 pub mod Timing
+pub mod Transcript

@@ -1,6 +1,8 @@
 //! Laws of the definitions. These functions do nothing: their contracts are the laws.
+ghost use Rattle.rtr_ends.specs.Cache.{ConnStops, ConnTakes};
 ghost use Rattle.rtr_ends.specs.Commit.{ChangeCommits, OneCommit};
 ghost use Rattle.rtr_ends.specs.Connection.{HistorySplits, PulledAreReplies};
+ghost use Rattle.rtr_ends.specs.Router.{RouterStops, RouterTakes};
 
 /// The change between two sets, listed, commits from the first to the second.
 pub fn change_commits()
@@ -20,4 +22,18 @@ pub fn pulled_are_replies()
 /// The units of a connection's history are those by which the stream of its bytes is split.
 pub fn history_splits()
     ensures { HistorySplits }
+{}
+
+/// What a connection of a cache consumes of a piece is the shortest beginning of it at which bytes become due or the connection ends,
+/// else all of it; nothing where bytes are due or the connection has ended; and it stops only where a unit ends or a fault shows.
+pub fn connection_takes()
+    ensures taken { ConnTakes }
+    ensures stops { ConnStops }
+{}
+
+/// What a router consumes of a piece is the shortest beginning of it at which bytes become due or the link ends, else all of it;
+/// nothing where bytes are due or no link is open; and it stops only where a unit ends or a fault shows.
+pub fn router_takes()
+    ensures taken { RouterTakes }
+    ensures stops { RouterStops }
 {}

@@ -3,7 +3,9 @@
 
 mod cursor;
 pub mod laws;
+mod link;
 mod timing;
 
 pub use cursor::WholeAnswer;
+pub use link::End;
 pub use timing::{Timing, TimingFault};

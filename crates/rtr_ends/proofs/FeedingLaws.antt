@@ -1,0 +1,58 @@
+-- What a machine takes of a piece.
+use Rattle.std.specs.Prelude.{◌≡◌, ℕ, ◌<◌, Bool, true, false, List, [], ◌∷◌, ◌++◌, length, refl}
+use Rattle.std.proofs.Common.{sym, ap, ◌∙◌, subst, arith}
+use Rattle.rtr_ends.specs.Feeding.{Fed, feed, run, IsTaken, Takes}
+
+-- a list of no element has no part
+no_part : {X : Type 0} (front back : List X) → [] ≡ front ++ back → 0 < length back → ⊥
+no_part [] [] e some = absurd (omega (arith, some))
+no_part [] (x ∷ back) e some = cc
+no_part (x ∷ front) back e some = cc
+
+head_of : {X : Type 0} (x y : X) (xs ys : List X) → x ∷ xs ≡ y ∷ ys → x ≡ y
+head_of x y xs ys e = cc
+
+tail_of : {X : Type 0} (x y : X) (xs ys : List X) → x ∷ xs ≡ y ∷ ys → xs ≡ ys
+tail_of x y xs ys e = cc
+
+module _ {M : Type 0} (stops : M → Bool) (step : M → ℕ → M) where
+  pub run-append : (m : M) (xs ys : List ℕ) → run stops step m (xs ++ ys) ≡ run stops step (run stops step m xs) ys
+  run-append m [] ys = refl
+  run-append m (x ∷ xs) ys = run-append (step m x) xs ys
+
+  -- the next byte is handed in or left
+  abbrev by_stop : M → ℕ → List ℕ → Bool → Fed M
+  by_stop m b bytes s = elim s [ true ↦ record { machine = m; rest = b ∷ bytes } | false ↦ feed stops step (step m b) bytes ]
+
+  -- it is left where the machine stops
+  stopped : (m : M) (b : ℕ) (bytes : List ℕ) → stops m ≡ true → feed stops step m (b ∷ bytes) ≡ record { machine = m; rest = b ∷ bytes }
+  stopped m b bytes h = ap (by_stop m b bytes) h
+
+  goes_on : (m : M) (b : ℕ) (bytes : List ℕ) → stops m ≡ false → feed stops step m (b ∷ bytes) ≡ feed stops step (step m b) bytes
+  goes_on m b bytes h = ap (by_stop m b bytes) h
+
+  takes_none : (m : M) (piece : List ℕ) → (0 < length piece → stops m ≡ true) → IsTaken stops step m piece [] (record { machine = m; rest = piece })
+  takes_none m piece h = record { piece_is = refl; machine_is = refl; shortest = λ front back e some. absurd (no_part front back e some); all_or = h }
+
+  takes_more : (m : M) (b : ℕ) (bytes taken : List ℕ) (f : Fed M) → stops m ≡ false → IsTaken stops step (step m b) bytes taken f → IsTaken stops step m (b ∷ bytes) (b ∷ taken) f
+  takes_more m b bytes taken f h t = record {
+    piece_is = ap (λ x. b ∷ x) t.piece_is;
+    machine_is = t.machine_is;
+    shortest = λ front back e some. short front back e some;
+    all_or = t.all_or;
+  }
+    where
+      short : (front back : List ℕ) → b ∷ taken ≡ front ++ back → 0 < length back → stops (run stops step m front) ≡ false
+      short [] back e some = h
+      short (x ∷ front) back e some =
+          subst (λ y. stops (run stops step (step m y) front) ≡ false) (head_of b x taken (front ++ back) e) (t.shortest front back (tail_of b x taken (front ++ back) e) some)
+
+  takes_by : (m : M) (b : ℕ) (bytes : List ℕ) (s : Bool) → stops m ≡ s → Takes stops step (step m b) bytes → Takes stops step m (b ∷ bytes)
+  takes_by m b bytes true h t = ([], subst (λ f. IsTaken stops step m (b ∷ bytes) [] f) (sym (stopped m b bytes h)) (takes_none m (b ∷ bytes) (λ some. h)))
+  takes_by m b bytes false h t =
+      (b ∷ t.0, subst (λ f. IsTaken stops step m (b ∷ bytes) (b ∷ t.0) f) (sym (goes_on m b bytes h)) (takes_more m b bytes t.0 (feed stops step (step m b) bytes) h t.1))
+
+  -- What is fed is taken.
+  pub feed_takes : (m : M) (piece : List ℕ) → Takes stops step m piece
+  feed_takes m [] = ([], takes_none m [] (λ some. absurd (omega (arith, some))))
+  feed_takes m (b ∷ bytes) = takes_by m b bytes (stops m) refl (feed_takes (step m b) bytes)

@@ -1,0 +1,144 @@
+-- A connection at the cache as a machine, byte by byte (RFC 8210 sections 5, 8 and 12).
+use Rattle.std.specs.Prelude.{◌≡◌, ℕ, zero, suc, ◌-◌, Bool, true, false, not, ◌&&◌, ◌||◌, List, [], ◌∷◌, ◌++◌, length, take, min, Option, Some, None, if◌then◌else◌, ⊤}
+use Rattle.vrps.specs.Instance.{Instance}
+use Rattle.vrps.specs.Store.{published}
+use Rattle.vrps.specs.VrpSet.{VrpSet, IsVrpSet}
+use Rattle.rtr_pdu.specs.Judging.{Judgement, Begins, Whole, Faulty, judge}
+use Rattle.rtr_pdu.specs.Payloads.{AreBytes}
+use Rattle.rtr_ends.specs.Connection.{Connection, Moment, Read, Wanting, Fault, Notify, Pull, opened, after, is_published, takes_memory}
+use Rattle.rtr_ends.specs.Feeding.{Fed, feed, IsTaken}
+use Rattle.rtr_ends.specs.Timing.{Intervals}
+
+-- The connection between two moments, and what has come of a unit
+pub record Conn : Type 0 where
+  pub state : Connection
+  pub held : List ℕ
+
+abbrev pub new_conn : Instance → Conn
+new_conn i = record { state = opened i; held = [] }
+
+abbrev pub is_none : List ℕ → Bool
+is_none [] = true
+is_none (b ∷ bytes) = false
+
+-- Nothing is consumed where bytes are due, or the connection has ended.
+abbrev pub conn_stops : Conn → Bool
+conn_stops o = o.state.ended || not (is_none o.state.due)
+
+-- The moment that the last of these bytes brings. Want of memory acts only where the answer takes memory.
+abbrev pub moment_of : Instance → Bool → List ℕ → Judgement → Option Moment
+moment_of i memory bytes Begins = None
+moment_of i memory bytes (Whole u) = Some (if takes_memory i u && not memory then Wanting i u bytes else Read i u bytes)
+moment_of i memory bytes (Faulty fault) = Some (Fault fault bytes)
+
+abbrev pub with_moment : ℕ → Intervals → List ℕ → Conn → Option Moment → Conn
+with_moment keep t bytes o None = record o { held = bytes }
+with_moment keep t bytes o (Some m) = record { state = after keep t o.state m; held = [] }
+
+-- At which unit that comes, counted from 0, memory is wanting
+abbrev pub finds_memory : Option ℕ → Bool
+finds_memory (Some zero) = false
+finds_memory wanting = true
+
+abbrev pub counted : Judgement → Option ℕ → Option ℕ
+counted (Whole u) (Some (suc units)) = Some units
+counted (Whole u) wanting = None
+counted judgement wanting = wanting
+
+-- A connection that takes a piece, with the moments that came by it so far
+pub record Taking : Type 0 where
+  pub conn : Conn
+  pub moments : List Moment
+  pub wanting : Option ℕ
+
+abbrev pub and_moment : List Moment → Option Moment → List Moment
+and_moment moments None = moments
+and_moment moments (Some m) = moments ++ m ∷ []
+
+abbrev pub with_judged : ℕ → Intervals → Instance → Taking → List ℕ → Judgement → Taking
+with_judged keep t i m bytes judgement =
+    let came = moment_of i (finds_memory m.wanting) bytes judgement in
+    record { conn = with_moment keep t bytes m.conn came; moments = and_moment m.moments came; wanting = counted judgement m.wanting }
+
+-- the next byte
+unfoldable pub conn_byte : ℕ → Intervals → Instance → Taking → ℕ → Taking
+conn_byte keep t i m b = with_judged keep t i m (m.conn.held ++ b ∷ []) (judge 1 false (m.conn.held ++ b ∷ []))
+
+-- A piece is handed in; memory is wanting at this unit of it, if at any.
+unfoldable pub conn_takes : ℕ → Intervals → Instance → Option ℕ → List ℕ → Conn → Fed Taking
+conn_takes keep t i wanting piece o =
+    feed (λ m. conn_stops m.conn) (conn_byte keep t i) (record { conn = o; moments = []; wanting = wanting }) piece
+
+-- The router can be notified where the connection goes on, nothing is due, and something is published.
+abbrev pub can_notify : Instance → Conn → Bool
+can_notify i o = is_published i && not (conn_stops o)
+
+unfoldable pub conn_notified : ℕ → Intervals → Instance → Conn → Conn
+conn_notified keep t i o = if can_notify i o then record o { state = after keep t o.state (Notify i) } else o
+
+-- At most so many of the bytes due are pulled.
+abbrev pub pulled_count : ℕ → Conn → ℕ
+pulled_count most o = min most (length o.state.due)
+
+unfoldable pub conn_pulled : ℕ → Intervals → ℕ → Conn → Conn
+conn_pulled keep t most o = record o { state = after keep t o.state (Pull (pulled_count most o)) }
+
+-- What is called on a connection: a set is published; a piece is handed in; bytes are pulled; the router is notified.
+pub data CacheCall : Type 0 where
+  Publishes : (set : VrpSet) → CacheCall
+  Takes : (wanting : Option ℕ) → (piece : List ℕ) → CacheCall
+  Gives : (most : ℕ) → CacheCall
+  Notifies : CacheCall
+
+-- A cache that serves one connection, with the moments of that, the bytes that came by them or are held, and those pulled
+pub record Serving : Type 0 where
+  pub cache : Instance
+  pub conn : Conn
+  pub moments : List Moment
+  pub came : List ℕ
+  pub given : List ℕ
+
+abbrev pub with_taken : List ℕ → Serving → Fed Taking → Serving
+with_taken piece s f = record s {
+  conn = f.machine.conn;
+  moments = s.moments ++ f.machine.moments;
+  came = s.came ++ take (length piece - length f.rest) piece;
+}
+
+abbrev pub serve : ℕ → Intervals → CacheCall → Serving → Serving
+serve keep t (Publishes set) s = record s { cache = published set s.cache }
+serve keep t (Takes wanting piece) s = with_taken piece s (conn_takes keep t s.cache wanting piece s.conn)
+serve keep t (Gives most) s = record s {
+  conn = conn_pulled keep t most s.conn;
+  moments = s.moments ++ Pull (pulled_count most s.conn) ∷ [];
+  given = s.given ++ take most s.conn.state.due;
+}
+serve keep t Notifies s = record s {
+  conn = conn_notified keep t s.cache s.conn;
+  moments = if can_notify s.cache s.conn then s.moments ++ Notify s.cache ∷ [] else s.moments;
+}
+
+-- after these calls, the last first, on a connection that was opened at this instance
+abbrev pub serving : ℕ → Intervals → Instance → List CacheCall → Serving
+serving keep t i [] = record { cache = i; conn = new_conn i; moments = []; came = []; given = [] }
+serving keep t i (call ∷ calls) = serve keep t call (serving keep t i calls)
+
+-- what is published can be, and what is handed in are bytes
+abbrev pub IsCacheCall : CacheCall → Type 0
+IsCacheCall (Publishes set) = IsVrpSet set
+IsCacheCall (Takes wanting piece) = AreBytes piece
+IsCacheCall (Gives most) = ⊤
+IsCacheCall Notifies = ⊤
+
+-- What a connection takes of a piece, whatever it is
+abbrev pub ConnTakes : Type 0
+ConnTakes =
+    (keep : ℕ) (t : Intervals) (i : Instance) (wanting : Option ℕ) (piece : List ℕ) (o : Conn) →
+    (taken : List ℕ)
+    × IsTaken (λ m. conn_stops m.conn) (conn_byte keep t i) (record { conn = o; moments = []; wanting = wanting }) piece taken (conn_takes keep t i wanting piece o)
+
+-- It stops only where a unit ends, or a fault shows.
+abbrev pub ConnStops : Type 0
+ConnStops =
+    (keep : ℕ) (t : Intervals) (i : Instance) (m : Taking) (b : ℕ) → judge 1 false (m.conn.held ++ b ∷ []) ≡ Begins →
+    conn_stops (conn_byte keep t i m b).conn ≡ conn_stops m.conn

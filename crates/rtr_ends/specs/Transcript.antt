@@ -1,0 +1,256 @@
+-- What a router was told, asked and read, and what it must hold after that (RFC 8210 sections 5, 6 and 8). All lists stand with
+-- the last first.
+use Rattle.std.specs.Prelude.{ℕ, ◌+◌, ◌-◌, Bool, true, false, not, ◌&&◌, ◌==◌, nat_lt, List, [], ◌∷◌, Option, Some, None, is_some, if◌then◌else◌}
+use Rattle.std.specs.List.{list_any}
+use Rattle.std.specs.Ordering.{eq_by_cmp}
+use Rattle.prefixes.specs.Payload.{Payload, vrp_cmp}
+use Rattle.vrps.specs.VrpSet.{VrpSet, empty, has, set_of, union, without}
+use Rattle.rtr_pdu.specs.declared.unit.Unit.{Unit}
+use Rattle.rtr_pdu.specs.declared.unit.Unit.TheVariants.{SerialNotify, SerialQuery, ResetQuery, CacheResponse, Prefix, EndOfData, RouterKey, ErrorReport}
+use Rattle.rtr_pdu.specs.declared.unit.UnitFault.{UnitFault}
+use Rattle.rtr_ends.specs.Timing.{Intervals, intervals}
+
+-- A question: for all, or for what changed since a version (sections 5.3 and 5.4)
+pub data Question : Type 0 where
+  AskReset : Question
+  AskSerial : (session : ℕ) → (serial : ℕ) → Question
+
+abbrev pub query : Question → Unit
+query AskReset = ResetQuery
+query (AskSerial session serial) = SerialQuery session serial
+
+-- What happens at a router: a moment is told; a connection is made; a question is put; a unit is read, or it is and memory for
+-- it is wanting; bytes show a fault; the world refuses an event for want of memory; the connection is closed; the router is
+-- a new one.
+pub data Item : Type 0 where
+  At : (now : ℕ) → Item
+  Opened : Item
+  Asks : (question : Question) → Item
+  Reads : (unit : Unit) → Item
+  Lacks : (unit : Unit) → Item
+  Breaks : (fault : UnitFault) → Item
+  Refused : Item
+  Shut : Item
+  Restarts : Item
+
+-- the greatest moment told
+abbrev pub later : ℕ → ℕ → ℕ
+later a b = if nat_lt a b then b else a
+
+abbrev pub moment : List Item → ℕ
+moment [] = 0
+moment (Restarts ∷ items) = 0
+moment (At now ∷ items) = later (moment items) now
+moment (item ∷ items) = moment items
+
+-- a connection was made, and not closed since
+abbrev pub is_connected : List Item → Bool
+is_connected [] = false
+is_connected (Opened ∷ items) = true
+is_connected (Shut ∷ items) = false
+is_connected (Restarts ∷ items) = false
+is_connected (item ∷ items) = is_connected items
+
+-- the question of which no answer has begun. Notifies and moments leave it.
+abbrev pub waiting : List Item → Option Question
+waiting [] = None
+waiting (Asks question ∷ items) = Some question
+waiting (Reads (SerialNotify session serial) ∷ items) = waiting items
+waiting (At now ∷ items) = waiting items
+waiting (item ∷ items) = None
+
+-- an answer that has begun: its question, the session of its Cache Response, and its records
+pub record Begun : Type 0 where
+  pub question : Question
+  pub session : ℕ
+  pub withdrawn : List Payload
+  pub announced : List Payload
+
+abbrev pub begun : Option Question → ℕ → Option Begun
+begun None session = None
+begun (Some question) session = Some (record { question = question; session = session; withdrawn = []; announced = [] })
+
+abbrev pub with_record : Bool → Payload → Option Begun → Option Begun
+with_record announce v None = None
+with_record false v (Some a) = Some (record a { withdrawn = v ∷ a.withdrawn })
+with_record true v (Some a) = Some (record a { announced = v ∷ a.announced })
+
+-- A Cache Response to the question that waits, then records, Router Keys and notifies alone (section 8.1)
+abbrev pub under_way : List Item → Option Begun
+under_way [] = None
+under_way (Reads (CacheResponse session) ∷ items) = begun (waiting items) session
+under_way (Reads (Prefix announce v) ∷ items) = with_record announce v (under_way items)
+under_way (Reads (SerialNotify session serial) ∷ items) = under_way items
+under_way (Reads (RouterKey key) ∷ items) = under_way items
+under_way (At now ∷ items) = under_way items
+under_way (item ∷ items) = None
+
+-- the question that is outstanding, answered in part or not at all
+abbrev pub question_of : Option Begun → Option Question → Option Question
+question_of (Some a) waits = Some a.question
+question_of None waits = waits
+
+abbrev pub outstanding : List Item → Option Question
+outstanding items = question_of (under_way items) (waiting items)
+
+-- A version is agreed on: a unit other than a notify was read on this connection (section 7).
+abbrev pub has_agreed : List Item → Bool
+has_agreed [] = false
+has_agreed (Opened ∷ items) = false
+has_agreed (Restarts ∷ items) = false
+has_agreed (Reads (SerialNotify session serial) ∷ items) = has_agreed items
+has_agreed (Reads unit ∷ items) = true
+has_agreed (Lacks unit ∷ items) = true
+has_agreed (item ∷ items) = has_agreed items
+
+-- the session of the latest Cache Response on this connection
+abbrev pub responded : List Item → Option ℕ
+responded [] = None
+responded (Opened ∷ items) = None
+responded (Restarts ∷ items) = None
+responded (Reads (CacheResponse session) ∷ items) = Some session
+responded (item ∷ items) = responded items
+
+-- whether a payload is in a list
+abbrev pub is_listed : Payload → List Payload → Bool
+is_listed v vs = list_any (eq_by_cmp vrp_cmp v) vs
+
+-- Each record acts, and acts once: `Commits` as a test.
+abbrev pub may_withdraw : VrpSet → List Payload → Bool
+may_withdraw base [] = true
+may_withdraw base (v ∷ vs) = (has base v && not (is_listed v vs)) && may_withdraw base vs
+
+abbrev pub may_announce : VrpSet → List Payload → Bool
+may_announce base [] = true
+may_announce base (v ∷ vs) = (not (has base v) && not (is_listed v vs)) && may_announce base vs
+
+abbrev pub acts_once : VrpSet → List Payload → List Payload → Bool
+acts_once base withdrawn announced = may_withdraw base withdrawn && may_announce base announced
+
+-- the set to which they lead
+unfoldable pub led_to : VrpSet → List Payload → List Payload → VrpSet
+led_to base withdrawn announced = union (without base (set_of withdrawn)) (set_of announced)
+
+-- the version that was committed: its name, when that was, and its intervals
+pub record Committed : Type 0 where
+  pub session : ℕ
+  pub serial : ℕ
+  pub moment : ℕ
+  pub intervals : Intervals
+
+-- what a router holds
+pub record Kept : Type 0 where
+  pub version : Option Committed
+  pub table : VrpSet
+
+abbrev pub nothing : Kept
+nothing = record { version = None; table = empty }
+
+-- Intervals are brought to the nearest bound of their range (section 6).
+abbrev pub within : ℕ → ℕ → ℕ → ℕ
+within low high n = if nat_lt n low then low else if nat_lt high n then high else n
+
+abbrev pub bounded : ℕ → ℕ → ℕ → Intervals
+bounded refresh retry expire = intervals (within 1 86400 refresh) (within 1 7200 retry) (within 600 172800 expire)
+
+-- A Reset Query is answered on an empty table, a Serial Query on the one that is held (sections 5.3, 5.4).
+abbrev pub base_of : Question → VrpSet → VrpSet
+base_of AskReset table = empty
+base_of (AskSerial session serial) table = table
+
+-- The session of a connection: that of its latest Cache Response, else the committed one, else none. None differs from none.
+abbrev pub session_of : Option ℕ → Option Committed → Option ℕ
+session_of (Some session) version = Some session
+session_of None (Some version) = Some version.session
+session_of None None = None
+
+abbrev pub differs : Option ℕ → ℕ → Bool
+differs None session = false
+differs (Some one) session = not (one == session)
+
+-- a Serial Query is outstanding
+abbrev pub is_serial : Option Question → Bool
+is_serial (Some (AskSerial session serial)) = true
+is_serial question = false
+
+-- a response to a Serial Query has another session than the committed one
+abbrev pub is_wrong : Option Question → Option Committed → ℕ → Bool
+is_wrong (Some (AskSerial old serial)) version session = differs (session_of None version) session
+is_wrong question version session = false
+
+-- an End of Data of this session completes an answer that commits
+abbrev pub does_commit : Option Begun → ℕ → VrpSet → Bool
+does_commit None session table = false
+does_commit (Some a) session table = session == a.session && acts_once (base_of a.question table) a.withdrawn a.announced
+
+abbrev pub emptied_if : Bool → Kept → Kept
+emptied_if true k = nothing
+emptied_if false k = k
+
+-- At an End of Data: a commit, or nothing where the answer leads nowhere; another session than the response's empties.
+abbrev pub at_end : Option Begun → Committed → Kept → Kept
+at_end None version k = k
+at_end (Some a) version k =
+    if version.session == a.session then
+    (if acts_once (base_of a.question k.table) a.withdrawn a.announced
+    then record { version = Some version; table = led_to (base_of a.question k.table) a.withdrawn a.announced }
+    else k)
+    else nothing
+
+-- What a unit that is read changes: an End of Data; after agreement a notify of another session than the connection's; a Cache
+-- Response to a Serial Query, of another session; code 0, Corrupt Data, to a Serial Query
+abbrev pub kept_unit : Unit → List Item → Kept → Kept
+kept_unit (EndOfData session serial refresh retry expire) items k =
+    at_end (under_way items) (record { session = session; serial = serial; moment = moment items; intervals = bounded refresh retry expire }) k
+kept_unit (SerialNotify session serial) items k = emptied_if (has_agreed items && differs (session_of (responded items) k.version) session) k
+kept_unit (CacheResponse session) items k = emptied_if (is_wrong (waiting items) k.version session) k
+kept_unit (ErrorReport r) items k = emptied_if (r.code == 0 && is_serial (outstanding items)) k
+kept_unit unit items k = k
+
+-- more than expire has passed since the commit
+abbrev pub is_over : Option Committed → ℕ → Bool
+is_over None now = false
+is_over (Some version) now = nat_lt version.intervals.expire (now - version.moment)
+
+-- What a router keeps of its transcript
+abbrev pub kept : List Item → Kept
+kept [] = nothing
+kept (Restarts ∷ items) = nothing
+kept (At now ∷ items) = let k : Kept = kept items in emptied_if (is_over k.version (later (moment items) now)) k
+kept (Reads unit ∷ items) = kept_unit unit items (kept items)
+kept (item ∷ items) = kept items
+
+-- The last item is a commit: an End of Data that completes an answer.
+abbrev pub is_commit : List Item → Bool
+is_commit (Reads (EndOfData session serial refresh retry expire) ∷ items) = does_commit (under_way items) session (kept items).table
+is_commit items = false
+
+-- Moments are u64; sums stop at the greatest.
+abbrev pub sum_of : ℕ → ℕ → ℕ
+sum_of a b = if nat_lt 18446744073709551615 (a + b) then 18446744073709551615 else a + b
+
+-- the retry interval, where nothing is committed the one that the standard recommends (section 6)
+abbrev pub retry_of : Option Committed → ℕ
+retry_of None = 600
+retry_of (Some version) = version.intervals.retry
+
+abbrev pub refreshed : Option Committed → Option ℕ
+refreshed None = None
+refreshed (Some version) = Some (sum_of version.moment version.intervals.refresh)
+
+abbrev pub retried : List Item → Option ℕ
+retried items = Some (sum_of (moment items) (retry_of (kept items).version))
+
+-- When an idle router asks again: refresh after a commit; retry after the end of a connection, and after code 2, No Data
+-- Available, to a question
+abbrev pub due : List Item → Option ℕ
+due [] = None
+due (Restarts ∷ items) = None
+due (Opened ∷ items) = if is_connected items then retried items else due items
+due (Shut ∷ items) = if is_connected items then retried items else due items
+due (Reads (EndOfData session serial refresh retry expire) ∷ items) =
+    if does_commit (under_way items) session (kept items).table
+    then refreshed (kept (Reads (EndOfData session serial refresh retry expire) ∷ items)).version
+    else due items
+due (Reads (ErrorReport r) ∷ items) = if r.code == 2 && is_some (outstanding items) then retried items else due items
+due (item ∷ items) = due items
