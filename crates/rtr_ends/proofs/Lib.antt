@@ -3,4 +3,5 @@ pub mod FeedingLaws
 pub mod HistoryLaws
 pub mod RouterRows
 pub mod Rows
+pub mod TableLaws
 pub mod TakenLaws

@@ -1,6 +1,6 @@
 -- What a router was told, asked and read, and what it must hold after that (RFC 8210 sections 5, 6 and 8). All lists stand with
 -- the last first.
-use Rattle.std.specs.Prelude.{ℕ, ◌+◌, ◌-◌, Bool, true, false, not, ◌&&◌, ◌==◌, nat_lt, List, [], ◌∷◌, Option, Some, None, is_some, if◌then◌else◌}
+use Rattle.std.specs.Prelude.{◌≡◌, ◌↔◌, ℕ, ◌+◌, ◌-◌, Bool, true, false, not, ◌&&◌, ◌==◌, nat_lt, List, [], ◌∷◌, Option, Some, None, is_some, if◌then◌else◌}
 use Rattle.std.specs.List.{list_any}
 use Rattle.std.specs.Ordering.{eq_by_cmp}
 use Rattle.prefixes.specs.Payload.{Payload, vrp_cmp}
@@ -8,6 +8,7 @@ use Rattle.vrps.specs.VrpSet.{VrpSet, empty, has, set_of, union, without}
 use Rattle.rtr_pdu.specs.declared.unit.Unit.{Unit}
 use Rattle.rtr_pdu.specs.declared.unit.Unit.TheVariants.{SerialNotify, SerialQuery, ResetQuery, CacheResponse, Prefix, EndOfData, RouterKey, ErrorReport}
 use Rattle.rtr_pdu.specs.declared.unit.UnitFault.{UnitFault}
+use Rattle.rtr_ends.specs.Commit.{Commits}
 use Rattle.rtr_ends.specs.Timing.{Intervals, intervals}
 
 -- A question: for all, or for what changed since a version (sections 5.3 and 5.4)
@@ -130,6 +131,12 @@ acts_once base withdrawn announced = may_withdraw base withdrawn && may_announce
 -- the set to which they lead
 unfoldable pub led_to : VrpSet → List Payload → List Payload → VrpSet
 led_to base withdrawn announced = union (without base (set_of withdrawn)) (set_of announced)
+
+-- The test is exact: an answer leads somewhere where it passes, and then there.
+abbrev pub ActsExactly : Type 0
+ActsExactly =
+    (base : VrpSet) (withdrawn announced : List Payload) →
+    (acts_once base withdrawn announced ≡ true) ↔ Commits base withdrawn announced (led_to base withdrawn announced)
 
 -- the version that was committed: its name, when that was, and its intervals
 pub record Committed : Type 0 where

@@ -3,6 +3,7 @@ ghost use Rattle.rtr_ends.specs.Cache.{ConnStops, ConnTakes};
 ghost use Rattle.rtr_ends.specs.Commit.{ChangeCommits, OneCommit};
 ghost use Rattle.rtr_ends.specs.Connection.{HistorySplits, PulledAreReplies};
 ghost use Rattle.rtr_ends.specs.Router.{RouterStops, RouterTakes};
+ghost use Rattle.rtr_ends.specs.Transcript.{ActsExactly};
 
 /// The change between two sets, listed, commits from the first to the second.
 pub fn change_commits()
@@ -36,4 +37,9 @@ pub fn connection_takes()
 pub fn router_takes()
     ensures taken { RouterTakes }
     ensures stops { RouterStops }
+{}
+
+/// The test by which a router judges a whole answer passes exactly where the answer commits.
+pub fn acts_exactly()
+    ensures { ActsExactly }
 {}
