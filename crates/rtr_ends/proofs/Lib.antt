@@ -1,3 +1,4 @@
+pub mod CacheRows
 pub mod CommitLaws
 pub mod FeedingLaws
 pub mod HistoryLaws

@@ -1,6 +1,5 @@
 -- A router, call by call, worked out.
 use Rattle.std.proofs.Common.{◌≡◌, ℕ, Bool, true, false, not, ◌||◌, ◌&&◌, nat_lt, List, [], ◌∷◌, ◌++◌, Option, Some, None, if◌then◌else◌, refl, ap, sym, ◌∙◌, take, drop}
-use Rattle.std.specs.List.Sorted.{IsStrictlySortedBy}
 use Rattle.std.specs.Str.{chars, is_utf8}
 use Rattle.prefixes.specs.Payload.{Payload, vrp_cmp}
 use Rattle.vrps.specs.VrpSet.{VrpSet, empty, has, set_of, size}
@@ -15,15 +14,11 @@ use Rattle.rtr_ends.specs.Answer.{report, sent, sent_all}
 use Rattle.rtr_ends.specs.Router.{Router, Noted, Receiving, Staged, Stays, Wrong, Over, Link, Closed, Idle, Asked, Answering, Ended, on_unit, router_byte, receives, clocked, connects_at, closed_at, ticks_at, asks, router_pulled, played, called, Call, Connects, Receives, Pulls, Closes, AsksNow, Ticks, new_router, stage, staged, is_staged, lacks, asked_by}
 use Rattle.rtr_ends.specs.Transcript.{Item, At, Opened, Asks, Reads, Lacks, Breaks, Shut, Begun, Committed, AskReset, AskSerial, kept, due, led_to, acts_once}
 use Rattle.rtr_ends.specs.Timing.{default_intervals}
-use Rattle.rtr_ends.proofs.Rows.{v, w, reset_bytes, serial_bytes, response_bytes, v_bytes, w_bytes, end_bytes}
+use Rattle.rtr_ends.proofs.Rows.{v, w, v_ascends, reset_bytes, serial_bytes, response_bytes, v_bytes, w_bytes, end_bytes}
 use Rattle.rtr_ends.proofs.TableLaws.{led_from_empty}
 
 abbrev just_v : VrpSet
 just_v = set_of (v ∷ [])
-
-v_ascends : IsStrictlySortedBy vrp_cmp (v ∷ [])
-unfolding IsStrictlySortedBy
-v_ascends = (tt, tt)
 
 -- An answer to a Reset Query
 

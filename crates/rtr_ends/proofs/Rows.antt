@@ -31,15 +31,15 @@ just_v = set_of (v ∷ [])
 abbrev v_and_w : VrpSet
 v_and_w = set_of (v ∷ w ∷ [])
 
-none_ascends : IsStrictlySortedBy vrp_cmp []
+pub none_ascends : IsStrictlySortedBy vrp_cmp []
 unfolding IsStrictlySortedBy
 none_ascends = tt
 
-v_ascends : IsStrictlySortedBy vrp_cmp (v ∷ [])
+pub v_ascends : IsStrictlySortedBy vrp_cmp (v ∷ [])
 unfolding IsStrictlySortedBy
 v_ascends = (tt, tt)
 
-both_ascend : IsStrictlySortedBy vrp_cmp (v ∷ w ∷ [])
+pub both_ascend : IsStrictlySortedBy vrp_cmp (v ∷ w ∷ [])
 unfolding IsStrictlySortedBy
 both_ascend = ((refl, tt), (tt, tt))
 
@@ -76,10 +76,10 @@ announced_v6 : sent (Prefix true (record { prefix = V6 (record { addr = 0x20010d
 announced_v6 = refl
 
 -- what is answered with all of these records, and with a change of these records
-abbrev with_all_of : ℕ → VrpSet → List Payload → List Unit
+abbrev pub with_all_of : ℕ → VrpSet → List Payload → List Unit
 with_all_of serial set records = response 0x1234 default_intervals (record { serial = serial; set = set }) (map (λ x. Prefix true x) records)
 
-abbrev with_changes : ℕ → VrpSet → List Payload → List Payload → List Unit
+abbrev pub with_changes : ℕ → VrpSet → List Payload → List Payload → List Unit
 with_changes serial set withdrawn announced =
     response 0x1234 default_intervals (record { serial = serial; set = set }) (map (λ x. Prefix false x) withdrawn ++ map (λ x. Prefix true x) announced)
 
