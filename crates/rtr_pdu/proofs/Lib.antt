@@ -2,6 +2,7 @@ pub mod BodyLaws
 pub mod JudgeLaws
 pub mod JudgingLaws
 pub mod ModeLaws
+pub mod NextLaws
 pub mod ReadLaws
 pub mod ReadingRows
 pub mod ReaderLaws
