@@ -2,7 +2,9 @@ pub mod CacheRows
 pub mod CommitLaws
 pub mod FeedingLaws
 pub mod HistoryLaws
+pub mod KeptLaws
 pub mod RouterRows
 pub mod Rows
+pub mod ServingLaws
 pub mod TableLaws
 pub mod TakenLaws

@@ -3,14 +3,14 @@ use Rattle.std.specs.Prelude.{◌≡◌, ◌↔◌, ℕ, ◌≤◌, ◌<◌, Boo
 use Rattle.std.proofs.Common.{sym, ap, ◌∙◌, subst, arith}
 use Rattle.std.specs.List.{AllByRecursion, IsDistinct, list_any}
 use Rattle.std.specs.Ordering.{eq_by_cmp}
-use Rattle.std.proofs.lemmas.Bool.{and_parts}
+use Rattle.std.proofs.lemmas.Bool.{and_parts, or_parts}
 use Rattle.prefixes.specs.Payload.{Payload, vrp_cmp}
 use Rattle.vrps.specs.VrpSet.{VrpSet, empty, has, set_of, union, without}
 use Rattle.vrps.proofs.SetLaws.{same_set, has-empty, has-union, has-without, has-set_of}
 use Rattle.rtr_ends.specs.Commit.{Commits}
 use Rattle.rtr_ends.specs.Transcript.{is_listed, may_withdraw, may_announce, acts_once, led_to, ActsExactly}
 
-false_true : {P : Type 0} → false ≡ true → P
+pub false_true : {P : Type 0} → false ≡ true → P
 false_true h = absurd (let e : false ≡ true = h in cc)
 
 not_true : (b : Bool) → not b ≡ true → b ≡ false
@@ -26,10 +26,6 @@ unfolding led_to
 led_from_empty vs = same_set _ _ (λ q.
     has-union (without empty (set_of [])) (set_of vs) q
     ∙ ap (λ b. b || has (set_of vs) q) (has-without empty (set_of []) q ∙ ap (λ b. b && not (has (set_of []) q)) (has-empty q)))
-
-or_parts : (a b : Bool) → (a || b) ≡ false → (a ≡ false) × (b ≡ false)
-or_parts true b h = absurd (let e : true ≡ false = h in cc)
-or_parts false b h = (refl, h)
 
 -- A payload that is not listed is none of the list.
 apart : (v : Payload) (vs : List Payload) → is_listed v vs ≡ false → AllByRecursion (λ w. eq_by_cmp vrp_cmp v w ≡ false) vs

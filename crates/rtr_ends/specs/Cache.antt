@@ -1,11 +1,12 @@
 -- A connection at the cache as a machine, byte by byte (RFC 8210 sections 5, 8 and 12).
 use Rattle.std.specs.Prelude.{◌≡◌, ℕ, zero, suc, ◌-◌, Bool, true, false, not, ◌&&◌, ◌||◌, List, [], ◌∷◌, ◌++◌, length, take, min, Option, Some, None, if◌then◌else◌, ⊤}
-use Rattle.vrps.specs.Instance.{Instance}
+use Rattle.std.specs.List.{AllByRecursion}
+use Rattle.vrps.specs.Instance.{Instance, IsInstance}
 use Rattle.vrps.specs.Store.{published}
 use Rattle.vrps.specs.VrpSet.{VrpSet, IsVrpSet}
 use Rattle.rtr_pdu.specs.Judging.{Judgement, Begins, Whole, Faulty, judge}
 use Rattle.rtr_pdu.specs.Payloads.{AreBytes}
-use Rattle.rtr_ends.specs.Connection.{Connection, Moment, Read, Wanting, Fault, Notify, Pull, opened, after, is_published, takes_memory}
+use Rattle.rtr_ends.specs.Connection.{Connection, Moment, Read, Wanting, Fault, Notify, Pull, IsHistory, opened, after, after_all, is_published, pulled, replies, takes_memory}
 use Rattle.rtr_ends.specs.Feeding.{Fed, feed, IsTaken}
 use Rattle.rtr_ends.specs.Timing.{Intervals}
 
@@ -142,3 +143,16 @@ abbrev pub ConnStops : Type 0
 ConnStops =
     (keep : ℕ) (t : Intervals) (i : Instance) (m : Taking) (b : ℕ) → judge 1 false (m.conn.held ++ b ∷ []) ≡ Begins →
     conn_stops (conn_byte keep t i m b).conn ≡ conn_stops m.conn
+
+-- What happened on a connection is its history: what came by it is what was consumed, what was pulled is what was given, and
+-- the connection is as they leave it.
+pub record IsServed (keep : ℕ) (t : Intervals) (i : Instance) (s : Serving) : Type 0 where
+  pub history : IsHistory keep t (opened i) s.moments s.came
+  pub state : s.conn.state ≡ after_all keep t (opened i) s.moments
+  pub given : s.given ≡ pulled keep t (opened i) s.moments
+  pub replies : s.given ++ s.conn.state.due ≡ replies keep t s.moments
+
+abbrev pub ServesHistory : Type 0
+ServesHistory =
+    (keep : ℕ) (t : Intervals) (i : Instance) (calls : List CacheCall) → IsInstance i → AllByRecursion IsCacheCall calls →
+    IsServed keep t i (serving keep t i calls)

@@ -14,7 +14,7 @@ use Rattle.rtr_ends.specs.Answer.{report, sent, sent_all}
 use Rattle.rtr_ends.specs.Cache.{is_none, finds_memory, counted}
 use Rattle.rtr_ends.specs.Connection.{fault_code, fault_report}
 use Rattle.rtr_ends.specs.Feeding.{Fed, feed, IsTaken}
-use Rattle.rtr_ends.specs.Transcript.{Question, AskReset, AskSerial, query, Item, At, Opened, Asks, Reads, Lacks, Breaks, Shut, Begun, Committed, is_listed, led_to, base_of, session_of, differs, is_serial, is_wrong, is_over, bounded, later, sum_of, retry_of}
+use Rattle.rtr_ends.specs.Transcript.{Question, AskReset, AskSerial, query, Item, At, Opened, Asks, Reads, Lacks, Breaks, Shut, Begun, Committed, is_listed, led_to, base_of, session_of, differs, is_serial, is_wrong, is_over, bounded, later, sum_of, retry_of, kept, due, moment}
 
 -- A link is closed; or idle; or its question is not answered yet; or an answer has begun; or it has ended and is still to be closed.
 pub data Link : Type 0 where
@@ -315,3 +315,13 @@ abbrev pub RouterStops : Type 0
 RouterStops =
     (m : Receiving) (b : ℕ) → judge 1 (not m.router.agreed) (m.router.held ++ b ∷ []) ≡ Begins →
     router_stops (router_byte m b).router ≡ router_stops m.router
+
+-- What a router holds, when it asks, and the greatest moment it was told, are those of its transcript.
+pub record IsKept (r : Router) (items : List Item) : Type 0 where
+  pub table : r.table ≡ (kept items).table
+  pub version : r.version ≡ (kept items).version
+  pub due : r.due ≡ due items
+  pub now : r.now ≡ moment items
+
+abbrev pub RouterKeeps : Type 0
+RouterKeeps = (calls : List Call) → IsKept (played calls).router (played calls).items

@@ -1,8 +1,8 @@
 //! Laws of the definitions. These functions do nothing: their contracts are the laws.
-ghost use Rattle.rtr_ends.specs.Cache.{ConnStops, ConnTakes};
+ghost use Rattle.rtr_ends.specs.Cache.{ConnStops, ConnTakes, ServesHistory};
 ghost use Rattle.rtr_ends.specs.Commit.{ChangeCommits, OneCommit};
 ghost use Rattle.rtr_ends.specs.Connection.{HistorySplits, PulledAreReplies};
-ghost use Rattle.rtr_ends.specs.Router.{RouterStops, RouterTakes};
+ghost use Rattle.rtr_ends.specs.Router.{RouterKeeps, RouterStops, RouterTakes};
 ghost use Rattle.rtr_ends.specs.Transcript.{ActsExactly};
 
 /// The change between two sets, listed, commits from the first to the second.
@@ -42,4 +42,16 @@ pub fn router_takes()
 /// The test by which a router judges a whole answer passes exactly where the answer commits.
 pub fn acts_exactly()
     ensures { ActsExactly }
+{}
+
+/// What is called on a connection of a cache, in any order and with any cutting of the bytes, makes its history: what came by it was
+/// consumed, what was pulled is the beginning of its replies, and what is due is the rest of them.
+pub fn serves_history()
+    ensures { ServesHistory }
+{}
+
+/// After any calls a router holds what its transcript keeps, asks again when the transcript says, and knows the greatest moment that it
+/// was told.
+pub fn router_keeps()
+    ensures { RouterKeeps }
 {}

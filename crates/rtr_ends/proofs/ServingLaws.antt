@@ -1,0 +1,387 @@
+-- A connection at the cache makes the history of what is called on it.
+use Rattle.std.specs.Prelude.{◌≡◌, ◌⊎◌, ℕ, ◌+◌, ◌-◌, ◌<◌, ◌≤◌, Bool, true, false, not, ◌&&◌, ◌||◌, ◌==◌, List, [], ◌∷◌, ◌++◌, length, take, drop, min, slice_index, Option, Some, None, if◌then◌else◌, IsTrue, MatchBool, refl}
+use Rattle.std.proofs.Common.{sym, ap, ◌∙◌, subst, arith, append_assoc, inl, inr, zero, suc}
+use Rattle.std.specs.List.{AllByRecursion}
+use Rattle.std.proofs.lemmas.Bool.{and_parts, or_parts}
+use Rattle.std.proofs.Math.Nat.{min-le_right}
+use Rattle.std.proofs.Math.Seq.{take-append_seam}
+use Rattle.std.proofs.lemmas.List.{append-nil, length-append, take_min}
+use Rattle.vrps.specs.Instance.{Instance, IsInstance}
+use Rattle.vrps.specs.Store.{is_current, published}
+use Rattle.vrps.specs.VrpSet.{VrpSet}
+use Rattle.vrps.proofs.VersionLaws.{published_is_instance}
+use Rattle.rtr_pdu.specs.Judging.{Judgement, Begins, Whole, Faulty, judge, unit_in}
+use Rattle.rtr_pdu.specs.Payloads.{AreBytes}
+use Rattle.rtr_pdu.specs.Stream.{as_read, IsPartial, IsShortest, Shows}
+use Rattle.rtr_pdu.specs.Unit.{Reads}
+use Rattle.rtr_pdu.specs.declared.unit.Unit.{Unit}
+use Rattle.rtr_pdu.specs.declared.unit.UnitFault.{UnitFault}
+use Rattle.rtr_pdu.proofs.JudgingLaws.{judge_case, whole_exactly}
+use Rattle.rtr_pdu.proofs.JudgingLaws as judging
+use Rattle.rtr_pdu.proofs.NextLaws.{next_shortest, next_size}
+use Rattle.rtr_pdu.proofs.ReaderLaws.{partial_empty}
+use Rattle.rtr_ends.specs.Cache.{Conn, Taking, is_none, conn_stops, moment_of, with_moment, finds_memory, and_moment, with_judged, conn_byte, conn_takes, can_notify, conn_notified, pulled_count, conn_pulled, CacheCall, Publishes, Takes, Gives, Notifies, Serving, with_taken, serve, serving, IsCacheCall, IsServed, ServesHistory, new_conn}
+use Rattle.rtr_ends.specs.Connection.{Connection, Moment, Read, Wanting, Fault, Notify, Pull, bytes_of, IsMoment, IsLater, IsHistory, MayCome, MayHold, after, after_all, cache_after, opened, pulled, replies, is_published, takes_memory}
+use Rattle.rtr_ends.specs.Feeding.{Fed, feed, run}
+use Rattle.rtr_ends.specs.Timing.{Intervals}
+use Rattle.rtr_ends.proofs.FeedingLaws.{feed_takes}
+use Rattle.rtr_ends.proofs.HistoryLaws.{pulled_are_replies}
+
+-- at a cache bytes are read as they stand
+as_they_stand : (bytes : List ℕ) → as_read 1 false bytes ≡ bytes
+unfolding as_read
+as_they_stand bytes = refl
+
+false_true : {P : Type 0} → false ≡ true → P
+false_true h = absurd (let e : false ≡ true = h in cc)
+
+-- from one connection to another by moments, with the bytes of these
+abbrev Runs : ℕ → Intervals → Connection → List Moment → List ℕ → Connection → Type 0
+Runs keep t c [] used new = (used ≡ []) × (new ≡ c)
+Runs keep t c (m ∷ later) used new = MayCome c m × ((rest : List ℕ) × (used ≡ bytes_of m ++ rest) × Runs keep t (after keep t c m) later rest new)
+
+module _ (keep : ℕ) (t : Intervals) where
+  -- one moment more
+  runs_more : (c : Connection) (moments : List Moment) (used : List ℕ) (new : Connection) (m : Moment) → Runs keep t c moments used new → MayCome new m → Runs keep t c (moments ++ m ∷ []) (used ++ bytes_of m) (after keep t new m)
+  runs_more c [] used new m r h =
+      let may : MayCome c m = subst (λ x. MayCome x m) r.1 h in
+      (may, ([], ap (λ x. x ++ bytes_of m) r.0 ∙ sym (append-nil (bytes_of m)), (refl, ap (λ x. after keep t x m) r.1)))
+  runs_more c (k ∷ later) used new m r h =
+      (r.0, (r.1.0 ++ bytes_of m, ap (λ x. x ++ bytes_of m) r.1.1 ∙ append_assoc (bytes_of k) r.1.0 (bytes_of m), runs_more (after keep t c k) later r.1.0 new m r.1.2 h))
+
+  -- with what is held, it is a history
+  runs_history : (c : Connection) (moments : List Moment) (used held : List ℕ) (new : Connection) → Runs keep t c moments used new → MayHold new held → IsHistory keep t c moments (used ++ held)
+  runs_history c [] used held new r h = subst (λ x. MayHold c (x ++ held)) (sym r.0) (subst (λ x. MayHold x held) r.1 h)
+  runs_history c (m ∷ later) used held new r h =
+      (r.0, (r.1.0 ++ held, ap (λ x. x ++ held) r.1.1 ∙ append_assoc (bytes_of m) r.1.0 held, runs_history (after keep t c m) later r.1.0 held new r.1.2 h))
+
+  runs_after : (c : Connection) (moments : List Moment) (used : List ℕ) (new : Connection) → Runs keep t c moments used new → new ≡ after_all keep t c moments
+  runs_after c [] used new r = r.1
+  runs_after c (m ∷ later) used new r = runs_after (after keep t c m) later r.1.0 new r.1.2
+
+  -- what a moment pulls
+  abbrev pulled_by : Connection → Moment → List ℕ
+  pulled_by c (Pull count) = take count c.due
+  pulled_by c m = []
+
+  pulled_first : (c : Connection) (m : Moment) (later : List Moment) → pulled keep t c (m ∷ later) ≡ pulled_by c m ++ pulled keep t (after keep t c m) later
+  pulled_first c (Pull count) later = refl
+  pulled_first c (Read cache unit bytes) later = refl
+  pulled_first c (Wanting cache unit bytes) later = refl
+  pulled_first c (Fault fault bytes) later = refl
+  pulled_first c (Notify cache) later = refl
+
+  pulled_more : (c : Connection) (moments : List Moment) (used : List ℕ) (new : Connection) (m : Moment) → Runs keep t c moments used new → pulled keep t c (moments ++ m ∷ []) ≡ pulled keep t c moments ++ pulled_by new m
+  pulled_more c [] used new m r = pulled_first c m [] ∙ append-nil (pulled_by c m) ∙ ap (λ x. pulled_by x m) (sym r.1)
+  pulled_more c (k ∷ later) used new m r =
+      pulled_first c k (later ++ m ∷ []) ∙ ap (λ x. pulled_by c k ++ x) (pulled_more (after keep t c k) later r.1.0 new m r.1.2)
+      ∙ sym (append_assoc (pulled_by c k) (pulled keep t (after keep t c k) later) (pulled_by new m))
+      ∙ ap (λ x. x ++ pulled_by new m) (sym (pulled_first c k later))
+
+  -- A connection that was opened at an instance, after these moments, where these bytes came and were given
+  pub record Goes (i : Instance) (o : Conn) (moments : List Moment) (came given : List ℕ) : Type 0 where
+    pub used : List ℕ
+    pub runs : Runs keep t (opened i) moments used o.state
+    pub came_is : came ≡ used ++ o.held
+    pub given_is : given ≡ pulled keep t (opened i) moments
+    pub holds : MayHold o.state o.held
+    pub bytes : AreBytes o.held
+    pub cache : IsInstance o.state.cache
+
+  served : (i : Instance) (s : Serving) → Goes i s.conn s.moments s.came s.given → IsServed keep t i s
+  served i s g =
+      let history = runs_history (opened i) s.moments g.used s.conn.held s.conn.state g.runs g.holds in
+      let state = runs_after (opened i) s.moments g.used s.conn.state g.runs in
+      record {
+        history = subst (λ x. IsHistory keep t (opened i) s.moments x) (sym g.came_is) history;
+        state = state;
+        given = g.given_is;
+        replies = (λ j. g.given_is j ++ (state j).due) ∙ pulled_are_replies keep t i s.moments (g.used ++ s.conn.held) history;
+      }
+
+  none_bytes : AreBytes []
+  none_bytes i = omega arith
+
+  -- nothing is held behind a moment
+  holds_none : (c : Connection) → MayHold c []
+  holds_none c = by_end c.ended
+    where
+      by_end : (b : Bool) → MatchBool b (◌≡◌ {A = List ℕ} [] []) (IsPartial 1 [] × ((◌≡◌ {A = List ℕ} [] []) ⊎ ((c.due ≡ []) ⊎ (c.notified ≡ true))))
+      by_end true = refl
+      by_end false = (subst (λ x. IsPartial 1 x) (as_they_stand []) (partial_empty false), inl refl)
+
+  -- what is held on a connection that goes on is the beginning of a unit
+  holds_part : (c : Connection) (held : List ℕ) → c.ended ≡ false → MayHold c held → IsPartial 1 held
+  holds_part c held is h = (subst (λ b. MatchBool b (held ≡ []) (IsPartial 1 held × ((held ≡ []) ⊎ ((c.due ≡ []) ⊎ (c.notified ≡ true))))) is h).0
+
+  holds_open : (c : Connection) (held : List ℕ) → c.ended ≡ false → IsPartial 1 held → (held ≡ []) ⊎ ((c.due ≡ []) ⊎ (c.notified ≡ true)) → MayHold c held
+  holds_open c held is part h = subst (λ b. MatchBool b (held ≡ []) (IsPartial 1 held × ((held ≡ []) ⊎ ((c.due ≡ []) ⊎ (c.notified ≡ true))))) (sym is) (part, h)
+
+  one_byte : (b : ℕ) → b < 256 → AreBytes (b ∷ [])
+  one_byte b h zero = h
+  one_byte b h (suc i) = omega arith
+
+  more_bytes : (held : List ℕ) (b : ℕ) → AreBytes held → b < 256 → AreBytes (held ++ b ∷ [])
+  more_bytes [] b each h i = one_byte b h i
+  more_bytes (x ∷ held) b each h zero = each 0
+  more_bytes (x ∷ held) b each h (suc i) = more_bytes held b (λ j. each (suc j)) h i
+
+  module _ (opened_at : Instance) where
+    -- a moment that the last of these bytes brings
+    goes_moment : (o : Conn) (moments : List Moment) (came given : List ℕ) (b : ℕ) (m : Moment) → MayCome o.state m → bytes_of m ≡ o.held ++ b ∷ [] → pulled_by o.state m ≡ [] → IsInstance (after keep t o.state m).cache
+        → Goes opened_at o moments came given → Goes opened_at (record { state = after keep t o.state m; held = [] }) (moments ++ m ∷ []) (came ++ b ∷ []) given
+    goes_moment o moments came given b m may bytes none cache g = record {
+      used = g.used ++ bytes_of m;
+      runs = runs_more (opened opened_at) moments g.used o.state m g.runs may;
+      came_is = ap (λ x. x ++ b ∷ []) g.came_is ∙ append_assoc g.used o.held (b ∷ []) ∙ ap (λ x. g.used ++ x) (sym bytes) ∙ sym (append-nil (g.used ++ bytes_of m));
+      given_is = g.given_is ∙ sym (append-nil (pulled keep t (opened opened_at) moments)) ∙ ap (λ x. pulled keep t (opened opened_at) moments ++ x) (sym none)
+      ∙ sym (pulled_more (opened opened_at) moments g.used o.state m g.runs);
+      holds = holds_none (after keep t o.state m);
+      bytes = none_bytes;
+      cache = cache;
+    }
+
+    same_later : (i : Instance) → IsLater i i
+    same_later i = record { session = refl; start = refl; more = []; sets = refl }
+
+    -- A connection with the cache as it is now
+    pub record Stands (i : Instance) (before : List Moment) (m : Taking) (came given : List ℕ) : Type 0 where
+      pub goes : Goes opened_at m.conn (before ++ m.moments) came given
+      pub later : IsLater m.conn.state.cache i
+
+    module _ (i : Instance) (is : IsInstance i) (before : List Moment) (given : List ℕ) where
+      -- what is judged of the next byte
+      abbrev next : Taking → ℕ → Judgement → Taking
+      next m b j = with_judged keep t i m (m.conn.held ++ b ∷ []) j
+
+      stands_moment : (m : Taking) (b : ℕ) (came : List ℕ) (j : Judgement) (k : Moment) → moment_of i (finds_memory m.wanting) (m.conn.held ++ b ∷ []) j ≡ Some k → MayCome m.conn.state k → bytes_of k ≡ m.conn.held ++ b ∷ [] → pulled_by m.conn.state k ≡ []
+          → IsInstance (after keep t m.conn.state k).cache → IsLater (after keep t m.conn.state k).cache i → Stands i before m came given → Stands i before (next m b j) (came ++ b ∷ []) given
+      stands_moment m b came j k brings may bytes none cache later s =
+          subst (λ o. Stands i before (record { conn = with_moment keep t (m.conn.held ++ b ∷ []) m.conn o; moments = and_moment m.moments o; wanting = (next m b j).wanting }) (came ++ b ∷ []) given) (sym brings)
+          (record {
+            goes = subst (λ x. Goes opened_at (record { state = after keep t m.conn.state k; held = [] }) x (came ++ b ∷ []) given) (append_assoc before m.moments (k ∷ []))
+            (goes_moment m.conn (before ++ m.moments) came given b k may bytes none cache s.goes);
+            later = later;
+          })
+
+      stands_byte : (m : Taking) (b : ℕ) (came : List ℕ) → b < 256 → conn_stops m.conn ≡ false → Stands i before m came given → Stands i before (conn_byte keep t i m b) (came ++ b ∷ []) given
+      unfolding conn_byte
+      stands_byte m b came byte runs s = by_case (judge_case 1 false bytes)
+        where
+          bytes : List ℕ
+          bytes = m.conn.held ++ b ∷ []
+
+          tests : (m.conn.state.ended ≡ false) × (not (is_none m.conn.state.due) ≡ false)
+          tests = or_parts m.conn.state.ended (not (is_none m.conn.state.due)) runs
+
+          none : (due : List ℕ) → not (is_none due) ≡ false → due ≡ []
+          none [] h = refl
+          none (x ∷ due) h = false_true (sym h)
+
+          at_rest : m.conn.state.due ≡ []
+          at_rest = none m.conn.state.due tests.1
+
+          part : IsPartial 1 (as_read 1 false m.conn.held)
+          part = subst (λ x. IsPartial 1 x) (sym (as_they_stand m.conn.held)) (holds_part m.conn.state m.conn.held tests.0 s.goes.holds)
+
+          each : AreBytes bytes
+          each = more_bytes m.conn.held b s.goes.bytes byte
+
+          shortest : IsShortest 1 false bytes
+          shortest = next_shortest 1 false m.conn.held b part
+
+          begins : judge 1 false bytes ≡ Begins → IsPartial 1 bytes → Stands i before (next m b Begins) (came ++ b ∷ []) given
+          begins j partial = record {
+            goes = record {
+              used = s.goes.used;
+              runs = s.goes.runs;
+              came_is = ap (λ x. x ++ b ∷ []) s.goes.came_is ∙ append_assoc s.goes.used m.conn.held (b ∷ []);
+              given_is = s.goes.given_is;
+              holds = holds_open m.conn.state bytes tests.0 partial (inr (inl at_rest));
+              bytes = each;
+              cache = s.goes.cache;
+            };
+            later = s.later;
+          }
+
+          shows : (fault : UnitFault) → Shows 1 bytes fault → Stands i before (next m b (Faulty fault)) (came ++ b ∷ []) given
+          shows fault h =
+              stands_moment m b came (Faulty fault) (Fault fault bytes) refl
+              (tests.0, at_rest, s.goes.cache, same_later m.conn.state.cache, (h, shortest)) refl refl s.goes.cache s.later s
+
+          reads : (u : Unit) → Reads 1 u bytes → Stands i before (next m b (Whole u)) (came ++ b ∷ []) given
+          reads u h = by_memory (takes_memory i u && not (finds_memory m.wanting)) refl
+            where
+              by_memory : (w : Bool) → (takes_memory i u && not (finds_memory m.wanting)) ≡ w → Stands i before (next m b (Whole u)) (came ++ b ∷ []) given
+              by_memory true e =
+                  stands_moment m b came (Whole u) (Wanting i u bytes) (ap (λ x. Some (if x then Wanting i u bytes else Read i u bytes)) e)
+                  (tests.0, at_rest, is, s.later, (h, (and_parts (takes_memory i u) (not (finds_memory m.wanting)) e).0)) refl refl is (same_later i) s
+              by_memory false e =
+                  stands_moment m b came (Whole u) (Read i u bytes) (ap (λ x. Some (if x then Wanting i u bytes else Read i u bytes)) e)
+                  (tests.0, at_rest, is, s.later, h) refl refl is (same_later i) s
+
+          so : (j : Judgement) → judge 1 false bytes ≡ j → Stands i before (next m b j) (came ++ b ∷ []) given → Stands i before (next m b (judge 1 false bytes)) (came ++ b ∷ []) given
+          so j e h = subst (λ x. Stands i before (next m b x) (came ++ b ∷ []) given) (sym e) h
+
+          by_case : judging.Case 1 (as_read 1 false bytes) (judge 1 false bytes) → Stands i before (next m b (judge 1 false bytes)) (came ++ b ∷ []) given
+          by_case (judging.begins e partial) = so Begins e (begins e (subst (λ x. IsPartial 1 x) (as_they_stand bytes) partial))
+          by_case (judging.shows fault e h) = so (Faulty fault) e (shows fault (subst (λ x. Shows 1 x fault) (as_they_stand bytes) h))
+          by_case (judging.whole e w sound) =
+              let u : Unit = unit_in (as_read 1 false bytes) in
+              so (Whole (unit_in (as_read 1 false bytes))) e
+              (reads (unit_in (as_read 1 false bytes)) (subst (λ x. Reads 1 (unit_in (as_read 1 false bytes)) x) (as_they_stand bytes)
+              ((whole_exactly 1 false bytes (unit_in (as_read 1 false bytes)) (omega arith) each (next_size 1 false m.conn.held b part w)).0 e)))
+
+      -- a piece, byte by byte
+      abbrev step : Taking → ℕ → Taking
+      step = conn_byte keep t i
+
+      abbrev stops : Taking → Bool
+      stops m = conn_stops m.conn
+
+      stands_run : (m : Taking) (taken : List ℕ) (came : List ℕ) → AreBytes taken → ((front back : List ℕ) → taken ≡ front ++ back → 0 < length back → stops (run stops step m front) ≡ false)
+          → Stands i before m came given → Stands i before (run stops step m taken) (came ++ taken) given
+      stands_run m [] came each goes_on s = subst (λ x. Stands i before m x given) (sym (append-nil came)) s
+      stands_run m (b ∷ taken) came each goes_on s =
+          subst (λ x. Stands i before (run stops step (step m b) taken) x given) (append_assoc came (b ∷ []) taken)
+          (stands_run (step m b) taken (came ++ b ∷ []) (λ j. each (suc j)) (λ front back e some. goes_on (b ∷ front) back (ap (λ x. b ∷ x) e) some)
+          (stands_byte m b came (each 0) (goes_on [] (b ∷ taken) refl (omega arith)) s))
+
+    -- What is taken are bytes of the piece.
+    bytes_front : (piece taken rest : List ℕ) → piece ≡ taken ++ rest → AreBytes piece → AreBytes taken
+    bytes_front piece [] rest e each j = none_bytes j
+    bytes_front [] (b ∷ taken) rest e each j = absurd (let h : ◌≡◌ {A = List ℕ} [] (b ∷ (taken ++ rest)) = e in cc)
+    bytes_front (x ∷ piece) (b ∷ taken) rest e each zero = let same : x ≡ b = cc in let low : x < 256 = each 0 in subst (λ y. y < 256) same low
+    bytes_front (x ∷ piece) (b ∷ taken) rest e each (suc j) = bytes_front piece taken rest (let h : x ∷ piece ≡ b ∷ (taken ++ rest) = e in cc) (λ k. each (suc k)) j
+
+    front_of : (piece taken rest : List ℕ) → piece ≡ taken ++ rest → take (length piece - length rest) piece ≡ taken
+    front_of piece taken rest e =
+        let size : length piece - length rest ≡ length taken = omega (arith, ap length e, length-append taken rest) in
+        (λ j. take (size j) (e j)) ∙ take-append_seam taken rest
+
+    -- a piece is handed in
+    takes_goes : (i : Instance) (is : IsInstance i) (wanting : Option ℕ) (piece : List ℕ) (s : Serving) → AreBytes piece → IsLater s.conn.state.cache i → s.cache ≡ i → Goes opened_at s.conn s.moments s.came s.given
+        → Stands i s.moments (conn_takes keep t i wanting piece s.conn).machine (s.came ++ take (length piece - length (conn_takes keep t i wanting piece s.conn).rest) piece) s.given
+    unfolding conn_takes
+    takes_goes i is wanting piece s each later same g =
+        let start : Taking = record { conn = s.conn; moments = []; wanting = wanting } in
+        let taken = feed_takes (λ (m : Taking). conn_stops m.conn) (conn_byte keep t i) (record { conn = s.conn; moments = []; wanting = wanting }) piece in
+        let first : Stands i s.moments (record { conn = s.conn; moments = []; wanting = wanting }) s.came s.given =
+        record { goes = subst (λ x. Goes opened_at s.conn x s.came s.given) (sym (append-nil s.moments)) g; later = later } in
+        let stood = stands_run i is s.moments s.given (record { conn = s.conn; moments = []; wanting = wanting }) taken.0 s.came (bytes_front piece taken.0 _ taken.1.piece_is each) taken.1.shortest first in
+        subst (λ m. Stands i s.moments m (s.came ++ take (length piece - length (feed (λ (m : Taking). conn_stops m.conn) (conn_byte keep t i) (record { conn = s.conn; moments = []; wanting = wanting }) piece).rest) piece) s.given) (sym taken.1.machine_is)
+        (subst (λ x. Stands i s.moments (run (λ (m : Taking). conn_stops m.conn) (conn_byte keep t i) (record { conn = s.conn; moments = []; wanting = wanting }) taken.0) (s.came ++ x) s.given) (sym (front_of piece taken.0 _ taken.1.piece_is)) stood)
+
+    -- bytes are pulled
+    pulled_goes : (most : ℕ) (s : Serving) → Goes opened_at s.conn s.moments s.came s.given
+        → Goes opened_at (conn_pulled keep t most s.conn) (s.moments ++ Pull (pulled_count most s.conn) ∷ []) s.came (s.given ++ take most s.conn.state.due)
+    unfolding conn_pulled
+    pulled_goes most s g =
+        let m : Moment = Pull (pulled_count most s.conn) in
+        let may : MayCome s.conn.state (Pull (pulled_count most s.conn)) = min-le_right most (length s.conn.state.due) in
+        record {
+          used = g.used ++ [];
+          runs = runs_more (opened opened_at) s.moments g.used s.conn.state (Pull (pulled_count most s.conn)) g.runs may;
+          came_is = g.came_is ∙ ap (λ x. x ++ s.conn.held) (sym (append-nil g.used));
+          given_is = (λ j. g.given_is j ++ sym (take_min most s.conn.state.due) j) ∙ sym (pulled_more (opened opened_at) s.moments g.used s.conn.state (Pull (pulled_count most s.conn)) g.runs);
+          holds = still (pulled_count most s.conn) s.conn.state s.conn.held g.holds;
+          bytes = g.bytes;
+          cache = g.cache;
+        }
+      where
+        less : (count : ℕ) (due : List ℕ) → due ≡ [] → drop count due ≡ []
+        less count due e = ap (drop count) e ∙ none count
+          where
+            none : (count : ℕ) → ◌≡◌ {A = List ℕ} (drop count []) []
+            none zero = refl
+            none (suc count) = refl
+
+        rests : (count : ℕ) (c : Connection) (held : List ℕ) → (held ≡ []) ⊎ ((c.due ≡ []) ⊎ (c.notified ≡ true)) → (held ≡ []) ⊎ ((drop count c.due ≡ []) ⊎ (c.notified ≡ true))
+        rests count c held (inl e) = inl e
+        rests count c held (inr (inl e)) = inr (inl (less count c.due e))
+        rests count c held (inr (inr e)) = inr (inr e)
+
+        still : (count : ℕ) (c : Connection) (held : List ℕ) → MayHold c held → MayHold (record c { due = drop count c.due }) held
+        still count c held h = by_end c.ended h
+          where
+            by_end : (b : Bool) → MatchBool b (held ≡ []) (IsPartial 1 held × ((held ≡ []) ⊎ ((c.due ≡ []) ⊎ (c.notified ≡ true)))) → MatchBool b (held ≡ []) (IsPartial 1 held × ((held ≡ []) ⊎ ((drop count c.due ≡ []) ⊎ (c.notified ≡ true))))
+            by_end true h = h
+            by_end false h = (h.0, rests count c held h.1)
+
+    -- the router is notified, or cannot be
+    notified_goes : (i : Instance) → IsInstance i → (s : Serving) → IsLater s.conn.state.cache i → Goes opened_at s.conn s.moments s.came s.given → (b : Bool) → can_notify i s.conn ≡ b
+        → Goes opened_at (if b then record s.conn { state = after keep t s.conn.state (Notify i) } else s.conn) (if b then s.moments ++ Notify i ∷ [] else s.moments) s.came s.given
+    notified_goes i is s later g false e = g
+    notified_goes i is s later g true e = record {
+      used = g.used ++ [];
+      runs = runs_more (opened opened_at) s.moments g.used s.conn.state (Notify i) g.runs (ended, due, is, later, parts.0);
+      came_is = g.came_is ∙ ap (λ x. x ++ s.conn.held) (sym (append-nil g.used));
+      given_is = g.given_is ∙ sym (append-nil (pulled keep t (opened opened_at) s.moments)) ∙ sym (pulled_more (opened opened_at) s.moments g.used s.conn.state (Notify i) g.runs);
+      holds = (holds_part s.conn.state s.conn.held ended g.holds, inr (inr refl));
+      bytes = g.bytes;
+      cache = is;
+    }
+      where
+        parts : (is_published i ≡ true) × (not (conn_stops s.conn) ≡ true)
+        parts = and_parts (is_published i) (not (conn_stops s.conn)) e
+
+        not_true : (b : Bool) → not b ≡ true → b ≡ false
+        not_true true h = false_true h
+        not_true false h = refl
+
+        tests : (s.conn.state.ended ≡ false) × (not (is_none s.conn.state.due) ≡ false)
+        tests = or_parts s.conn.state.ended (not (is_none s.conn.state.due)) (not_true (conn_stops s.conn) parts.1)
+
+        ended : s.conn.state.ended ≡ false
+        ended = tests.0
+
+        none : (due : List ℕ) → not (is_none due) ≡ false → due ≡ []
+        none [] h = refl
+        none (x ∷ due) h = false_true (sym h)
+
+        due : s.conn.state.due ≡ []
+        due = none s.conn.state.due tests.1
+
+    -- what is published is later
+    published_later : (c i : Instance) (set : VrpSet) → IsLater c i → IsLater c (published set i)
+    published_later c i set l = by_current (is_current i.sets set)
+      where
+        by_current : (b : Bool) → IsLater c (if b then i else record i { sets = set ∷ i.sets })
+        by_current true = l
+        by_current false = record { session = l.session; start = l.start; more = set ∷ l.more; sets = ap (λ x. set ∷ x) l.sets }
+
+    pub record Served (s : Serving) : Type 0 where
+      pub goes : Goes opened_at s.conn s.moments s.came s.given
+      pub later : IsLater s.conn.state.cache s.cache
+      pub cache : IsInstance s.cache
+
+    later_by : (i : Instance) (s : Serving) (b : Bool) → IsLater s.conn.state.cache i → IsLater (if b then record s.conn { state = after keep t s.conn.state (Notify i) } else s.conn).state.cache i
+    later_by i s true l = same_later i
+    later_by i s false l = l
+
+    serve_served : (call : CacheCall) (s : Serving) → IsCacheCall call → Served s → Served (serve keep t call s)
+    unfolding conn_pulled conn_notified
+    serve_served (Publishes set) s fits h = record { goes = h.goes; later = published_later s.conn.state.cache s.cache set h.later; cache = published_is_instance set s.cache fits h.cache }
+    serve_served (Takes wanting piece) s fits h =
+        let k = takes_goes s.cache h.cache wanting piece s fits h.later refl h.goes in record { goes = k.goes; later = k.later; cache = h.cache }
+    serve_served (Gives most) s fits h = record { goes = pulled_goes most s h.goes; later = h.later; cache = h.cache }
+    serve_served Notifies s fits h = record {
+      goes = notified_goes s.cache h.cache s h.later h.goes (can_notify s.cache s.conn) refl;
+      later = later_by s.cache s (can_notify s.cache s.conn) h.later;
+      cache = h.cache;
+    }
+
+    new_served : IsInstance opened_at → Served (record { cache = opened_at; conn = new_conn opened_at; moments = []; came = []; given = [] })
+    new_served is = record {
+      goes = record { used = []; runs = (refl, refl); came_is = refl; given_is = refl; holds = holds_none (opened opened_at); bytes = none_bytes; cache = is };
+      later = same_later opened_at;
+      cache = is;
+    }
+
+    all_served : (calls : List CacheCall) → IsInstance opened_at → AllByRecursion IsCacheCall calls → Served (serving keep t opened_at calls)
+    all_served [] is all = new_served is
+    all_served (call ∷ calls) is all = serve_served call (serving keep t opened_at calls) all.0 (all_served calls is all.1)
+
+-- What is called on a connection makes its history.
+pub serves_history : ServesHistory
+serves_history keep t i calls is all = served keep t i (serving keep t i calls) (all_served keep t i calls is all).goes
