@@ -1,6 +1,5 @@
 -- A connection at the cache, call by call, worked out.
 use Rattle.std.proofs.Common.{◌≡◌, ℕ, true, false, List, [], ◌∷◌, ◌++◌, Option, Some, None, refl, ap, drop}
-use Rattle.prefixes.specs.Payload.{Payload}
 use Rattle.vrps.specs.Instance.{Instance}
 use Rattle.vrps.specs.VrpSet.{set_of}
 use Rattle.vrps.proofs.SetLaws.{listing-set_of}
@@ -8,12 +7,12 @@ use Rattle.rtr_pdu.specs.Judging.{judge}
 use Rattle.rtr_pdu.specs.Stream.{as_read}
 use Rattle.rtr_pdu.specs.declared.unit.Unit.TheVariants.{SerialQuery, ResetQuery}
 use Rattle.rtr_pdu.specs.declared.unit.UnitFault.TheVariants as faults
-use Rattle.rtr_ends.specs.Answer.{answer, report, sent, sent_all}
-use Rattle.rtr_ends.specs.Cache.{Conn, Taking, new_conn, conn_byte, conn_takes, conn_notified, conn_pulled, serving, CacheCall, Publishes, Takes, Gives, Notifies}
-use Rattle.rtr_ends.specs.Connection.{Connection, Read, Wanting, Fault, Notify, Pull, opened}
+use Rattle.rtr_ends.specs.Answer.{report, sent, sent_all}
+use Rattle.rtr_ends.specs.Cache.{Conn, Taking, new_conn, conn_byte, conn_takes, conn_notified, conn_pulled, serving, Takes, Gives, Notifies}
+use Rattle.rtr_ends.specs.Connection.{Read, Wanting, Fault}
 use Rattle.rtr_ends.specs.Feeding.{Fed}
 use Rattle.rtr_ends.specs.Timing.{default_intervals}
-use Rattle.rtr_ends.proofs.Rows.{v, v_ascends, cache, with_all_of, reset_bytes, serial_bytes, response_bytes, v_bytes, end_bytes, no_data_bytes}
+use Rattle.rtr_ends.proofs.Rows.{v, v_ascends, cache, with_all_of, reset_bytes, response_bytes, v_bytes, end_bytes, no_data_bytes}
 
 abbrev with_v : Instance
 with_v = cache 5 (set_of (v ∷ []) ∷ [])

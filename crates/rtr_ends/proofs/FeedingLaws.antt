@@ -1,6 +1,6 @@
 -- What a machine takes of a piece.
 use Rattle.std.specs.Prelude.{◌≡◌, ℕ, ◌<◌, Bool, true, false, List, [], ◌∷◌, ◌++◌, length, refl}
-use Rattle.std.proofs.Common.{sym, ap, ◌∙◌, subst, arith}
+use Rattle.std.proofs.Common.{sym, ap, subst, arith}
 use Rattle.rtr_ends.specs.Feeding.{Fed, feed, run, IsTaken, Takes}
 
 -- a list of no element has no part

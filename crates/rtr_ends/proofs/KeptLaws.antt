@@ -9,14 +9,13 @@ use Rattle.rtr_pdu.specs.Judging.{Judgement, Begins, Whole, Faulty, judge}
 use Rattle.rtr_pdu.specs.Payloads.{Report}
 use Rattle.rtr_pdu.specs.declared.unit.Unit.{Unit}
 use Rattle.rtr_pdu.specs.declared.unit.Unit.TheVariants.{SerialNotify, SerialQuery, ResetQuery, CacheResponse, Prefix, EndOfData, CacheReset, RouterKey, ErrorReport}
-use Rattle.rtr_pdu.specs.declared.unit.UnitFault.{UnitFault}
 use Rattle.rtr_ends.specs.declared.link.End.{End}
 use Rattle.rtr_ends.specs.declared.link.End.TheVariants as ends
-use Rattle.rtr_ends.specs.Answer.{report, sent}
+use Rattle.rtr_ends.specs.Answer.{sent}
 use Rattle.rtr_ends.specs.Cache.{is_none, finds_memory}
 use Rattle.rtr_ends.specs.Feeding.{Fed, feed}
-use Rattle.rtr_ends.specs.Router.{Link, Closed, Idle, Asked, Answering, Ended, Router, Noted, Receiving, Staged, Stays, Wrong, Over, choose, asking, ask, emptied, reports, told, fails, is_strange, is_news, stage, staged, commit, told_off, on_unit, may_lack, silent, asked_by, reads, lacks, breaks, with_bytes, with_judged, is_reading, router_stops, router_byte, expired, judged, clocked, is_closed, close, is_due, is_idle, asks_if, and_then, connects_at, closed_at, ticks_at, asks, receives, router_pulled, Call, Connects, Receives, Pulls, Closes, AsksNow, Ticks, called, played, IsKept, RouterKeeps}
-use Rattle.rtr_ends.specs.Transcript.{Question, AskReset, AskSerial, query, Item, At, Opened, Asks, Reads, Lacks, Breaks, Shut, Begun, begun, with_record, waiting, under_way, outstanding, question_of, has_agreed, responded, is_connected, moment, later, is_listed, may_withdraw, may_announce, acts_once, led_to, Committed, Kept, nothing, bounded, base_of, session_of, differs, is_serial, is_wrong, does_commit, emptied_if, at_end, kept, is_over, sum_of, retry_of, refreshed, due}
+use Rattle.rtr_ends.specs.Router.{Link, Closed, Idle, Asked, Answering, Ended, Router, Noted, Receiving, Staged, Stays, Wrong, Over, choose, asking, ask, emptied, reports, told, fails, is_strange, is_news, stage, staged, commit, told_off, on_unit, may_lack, asked_by, reads, lacks, with_bytes, is_reading, router_stops, router_byte, expired, clocked, is_closed, close, is_due, is_idle, asks_if, connects_at, closed_at, ticks_at, asks, receives, router_pulled, Call, Connects, Receives, Pulls, Closes, AsksNow, Ticks, called, played, IsKept, RouterKeeps}
+use Rattle.rtr_ends.specs.Transcript.{Question, AskReset, AskSerial, query, Item, At, Opened, Asks, Reads, Shut, Begun, begun, with_record, waiting, under_way, outstanding, question_of, has_agreed, responded, is_connected, moment, later, is_listed, may_withdraw, may_announce, acts_once, led_to, Committed, Kept, nothing, bounded, base_of, session_of, differs, is_serial, is_wrong, does_commit, emptied_if, at_end, kept, is_over, sum_of, retry_of, refreshed, due}
 use Rattle.rtr_ends.proofs.TableLaws.{false_true}
 
 abbrev pub holds : Router → Kept
@@ -138,7 +137,7 @@ idle_report r e items b is el h l = by_code b
     leaves = record {
       kept_is = ap (λ o. emptied_if (e.code == 0 && is_serial o) (kept items)) asked_none ∙ ap (λ x. emptied_if x (kept items)) (and_false (e.code == 0)) ∙ h.kept_is;
       due_is = ap (λ o. if e.code == 2 && is_some o then Some (sum_of (moment items) (retry_of (kept items).version)) else due items) asked_none
-      ∙ ap (λ x. if x then Some (sum_of (moment items) (retry_of (kept items).version)) else due items) (and_false (e.code == 2)) ∙ h.due_is;
+          ∙ ap (λ x. if x then Some (sum_of (moment items) (retry_of (kept items).version)) else due items) (and_false (e.code == 2)) ∙ h.due_is;
       now_is = h.now_is;
     }
 

@@ -1,20 +1,19 @@
 -- A router, call by call, worked out.
-use Rattle.std.proofs.Common.{◌≡◌, ℕ, Bool, true, false, not, ◌||◌, ◌&&◌, nat_lt, List, [], ◌∷◌, ◌++◌, Option, Some, None, if◌then◌else◌, refl, ap, sym, ◌∙◌, take, drop}
+use Rattle.std.proofs.Common.{◌≡◌, ℕ, Bool, true, false, not, ◌||◌, ◌&&◌, nat_lt, List, [], ◌∷◌, ◌++◌, Some, None, if◌then◌else◌, refl, ap, ◌∙◌, take, drop}
 use Rattle.std.specs.Str.{chars, is_utf8}
-use Rattle.prefixes.specs.Payload.{Payload, vrp_cmp}
+use Rattle.prefixes.specs.Payload.{Payload}
 use Rattle.vrps.specs.VrpSet.{VrpSet, empty, has, set_of, size}
 use Rattle.vrps.proofs.SetLaws.{has-empty, has-set_of, size-set_of}
 use Rattle.rtr_pdu.specs.Judging.{judge}
 use Rattle.rtr_pdu.specs.Stream.{as_read}
-use Rattle.rtr_pdu.specs.declared.unit.Unit.{Unit}
-use Rattle.rtr_pdu.specs.declared.unit.Unit.TheVariants.{SerialNotify, SerialQuery, ResetQuery, CacheResponse, Prefix, EndOfData, CacheReset, ErrorReport}
+use Rattle.rtr_pdu.specs.declared.unit.Unit.TheVariants.{SerialNotify, CacheResponse, Prefix, EndOfData, CacheReset}
 use Rattle.rtr_pdu.specs.declared.unit.UnitFault.TheVariants as faults
 use Rattle.rtr_ends.specs.declared.link.End.TheVariants as ends
-use Rattle.rtr_ends.specs.Answer.{report, sent, sent_all}
-use Rattle.rtr_ends.specs.Router.{Router, Noted, Receiving, Staged, Stays, Wrong, Over, Link, Closed, Idle, Asked, Answering, Ended, on_unit, router_byte, receives, clocked, connects_at, closed_at, ticks_at, asks, router_pulled, played, called, Call, Connects, Receives, Pulls, Closes, AsksNow, Ticks, new_router, stage, staged, is_staged, lacks, asked_by}
-use Rattle.rtr_ends.specs.Transcript.{Item, At, Opened, Asks, Reads, Lacks, Breaks, Shut, Begun, Committed, AskReset, AskSerial, kept, due, led_to, acts_once}
+use Rattle.rtr_ends.specs.Answer.{report, sent}
+use Rattle.rtr_ends.specs.Router.{Router, Noted, Staged, Stays, Wrong, Over, Closed, Idle, Asked, Answering, Ended, on_unit, router_byte, receives, clocked, connects_at, closed_at, ticks_at, asks, router_pulled, played, called, Connects, Receives, Pulls, Closes, AsksNow, Ticks, new_router, stage, staged, is_staged, lacks, asked_by}
+use Rattle.rtr_ends.specs.Transcript.{Item, At, Opened, Asks, Reads, Lacks, Breaks, Shut, Begun, Committed, AskReset, AskSerial, kept, led_to}
 use Rattle.rtr_ends.specs.Timing.{default_intervals}
-use Rattle.rtr_ends.proofs.Rows.{v, w, v_ascends, reset_bytes, serial_bytes, response_bytes, v_bytes, w_bytes, end_bytes}
+use Rattle.rtr_ends.proofs.Rows.{v, w, v_ascends, reset_bytes, serial_bytes, response_bytes, v_bytes, end_bytes}
 use Rattle.rtr_ends.proofs.TableLaws.{led_from_empty}
 
 abbrev just_v : VrpSet

@@ -1,5 +1,5 @@
 -- A connection at the cache makes the history of what is called on it.
-use Rattle.std.specs.Prelude.{◌≡◌, ◌⊎◌, ℕ, ◌+◌, ◌-◌, ◌<◌, ◌≤◌, Bool, true, false, not, ◌&&◌, ◌||◌, ◌==◌, List, [], ◌∷◌, ◌++◌, length, take, drop, min, slice_index, Option, Some, None, if◌then◌else◌, IsTrue, MatchBool, refl}
+use Rattle.std.specs.Prelude.{◌≡◌, ◌⊎◌, ℕ, ◌-◌, ◌<◌, Bool, true, false, not, ◌&&◌, List, [], ◌∷◌, ◌++◌, length, take, drop, Option, Some, if◌then◌else◌, MatchBool, refl}
 use Rattle.std.proofs.Common.{sym, ap, ◌∙◌, subst, arith, append_assoc, inl, inr, zero, suc}
 use Rattle.std.specs.List.{AllByRecursion}
 use Rattle.std.proofs.lemmas.Bool.{and_parts, or_parts}
@@ -20,9 +20,9 @@ use Rattle.rtr_pdu.proofs.JudgingLaws.{judge_case, whole_exactly}
 use Rattle.rtr_pdu.proofs.JudgingLaws as judging
 use Rattle.rtr_pdu.proofs.NextLaws.{next_shortest, next_size}
 use Rattle.rtr_pdu.proofs.ReaderLaws.{partial_empty}
-use Rattle.rtr_ends.specs.Cache.{Conn, Taking, is_none, conn_stops, moment_of, with_moment, finds_memory, and_moment, with_judged, conn_byte, conn_takes, can_notify, conn_notified, pulled_count, conn_pulled, CacheCall, Publishes, Takes, Gives, Notifies, Serving, with_taken, serve, serving, IsCacheCall, IsServed, ServesHistory, new_conn}
-use Rattle.rtr_ends.specs.Connection.{Connection, Moment, Read, Wanting, Fault, Notify, Pull, bytes_of, IsMoment, IsLater, IsHistory, MayCome, MayHold, after, after_all, cache_after, opened, pulled, replies, is_published, takes_memory}
-use Rattle.rtr_ends.specs.Feeding.{Fed, feed, run}
+use Rattle.rtr_ends.specs.Cache.{Conn, Taking, is_none, conn_stops, moment_of, with_moment, finds_memory, and_moment, with_judged, conn_byte, conn_takes, can_notify, conn_notified, pulled_count, conn_pulled, CacheCall, Publishes, Takes, Gives, Notifies, Serving, serve, serving, IsCacheCall, IsServed, ServesHistory, new_conn}
+use Rattle.rtr_ends.specs.Connection.{Connection, Moment, Read, Wanting, Fault, Notify, Pull, bytes_of, IsLater, IsHistory, MayCome, MayHold, after, after_all, opened, pulled, is_published, takes_memory}
+use Rattle.rtr_ends.specs.Feeding.{feed, run}
 use Rattle.rtr_ends.specs.Timing.{Intervals}
 use Rattle.rtr_ends.proofs.FeedingLaws.{feed_takes}
 use Rattle.rtr_ends.proofs.HistoryLaws.{pulled_are_replies}
@@ -135,7 +135,7 @@ module _ (keep : ℕ) (t : Intervals) where
       runs = runs_more (opened opened_at) moments g.used o.state m g.runs may;
       came_is = ap (λ x. x ++ b ∷ []) g.came_is ∙ append_assoc g.used o.held (b ∷ []) ∙ ap (λ x. g.used ++ x) (sym bytes) ∙ sym (append-nil (g.used ++ bytes_of m));
       given_is = g.given_is ∙ sym (append-nil (pulled keep t (opened opened_at) moments)) ∙ ap (λ x. pulled keep t (opened opened_at) moments ++ x) (sym none)
-      ∙ sym (pulled_more (opened opened_at) moments g.used o.state m g.runs);
+          ∙ sym (pulled_more (opened opened_at) moments g.used o.state m g.runs);
       holds = holds_none (after keep t o.state m);
       bytes = none_bytes;
       cache = cache;
@@ -160,7 +160,7 @@ module _ (keep : ℕ) (t : Intervals) where
           subst (λ o. Stands i before (record { conn = with_moment keep t (m.conn.held ++ b ∷ []) m.conn o; moments = and_moment m.moments o; wanting = (next m b j).wanting }) (came ++ b ∷ []) given) (sym brings)
           (record {
             goes = subst (λ x. Goes opened_at (record { state = after keep t m.conn.state k; held = [] }) x (came ++ b ∷ []) given) (append_assoc before m.moments (k ∷ []))
-            (goes_moment m.conn (before ++ m.moments) came given b k may bytes none cache s.goes);
+                (goes_moment m.conn (before ++ m.moments) came given b k may bytes none cache s.goes);
             later = later;
           })
 

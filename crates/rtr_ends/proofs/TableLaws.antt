@@ -1,12 +1,12 @@
 -- What the staged records of an answer do to a table.
-use Rattle.std.specs.Prelude.{◌≡◌, ◌↔◌, ℕ, ◌≤◌, ◌<◌, Bool, true, false, not, ◌&&◌, ◌||◌, List, [], ◌∷◌, length, refl}
-use Rattle.std.proofs.Common.{sym, ap, ◌∙◌, subst, arith}
-use Rattle.std.specs.List.{AllByRecursion, IsDistinct, list_any}
+use Rattle.std.specs.Prelude.{◌≡◌, Bool, true, false, not, ◌&&◌, ◌||◌, List, [], ◌∷◌, refl}
+use Rattle.std.proofs.Common.{ap, ◌∙◌}
+use Rattle.std.specs.List.{AllByRecursion, IsDistinct}
 use Rattle.std.specs.Ordering.{eq_by_cmp}
 use Rattle.std.proofs.lemmas.Bool.{and_parts, or_parts}
 use Rattle.prefixes.specs.Payload.{Payload, vrp_cmp}
-use Rattle.vrps.specs.VrpSet.{VrpSet, empty, has, set_of, union, without}
-use Rattle.vrps.proofs.SetLaws.{same_set, has-empty, has-union, has-without, has-set_of}
+use Rattle.vrps.specs.VrpSet.{VrpSet, empty, has, set_of, without}
+use Rattle.vrps.proofs.SetLaws.{same_set, has-empty, has-union, has-without}
 use Rattle.rtr_ends.specs.Commit.{Commits}
 use Rattle.rtr_ends.specs.Transcript.{is_listed, may_withdraw, may_announce, acts_once, led_to, ActsExactly}
 
