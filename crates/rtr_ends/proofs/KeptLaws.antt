@@ -15,7 +15,7 @@ use Rattle.rtr_ends.specs.Answer.{sent}
 use Rattle.rtr_ends.specs.Cache.{is_none, finds_memory}
 use Rattle.rtr_ends.specs.Feeding.{Fed, feed}
 use Rattle.rtr_ends.specs.Router.{Link, Closed, Idle, Asked, Answering, Ended, Router, Noted, Receiving, Staged, Stays, Wrong, Over, choose, asking, ask, emptied, reports, told, fails, is_strange, is_news, stage, staged, commit, told_off, on_unit, may_lack, asked_by, reads, lacks, with_bytes, is_reading, router_stops, router_byte, expired, clocked, is_closed, close, is_due, is_idle, asks_if, connects_at, closed_at, ticks_at, asks, receives, router_pulled, Call, Connects, Receives, Pulls, Closes, AsksNow, Ticks, called, played, IsKept, RouterKeeps}
-use Rattle.rtr_ends.specs.Transcript.{Question, AskReset, AskSerial, query, Item, At, Opened, Asks, Reads, Shut, Begun, begun, with_record, waiting, under_way, outstanding, question_of, has_agreed, responded, is_connected, moment, later, is_listed, may_withdraw, may_announce, acts_once, led_to, Committed, Kept, nothing, bounded, base_of, session_of, differs, is_serial, is_wrong, does_commit, emptied_if, at_end, kept, is_over, sum_of, retry_of, refreshed, due}
+use Rattle.rtr_ends.specs.Transcript.{Question, AskReset, AskSerial, query, Item, At, Opened, Asks, Reads, Refused, Shut, Begun, begun, with_record, waiting, under_way, outstanding, question_of, has_agreed, responded, is_connected, moment, later, is_listed, may_withdraw, may_announce, acts_once, led_to, Committed, Kept, nothing, bounded, base_of, session_of, differs, is_serial, is_wrong, does_commit, emptied_if, at_end, kept, is_over, sum_of, retry_of, refreshed, due}
 use Rattle.rtr_ends.proofs.TableLaws.{false_true}
 
 abbrev pub holds : Router → Kept
@@ -534,3 +534,24 @@ is_kept r items t = record { table = ap (λ k. k.table) (sym t.kept_is); version
 -- What a router holds is what its transcript keeps.
 pub router_keeps : RouterKeeps
 router_keeps calls = is_kept (played calls).router (played calls).items (played_tells calls)
+
+-- A refused event that is noted changes nothing of a closed link, and of no link that is closed then.
+pub refused_closed : (r : Router) (items : List Item) → r.link ≡ Closed → Tells r items → Tells r (Refused ∷ items)
+refused_closed r items is t = record {
+  kept_is = t.kept_is;
+  due_is = t.due_is;
+  now_is = t.now_is;
+  link = subst (λ l. LinkTells l r.agreed r.session r.table (Refused ∷ items)) (sym is) (subst (λ l. LinkTells l r.agreed r.session r.table items) is t.link);
+}
+
+pub refused_closes : (now : ℕ) (r : Router) (items : List Item) → Tells r items → Tells (closed_at now r).router ((closed_at now r).items ++ Refused ∷ items)
+unfolding closed_at
+refused_closes now r items t =
+    let c = clocked_tells now r items t in
+    let s = closing (clocked now r).link (clocked now r) (At now ∷ items) refl c c.link in
+    shut_tells (close (clocked now r)) (At now ∷ Refused ∷ items) (record { kept_is = s.kept_is; due_is = s.due_is; now_is = s.now_is; closed = s.closed; agreed = s.agreed; session = s.session })
+
+-- A router is closed then.
+pub closed_so : (now : ℕ) (r : Router) (items : List Item) → Tells r items → (closed_at now r).router.link ≡ Closed
+unfolding closed_at
+closed_so now r items t = let c = clocked_tells now r items t in (closing (clocked now r).link (clocked now r) (At now ∷ items) refl c c.link).closed

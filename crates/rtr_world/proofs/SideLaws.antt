@@ -1,0 +1,26 @@
+-- What holds of each router of each world to which a history leads.
+use Rattle.std.specs.Prelude.{◌≡◌, ℕ, Bool, true, false, List, [], ◌∷◌, ◌++◌, map, Option, Some, None, if◌then◌else◌, refl}
+use Rattle.std.proofs.Common.{sym, ap, ◌∙◌, subst, zero, suc}
+use Rattle.std.specs.List.{AllByRecursion}
+use Rattle.rtr_world.specs.World.{Side, World, new_side, new_sides, on_side}
+
+-- a fact of each side
+module _ (P : Side → Type 0) where
+  pub all_new : P new_side → (routers : ℕ) → AllByRecursion P (new_sides routers)
+  all_new h zero = tt
+  all_new h (suc routers) = (h, all_new h routers)
+
+  -- one side changes
+  pub all_on_side : (Q : Side → Type 0) (r : ℕ) (f : Side → Side) (sides : List Side) → ((s : Side) → P s → Q s) → ((s : Side) → P s → Q (f s)) → AllByRecursion P sides → AllByRecursion Q (on_side r f sides)
+  all_on_side Q r f [] stays goes h = tt
+  all_on_side Q zero f (s ∷ sides) stays goes h = (goes s h.0, rest sides h.1)
+    where
+      rest : (sides : List Side) → AllByRecursion P sides → AllByRecursion Q sides
+      rest [] h = tt
+      rest (s ∷ sides) h = (stays s h.0, rest sides h.1)
+  all_on_side Q (suc r) f (s ∷ sides) stays goes h = (stays s h.0, all_on_side Q r f sides stays goes h.1)
+
+  -- each side changes
+  pub all_map : (Q : Side → Type 0) (f : Side → Side) (sides : List Side) → ((s : Side) → P s → Q (f s)) → AllByRecursion P sides → AllByRecursion Q (map f sides)
+  all_map Q f [] goes h = tt
+  all_map Q f (s ∷ sides) goes h = (goes s h.0, all_map Q f sides goes h.1)

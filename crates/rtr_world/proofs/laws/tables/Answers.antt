@@ -1,0 +1,5 @@
+use Rattle.rtr_world.proofs.TableLaws.{tables}
+use Rattle.rtr_world.proofs.laws.tables.Goals as goal
+
+pub returns : goal.returns
+returns c = tables

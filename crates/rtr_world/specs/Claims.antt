@@ -1,0 +1,55 @@
+-- What holds after every list of events.
+use Rattle.std.specs.Prelude.{◌≡◌, ◌==◌, List, [], ◌∷◌, Option, Some, None, ⊤, zero, suc}
+use Rattle.std.specs.List.{AllByRecursion}
+use Rattle.prefixes.specs.Payload.{Payload}
+use Rattle.vrps.specs.Instance.{Instance, named}
+use Rattle.vrps.specs.VrpSet.{VrpSet, empty}
+use Rattle.rtr_ends.specs.declared.link.End.{End}
+use Rattle.rtr_ends.specs.declared.link.End.TheVariants as ends
+use Rattle.rtr_ends.specs.Router.{IsKept}
+use Rattle.rtr_ends.specs.Transcript.{Question, AskSerial, Committed, kept}
+use Rattle.rtr_world.specs.Place.{NeverBack}
+use Rattle.rtr_world.specs.World.{Side, World, Ending, instances}
+use Rattle.rtr_world.specs.History.{Made, Entry, Leads}
+use Rattle.rtr_world.specs.OneAnswer.{OneAnswer, IfLive}
+
+-- a fact of each router of each world to which a history leads
+abbrev pub Always : (World → Side → Type 0) → Type 0
+Always Holds = (made : Made) (history : List Entry) (w : World) → Leads made history w → AllByRecursion (Holds w) w.sides
+
+-- The tables: what a router holds, when it asks, and the greatest moment it was told are those of its transcript.
+abbrev pub Tables : Type 0
+Tables = Always (λ w s. IsKept s.router s.items)
+
+-- One answer
+abbrev pub OneAnswerAlways : Type 0
+OneAnswerAlways = Always (λ w s. IfLive s.router.link (OneAnswer w s))
+
+-- The headline: the table is empty where no session is held, else the set that was published under the session and the serial
+-- of the version that was committed last, by the transcript.
+abbrev pub IsNamed : List Instance → Option Committed → VrpSet → Type 0
+IsNamed all None table = table ≡ empty
+IsNamed all (Some version) table = named all version.session version.serial ≡ Some table
+
+abbrev pub Headline : Type 0
+Headline = Always (λ w s. IsNamed (instances w) (kept s.items).version s.router.table)
+
+-- No way back: no version is committed that was published before one that was committed earlier.
+abbrev pub NoWayBack : Type 0
+NoWayBack = Always (λ w s. NeverBack s.places)
+
+-- A link ends by want of memory, by its expiry, by a report of code 1, or by one of code 0 to a Serial Query of another session than
+-- the cache's, and by nothing else.
+abbrev pub OfAnother : Option Question → Option Instance → Type 0
+OfAnother (Some (AskSerial session serial)) (Some home) = session ≡ home.session → ⊥
+OfAnother question home = ⊥
+
+abbrev pub IsLawfulEnd : End → Option Question → Option Instance → Type 0
+IsLawfulEnd ends.Memory question home = ⊤
+IsLawfulEnd ends.Expired question home = ⊤
+IsLawfulEnd (ends.Told (suc zero)) question home = ⊤
+IsLawfulEnd (ends.Told zero) question home = OfAnother question home
+IsLawfulEnd end question home = ⊥
+
+abbrev pub LawfulEnds : Type 0
+LawfulEnds = Always (λ w s. AllByRecursion (λ (e : Ending). IsLawfulEnd e.end e.question e.home) s.endings)

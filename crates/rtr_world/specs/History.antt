@@ -1,0 +1,142 @@
+-- What is refused, and what a list of events with its outcomes leads to.
+use Rattle.std.specs.Prelude.{◌≡◌, ℕ, zero, suc, ◌-◌, ◌^◌, ◌<◌, ◌≤◌, Bool, true, false, not, ◌||◌, ◌&&◌, ◌==◌, nat_lt, List, [], ◌∷◌, length, take, find, Option, Some, None, is_some, if◌then◌else◌, ⊤}
+use Rattle.vrps.specs.Instance.{Instance, versions}
+use Rattle.vrps.specs.Store.{is_current}
+use Rattle.vrps.specs.VrpSet.{VrpSet, IsVrpSet}
+use Rattle.rtr_ends.specs.Cache.{Conn}
+use Rattle.rtr_ends.specs.Router.{is_closed}
+use Rattle.rtr_ends.specs.Transcript.{Committed}
+use Rattle.rtr_world.specs.Place.{position_of}
+use Rattle.rtr_world.specs.World.{Side, World, instances, SideEvent, RouterRestart, Connect, RouterSends, CacheGets, CacheSends, RouterGets, Event, Publish, Restart, On, cache_gets, router_gets, goes_through, settled, is_refused, new_world}
+
+-- How an event ended: it went through, and at this unit of it an end met want of memory, if at any; or it was refused: the session
+-- is used already; too many versions; no such router; or want of memory, after so many bytes.
+pub data Outcome : Type 0 where
+  Done : (wanting : Option ℕ) → Outcome
+  SessionUsed : Outcome
+  TooManyVersions : Outcome
+  NoSuchRouter : Outcome
+  Memory : (bytes : ℕ) → (wanting : Option ℕ) → Outcome
+
+-- A new version stands fewer than 2^31 after the one that a router committed under this session,
+abbrev pub is_near : Instance → Option ℕ → Bool
+is_near i None = true
+is_near i (Some position) = nat_lt (length i.sets - position) (2 ^ 31)
+
+abbrev pub room_for : Instance → Option Committed → Bool
+room_for i None = true
+room_for i (Some version) = if i.session == version.session then is_near i (position_of version.serial (versions i)) else true
+
+-- and after the one that was current when a connection of this instance was made, or the first where there was none.
+abbrev pub room_since : Instance → Option Instance → Bool
+room_since i None = true
+room_since i (Some home) = if i.session == home.session then is_near i (Some (length home.sets - 1)) else true
+
+abbrev pub all_have_room : Instance → List Side → Bool
+all_have_room i [] = true
+all_have_room i (s ∷ sides) = (room_for i s.router.version && room_since i s.home) && all_have_room i sides
+
+abbrev pub is_used : List Instance → ℕ → Bool
+is_used all session = is_some (find (λ i. i.session == session) all)
+
+-- the refusal for another cause than memory
+unfoldable pub refusal : World → Event → Option Outcome
+refusal w (Publish set) = if is_current w.present.sets set || all_have_room w.present w.sides then None else Some TooManyVersions
+refusal w (Restart session start) = if is_used (instances w) session then Some SessionUsed else None
+refusal w (On r event) = if nat_lt r (length w.sides) then None else Some NoSuchRouter
+
+abbrev pub side_at : ℕ → List Side → Option Side
+side_at r [] = None
+side_at zero (s ∷ sides) = Some s
+side_at (suc r) (s ∷ sides) = side_at r sides
+
+-- A router has a connection until it is told `closed`, and while one is open at the cache.
+abbrev pub has_connection : Side → Bool
+has_connection s = not (is_closed s.router.link) || is_some s.conn
+
+-- the events that may be refused for want of memory
+abbrev pub may_refuse_at : SideEvent → Option Side → Bool
+may_refuse_at event None = false
+may_refuse_at RouterRestart (Some s) = true
+may_refuse_at Connect (Some s) = true
+may_refuse_at (RouterSends most) (Some s) = has_connection s
+may_refuse_at (CacheGets most) (Some s) = has_connection s
+may_refuse_at (CacheSends most) (Some s) = has_connection s
+may_refuse_at (RouterGets most) (Some s) = has_connection s
+may_refuse_at event (Some s) = false
+
+abbrev pub may_refuse : World → Event → Bool
+may_refuse w (Publish set) = true
+may_refuse w (Restart session start) = true
+may_refuse w (On r event) = may_refuse_at event (side_at r w.sides)
+
+-- the bytes that are due at the cache's side
+abbrev pub conn_due : Option Conn → List ℕ
+conn_due None = []
+conn_due (Some o) = o.state.due
+
+-- how many bytes an event moves with memory
+abbrev pub moved_at : World → SideEvent → Option ℕ → Option Side → ℕ
+moved_at w event wanting None = 0
+moved_at w (RouterSends most) wanting (Some s) = length (take most s.router.out)
+moved_at w (CacheSends most) wanting (Some s) = length (take most (conn_due s.conn))
+moved_at w (CacheGets most) wanting (Some s) = length s.up - length (cache_gets w most wanting s).up
+moved_at w (RouterGets most) wanting (Some s) = length s.down - length (router_gets w most wanting s).down
+moved_at w event wanting (Some s) = 0
+
+abbrev pub moved : World → Event → Option ℕ → ℕ
+moved w (On r event) wanting = moved_at w event wanting (side_at r w.sides)
+moved w event wanting = 0
+
+-- Units are read where bytes arrive alone.
+abbrev pub ReadsUnits : Event → Option ℕ → Type 0
+ReadsUnits event None = ⊤
+ReadsUnits (On r (CacheGets most)) wanting = ⊤
+ReadsUnits (On r (RouterGets most)) wanting = ⊤
+ReadsUnits event wanting = ⊥
+
+-- the outcomes that an event may have
+abbrev pub MayEnd : Option Outcome → World → Event → Outcome → Type 0
+MayEnd (Some refused) w event outcome = outcome ≡ refused
+MayEnd None w event (Done wanting) = ReadsUnits event wanting
+MayEnd None w event (Memory bytes wanting) = (may_refuse w event ≡ true) × ReadsUnits event wanting × (bytes ≤ moved w event wanting)
+MayEnd None w event outcome = ⊥
+
+-- after SessionUsed, TooManyVersions and NoSuchRouter nothing has changed
+abbrev pub after : Event → Outcome → World → World
+after event (Done wanting) w = settled (goes_through event wanting w)
+after event (Memory bytes wanting) w = is_refused event bytes wanting w
+after event outcome w = w
+
+-- the events that can be: what is published is a set within the limit, and a session and a serial have their bits
+abbrev pub IsEvent : Event → Type 0
+IsEvent (Publish set) = IsVrpSet set
+IsEvent (Restart session start) = (session < 2 ^ 16) × (start < 2 ^ 32)
+IsEvent (On r event) = ⊤
+
+-- One step of the world
+abbrev pub WorldStep : World → Event → Outcome → World → Type 0
+WorldStep old event outcome new = IsEvent event × MayEnd (refusal old event) old event outcome × (new ≡ after event outcome old)
+
+pub record Entry : Type 0 where
+  pub event : Event
+  pub outcome : Outcome
+
+-- What a history leads to, the oldest event first
+abbrev pub LeadsFrom : World → List Entry → World → Type 0
+LeadsFrom old [] new = new ≡ old
+LeadsFrom old (entry ∷ history) new = (next : World) × WorldStep old entry.event entry.outcome next × LeadsFrom next history new
+
+-- what a world is made with
+pub record Made : Type 0 where
+  pub routers : ℕ
+  pub session : ℕ
+  pub start : ℕ
+  pub keep : ℕ
+
+pub record IsMade (made : Made) : Type 0 where
+  pub session : made.session < 2 ^ 16
+  pub start : made.start < 2 ^ 32
+
+abbrev pub Leads : Made → List Entry → World → Type 0
+Leads made history w = IsMade made × LeadsFrom (new_world made.routers made.session made.start made.keep) history w

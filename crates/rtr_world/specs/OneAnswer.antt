@@ -1,0 +1,121 @@
+-- What is on its way to a router is at most one answer (RFC 8210 sections 5 and 8).
+use Rattle.std.specs.Prelude.{◌≡◌, ◌⊎◌, ℕ, ◌==◌, Bool, true, false, List, [], ◌∷◌, ◌++◌, find, Option, Some, None, ⊤}
+use Rattle.prefixes.specs.Payload.{Payload}
+use Rattle.vrps.specs.Instance.{Instance, named}
+use Rattle.vrps.specs.VrpSet.{VrpSet}
+use Rattle.rtr_pdu.specs.declared.unit.Unit.{Unit}
+use Rattle.rtr_pdu.specs.declared.unit.Unit.TheVariants.{SerialNotify, SerialQuery, ResetQuery, CacheResponse, Prefix, EndOfData, CacheReset, RouterKey, ErrorReport}
+use Rattle.rtr_ends.specs.Answer.{answer, report, sent, sent_all}
+use Rattle.rtr_ends.specs.Commit.{Commits}
+use Rattle.rtr_ends.specs.Connection.{IsLater}
+use Rattle.rtr_ends.specs.Router.{Link, Closed, Idle, Asked, Answering, Ended}
+use Rattle.rtr_ends.specs.Transcript.{Question, AskReset, AskSerial, query, Item, At, Reads, Begun, Committed, base_of, under_way}
+use Rattle.rtr_world.specs.World.{Side, World, instances, timing}
+use Rattle.rtr_world.specs.History.{conn_due}
+
+-- the units that are no notifies
+abbrev pub without_notifies : List Unit → List Unit
+without_notifies [] = []
+without_notifies (SerialNotify session serial ∷ units) = without_notifies units
+without_notifies (unit ∷ units) = unit ∷ without_notifies units
+
+-- each notify is of this session
+abbrev pub NotifiesOf : ℕ → List Unit → Type 0
+NotifiesOf one [] = ⊤
+NotifiesOf one (SerialNotify session serial ∷ units) = (session ≡ one) × NotifiesOf one units
+NotifiesOf one (unit ∷ units) = NotifiesOf one units
+
+-- These bytes are a beginning of the first unit, and not all of it.
+abbrev pub IsPart : List ℕ → List Unit → Type 0
+IsPart [] units = ⊤
+IsPart (b ∷ held) [] = ⊥
+IsPart (b ∷ held) (unit ∷ units) = (next : ℕ) × (rest : List ℕ) × ((b ∷ held) ++ next ∷ rest ≡ sent unit)
+
+-- the units of the answer that were read so far, the first one first
+abbrev pub answered : List Item → List Unit
+answered [] = []
+answered (Reads (CacheResponse session) ∷ items) = CacheResponse session ∷ []
+answered (Reads (Prefix announce v) ∷ items) = answered items ++ Prefix announce v ∷ []
+answered (Reads (SerialNotify session serial) ∷ items) = answered items
+answered (Reads (RouterKey key) ∷ items) = answered items
+answered (At now ∷ items) = answered items
+answered (item ∷ items) = []
+
+-- These units are the answer of the connection's instance, as it was at some time after the connection was made.
+pub record IsAnswer (w : World) (home : Instance) (question : Question) (units : List Unit) : Type 0 where
+  pub cache : Instance
+  pub since : IsLater home cache
+  pub latest : Instance
+  pub found : find (λ i. i.session == home.session) (instances w) ≡ Some latest
+  pub until : IsLater cache latest
+  pub are : units ≡ (answer cache w.keep timing (query question)).units
+
+-- Where memory was wanting, Error Report 1 stands in its place.
+abbrev pub IsReply : World → Instance → Question → List Unit → Type 0
+IsReply w home question units = IsAnswer w home question units ⊎ (units ≡ report 1 [] ∷ [])
+
+-- the records of an answer
+abbrev pub withdrawn_in : List Unit → List Payload
+withdrawn_in [] = []
+withdrawn_in (Prefix false v ∷ units) = v ∷ withdrawn_in units
+withdrawn_in (unit ∷ units) = withdrawn_in units
+
+abbrev pub announced_in : List Unit → List Payload
+announced_in [] = []
+announced_in (Prefix true v ∷ units) = v ∷ announced_in units
+announced_in (unit ∷ units) = announced_in units
+
+-- the last unit is an End of Data of this version
+abbrev pub EndsWith : ℕ → ℕ → List Unit → Type 0
+EndsWith session serial [] = ⊥
+EndsWith session serial (EndOfData one number refresh retry expire ∷ []) = (one ≡ session) × (number ≡ serial)
+EndsWith session serial (unit ∷ units) = EndsWith session serial units
+
+-- The records of an answer lead from a base to the set that was published under the name of its End of Data.
+pub record LeadsTo (all : List Instance) (base : VrpSet) (session : ℕ) (units : List Unit) : Type 0 where
+  pub serial : ℕ
+  pub ends : EndsWith session serial units
+  pub set : VrpSet
+  pub commits : Commits base (withdrawn_in units) (announced_in units) set
+  pub published : named all session serial ≡ Some set
+
+abbrev pub IfResponse : List Instance → VrpSet → List Unit → Type 0
+IfResponse all base (CacheResponse session ∷ units) = LeadsTo all base session units
+IfResponse all base units = ⊤
+
+-- One whole answer to this question, over this table
+abbrev pub IsWhole : World → Instance → Question → VrpSet → List Unit → Type 0
+IsWhole w home question table units = IsReply w home question units × IfResponse (instances w) (base_of question table) units
+
+-- a question is of what is committed
+abbrev pub Fits : Question → Option Committed → Type 0
+Fits AskReset version = ⊤
+Fits (AskSerial session serial) None = ⊥
+Fits (AskSerial session serial) (Some version) = (session ≡ version.session) × (serial ≡ version.serial)
+
+-- What is to come, notifies aside, and what a cut took of it: nothing on an idle link; nothing yet, or the whole answer, where a
+-- question is outstanding; and the rest of one that has begun. What is staged is what was read of it.
+abbrev pub ComesOn : World → Instance → Side → Link → List Unit → Type 0
+ComesOn w home s Idle rest = rest ≡ []
+ComesOn w home s (Asked question) rest = Fits question s.router.version × ((rest ≡ []) ⊎ IsWhole w home question s.router.table rest)
+ComesOn w home s (Answering a) rest =
+    Fits a.question s.router.version × (under_way s.items ≡ Some a) × IsWhole w home a.question s.router.table (answered s.items ++ rest)
+ComesOn w home s link rest = ⊤
+
+-- The bytes that are held, on the wire, still to be pulled, and lost by a cut or a restart are the units to come.
+pub record OneAnswer (w : World) (s : Side) : Type 0 where
+  pub home : Instance
+  pub home_is : s.home ≡ Some home
+  pub coming : List Unit
+  pub lost : List ℕ
+  pub bytes : s.router.held ++ (s.down ++ (conn_due s.conn ++ lost)) ≡ sent_all coming
+  pub part : IsPart s.router.held coming
+  pub whole : (s.conn ≡ None → ⊥) → lost ≡ []
+  pub notifies : NotifiesOf home.session coming
+  pub rest : ComesOn w home s s.router.link (without_notifies coming)
+
+-- of a link that is neither closed nor ended
+abbrev pub IfLive : Link → Type 0 → Type 0
+IfLive Closed P = ⊤
+IfLive (Ended end) P = ⊤
+IfLive link P = P

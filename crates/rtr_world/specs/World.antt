@@ -1,0 +1,242 @@
+-- One cache, its routers, and for each connection two wires of bytes (RFC 8210 sections 5 to 8).
+use Rattle.std.specs.Prelude.{◌≡◌, ℕ, zero, suc, ◌-◌, ◌^◌, Bool, true, false, ◌||◌, ◌&&◌, ◌==◌, nat_lt, List, [], ◌∷◌, ◌++◌, map, length, take, drop, Option, Some, None, is_some, if◌then◌else◌}
+use Rattle.vrps.specs.Instance.{Instance, versions}
+use Rattle.vrps.specs.Store.{published}
+use Rattle.vrps.specs.VrpSet.{VrpSet}
+use Rattle.rtr_ends.specs.declared.link.End.{End}
+use Rattle.rtr_ends.specs.Cache.{Conn, Taking, new_conn, conn_takes, conn_notified, conn_pulled}
+use Rattle.rtr_ends.specs.Feeding.{Fed}
+use Rattle.rtr_ends.specs.Router.{Router, Link, Closed, Ended, Noted, Receiving, new_router, is_closed, of_received, receives, router_pulled, connects_at, closed_at, ticks_at, asks}
+use Rattle.rtr_ends.specs.Timing.{Intervals, default_intervals}
+use Rattle.rtr_ends.specs.Transcript.{Question, Item, Refused, Restarts, Kept, kept, is_commit, outstanding}
+use Rattle.rtr_world.specs.Place.{Place, place_of}
+
+-- how a link ended: which question was outstanding, and the instance of the connection
+pub record Ending : Type 0 where
+  pub end : End
+  pub question : Option Question
+  pub home : Option Instance
+
+-- A router and its connection: the cache's side of it, none where it is closed there; the bytes on the way to the cache and to the
+-- router; and the instance as it was when the connection was made, none when the router was told that it is closed.
+-- What stands behind, the last first, no event looks at: the transcript, the ends of links, and the places of the versions that
+-- were committed, as they were then.
+pub record Side : Type 0 where
+  pub router : Router
+  pub conn : Option Conn
+  pub up : List ℕ
+  pub down : List ℕ
+  pub home : Option Instance
+  pub items : List Item
+  pub endings : List Ending
+  pub places : List (Option Place)
+
+-- the instances of the cache, those of the past with the newest first, and the routers, which are numbered from 0
+pub record World : Type 0 where
+  pub keep : ℕ
+  pub past : List Instance
+  pub present : Instance
+  pub sides : List Side
+
+abbrev pub instances : World → List Instance
+instances w = w.present ∷ w.past
+
+abbrev pub timing : Intervals
+timing = default_intervals
+
+abbrev pub new_side : Side
+new_side = record { router = new_router; conn = None; up = []; down = []; home = None; items = []; endings = []; places = [] }
+
+abbrev pub new_sides : ℕ → List Side
+new_sides zero = []
+new_sides (suc routers) = new_side ∷ new_sides routers
+
+abbrev pub new_world : ℕ → ℕ → ℕ → ℕ → World
+new_world routers session start keep = record {
+  keep = keep;
+  past = [];
+  present = record { session = session; start = start; sets = [] };
+  sides = new_sides routers;
+}
+
+-- What happens at one router, and what happens at all
+pub data SideEvent : Type 0 where
+  RouterRestart : SideEvent
+  Connect : SideEvent
+  RouterSends : (most : ℕ) → SideEvent
+  CacheGets : (most : ℕ) → SideEvent
+  CacheSends : (most : ℕ) → SideEvent
+  RouterGets : (most : ℕ) → SideEvent
+  Cut : (left : ℕ) → SideEvent
+  NotifyRouter : SideEvent
+  Ask : SideEvent
+  Tick : (now : ℕ) → SideEvent
+
+pub data Event : Type 0 where
+  Publish : (set : VrpSet) → Event
+  Restart : (session : ℕ) → (start : ℕ) → Event
+  On : (router : ℕ) → SideEvent → Event
+
+-- What the transcript gains, with the end of a link, and the places of commits
+
+abbrev pub is_ended : Link → Bool
+is_ended (Ended end) = true
+is_ended link = false
+
+-- the last item is the one at which the link ended
+abbrev pub ending_of : Bool → Link → Option Instance → List Item → List Ending
+ending_of false (Ended end) home items = record { end = end; question = outstanding (drop 1 items); home = home } ∷ []
+ending_of ended link home items = []
+
+-- Each item is judged as a commit by what the transcript keeps of it and of those before it.
+abbrev pub places_of : List Instance → List Item → List Item → List (Option Place)
+places_of all [] before = []
+places_of all (item ∷ items) before =
+    (if is_commit (item ∷ (items ++ before)) then place_of all (kept (item ∷ (items ++ before))).version ∷ [] else [])
+    ++ places_of all items before
+
+abbrev pub noted : List Instance → Noted → Side → Side
+noted all n s = record s {
+  router = n.router;
+  items = n.items ++ s.items;
+  endings = ending_of (is_ended s.router.link) n.router.link s.home (n.items ++ s.items) ++ s.endings;
+  places = places_of all n.items s.items ++ s.places;
+}
+
+-- The events of one router
+
+-- an old connection is cut with nothing to arrive, and a new one is made
+unfoldable pub connects : World → Side → Side
+connects w s = record (noted (instances w) (connects_at s.router.now s.router) s) {
+  conn = Some (new_conn w.present);
+  up = [];
+  down = [];
+  home = Some w.present;
+}
+
+unfoldable pub router_restarts : Side → Side
+router_restarts s = record s { router = new_router; conn = None; up = []; down = []; home = None; items = Restarts ∷ s.items }
+
+unfoldable pub router_sends : ℕ → Side → Side
+router_sends most s = record s { router = router_pulled most s.router; up = s.up ++ take most s.router.out }
+
+abbrev pub sends_from : ℕ → ℕ → Side → Option Conn → Side
+sends_from keep most s None = s
+sends_from keep most s (Some o) = record s { conn = Some (conn_pulled keep timing most o); down = s.down ++ take most o.state.due }
+
+unfoldable pub cache_sends : World → ℕ → Side → Side
+cache_sends w most s = sends_from w.keep most s s.conn
+
+abbrev pub gets_at : World → ℕ → Option ℕ → Side → Option Conn → Side
+gets_at w most wanting s None = s
+gets_at w most wanting s (Some o) =
+    let f : Fed Taking = conn_takes w.keep timing w.present wanting (take most s.up) o in
+    record s { conn = Some f.machine.conn; up = f.rest ++ drop most s.up }
+
+unfoldable pub cache_gets : World → ℕ → Option ℕ → Side → Side
+cache_gets w most wanting s = gets_at w most wanting s s.conn
+
+unfoldable pub router_gets : World → ℕ → Option ℕ → Side → Side
+router_gets w most wanting s =
+    let f : Fed Receiving = receives s.router.now wanting (take most s.down) s.router in
+    record (noted (instances w) (of_received f) s) { down = f.rest ++ drop most s.down }
+
+-- The cache's side is closed; what is left of the bytes towards the router still comes.
+unfoldable pub cut : ℕ → Side → Side
+cut left s = record s { conn = None; up = []; down = take left s.down }
+
+abbrev pub notifies_at : World → Side → Option Conn → Side
+notifies_at w s None = s
+notifies_at w s (Some o) = record s { conn = Some (conn_notified w.keep timing w.present o) }
+
+-- An event that is not refused. At a unit of it an end may meet want of memory.
+unfoldable pub side_step : World → SideEvent → Option ℕ → Side → Side
+side_step w RouterRestart wanting s = router_restarts s
+side_step w Connect wanting s = connects w s
+side_step w (RouterSends most) wanting s = router_sends most s
+side_step w (CacheGets most) wanting s = cache_gets w most wanting s
+side_step w (CacheSends most) wanting s = cache_sends w most s
+side_step w (RouterGets most) wanting s = router_gets w most wanting s
+side_step w (Cut left) wanting s = cut left s
+side_step w NotifyRouter wanting s = notifies_at w s s.conn
+side_step w Ask wanting s = noted (instances w) (asks s.router) s
+side_step w (Tick now) wanting s = noted (instances w) (ticks_at now s.router) s
+
+-- An event that is refused for want of memory after some bytes: these still moved, and the connection is cut with nothing to arrive.
+abbrev pub side_part : World → SideEvent → ℕ → Option ℕ → Side → Side
+side_part w (RouterSends most) bytes wanting s = router_sends bytes s
+side_part w (CacheGets most) bytes wanting s = cache_gets w bytes wanting s
+side_part w (CacheSends most) bytes wanting s = cache_sends w bytes s
+side_part w (RouterGets most) bytes wanting s = router_gets w bytes wanting s
+side_part w event bytes wanting s = s
+
+unfoldable pub side_refused : World → SideEvent → ℕ → Option ℕ → Side → Side
+side_refused w event bytes wanting s =
+    let part : Side = cut 0 (side_part w event bytes wanting s) in record part { items = Refused ∷ part.items }
+
+-- After each event
+
+-- the router is told `closed`
+abbrev pub tell_closed : List Instance → Side → Side
+tell_closed all s = if is_closed s.router.link then record s { home = None } else record (noted all (closed_at s.router.now s.router) s) { home = None }
+
+-- A cache connection that ended, with nothing left to pull, is closed at the cache.
+abbrev pub close_ended : Side → Bool → List ℕ → Side
+close_ended s true [] = record s { conn = None }
+close_ended s ended due = s
+
+abbrev pub settle_conn : Side → Option Conn → Side
+settle_conn s None = s
+settle_conn s (Some o) = close_ended s o.state.ended o.state.due
+
+-- A router whose link ended, with nothing left to pull, is told.
+abbrev pub settle_link : List Instance → Side → Link → List ℕ → Side
+settle_link all s (Ended end) [] = tell_closed all s
+settle_link all s link out = s
+
+-- Bytes towards a closed link are gone, and the cache's side is closed when the wire towards it is empty.
+abbrev pub settle_rest : Side → Link → List ℕ → Side
+settle_rest s Closed [] = record s { conn = None; down = [] }
+settle_rest s Closed up = record s { down = [] }
+settle_rest s link up = s
+
+-- A router whose connection is closed at the cache, and whose wire is empty, is told. Then there is no connection.
+abbrev pub settle_wire : List Instance → Side → Option Conn → List ℕ → Side
+settle_wire all s None [] = record (tell_closed all s) { up = [] }
+settle_wire all s conn down = s
+
+unfoldable pub settle : List Instance → Side → Side
+settle all s =
+    let a : Side = settle_conn s s.conn in
+    let b : Side = settle_link all a a.router.link a.router.out in
+    let c : Side = settle_rest b b.router.link b.up in
+    settle_wire all c c.conn c.down
+
+-- The events of all
+
+-- all connections end at the cache, bytes towards it are gone
+abbrev pub cache_gone : Side → Side
+cache_gone s = record s { conn = None; up = [] }
+
+abbrev pub on_side : ℕ → (Side → Side) → List Side → List Side
+on_side r f [] = []
+on_side zero f (s ∷ sides) = f s ∷ sides
+on_side (suc r) f (s ∷ sides) = s ∷ on_side r f sides
+
+unfoldable pub goes_through : Event → Option ℕ → World → World
+goes_through (Publish set) wanting w = record w { present = published set w.present }
+goes_through (Restart session start) wanting w = record w {
+  past = w.present ∷ w.past;
+  present = record { session = session; start = start; sets = [] };
+  sides = map cache_gone w.sides;
+}
+goes_through (On r event) wanting w = record w { sides = on_side r (side_step w event wanting) w.sides }
+
+unfoldable pub settled : World → World
+settled w = record w { sides = map (settle (instances w)) w.sides }
+
+-- A Publish or a Restart that is refused changes nothing.
+unfoldable pub is_refused : Event → ℕ → Option ℕ → World → World
+is_refused (Publish set) bytes wanting w = w
+is_refused (Restart session start) bytes wanting w = w
+is_refused (On r event) bytes wanting w = settled (record w { sides = on_side r (side_refused w event bytes wanting) w.sides })
