@@ -17,7 +17,7 @@ use Rattle.vrps.specs.VrpSet.{VrpSet, IsVrpSet, listing, set_of}
 use Rattle.vrps.proofs.SetLaws.{set_of-listing}
 
 -- payloads that tie are one
-tied : (v w : Payload) → eq_by_cmp vrp_cmp v w ≡ true → v ≡ w
+pub tied : (v w : Payload) → eq_by_cmp vrp_cmp v w ≡ true → v ≡ w
 tied v w h = vrp_exact v w (equal (vrp_cmp v w) h)
   where
     equal : (o : Ordering) → is_eq o ≡ true → o ≡ Equal

@@ -1,0 +1,119 @@
+-- What holds of a router, its connection and the wires between two bytes.
+use Rattle.std.specs.Prelude.{◌≡◌, ◌⊎◌, ℕ, ◌+◌, ◌≤◌, Bool, true, false, List, [], ◌∷◌, ◌++◌, length, Option, Some, None, ⊤}
+use Rattle.vrps.specs.Instance.{Instance}
+use Rattle.vrps.specs.VrpSet.{VrpSet, empty}
+use Rattle.rtr_pdu.specs.declared.unit.Unit.{Unit}
+use Rattle.rtr_pdu.specs.declared.unit.Unit.TheVariants.{SerialNotify, CacheResponse, Prefix, EndOfData, CacheReset}
+use Rattle.rtr_ends.specs.Answer.{report}
+use Rattle.rtr_ends.specs.Cache.{Conn}
+use Rattle.rtr_ends.specs.Router.{Router, Link, Closed, Idle, Asked, Answering, Ended, Staged, Stays, Wrong, Over, stage}
+use Rattle.rtr_ends.specs.Transcript.{Begun, Committed, Question, AskReset, AskSerial, query, base_of, led_to}
+use Rattle.rtr_world.specs.History.{conn_due}
+use Rattle.rtr_world.specs.OneAnswer.{NotifiesOf, without_notifies}
+use Rattle.rtr_world.specs.World.{Side}
+use Rattle.rtr_world.proofs.Streams.{Stream}
+use Rattle.rtr_world.proofs.Versions.{Stands, TableAt}
+
+abbrev pub after_stage : Staged → (Begun → Type 0) → Type 0
+after_stage (Stays a) Goes = Goes a
+after_stage (Wrong code) Goes = ⊥
+after_stage Over Goes = ⊥
+
+-- These units are the rest of an answer: they lead from the base, and from what is staged, to a set under a session and a serial.
+abbrev pub Leads : VrpSet → Begun → List Unit → ℕ → ℕ → VrpSet → Type 0
+Leads base a [] session serial set = ⊥
+Leads base a (Prefix announce v ∷ units) session serial set = after_stage (stage base a announce v) (λ b. Leads base b units session serial set)
+Leads base a (EndOfData one number refresh retry expire ∷ units) session serial set =
+    (units ≡ []) × (one ≡ session) × (number ≡ serial) × (led_to base a.withdrawn a.announced ≡ set)
+Leads base a (unit ∷ units) session serial set = ⊥
+
+-- what is committed is of this session
+abbrev pub Mine : ℕ → Option Committed → Type 0
+Mine session None = ⊤
+Mine session (Some version) = version.session ≡ session
+
+abbrev pub OwnSession : ℕ → Option ℕ → Type 0
+OwnSession session None = ⊤
+OwnSession session (Some one) = one ≡ session
+
+-- An outstanding question is of what is committed.
+abbrev pub QuestionFits : ℕ → Question → Option Committed → Type 0
+QuestionFits session AskReset version = Mine session version
+QuestionFits session (AskSerial one serial) None = ⊥
+QuestionFits session (AskSerial one serial) (Some version) = (one ≡ version.session) × (serial ≡ version.serial)
+
+abbrev pub IsOwn : ℕ → Question → Type 0
+IsOwn session AskReset = ⊤
+IsOwn session (AskSerial one serial) = one ≡ session
+
+-- The rest of an answer is to a version that was current when the connection was made, or later.
+pub record OfAnswer (all : List Instance) (home : Instance) (base : VrpSet) (a : Begun) (rest : List Unit) : Type 0 where
+  pub serial : ℕ
+  pub set : VrpSet
+  pub stands : Stands all home.session serial set
+  pub leads : Leads base a rest home.session serial set
+  pub since : length home.sets ≤ length stands.older + 1
+
+abbrev pub nothing_yet : Question → ℕ → Begun
+nothing_yet question session = record { question = question; session = session; withdrawn = []; announced = [] }
+
+-- One whole answer to the question
+pub data Replies (all : List Instance) (home : Instance) (q : Question) (base : VrpSet) (rest : List Unit) : Type 0 where
+  no_data : (copy : List ℕ) → q ≡ AskReset → rest ≡ report 2 copy ∷ [] → Replies all home q base rest
+  not_kept : (serial : ℕ) → q ≡ AskSerial home.session serial → rest ≡ CacheReset ∷ [] → Replies all home q base rest
+  other_session : (copy : List ℕ) → rest ≡ report 0 copy ∷ [] → Replies all home q base rest
+  no_memory : rest ≡ report 1 [] ∷ [] → Replies all home q base rest
+  response : (tail : List Unit) → rest ≡ CacheResponse home.session ∷ tail → IsOwn home.session q → OfAnswer all home base (nothing_yet q home.session) tail → Replies all home q base rest
+
+-- The question is on its way and nothing is answered, or the cache has read it and the whole answer is to come.
+abbrev pub Waits : List Instance → Instance → Question → VrpSet → List Unit → List Unit → Type 0
+Waits all home q base wanted rest = ((wanted ≡ query q ∷ []) × (rest ≡ [])) ⊎ ((wanted ≡ []) × Replies all home q base rest)
+
+abbrev pub Shape : List Instance → Instance → Link → Bool → Option Committed → VrpSet → List Unit → List Unit → Type 0
+Shape all home Closed agreed version table wanted rest = ⊤
+Shape all home (Ended end) agreed version table wanted rest = ⊤
+Shape all home Idle agreed version table wanted rest = (wanted ≡ []) × (rest ≡ []) × (agreed ≡ true)
+Shape all home (Asked q) agreed version table wanted rest = QuestionFits home.session q version × Waits all home q (base_of q table) wanted rest
+Shape all home (Answering a) agreed version table wanted rest =
+    (wanted ≡ []) × (agreed ≡ true) × (a.session ≡ home.session) × QuestionFits home.session a.question version
+    × OfAnswer all home (base_of a.question table) a rest
+
+abbrev pub IfOpen : Option Conn → (Conn → Type 0) → Type 0
+IfOpen None P = ⊤
+IfOpen (Some o) P = P o
+
+-- Open at the cache: what the router asked and the cache has not read whole are these units.
+pub record Open (i home : Instance) (out up : List ℕ) (wanted : List Unit) (lost : List ℕ) (o : Conn) : Type 0 where
+  pub upward : Stream o.held (up ++ out) wanted
+  pub whole : lost ≡ []
+  pub session : home.session ≡ i.session
+  pub made : length home.sets ≤ length i.sets
+
+pub record Flow (all : List Instance) (i home : Instance) (r : Router) (conn : Option Conn) (up down : List ℕ) : Type 0 where
+  pub coming : List Unit
+  pub lost : List ℕ
+  pub wanted : List Unit
+  pub downward : Stream r.held (down ++ (conn_due conn ++ lost)) coming
+  pub open_at : IfOpen conn (Open i home r.out up wanted lost)
+  pub notifies : NotifiesOf home.session coming
+  pub own : OwnSession home.session r.session
+  pub mine : r.agreed ≡ true → Mine home.session r.version
+  pub shape : Shape all home r.link r.agreed r.version r.table wanted (without_notifies coming)
+
+abbrev pub Live : List Instance → Instance → Option Instance → Router → Option Conn → List ℕ → List ℕ → Type 0
+Live all i home r conn up down = (h : Instance) × (home ≡ Some h) × Flow all i h r conn up down
+
+abbrev pub GoodLink : List Instance → Instance → Option Instance → Link → Router → Option Conn → List ℕ → List ℕ → Type 0
+GoodLink all i home Closed r conn up down = ⊤
+GoodLink all i home (Ended end) r conn up down = ⊤
+GoodLink all i home Idle r conn up down = Live all i home r conn up down
+GoodLink all i home (Asked q) r conn up down = Live all i home r conn up down
+GoodLink all i home (Answering a) r conn up down = Live all i home r conn up down
+
+pub record GoodRouter (all : List Instance) (i : Instance) (home : Option Instance) (conn : Option Conn) (up down : List ℕ) (r : Router) : Type 0 where
+  pub table : TableAt all r.version r.table
+  pub unmarked : r.mark ≡ false
+  pub link : GoodLink all i home r.link r conn up down
+
+pub record Good (all : List Instance) (i : Instance) (s : Side) : Type 0 where
+  pub router : GoodRouter all i s.home s.conn s.up s.down s.router

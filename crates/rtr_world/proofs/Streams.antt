@@ -1,0 +1,103 @@
+-- A stream of bytes that spells units, read byte by byte.
+use Rattle.std.specs.Prelude.{◌≡◌, ◌⊎◌, ℕ, ◌<◌, Bool, List, [], ◌∷◌, ◌++◌, slice_index, refl}
+use Rattle.std.proofs.Common.{sym, ap, ◌∙◌, subst, arith, append_assoc, inl, inr, zero, suc}
+use Rattle.std.specs.List.{AllByRecursion, flat_map}
+use Rattle.std.proofs.lemmas.List.{append_cancel_left}
+use Rattle.std.proofs.lemmas.List.Concat.{flat_map-append}
+use Rattle.rtr_pdu.specs.Judging.{Begins, Whole, judge}
+use Rattle.rtr_pdu.specs.Payloads.{AreBytes}
+use Rattle.rtr_pdu.specs.Unit.{IsUnit}
+use Rattle.rtr_pdu.specs.declared.unit.Unit.{Unit}
+use Rattle.rtr_pdu.proofs.NextLaws.{judge_sent, judge_part, some_sent}
+use Rattle.rtr_ends.specs.Answer.{sent, sent_all}
+
+-- What is held is a proper beginning of the first of these units.
+pub record Begun (held : List ℕ) (units : List Unit) : Type 0 where
+  pub first : Unit
+  pub more : List Unit
+  pub is : units ≡ first ∷ more
+  pub byte : ℕ
+  pub rest : List ℕ
+  pub begins : held ++ byte ∷ rest ≡ sent first
+
+-- What is held and what comes after it spells these units, and none of them is whole in what is held.
+pub record Stream (held after : List ℕ) (units : List Unit) : Type 0 where
+  pub whole : held ++ after ≡ sent_all units
+  pub partial : (held ≡ []) ⊎ Begun held units
+  pub fit : AllByRecursion IsUnit units
+
+-- The next byte goes on with the first unit.
+record Next (held : List ℕ) (b : ℕ) (after : List ℕ) (units : List Unit) : Type 0 where
+  first : Unit
+  more : List Unit
+  is : units ≡ first ∷ more
+  rest : List ℕ
+  begins : held ++ b ∷ rest ≡ sent first
+  goes_on : after ≡ rest ++ sent_all more
+
+next_fresh : (b : ℕ) (after : List ℕ) (u : Unit) (more : List Unit) (bytes : List ℕ) → sent u ≡ bytes → b ∷ after ≡ bytes ++ sent_all more → Next [] b after (u ∷ more)
+next_fresh b after u more [] e h = absurd (some_sent 1 u e)
+next_fresh b after u more (c ∷ cs) e h =
+    let same : b ≡ c = cc in
+    record { first = u; more = more; is = refl; rest = cs; begins = ap (λ x. x ∷ cs) same ∙ sym e; goes_on = cc }
+
+next_start : (b : ℕ) (after : List ℕ) (units : List Unit) → b ∷ after ≡ sent_all units → Next [] b after units
+next_start b after [] h = absurd (let e : b ∷ after ≡ [] = h in cc)
+next_start b after (u ∷ more) h = next_fresh b after u more (sent u) refl h
+
+next_begun : (held : List ℕ) (b : ℕ) (after : List ℕ) (units : List Unit) → held ++ b ∷ after ≡ sent_all units → Begun held units → Next held b after units
+next_begun held b after units h p =
+    let all : held ++ b ∷ after ≡ held ++ (p.byte ∷ (p.rest ++ sent_all p.more)) =
+    h ∙ ap (λ x. sent_all x) p.is ∙ ap (λ x. x ++ sent_all p.more) (sym p.begins) ∙ append_assoc held (p.byte ∷ p.rest) (sent_all p.more) in
+    let tails : b ∷ after ≡ p.byte ∷ (p.rest ++ sent_all p.more) = append_cancel_left held (b ∷ after) (p.byte ∷ (p.rest ++ sent_all p.more)) all in
+    let same : b ≡ p.byte = cc in
+    record { first = p.first; more = p.more; is = p.is; rest = p.rest; begins = ap (λ x. held ++ x ∷ p.rest) same ∙ p.begins; goes_on = cc }
+
+next : (held : List ℕ) (b : ℕ) (after : List ℕ) (units : List Unit) → held ++ b ∷ after ≡ sent_all units → (held ≡ []) ⊎ Begun held units → Next held b after units
+next held b after units h (inl e) = subst (λ x. Next x b after units) (sym e) (next_start b after units (ap (λ x. x ++ b ∷ after) (sym e) ∙ h))
+next held b after units h (inr p) = next_begun held b after units h p
+
+-- After the next byte no unit is whole, or the first one is.
+pub data ByteCase (any : Bool) (held : List ℕ) (b : ℕ) (after : List ℕ) (units : List Unit) : Type 0 where
+  partly : judge 1 any (held ++ b ∷ []) ≡ Begins → Stream (held ++ b ∷ []) after units → ByteCase any held b after units
+  wholly : (u : Unit) (more : List Unit) → units ≡ u ∷ more → judge 1 any (held ++ b ∷ []) ≡ Whole u → IsUnit u → Stream [] after more → ByteCase any held b after units
+
+case_of : (any : Bool) (held : List ℕ) (b : ℕ) (after : List ℕ) (units : List Unit) (u : Unit) (more : List Unit) (rest : List ℕ) → held ++ b ∷ after ≡ sent_all units → AllByRecursion IsUnit units → units ≡ u ∷ more → held ++ b ∷ rest ≡ sent u → after ≡ rest ++ sent_all more → ByteCase any held b after units
+case_of any held b after units u more [] h fit is begins on =
+    let fits : AllByRecursion IsUnit (u ∷ more) = subst (AllByRecursion IsUnit) is fit in
+    wholly u more is (ap (judge 1 any) begins ∙ judge_sent 1 any u fits.0) fits.0 (record { whole = on; partial = inl refl; fit = fits.1 })
+case_of any held b after units u more (c ∷ rest) h fit is begins on =
+    let fits : AllByRecursion IsUnit (u ∷ more) = subst (AllByRecursion IsUnit) is fit in
+    let begun : (held ++ b ∷ []) ++ c ∷ rest ≡ sent u = append_assoc held (b ∷ []) (c ∷ rest) ∙ begins in
+    partly (judge_part 1 any u (held ++ b ∷ []) rest c fits.0 begun) (record {
+      whole = append_assoc held (b ∷ []) after ∙ h;
+      partial = inr (record { first = u; more = more; is = is; byte = c; rest = rest; begins = begun });
+      fit = fit;
+    })
+
+pub byte_case : (any : Bool) (held : List ℕ) (b : ℕ) (after : List ℕ) (units : List Unit) → Stream held (b ∷ after) units → ByteCase any held b after units
+byte_case any held b after units s =
+    let n = next held b after units s.whole s.partial in
+    case_of any held b after units n.first n.more n.rest s.whole s.fit n.is n.begins n.goes_on
+
+-- units that are sent afterwards
+begun-append : (held : List ℕ) (units more : List Unit) → (held ≡ []) ⊎ Begun held units → (held ≡ []) ⊎ Begun held (units ++ more)
+begun-append held units more (inl e) = inl e
+begun-append held units more (inr p) = inr (record { first = p.first; more = p.more ++ more; is = ap (λ x. x ++ more) p.is; byte = p.byte; rest = p.rest; begins = p.begins })
+
+pub all-append : (P : Unit → Type 0) (xs ys : List Unit) → AllByRecursion P xs → AllByRecursion P ys → AllByRecursion P (xs ++ ys)
+all-append P [] ys h k = k
+all-append P (x ∷ xs) ys h k = (h.0, all-append P xs ys h.1 k)
+
+pub stream-append : (held after : List ℕ) (units more : List Unit) → Stream held after units → AllByRecursion IsUnit more → Stream held (after ++ sent_all more) (units ++ more)
+stream-append held after units more s fit = record {
+  whole = sym (append_assoc held after (sent_all more)) ∙ ap (λ x. x ++ sent_all more) s.whole ∙ sym (flat_map-append sent units more);
+  partial = begun-append held units more s.partial;
+  fit = all-append IsUnit units more s.fit fit;
+}
+
+-- bytes, one by one
+pub all_bytes : (bytes : List ℕ) → AllByRecursion (λ b. b < 256) bytes → AreBytes bytes
+all_bytes [] h i = omega arith
+all_bytes (b ∷ bytes) h zero = h.0
+all_bytes (b ∷ bytes) h (suc i) = all_bytes bytes h.1 i

@@ -1,0 +1,163 @@
+-- Versions at their places.
+use Rattle.std.specs.Prelude.{◌≡◌, ◌⊎◌, ℕ, ◌+◌, ◌-◌, ◌<◌, ◌≤◌, ◌^◌, Bool, true, false, ◌==◌, nat_lt, List, [], ◌∷◌, ◌++◌, length, take, find, Option, Some, None, option_and_then, if◌then◌else◌, refl}
+use Rattle.std.proofs.Common.{sym, ap, ◌∙◌, subst, arith, inl, inr}
+use Rattle.std.specs.Option.{option_map}
+use Rattle.std.proofs.lemmas.Bool.Decides.{nat_tests}
+use Rattle.std.proofs.lemmas.List.{length-append}
+use Rattle.vrps.specs.Instance.{Instance, IsInstance, Version, versions, versions_from, with_serial, named}
+use Rattle.vrps.specs.Serial.{serial_at}
+use Rattle.vrps.specs.VrpSet.{VrpSet, empty}
+use Rattle.vrps.proofs.VersionLaws.{names_itself, kept_is_itself}
+use Rattle.rtr_ends.specs.Transcript.{Committed}
+use Rattle.rtr_world.specs.Place.{position_of}
+use Rattle.rtr_world.specs.Claims.{IsNamed}
+
+pub same_number : (n : ℕ) → (n == n) ≡ true
+same_number n = grind (arith, nat_tests)
+
+pub equal_of : (a b : ℕ) → (a == b) ≡ true → a ≡ b
+equal_of a b h = grind (arith, nat_tests)
+
+pub equal_true : (a b : ℕ) → a ≡ b → (a == b) ≡ true
+equal_true a b h = grind (arith, nat_tests)
+
+pub lt_of : (a b : ℕ) → nat_lt a b ≡ true → a < b
+lt_of a b h = grind (arith, nat_tests)
+
+-- the newest instance of a session
+abbrev pub find_session : ℕ → List Instance → Option Instance
+find_session session all = find (λ i. i.session == session) all
+
+pub some_is : (a b : Instance) → Some a ≡ Some b → a ≡ b
+some_is a b h = cc
+
+pub same_instance : (a b : Instance) (o : Option Instance) → o ≡ Some a → o ≡ Some b → a ≡ b
+same_instance a b o p q = some_is a b (sym p ∙ q)
+
+-- This set was published under this session and serial, and fewer than 2^31 versions are newer.
+pub record Stands (all : List Instance) (session serial : ℕ) (set : VrpSet) : Type 0 where
+  pub i : Instance
+  pub found : find_session session all ≡ Some i
+  pub newer : List VrpSet
+  pub older : List VrpSet
+  pub sets : i.sets ≡ newer ++ set ∷ older
+  pub serial_is : serial ≡ serial_at i.start (length older)
+  pub young : length newer < 2 ^ 31
+
+abbrev set_in : Option Version → Option VrpSet
+set_in o = option_map (λ v. v.set) o
+
+-- so it is named
+pub named_at : (all : List Instance) (session serial : ℕ) (set : VrpSet) → Stands all session serial set → named all session serial ≡ Some set
+named_at all session serial set a =
+    ap (option_and_then (λ i. set_in (with_serial serial (versions i)))) a.found
+    ∙ (λ j. set_in (with_serial (a.serial_is j) (versions_from a.i.start (a.sets j))))
+    ∙ ap set_in (names_itself a.i.start a.newer set a.older a.young)
+
+-- the table is empty, or the version that is committed
+abbrev pub TableAt : List Instance → Option Committed → VrpSet → Type 0
+TableAt all None table = table ≡ empty
+TableAt all (Some version) table = Stands all version.session version.serial table
+
+pub table_named : (all : List Instance) (version : Option Committed) (table : VrpSet) → TableAt all version table → IsNamed all version table
+table_named all None table h = h
+table_named all (Some version) table h = named_at all version.session version.serial table h
+
+-- The present instance is found by its session.
+pub record Present (all : List Instance) (i : Instance) : Type 0 where
+  pub found : find_session i.session all ≡ Some i
+  pub is : IsInstance i
+
+pub of_present : (all : List Instance) (i : Instance) → Present all i → (session serial : ℕ) (set : VrpSet) (a : Stands all session serial set) → session ≡ i.session → a.i ≡ i
+of_present all i p session serial set a e = same_instance a.i i (find_session session all) a.found (subst (λ s. find_session s all ≡ Some i) (sym e) p.found)
+
+-- What the cache keeps under the serial of a version is it or nothing.
+pub kept_at : (all : List Instance) (i : Instance) (p : Present all i) (kept : ℕ) (session serial : ℕ) (set : VrpSet) → Stands all session serial set → session ≡ i.session
+    → (with_serial serial (take kept (versions i)) ≡ None) ⊎ (with_serial serial (take kept (versions i)) ≡ Some (record { serial = serial; set = set }))
+kept_at all i p kept session serial set a e =
+    let same = of_present all i p session serial set a e in
+    let is : with_serial serial (take kept (versions i)) ≡ with_serial (serial_at a.i.start (length a.older)) (take kept (versions_from a.i.start (a.newer ++ set ∷ a.older))) =
+    (λ j. with_serial (a.serial_is j) (take kept (versions (sym same j)))) ∙ (λ j. with_serial (serial_at a.i.start (length a.older)) (take kept (versions_from a.i.start (a.sets j)))) in
+    elim (kept_is_itself a.i.start kept a.newer set a.older a.young) [
+      | inl none ↦ inl (is ∙ none)
+      | inr it ↦ inr (is ∙ it ∙ ap (λ n. Some (record { serial = n; set = set })) (sym a.serial_is))
+    ]
+
+-- An instance with a version has one.
+pub has_sets : (all : List Instance) (i : Instance) (p : Present all i) (session serial : ℕ) (set : VrpSet) → Stands all session serial set → session ≡ i.session → i.sets ≡ [] → ⊥
+has_sets all i p session serial set a e none =
+    let same = of_present all i p session serial set a e in
+    no_sets a.newer (sym none ∙ ap (λ x. x.sets) (sym same) ∙ a.sets)
+  where
+    no_sets : (newer : List VrpSet) → [] ≡ newer ++ set ∷ a.older → ⊥
+    no_sets [] h = cc
+    no_sets (x ∷ newer) h = cc
+
+-- the place of a version
+pub position_at : (all : List Instance) (session serial : ℕ) (set : VrpSet) (a : Stands all session serial set) → position_of serial (versions a.i) ≡ Some (length a.older)
+position_at all session serial set a =
+    (λ j. position_of (a.serial_is j) (versions_from a.i.start (a.sets j))) ∙ found a.newer a.young
+  where
+    shorter : (older : List VrpSet) → length (versions_from a.i.start older) ≡ length older
+    shorter [] = refl
+    shorter (x ∷ older) = let h = shorter older in omega (arith, h)
+
+    differ : (x y : ℕ) → (x ≡ y → ⊥) → (x == y) ≡ false
+    differ x y h = grind (arith, nat_tests, h)
+
+    found : (newer : List VrpSet) → length newer < 2 ^ 31 → position_of (serial_at a.i.start (length a.older)) (versions_from a.i.start (newer ++ set ∷ a.older)) ≡ Some (length a.older)
+    found [] few =
+        ap (λ b. if b then Some (length (versions_from a.i.start a.older)) else position_of (serial_at a.i.start (length a.older)) (versions_from a.i.start a.older)) (same_number (serial_at a.i.start (length a.older)))
+        ∙ ap Some (shorter a.older)
+    found (x ∷ newer) few =
+        let size = length-append newer (set ∷ a.older) in
+        let other : (serial_at a.i.start (length (newer ++ set ∷ a.older)) == serial_at a.i.start (length a.older)) ≡ false =
+        differ _ _ (λ e. absurd (omega (arith, e, size, few))) in
+        ap (λ b. if b then Some (length (versions_from a.i.start (newer ++ set ∷ a.older))) else position_of (serial_at a.i.start (length a.older)) (versions_from a.i.start (newer ++ set ∷ a.older))) other
+        ∙ found newer (omega (arith, few))
+
+-- A version that has room keeps its name when another is published.
+pub stands_published : (past : List Instance) (i : Instance) (y : VrpSet) (session serial : ℕ) (set : VrpSet) (a : Stands (i ∷ past) session serial set) → (i.session ≡ session → length a.newer + 1 < 2 ^ 31)
+    → Stands (record i { sets = y ∷ i.sets } ∷ past) session serial set
+stands_published past i y session serial set a room = by_session (i.session == session) refl a.found
+  where
+    by_session : (b : Bool) → (i.session == session) ≡ b → (if b then Some i else find_session session past) ≡ Some a.i → Stands (record i { sets = y ∷ i.sets } ∷ past) session serial set
+    by_session true e f =
+        let same : i ≡ a.i = some_is i a.i f in
+        record {
+          i = record i { sets = y ∷ i.sets };
+          found = ap (λ b. if b then Some (record i { sets = y ∷ i.sets }) else find_session session past) e;
+          newer = y ∷ a.newer;
+          older = a.older;
+          sets = ap (λ x. y ∷ x.sets) same ∙ ap (λ x. y ∷ x) a.sets;
+          serial_is = a.serial_is ∙ ap (λ x. serial_at x.start (length a.older)) (sym same);
+          young = (let few : length a.newer + 1 < 2 ^ 31 = room (equal_of i.session session e) in omega (arith, few));
+        }
+    by_session false e f = record {
+      i = a.i;
+      found = ap (λ b. if b then Some (record i { sets = y ∷ i.sets }) else find_session session past) e ∙ f;
+      newer = a.newer;
+      older = a.older;
+      sets = a.sets;
+      serial_is = a.serial_is;
+      young = a.young;
+    }
+
+-- An instance of a new session hides none.
+pub stands_restarted : (all : List Instance) (i : Instance) (session serial : ℕ) (set : VrpSet) → find_session i.session all ≡ None → Stands all session serial set → Stands (i ∷ all) session serial set
+stands_restarted all i session serial set new a = record {
+  i = a.i;
+  found = by_session (i.session == session) refl;
+  newer = a.newer;
+  older = a.older;
+  sets = a.sets;
+  serial_is = a.serial_is;
+  young = a.young;
+}
+  where
+    none_some : (o : Option Instance) → o ≡ None → o ≡ Some a.i → ⊥
+    none_some o p q = let h : ◌≡◌ {A = Option Instance} None (Some a.i) = sym p ∙ q in cc
+
+    by_session : (b : Bool) → (i.session == session) ≡ b → find_session session (i ∷ all) ≡ Some a.i
+    by_session true e = absurd (none_some (find_session session all) (subst (λ s. find_session s all ≡ None) (equal_of i.session session e) new) a.found)
+    by_session false e = ap (λ b. if b then Some i else find_session session all) e ∙ a.found
