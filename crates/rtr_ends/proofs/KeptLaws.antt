@@ -409,7 +409,7 @@ at_link (Asked q) agreed session table now items t = t
 at_link (Answering a) agreed session table now items t = t
 
 -- an answer to a Reset Query is on nothing, whatever is emptied
-same_base : (q : Question) (table : VrpSet) → is_serial (Some q) ≡ false → base_of q empty ≡ base_of q table
+pub same_base : (q : Question) (table : VrpSet) → is_serial (Some q) ≡ false → base_of q empty ≡ base_of q table
 same_base AskReset table h = refl
 same_base (AskSerial session serial) table h = absurd (let e : true ≡ false = h in cc)
 

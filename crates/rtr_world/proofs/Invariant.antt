@@ -104,7 +104,7 @@ abbrev pub Live : List Instance → Instance → Option Instance → Router → 
 Live all i home r conn up down = (h : Instance) × (home ≡ Some h) × Flow all i h r conn up down
 
 abbrev pub GoodLink : List Instance → Instance → Option Instance → Link → Router → Option Conn → List ℕ → List ℕ → Type 0
-GoodLink all i home Closed r conn up down = ⊤
+GoodLink all i home Closed r conn up down = (r.held ≡ []) × (r.agreed ≡ false) × (r.session ≡ None)
 GoodLink all i home (Ended end) r conn up down = ⊤
 GoodLink all i home Idle r conn up down = Live all i home r conn up down
 GoodLink all i home (Asked q) r conn up down = Live all i home r conn up down

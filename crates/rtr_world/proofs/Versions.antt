@@ -43,6 +43,7 @@ pub record Stands (all : List Instance) (session serial : ℕ) (set : VrpSet) : 
   pub sets : i.sets ≡ newer ++ set ∷ older
   pub serial_is : serial ≡ serial_at i.start (length older)
   pub young : length newer < 2 ^ 31
+  pub low : session < 2 ^ 16
 
 abbrev set_in : Option Version → Option VrpSet
 set_in o = option_map (λ v. v.set) o
@@ -132,6 +133,7 @@ stands_published past i y session serial set a room = by_session (i.session == s
           sets = ap (λ x. y ∷ x.sets) same ∙ ap (λ x. y ∷ x) a.sets;
           serial_is = a.serial_is ∙ ap (λ x. serial_at x.start (length a.older)) (sym same);
           young = (let few : length a.newer + 1 < 2 ^ 31 = room (equal_of i.session session e) in omega (arith, few));
+          low = a.low;
         }
     by_session false e f = record {
       i = a.i;
@@ -141,6 +143,7 @@ stands_published past i y session serial set a room = by_session (i.session == s
       sets = a.sets;
       serial_is = a.serial_is;
       young = a.young;
+      low = a.low;
     }
 
 -- An instance of a new session hides none.
@@ -153,6 +156,7 @@ stands_restarted all i session serial set new a = record {
   sets = a.sets;
   serial_is = a.serial_is;
   young = a.young;
+  low = a.low;
 }
   where
     none_some : (o : Option Instance) → o ≡ None → o ≡ Some a.i → ⊥

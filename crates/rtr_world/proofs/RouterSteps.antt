@@ -1,0 +1,374 @@
+-- A unit that comes to the router keeps the invariant.
+use Rattle.std.specs.Prelude.{◌≡◌, ◌⊎◌, ℕ, ◌+◌, ◌<◌, ◌≤◌, ◌^◌, Bool, true, false, not, ◌&&◌, ◌||◌, ◌==◌, nat_lt, List, [], ◌∷◌, ◌++◌, length, Option, Some, None, if◌then◌else◌, refl}
+use Rattle.std.proofs.Common.{sym, ap, ◌∙◌, subst, subst₂, arith, inl, inr}
+use Rattle.std.proofs.lemmas.List.{append-nil}
+use Rattle.prefixes.specs.Payload.{Payload}
+use Rattle.vrps.specs.Instance.{Instance}
+use Rattle.vrps.specs.VrpSet.{VrpSet, empty, has, size}
+use Rattle.rtr_pdu.specs.Unit.{IsUnit}
+use Rattle.rtr_pdu.specs.Payloads.{Report}
+use Rattle.rtr_pdu.specs.declared.unit.Unit.{Unit}
+use Rattle.rtr_pdu.specs.declared.unit.Unit.TheVariants.{SerialNotify, SerialQuery, ResetQuery, CacheResponse, Prefix, EndOfData, CacheReset, RouterKey, ErrorReport}
+use Rattle.rtr_ends.specs.declared.link.End.{End}
+use Rattle.rtr_ends.specs.declared.link.End.TheVariants as ends
+use Rattle.rtr_ends.specs.Answer.{report, sent, sent_all}
+use Rattle.rtr_ends.specs.Cache.{Conn}
+use Rattle.rtr_ends.specs.Router.{Router, Link, Closed, Idle, Asked, Answering, Ended, Staged, Stays, Wrong, Over, choose, asking, ask, emptied, reports, told, fails, is_strange, is_news, stage, staged, commit, told_off, on_unit, is_reading}
+use Rattle.rtr_ends.specs.Transcript.{Begun, Committed, Question, AskReset, AskSerial, query, is_listed, led_to, base_of, session_of, differs, is_serial, is_wrong, bounded, sum_of, retry_of}
+use Rattle.rtr_world.specs.History.{conn_due}
+use Rattle.rtr_world.specs.OneAnswer.{NotifiesOf, without_notifies}
+use Rattle.rtr_world.proofs.Invariant.{after_stage, Leads, Mine, OwnSession, QuestionFits, IsOwn, OfAnswer, nothing_yet, Replies, no_data, not_kept, other_session, no_memory, response, Waits, Shape, IfOpen, Open, Flow, Live, GoodLink, GoodRouter}
+use Rattle.rtr_world.proofs.Streams.{Stream, stream-append}
+use Rattle.rtr_world.proofs.Versions.{Stands, TableAt, equal_true}
+
+false_true : {P : Type 0} → false ≡ true → P
+false_true h = absurd (let e : false ≡ true = h in cc)
+
+-- a query fits its fields
+pub query_unit : (all : List Instance) (session : ℕ) (q : Question) (version : Option Committed) (table : VrpSet) → QuestionFits session q version → TableAt all version table → IsUnit (query q)
+query_unit all session AskReset version table f t = tt
+query_unit all session (AskSerial one serial) None table f t = absurd f
+query_unit all session (AskSerial one serial) (Some version) table f t =
+    (subst (λ x. x < 65536) (sym f.0) t.low, (let n = t.serial_is in let e = f.1 in omega (arith, n, e)))
+
+pub question_fits : (session : ℕ) (version : Option Committed) (mark : Bool) → mark ≡ false → Mine session version → QuestionFits session (choose version mark) version
+question_fits session None mark unmarked mine = tt
+question_fits session (Some version) true unmarked mine = false_true (sym unmarked)
+question_fits session (Some version) false unmarked mine = (refl, refl)
+
+-- A connection that is new asks what fits, whatever is committed.
+pub first_fits : (session : ℕ) (version : Option Committed) (mark : Bool) → mark ≡ false → QuestionFits session (choose version mark) version
+first_fits session None mark unmarked = tt
+first_fits session (Some version) true unmarked = false_true (sym unmarked)
+first_fits session (Some version) false unmarked = (refl, refl)
+
+-- no notify of the connection's session is strange
+same_session : (one session : ℕ) → one ≡ session → not (one == session) ≡ false
+same_session one session e = ap not (equal_true one session e)
+
+pub no_difference : (session one : ℕ) (own : Option ℕ) (version : Option Committed) → one ≡ session → OwnSession session own → Mine session version → differs (session_of own version) one ≡ false
+no_difference session one (Some s) version e own mine = same_session s one (own ∙ sym e)
+no_difference session one None None e own mine = refl
+no_difference session one None (Some v) e own mine = same_session v.session one (mine ∙ sym e)
+
+first_is : (u v : Unit) (us vs : List Unit) → u ∷ us ≡ v ∷ vs → u ≡ v
+first_is u v us vs e = cc
+
+rest_is : (u v : Unit) (us vs : List Unit) → u ∷ us ≡ v ∷ vs → us ≡ vs
+rest_is u v us vs e = cc
+
+no_unit : (u : Unit) (us : List Unit) → u ∷ us ≡ [] → ⊥
+no_unit u us e = cc
+
+-- what is staged belongs to the same question and session
+pub stage_keeps : (base : VrpSet) (a : Begun) (announce : Bool) (v : Payload) (b : Begun) → stage base a announce v ≡ Stays b → (b.question ≡ a.question) × (b.session ≡ a.session)
+stage_keeps base a false v b e = by_test (has base v && not (is_listed v a.withdrawn)) e
+  where
+    by_test : (t : Bool) → (if t then Stays (record a { withdrawn = v ∷ a.withdrawn }) else Wrong 6) ≡ Stays b → (b.question ≡ a.question) × (b.session ≡ a.session)
+    by_test true e = let same : record a { withdrawn = v ∷ a.withdrawn } ≡ b = cc in (ap (λ x. x.question) (sym same), ap (λ x. x.session) (sym same))
+    by_test false e = absurd (let h : Wrong 6 ≡ Stays b = e in cc)
+stage_keeps base a true v b e = by_test (has base v || is_listed v a.announced) (nat_lt 16777215 (size (led_to base a.withdrawn (v ∷ a.announced)))) e
+  where
+    by_test : (t s : Bool) → (if t then Wrong 7 else if s then Over else Stays (record a { announced = v ∷ a.announced })) ≡ Stays b → (b.question ≡ a.question) × (b.session ≡ a.session)
+    by_test true s e = absurd (let h : Wrong 7 ≡ Stays b = e in cc)
+    by_test false true e = absurd (let h : Over ≡ Stays b = e in cc)
+    by_test false false e = let same : record a { announced = v ∷ a.announced } ≡ b = cc in (ap (λ x. x.question) (sym same), ap (λ x. x.session) (sym same))
+
+module _ (all : List Instance) (i : Instance) (home : Option Instance) (conn : Option Conn) (up down : List ℕ) where
+  abbrev GoodR : Router → Type 0
+  GoodR r = GoodRouter all i home conn up down r
+
+  -- what is known when a unit has just been read, and `more` are to come
+  pub record Reads (r : Router) (more : List Unit) : Type 0 where
+    pub h : Instance
+    pub is_home : home ≡ Some h
+    pub lost : List ℕ
+    pub wanted : List Unit
+    pub downward : Stream [] (down ++ (conn_due conn ++ lost)) more
+    pub open_at : IfOpen conn (Open i h [] up wanted lost)
+    pub notifies : NotifiesOf h.session more
+    pub own : OwnSession h.session r.session
+    pub mine : r.agreed ≡ true → Mine h.session r.version
+    pub none : r.out ≡ []
+    pub held : r.held ≡ []
+    pub table : TableAt all r.version r.table
+    pub unmarked : r.mark ≡ false
+
+  -- a link that lives
+  pub live_link : (r : Router) (l : Link) → r.link ≡ l → is_reading l ≡ true → Live all i home r conn up down → GoodLink all i home r.link r conn up down
+  live_link r Closed is live h = false_true live
+  live_link r (Ended end) is live h = false_true live
+  live_link r Idle is live h = subst (λ x. GoodLink all i home x r conn up down) (sym is) h
+  live_link r (Asked q) is live h = subst (λ x. GoodLink all i home x r conn up down) (sym is) h
+  live_link r (Answering a) is live h = subst (λ x. GoodLink all i home x r conn up down) (sym is) h
+
+  -- a router in this link, of which all else is known
+  same_good : (r : Router) (more : List Unit) (l : Link) (d : Reads r more) → r.link ≡ l → is_reading l ≡ true → Shape all d.h l r.agreed r.version r.table d.wanted (without_notifies more) → GoodR r
+  same_good r more l d is live shape = record {
+    table = d.table;
+    unmarked = d.unmarked;
+    link = live_link r l is live (
+      d.h,
+      d.is_home,
+      record {
+        coming = more;
+        lost = d.lost;
+        wanted = d.wanted;
+        downward = subst (λ x. Stream x (down ++ (conn_due conn ++ d.lost)) more) (sym d.held) d.downward;
+        open_at = subst (λ x. IfOpen conn (Open i d.h x up d.wanted d.lost)) (sym d.none) d.open_at;
+        notifies = d.notifies;
+        own = d.own;
+        mine = d.mine;
+        shape = subst (λ x. Shape all d.h x r.agreed r.version r.table d.wanted (without_notifies more)) (sym is) shape;
+      },
+    );
+  }
+
+  -- a question is put where none is on its way
+  pub open_asking : (h : Instance) (wanted : List Unit) (lost : List ℕ) (q : Question) (o : Option Conn) → wanted ≡ [] → IsUnit (query q) → IfOpen o (Open i h [] up wanted lost) → IfOpen o (Open i h (sent (query q)) up (query q ∷ []) lost)
+  open_asking h wanted lost q None e fit op = tt
+  open_asking h wanted lost q (Some o) e fit op =
+      let before : Stream o.held (up ++ []) [] = subst (λ x. Stream o.held (up ++ []) x) e op.upward in
+      let after : Stream o.held ((up ++ []) ++ sent_all (query q ∷ [])) (query q ∷ []) = stream-append o.held (up ++ []) [] (query q ∷ []) before (fit, tt) in
+      record {
+        upward = subst (λ x. Stream o.held x (query q ∷ [])) (ap (λ x. x ++ sent_all (query q ∷ [])) (append-nil up) ∙ ap (λ x. up ++ x) (append-nil (sent (query q)))) after;
+        whole = op.whole;
+        session = op.session;
+        made = op.made;
+      }
+
+  asking_good : (r : Router) (more : List Unit) (q : Question) (d : Reads r more) → d.wanted ≡ [] → without_notifies more ≡ [] → QuestionFits d.h.session q r.version → GoodR (asking q r)
+  asking_good r more q d wanted rest fits = record {
+    table = d.table;
+    unmarked = d.unmarked;
+    link = (
+      d.h,
+      d.is_home,
+      record {
+        coming = more;
+        lost = d.lost;
+        wanted = query q ∷ [];
+        downward = subst (λ x. Stream x (down ++ (conn_due conn ++ d.lost)) more) (sym d.held) d.downward;
+        open_at = open_asking d.h d.wanted d.lost q conn wanted (query_unit all d.h.session q r.version r.table fits d.table) d.open_at;
+        notifies = d.notifies;
+        own = d.own;
+        mine = d.mine;
+        shape = (fits, inl (refl, rest));
+      },
+    );
+  }
+
+  -- a link that ended
+  ended_good : (r : Router) (end : End) → r.link ≡ Ended end → TableAt all r.version r.table → r.mark ≡ false → GoodR r
+  ended_good r end is table unmarked = record { table = table; unmarked = unmarked; link = subst (λ x. GoodLink all i home x r conn up down) (sym is) tt }
+
+  -- a notify comes
+  pub on_notify : (r : Router) (more : List Unit) (l : Link) (one serial : ℕ) (d : Reads r more) → r.link ≡ l → is_reading l ≡ true → one ≡ d.h.session → Shape all d.h l r.agreed r.version r.table d.wanted (without_notifies more) → GoodR (on_unit l (SerialNotify one serial) r)
+  unfolding on_unit
+  on_notify r more Closed one serial d is live own shape = false_true live
+  on_notify r more (Ended end) one serial d is live own shape = false_true live
+  on_notify r more Idle one serial d is live own shape =
+      let mine : Mine d.h.session r.version = d.mine shape.2 in
+      let quiet : is_strange r one ≡ false = λ j. shape.2 j && no_difference d.h.session one r.session r.version own d.own mine j in
+      subst (λ b. GoodR (if b then fails (SerialNotify one serial) r else if is_news r.version serial then ask r else r)) (sym quiet)
+      (by_news (is_news r.version serial) mine)
+    where
+      by_news : (b : Bool) → Mine d.h.session r.version → GoodR (if b then ask r else r)
+      by_news true mine = asking_good r more (choose r.version r.mark) d shape.0 shape.1 (question_fits d.h.session r.version r.mark d.unmarked mine)
+      by_news false mine = same_good r more Idle d is refl shape
+  on_notify r more (Asked q) one serial d is live own shape =
+      subst (λ b. GoodR (if b then fails (SerialNotify one serial) r else r)) (sym (quiet r.agreed refl)) (same_good r more (Asked q) d is refl shape)
+    where
+      quiet : (b : Bool) → r.agreed ≡ b → (b && differs (session_of r.session r.version) one) ≡ false
+      quiet false e = refl
+      quiet true e = no_difference d.h.session one r.session r.version own d.own (d.mine e)
+  on_notify r more (Answering a) one serial d is live own shape =
+      subst (λ b. GoodR (if b then fails (SerialNotify one serial) r else r)) (sym (quiet r.agreed refl)) (same_good r more (Answering a) d is refl shape)
+    where
+      quiet : (b : Bool) → r.agreed ≡ b → (b && differs (session_of r.session r.version) one) ≡ false
+      quiet false e = refl
+      quiet true e = no_difference d.h.session one r.session r.version own d.own (d.mine e)
+
+  -- the first unit is no notify
+  agreed_reads : (r : Router) (more : List Unit) (d : Reads r more) → Mine d.h.session r.version → Reads (record r { agreed = true }) more
+  agreed_reads r more d m = record {
+    h = d.h;
+    is_home = d.is_home;
+    lost = d.lost;
+    wanted = d.wanted;
+    downward = d.downward;
+    open_at = d.open_at;
+    notifies = d.notifies;
+    own = d.own;
+    mine = λ e. m;
+    none = d.none;
+    held = d.held;
+    table = d.table;
+    unmarked = d.unmarked;
+  }
+
+  -- a question of what is committed is of the connection's session
+  fits_mine : (session : ℕ) (q : Question) (version : Option Committed) → QuestionFits session q version → IsOwn session q → Mine session version
+  fits_mine session AskReset version f own = f
+  fits_mine session (AskSerial one serial) None f own = tt
+  fits_mine session (AskSerial one serial) (Some version) f own = sym f.0 ∙ own
+
+  right_response : (session : ℕ) (q : Question) (version : Option Committed) → QuestionFits session q version → IsOwn session q → is_wrong (Some q) version session ≡ false
+  right_response session AskReset version f own = refl
+  right_response session (AskSerial one serial) None f own = refl
+  right_response session (AskSerial one serial) (Some version) f own = same_session version.session session (sym f.0 ∙ own)
+
+  -- an Error Report
+  data_good : (r : Router) (more : List Unit) (copy : List ℕ) (d : Reads r more) → d.wanted ≡ [] → without_notifies more ≡ [] → Mine d.h.session r.version → GoodR (on_unit (Asked AskReset) (report 2 copy) r)
+  unfolding on_unit
+  data_good r more copy d wanted rest m =
+      let k : Router = record r { agreed = true; link = Idle; due = Some (sum_of r.now (retry_of r.version)) } in
+      same_good (record r { agreed = true; link = Idle; due = Some (sum_of r.now (retry_of r.version)) }) more Idle
+      (record {
+        h = d.h;
+        is_home = d.is_home;
+        lost = d.lost;
+        wanted = d.wanted;
+        downward = d.downward;
+        open_at = d.open_at;
+        notifies = d.notifies;
+        own = d.own;
+        mine = λ e. m;
+        none = d.none;
+        held = d.held;
+        table = d.table;
+        unmarked = d.unmarked;
+      }) refl refl (wanted, rest, refl)
+
+  zero_good : (r : Router) (q : Question) (copy : List ℕ) → TableAt all r.version r.table → r.mark ≡ false → GoodR (on_unit (Asked q) (report 0 copy) r)
+  unfolding on_unit
+  zero_good r q copy table unmarked = by_question (is_serial (Some q))
+    where
+      by_question : (b : Bool) → GoodR (if b then told 0 (emptied (record r { agreed = true })) else told 0 (record r { agreed = true }))
+      by_question true = ended_good (told 0 (emptied (record r { agreed = true }))) (ends.Told 0) refl refl refl
+      by_question false = ended_good (told 0 (record r { agreed = true })) (ends.Told 0) refl table unmarked
+
+  one_good : (r : Router) (q : Question) → TableAt all r.version r.table → r.mark ≡ false → GoodR (on_unit (Asked q) (report 1 []) r)
+  unfolding on_unit
+  one_good r q table unmarked = ended_good (told 1 (record r { agreed = true })) (ends.Told 1) refl table unmarked
+
+  reset_good : (r : Router) (more : List Unit) (serial : ℕ) (d : Reads r more) → d.wanted ≡ [] → without_notifies more ≡ [] → Mine d.h.session r.version → GoodR (on_unit (Asked (AskSerial d.h.session serial)) CacheReset r)
+  unfolding on_unit agreed_reads
+  reset_good r more serial d wanted rest m = asking_good (record r { agreed = true }) more AskReset (agreed_reads r more d m) wanted rest m
+
+  -- a Cache Response
+  response_good : (r : Router) (more : List Unit) (q : Question) (d : Reads r more) → d.wanted ≡ [] → QuestionFits d.h.session q r.version → IsOwn d.h.session q → OfAnswer all d.h (base_of q r.table) (nothing_yet q d.h.session) (without_notifies more) → GoodR (on_unit (Asked q) (CacheResponse d.h.session) r)
+  unfolding on_unit
+  response_good r more q d wanted f own a =
+      let session : ℕ = d.h.session in
+      let k : Router = record r { agreed = true; session = Some d.h.session; link = Answering (nothing_yet q d.h.session) } in
+      subst (λ b. GoodR (if b then fails (CacheResponse d.h.session) r else record r { agreed = true; session = Some d.h.session; link = Answering (nothing_yet q d.h.session) })) (sym (right_response d.h.session q r.version f own))
+      (same_good (record r { agreed = true; session = Some d.h.session; link = Answering (nothing_yet q d.h.session) }) more (Answering (nothing_yet q d.h.session))
+      (record {
+        h = d.h;
+        is_home = d.is_home;
+        lost = d.lost;
+        wanted = d.wanted;
+        downward = d.downward;
+        open_at = d.open_at;
+        notifies = d.notifies;
+        own = refl;
+        mine = λ e. fits_mine d.h.session q r.version f own;
+        none = d.none;
+        held = d.held;
+        table = d.table;
+        unmarked = d.unmarked;
+      }) refl refl (wanted, refl, refl, f, a))
+
+  replied : (r : Router) (more : List Unit) (q : Question) (u : Unit) (d : Reads r more) → d.wanted ≡ [] → QuestionFits d.h.session q r.version → Replies all d.h q (base_of q r.table) (u ∷ without_notifies more) → GoodR (on_unit (Asked q) u r)
+  replied r more q u d w f (no_data copy qe e) =
+      let m : Mine d.h.session r.version = subst (λ x. QuestionFits d.h.session x r.version) qe f in
+      subst₂ (λ a b. GoodR (on_unit (Asked a) b r)) (sym qe) (sym (first_is u (report 2 copy) (without_notifies more) [] e)) (data_good r more copy d w (rest_is u (report 2 copy) (without_notifies more) [] e) m)
+  replied r more q u d w f (not_kept serial qe e) =
+      let m : Mine d.h.session r.version = fits_mine d.h.session (AskSerial d.h.session serial) r.version (subst (λ x. QuestionFits d.h.session x r.version) qe f) refl in
+      subst₂ (λ a b. GoodR (on_unit (Asked a) b r)) (sym qe) (sym (first_is u CacheReset (without_notifies more) [] e)) (reset_good r more serial d w (rest_is u CacheReset (without_notifies more) [] e) m)
+  replied r more q u d w f (other_session copy e) =
+      subst (λ b. GoodR (on_unit (Asked q) b r)) (sym (first_is u (report 0 copy) (without_notifies more) [] e)) (zero_good r q copy d.table d.unmarked)
+  replied r more q u d w f (no_memory e) =
+      subst (λ b. GoodR (on_unit (Asked q) b r)) (sym (first_is u (report 1 []) (without_notifies more) [] e)) (one_good r q d.table d.unmarked)
+  replied r more q u d w f (response tail e own a) =
+      subst (λ b. GoodR (on_unit (Asked q) b r)) (sym (first_is u (CacheResponse d.h.session) (without_notifies more) tail e))
+      (response_good r more q d w f own (subst (λ x. OfAnswer all d.h (base_of q r.table) (nothing_yet q d.h.session) x) (sym (rest_is u (CacheResponse d.h.session) (without_notifies more) tail e)) a))
+
+  -- a record comes
+  staged_good : (r : Router) (more : List Unit) (a : Begun) (announce : Bool) (v : Payload) (serial : ℕ) (set : VrpSet) (d : Reads r more) (stands : Stands all d.h.session serial set) (st : Staged) → stage (base_of a.question r.table) a announce v ≡ st → d.wanted ≡ [] → r.agreed ≡ true → a.session ≡ d.h.session
+      → QuestionFits d.h.session a.question r.version → length d.h.sets ≤ length stands.older + 1 → after_stage st (λ b. Leads (base_of a.question r.table) b (without_notifies more) d.h.session serial set) → GoodR (staged (Prefix announce v) st r)
+  staged_good r more a announce v serial set d stands (Wrong code) e w ag se f since l = absurd l
+  staged_good r more a announce v serial set d stands Over e w ag se f since l = absurd l
+  staged_good r more a announce v serial set d stands (Stays b) e w ag se f since l =
+      let same = stage_keeps (base_of a.question r.table) a announce v b e in
+      same_good (record r { link = Answering b }) more (Answering b)
+      (record {
+        h = d.h;
+        is_home = d.is_home;
+        lost = d.lost;
+        wanted = d.wanted;
+        downward = d.downward;
+        open_at = d.open_at;
+        notifies = d.notifies;
+        own = d.own;
+        mine = d.mine;
+        none = d.none;
+        held = d.held;
+        table = d.table;
+        unmarked = d.unmarked;
+      }) refl refl
+      (
+        w,
+        ag,
+        same.1 ∙ se,
+        subst (λ x. QuestionFits d.h.session x r.version) (sym same.0) f,
+        subst (λ x. OfAnswer all d.h (base_of x r.table) b (without_notifies more)) (sym same.0) (record { serial = serial; set = set; stands = stands; leads = l; since = since }),
+      )
+
+  -- the answer ends
+  committed_good : (r : Router) (more : List Unit) (a : Begun) (one number refresh retry expire : ℕ) (d : Reads r more) → d.wanted ≡ [] → without_notifies more ≡ [] → r.agreed ≡ true → a.session ≡ d.h.session → one ≡ d.h.session
+      → Stands all one number (led_to (base_of a.question r.table) a.withdrawn a.announced) → GoodR (on_unit (Answering a) (EndOfData one number refresh retry expire) r)
+  unfolding on_unit
+  committed_good r more a one number refresh retry expire d w e ag se oe stands =
+      let version : Committed = record { session = one; serial = number; moment = r.now; intervals = bounded refresh retry expire } in
+      subst (λ b. GoodR (if b then commit a (record { session = one; serial = number; moment = r.now; intervals = bounded refresh retry expire }) r else fails (EndOfData one number refresh retry expire) r)) (sym (equal_true one a.session (oe ∙ sym se)))
+      (same_good (commit a (record { session = one; serial = number; moment = r.now; intervals = bounded refresh retry expire }) r) more Idle
+      (record {
+        h = d.h;
+        is_home = d.is_home;
+        lost = d.lost;
+        wanted = d.wanted;
+        downward = d.downward;
+        open_at = d.open_at;
+        notifies = d.notifies;
+        own = d.own;
+        mine = λ x. oe;
+        none = d.none;
+        held = d.held;
+        table = stands;
+        unmarked = refl;
+      }) refl refl (w, e, ag))
+
+  answering : (r : Router) (more : List Unit) (a : Begun) (u : Unit) (d : Reads r more) → d.wanted ≡ [] → r.agreed ≡ true → a.session ≡ d.h.session → QuestionFits d.h.session a.question r.version
+      → (serial : ℕ) (set : VrpSet) (stands : Stands all d.h.session serial set) → length d.h.sets ≤ length stands.older + 1 → Leads (base_of a.question r.table) a (u ∷ without_notifies more) d.h.session serial set → GoodR (on_unit (Answering a) u r)
+  unfolding on_unit
+  answering r more a (Prefix announce v) d w ag se f serial set stands since l =
+      staged_good r more a announce v serial set d stands (stage (base_of a.question r.table) a announce v) refl w ag se f since l
+  answering r more a (EndOfData one number refresh retry expire) d w ag se f serial set stands since l =
+      committed_good r more a one number refresh retry expire d w l.0 ag se l.1
+      (subst (λ x. Stands all one number x) (sym l.3) (subst₂ (λ x y. Stands all x y set) (sym l.1) (sym l.2) stands))
+  answering r more a u d w ag se f serial set stands since l = absurd l
+
+  -- a unit comes that is no notify
+  pub on_other : (r : Router) (more : List Unit) (l : Link) (u : Unit) (d : Reads r more) → is_reading l ≡ true → Shape all d.h l r.agreed r.version r.table d.wanted (u ∷ without_notifies more) → GoodR (on_unit l u r)
+  on_other r more Closed u d live shape = false_true live
+  on_other r more (Ended end) u d live shape = false_true live
+  on_other r more Idle u d live shape = absurd (no_unit u (without_notifies more) shape.1)
+  on_other r more (Asked q) u d live shape =
+      elim (shape.1) [
+        | inl w ↦ absurd (no_unit u (without_notifies more) w.1)
+        | inr w ↦ replied r more q u d w.0 shape.0 w.1
+      ]
+  on_other r more (Answering a) u d live shape =
+      answering r more a u d shape.0 shape.1 shape.2 shape.3 shape.4.serial shape.4.set shape.4.stands shape.4.since shape.4.leads

@@ -1,0 +1,310 @@
+-- What happens at one router, its connection and its wires keeps the invariant.
+use Rattle.std.specs.Prelude.{◌≡◌, ◌⊎◌, ℕ, ◌+◌, ◌-◌, ◌≤◌, Bool, true, false, not, ◌&&◌, ◌||◌, List, [], ◌∷◌, ◌++◌, length, take, drop, min, Option, Some, None, if◌then◌else◌, refl}
+use Rattle.std.proofs.Common.{sym, ap, ◌∙◌, subst, arith, append_assoc, inl, inr}
+use Rattle.std.proofs.lemmas.Bool.{and_parts}
+use Rattle.std.proofs.lemmas.List.{append-nil, take-append-drop, take_min}
+use Rattle.vrps.specs.Instance.{Instance}
+use Rattle.vrps.specs.VrpSet.{VrpSet, empty}
+use Rattle.rtr_pdu.specs.Judging.{Judgement, Begins, Whole, judge}
+use Rattle.rtr_pdu.specs.declared.unit.Unit.{Unit}
+use Rattle.rtr_pdu.specs.declared.unit.Unit.TheVariants.{SerialNotify, SerialQuery}
+use Rattle.rtr_ends.specs.declared.link.End.{End}
+use Rattle.rtr_ends.specs.declared.link.End.TheVariants as ends
+use Rattle.rtr_ends.specs.Answer.{sent, sent_all}
+use Rattle.rtr_ends.specs.Cache.{Conn, is_none, finds_memory, conn_pulled, pulled_count, new_conn}
+use Rattle.rtr_ends.specs.Feeding.{Fed, feed}
+use Rattle.rtr_ends.specs.Router.{Router, Receiving, Noted, Link, Closed, Idle, Asked, Answering, Ended, choose, ask, emptied, on_unit, may_lack, lacks, reads, with_bytes, with_judged, is_reading, router_stops, router_byte, expired, judged, clocked, is_closed, close, is_due, is_idle, asks_if, connects_at, closed_at, ticks_at, asks, receives, router_pulled, new_router}
+use Rattle.rtr_ends.specs.Transcript.{Begun, Committed, Question, AskReset, AskSerial, query, base_of, is_serial, is_over, later, sum_of, retry_of}
+use Rattle.rtr_ends.proofs.KeptLaws.{same_base}
+use Rattle.rtr_world.specs.History.{conn_due}
+use Rattle.rtr_world.specs.OneAnswer.{NotifiesOf, without_notifies}
+use Rattle.rtr_world.specs.World.{Side, timing}
+use Rattle.rtr_world.proofs.Invariant.{OfAnswer, Shape, QuestionFits, Mine, IfOpen, Open, Flow, Live, GoodLink, GoodRouter}
+use Rattle.rtr_world.proofs.RouterSteps.{Reads, on_notify, on_other, live_link, question_fits, first_fits, query_unit, open_asking}
+use Rattle.rtr_world.proofs.Streams.{Stream, ByteCase, partly, wholly, byte_case}
+use Rattle.rtr_world.proofs.Versions.{TableAt}
+
+false_true : {P : Type 0} → false ≡ true → P
+false_true h = absurd (let e : false ≡ true = h in cc)
+
+-- A link keeps its state; what lives goes on to live.
+pub live_map : (l : Link) (all all' : List Instance) (i i' : Instance) (home home' : Option Instance) (r r' : Router) (conn conn' : Option Conn) (up up' down down' : List ℕ)
+    → (r.held ≡ [] → r'.held ≡ []) → r'.agreed ≡ r.agreed → r'.session ≡ r.session → GoodLink all i home l r conn up down → (Live all i home r conn up down → Live all' i' home' r' conn' up' down') → GoodLink all' i' home' l r' conn' up' down'
+live_map Closed all all' i i' home home' r r' conn conn' up up' down down' held agreed session g f = (held g.0, agreed ∙ g.1, session ∙ g.2)
+live_map (Ended end) all all' i i' home home' r r' conn conn' up up' down down' held agreed session g f = tt
+live_map Idle all all' i i' home home' r r' conn conn' up up' down down' held agreed session g f = f g
+live_map (Asked q) all all' i i' home home' r r' conn conn' up up' down down' held agreed session g f = f g
+live_map (Answering a) all all' i i' home home' r r' conn conn' up up' down down' held agreed session g f = f g
+
+pub live_of : (l : Link) (all : List Instance) (i : Instance) (home : Option Instance) (r : Router) (conn : Option Conn) (up down : List ℕ) → GoodLink all i home l r conn up down → is_reading l ≡ true → Live all i home r conn up down
+live_of Closed all i home r conn up down g live = false_true live
+live_of (Ended end) all i home r conn up down g live = false_true live
+live_of Idle all i home r conn up down g live = g
+live_of (Asked q) all i home r conn up down g live = g
+live_of (Answering a) all i home r conn up down g live = g
+
+-- A unit is a notify, or stands among those that are none.
+data HeadCase (u : Unit) (more : List Unit) : Type 0 where
+  a_notify : (session serial : ℕ) → u ≡ SerialNotify session serial → HeadCase u more
+  another : without_notifies (u ∷ more) ≡ u ∷ without_notifies more → HeadCase u more
+
+head_case : (u : Unit) (more : List Unit) → HeadCase u more
+head_case (SerialNotify session serial) more = a_notify session serial refl
+head_case u more = another refl
+
+notifies_rest : (session : ℕ) (u : Unit) (units : List Unit) → NotifiesOf session (u ∷ units) → NotifiesOf session units
+notifies_rest session (SerialNotify one serial) units h = h.1
+notifies_rest session u units h = h
+
+none_is : (out : List ℕ) → is_none out ≡ true → out ≡ []
+none_is [] h = refl
+none_is (b ∷ out) h = false_true h
+
+not_true : (b : Bool) → not b ≡ false → b ≡ true
+not_true true h = refl
+not_true false h = absurd (let e : true ≡ false = h in cc)
+
+nothing_left : {A : Type 0} (xs ys : List A) → xs ++ ys ≡ [] → xs ≡ []
+nothing_left [] ys e = refl
+nothing_left (x ∷ xs) ys e = cc
+
+nothing_right : {A : Type 0} (xs ys : List A) → xs ++ ys ≡ [] → ys ≡ []
+nothing_right [] ys e = e
+nothing_right (x ∷ xs) ys e = cc
+
+-- a Reset Query fits where nothing is committed
+fits_nothing : (session : ℕ) (q : Question) → is_serial (Some q) ≡ false → QuestionFits session q None
+fits_nothing session AskReset h = tt
+fits_nothing session (AskSerial one serial) h = false_true (sym h)
+
+module _ (all : List Instance) (i : Instance) (home : Option Instance) (conn : Option Conn) (up : List ℕ) where
+  -- the router reads a unit
+  unit_read : (down : List ℕ) (r : Router) (more : List Unit) (u : Unit) → HeadCase u more → (d : Reads all i home conn up down r more) → is_reading r.link ≡ true → NotifiesOf d.h.session (u ∷ more)
+      → Shape all d.h r.link r.agreed r.version r.table d.wanted (without_notifies (u ∷ more)) → GoodRouter all i home conn up down (on_unit r.link u r)
+  unit_read down r more u (a_notify session serial e) d live notes shape =
+      let n : (session ≡ d.h.session) × NotifiesOf d.h.session more = subst (λ x. NotifiesOf d.h.session (x ∷ more)) e notes in
+      let s : Shape all d.h r.link r.agreed r.version r.table d.wanted (without_notifies more) = subst (λ x. Shape all d.h r.link r.agreed r.version r.table d.wanted (without_notifies (x ∷ more))) e shape in
+      subst (λ x. GoodRouter all i home conn up down (on_unit r.link x r)) (sym e) (on_notify all i home conn up down r more r.link session serial d refl live n.0 s)
+  unit_read down r more u (another e) d live notes shape =
+      on_other all i home conn up down r more r.link u d live (subst (λ x. Shape all d.h r.link r.agreed r.version r.table d.wanted x) e shape)
+
+  -- it reads a byte
+  byte_read : (down : List ℕ) (r : Router) (b : ℕ) (memory : Bool) (h : Instance) (f : Flow all i h r conn up (b ∷ down)) → home ≡ Some h → is_reading r.link ≡ true → r.out ≡ [] → TableAt all r.version r.table → r.mark ≡ false
+      → ByteCase (not r.agreed) r.held b (down ++ (conn_due conn ++ f.lost)) f.coming → GoodRouter all i home conn up down (with_bytes memory (r.held ++ b ∷ []) r (judge 1 (not r.agreed) (r.held ++ b ∷ []))).router
+  byte_read down r b memory h f eh live none table mark (partly e s) =
+      let k : Router = record r { held = r.held ++ b ∷ [] } in
+      subst (λ j. GoodRouter all i home conn up down (with_bytes memory (r.held ++ b ∷ []) r j).router) (sym e) (record {
+        table = table;
+        unmarked = mark;
+        link = live_link all i home conn up down (record r { held = r.held ++ b ∷ [] }) r.link refl live (
+          h,
+          eh,
+          record {
+            coming = f.coming;
+            lost = f.lost;
+            wanted = f.wanted;
+            downward = s;
+            open_at = f.open_at;
+            notifies = f.notifies;
+            own = f.own;
+            mine = f.mine;
+            shape = f.shape;
+          },
+        );
+      })
+  byte_read down r b memory h f eh live none table mark (wholly u more is e fit s) =
+      subst (λ j. GoodRouter all i home conn up down (with_bytes memory (r.held ++ b ∷ []) r j).router) (sym e) (by_memory (may_lack r.link u r && not memory))
+    where
+      k : Router
+      k = record r { held = [] }
+
+      notes : NotifiesOf h.session (u ∷ more)
+      notes = subst (λ x. NotifiesOf h.session x) is f.notifies
+
+      d : Reads all i home conn up down k more
+      d = record {
+        h = h;
+        is_home = eh;
+        lost = f.lost;
+        wanted = f.wanted;
+        downward = s;
+        open_at = subst (λ x. IfOpen conn (Open i h x up f.wanted f.lost)) none f.open_at;
+        notifies = notifies_rest h.session u more notes;
+        own = f.own;
+        mine = f.mine;
+        none = none;
+        held = refl;
+        table = table;
+        unmarked = mark;
+      }
+
+      by_memory : (w : Bool) → GoodRouter all i home conn up down (if w then lacks u k else reads u k).router
+      by_memory true = record { table = table; unmarked = mark; link = tt }
+      by_memory false = unit_read down k more u (head_case u more) d live notes (subst (λ x. Shape all h r.link r.agreed r.version r.table f.wanted (without_notifies x)) is f.shape)
+
+  byte_good : (down : List ℕ) (m : Receiving) (b : ℕ) → router_stops m.router ≡ false → GoodRouter all i home conn up (b ∷ down) m.router → GoodRouter all i home conn up down (router_byte m b).router
+  unfolding router_byte
+  byte_good down m b goes_on g =
+      let parts = and_parts (is_reading m.router.link) (is_none m.router.out) (not_true (is_reading m.router.link && is_none m.router.out) goes_on) in
+      let l = live_of m.router.link all i home m.router conn up (b ∷ down) g.link parts.0 in
+      byte_read down m.router b (finds_memory m.wanting) l.0 l.2 l.1 parts.0 (none_is m.router.out parts.1) g.table g.unmarked
+      (byte_case (not m.router.agreed) m.router.held b (down ++ (conn_due conn ++ l.2.lost)) l.2.coming l.2.downward)
+
+  abbrev by_stop : Receiving → ℕ → List ℕ → Bool → Fed Receiving
+  by_stop m b piece s = elim s [ true ↦ record { machine = m; rest = b ∷ piece } | false ↦ feed (λ x. router_stops x.router) router_byte (router_byte m b) piece ]
+
+  abbrev GoodFed : List ℕ → Fed Receiving → Type 0
+  GoodFed tail f = GoodRouter all i home conn up (f.rest ++ tail) f.machine.router
+
+  fed_by : (tail : List ℕ) (m : Receiving) (b : ℕ) (piece : List ℕ) (s : Bool) → router_stops m.router ≡ s → GoodRouter all i home conn up (b ∷ (piece ++ tail)) m.router
+      → (GoodRouter all i home conn up (piece ++ tail) (router_byte m b).router → GoodFed tail (feed (λ x. router_stops x.router) router_byte (router_byte m b) piece)) → GoodFed tail (by_stop m b piece s)
+  fed_by tail m b piece true is g on = g
+  fed_by tail m b piece false is g on = on (byte_good (piece ++ tail) m b is g)
+
+  -- it is handed a piece
+  pub fed_good : (tail : List ℕ) (m : Receiving) (piece : List ℕ) → GoodRouter all i home conn up (piece ++ tail) m.router → GoodFed tail (feed (λ x. router_stops x.router) router_byte m piece)
+  fed_good tail m [] g = g
+  fed_good tail m (b ∷ piece) g = fed_by tail m b piece (router_stops m.router) refl g (fed_good tail (router_byte m b) piece)
+
+  module _ (down : List ℕ) where
+    abbrev GoodR : Router → Type 0
+    GoodR r = GoodRouter all i home conn up down r
+
+    -- the clock
+    emptied_live : (r : Router) → ((h : Instance) (wanted rest : List Unit) → Shape all h r.link r.agreed r.version r.table wanted rest → Shape all h r.link r.agreed None empty wanted rest) → Live all i home r conn up down → Live all i home (emptied r) conn up down
+    emptied_live r k l = (
+      l.0,
+      l.1,
+      record {
+        coming = l.2.coming;
+        lost = l.2.lost;
+        wanted = l.2.wanted;
+        downward = l.2.downward;
+        open_at = l.2.open_at;
+        notifies = l.2.notifies;
+        own = l.2.own;
+        mine = λ e. tt;
+        shape = k l.0 l.2.wanted (without_notifies l.2.coming) l.2.shape;
+      },
+    )
+
+    emptied_good : (r : Router) (l : Link) → r.link ≡ l → GoodLink all i home l (emptied r) conn up down → GoodR (emptied r)
+    emptied_good r l is g = record { table = refl; unmarked = refl; link = subst (λ x. GoodLink all i home x (emptied r) conn up down) (sym is) g }
+
+    shape_as : (r : Router) (l : Link) → r.link ≡ l → ((h : Instance) (wanted rest : List Unit) → Shape all h l r.agreed r.version r.table wanted rest → Shape all h l r.agreed None empty wanted rest)
+        → (h : Instance) (wanted rest : List Unit) → Shape all h r.link r.agreed r.version r.table wanted rest → Shape all h r.link r.agreed None empty wanted rest
+    shape_as r l is k h wanted rest s =
+        subst (λ x. Shape all h x r.agreed None empty wanted rest) (sym is) (k h wanted rest (subst (λ x. Shape all h x r.agreed r.version r.table wanted rest) is s))
+
+    expired_good : (l : Link) (r : Router) → r.link ≡ l → GoodLink all i home l r conn up down → GoodR (expired l r)
+    expired_good Closed r is g = emptied_good r Closed is g
+    expired_good (Ended end) r is g = emptied_good r (Ended end) is tt
+    expired_good Idle r is g = emptied_good r Idle is (emptied_live r (shape_as r Idle is (λ h w t s. s)) g)
+    expired_good (Asked AskReset) r is g = emptied_good r (Asked AskReset) is (emptied_live r (shape_as r (Asked AskReset) is (λ h w t s. (tt, s.1))) g)
+    expired_good (Asked (AskSerial one serial)) r is g = record { table = refl; unmarked = refl; link = tt }
+    expired_good (Answering a) r is g = by_question (is_serial (Some a.question)) refl
+      where
+        by_question : (b : Bool) → is_serial (Some a.question) ≡ b → GoodR (if b then record (emptied r) { link = Ended ends.Expired; out = [] } else emptied r)
+        by_question true e = record { table = refl; unmarked = refl; link = tt }
+        by_question false e =
+            emptied_good r (Answering a) is (emptied_live r (shape_as r (Answering a) is (λ h w t s.
+                (s.0, s.1, s.2, fits_nothing h.session a.question e, subst (λ base. OfAnswer all h base a t) (sym (same_base a.question r.table e)) s.4))) g)
+
+    told_good : (now : ℕ) (r : Router) → GoodR r → GoodR (record r { now = now })
+    told_good now r g = record {
+      table = g.table;
+      unmarked = g.unmarked;
+      link = live_map r.link all all i i home home r (record r { now = now }) conn conn up up down down (λ e. e) refl refl g.link (λ l. (
+        l.0,
+        l.1,
+        record {
+          coming = l.2.coming;
+          lost = l.2.lost;
+          wanted = l.2.wanted;
+          downward = l.2.downward;
+          open_at = l.2.open_at;
+          notifies = l.2.notifies;
+          own = l.2.own;
+          mine = l.2.mine;
+          shape = l.2.shape;
+        },
+      ));
+    }
+
+    pub clocked_good : (now : ℕ) (r : Router) → GoodR r → GoodR (clocked now r)
+    unfolding clocked
+    clocked_good now r g = by_clock (is_over r.version (later r.now now)) (told_good (later r.now now) r g)
+      where
+        k : Router
+        k = record r { now = later r.now now }
+
+        by_clock : (b : Bool) → GoodR k → GoodR (if b then expired k.link k else k)
+        by_clock true h = expired_good k.link k refl h.link
+        by_clock false h = h
+
+    -- a link that is closed
+    pub record Shut (r : Router) : Type 0 where
+      pub table : TableAt all r.version r.table
+      pub unmarked : r.mark ≡ false
+      pub closed : r.link ≡ Closed
+      pub held : r.held ≡ []
+      pub agreed : r.agreed ≡ false
+      pub session : r.session ≡ None
+
+    pub close_shut : (r : Router) → GoodR r → Shut (close r)
+    close_shut r g = by_link r.link refl g.link
+      where
+        closed : Router
+        closed = record r { link = Closed; agreed = false; session = None; held = []; out = []; due = Some (sum_of r.now (retry_of r.version)) }
+
+        so : Shut closed
+        so = record { table = g.table; unmarked = g.unmarked; closed = refl; held = refl; agreed = refl; session = refl }
+
+        open_link : is_closed r.link ≡ false → Shut (close r)
+        open_link e = subst (λ b. Shut (if b then r else closed)) (sym e) so
+
+        by_link : (l : Link) → r.link ≡ l → GoodLink all i home l r conn up down → Shut (close r)
+        by_link Closed is h =
+            subst (λ b. Shut (if b then r else closed)) (ap is_closed (sym is)) (record { table = g.table; unmarked = g.unmarked; closed = is; held = h.0; agreed = h.1; session = h.2 })
+        by_link (Ended end) is h = open_link (ap is_closed is)
+        by_link Idle is h = open_link (ap is_closed is)
+        by_link (Asked q) is h = open_link (ap is_closed is)
+        by_link (Answering a) is h = open_link (ap is_closed is)
+
+    -- an idle link asks
+    open_quiet : (h : Instance) (out : List ℕ) (wanted : List Unit) (lost : List ℕ) (o : Option Conn) → wanted ≡ [] → IfOpen o (Open i h out up wanted lost) → IfOpen o (Open i h [] up wanted lost)
+    open_quiet h out wanted lost None e op = tt
+    open_quiet h out wanted lost (Some o) e op =
+        let none : o.held ++ (up ++ out) ≡ [] = op.upward.whole ∙ ap (λ x. sent_all x) e in
+        let empty_out : out ≡ [] = nothing_right up out (nothing_right o.held (up ++ out) none) in
+        record { upward = subst (λ x. Stream o.held (up ++ x) wanted) empty_out op.upward; whole = op.whole; session = op.session; made = op.made }
+
+    pub asks_good : (l : Link) (r : Router) (b : Bool) → r.link ≡ l → (is_idle l ≡ false → b ≡ false) → GoodR r → GoodLink all i home l r conn up down → GoodR (asks_if b r).router
+    asks_good l r false is idle g k = g
+    asks_good Closed r true is idle g k = false_true (sym (idle refl))
+    asks_good (Ended end) r true is idle g k = false_true (sym (idle refl))
+    asks_good (Asked q) r true is idle g k = false_true (sym (idle refl))
+    asks_good (Answering a) r true is idle g k = false_true (sym (idle refl))
+    asks_good Idle r true is idle g k =
+        let s = subst (λ x. Shape all k.0 x r.agreed r.version r.table k.2.wanted (without_notifies k.2.coming)) is k.2.shape in
+        let fits = question_fits k.0.session r.version r.mark g.unmarked (k.2.mine s.2) in
+        record {
+          table = g.table;
+          unmarked = g.unmarked;
+          link = (
+            k.0,
+            k.1,
+            record {
+              coming = k.2.coming;
+              lost = k.2.lost;
+              wanted = query (choose r.version r.mark) ∷ [];
+              downward = k.2.downward;
+              open_at = open_asking all i home conn up down k.0 k.2.wanted k.2.lost (choose r.version r.mark) conn s.0 (query_unit all k.0.session (choose r.version r.mark) r.version r.table fits g.table)
+                  (open_quiet k.0 r.out k.2.wanted k.2.lost conn s.0 k.2.open_at);
+              notifies = k.2.notifies;
+              own = k.2.own;
+              mine = k.2.mine;
+              shape = (fits, inl (refl, s.1));
+            },
+          );
+        }
