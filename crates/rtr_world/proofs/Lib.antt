@@ -1,4 +1,6 @@
 pub mod AnswerLaws
+pub mod CacheMoves
+pub mod CacheSteps
 pub mod Invariant
 pub mod RouterSteps
 pub mod SideLaws

@@ -117,15 +117,15 @@ position_at all session serial set a =
         ap (λ b. if b then Some (length (versions_from a.i.start (newer ++ set ∷ a.older))) else position_of (serial_at a.i.start (length a.older)) (versions_from a.i.start (newer ++ set ∷ a.older))) other
         ∙ found newer (omega (arith, few))
 
--- A version that has room keeps its name when another is published.
+-- A version that has room keeps its name and its place when another is published.
 pub stands_published : (past : List Instance) (i : Instance) (y : VrpSet) (session serial : ℕ) (set : VrpSet) (a : Stands (i ∷ past) session serial set) → (i.session ≡ session → length a.newer + 1 < 2 ^ 31)
-    → Stands (record i { sets = y ∷ i.sets } ∷ past) session serial set
+    → (s : Stands (record i { sets = y ∷ i.sets } ∷ past) session serial set) × (s.older ≡ a.older)
 stands_published past i y session serial set a room = by_session (i.session == session) refl a.found
   where
-    by_session : (b : Bool) → (i.session == session) ≡ b → (if b then Some i else find_session session past) ≡ Some a.i → Stands (record i { sets = y ∷ i.sets } ∷ past) session serial set
+    by_session : (b : Bool) → (i.session == session) ≡ b → (if b then Some i else find_session session past) ≡ Some a.i → (s : Stands (record i { sets = y ∷ i.sets } ∷ past) session serial set) × (s.older ≡ a.older)
     by_session true e f =
         let same : i ≡ a.i = some_is i a.i f in
-        record {
+        (record {
           i = record i { sets = y ∷ i.sets };
           found = ap (λ b. if b then Some (record i { sets = y ∷ i.sets }) else find_session session past) e;
           newer = y ∷ a.newer;
@@ -134,8 +134,8 @@ stands_published past i y session serial set a room = by_session (i.session == s
           serial_is = a.serial_is ∙ ap (λ x. serial_at x.start (length a.older)) (sym same);
           young = (let few : length a.newer + 1 < 2 ^ 31 = room (equal_of i.session session e) in omega (arith, few));
           low = a.low;
-        }
-    by_session false e f = record {
+        }, refl)
+    by_session false e f = (record {
       i = a.i;
       found = ap (λ b. if b then Some (record i { sets = y ∷ i.sets }) else find_session session past) e ∙ f;
       newer = a.newer;
@@ -144,11 +144,11 @@ stands_published past i y session serial set a room = by_session (i.session == s
       serial_is = a.serial_is;
       young = a.young;
       low = a.low;
-    }
+    }, refl)
 
 -- An instance of a new session hides none.
-pub stands_restarted : (all : List Instance) (i : Instance) (session serial : ℕ) (set : VrpSet) → find_session i.session all ≡ None → Stands all session serial set → Stands (i ∷ all) session serial set
-stands_restarted all i session serial set new a = record {
+pub stands_restarted : (all : List Instance) (i : Instance) (session serial : ℕ) (set : VrpSet) → find_session i.session all ≡ None → (a : Stands all session serial set) → (s : Stands (i ∷ all) session serial set) × (s.older ≡ a.older)
+stands_restarted all i session serial set new a = (record {
   i = a.i;
   found = by_session (i.session == session) refl;
   newer = a.newer;
@@ -157,7 +157,7 @@ stands_restarted all i session serial set new a = record {
   serial_is = a.serial_is;
   young = a.young;
   low = a.low;
-}
+}, refl)
   where
     none_some : (o : Option Instance) → o ≡ None → o ≡ Some a.i → ⊥
     none_some o p q = let h : ◌≡◌ {A = Option Instance} None (Some a.i) = sym p ∙ q in cc

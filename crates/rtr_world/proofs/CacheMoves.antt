@@ -1,0 +1,228 @@
+-- What the cache reads and sends keeps the invariant.
+use Rattle.std.specs.Prelude.{◌≡◌, ◌⊎◌, ℕ, ◌+◌, ◌≤◌, Bool, true, false, not, ◌&&◌, ◌||◌, List, [], ◌∷◌, ◌++◌, length, Option, Some, None, if◌then◌else◌, refl}
+use Rattle.std.proofs.Common.{sym, ap, ◌∙◌, subst, arith, append_assoc, inl, inr}
+use Rattle.std.specs.List.{AllByRecursion}
+use Rattle.std.proofs.lemmas.Bool.{and_parts, or_parts}
+use Rattle.std.proofs.lemmas.List.{append-nil}
+use Rattle.vrps.specs.Instance.{Instance, versions, versions_from}
+use Rattle.vrps.specs.VrpSet.{VrpSet}
+use Rattle.rtr_pdu.specs.Judging.{Judgement, Begins, Whole, judge}
+use Rattle.rtr_pdu.specs.Unit.{IsUnit}
+use Rattle.rtr_pdu.specs.declared.unit.Unit.{Unit}
+use Rattle.rtr_pdu.specs.declared.unit.Unit.TheVariants.{SerialNotify}
+use Rattle.rtr_ends.specs.Answer.{answer, report, sent_all}
+use Rattle.rtr_ends.specs.Cache.{Conn, Taking, is_none, conn_stops, moment_of, with_moment, finds_memory, conn_byte, can_notify, conn_notified}
+use Rattle.rtr_ends.specs.Connection.{Connection, Moment, Read, Wanting, Notify, after, notice, is_published, takes_memory}
+use Rattle.rtr_ends.specs.Feeding.{Fed, feed}
+use Rattle.rtr_ends.specs.Router.{Router, Link, Closed, Idle, Asked, Answering, Ended, is_reading}
+use Rattle.rtr_ends.specs.Transcript.{Question, query, base_of}
+use Rattle.rtr_world.specs.History.{conn_due}
+use Rattle.rtr_world.specs.OneAnswer.{NotifiesOf, without_notifies}
+use Rattle.rtr_world.specs.World.{timing}
+use Rattle.rtr_world.proofs.AnswerLaws.{plain_stays, plain_notifies, without-append, notifies-append}
+use Rattle.rtr_world.proofs.CacheSteps.{IsAnswered, Answers, answered_report, answer_answers, serial_low}
+use Rattle.rtr_world.proofs.Invariant.{QuestionFits, Replies, no_memory, Shape, IfOpen, Open, Flow, Live, GoodLink, GoodRouter}
+use Rattle.rtr_world.proofs.RouterSteps.{live_link}
+use Rattle.rtr_world.proofs.SideSteps.{live_of}
+use Rattle.rtr_world.proofs.Streams.{Stream, ByteCase, partly, wholly, byte_case, stream-append, all_bytes}
+use Rattle.rtr_world.proofs.Versions.{TableAt, Present}
+
+false_true : {P : Type 0} → false ≡ true → P
+false_true h = absurd (let e : false ≡ true = h in cc)
+
+none_is : (out : List ℕ) → not (is_none out) ≡ false → out ≡ []
+none_is [] h = refl
+none_is (b ∷ out) h = absurd (let e : true ≡ false = h in cc)
+
+-- A link that does not live asks for nothing.
+pub dead_link : (l : Link) (all : List Instance) (i : Instance) (home : Option Instance) (r : Router) (conn conn' : Option Conn) (up up' down down' : List ℕ) → is_reading l ≡ false → GoodLink all i home l r conn up down → GoodLink all i home l r conn' up' down'
+dead_link Closed all i home r conn conn' up up' down down' dead g = g
+dead_link (Ended end) all i home r conn conn' up up' down down' dead g = tt
+dead_link Idle all i home r conn conn' up up' down down' dead g = absurd (let e : true ≡ false = dead in cc)
+dead_link (Asked q) all i home r conn conn' up up' down down' dead g = absurd (let e : true ≡ false = dead in cc)
+dead_link (Answering a) all i home r conn conn' up up' down down' dead g = absurd (let e : true ≡ false = dead in cc)
+
+-- units are added at the cache's end, where nothing was to be pulled
+stream_more : (held down due lost : List ℕ) (coming units : List Unit) → due ≡ [] → lost ≡ [] → AllByRecursion IsUnit units → Stream held (down ++ (due ++ lost)) coming → Stream held (down ++ (sent_all units ++ lost)) (coming ++ units)
+stream_more held down due lost coming units de le fit s =
+    let more : Stream held ((down ++ (due ++ lost)) ++ sent_all units) (coming ++ units) = stream-append held (down ++ (due ++ lost)) coming units s fit in
+    let bytes : (down ++ (due ++ lost)) ++ sent_all units ≡ down ++ (sent_all units ++ lost) =
+    ap (λ x. (down ++ (x ++ lost)) ++ sent_all units) de ∙ ap (λ x. (down ++ x) ++ sent_all units) le ∙ ap (λ x. x ++ sent_all units) (append-nil down)
+    ∙ ap (λ x. down ++ x) (sym (append-nil (sent_all units)) ∙ ap (λ x. sent_all units ++ x) (sym le)) in
+    subst (λ x. Stream held x (coming ++ units)) bytes more
+
+module _ (all : List Instance) (i : Instance) (p : Present all i) (keep : ℕ) (home : Option Instance) (r : Router) (down : List ℕ) where
+  -- What the router waits for, once the cache has read its question whole
+  record IsWhole (h : Instance) (l : Link) (u : Unit) (more rest : List Unit) : Type 0 where
+    q : Question
+    asks : l ≡ Asked q
+    is : u ≡ query q
+    no_more : more ≡ []
+    none : rest ≡ []
+    fits : QuestionFits h.session q r.version
+
+  whole_question : (h : Instance) (l : Link) (u : Unit) (more rest : List Unit) → is_reading l ≡ true → Shape all h l r.agreed r.version r.table (u ∷ more) rest → IsWhole h l u more rest
+  whole_question h Closed u more rest live s = false_true live
+  whole_question h (Ended end) u more rest live s = false_true live
+  whole_question h Idle u more rest live s = absurd (let e : u ∷ more ≡ [] = s.0 in cc)
+  whole_question h (Answering a) u more rest live s = absurd (let e : u ∷ more ≡ [] = s.0 in cc)
+  whole_question h (Asked q) u more rest live s =
+      elim (s.1) [
+        | inl w ↦ (let e : u ∷ more ≡ query q ∷ [] = w.0 in record { q = q; asks = refl; is = cc; no_more = cc; none = w.1; fits = s.0 })
+        | inr w ↦ absurd (let e : u ∷ more ≡ [] = w.0 in cc)
+      ]
+
+  -- The cache has read the question, and these units are the answer.
+  answered : (o : Conn) (up bs : List ℕ) (h : Instance) (f : Flow all i h r (Some o) up down) (q : Question) (units : List Unit) (st : Connection) → home ≡ Some h → o.state.due ≡ [] → st.due ≡ sent_all units → Stream [] (bs ++ r.out) [] → r.link ≡ Asked q
+      → without_notifies f.coming ≡ [] → QuestionFits h.session q r.version → IsAnswered units → Replies all h q (base_of q r.table) units → Live all i home r (Some (record { state = st; held = [] })) bs down
+  answered o up bs h f q units st eh eo due up_stream link rest fits is replies =
+      let op : Open i h r.out up f.wanted f.lost o = f.open_at in
+      let whole : without_notifies (f.coming ++ units) ≡ units = without-append f.coming units ∙ ap (λ x. x ++ without_notifies units) rest ∙ plain_stays units is.plain in (
+        h,
+        eh,
+        record {
+          coming = f.coming ++ units;
+          lost = f.lost;
+          wanted = [];
+          downward = subst (λ x. Stream r.held (down ++ (x ++ f.lost)) (f.coming ++ units)) (sym due) (stream_more r.held down o.state.due f.lost f.coming units eo op.whole is.fit f.downward);
+          open_at = record { upward = up_stream; whole = op.whole; session = op.session; made = op.made };
+          notifies = notifies-append h.session f.coming units f.notifies (plain_notifies h.session units is.plain);
+          own = f.own;
+          mine = f.mine;
+          shape = subst (λ x. Shape all h x r.agreed r.version r.table [] (without_notifies (f.coming ++ units))) (sym link) (fits, inr (refl, subst (λ x. Replies all h q (base_of q r.table) x) (sym whole) replies));
+        },
+      )
+
+  -- it reads a byte
+  byte_live : (m : Taking) (b : ℕ) (bs : List ℕ) (h : Instance) (f : Flow all i h r (Some m.conn) (b ∷ bs) down) → home ≡ Some h → m.conn.state.due ≡ [] → is_reading r.link ≡ true → TableAt all r.version r.table
+      → ByteCase false m.conn.held b (bs ++ r.out) f.wanted → (memory : Bool) → Live all i home r (Some (with_moment keep timing (m.conn.held ++ b ∷ []) m.conn (moment_of i memory (m.conn.held ++ b ∷ []) (judge 1 false (m.conn.held ++ b ∷ []))))) bs down
+  byte_live m b bs h f eh eo live table (partly e s) memory =
+      let op : Open i h r.out (b ∷ bs) f.wanted f.lost m.conn = f.open_at in
+      subst (λ j. Live all i home r (Some (with_moment keep timing (m.conn.held ++ b ∷ []) m.conn (moment_of i memory (m.conn.held ++ b ∷ []) j))) bs down) (sym e) (
+        h,
+        eh,
+        record {
+          coming = f.coming;
+          lost = f.lost;
+          wanted = f.wanted;
+          downward = f.downward;
+          open_at = record { upward = s; whole = op.whole; session = op.session; made = op.made };
+          notifies = f.notifies;
+          own = f.own;
+          mine = f.mine;
+          shape = f.shape;
+        },
+      )
+  byte_live m b bs h f eh eo live table (wholly u more is e fit s) memory =
+      subst (λ j. Live all i home r (Some (with_moment keep timing bytes m.conn (moment_of i memory bytes j))) bs down) (sym e) (by_memory (takes_memory i u && not memory))
+    where
+      bytes : List ℕ
+      bytes = m.conn.held ++ b ∷ []
+
+      op : Open i h r.out (b ∷ bs) f.wanted f.lost m.conn
+      op = f.open_at
+
+      w : IsWhole h r.link u more (without_notifies f.coming)
+      w = whole_question h r.link u more (without_notifies f.coming) live (subst (λ x. Shape all h r.link r.agreed r.version r.table x (without_notifies f.coming)) is f.shape)
+
+      up_stream : Stream [] (bs ++ r.out) []
+      up_stream = subst (λ x. Stream [] (bs ++ r.out) x) w.no_more s
+
+      by_memory : (t : Bool) → Live all i home r (Some (record { state = after keep timing m.conn.state (if t then Wanting i u bytes else Read i u bytes); held = [] })) bs down
+      by_memory true =
+          answered m.conn (b ∷ bs) bs h f w.q (report 1 [] ∷ []) (after keep timing m.conn.state (Wanting i u bytes)) eh eo refl up_stream w.asks w.none w.fits
+          (answered_report 1 [] (omega arith) (all_bytes [] tt)) (no_memory refl)
+      by_memory false =
+          let a = answer_answers all i p h op.session op.made keep w.q r.version r.table w.fits table in
+          answered m.conn (b ∷ bs) bs h f w.q (answer i keep timing (query w.q)).units (after keep timing m.conn.state (Read i u bytes)) eh eo (ap (λ x. sent_all (answer i keep timing x).units) w.is) up_stream w.asks w.none w.fits a.answered a.replies
+
+  abbrev GoodC : Conn → List ℕ → Type 0
+  GoodC o up = GoodRouter all i home (Some o) up down r
+
+  byte_good : (m : Taking) (b : ℕ) (bs : List ℕ) → conn_stops m.conn ≡ false → GoodC m.conn (b ∷ bs) → GoodC (conn_byte keep timing i m b).conn bs
+  unfolding conn_byte
+  byte_good m b bs goes_on g = record { table = g.table; unmarked = g.unmarked; link = by_link (is_reading r.link) refl }
+    where
+      due : m.conn.state.due ≡ []
+      due = none_is m.conn.state.due (or_parts m.conn.state.ended (not (is_none m.conn.state.due)) goes_on).1
+
+      by_link : (live : Bool) → is_reading r.link ≡ live
+          → GoodLink all i home r.link r (Some (with_moment keep timing (m.conn.held ++ b ∷ []) m.conn (moment_of i (finds_memory m.wanting) (m.conn.held ++ b ∷ []) (judge 1 false (m.conn.held ++ b ∷ []))))) bs down
+      by_link false dead = dead_link r.link all i home r (Some m.conn) (Some (with_moment keep timing (m.conn.held ++ b ∷ []) m.conn (moment_of i (finds_memory m.wanting) (m.conn.held ++ b ∷ []) (judge 1 false (m.conn.held ++ b ∷ []))))) (b ∷ bs) bs down down dead g.link
+      by_link true live =
+          let l = live_of r.link all i home r (Some m.conn) (b ∷ bs) down g.link live in
+          let op : Open i l.0 r.out (b ∷ bs) l.2.wanted l.2.lost m.conn = l.2.open_at in
+          live_link all i home (Some (with_moment keep timing (m.conn.held ++ b ∷ []) m.conn (moment_of i (finds_memory m.wanting) (m.conn.held ++ b ∷ []) (judge 1 false (m.conn.held ++ b ∷ []))))) bs down r r.link refl live
+          (byte_live m b bs l.0 l.2 l.1 due live g.table (byte_case false m.conn.held b (bs ++ r.out) l.2.wanted op.upward) (finds_memory m.wanting))
+
+  abbrev by_stop : Taking → ℕ → List ℕ → Bool → Fed Taking
+  by_stop m b piece s = elim s [ true ↦ record { machine = m; rest = b ∷ piece } | false ↦ feed (λ (x : Taking). conn_stops x.conn) (conn_byte keep timing i) (conn_byte keep timing i m b) piece ]
+
+  fed_by : (tail : List ℕ) (m : Taking) (b : ℕ) (piece : List ℕ) (s : Bool) → conn_stops m.conn ≡ s → GoodC m.conn (b ∷ (piece ++ tail))
+      → (GoodC (conn_byte keep timing i m b).conn (piece ++ tail) → GoodC (feed (λ (x : Taking). conn_stops x.conn) (conn_byte keep timing i) (conn_byte keep timing i m b) piece).machine.conn ((feed (λ (x : Taking). conn_stops x.conn) (conn_byte keep timing i) (conn_byte keep timing i m b) piece).rest ++ tail))
+      → GoodC (by_stop m b piece s).machine.conn ((by_stop m b piece s).rest ++ tail)
+  fed_by tail m b piece true is g on = g
+  fed_by tail m b piece false is g on = on (byte_good m b (piece ++ tail) is g)
+
+  -- it is handed a piece
+  pub fed_good : (tail : List ℕ) (m : Taking) (piece : List ℕ) → GoodC m.conn (piece ++ tail)
+      → GoodC (feed (λ (x : Taking). conn_stops x.conn) (conn_byte keep timing i) m piece).machine.conn ((feed (λ (x : Taking). conn_stops x.conn) (conn_byte keep timing i) m piece).rest ++ tail)
+  fed_good tail m [] g = g
+  fed_good tail m (b ∷ piece) g = fed_by tail m b piece (conn_stops m.conn) refl g (fed_good tail (conn_byte keep timing i m b) piece)
+
+  -- a notify
+  notice_fit : (sets : List VrpSet) → AllByRecursion IsUnit (notice i.session (versions_from i.start sets))
+  notice_fit [] = tt
+  notice_fit (x ∷ older) = ((p.is.session, serial_low i.start (length older)), tt)
+
+  notice_silent : (sets : List VrpSet) → without_notifies (notice i.session (versions_from i.start sets)) ≡ []
+  notice_silent [] = refl
+  notice_silent (x ∷ older) = refl
+
+  notice_own : (session : ℕ) → session ≡ i.session → (sets : List VrpSet) → NotifiesOf session (notice i.session (versions_from i.start sets))
+  notice_own session e [] = tt
+  notice_own session e (x ∷ older) = (sym e, tt)
+
+  notified_live : (o : Conn) (up : List ℕ) → o.state.due ≡ [] → Live all i home r (Some o) up down → Live all i home r (Some (record o { state = after keep timing o.state (Notify i) })) up down
+  notified_live o up due l =
+      let f = l.2 in
+      let op : Open i l.0 r.out up f.wanted f.lost o = f.open_at in
+      let units : List Unit = notice i.session (versions i) in
+      let whole : without_notifies (f.coming ++ notice i.session (versions i)) ≡ without_notifies f.coming =
+      without-append f.coming (notice i.session (versions i)) ∙ ap (λ x. without_notifies f.coming ++ x) (notice_silent i.sets) ∙ append-nil (without_notifies f.coming) in (
+        l.0,
+        l.1,
+        record {
+          coming = f.coming ++ notice i.session (versions i);
+          lost = f.lost;
+          wanted = f.wanted;
+          downward = stream_more r.held down o.state.due f.lost f.coming (notice i.session (versions i)) due op.whole (notice_fit i.sets) f.downward;
+          open_at = record { upward = op.upward; whole = op.whole; session = op.session; made = op.made };
+          notifies = notifies-append l.0.session f.coming (notice i.session (versions i)) f.notifies (notice_own l.0.session op.session i.sets);
+          own = f.own;
+          mine = f.mine;
+          shape = subst (λ x. Shape all l.0 r.link r.agreed r.version r.table f.wanted x) (sym whole) f.shape;
+        },
+      )
+
+  pub notified_good : (o : Conn) (up : List ℕ) → GoodC o up → GoodC (conn_notified keep timing i o) up
+  unfolding conn_notified
+  notified_good o up g = by_test (can_notify i o) refl
+    where
+      not_true : (b : Bool) → not b ≡ true → b ≡ false
+      not_true true h = false_true h
+      not_true false h = refl
+
+      o' : Conn
+      o' = record o { state = after keep timing o.state (Notify i) }
+
+      by_link : (live : Bool) → is_reading r.link ≡ live → o.state.due ≡ [] → GoodLink all i home r.link r (Some o') up down
+      by_link false dead due = dead_link r.link all i home r (Some o) (Some o') up up down down dead g.link
+      by_link true live due = live_link all i home (Some o') up down r r.link refl live (notified_live o up due (live_of r.link all i home r (Some o) up down g.link live))
+
+      by_test : (b : Bool) → can_notify i o ≡ b → GoodC (if b then o' else o) up
+      by_test false e = g
+      by_test true e =
+          let parts = and_parts (is_published i) (not (conn_stops o)) e in
+          let stops = or_parts o.state.ended (not (is_none o.state.due)) (not_true (conn_stops o) parts.1) in
+          record { table = g.table; unmarked = g.unmarked; link = by_link (is_reading r.link) refl (none_is o.state.due stops.1) }
