@@ -1,6 +1,7 @@
 pub mod AnswerLaws
 pub mod CacheMoves
 pub mod CacheSteps
+pub mod EventSteps
 pub mod Invariant
 pub mod RouterSteps
 pub mod SideLaws

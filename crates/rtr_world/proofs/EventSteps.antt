@@ -1,0 +1,270 @@
+-- Every event keeps the invariant at each router.
+use Rattle.std.specs.Prelude.{◌≡◌, ◌⊎◌, ℕ, suc, ◌+◌, ◌-◌, ◌<◌, ◌≤◌, ◌^◌, Bool, true, false, not, ◌&&◌, ◌||◌, ◌==◌, nat_lt, List, [], ◌∷◌, ◌++◌, map, length, take, drop, min, Option, Some, None, if◌then◌else◌, refl}
+use Rattle.std.proofs.Common.{sym, ap, ◌∙◌, subst, arith, append_assoc, inl, inr}
+use Rattle.std.proofs.lemmas.Bool.{and_parts}
+use Rattle.std.proofs.lemmas.List.{append-nil, take-append-drop, take_min, length-append}
+use Rattle.vrps.specs.Instance.{Instance, versions}
+use Rattle.vrps.specs.VrpSet.{VrpSet}
+use Rattle.rtr_pdu.specs.declared.unit.Unit.{Unit}
+use Rattle.rtr_ends.specs.declared.link.End.{End}
+use Rattle.rtr_ends.specs.Answer.{sent, sent_all}
+use Rattle.rtr_ends.specs.Cache.{Conn, Taking, conn_pulled, conn_takes, pulled_count, new_conn, conn_byte, conn_stops}
+use Rattle.rtr_ends.specs.Feeding.{Fed, feed}
+use Rattle.rtr_ends.specs.Router.{Router, Receiving, Link, Closed, Idle, Asked, Answering, Ended, choose, ask, is_closed, close, clocked, is_due, is_idle, asks_if, connects_at, closed_at, ticks_at, asks, receives, router_pulled, new_router, router_byte, router_stops}
+use Rattle.rtr_ends.specs.Transcript.{Item, At, Committed, Question, query}
+use Rattle.rtr_world.specs.History.{conn_due}
+use Rattle.rtr_world.specs.OneAnswer.{without_notifies}
+use Rattle.rtr_world.specs.World.{Side, World, instances, timing, SideEvent, RouterRestart, Connect, RouterSends, CacheGets, CacheSends, RouterGets, Cut, NotifyRouter, Ask, Tick, noted, connects, router_restarts, router_sends, sends_from, cache_sends, gets_at, cache_gets, router_gets, cut, notifies_at, side_step, side_part, side_refused, tell_closed, close_ended, settle_conn, settle_link, settle_rest, settle_wire, settle}
+use Rattle.rtr_world.proofs.CacheMoves as cache
+use Rattle.rtr_world.proofs.Invariant.{OwnSession, IfOpen, Open, Flow, Live, GoodLink, GoodRouter, Good, Shape}
+use Rattle.rtr_world.proofs.RouterSteps.{first_fits, query_unit}
+use Rattle.rtr_world.proofs.SideSteps.{live_map, fed_good, clocked_good, close_shut, asks_good, Shut}
+use Rattle.rtr_world.proofs.Streams.{Stream}
+use Rattle.rtr_world.proofs.Versions.{TableAt, Present}
+
+not_due : (l : Link) (when : Option ℕ) (now : ℕ) → is_idle l ≡ false → is_due l when now ≡ false
+not_due Closed when now h = refl
+not_due (Ended end) when now h = refl
+not_due Idle when now h = absurd (let e : true ≡ false = h in cc)
+not_due (Asked q) when now h = refl
+not_due (Answering a) when now h = refl
+
+-- what is sent, and what is left of it
+sent_first : (most : ℕ) (held up out : List ℕ) (units : List Unit) → Stream held (up ++ out) units → Stream held ((up ++ take most out) ++ drop most out) units
+sent_first most held up out units s = subst (λ x. Stream held x units) (ap (λ x. up ++ x) (sym (take-append-drop most out)) ∙ sym (append_assoc up (take most out) (drop most out))) s
+
+open_sent : (i h : Instance) (most : ℕ) (out up : List ℕ) (wanted : List Unit) (lost : List ℕ) (conn : Option Conn) → IfOpen conn (Open i h out up wanted lost) → IfOpen conn (Open i h (drop most out) (up ++ take most out) wanted lost)
+open_sent i h most out up wanted lost None op = tt
+open_sent i h most out up wanted lost (Some o) op = record { upward = sent_first most o.held up out wanted op.upward; whole = op.whole; session = op.session; made = op.made }
+
+module _ (w : World) (p : Present (instances w) w.present) where
+  abbrev GoodS : Side → Type 0
+  GoodS s = Good (instances w) w.present s
+
+  router_sends_good : (most : ℕ) (s : Side) → GoodS s → GoodS (router_sends most s)
+  unfolding router_sends router_pulled
+  router_sends_good most s g = record {
+    router = record {
+      table = g.router.table;
+      unmarked = g.router.unmarked;
+      link = live_map s.router.link (instances w) (instances w) w.present w.present s.home s.home s.router (router_pulled most s.router) s.conn s.conn s.up (s.up ++ take most s.router.out) s.down s.down (λ e. e) refl refl g.router.link (λ l. (
+        l.0,
+        l.1,
+        record {
+          coming = l.2.coming;
+          lost = l.2.lost;
+          wanted = l.2.wanted;
+          downward = l.2.downward;
+          open_at = open_sent w.present l.0 most s.router.out s.up l.2.wanted l.2.lost s.conn l.2.open_at;
+          notifies = l.2.notifies;
+          own = l.2.own;
+          mine = l.2.mine;
+          shape = l.2.shape;
+        },
+      ));
+    };
+  }
+
+  -- bytes are pulled from the cache
+  sends_good : (most : ℕ) (s : Side) (o : Option Conn) → s.conn ≡ o → GoodS s → GoodS (sends_from w.keep most s o)
+  unfolding conn_pulled
+  sends_good most s None e g = g
+  sends_good most s (Some o) e g = record {
+    router = record {
+      table = g.router.table;
+      unmarked = g.router.unmarked;
+      link = live_map s.router.link (instances w) (instances w) w.present w.present s.home s.home s.router s.router s.conn (Some (conn_pulled w.keep timing most o)) s.up s.up s.down (s.down ++ take most o.state.due) (λ x. x) refl refl g.router.link (λ l.
+          let f = l.2 in
+          let op : Open w.present l.0 s.router.out s.up f.wanted f.lost o = subst (λ x. IfOpen x (Open w.present l.0 s.router.out s.up f.wanted f.lost)) e f.open_at in
+          let due : List ℕ = o.state.due in
+          let split : o.state.due ≡ take most o.state.due ++ drop (pulled_count most o) o.state.due =
+          sym (take-append-drop (pulled_count most o) o.state.due) ∙ ap (λ x. x ++ drop (pulled_count most o) o.state.due) (take_min most o.state.due) in
+          let bytes : s.down ++ (conn_due s.conn ++ f.lost) ≡ (s.down ++ take most o.state.due) ++ (drop (pulled_count most o) o.state.due ++ f.lost) =
+          ap (λ x. s.down ++ (conn_due x ++ f.lost)) e ∙ ap (λ x. s.down ++ (x ++ f.lost)) split
+          ∙ ap (λ x. s.down ++ x) (append_assoc (take most o.state.due) (drop (pulled_count most o) o.state.due) f.lost)
+          ∙ sym (append_assoc s.down (take most o.state.due) (drop (pulled_count most o) o.state.due ++ f.lost)) in (
+            l.0,
+            l.1,
+            record {
+              coming = f.coming;
+              lost = f.lost;
+              wanted = f.wanted;
+              downward = subst (λ x. Stream s.router.held x f.coming) bytes f.downward;
+              open_at = record { upward = op.upward; whole = op.whole; session = op.session; made = op.made };
+              notifies = f.notifies;
+              own = f.own;
+              mine = f.mine;
+              shape = f.shape;
+            },
+          ));
+    };
+  }
+
+  cache_sends_good : (most : ℕ) (s : Side) → GoodS s → GoodS (cache_sends w most s)
+  unfolding cache_sends
+  cache_sends_good most s g = sends_good most s s.conn refl g
+
+  gets_good : (most : ℕ) (wanting : Option ℕ) (s : Side) (o : Option Conn) → s.conn ≡ o → GoodS s → GoodS (gets_at w most wanting s o)
+  unfolding conn_takes
+  gets_good most wanting s None e g = g
+  gets_good most wanting s (Some o) e g =
+      let start : GoodRouter (instances w) w.present s.home (Some o) (take most s.up ++ drop most s.up) s.down s.router =
+      subst (λ u. GoodRouter (instances w) w.present s.home (Some o) u s.down s.router) (sym (take-append-drop most s.up)) (subst (λ x. GoodRouter (instances w) w.present s.home x s.up s.down s.router) e g.router) in
+      record { router = cache.fed_good (instances w) w.present p w.keep s.home s.router s.down (drop most s.up) (record { conn = o; moments = []; wanting = wanting }) (take most s.up) start }
+
+  cache_gets_good : (most : ℕ) (wanting : Option ℕ) (s : Side) → GoodS s → GoodS (cache_gets w most wanting s)
+  unfolding cache_gets
+  cache_gets_good most wanting s g = gets_good most wanting s s.conn refl g
+
+  router_gets_good : (most : ℕ) (wanting : Option ℕ) (s : Side) → GoodS s → GoodS (router_gets w most wanting s)
+  unfolding router_gets receives
+  router_gets_good most wanting s g =
+      let start : GoodRouter (instances w) w.present s.home s.conn s.up (take most s.down ++ drop most s.down) s.router =
+      subst (λ d. GoodRouter (instances w) w.present s.home s.conn s.up d s.router) (sym (take-append-drop most s.down)) g.router in
+      let told = clocked_good (instances w) w.present s.home s.conn s.up (take most s.down ++ drop most s.down) s.router.now s.router start in
+      record { router = fed_good (instances w) w.present s.home s.conn s.up (drop most s.down) (record { router = clocked s.router.now s.router; items = At s.router.now ∷ []; wanting = wanting }) (take most s.down) told }
+
+  cut_good : (left : ℕ) (s : Side) → GoodS s → GoodS (cut left s)
+  unfolding cut
+  cut_good left s g = record {
+    router = record {
+      table = g.router.table;
+      unmarked = g.router.unmarked;
+      link = live_map s.router.link (instances w) (instances w) w.present w.present s.home s.home s.router s.router s.conn None s.up [] s.down (take left s.down) (λ x. x) refl refl g.router.link (λ l.
+          let f = l.2 in
+          let after : List ℕ = conn_due s.conn ++ f.lost in
+          let bytes : s.down ++ (conn_due s.conn ++ f.lost) ≡ take left s.down ++ ([] ++ (drop left s.down ++ (conn_due s.conn ++ f.lost))) =
+          ap (λ x. x ++ (conn_due s.conn ++ f.lost)) (sym (take-append-drop left s.down)) ∙ append_assoc (take left s.down) (drop left s.down) (conn_due s.conn ++ f.lost) in (
+            l.0,
+            l.1,
+            record {
+              coming = f.coming;
+              lost = drop left s.down ++ (conn_due s.conn ++ f.lost);
+              wanted = f.wanted;
+              downward = subst (λ x. Stream s.router.held x f.coming) bytes f.downward;
+              open_at = tt;
+              notifies = f.notifies;
+              own = f.own;
+              mine = f.mine;
+              shape = f.shape;
+            },
+          ));
+    };
+  }
+
+  -- a connection is made
+  connects_good : (s : Side) → GoodS s → GoodS (connects w s)
+  unfolding connects connects_at
+  connects_good s g =
+      let told = clocked_good (instances w) w.present s.home s.conn s.up s.down s.router.now s.router g.router in
+      let shut = close_shut (instances w) w.present s.home s.conn s.up s.down (clocked s.router.now s.router) told in
+      let r : Router = close (clocked s.router.now s.router) in
+      let q : Question = choose (close (clocked s.router.now s.router)).version (close (clocked s.router.now s.router)).mark in
+      let fits = first_fits w.present.session (close (clocked s.router.now s.router)).version (close (clocked s.router.now s.router)).mark shut.unmarked in
+      record {
+        router = record {
+          table = shut.table;
+          unmarked = shut.unmarked;
+          link = (
+            w.present,
+            refl,
+            record {
+              coming = [];
+              lost = [];
+              wanted = query (choose (close (clocked s.router.now s.router)).version (close (clocked s.router.now s.router)).mark) ∷ [];
+              downward = record { whole = append-nil (close (clocked s.router.now s.router)).held ∙ shut.held; partial = inl shut.held; fit = tt };
+              open_at = record {
+                upward = record {
+                  whole = sym (append-nil (sent (query (choose (close (clocked s.router.now s.router)).version (close (clocked s.router.now s.router)).mark))));
+                  partial = inl refl;
+                  fit = (query_unit (instances w) w.present.session (choose (close (clocked s.router.now s.router)).version (close (clocked s.router.now s.router)).mark) (close (clocked s.router.now s.router)).version (close (clocked s.router.now s.router)).table fits shut.table, tt);
+                };
+                whole = refl;
+                session = refl;
+                made = omega arith;
+              };
+              notifies = tt;
+              own = own (close (clocked s.router.now s.router)).session shut.session;
+              mine = λ e. absurd (let h : false ≡ true = sym shut.agreed ∙ e in cc);
+              shape = (fits, inl (refl, refl));
+            },
+          );
+        };
+      }
+    where
+      own : (o : Option ℕ) → o ≡ None → OwnSession w.present.session o
+      own None e = tt
+      own (Some x) e = absurd (let h : ◌≡◌ {A = Option ℕ} (Some x) None = e in cc)
+
+  asks_so : (s : Side) → GoodS s → GoodRouter (instances w) w.present s.home s.conn s.up s.down (asks s.router).router
+  unfolding asks
+  asks_so s g = asks_good (instances w) w.present s.home s.conn s.up s.down s.router.link s.router (is_idle s.router.link) refl (λ h. h) g.router g.router.link
+
+  ticks_so : (now : ℕ) (s : Side) → GoodS s → GoodRouter (instances w) w.present s.home s.conn s.up s.down (ticks_at now s.router).router
+  unfolding ticks_at
+  ticks_so now s g =
+      let told = clocked_good (instances w) w.present s.home s.conn s.up s.down now s.router g.router in
+      asks_good (instances w) w.present s.home s.conn s.up s.down (clocked now s.router).link (clocked now s.router) (is_due (clocked now s.router).link (clocked now s.router).due (clocked now s.router).now) refl (not_due (clocked now s.router).link (clocked now s.router).due (clocked now s.router).now) told told.link
+
+  notifies_good : (s : Side) (o : Option Conn) → s.conn ≡ o → GoodS s → GoodS (notifies_at w s o)
+  notifies_good s None e g = g
+  notifies_good s (Some o) e g =
+      record { router = cache.notified_good (instances w) w.present p w.keep s.home s.router s.down o s.up (subst (λ x. GoodRouter (instances w) w.present s.home x s.up s.down s.router) e g.router) }
+
+  pub step_good : (event : SideEvent) (wanting : Option ℕ) (s : Side) → GoodS s → GoodS (side_step w event wanting s)
+  unfolding side_step router_restarts
+  step_good RouterRestart wanting s g = record { router = record { table = refl; unmarked = refl; link = (refl, refl, refl) } }
+  step_good Connect wanting s g = connects_good s g
+  step_good (RouterSends most) wanting s g = router_sends_good most s g
+  step_good (CacheGets most) wanting s g = cache_gets_good most wanting s g
+  step_good (CacheSends most) wanting s g = cache_sends_good most s g
+  step_good (RouterGets most) wanting s g = router_gets_good most wanting s g
+  step_good (Cut left) wanting s g = cut_good left s g
+  step_good NotifyRouter wanting s g = notifies_good s s.conn refl g
+  step_good Ask wanting s g = record { router = asks_so s g }
+  step_good (Tick now) wanting s g = record { router = ticks_so now s g }
+
+  part_good : (event : SideEvent) (bytes : ℕ) (wanting : Option ℕ) (s : Side) → GoodS s → GoodS (side_part w event bytes wanting s)
+  part_good (RouterSends most) bytes wanting s g = router_sends_good bytes s g
+  part_good (CacheGets most) bytes wanting s g = cache_gets_good bytes wanting s g
+  part_good (CacheSends most) bytes wanting s g = cache_sends_good bytes s g
+  part_good (RouterGets most) bytes wanting s g = router_gets_good bytes wanting s g
+  part_good RouterRestart bytes wanting s g = g
+  part_good Connect bytes wanting s g = g
+  part_good (Cut left) bytes wanting s g = g
+  part_good NotifyRouter bytes wanting s g = g
+  part_good Ask bytes wanting s g = g
+  part_good (Tick now) bytes wanting s g = g
+
+  pub refused_good : (event : SideEvent) (bytes : ℕ) (wanting : Option ℕ) (s : Side) → GoodS s → GoodS (side_refused w event bytes wanting s)
+  unfolding side_refused
+  refused_good event bytes wanting s g = let k = cut_good 0 (side_part w event bytes wanting s) (part_good event bytes wanting s g) in record { router = k.router }
+
+  -- After each event
+
+  closed_link : (r : Router) (home : Option Instance) (conn : Option Conn) (up down : List ℕ) → r.link ≡ Closed → r.held ≡ [] → r.agreed ≡ false → r.session ≡ None → GoodLink (instances w) w.present home r.link r conn up down
+  closed_link r home conn up down is held agreed session = subst (λ l. GoodLink (instances w) w.present home l r conn up down) (sym is) (held, agreed, session)
+
+  -- a closed router is so, whatever its connection
+  told_good : (s : Side) → GoodS s → (conn : Option Conn) (up down : List ℕ) → GoodRouter (instances w) w.present None conn up down (tell_closed (instances w) s).router
+  unfolding closed_at
+  told_good s g conn up down = by_link s.router.link refl g.router.link
+    where
+      r : Router
+      r = close (clocked s.router.now s.router)
+
+      so : GoodRouter (instances w) w.present None conn up down r
+      so =
+          let shut = close_shut (instances w) w.present s.home s.conn s.up s.down (clocked s.router.now s.router) (clocked_good (instances w) w.present s.home s.conn s.up s.down s.router.now s.router g.router) in
+          record { table = shut.table; unmarked = shut.unmarked; link = closed_link (close (clocked s.router.now s.router)) None conn up down shut.closed shut.held shut.agreed shut.session }
+
+      by_bool : (b : Bool) → is_closed s.router.link ≡ b → GoodRouter (instances w) w.present None conn up down (if b then s.router else r) → GoodRouter (instances w) w.present None conn up down (tell_closed (instances w) s).router
+      by_bool true e h = subst (λ b. GoodRouter (instances w) w.present None conn up down (if b then record s { home = None } else record (noted (instances w) (closed_at s.router.now s.router) s) { home = None }).router) (sym e) h
+      by_bool false e h = subst (λ b. GoodRouter (instances w) w.present None conn up down (if b then record s { home = None } else record (noted (instances w) (closed_at s.router.now s.router) s) { home = None }).router) (sym e) h
+
+      by_link : (l : Link) → s.router.link ≡ l → GoodLink (instances w) w.present s.home l s.router s.conn s.up s.down → GoodRouter (instances w) w.present None conn up down (tell_closed (instances w) s).router
+      by_link Closed is h = by_bool true (ap is_closed is) (record { table = g.router.table; unmarked = g.router.unmarked; link = closed_link s.router None conn up down is h.0 h.1 h.2 })
+      by_link (Ended end) is h = by_bool false (ap is_closed is) so
+      by_link Idle is h = by_bool false (ap is_closed is) so
+      by_link (Asked q) is h = by_bool false (ap is_closed is) so
+      by_link (Answering a) is h = by_bool false (ap is_closed is) so
