@@ -268,3 +268,78 @@ module _ (w : World) (p : Present (instances w) w.present) where
       by_link Idle is h = by_bool false (ap is_closed is) so
       by_link (Asked q) is h = by_bool false (ap is_closed is) so
       by_link (Answering a) is h = by_bool false (ap is_closed is) so
+
+  home_told : (s : Side) → (tell_closed (instances w) s).home ≡ None
+  home_told s = by_link (is_closed s.router.link)
+    where
+      by_link : (b : Bool) → (if b then record s { home = None } else record (noted (instances w) (closed_at s.router.now s.router) s) { home = None }).home ≡ None
+      by_link true = refl
+      by_link false = refl
+
+  told_side : (s : Side) → GoodS s → (conn : Option Conn) (up down : List ℕ) → GoodRouter (instances w) w.present (tell_closed (instances w) s).home conn up down (tell_closed (instances w) s).router
+  told_side s g conn up down = subst (λ h. GoodRouter (instances w) w.present h conn up down (tell_closed (instances w) s).router) (sym (home_told s)) (told_good s g conn up down)
+
+  ended_good : (s : Side) (o : Conn) (ended : Bool) (due : List ℕ) → s.conn ≡ Some o → o.state.due ≡ due → GoodS s → GoodS (close_ended s ended due)
+  ended_good s o true [] e de g = record {
+    router = record {
+      table = g.router.table;
+      unmarked = g.router.unmarked;
+      link = live_map s.router.link (instances w) (instances w) w.present w.present s.home s.home s.router s.router s.conn None s.up s.up s.down s.down (λ x. x) refl refl g.router.link (λ l.
+          let f = l.2 in
+          let bytes : s.down ++ (conn_due s.conn ++ f.lost) ≡ s.down ++ ([] ++ f.lost) = ap (λ x. s.down ++ (conn_due x ++ f.lost)) e ∙ ap (λ x. s.down ++ (x ++ f.lost)) de in (
+            l.0,
+            l.1,
+            record {
+              coming = f.coming;
+              lost = f.lost;
+              wanted = f.wanted;
+              downward = subst (λ x. Stream s.router.held x f.coming) bytes f.downward;
+              open_at = tt;
+              notifies = f.notifies;
+              own = f.own;
+              mine = f.mine;
+              shape = f.shape;
+            },
+          ));
+    };
+  }
+  ended_good s o true (b ∷ due) e de g = g
+  ended_good s o false due e de g = g
+
+  conn_good : (s : Side) (o : Option Conn) → s.conn ≡ o → GoodS s → GoodS (settle_conn s o)
+  conn_good s None e g = g
+  conn_good s (Some o) e g = ended_good s o o.state.ended o.state.due e refl g
+
+  link_good : (s : Side) (l : Link) (out : List ℕ) → GoodS s → GoodS (settle_link (instances w) s l out)
+  link_good s (Ended end) [] g = record { router = told_side s g (tell_closed (instances w) s).conn (tell_closed (instances w) s).up (tell_closed (instances w) s).down }
+  link_good s (Ended end) (b ∷ out) g = g
+  link_good s Closed out g = g
+  link_good s Idle out g = g
+  link_good s (Asked q) out g = g
+  link_good s (Answering a) out g = g
+
+  shut_of : (s : Side) → s.router.link ≡ Closed → GoodS s → (conn : Option Conn) (up down : List ℕ) → GoodRouter (instances w) w.present s.home conn up down s.router
+  shut_of s is g conn up down =
+      let h = subst (λ l. GoodLink (instances w) w.present s.home l s.router s.conn s.up s.down) is g.router.link in
+      record { table = g.router.table; unmarked = g.router.unmarked; link = closed_link s.router s.home conn up down is h.0 h.1 h.2 }
+
+  rest_good : (s : Side) (l : Link) (up : List ℕ) → s.router.link ≡ l → GoodS s → GoodS (settle_rest s l up)
+  rest_good s Closed [] is g = record { router = shut_of s is g None s.up [] }
+  rest_good s Closed (b ∷ up) is g = record { router = shut_of s is g s.conn s.up [] }
+  rest_good s (Ended end) up is g = g
+  rest_good s Idle up is g = g
+  rest_good s (Asked q) up is g = g
+  rest_good s (Answering a) up is g = g
+
+  wire_good : (s : Side) (o : Option Conn) (down : List ℕ) → GoodS s → GoodS (settle_wire (instances w) s o down)
+  wire_good s None [] g = record { router = told_side s g (tell_closed (instances w) s).conn [] (tell_closed (instances w) s).down }
+  wire_good s None (b ∷ down) g = g
+  wire_good s (Some o) down g = g
+
+  pub settle_good : (s : Side) → GoodS s → GoodS (settle (instances w) s)
+  unfolding settle
+  settle_good s g =
+      let a : Side = settle_conn s s.conn in
+      let b : Side = settle_link (instances w) (settle_conn s s.conn) (settle_conn s s.conn).router.link (settle_conn s s.conn).router.out in
+      let c : Side = settle_rest b b.router.link b.up in
+      wire_good c c.conn c.down (rest_good b b.router.link b.up refl (link_good a a.router.link a.router.out (conn_good s s.conn refl g)))

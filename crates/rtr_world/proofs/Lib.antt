@@ -9,3 +9,4 @@ pub mod SideSteps
 pub mod Streams
 pub mod TableLaws
 pub mod Versions
+pub mod WorldSteps

@@ -1,8 +1,15 @@
 //! Laws of the definitions. These functions do nothing: their contracts are the laws.
-ghost use Rattle.rtr_world.specs.Claims.{Tables};
+ghost use Rattle.rtr_world.specs.Claims.{Headline, Tables};
 
 /// After every list of events each router holds what its transcript keeps, asks again when the transcript says, and knows the
 /// greatest moment that it was told.
 pub fn tables()
     ensures { Tables }
+{}
+
+/// After every list of events each router's table is empty if it holds no session, and otherwise is exactly the set that was published
+/// under the session and the serial of the End of Data that it committed last, each announcement and each withdrawal having acted
+/// exactly once.
+pub fn headline()
+    ensures { Headline }
 {}

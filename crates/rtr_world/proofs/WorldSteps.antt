@@ -1,0 +1,250 @@
+-- Every event keeps the invariant of the world, and so the headline holds.
+use Rattle.std.specs.Prelude.{◌≡◌, ◌⊎◌, ℕ, suc, ◌+◌, ◌-◌, ◌<◌, ◌≤◌, ◌^◌, Bool, true, false, not, ◌&&◌, ◌||◌, ◌==◌, nat_lt, List, [], ◌∷◌, ◌++◌, map, length, find, Option, Some, None, is_some, if◌then◌else◌, refl}
+use Rattle.std.proofs.Common.{sym, ap, ◌∙◌, subst, subst₂, arith, append_assoc, inl, inr}
+use Rattle.std.specs.List.{AllByRecursion}
+use Rattle.std.proofs.lemmas.Bool.{and_parts}
+use Rattle.std.proofs.lemmas.List.{length-append}
+use Rattle.vrps.specs.Instance.{Instance, IsInstance, versions, named}
+use Rattle.vrps.specs.Store.{is_current, published}
+use Rattle.vrps.specs.VrpSet.{VrpSet, IsVrpSet}
+use Rattle.vrps.proofs.VersionLaws.{published_is_instance}
+use Rattle.rtr_pdu.specs.declared.unit.Unit.{Unit}
+use Rattle.rtr_ends.specs.Cache.{Conn}
+use Rattle.rtr_ends.specs.Router.{Router, Link, Closed, Idle, Asked, Answering, Ended, IsKept}
+use Rattle.rtr_ends.specs.Transcript.{Begun, Committed, Question, base_of, kept}
+use Rattle.rtr_world.specs.Claims.{IsNamed, Headline}
+use Rattle.rtr_world.specs.History.{Outcome, Done, SessionUsed, TooManyVersions, NoSuchRouter, Memory, is_near, room_for, room_since, all_have_room, is_used, refusal, MayEnd, after, IsEvent, Entry, LeadsFrom, Leads, Made, IsMade, conn_due}
+use Rattle.rtr_world.specs.OneAnswer.{without_notifies}
+use Rattle.rtr_world.specs.Place.{position_of}
+use Rattle.rtr_world.specs.World.{Side, World, instances, Event, Publish, Restart, On, cache_gone, on_side, goes_through, settled, is_refused, side_step, side_refused, settle, new_world, new_side}
+use Rattle.rtr_world.proofs.EventSteps.{step_good, refused_good, settle_good}
+use Rattle.rtr_world.proofs.Invariant.{OfAnswer, Replies, no_data, not_kept, other_session, no_memory, response, Shape, IfOpen, Open, Flow, Live, GoodLink, GoodRouter, Good}
+use Rattle.rtr_world.proofs.SideLaws.{all_new, all_on_side, all_map}
+use Rattle.rtr_world.proofs.SideSteps.{live_map}
+use Rattle.rtr_world.proofs.Streams.{Stream}
+use Rattle.rtr_world.proofs.TableLaws.{tables}
+use Rattle.rtr_world.proofs.Versions.{Stands, TableAt, Present, table_named, position_at, of_present, stands_published, stands_restarted, find_session, same_number, equal_true, lt_of}
+
+false_true : {P : Type 0} → false ≡ true → P
+false_true h = absurd (let e : false ≡ true = h in cc)
+
+pub record GoodWorld (w : World) : Type 0 where
+  pub present : Present (instances w) w.present
+  pub sides : AllByRecursion (Good (instances w) w.present) w.sides
+
+-- An answer that stays one makes a shape that stays.
+abbrev StaysAnswer : List Instance → List Instance → Instance → Type 0
+StaysAnswer all all' h = (base : VrpSet) (a : Begun) (rest : List Unit) → OfAnswer all h base a rest → OfAnswer all' h base a rest
+
+replies_map : (all all' : List Instance) (h : Instance) (q : Question) (base : VrpSet) (rest : List Unit) → StaysAnswer all all' h → Replies all h q base rest → Replies all' h q base rest
+replies_map all all' h q base rest stays (no_data copy a b) = no_data copy a b
+replies_map all all' h q base rest stays (not_kept serial a b) = not_kept serial a b
+replies_map all all' h q base rest stays (other_session copy a) = other_session copy a
+replies_map all all' h q base rest stays (no_memory a) = no_memory a
+replies_map all all' h q base rest stays (response tail a b c) = response tail a b (stays base _ tail c)
+
+shape_map : (l : Link) (all all' : List Instance) (h : Instance) (agreed : Bool) (version : Option Committed) (table : VrpSet) (wanted rest : List Unit) → StaysAnswer all all' h → Shape all h l agreed version table wanted rest → Shape all' h l agreed version table wanted rest
+shape_map Closed all all' h agreed version table wanted rest stays s = tt
+shape_map (Ended end) all all' h agreed version table wanted rest stays s = tt
+shape_map Idle all all' h agreed version table wanted rest stays s = s
+shape_map (Asked q) all all' h agreed version table wanted rest stays s =
+    (s.0, elim (s.1) [ inl w ↦ inl w | inr w ↦ inr (w.0, replies_map all all' h q (base_of q table) rest stays w.1) ])
+shape_map (Answering a) all all' h agreed version table wanted rest stays s = (s.0, s.1, s.2, s.3, stays (base_of a.question table) a rest s.4)
+
+-- a flow whose answer and connection stay
+flow_map : (all all' : List Instance) (i i' h : Instance) (r : Router) (conn conn' : Option Conn) (up up' down : List ℕ) (f : Flow all i h r conn up down) (lost : List ℕ) → conn_due conn ++ f.lost ≡ conn_due conn' ++ lost
+    → IfOpen conn' (Open i' h r.out up' f.wanted lost) → StaysAnswer all all' h → Flow all' i' h r conn' up' down
+flow_map all all' i i' h r conn conn' up up' down f lost bytes opens stays = record {
+  coming = f.coming;
+  lost = lost;
+  wanted = f.wanted;
+  downward = subst (λ x. Stream r.held (down ++ x) f.coming) bytes f.downward;
+  open_at = opens;
+  notifies = f.notifies;
+  own = f.own;
+  mine = f.mine;
+  shape = shape_map r.link all all' h r.agreed r.version r.table f.wanted (without_notifies f.coming) stays f.shape;
+}
+
+-- A set is published
+module _ (past : List Instance) (i : Instance) (y : VrpSet) (p : Present (i ∷ past) i) where
+  abbrev next : Instance
+  next = record i { sets = y ∷ i.sets }
+
+  -- room after a version that stands
+  room_of : (session serial : ℕ) (set : VrpSet) (a : Stands (i ∷ past) session serial set) (least : ℕ) → least ≤ length a.older → (i.session ≡ session → nat_lt (length i.sets - least) (2 ^ 31) ≡ true) → i.session ≡ session → length a.newer + 1 < 2 ^ 31
+  room_of session serial set a least low test e =
+      let found = of_present (i ∷ past) i p session serial set a (sym e) in
+      let few = lt_of (length i.sets - least) 2147483648 (test e) in
+      let count : length i.sets ≡ length a.newer + (length a.older + 1) = ap (λ x. length x.sets) (sym found) ∙ ap length a.sets ∙ length-append a.newer (set ∷ a.older) ∙ more (length a.newer) (length a.older) in
+      omega (arith, few, count, low)
+    where
+      more : (n m : ℕ) → n + suc m ≡ n + (m + 1)
+      more n m = omega arith
+
+  table_published : (version : Option Committed) (table : VrpSet) → room_for i version ≡ true → TableAt (i ∷ past) version table → TableAt (next ∷ past) version table
+  table_published None table room t = t
+  table_published (Some version) table room t =
+      (stands_published past i y version.session version.serial table t (room_of version.session version.serial table t (length t.older) (omega arith) test)).0
+    where
+      test : i.session ≡ version.session → nat_lt (length i.sets - length t.older) (2 ^ 31) ≡ true
+      test e =
+          let found = of_present (i ∷ past) i p version.session version.serial table t (sym e) in
+          let place : position_of version.serial (versions i) ≡ Some (length t.older) = ap (λ x. position_of version.serial (versions x)) (sym found) ∙ position_at (i ∷ past) version.session version.serial table t in
+          ap (is_near i) (sym place) ∙ sym (ap (λ b. if b then is_near i (position_of version.serial (versions i)) else true) (equal_true i.session version.session e)) ∙ room
+
+  answer_published : (h : Instance) → room_since i (Some h) ≡ true → StaysAnswer (i ∷ past) (next ∷ past) h
+  answer_published h room base a rest o =
+      let low : length h.sets - 1 ≤ length o.stands.older = (let s = o.since in omega (arith, s)) in
+      let test : i.session ≡ h.session → nat_lt (length i.sets - (length h.sets - 1)) (2 ^ 31) ≡ true = λ e. sym (ap (λ b. if b then is_near i (Some (length h.sets - 1)) else true) (equal_true i.session h.session e)) ∙ room in
+      let s = stands_published past i y h.session o.serial o.set o.stands (room_of h.session o.serial o.set o.stands (length h.sets - 1) low test) in
+      record { serial = o.serial; set = o.set; stands = s.0; leads = o.leads; since = subst (λ x. length h.sets ≤ length x + 1) (sym s.1) o.since }
+
+  open_published : (h : Instance) (out up : List ℕ) (wanted : List Unit) (lost : List ℕ) (conn : Option Conn) → IfOpen conn (Open i h out up wanted lost) → IfOpen conn (Open next h out up wanted lost)
+  open_published h out up wanted lost None op = tt
+  open_published h out up wanted lost (Some o) op = record { upward = op.upward; whole = op.whole; session = op.session; made = (let m = op.made in omega (arith, m)) }
+
+  side_published : (s : Side) → (room_for i s.router.version && room_since i s.home) ≡ true → Good (i ∷ past) i s → Good (next ∷ past) next s
+  side_published s room g =
+      let parts = and_parts (room_for i s.router.version) (room_since i s.home) room in
+      record {
+        router = record {
+          table = table_published s.router.version s.router.table parts.0 g.router.table;
+          unmarked = g.router.unmarked;
+          link = live_map s.router.link (i ∷ past) (next ∷ past) i next s.home s.home s.router s.router s.conn s.conn s.up s.up s.down s.down (λ x. x) refl refl g.router.link (λ l. (
+            l.0,
+            l.1,
+            flow_map (i ∷ past) (next ∷ past) i next l.0 s.router s.conn s.conn s.up s.up s.down l.2 l.2.lost refl (open_published l.0 s.router.out s.up l.2.wanted l.2.lost s.conn l.2.open_at)
+                (answer_published l.0 (subst (λ x. room_since i x ≡ true) l.1 parts.1)),
+          ));
+        };
+      }
+
+  sides_published : (sides : List Side) → all_have_room i sides ≡ true → AllByRecursion (Good (i ∷ past) i) sides → AllByRecursion (Good (next ∷ past) next) sides
+  sides_published [] room g = tt
+  sides_published (s ∷ sides) room g =
+      let parts = and_parts (room_for i s.router.version && room_since i s.home) (all_have_room i sides) room in
+      (side_published s parts.0 g.0, sides_published sides parts.1 g.1)
+
+-- The cache restarts under a session that no instance has
+module _ (all : List Instance) (old i : Instance) (new : find_session i.session all ≡ None) where
+  table_restarted : (version : Option Committed) (table : VrpSet) → TableAt all version table → TableAt (i ∷ all) version table
+  table_restarted None table t = t
+  table_restarted (Some version) table t = (stands_restarted all i version.session version.serial table new t).0
+
+  answer_restarted : (h : Instance) → StaysAnswer all (i ∷ all) h
+  answer_restarted h base a rest o =
+      let s = stands_restarted all i h.session o.serial o.set new o.stands in
+      record { serial = o.serial; set = o.set; stands = s.0; leads = o.leads; since = subst (λ x. length h.sets ≤ length x + 1) (sym s.1) o.since }
+
+  side_restarted : (s : Side) → Good all old s → Good (i ∷ all) i (cache_gone s)
+  side_restarted s g = record {
+    router = record {
+      table = table_restarted s.router.version s.router.table g.router.table;
+      unmarked = g.router.unmarked;
+      link = live_map s.router.link all (i ∷ all) old i s.home s.home s.router s.router s.conn None s.up [] s.down s.down (λ x. x) refl refl g.router.link (λ l. (
+        l.0,
+        l.1,
+        flow_map all (i ∷ all) old i l.0 s.router s.conn None s.up [] s.down l.2 (conn_due s.conn ++ l.2.lost) refl tt (answer_restarted l.0),
+      ));
+    };
+  }
+
+-- Every event
+settled_good : (w : World) → GoodWorld w → GoodWorld (settled w)
+unfolding settled
+settled_good w g = record { present = g.present; sides = all_map (Good (instances w) w.present) (Good (instances w) w.present) (settle (instances w)) w.sides (settle_good w g.present) g.sides }
+
+or_cases : (a b : Bool) → (a || b) ≡ true → a ≡ false → b ≡ true
+or_cases true b h e = absurd (let k : true ≡ false = e in cc)
+or_cases false b h e = h
+
+-- what is not refused
+published_so : (a : Bool) (w : World) (event : Event) (wanting : Option ℕ) → MayEnd (if a then None else Some TooManyVersions) w event (Done wanting) → a ≡ true
+published_so true w event wanting h = refl
+published_so false w event wanting h = absurd (let e : Done wanting ≡ TooManyVersions = h in cc)
+
+restarted_so : (a : Bool) (w : World) (event : Event) (wanting : Option ℕ) → MayEnd (if a then Some SessionUsed else None) w event (Done wanting) → a ≡ false
+restarted_so true w event wanting h = absurd (let e : Done wanting ≡ SessionUsed = h in cc)
+restarted_so false w event wanting h = refl
+
+none_found : (o : Option Instance) → is_some o ≡ false → o ≡ None
+none_found None h = refl
+none_found (Some i) h = absurd (let e : true ≡ false = h in cc)
+
+through_good : (event : Event) (wanting : Option ℕ) (w : World) → IsEvent event → MayEnd (refusal w event) w event (Done wanting) → GoodWorld w → GoodWorld (goes_through event wanting w)
+unfolding goes_through refusal
+through_good (Publish set) wanting w fits may g = by_current (is_current w.present.sets set) refl
+  where
+    i : Instance
+    i = w.present
+
+    free : (is_current i.sets set || all_have_room i w.sides) ≡ true
+    free = published_so (is_current i.sets set || all_have_room i w.sides) w (Publish set) wanting may
+
+    by_current : (b : Bool) → is_current i.sets set ≡ b → GoodWorld (record w { present = published set i })
+    by_current true e = subst (λ b. GoodWorld (record w { present = if b then i else record i { sets = set ∷ i.sets } })) (sym e) (record { present = g.present; sides = g.sides })
+    by_current false e =
+        let n : IsInstance (if is_current i.sets set then i else record i { sets = set ∷ i.sets }) = published_is_instance set i fits g.present.is in
+        subst (λ b. GoodWorld (record w { present = if b then i else record i { sets = set ∷ i.sets } })) (sym e)
+        (record {
+          present = record {
+            found = ap (λ b. if b then Some (record i { sets = set ∷ i.sets }) else find_session i.session w.past) (same_number i.session);
+            is = subst (λ b. IsInstance (if b then i else record i { sets = set ∷ i.sets })) e n;
+          };
+          sides = sides_published w.past i set g.present w.sides (or_cases (is_current i.sets set) (all_have_room i w.sides) free e) g.sides;
+        })
+through_good (Restart session start) wanting w fits may g =
+    let i : Instance = record { session = session; start = start; sets = [] } in
+    let unused = restarted_so (is_used (instances w) session) w (Restart session start) wanting may in
+    let new : find_session session (instances w) ≡ None = none_found (find_session session (instances w)) unused in
+    record {
+      present = record {
+        found = ap (λ b. if b then Some (record { session = session; start = start; sets = [] }) else find_session session (instances w)) (same_number session);
+        is = record { session = fits.0; start = fits.1; sets = tt; news = tt };
+      };
+      sides = all_map (Good (instances w) w.present) (Good (record { session = session; start = start; sets = [] } ∷ instances w) (record { session = session; start = start; sets = [] })) cache_gone w.sides
+          (side_restarted (instances w) w.present (record { session = session; start = start; sets = [] }) new) g.sides;
+    }
+through_good (On r event) wanting w fits may g =
+    record { present = g.present; sides = all_on_side (Good (instances w) w.present) (Good (instances w) w.present) r (side_step w event wanting) w.sides (λ s h. h) (step_good w g.present event wanting) g.sides }
+
+refused_so : (event : Event) (bytes : ℕ) (wanting : Option ℕ) (w : World) → GoodWorld w → GoodWorld (is_refused event bytes wanting w)
+unfolding is_refused
+refused_so (Publish set) bytes wanting w g = g
+refused_so (Restart session start) bytes wanting w g = g
+refused_so (On r event) bytes wanting w g =
+    settled_good (record w { sides = on_side r (side_refused w event bytes wanting) w.sides })
+    (record { present = g.present; sides = all_on_side (Good (instances w) w.present) (Good (instances w) w.present) r (side_refused w event bytes wanting) w.sides (λ s h. h) (refused_good w g.present event bytes wanting) g.sides })
+
+after_good : (event : Event) (outcome : Outcome) (w : World) → IsEvent event → MayEnd (refusal w event) w event outcome → GoodWorld w → GoodWorld (after event outcome w)
+after_good event (Done wanting) w fits may g = settled_good (goes_through event wanting w) (through_good event wanting w fits may g)
+after_good event (Memory bytes wanting) w fits may g = refused_so event bytes wanting w g
+after_good event SessionUsed w fits may g = g
+after_good event TooManyVersions w fits may g = g
+after_good event NoSuchRouter w fits may g = g
+
+pub history_good : (old : World) (history : List Entry) (w : World) → LeadsFrom old history w → GoodWorld old → GoodWorld w
+history_good old [] w leads g = subst GoodWorld (sym leads) g
+history_good old (entry ∷ history) w leads g =
+    history_good leads.0 history w leads.2 (subst GoodWorld (sym leads.1.2) (after_good entry.event entry.outcome old leads.1.0 leads.1.1 g))
+
+pub new_good : (made : Made) → IsMade made → GoodWorld (new_world made.routers made.session made.start made.keep)
+new_good made is =
+    let i : Instance = record { session = made.session; start = made.start; sets = [] } in
+    record {
+      present = record {
+        found = ap (λ b. if b then Some (record { session = made.session; start = made.start; sets = [] }) else None) (same_number made.session);
+        is = record { session = is.session; start = is.start; sets = tt; news = tt };
+      };
+      sides = all_new (Good (record { session = made.session; start = made.start; sets = [] } ∷ []) (record { session = made.session; start = made.start; sets = [] })) (record { router = record { table = refl; unmarked = refl; link = (refl, refl, refl) } }) made.routers;
+    }
+
+-- The headline
+pub headline : Headline
+headline made history w leads =
+    named_all w.sides (history_good (new_world made.routers made.session made.start made.keep) history w leads.1 (new_good made leads.0)).sides (tables made history w leads)
+  where
+    named_all : (sides : List Side) → AllByRecursion (Good (instances w) w.present) sides → AllByRecursion (λ s. IsKept s.router s.items) sides → AllByRecursion (λ s. IsNamed (instances w) (kept s.items).version s.router.table) sides
+    named_all [] g k = tt
+    named_all (s ∷ sides) g k = (subst (λ v. IsNamed (instances w) v s.router.table) k.0.version (table_named (instances w) s.router.version s.router.table g.0.router.table), named_all sides g.1 k.1)
