@@ -1,22 +1,22 @@
 -- A whole answer leads from its base to its version.
-use Rattle.std.specs.Prelude.{◌≡◌, ◌⊎◌, ℕ, ◌+◌, ◌-◌, ◌<◌, ◌≤◌, ◌^◌, Bool, true, false, not, ◌&&◌, ◌||◌, ◌==◌, cond, nat_lt, List, [], ◌∷◌, ◌++◌, map, length, take, Option, Some, None, if◌then◌else◌, refl, ⊤}
-use Rattle.std.proofs.Common.{sym, ap, ◌∙◌, subst, arith, append_assoc, inl, inr}
-use Rattle.std.specs.List.{AllByRecursion, All, IsDistinct, list_any}
+use Rattle.std.specs.Prelude.{◌≡◌, ℕ, ◌+◌, ◌≤◌, Bool, true, false, not, ◌&&◌, ◌||◌, cond, nat_lt, List, [], ◌∷◌, ◌++◌, map, if◌then◌else◌, refl, ⊤}
+use Rattle.std.proofs.Common.{sym, ap, ◌∙◌, subst, arith, append_assoc}
+use Rattle.std.specs.List.{AllByRecursion, IsDistinct}
 use Rattle.std.specs.Ordering.{eq_by_cmp}
 use Rattle.std.specs.FinMap as map
 use Rattle.std.proofs.lemmas.Bool.{and_parts}
 use Rattle.std.proofs.lemmas.Bool.Decides.{nat_tests}
 use Rattle.std.proofs.lemmas.Map.Keys.{IsDistinct-from_sorted}
-use Rattle.prefixes.specs.Payload.{Payload, IsPayload, vrp_cmp}
+use Rattle.prefixes.specs.Payload.{Payload, vrp_cmp}
 use Rattle.prefixes.proofs.PayloadOrder.{vrp_total}
 use Rattle.vrps.specs.Change.{between}
 use Rattle.vrps.specs.VrpSet.{VrpSet, empty, has, size, listing, set_of, union, with_all, with_member, without}
-use Rattle.vrps.proofs.SetLaws.{same_set, has-empty, has-union, has-without, has-set_of, has-listing, has-with_all, listing_ascends, all_of_members}
+use Rattle.vrps.proofs.SetLaws.{same_set, has-empty, has-union, has-without, has-set_of, has-listing, listing_ascends, all_of_members}
 use Rattle.vrps.proofs.VersionLaws.{tied}
 use Rattle.rtr_pdu.specs.declared.unit.Unit.{Unit}
-use Rattle.rtr_pdu.specs.declared.unit.Unit.TheVariants.{SerialNotify, CacheResponse, Prefix, EndOfData}
+use Rattle.rtr_pdu.specs.declared.unit.Unit.TheVariants.{SerialNotify, Prefix, EndOfData}
 use Rattle.rtr_ends.specs.Answer.{announcements, withdrawals}
-use Rattle.rtr_ends.specs.Router.{Staged, Stays, Wrong, Over, stage}
+use Rattle.rtr_ends.specs.Router.{Stays, Wrong, Over, stage}
 use Rattle.rtr_ends.specs.Transcript.{Begun, is_listed, led_to}
 use Rattle.rtr_world.specs.OneAnswer.{NotifiesOf, without_notifies}
 use Rattle.rtr_world.proofs.Invariant.{after_stage, Leads}
@@ -190,8 +190,13 @@ module _ (base set : VrpSet) (session serial : ℕ) (fits : size set ≤ 1677721
 
   -- the End of Data
   ends : (a : Begun) (refresh retry expire : ℕ) → AllGone a → ((q : Payload) → is_listed q a.announced ≡ (has set q && not (has base q))) → Leads base a (EndOfData session serial refresh retry expire ∷ []) session serial set
-  ends a refresh retry expire gone come = (refl, refl, refl, same_set _ _ (λ q.
-      has-led_to base a.withdrawn a.announced q ∙ (λ i. (has base q && not (gone q i)) || come q i) ∙ moved (has base q) (has set q)))
+  ends a refresh retry expire gone come = (
+    refl,
+    refl,
+    refl,
+    same_set _ _ (λ q.
+        has-led_to base a.withdrawn a.announced q ∙ (λ i. (has base q && not (gone q i)) || come q i) ∙ moved (has base q) (has set q)),
+  )
     where
       moved : (a b : Bool) → ((a && not (a && not b)) || (b && not a)) ≡ b
       moved true true = refl

@@ -1,30 +1,26 @@
 -- What the cache answers is a whole answer to the question.
-use Rattle.std.specs.Prelude.{◌≡◌, ◌⊎◌, ℕ, suc, ◌+◌, ◌-◌, ◌<◌, ◌≤◌, ◌^◌, Bool, true, false, not, ◌&&◌, ◌||◌, ◌==◌, List, [], ◌∷◌, ◌++◌, map, length, take, min, Option, Some, None, if◌then◌else◌, refl}
-use Rattle.std.proofs.Common.{sym, ap, ◌∙◌, subst, subst₂, arith, append_assoc, inl, inr}
+use Rattle.std.specs.Prelude.{◌≡◌, ◌⊎◌, ℕ, suc, ◌+◌, ◌<◌, ◌≤◌, ◌^◌, Bool, true, false, ◌==◌, List, [], ◌∷◌, ◌++◌, map, length, take, min, Option, Some, None, if◌then◌else◌, refl}
+use Rattle.std.proofs.Common.{sym, ap, ◌∙◌, subst, subst₂, arith, inl, inr}
 use Rattle.std.specs.List.{AllByRecursion, All}
-use Rattle.std.proofs.lemmas.Bool.{and_parts, or_parts}
-use Rattle.std.proofs.lemmas.List.{append-nil, length-append}
 use Rattle.std.proofs.lemmas.List.Elements.{All-head, All-tail}
 use Rattle.std.proofs.Math.Nat.{min-le_left}
 use Rattle.std.proofs.lemmas.Str.{IsUtf8-nil}
 use Rattle.std.proofs.lemmas.List.{length-take}
 use Rattle.prefixes.specs.Payload.{Payload, IsPayload}
-use Rattle.vrps.specs.Change.{between}
-use Rattle.vrps.specs.Instance.{Instance, IsInstance, Version, versions, versions_from, with_serial}
+use Rattle.vrps.specs.Instance.{Instance, Version, versions, versions_from, with_serial}
 use Rattle.vrps.specs.Serial.{serial_at}
-use Rattle.vrps.specs.VrpSet.{VrpSet, IsVrpSet, empty, listing, size, without}
+use Rattle.vrps.specs.VrpSet.{VrpSet, IsVrpSet, empty, listing, without}
 use Rattle.vrps.proofs.Listed.{part_is_set}
 use Rattle.rtr_pdu.specs.Payloads.{AreBytes}
 use Rattle.rtr_pdu.specs.Unit.{IsUnit}
 use Rattle.rtr_pdu.specs.declared.unit.Unit.{Unit}
-use Rattle.rtr_pdu.specs.declared.unit.Unit.TheVariants.{SerialNotify, SerialQuery, ResetQuery, CacheResponse, Prefix, EndOfData, CacheReset}
+use Rattle.rtr_pdu.specs.declared.unit.Unit.TheVariants.{SerialQuery, ResetQuery, CacheResponse, Prefix, EndOfData}
 use Rattle.rtr_pdu.proofs.ReadLaws.{AreBytes-take}
-use Rattle.rtr_ends.specs.Answer.{Reply, and_on, and_end, answer, announcements, withdrawals, report, response as response_of, sent, serial_answer, step_answer, whole_answer}
-use Rattle.rtr_ends.specs.Timing.{Intervals}
+use Rattle.rtr_ends.specs.Answer.{and_on, and_end, answer, announcements, withdrawals, report, response as response_of, sent, serial_answer, step_answer, whole_answer}
 use Rattle.rtr_ends.specs.Transcript.{Committed, Question, AskReset, AskSerial, query, base_of}
 use Rattle.rtr_world.specs.World.{timing}
 use Rattle.rtr_world.proofs.AnswerLaws.{Plain, plain-append, plain_records, change_leads, whole_leads}
-use Rattle.rtr_world.proofs.Invariant.{Leads, QuestionFits, IsOwn, OfAnswer, Replies, nothing_yet, no_data, not_kept, other_session, no_memory, response}
+use Rattle.rtr_world.proofs.Invariant.{Leads, QuestionFits, IsOwn, Replies, nothing_yet, no_data, not_kept, other_session, response}
 use Rattle.rtr_world.proofs.Streams.{all-append, all_bytes}
 use Rattle.rtr_world.proofs.Versions.{Stands, TableAt, Present, kept_at, has_sets, of_present, equal_of, find_session}
 

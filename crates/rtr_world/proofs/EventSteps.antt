@@ -1,26 +1,21 @@
 -- Every event keeps the invariant at each router.
-use Rattle.std.specs.Prelude.{◌≡◌, ◌⊎◌, ℕ, suc, ◌+◌, ◌-◌, ◌<◌, ◌≤◌, ◌^◌, Bool, true, false, not, ◌&&◌, ◌||◌, ◌==◌, nat_lt, List, [], ◌∷◌, ◌++◌, map, length, take, drop, min, Option, Some, None, if◌then◌else◌, refl}
-use Rattle.std.proofs.Common.{sym, ap, ◌∙◌, subst, arith, append_assoc, inl, inr}
-use Rattle.std.proofs.lemmas.Bool.{and_parts}
-use Rattle.std.proofs.lemmas.List.{append-nil, take-append-drop, take_min, length-append}
-use Rattle.vrps.specs.Instance.{Instance, versions}
-use Rattle.vrps.specs.VrpSet.{VrpSet}
+use Rattle.std.specs.Prelude.{◌≡◌, ℕ, Bool, true, false, List, [], ◌∷◌, ◌++◌, take, drop, Option, Some, None, if◌then◌else◌, refl}
+use Rattle.std.proofs.Common.{sym, ap, ◌∙◌, subst, arith, append_assoc, inl}
+use Rattle.std.proofs.lemmas.List.{append-nil, take-append-drop, take_min}
+use Rattle.vrps.specs.Instance.{Instance}
 use Rattle.rtr_pdu.specs.declared.unit.Unit.{Unit}
-use Rattle.rtr_ends.specs.declared.link.End.{End}
-use Rattle.rtr_ends.specs.Answer.{sent, sent_all}
-use Rattle.rtr_ends.specs.Cache.{Conn, Taking, conn_pulled, conn_takes, pulled_count, new_conn, conn_byte, conn_stops}
-use Rattle.rtr_ends.specs.Feeding.{Fed, feed}
-use Rattle.rtr_ends.specs.Router.{Router, Receiving, Link, Closed, Idle, Asked, Answering, Ended, choose, ask, is_closed, close, clocked, is_due, is_idle, asks_if, connects_at, closed_at, ticks_at, asks, receives, router_pulled, new_router, router_byte, router_stops}
-use Rattle.rtr_ends.specs.Transcript.{Item, At, Committed, Question, query}
+use Rattle.rtr_ends.specs.Answer.{sent}
+use Rattle.rtr_ends.specs.Cache.{Conn, conn_pulled, conn_takes, pulled_count}
+use Rattle.rtr_ends.specs.Router.{Router, Link, Closed, Idle, Asked, Answering, Ended, choose, is_closed, close, clocked, is_due, is_idle, connects_at, closed_at, ticks_at, asks, receives, router_pulled}
+use Rattle.rtr_ends.specs.Transcript.{At, Question, query}
 use Rattle.rtr_world.specs.History.{conn_due}
-use Rattle.rtr_world.specs.OneAnswer.{without_notifies}
 use Rattle.rtr_world.specs.World.{Side, World, instances, timing, SideEvent, RouterRestart, Connect, RouterSends, CacheGets, CacheSends, RouterGets, Cut, NotifyRouter, Ask, Tick, noted, connects, router_restarts, router_sends, sends_from, cache_sends, gets_at, cache_gets, router_gets, cut, notifies_at, side_step, side_part, side_refused, tell_closed, close_ended, settle_conn, settle_link, settle_rest, settle_wire, settle}
 use Rattle.rtr_world.proofs.CacheMoves as cache
-use Rattle.rtr_world.proofs.Invariant.{OwnSession, IfOpen, Open, Flow, Live, GoodLink, GoodRouter, Good, Shape}
+use Rattle.rtr_world.proofs.Invariant.{OwnSession, IfOpen, Open, GoodLink, GoodRouter, Good}
 use Rattle.rtr_world.proofs.RouterSteps.{first_fits, query_unit}
-use Rattle.rtr_world.proofs.SideSteps.{live_map, fed_good, clocked_good, close_shut, asks_good, Shut}
+use Rattle.rtr_world.proofs.SideSteps.{live_map, fed_good, clocked_good, close_shut, asks_good}
 use Rattle.rtr_world.proofs.Streams.{Stream}
-use Rattle.rtr_world.proofs.Versions.{TableAt, Present}
+use Rattle.rtr_world.proofs.Versions.{Present}
 
 not_due : (l : Link) (when : Option ℕ) (now : ℕ) → is_idle l ≡ false → is_due l when now ≡ false
 not_due Closed when now h = refl

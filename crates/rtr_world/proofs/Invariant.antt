@@ -1,9 +1,9 @@
 -- What holds of a router, its connection and the wires between two bytes.
 use Rattle.std.specs.Prelude.{◌≡◌, ◌⊎◌, ℕ, ◌+◌, ◌≤◌, Bool, true, false, List, [], ◌∷◌, ◌++◌, length, Option, Some, None, ⊤}
 use Rattle.vrps.specs.Instance.{Instance}
-use Rattle.vrps.specs.VrpSet.{VrpSet, empty}
+use Rattle.vrps.specs.VrpSet.{VrpSet}
 use Rattle.rtr_pdu.specs.declared.unit.Unit.{Unit}
-use Rattle.rtr_pdu.specs.declared.unit.Unit.TheVariants.{SerialNotify, CacheResponse, Prefix, EndOfData, CacheReset}
+use Rattle.rtr_pdu.specs.declared.unit.Unit.TheVariants.{CacheResponse, Prefix, EndOfData, CacheReset}
 use Rattle.rtr_ends.specs.Answer.{report}
 use Rattle.rtr_ends.specs.Cache.{Conn}
 use Rattle.rtr_ends.specs.Router.{Router, Link, Closed, Idle, Asked, Answering, Ended, Staged, Stays, Wrong, Over, stage}

@@ -1,8 +1,8 @@
 -- What holds of each router of each world to which a history leads.
-use Rattle.std.specs.Prelude.{◌≡◌, ℕ, Bool, true, false, List, [], ◌∷◌, ◌++◌, map, Option, Some, None, if◌then◌else◌, refl}
-use Rattle.std.proofs.Common.{sym, ap, ◌∙◌, subst, zero, suc}
+use Rattle.std.specs.Prelude.{ℕ, List, [], ◌∷◌, map}
+use Rattle.std.proofs.Common.{zero, suc}
 use Rattle.std.specs.List.{AllByRecursion}
-use Rattle.rtr_world.specs.World.{Side, World, new_side, new_sides, on_side}
+use Rattle.rtr_world.specs.World.{Side, new_side, new_sides, on_side}
 
 -- a fact of each side
 module _ (P : Side → Type 0) where

@@ -1,26 +1,23 @@
 -- What happens at one router, its connection and its wires keeps the invariant.
-use Rattle.std.specs.Prelude.{◌≡◌, ◌⊎◌, ℕ, ◌+◌, ◌-◌, ◌≤◌, Bool, true, false, not, ◌&&◌, ◌||◌, List, [], ◌∷◌, ◌++◌, length, take, drop, min, Option, Some, None, if◌then◌else◌, refl}
-use Rattle.std.proofs.Common.{sym, ap, ◌∙◌, subst, arith, append_assoc, inl, inr}
+use Rattle.std.specs.Prelude.{◌≡◌, ℕ, Bool, true, false, not, ◌&&◌, List, [], ◌∷◌, ◌++◌, Option, Some, None, if◌then◌else◌, refl}
+use Rattle.std.proofs.Common.{sym, ap, ◌∙◌, subst, inl}
 use Rattle.std.proofs.lemmas.Bool.{and_parts}
-use Rattle.std.proofs.lemmas.List.{append-nil, take-append-drop, take_min}
 use Rattle.vrps.specs.Instance.{Instance}
-use Rattle.vrps.specs.VrpSet.{VrpSet, empty}
-use Rattle.rtr_pdu.specs.Judging.{Judgement, Begins, Whole, judge}
+use Rattle.vrps.specs.VrpSet.{empty}
+use Rattle.rtr_pdu.specs.Judging.{judge}
 use Rattle.rtr_pdu.specs.declared.unit.Unit.{Unit}
-use Rattle.rtr_pdu.specs.declared.unit.Unit.TheVariants.{SerialNotify, SerialQuery}
-use Rattle.rtr_ends.specs.declared.link.End.{End}
+use Rattle.rtr_pdu.specs.declared.unit.Unit.TheVariants.{SerialNotify}
 use Rattle.rtr_ends.specs.declared.link.End.TheVariants as ends
-use Rattle.rtr_ends.specs.Answer.{sent, sent_all}
-use Rattle.rtr_ends.specs.Cache.{Conn, is_none, finds_memory, conn_pulled, pulled_count, new_conn}
+use Rattle.rtr_ends.specs.Answer.{sent_all}
+use Rattle.rtr_ends.specs.Cache.{Conn, is_none, finds_memory}
 use Rattle.rtr_ends.specs.Feeding.{Fed, feed}
-use Rattle.rtr_ends.specs.Router.{Router, Receiving, Noted, Link, Closed, Idle, Asked, Answering, Ended, choose, ask, emptied, on_unit, may_lack, lacks, reads, with_bytes, with_judged, is_reading, router_stops, router_byte, expired, judged, clocked, is_closed, close, is_due, is_idle, asks_if, connects_at, closed_at, ticks_at, asks, receives, router_pulled, new_router}
-use Rattle.rtr_ends.specs.Transcript.{Begun, Committed, Question, AskReset, AskSerial, query, base_of, is_serial, is_over, later, sum_of, retry_of}
+use Rattle.rtr_ends.specs.Router.{Router, Receiving, Link, Closed, Idle, Asked, Answering, Ended, choose, emptied, on_unit, may_lack, lacks, reads, with_bytes, is_reading, router_stops, router_byte, expired, clocked, is_closed, close, is_idle, asks_if}
+use Rattle.rtr_ends.specs.Transcript.{Question, AskReset, AskSerial, query, is_serial, is_over, later, sum_of, retry_of}
 use Rattle.rtr_ends.proofs.KeptLaws.{same_base}
 use Rattle.rtr_world.specs.History.{conn_due}
 use Rattle.rtr_world.specs.OneAnswer.{NotifiesOf, without_notifies}
-use Rattle.rtr_world.specs.World.{Side, timing}
-use Rattle.rtr_world.proofs.Invariant.{OfAnswer, Shape, QuestionFits, Mine, IfOpen, Open, Flow, Live, GoodLink, GoodRouter}
-use Rattle.rtr_world.proofs.RouterSteps.{Reads, on_notify, on_other, live_link, question_fits, first_fits, query_unit, open_asking}
+use Rattle.rtr_world.proofs.Invariant.{OfAnswer, Shape, QuestionFits, IfOpen, Open, Flow, Live, GoodLink, GoodRouter}
+use Rattle.rtr_world.proofs.RouterSteps.{Reads, on_notify, on_other, live_link, question_fits, query_unit, open_asking}
 use Rattle.rtr_world.proofs.Streams.{Stream, ByteCase, partly, wholly, byte_case}
 use Rattle.rtr_world.proofs.Versions.{TableAt}
 
@@ -208,7 +205,7 @@ module _ (all : List Instance) (i : Instance) (home : Option Instance) (conn : O
         by_question true e = record { table = refl; unmarked = refl; link = tt }
         by_question false e =
             emptied_good r (Answering a) is (emptied_live r (shape_as r (Answering a) is (λ h w t s.
-                (s.0, s.1, s.2, fits_nothing h.session a.question e, subst (λ base. OfAnswer all h base a t) (sym (same_base a.question r.table e)) s.4))) g)
+            (s.0, s.1, s.2, fits_nothing h.session a.question e, subst (λ base. OfAnswer all h base a t) (sym (same_base a.question r.table e)) s.4))) g)
 
     told_good : (now : ℕ) (r : Router) → GoodR r → GoodR (record r { now = now })
     told_good now r g = record {

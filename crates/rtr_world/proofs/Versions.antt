@@ -1,5 +1,5 @@
 -- Versions at their places.
-use Rattle.std.specs.Prelude.{◌≡◌, ◌⊎◌, ℕ, ◌+◌, ◌-◌, ◌<◌, ◌≤◌, ◌^◌, Bool, true, false, ◌==◌, nat_lt, List, [], ◌∷◌, ◌++◌, length, take, find, Option, Some, None, option_and_then, if◌then◌else◌, refl}
+use Rattle.std.specs.Prelude.{◌≡◌, ◌⊎◌, ℕ, ◌+◌, ◌<◌, ◌^◌, Bool, true, false, ◌==◌, nat_lt, List, [], ◌∷◌, ◌++◌, length, take, find, Option, Some, None, option_and_then, if◌then◌else◌, refl}
 use Rattle.std.proofs.Common.{sym, ap, ◌∙◌, subst, arith, inl, inr}
 use Rattle.std.specs.Option.{option_map}
 use Rattle.std.proofs.lemmas.Bool.Decides.{nat_tests}
@@ -124,40 +124,48 @@ stands_published past i y session serial set a room = by_session (i.session == s
   where
     by_session : (b : Bool) → (i.session == session) ≡ b → (if b then Some i else find_session session past) ≡ Some a.i → (s : Stands (record i { sets = y ∷ i.sets } ∷ past) session serial set) × (s.older ≡ a.older)
     by_session true e f =
-        let same : i ≡ a.i = some_is i a.i f in
-        (record {
-          i = record i { sets = y ∷ i.sets };
-          found = ap (λ b. if b then Some (record i { sets = y ∷ i.sets }) else find_session session past) e;
-          newer = y ∷ a.newer;
-          older = a.older;
-          sets = ap (λ x. y ∷ x.sets) same ∙ ap (λ x. y ∷ x) a.sets;
-          serial_is = a.serial_is ∙ ap (λ x. serial_at x.start (length a.older)) (sym same);
-          young = (let few : length a.newer + 1 < 2 ^ 31 = room (equal_of i.session session e) in omega (arith, few));
-          low = a.low;
-        }, refl)
-    by_session false e f = (record {
-      i = a.i;
-      found = ap (λ b. if b then Some (record i { sets = y ∷ i.sets }) else find_session session past) e ∙ f;
-      newer = a.newer;
-      older = a.older;
-      sets = a.sets;
-      serial_is = a.serial_is;
-      young = a.young;
-      low = a.low;
-    }, refl)
+        let same : i ≡ a.i = some_is i a.i f in (
+          record {
+            i = record i { sets = y ∷ i.sets };
+            found = ap (λ b. if b then Some (record i { sets = y ∷ i.sets }) else find_session session past) e;
+            newer = y ∷ a.newer;
+            older = a.older;
+            sets = ap (λ x. y ∷ x.sets) same ∙ ap (λ x. y ∷ x) a.sets;
+            serial_is = a.serial_is ∙ ap (λ x. serial_at x.start (length a.older)) (sym same);
+            young = (let few : length a.newer + 1 < 2 ^ 31 = room (equal_of i.session session e) in omega (arith, few));
+            low = a.low;
+          },
+          refl,
+        )
+    by_session false e f = (
+      record {
+        i = a.i;
+        found = ap (λ b. if b then Some (record i { sets = y ∷ i.sets }) else find_session session past) e ∙ f;
+        newer = a.newer;
+        older = a.older;
+        sets = a.sets;
+        serial_is = a.serial_is;
+        young = a.young;
+        low = a.low;
+      },
+      refl,
+    )
 
 -- An instance of a new session hides none.
 pub stands_restarted : (all : List Instance) (i : Instance) (session serial : ℕ) (set : VrpSet) → find_session i.session all ≡ None → (a : Stands all session serial set) → (s : Stands (i ∷ all) session serial set) × (s.older ≡ a.older)
-stands_restarted all i session serial set new a = (record {
-  i = a.i;
-  found = by_session (i.session == session) refl;
-  newer = a.newer;
-  older = a.older;
-  sets = a.sets;
-  serial_is = a.serial_is;
-  young = a.young;
-  low = a.low;
-}, refl)
+stands_restarted all i session serial set new a = (
+  record {
+    i = a.i;
+    found = by_session (i.session == session) refl;
+    newer = a.newer;
+    older = a.older;
+    sets = a.sets;
+    serial_is = a.serial_is;
+    young = a.young;
+    low = a.low;
+  },
+  refl,
+)
   where
     none_some : (o : Option Instance) → o ≡ None → o ≡ Some a.i → ⊥
     none_some o p q = let h : ◌≡◌ {A = Option Instance} None (Some a.i) = sym p ∙ q in cc

@@ -1,24 +1,24 @@
 -- Every event keeps the invariant of the world, and so the headline holds.
-use Rattle.std.specs.Prelude.{◌≡◌, ◌⊎◌, ℕ, suc, ◌+◌, ◌-◌, ◌<◌, ◌≤◌, ◌^◌, Bool, true, false, not, ◌&&◌, ◌||◌, ◌==◌, nat_lt, List, [], ◌∷◌, ◌++◌, map, length, find, Option, Some, None, is_some, if◌then◌else◌, refl}
-use Rattle.std.proofs.Common.{sym, ap, ◌∙◌, subst, subst₂, arith, append_assoc, inl, inr}
+use Rattle.std.specs.Prelude.{◌≡◌, ℕ, suc, ◌+◌, ◌-◌, ◌<◌, ◌≤◌, ◌^◌, Bool, true, false, ◌&&◌, ◌||◌, nat_lt, List, [], ◌∷◌, ◌++◌, length, Option, Some, None, is_some, if◌then◌else◌, refl}
+use Rattle.std.proofs.Common.{sym, ap, ◌∙◌, subst, arith, inl, inr}
 use Rattle.std.specs.List.{AllByRecursion}
 use Rattle.std.proofs.lemmas.Bool.{and_parts}
 use Rattle.std.proofs.lemmas.List.{length-append}
-use Rattle.vrps.specs.Instance.{Instance, IsInstance, versions, named}
+use Rattle.vrps.specs.Instance.{Instance, IsInstance, versions}
 use Rattle.vrps.specs.Store.{is_current, published}
-use Rattle.vrps.specs.VrpSet.{VrpSet, IsVrpSet}
+use Rattle.vrps.specs.VrpSet.{VrpSet}
 use Rattle.vrps.proofs.VersionLaws.{published_is_instance}
 use Rattle.rtr_pdu.specs.declared.unit.Unit.{Unit}
 use Rattle.rtr_ends.specs.Cache.{Conn}
 use Rattle.rtr_ends.specs.Router.{Router, Link, Closed, Idle, Asked, Answering, Ended, IsKept}
 use Rattle.rtr_ends.specs.Transcript.{Begun, Committed, Question, base_of, kept}
 use Rattle.rtr_world.specs.Claims.{IsNamed, Headline}
-use Rattle.rtr_world.specs.History.{Outcome, Done, SessionUsed, TooManyVersions, NoSuchRouter, Memory, is_near, room_for, room_since, all_have_room, is_used, refusal, MayEnd, after, IsEvent, Entry, LeadsFrom, Leads, Made, IsMade, conn_due}
+use Rattle.rtr_world.specs.History.{Outcome, Done, SessionUsed, TooManyVersions, NoSuchRouter, Memory, is_near, room_for, room_since, all_have_room, is_used, refusal, MayEnd, after, IsEvent, Entry, LeadsFrom, Made, IsMade, conn_due}
 use Rattle.rtr_world.specs.OneAnswer.{without_notifies}
 use Rattle.rtr_world.specs.Place.{position_of}
-use Rattle.rtr_world.specs.World.{Side, World, instances, Event, Publish, Restart, On, cache_gone, on_side, goes_through, settled, is_refused, side_step, side_refused, settle, new_world, new_side}
+use Rattle.rtr_world.specs.World.{Side, World, instances, Event, Publish, Restart, On, cache_gone, on_side, goes_through, settled, is_refused, side_step, side_refused, settle, new_world}
 use Rattle.rtr_world.proofs.EventSteps.{step_good, refused_good, settle_good}
-use Rattle.rtr_world.proofs.Invariant.{OfAnswer, Replies, no_data, not_kept, other_session, no_memory, response, Shape, IfOpen, Open, Flow, Live, GoodLink, GoodRouter, Good}
+use Rattle.rtr_world.proofs.Invariant.{OfAnswer, Replies, no_data, not_kept, other_session, no_memory, response, Shape, IfOpen, Open, Flow, Good}
 use Rattle.rtr_world.proofs.SideLaws.{all_new, all_on_side, all_map}
 use Rattle.rtr_world.proofs.SideSteps.{live_map}
 use Rattle.rtr_world.proofs.Streams.{Stream}

@@ -1,7 +1,6 @@
 -- What holds after every list of events.
-use Rattle.std.specs.Prelude.{◌≡◌, ◌==◌, List, [], ◌∷◌, Option, Some, None, ⊤, zero, suc}
+use Rattle.std.specs.Prelude.{◌≡◌, List, Option, Some, None, ⊤, zero, suc}
 use Rattle.std.specs.List.{AllByRecursion}
-use Rattle.prefixes.specs.Payload.{Payload}
 use Rattle.vrps.specs.Instance.{Instance, named}
 use Rattle.vrps.specs.VrpSet.{VrpSet, empty}
 use Rattle.rtr_ends.specs.declared.link.End.{End}

@@ -2,7 +2,7 @@
 use Rattle.std.specs.Prelude.{◌≡◌, ℕ, zero, suc, ◌-◌, ◌^◌, ◌<◌, ◌≤◌, Bool, true, false, not, ◌||◌, ◌&&◌, ◌==◌, nat_lt, List, [], ◌∷◌, length, take, find, Option, Some, None, is_some, if◌then◌else◌, ⊤}
 use Rattle.vrps.specs.Instance.{Instance, versions}
 use Rattle.vrps.specs.Store.{is_current}
-use Rattle.vrps.specs.VrpSet.{VrpSet, IsVrpSet}
+use Rattle.vrps.specs.VrpSet.{IsVrpSet}
 use Rattle.rtr_ends.specs.Cache.{Conn}
 use Rattle.rtr_ends.specs.Router.{is_closed}
 use Rattle.rtr_ends.specs.Transcript.{Committed}

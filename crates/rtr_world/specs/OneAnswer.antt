@@ -1,15 +1,15 @@
 -- What is on its way to a router is at most one answer (RFC 8210 sections 5 and 8).
-use Rattle.std.specs.Prelude.{◌≡◌, ◌⊎◌, ℕ, ◌==◌, Bool, true, false, List, [], ◌∷◌, ◌++◌, find, Option, Some, None, ⊤}
+use Rattle.std.specs.Prelude.{◌≡◌, ◌⊎◌, ℕ, ◌==◌, true, false, List, [], ◌∷◌, ◌++◌, find, Option, Some, None, ⊤}
 use Rattle.prefixes.specs.Payload.{Payload}
 use Rattle.vrps.specs.Instance.{Instance, named}
 use Rattle.vrps.specs.VrpSet.{VrpSet}
 use Rattle.rtr_pdu.specs.declared.unit.Unit.{Unit}
-use Rattle.rtr_pdu.specs.declared.unit.Unit.TheVariants.{SerialNotify, SerialQuery, ResetQuery, CacheResponse, Prefix, EndOfData, CacheReset, RouterKey, ErrorReport}
+use Rattle.rtr_pdu.specs.declared.unit.Unit.TheVariants.{SerialNotify, CacheResponse, Prefix, EndOfData, RouterKey}
 use Rattle.rtr_ends.specs.Answer.{answer, report, sent, sent_all}
 use Rattle.rtr_ends.specs.Commit.{Commits}
 use Rattle.rtr_ends.specs.Connection.{IsLater}
 use Rattle.rtr_ends.specs.Router.{Link, Closed, Idle, Asked, Answering, Ended}
-use Rattle.rtr_ends.specs.Transcript.{Question, AskReset, AskSerial, query, Item, At, Reads, Begun, Committed, base_of, under_way}
+use Rattle.rtr_ends.specs.Transcript.{Question, AskReset, AskSerial, query, Item, At, Reads, Committed, base_of, under_way}
 use Rattle.rtr_world.specs.World.{Side, World, instances, timing}
 use Rattle.rtr_world.specs.History.{conn_due}
 

@@ -1,6 +1,6 @@
 -- One cache, its routers, and for each connection two wires of bytes (RFC 8210 sections 5 to 8).
-use Rattle.std.specs.Prelude.{◌≡◌, ℕ, zero, suc, ◌-◌, ◌^◌, Bool, true, false, ◌||◌, ◌&&◌, ◌==◌, nat_lt, List, [], ◌∷◌, ◌++◌, map, length, take, drop, Option, Some, None, is_some, if◌then◌else◌}
-use Rattle.vrps.specs.Instance.{Instance, versions}
+use Rattle.std.specs.Prelude.{ℕ, zero, suc, Bool, true, false, List, [], ◌∷◌, ◌++◌, map, take, drop, Option, Some, None, if◌then◌else◌}
+use Rattle.vrps.specs.Instance.{Instance}
 use Rattle.vrps.specs.Store.{published}
 use Rattle.vrps.specs.VrpSet.{VrpSet}
 use Rattle.rtr_ends.specs.declared.link.End.{End}
@@ -8,7 +8,7 @@ use Rattle.rtr_ends.specs.Cache.{Conn, Taking, new_conn, conn_takes, conn_notifi
 use Rattle.rtr_ends.specs.Feeding.{Fed}
 use Rattle.rtr_ends.specs.Router.{Router, Link, Closed, Ended, Noted, Receiving, new_router, is_closed, of_received, receives, router_pulled, connects_at, closed_at, ticks_at, asks}
 use Rattle.rtr_ends.specs.Timing.{Intervals, default_intervals}
-use Rattle.rtr_ends.specs.Transcript.{Question, Item, Refused, Restarts, Kept, kept, is_commit, outstanding}
+use Rattle.rtr_ends.specs.Transcript.{Question, Item, Refused, Restarts, kept, is_commit, outstanding}
 use Rattle.rtr_world.specs.Place.{Place, place_of}
 
 -- how a link ended: which question was outstanding, and the instance of the connection
