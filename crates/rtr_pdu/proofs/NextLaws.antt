@@ -88,11 +88,11 @@ module _ (version : ℕ) where
       elim (cases_lt (length held) 8) [
         | inl short ↦ shortest_8 version any (held ++ b ∷ []) (omega (arith, size, short))
         | inr long ↦ (
-          let read : as_read version any (held ++ b ∷ []) ≡ as_read version any held ++ b ∷ [] = as_read-append version any held (b ∷ []) long in
-          let eight : 8 ≤ length (as_read version any held) = omega (arith, same, long) in
-          let none : header_fault version (as_read version any (held ++ b ∷ [])) ≡ None = ap (λ x. header_fault version x) read ∙ header_fault-append version (as_read version any held) (b ∷ []) eight ∙ part.0 in
-          let len : length_of (as_read version any (held ++ b ∷ [])) ≡ length_of (as_read version any held) = ap (λ x. length_of x) read ∙ length_of-append (as_read version any held) (b ∷ []) eight in
-          shortest_whole version any (held ++ b ∷ []) none (room (length (as_read version any held)) part.1 eight len same size))
+            let read : as_read version any (held ++ b ∷ []) ≡ as_read version any held ++ b ∷ [] = as_read-append version any held (b ∷ []) long in
+            let eight : 8 ≤ length (as_read version any held) = omega (arith, same, long) in
+            let none : header_fault version (as_read version any (held ++ b ∷ [])) ≡ None = ap (λ x. header_fault version x) read ∙ header_fault-append version (as_read version any held) (b ∷ []) eight ∙ part.0 in
+            let len : length_of (as_read version any (held ++ b ∷ [])) ≡ length_of (as_read version any held) = ap (λ x. length_of x) read ∙ length_of-append (as_read version any held) (b ∷ []) eight in
+            shortest_whole version any (held ++ b ∷ []) none (room (length (as_read version any held)) part.1 eight len same size))
       ]
     where
       room : (n : ℕ) → (n < 8) ⊎ (n < length_of (as_read version any held)) → 8 ≤ n → length_of (as_read version any (held ++ b ∷ [])) ≡ length_of (as_read version any held) → n ≡ length held
@@ -109,10 +109,10 @@ module _ (version : ℕ) where
       elim (cases_lt (length held) 8) [
         | inl short ↦ (let eight = (header_sized version (as_read version any (held ++ b ∷ [])) w.1 w.0).eight in omega (arith, size, short, more, w.1, w.2, eight))
         | inr long ↦ (
-          let read : as_read version any (held ++ b ∷ []) ≡ as_read version any held ++ b ∷ [] = as_read-append version any held (b ∷ []) long in
-          let eight : 8 ≤ length (as_read version any held) = omega (arith, same, long) in
-          let len : length_of (as_read version any (held ++ b ∷ [])) ≡ length_of (as_read version any held) = ap (λ x. length_of x) read ∙ length_of-append (as_read version any held) (b ∷ []) eight in
-          room (length (as_read version any held)) part.1 eight len same size more)
+            let read : as_read version any (held ++ b ∷ []) ≡ as_read version any held ++ b ∷ [] = as_read-append version any held (b ∷ []) long in
+            let eight : 8 ≤ length (as_read version any held) = omega (arith, same, long) in
+            let len : length_of (as_read version any (held ++ b ∷ [])) ≡ length_of (as_read version any held) = ap (λ x. length_of x) read ∙ length_of-append (as_read version any held) (b ∷ []) eight in
+            room (length (as_read version any held)) part.1 eight len same size more)
       ]
     where
       room : (n : ℕ) → (n < 8) ⊎ (n < length_of (as_read version any held)) → 8 ≤ n → length_of (as_read version any (held ++ b ∷ [])) ≡ length_of (as_read version any held) → n ≡ length held
