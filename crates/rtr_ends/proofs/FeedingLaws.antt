@@ -56,3 +56,19 @@ module _ {M : Type 0} (stops : M → Bool) (step : M → ℕ → M) where
   pub feed_takes : (m : M) (piece : List ℕ) → Takes stops step m piece
   feed_takes m [] = ([], takes_none m [] (λ some. absurd (omega (arith, some))))
   feed_takes m (b ∷ bytes) = takes_by m b bytes (stops m) refl (feed_takes (step m b) bytes)
+
+  abbrev fed_to : M → List ℕ → Fed M
+  fed_to m rest = record { machine = m; rest = rest }
+
+  machine_is : (m n : M) (xs : List ℕ) → fed_to m xs ≡ fed_to n [] → (m ≡ n) × (xs ≡ [])
+  machine_is m n xs e = (ap (λ f. f.machine) e, ap (λ f. f.rest) e)
+
+  on_by : (m n : M) (b : ℕ) (xs ys : List ℕ) (s : Bool) → stops m ≡ s → by_stop m b xs s ≡ fed_to n []
+      → (feed stops step (step m b) xs ≡ fed_to n [] → feed stops step (step m b) (xs ++ ys) ≡ feed stops step n ys) → by_stop m b (xs ++ ys) s ≡ feed stops step n ys
+  on_by m n b xs ys true is e on = absurd (let h : b ∷ xs ≡ [] = (machine_is m n (b ∷ xs) e).1 in cc)
+  on_by m n b xs ys false is e on = on e
+
+  -- Where all of a piece was taken, what follows is handed to the machine after it.
+  pub feed_on : (m n : M) (xs ys : List ℕ) → feed stops step m xs ≡ fed_to n [] → feed stops step m (xs ++ ys) ≡ feed stops step n ys
+  feed_on m n [] ys e = ap (λ x. feed stops step x ys) (machine_is m n [] e).0
+  feed_on m n (b ∷ xs) ys e = on_by m n b xs ys (stops m) refl e (feed_on (step m b) n xs ys)

@@ -9,4 +9,5 @@ pub mod SideSteps
 pub mod Streams
 pub mod TableLaws
 pub mod Versions
+pub mod WorldRows
 pub mod WorldSteps
