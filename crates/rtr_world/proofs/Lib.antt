@@ -6,6 +6,7 @@ pub mod Invariant
 pub mod RouterSteps
 pub mod SideLaws
 pub mod SideSteps
+pub mod StepLaws
 pub mod Streams
 pub mod TableLaws
 pub mod Versions

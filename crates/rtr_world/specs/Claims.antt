@@ -1,5 +1,5 @@
 -- What holds after every list of events.
-use Rattle.std.specs.Prelude.{◌≡◌, List, Option, Some, None, ⊤, zero, suc}
+use Rattle.std.specs.Prelude.{◌≡◌, List, Option, Some, None, ⊤, zero, suc, map}
 use Rattle.std.specs.List.{AllByRecursion}
 use Rattle.vrps.specs.Instance.{Instance, named}
 use Rattle.vrps.specs.VrpSet.{VrpSet, empty}
@@ -8,8 +8,8 @@ use Rattle.rtr_ends.specs.declared.link.End.TheVariants as ends
 use Rattle.rtr_ends.specs.Router.{IsKept}
 use Rattle.rtr_ends.specs.Transcript.{Question, AskSerial, Committed, kept}
 use Rattle.rtr_world.specs.Place.{NeverBack}
-use Rattle.rtr_world.specs.World.{Side, World, Ending, instances}
-use Rattle.rtr_world.specs.History.{Made, Entry, Leads}
+use Rattle.rtr_world.specs.World.{Side, World, Event, Ending, instances}
+use Rattle.rtr_world.specs.History.{Made, IsMade, Entry, IsEvent, Leads}
 use Rattle.rtr_world.specs.OneAnswer.{OneAnswer, IfLive}
 
 -- a fact of each router of each world to which a history leads
@@ -52,3 +52,12 @@ IsLawfulEnd end question home = ⊥
 
 abbrev pub LawfulEnds : Type 0
 LawfulEnds = Always (λ w s. AllByRecursion (λ (e : Ending). IsLawfulEnd e.end e.question e.home) s.endings)
+
+-- The steps: a history leads to one world, and every list of events has outcomes with which it leads somewhere.
+abbrev pub OneWorld : Type 0
+OneWorld = (made : Made) (history : List Entry) (w v : World) → Leads made history w → Leads made history v → w ≡ v
+
+abbrev pub EachLeads : Type 0
+EachLeads =
+    (made : Made) (events : List Event) → IsMade made → AllByRecursion IsEvent events →
+    (history : List Entry) × (w : World) × (map (λ e. e.event) history ≡ events) × Leads made history w

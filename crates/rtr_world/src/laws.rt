@@ -1,5 +1,11 @@
 //! Laws of the definitions. These functions do nothing: their contracts are the laws.
-ghost use Rattle.rtr_world.specs.Claims.{Headline, Tables};
+ghost use Rattle.rtr_world.specs.Claims.{EachLeads, Headline, OneWorld, Tables};
+
+/// A history of events with their outcomes leads to one world, and every list of events has outcomes with which it leads to one.
+pub fn steps()
+    ensures one { OneWorld }
+    ensures each { EachLeads }
+{}
 
 /// After every list of events each router holds what its transcript keeps, asks again when the transcript says, and knows the
 /// greatest moment that it was told.
