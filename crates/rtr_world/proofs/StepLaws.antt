@@ -3,7 +3,7 @@ use Rattle.std.specs.Prelude.{◌≡◌, List, [], ◌∷◌, map, Option, Some,
 use Rattle.std.proofs.Common.{sym, ap, ◌∙◌, subst}
 use Rattle.std.specs.List.{AllByRecursion}
 use Rattle.rtr_world.specs.Claims.{OneWorld, EachLeads}
-use Rattle.rtr_world.specs.History.{Outcome, Done, refusal, MayEnd, after, IsEvent, Entry, LeadsFrom, WorldStep}
+use Rattle.rtr_world.specs.History.{Outcome, Done, refusal, MayEnd, after, IsEvent, Entry, LeadsFrom}
 use Rattle.rtr_world.specs.World.{World, Event, new_world}
 
 one_from : (old : World) (history : List Entry) (w v : World) → LeadsFrom old history w → LeadsFrom old history v → w ≡ v

@@ -1,25 +1,22 @@
 -- A world, event by event, worked out.
-use Rattle.std.specs.Prelude.{◌≡◌, ℕ, Bool, true, false, not, ◌&&◌, ◌||◌, nat_lt, List, [], ◌∷◌, ◌++◌, length, take, drop, Option, Some, None, if◌then◌else◌, refl}
-use Rattle.std.proofs.Common.{sym, ap, ◌∙◌, subst}
+use Rattle.std.specs.Prelude.{◌≡◌, ℕ, true, false, ◌&&◌, ◌||◌, nat_lt, List, [], ◌∷◌, ◌++◌, take, Option, Some, None, if◌then◌else◌, refl}
+use Rattle.std.proofs.Common.{ap, ◌∙◌}
 use Rattle.vrps.specs.Instance.{Instance}
-use Rattle.vrps.specs.VrpSet.{VrpSet, empty, has, set_of, size}
+use Rattle.vrps.specs.VrpSet.{VrpSet, empty, set_of, size}
 use Rattle.vrps.proofs.SetLaws.{has-empty, listing-set_of, size-set_of}
 use Rattle.rtr_pdu.specs.Judging.{judge}
 use Rattle.rtr_pdu.specs.Stream.{as_read}
-use Rattle.rtr_pdu.specs.declared.unit.Unit.{Unit}
-use Rattle.rtr_pdu.specs.declared.unit.Unit.TheVariants.{CacheResponse, Prefix, EndOfData}
+use Rattle.rtr_pdu.specs.declared.unit.Unit.TheVariants.{CacheResponse, Prefix}
 use Rattle.rtr_ends.specs.Answer.{sent_all}
 use Rattle.rtr_ends.specs.Cache.{Conn, new_conn, conn_takes, conn_byte, conn_pulled}
-use Rattle.rtr_ends.specs.Connection.{Connection}
 use Rattle.rtr_ends.specs.Feeding.{Fed, feed}
-use Rattle.rtr_ends.specs.Router.{Router, Receiving, Staged, Stays, Wrong, Over, Closed, Idle, Asked, Answering, new_router, stage, staged, is_staged, lacks, asked_by, Noted, on_unit, router_byte, router_stops, receives, clocked, connects_at, closed_at, router_pulled, of_received}
-use Rattle.rtr_ends.specs.Timing.{default_intervals}
-use Rattle.rtr_ends.specs.Transcript.{Item, At, Opened, Asks, Reads, Shut, Begun, Committed, AskReset, led_to}
+use Rattle.rtr_ends.specs.Router.{Router, Receiving, Staged, Stays, Wrong, Over, Asked, Answering, new_router, stage, staged, is_staged, lacks, asked_by, Noted, on_unit, router_byte, router_stops, receives, clocked, connects_at, closed_at, router_pulled, of_received}
+use Rattle.rtr_ends.specs.Transcript.{At, Opened, Asks, Reads, Shut, Begun, AskReset}
 use Rattle.rtr_ends.proofs.Rows.{v, v_ascends, cache, with_all_of, reset_bytes, response_bytes, v_bytes, end_bytes}
 use Rattle.rtr_ends.proofs.FeedingLaws.{feed_on}
 use Rattle.rtr_ends.proofs.TableLaws.{led_from_empty}
-use Rattle.rtr_world.specs.History.{Outcome, Done, SessionUsed, TooManyVersions, NoSuchRouter, after, refusal}
-use Rattle.rtr_world.specs.World.{Side, World, Event, Publish, Restart, On, Connect, RouterSends, CacheGets, CacheSends, RouterGets, Cut, new_side, new_world, instances, noted, connects, router_sends, cache_gets, cache_sends, router_gets, cut, side_step, settle, goes_through, settled}
+use Rattle.rtr_world.specs.History.{Done, SessionUsed, NoSuchRouter, after, refusal}
+use Rattle.rtr_world.specs.World.{Side, World, Publish, Restart, On, Connect, RouterSends, CacheGets, CacheSends, RouterGets, Cut, new_side, new_world, noted, connects, router_sends, cache_gets, cache_sends, router_gets, cut, side_step, settle, goes_through, settled}
 
 abbrev just_v : VrpSet
 just_v = set_of (v ∷ [])
@@ -44,8 +41,14 @@ asking = record new_router { link = Asked AskReset }
 
 abbrev open_side : Router → Conn → List ℕ → List ℕ → Side
 open_side r o up down = record {
-  router = r; conn = Some o; up = up; down = down; home = Some with_v;
-  items = Asks AskReset ∷ Opened ∷ At 0 ∷ []; endings = []; places = [];
+  router = r;
+  conn = Some o;
+  up = up;
+  down = down;
+  home = Some with_v;
+  items = Asks AskReset ∷ Opened ∷ At 0 ∷ [];
+  endings = [];
+  places = [];
 }
 
 connected : after (On 0 Connect) (Done None) (world new_side) ≡ world (open_side (record asking { out = reset_bytes }) (new_conn with_v) [] [])
