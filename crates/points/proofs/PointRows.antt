@@ -1,7 +1,7 @@
 -- Offers as equations: what decides at a point that holds nothing, and at one that holds the manifest of number 1.
-use Rattle.std.proofs.Common.{◌≡◌, ℕ, Bool, true, false, Bor, List, [], ◌∷◌, Option, Some, None, refl, replicate}
+use Rattle.std.proofs.Common.{◌≡◌, ℕ, true, false, Bor, List, [], ◌∷◌, Option, Some, None, refl, replicate}
 use Rattle.der_lite.specs.Moments.{CivilMoment, told, moment_before}
-use Rattle.payloads.specs.Manifest.{ListedFile, ManifestValue}
+use Rattle.payloads.specs.Manifest.{ManifestValue}
 use Rattle.points.specs.declared.file.FileIn.{FileIn}
 use Rattle.points.specs.Files.{is_roa_name}
 use Rattle.points.specs.Accepted.{Accepted}
