@@ -3,7 +3,7 @@ ghost use Rattle.std.specs.Prelude.{◌≡◌, ◌≤◌, ◌⊎◌, codes, IfOk
 ghost use Rattle.std.specs.Io.KnownBytes.{Appends};
 
 use crate::answering::{Answered, Published, answer_queries};
-use crate::directories::read_directories;
+use crate::directories::{Directory, read_directories};
 use crate::listing::{ListFault, read_list, write_list};
 use crate::manifests::print_manifest;
 use crate::offering::{offer_directory, tell_answer};
@@ -14,7 +14,7 @@ use der_lite::Moment;
 use hex::FromHexError;
 use payloads::{PayloadFault, decode_manifest, decode_roa};
 use points::Repository;
-use std::alloc::AllocError;
+use std::alloc::{AllocError, Global};
 use std::io::{BufWriter, ErrorKind, Write};
 use std::net::Net;
 use std::rt::Files;
@@ -178,18 +178,35 @@ fn payloads<R: Files + AllocGlobal + Clone + Drop, O: Write, E: Write>(
     };
     let directories = read_directories(rt, names)?;
     let mut repository = Repository::new(rt.alloc());
-    let mut status = 0u8;
-    for directory in directories.iter() {
-        let answer = offer_directory(rt.alloc(), &mut repository, directory, &now)?;
-        tell_answer(directory.name(), &answer, err)?;
-        if answer.is_err() {
-            status = 1;
-        }
-    }
+    let refused = offer_all(
+        rt.alloc(),
+        &mut repository,
+        directories.as_slice(),
+        &now,
+        err,
+    )?;
     let vrps = repository.payloads(now)?;
     let text = write_list(rt.alloc(), vrps.as_slice())?;
     writeln!(out, "{text}")?;
-    Ok(status)
+    Ok(if refused { 1 } else { 0 })
+}
+
+/// Offers each directory to the point of its name, tells what became of it, and answers whether one
+/// was refused.
+fn offer_all<E: Write>(
+    alloc: Global,
+    repository: &mut Repository,
+    directories: &[Directory<'_>],
+    now: &Moment,
+    err: &mut E,
+) -> Result<bool, ProgramFault> {
+    let mut refused = false;
+    for directory in directories {
+        let answer = offer_directory(alloc, repository, directory, now)?;
+        tell_answer(directory.name(), &answer, err)?;
+        refused = refused || answer.is_err();
+    }
+    Ok(refused)
 }
 
 /// Tells the first fault of a payload, with the status.

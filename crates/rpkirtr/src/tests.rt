@@ -199,7 +199,13 @@ const OF_VERSION: &[u8; 96] =
 #[test]
 fn tells_payloads(rt: HostRuntime) -> Result<(), Fail> {
     for directory in [
-        "one", "one/objects", "one/contents", "two", "two/objects", "two/contents", "bare",
+        "one",
+        "one/objects",
+        "one/contents",
+        "two",
+        "two/objects",
+        "two/contents",
+        "bare",
     ] {
         fs::create_dir(&rt, directory)?;
     }
@@ -213,23 +219,80 @@ fn tells_payloads(rt: HostRuntime) -> Result<(), Fail> {
     let v = "[{\"asn\":64496,\"maxLength\":24,\"prefix\":\"192.0.2.0/24\"}]\n";
     for (words, status, output, errors) in [
         ("payloads --now 20250101000000Z one", 0u8, v, "one new\n"),
-        ("payloads --now 20250102000000Z one one", 0, v, "one new\none same\n"),
-        ("payloads one two --now 20250101120000Z", 1, v, "one new\ntwo refused 9 0\n"),
-        ("payloads --now 20250101120000Z two", 1, "[]\n", "two refused 9 0\n"),
-        ("payloads --now 20250102000001Z one", 1, "[]\n", "one refused 3\n"),
-        ("payloads --now 20241231235959Z one", 1, "[]\n", "one refused 2\n"),
-        ("payloads --now 20251301000000Z gone", 1, "refused word\n", ""),
-        ("payloads --now 20250101000000Z one gone", 3, "", "rpkirtr: device failed\n"),
-        ("payloads --now 20250101000000Z bare", 3, "", "rpkirtr: device failed\n"),
-        ("payloads --now 20250101000000Z", 2, "", "rpkirtr: bad words\n"),
+        (
+            "payloads --now 20250102000000Z one one",
+            0,
+            v,
+            "one new\none same\n",
+        ),
+        (
+            "payloads one two --now 20250101120000Z",
+            1,
+            v,
+            "one new\ntwo refused 9 0\n",
+        ),
+        (
+            "payloads --now 20250101120000Z two",
+            1,
+            "[]\n",
+            "two refused 9 0\n",
+        ),
+        (
+            "payloads --now 20250102000001Z one",
+            1,
+            "[]\n",
+            "one refused 3\n",
+        ),
+        (
+            "payloads --now 20241231235959Z one",
+            1,
+            "[]\n",
+            "one refused 2\n",
+        ),
+        (
+            "payloads --now 20251301000000Z gone",
+            1,
+            "refused word\n",
+            "",
+        ),
+        (
+            "payloads --now 20250101000000Z one gone",
+            3,
+            "",
+            "rpkirtr: device failed\n",
+        ),
+        (
+            "payloads --now 20250101000000Z bare",
+            3,
+            "",
+            "rpkirtr: device failed\n",
+        ),
+        (
+            "payloads --now 20250101000000Z",
+            2,
+            "",
+            "rpkirtr: bad words\n",
+        ),
         ("payloads one", 2, "", "rpkirtr: bad words\n"),
     ] {
         expect(&rt, words, status, output, errors)?;
     }
     fs::remove_file(&rt, "one/contents/a.roa")?;
-    expect(&rt, "payloads --now 20250101000000Z one", 1, "[]\n", "one refused 9 0\n")?;
+    expect(
+        &rt,
+        "payloads --now 20250101000000Z one",
+        1,
+        "[]\n",
+        "one refused 9 0\n",
+    )?;
     fs::remove_file(&rt, "one/objects/a.roa")?;
-    expect(&rt, "payloads --now 20250101000000Z one", 1, "[]\n", "one refused 7 0\n")
+    expect(
+        &rt,
+        "payloads --now 20250101000000Z one",
+        1,
+        "[]\n",
+        "one refused 7 0\n",
+    )
 }
 
 #[test]

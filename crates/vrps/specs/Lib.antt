@@ -7,3 +7,4 @@ pub mod Serial
 pub mod Store
 pub mod VrpSet
 pub mod Walk
+pub mod Stores

@@ -7,6 +7,7 @@ mod origin;
 mod path;
 mod serial;
 mod set;
+mod store;
 #[cfg(test)]
 mod tests;
 
@@ -15,3 +16,4 @@ pub use origin::{OriginIndex, OriginState};
 pub use path::{PathFault, Segment, SegmentKind, origin_of_path};
 pub use serial::Serial;
 pub use set::{SetFault, VrpSet};
+pub use store::{Published, Since, VersionStore};
