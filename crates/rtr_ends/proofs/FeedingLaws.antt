@@ -57,6 +57,16 @@ module _ {M : Type 0} (stops : M → Bool) (step : M → ℕ → M) where
   feed_takes m [] = ([], takes_none m [] (λ some. absurd (omega (arith, some))))
   feed_takes m (b ∷ bytes) = takes_by m b bytes (stops m) refl (feed_takes (step m b) bytes)
 
+  -- What each byte keeps is kept of a machine and what is left.
+  pub feed_keeps : (P : List ℕ → M → Type 0) → ((b : ℕ) (rest : List ℕ) (m : M) → stops m ≡ false → P (b ∷ rest) m → P rest (step m b))
+      → (m : M) (piece : List ℕ) → P piece m → P (feed stops step m piece).rest (feed stops step m piece).machine
+  feed_keeps P keeps m [] h = h
+  feed_keeps P keeps m (b ∷ piece) h = by_test (stops m) refl (λ k. feed_keeps P keeps (step m b) piece k)
+    where
+      by_test : (s : Bool) → stops m ≡ s → (P piece (step m b) → P (feed stops step (step m b) piece).rest (feed stops step (step m b) piece).machine) → P (by_stop m b piece s).rest (by_stop m b piece s).machine
+      by_test true is on = h
+      by_test false is on = on (keeps b piece m is h)
+
   abbrev fed_to : M → List ℕ → Fed M
   fed_to m rest = record { machine = m; rest = rest }
 

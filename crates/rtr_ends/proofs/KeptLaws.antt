@@ -378,7 +378,7 @@ not_true false h = absurd (let e : true ≡ false = h in cc)
 abbrev MTells : Receiving → List Item → Type 0
 MTells m items = Tells m.router (m.items ++ items)
 
-byte_tells : (m : Receiving) (b : ℕ) (items : List Item) → router_stops m.router ≡ false → MTells m items → MTells (router_byte m b) items
+pub byte_tells : (m : Receiving) (b : ℕ) (items : List Item) → router_stops m.router ≡ false → MTells m items → MTells (router_byte m b) items
 unfolding router_byte
 byte_tells m b items goes_on t =
     let parts = and_parts (is_reading m.router.link) (is_none m.router.out) (not_true (is_reading m.router.link && is_none m.router.out) goes_on) in
@@ -436,7 +436,7 @@ expired_tells (Answering a) r items is e t = by_question (is_serial (Some a.ques
         emptied_tells r items e
         (subst (λ x. LinkTells x r.agreed r.session empty items) (sym is) (t.0, t.1, t.2, t.3, t.4, t.5, ap (λ base. acts_once base a.withdrawn a.announced) (same_base a.question r.table q) ∙ t.6))
 
-clocked_tells : (now : ℕ) (r : Router) (items : List Item) → Tells r items → Tells (clocked now r) (At now ∷ items)
+pub clocked_tells : (now : ℕ) (r : Router) (items : List Item) → Tells r items → Tells (clocked now r) (At now ∷ items)
 unfolding clocked
 clocked_tells now r items t = by_clock (is_over r.version (later r.now now)) kept_so
   where

@@ -22,7 +22,10 @@ use Rattle.rtr_world.specs.World.{timing}
 use Rattle.rtr_world.proofs.AnswerLaws.{Plain, plain-append, plain_records, change_leads, whole_leads}
 use Rattle.rtr_world.proofs.Invariant.{Leads, QuestionFits, IsOwn, Replies, nothing_yet, no_data, not_kept, other_session, response}
 use Rattle.rtr_world.proofs.Streams.{all-append, all_bytes}
-use Rattle.rtr_world.proofs.Versions.{Stands, TableAt, Present, kept_at, has_sets, of_present, equal_of, find_session}
+use Rattle.rtr_world.proofs.Versions.{Stands, TableAt, Present, kept_at, has_sets, of_present, equal_of, equal_true, find_session}
+
+not_both : (b : Bool) → b ≡ true → b ≡ false → ⊥
+not_both b h k = let e : true ≡ false = sym h ∙ k in cc
 
 -- units that are no notify, and that can be sent
 pub record IsAnswered (units : List Unit) : Type 0 where
@@ -158,4 +161,4 @@ module _ (all : List Instance) (i : Instance) (p : Present all i) (home : Instan
       by_session : (b : Bool) → (one == i.session) ≡ b
           → Answers all home (AskSerial one serial) table (if b then and_on (serial_answer i.session keep timing serial (versions i)) else and_end (report 0 (sent (SerialQuery one serial)) ∷ [])).units
       by_session true e = serial_answers keep one serial table i.sets (equal_of one i.session e) stands refl
-      by_session false e = record { replies = other_session (sent (SerialQuery one serial)) refl; answered = answered_report 0 (sent (SerialQuery one serial)) (omega arith) (serial_bytes one serial) }
+      by_session false e = record { replies = other_session one serial (sent (SerialQuery one serial)) refl (λ x. not_both (one == i.session) (equal_true one i.session (x ∙ same)) e) refl; answered = answered_report 0 (sent (SerialQuery one serial)) (omega arith) (serial_bytes one serial) }

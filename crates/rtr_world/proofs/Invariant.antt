@@ -61,7 +61,7 @@ nothing_yet question session = record { question = question; session = session; 
 pub data Replies (all : List Instance) (home : Instance) (q : Question) (base : VrpSet) (rest : List Unit) : Type 0 where
   no_data : (copy : List ℕ) → q ≡ AskReset → rest ≡ report 2 copy ∷ [] → Replies all home q base rest
   not_kept : (serial : ℕ) → q ≡ AskSerial home.session serial → rest ≡ CacheReset ∷ [] → Replies all home q base rest
-  other_session : (copy : List ℕ) → rest ≡ report 0 copy ∷ [] → Replies all home q base rest
+  other_session : (session serial : ℕ) (copy : List ℕ) → q ≡ AskSerial session serial → (session ≡ home.session → ⊥) → rest ≡ report 0 copy ∷ [] → Replies all home q base rest
   no_memory : rest ≡ report 1 [] ∷ [] → Replies all home q base rest
   response : (tail : List Unit) → rest ≡ CacheResponse home.session ∷ tail → IsOwn home.session q → OfAnswer all home base (nothing_yet q home.session) tail → Replies all home q base rest
 

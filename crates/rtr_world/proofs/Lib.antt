@@ -1,6 +1,8 @@
 pub mod AnswerLaws
 pub mod CacheMoves
 pub mod CacheSteps
+pub mod EndLaws
+pub mod Endings
 pub mod EventSteps
 pub mod Invariant
 pub mod RouterSteps
@@ -9,6 +11,7 @@ pub mod SideSteps
 pub mod StepLaws
 pub mod Streams
 pub mod TableLaws
+pub mod UnitCases
 pub mod Versions
 pub mod WorldRows
 pub mod WorldSteps

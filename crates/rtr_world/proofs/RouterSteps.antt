@@ -50,13 +50,13 @@ no_difference session one (Some s) version e own mine = same_session s one (own 
 no_difference session one None None e own mine = refl
 no_difference session one None (Some v) e own mine = same_session v.session one (mine ∙ sym e)
 
-first_is : (u v : Unit) (us vs : List Unit) → u ∷ us ≡ v ∷ vs → u ≡ v
+pub first_is : (u v : Unit) (us vs : List Unit) → u ∷ us ≡ v ∷ vs → u ≡ v
 first_is u v us vs e = cc
 
-rest_is : (u v : Unit) (us vs : List Unit) → u ∷ us ≡ v ∷ vs → us ≡ vs
+pub rest_is : (u v : Unit) (us vs : List Unit) → u ∷ us ≡ v ∷ vs → us ≡ vs
 rest_is u v us vs e = cc
 
-no_unit : (u : Unit) (us : List Unit) → u ∷ us ≡ [] → ⊥
+pub no_unit : (u : Unit) (us : List Unit) → u ∷ us ≡ [] → ⊥
 no_unit u us e = cc
 
 -- what is staged belongs to the same question and session
@@ -212,7 +212,7 @@ module _ (all : List Instance) (i : Instance) (home : Option Instance) (conn : O
   fits_mine session (AskSerial one serial) None f own = tt
   fits_mine session (AskSerial one serial) (Some version) f own = sym f.0 ∙ own
 
-  right_response : (session : ℕ) (q : Question) (version : Option Committed) → QuestionFits session q version → IsOwn session q → is_wrong (Some q) version session ≡ false
+  pub right_response : (session : ℕ) (q : Question) (version : Option Committed) → QuestionFits session q version → IsOwn session q → is_wrong (Some q) version session ≡ false
   right_response session AskReset version f own = refl
   right_response session (AskSerial one serial) None f own = refl
   right_response session (AskSerial one serial) (Some version) f own = same_session version.session session (sym f.0 ∙ own)
@@ -286,7 +286,7 @@ module _ (all : List Instance) (i : Instance) (home : Option Instance) (conn : O
   replied r more q u d w f (not_kept serial qe e) =
       let m : Mine d.h.session r.version = fits_mine d.h.session (AskSerial d.h.session serial) r.version (subst (λ x. QuestionFits d.h.session x r.version) qe f) refl in
       subst₂ (λ a b. GoodR (on_unit (Asked a) b r)) (sym qe) (sym (first_is u CacheReset (without_notifies more) [] e)) (reset_good r more serial d w (rest_is u CacheReset (without_notifies more) [] e) m)
-  replied r more q u d w f (other_session copy e) =
+  replied r more q u d w f (other_session session serial copy qe differs e) =
       subst (λ b. GoodR (on_unit (Asked q) b r)) (sym (first_is u (report 0 copy) (without_notifies more) [] e)) (zero_good r q copy d.table d.unmarked)
   replied r more q u d w f (no_memory e) =
       subst (λ b. GoodR (on_unit (Asked q) b r)) (sym (first_is u (report 1 []) (without_notifies more) [] e)) (one_good r q d.table d.unmarked)

@@ -24,3 +24,8 @@ module _ (P : Side → Type 0) where
   pub all_map : (Q : Side → Type 0) (f : Side → Side) (sides : List Side) → ((s : Side) → P s → Q (f s)) → AllByRecursion P sides → AllByRecursion Q (map f sides)
   all_map Q f [] goes h = tt
   all_map Q f (s ∷ sides) goes h = (goes s h.0, all_map Q f sides goes h.1)
+
+-- two facts of each side are one
+pub all_both : (P Q : Side → Type 0) (sides : List Side) → AllByRecursion P sides → AllByRecursion Q sides → AllByRecursion (λ s. P s × Q s) sides
+all_both P Q [] h k = tt
+all_both P Q (s ∷ sides) h k = ((h.0, k.0), all_both P Q sides h.1 k.1)

@@ -41,23 +41,23 @@ live_of (Asked q) all i home r conn up down g live = g
 live_of (Answering a) all i home r conn up down g live = g
 
 -- A unit is a notify, or stands among those that are none.
-data HeadCase (u : Unit) (more : List Unit) : Type 0 where
+pub data HeadCase (u : Unit) (more : List Unit) : Type 0 where
   a_notify : (session serial : ℕ) → u ≡ SerialNotify session serial → HeadCase u more
   another : without_notifies (u ∷ more) ≡ u ∷ without_notifies more → HeadCase u more
 
-head_case : (u : Unit) (more : List Unit) → HeadCase u more
+pub head_case : (u : Unit) (more : List Unit) → HeadCase u more
 head_case (SerialNotify session serial) more = a_notify session serial refl
 head_case u more = another refl
 
-notifies_rest : (session : ℕ) (u : Unit) (units : List Unit) → NotifiesOf session (u ∷ units) → NotifiesOf session units
+pub notifies_rest : (session : ℕ) (u : Unit) (units : List Unit) → NotifiesOf session (u ∷ units) → NotifiesOf session units
 notifies_rest session (SerialNotify one serial) units h = h.1
 notifies_rest session u units h = h
 
-none_is : (out : List ℕ) → is_none out ≡ true → out ≡ []
+pub none_is : (out : List ℕ) → is_none out ≡ true → out ≡ []
 none_is [] h = refl
 none_is (b ∷ out) h = false_true h
 
-not_true : (b : Bool) → not b ≡ false → b ≡ true
+pub not_true : (b : Bool) → not b ≡ false → b ≡ true
 not_true true h = refl
 not_true false h = absurd (let e : true ≡ false = h in cc)
 
@@ -139,7 +139,7 @@ module _ (all : List Instance) (i : Instance) (home : Option Instance) (conn : O
       by_memory true = record { table = table; unmarked = mark; link = tt }
       by_memory false = unit_read down k more u (head_case u more) d live notes (subst (λ x. Shape all h r.link r.agreed r.version r.table f.wanted (without_notifies x)) is f.shape)
 
-  byte_good : (down : List ℕ) (m : Receiving) (b : ℕ) → router_stops m.router ≡ false → GoodRouter all i home conn up (b ∷ down) m.router → GoodRouter all i home conn up down (router_byte m b).router
+  pub byte_good : (down : List ℕ) (m : Receiving) (b : ℕ) → router_stops m.router ≡ false → GoodRouter all i home conn up (b ∷ down) m.router → GoodRouter all i home conn up down (router_byte m b).router
   unfolding router_byte
   byte_good down m b goes_on g =
       let parts = and_parts (is_reading m.router.link) (is_none m.router.out) (not_true (is_reading m.router.link && is_none m.router.out) goes_on) in

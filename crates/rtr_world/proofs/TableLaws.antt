@@ -7,7 +7,7 @@ use Rattle.rtr_ends.specs.Cache.{Conn}
 use Rattle.rtr_ends.specs.Router.{Link, Closed, Idle, Asked, Answering, Ended, Call, Connects, Receives, Pulls, Closes, AsksNow, Ticks, called, is_closed, closed_at, IsKept}
 use Rattle.rtr_ends.specs.Transcript.{Item, Refused}
 use Rattle.rtr_ends.proofs.KeptLaws.{Tells, called_tells, is_kept, new_tells, refused_closed, refused_closes}
-use Rattle.rtr_world.specs.World.{Side, World, instances, SideEvent, RouterRestart, Connect, RouterSends, CacheGets, CacheSends, RouterGets, Cut, NotifyRouter, Ask, Tick, Event, Publish, Restart, On, noted, connects, router_restarts, router_sends, sends_from, cache_sends, gets_at, cache_gets, router_gets, cut, notifies_at, side_step, side_part, side_refused, tell_closed, close_ended, settle_conn, settle_link, settle_rest, settle_wire, settle, cache_gone, goes_through, settled, is_refused, on_side, new_world}
+use Rattle.rtr_world.specs.World.{Side, World, instances, SideEvent, RouterRestart, Connect, RouterSends, CacheGets, CacheSends, RouterGets, Cut, NotifyRouter, Ask, Tick, Event, Publish, Restart, On, noted, connects, router_restarts, router_sends, sends_from, cache_sends, gets_at, cache_gets, router_gets, cut, notifies_at, side_step, side_part, side_refused, tell_closed, close_ended, settle_conn, settle_link, settle_rest, settle_wire, settle, cache_gone, goes_through, settled, is_refused, on_side, new_side, new_world}
 use Rattle.rtr_world.specs.History.{Outcome, Done, SessionUsed, TooManyVersions, NoSuchRouter, Memory, after, Entry, LeadsFrom}
 use Rattle.rtr_world.specs.Claims.{Tables}
 use Rattle.rtr_world.proofs.SideLaws.{all_new, all_on_side, all_map}
@@ -202,7 +202,7 @@ unfolding side_refused cut
 refused_loose w event bytes wanting s h = loose refl refl (record { before = (side_part w event bytes wanting s).items; items_are = refl; tells = (part_tells w event bytes wanting s h).tells })
 
 -- every event
-abbrev AllTell : World → Type 0
+abbrev pub AllTell : World → Type 0
 AllTell w = AllByRecursion SideTells w.sides
 
 settled_tells : (w : World) → AllTell w → AllTell (settled w)
@@ -223,7 +223,7 @@ refused_tells (On r event) bytes wanting w h =
     let part = all_on_side SideTells Either r (side_refused w event bytes wanting) w.sides (λ s t. whole t) (refused_loose w event bytes wanting) h in
     all_map Either SideTells (settle (instances w)) (on_side r (side_refused w event bytes wanting) w.sides) (either_settles (instances w)) part
 
-after_tells : (event : Event) (outcome : Outcome) (w : World) → AllTell w → AllTell (after event outcome w)
+pub after_tells : (event : Event) (outcome : Outcome) (w : World) → AllTell w → AllTell (after event outcome w)
 after_tells event (Done wanting) w h = settled_tells (goes_through event wanting w) (through_tells event wanting w h)
 after_tells event (Memory bytes wanting) w h = refused_tells event bytes wanting w h
 after_tells event SessionUsed w h = h
@@ -235,10 +235,13 @@ history_tells old [] w leads h = subst AllTell (sym leads) h
 history_tells old (entry ∷ history) w leads h =
     history_tells leads.0 history w leads.2 (subst AllTell (sym leads.1.2) (after_tells entry.event entry.outcome old h))
 
+pub new_side_tells : SideTells new_side
+new_side_tells = record { tells = new_tells }
+
 -- Each router holds what its transcript keeps.
 pub tables : Tables
 tables made history w leads =
-    kept w.sides (history_tells (new_world made.routers made.session made.start made.keep) history w leads.1 (all_new SideTells (record { tells = new_tells }) made.routers))
+    kept w.sides (history_tells (new_world made.routers made.session made.start made.keep) history w leads.1 (all_new SideTells new_side_tells made.routers))
   where
     kept : (sides : List Side) → AllByRecursion SideTells sides → AllByRecursion (λ s. IsKept s.router s.items) sides
     kept [] h = tt

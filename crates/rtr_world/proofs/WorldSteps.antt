@@ -39,7 +39,7 @@ StaysAnswer all all' h = (base : VrpSet) (a : Begun) (rest : List Unit) → OfAn
 replies_map : (all all' : List Instance) (h : Instance) (q : Question) (base : VrpSet) (rest : List Unit) → StaysAnswer all all' h → Replies all h q base rest → Replies all' h q base rest
 replies_map all all' h q base rest stays (no_data copy a b) = no_data copy a b
 replies_map all all' h q base rest stays (not_kept serial a b) = not_kept serial a b
-replies_map all all' h q base rest stays (other_session copy a) = other_session copy a
+replies_map all all' h q base rest stays (other_session session serial copy a differs b) = other_session session serial copy a differs b
 replies_map all all' h q base rest stays (no_memory a) = no_memory a
 replies_map all all' h q base rest stays (response tail a b c) = response tail a b (stays base _ tail c)
 
@@ -217,7 +217,7 @@ refused_so (On r event) bytes wanting w g =
     settled_good (record w { sides = on_side r (side_refused w event bytes wanting) w.sides })
     (record { present = g.present; sides = all_on_side (Good (instances w) w.present) (Good (instances w) w.present) r (side_refused w event bytes wanting) w.sides (λ s h. h) (refused_good w g.present event bytes wanting) g.sides })
 
-after_good : (event : Event) (outcome : Outcome) (w : World) → IsEvent event → MayEnd (refusal w event) w event outcome → GoodWorld w → GoodWorld (after event outcome w)
+pub after_good : (event : Event) (outcome : Outcome) (w : World) → IsEvent event → MayEnd (refusal w event) w event outcome → GoodWorld w → GoodWorld (after event outcome w)
 after_good event (Done wanting) w fits may g = settled_good (goes_through event wanting w) (through_good event wanting w fits may g)
 after_good event (Memory bytes wanting) w fits may g = refused_so event bytes wanting w g
 after_good event SessionUsed w fits may g = g

@@ -1,5 +1,5 @@
 //! Laws of the definitions. These functions do nothing: their contracts are the laws.
-ghost use Rattle.rtr_world.specs.Claims.{EachLeads, Headline, OneWorld, Tables};
+ghost use Rattle.rtr_world.specs.Claims.{EachLeads, Headline, LawfulEnds, OneWorld, Tables};
 
 /// A history of events with their outcomes leads to one world, and every list of events has outcomes with which it leads to one.
 pub fn steps()
@@ -18,4 +18,10 @@ pub fn tables()
 /// exactly once.
 pub fn headline()
     ensures { Headline }
+{}
+
+/// A link ends by want of memory at the router, by the expiry of its version, by an Error Report of code 1 (want of memory at the
+/// cache), or by one of code 0 to a Serial Query of another session than the cache's, and by nothing else.
+pub fn lawful_ends()
+    ensures { LawfulEnds }
 {}

@@ -1,0 +1,138 @@
+-- What a unit that comes to the router does to its link.
+use Rattle.std.specs.Prelude.{◌≡◌, ℕ, ◌+◌, ◌≤◌, ◌<◌, Bool, true, false, ◌&&◌, List, [], ◌∷◌, ◌++◌, length, Some, if◌then◌else◌, refl}
+use Rattle.std.proofs.Common.{sym, ap, ◌∙◌, subst, subst₂, inl, inr}
+use Rattle.vrps.specs.Instance.{Instance}
+use Rattle.vrps.specs.VrpSet.{VrpSet}
+use Rattle.rtr_pdu.specs.declared.unit.Unit.{Unit}
+use Rattle.rtr_pdu.specs.declared.unit.Unit.TheVariants.{SerialNotify, CacheResponse, Prefix, EndOfData, CacheReset}
+use Rattle.rtr_ends.specs.declared.link.End.TheVariants as ends
+use Rattle.rtr_ends.specs.Answer.{report}
+use Rattle.rtr_ends.specs.Router.{Router, Link, Closed, Idle, Asked, Answering, Ended, Staged, Stays, Wrong, Over, ask, fails, is_strange, is_news, stage, staged, commit, on_unit, is_reading}
+use Rattle.rtr_ends.specs.Transcript.{Begun, Committed, Question, AskReset, AskSerial, base_of, led_to, session_of, differs, is_wrong, bounded}
+use Rattle.rtr_world.specs.OneAnswer.{NotifiesOf, without_notifies}
+use Rattle.rtr_world.specs.World.{is_ended}
+use Rattle.rtr_world.proofs.Invariant.{after_stage, Leads, Mine, OwnSession, QuestionFits, IsOwn, OfAnswer, Replies, no_data, not_kept, other_session, no_memory, response, Shape, nothing_yet}
+use Rattle.rtr_world.proofs.RouterSteps.{no_difference, first_is, no_unit}
+use Rattle.rtr_world.proofs.SideSteps.{HeadCase, a_notify, another, head_case}
+use Rattle.rtr_world.proofs.Versions.{Stands, equal_true, find_session}
+
+false_true : {P : Type 0} → false ≡ true → P
+false_true h = absurd (let e : false ≡ true = h in cc)
+
+abbrev pub is_end : Unit → Bool
+is_end (EndOfData session serial refresh retry expire) = true
+is_end u = false
+
+-- The link goes on; or it is told that another session is asked for, or that memory is wanting; or a version is committed that
+-- stands no earlier than the one that was current when the connection was made.
+pub data Brings (all : List Instance) (h : Instance) (r : Router) (l : Link) (u : Unit) (k : Router) : Type 0 where
+  goes_on : is_ended k.link ≡ false → is_end u ≡ false → Brings all h r l u k
+  ends_other : (session serial : ℕ) → l ≡ Asked (AskSerial session serial) → (session ≡ h.session → ⊥) → k.link ≡ Ended (ends.Told 0) → is_end u ≡ false → Brings all h r l u k
+  ends_memory : k.link ≡ Ended (ends.Told 1) → is_end u ≡ false → Brings all h r l u k
+  commits : (version : Committed) (table : VrpSet) → k.link ≡ Idle → k.version ≡ Some version → version.session ≡ h.session
+      → (stands : Stands all version.session version.serial table) → length h.sets ≤ length stands.older + 1 → Brings all h r l u k
+
+module _ (all : List Instance) (h : Instance) (r : Router) where
+  quiet : (one : ℕ) → OwnSession h.session r.session → (r.agreed ≡ true → Mine h.session r.version) → one ≡ h.session → is_strange r one ≡ false
+  quiet one own mine e = by_agreed r.agreed refl
+    where
+      by_agreed : (b : Bool) → r.agreed ≡ b → (b && differs (session_of r.session r.version) one) ≡ false
+      by_agreed false a = refl
+      by_agreed true a = no_difference h.session one r.session r.version e own (mine a)
+
+  -- a notify
+  notified : (l : Link) (one serial : ℕ) → r.link ≡ l → is_reading l ≡ true → is_strange r one ≡ false → Brings all h r l (SerialNotify one serial) (on_unit l (SerialNotify one serial) r)
+  unfolding on_unit
+  notified Closed one serial is live q = false_true live
+  notified (Ended end) one serial is live q = false_true live
+  notified Idle one serial is live q =
+      subst (λ b. Brings all h r Idle (SerialNotify one serial) (if b then fails (SerialNotify one serial) r else if is_news r.version serial then ask r else r)) (sym q) (by_news (is_news r.version serial))
+    where
+      by_news : (b : Bool) → Brings all h r Idle (SerialNotify one serial) (if b then ask r else r)
+      by_news true = goes_on refl refl
+      by_news false = goes_on (ap is_ended is) refl
+  notified (Asked q) one serial is live quiet =
+      subst (λ b. Brings all h r (Asked q) (SerialNotify one serial) (if b then fails (SerialNotify one serial) r else r)) (sym quiet) (goes_on (ap is_ended is) refl)
+  notified (Answering a) one serial is live quiet =
+      subst (λ b. Brings all h r (Answering a) (SerialNotify one serial) (if b then fails (SerialNotify one serial) r else r)) (sym quiet) (goes_on (ap is_ended is) refl)
+
+  -- a reply
+  no_data_brings : (copy : List ℕ) → Brings all h r (Asked AskReset) (report 2 copy) (on_unit (Asked AskReset) (report 2 copy) r)
+  unfolding on_unit
+  no_data_brings copy = goes_on refl refl
+
+  reset_brings : (session serial : ℕ) → Brings all h r (Asked (AskSerial session serial)) CacheReset (on_unit (Asked (AskSerial session serial)) CacheReset r)
+  unfolding on_unit
+  reset_brings session serial = goes_on refl refl
+
+  other_brings : (session serial : ℕ) (copy : List ℕ) → (session ≡ h.session → ⊥) → Brings all h r (Asked (AskSerial session serial)) (report 0 copy) (on_unit (Asked (AskSerial session serial)) (report 0 copy) r)
+  unfolding on_unit
+  other_brings session serial copy other = ends_other session serial refl other refl refl
+
+  memory_brings : (q : Question) → Brings all h r (Asked q) (report 1 []) (on_unit (Asked q) (report 1 []) r)
+  unfolding on_unit
+  memory_brings q = ends_memory refl refl
+
+  response_brings : (q : Question) → is_wrong (Some q) r.version h.session ≡ false → Brings all h r (Asked q) (CacheResponse h.session) (on_unit (Asked q) (CacheResponse h.session) r)
+  unfolding on_unit
+  response_brings q right =
+      subst (λ b. Brings all h r (Asked q) (CacheResponse h.session) (if b then fails (CacheResponse h.session) r else record r { agreed = true; session = Some h.session; link = Answering (nothing_yet q h.session) })) (sym right)
+      (goes_on refl refl)
+
+  replied : (q : Question) (u : Unit) (rest : List Unit) (base : VrpSet) → ((IsOwn h.session q) → is_wrong (Some q) r.version h.session ≡ false) → Replies all h q base (u ∷ rest) → Brings all h r (Asked q) u (on_unit (Asked q) u r)
+  replied q u rest base right (no_data copy qe e) = subst₂ (λ a b. Brings all h r (Asked a) b (on_unit (Asked a) b r)) (sym qe) (sym (first_is u (report 2 copy) rest [] e)) (no_data_brings copy)
+  replied q u rest base right (not_kept serial qe e) = subst₂ (λ a b. Brings all h r (Asked a) b (on_unit (Asked a) b r)) (sym qe) (sym (first_is u CacheReset rest [] e)) (reset_brings h.session serial)
+  replied q u rest base right (other_session session serial copy qe other e) =
+      subst₂ (λ a b. Brings all h r (Asked a) b (on_unit (Asked a) b r)) (sym qe) (sym (first_is u (report 0 copy) rest [] e)) (other_brings session serial copy other)
+  replied q u rest base right (no_memory e) = subst (λ b. Brings all h r (Asked q) b (on_unit (Asked q) b r)) (sym (first_is u (report 1 []) rest [] e)) (memory_brings q)
+  replied q u rest base right (response tail e own a) = subst (λ b. Brings all h r (Asked q) b (on_unit (Asked q) b r)) (sym (first_is u (CacheResponse h.session) rest tail e)) (response_brings q (right own))
+
+  -- a record or the end of an answer
+  record_brings : (a : Begun) (u : Unit) (st : Staged) (Goes : Begun → Type 0) → is_end u ≡ false → after_stage st Goes → Brings all h r (Answering a) u (staged u st r)
+  record_brings a u (Stays b) Goes none on = goes_on refl none
+  record_brings a u (Wrong code) Goes none on = absurd on
+  record_brings a u Over Goes none on = absurd on
+
+  ended_brings : (a : Begun) (one number refresh retry expire : ℕ) → one ≡ a.session → one ≡ h.session → (stands : Stands all one number (led_to (base_of a.question r.table) a.withdrawn a.announced))
+      → length h.sets ≤ length stands.older + 1 → Brings all h r (Answering a) (EndOfData one number refresh retry expire) (on_unit (Answering a) (EndOfData one number refresh retry expire) r)
+  unfolding on_unit
+  ended_brings a one number refresh retry expire same own stands since =
+      let version : Committed = record { session = one; serial = number; moment = r.now; intervals = bounded refresh retry expire } in
+      subst (λ b. Brings all h r (Answering a) (EndOfData one number refresh retry expire) (if b then commit a (record { session = one; serial = number; moment = r.now; intervals = bounded refresh retry expire }) r else fails (EndOfData one number refresh retry expire) r))
+      (sym (equal_true one a.session same))
+      (commits (record { session = one; serial = number; moment = r.now; intervals = bounded refresh retry expire }) (led_to (base_of a.question r.table) a.withdrawn a.announced) refl refl own stands since)
+
+  answered : (a : Begun) (u : Unit) (rest : List Unit) → a.session ≡ h.session → OfAnswer all h (base_of a.question r.table) a (u ∷ rest) → Brings all h r (Answering a) u (on_unit (Answering a) u r)
+  unfolding on_unit
+  answered a (Prefix announce v) rest se o =
+      record_brings a (Prefix announce v) (stage (base_of a.question r.table) a announce v) (λ b. Leads (base_of a.question r.table) b rest h.session o.serial o.set) refl o.leads
+  answered a (EndOfData one number refresh retry expire) rest se o =
+      let leads = o.leads in
+      let s = o.stands in
+      ended_brings a one number refresh retry expire (leads.1 ∙ sym se) leads.1
+      (record { i = s.i; found = ap (λ x. find_session x all) leads.1 ∙ s.found; newer = s.newer; older = s.older; sets = s.sets ∙ ap (λ x. s.newer ++ x ∷ s.older) (sym leads.3); serial_is = leads.2 ∙ s.serial_is; young = s.young; low = subst (λ x. x < 65536) (sym leads.1) s.low })
+      o.since
+  answered a u rest se o = absurd o.leads
+
+  -- every unit
+  pub unit_brings : (l : Link) (u : Unit) (more wanted : List Unit) → r.link ≡ l → is_reading l ≡ true → OwnSession h.session r.session → (r.agreed ≡ true → Mine h.session r.version)
+      → ((q : Question) → QuestionFits h.session q r.version → IsOwn h.session q → is_wrong (Some q) r.version h.session ≡ false) → NotifiesOf h.session (u ∷ more)
+      → Shape all h l r.agreed r.version r.table wanted (without_notifies (u ∷ more)) → Brings all h r l u (on_unit l u r)
+  unit_brings l u more wanted is live own mine right notes shape = by_head (head_case u more)
+    where
+      others : (l : Link) → is_reading l ≡ true → Shape all h l r.agreed r.version r.table wanted (u ∷ without_notifies more) → Brings all h r l u (on_unit l u r)
+      others Closed live s = false_true live
+      others (Ended end) live s = false_true live
+      others Idle live s = absurd (no_unit u (without_notifies more) s.1)
+      others (Asked q) live s =
+          elim (s.1) [
+            | inl w ↦ absurd (no_unit u (without_notifies more) w.1)
+            | inr w ↦ replied q u (without_notifies more) (base_of q r.table) (right q s.0) w.1
+          ]
+      others (Answering a) live s = answered a u (without_notifies more) s.2 s.4
+
+      by_head : HeadCase u more → Brings all h r l u (on_unit l u r)
+      by_head (a_notify session serial e) =
+          let n : (session ≡ h.session) × NotifiesOf h.session more = subst (λ x. NotifiesOf h.session (x ∷ more)) e notes in
+          subst (λ x. Brings all h r l x (on_unit l x r)) (sym e) (notified l session serial is live (quiet session own mine n.0))
+      by_head (another e) = others l live (subst (λ x. Shape all h l r.agreed r.version r.table wanted x) e shape)
