@@ -10,10 +10,9 @@ that comes twice among many, are judged within seconds.
 import datetime
 import random
 import re
-import subprocess
 import sys
-import tempfile
 
+from der import Judge, element
 from pyasn1.codec.der import decoder, encoder
 from pyasn1.type import char, namedtype, tag, univ, useful
 
@@ -43,14 +42,6 @@ class Manifest(univ.Sequence):
         namedtype.NamedType("fileHashAlg", univ.ObjectIdentifier()),
         namedtype.NamedType("fileList", FileList()),
     )
-
-
-def element(number, content):
-    length = len(content)
-    if length < 128:
-        return bytes([number, length]) + content
-    octets = length.to_bytes((length.bit_length() + 7) // 8, "big")
-    return bytes([number, 128 + len(octets)]) + octets + content
 
 
 def listed(name, digest):
@@ -115,25 +106,6 @@ def lines_of(payload):
     return "".join(line + "\n" for line in lines)
 
 
-class Judge:
-    def __init__(self, program, file):
-        self.program, self.file = program, file
-
-    def told(self, payload):
-        """The status and the output of the program."""
-        self.file.seek(0)
-        self.file.truncate()
-        self.file.write(payload)
-        self.file.flush()
-        done = subprocess.run([self.program, "manifest", self.file.name], capture_output=True, text=True, timeout=60)
-        return done.returncode, done.stdout
-
-    def expect(self, payload, status, output, what):
-        found = self.told(payload)
-        if found != (status, output):
-            sys.exit(f"{what}: {found[0]} {found[1][:400]!r}, expected {status} {output[:400]!r}")
-
-
 def judge_long_lists(judge):
     times = ("20250101000000Z", "20250102000000Z")
     files = [listed(f"{index:05}.roa".encode(), index.to_bytes(32, "big")) for index in range(65537)]
@@ -147,32 +119,6 @@ def judge_long_lists(judge):
     judge.expect(twice, 1, f"refused 18 at {len(twice) - length + 2}\n", "a name twice")
 
 
-def main():
-    rng = random.Random(9286)
-    accepted = runs = 0
-    with tempfile.NamedTemporaryFile() as file:
-        judge = Judge(sys.argv[1], file)
-        for _ in range(160):
-            whole = random_payload(rng)
-            payloads = [whole]
-            for _ in range(16):
-                changed = bytearray(whole)
-                changed[rng.randrange(min(len(whole), rng.choice([80, len(whole)])))] = rng.randrange(256)
-                payloads.append(bytes(changed))
-            for number, payload in enumerate(payloads):
-                expected = lines_of(payload)
-                runs += 1
-                if number == 0 and expected is None:
-                    sys.exit(f"the payload that was made is refused by pyasn1: {payload.hex()}")
-                if expected is not None:
-                    accepted += 1
-                    judge.expect(payload, 0, expected, payload.hex())
-                else:
-                    status, output = judge.told(payload)
-                    if status != 1 or not output.startswith("refused "):
-                        sys.exit(f"{payload.hex()}: {status} {output!r}, expected a refusal")
-        judge_long_lists(judge)
-    print(f"{runs} payloads, {accepted} of them accepted")
-
-
-main()
+judge = Judge(sys.argv[1], "manifest")
+judge.compare(random.Random(9286), random_payload, lines_of)
+judge_long_lists(judge)

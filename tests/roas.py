@@ -8,10 +8,9 @@ and then the lines are to be those of the value.
 
 import ipaddress
 import random
-import subprocess
 import sys
-import tempfile
 
+from der import Judge, element
 from pyasn1.codec.der import decoder, encoder
 from pyasn1.type import namedtype, tag, univ
 
@@ -50,14 +49,6 @@ class Attestation(univ.Sequence):
 
 
 WIDTHS = {b"\x00\x01": 32, b"\x00\x02": 128}
-
-
-def element(number, content):
-    length = len(content)
-    if length < 128:
-        return bytes([number, length]) + content
-    octets = length.to_bytes((length.bit_length() + 7) // 8, "big")
-    return bytes([number, 128 + len(octets)]) + octets + content
 
 
 def integer(value):
@@ -135,35 +126,4 @@ def lines_of(payload):
     return "".join(line + "\n" for line in lines) + f"notes {notes}\n"
 
 
-def main():
-    program = sys.argv[1]
-    rng = random.Random(9582)
-    accepted = runs = 0
-    with tempfile.NamedTemporaryFile() as file:
-        for _ in range(160):
-            whole = random_payload(rng)
-            payloads = [whole]
-            for _ in range(16):
-                changed = bytearray(whole)
-                changed[rng.randrange(len(whole))] = rng.randrange(256)
-                payloads.append(bytes(changed))
-            for number, payload in enumerate(payloads):
-                file.seek(0)
-                file.truncate()
-                file.write(payload)
-                file.flush()
-                done = subprocess.run([program, "roa", file.name], capture_output=True, text=True)
-                expected = lines_of(payload)
-                runs += 1
-                if number == 0 and expected is None:
-                    sys.exit(f"the payload that was made is refused by pyasn1: {payload.hex()}")
-                if expected is not None:
-                    accepted += 1
-                    if (done.returncode, done.stdout) != (0, expected):
-                        sys.exit(f"{payload.hex()}: {done.stdout!r}, expected {expected!r}")
-                elif done.returncode != 1 or not done.stdout.startswith("refused "):
-                    sys.exit(f"{payload.hex()}: {done.stdout!r}, expected a refusal")
-    print(f"{runs} payloads, {accepted} of them accepted")
-
-
-main()
+Judge(sys.argv[1], "roa").compare(random.Random(9582), random_payload, lines_of)
