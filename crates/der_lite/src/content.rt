@@ -92,6 +92,7 @@ mod tests {
         assert!(rt; bits != fewer);
         assert!(rt; bits != others);
     }
+
     #[test]
     fn tells_the_fewest_bytes(rt: HostRuntime) {
         assert!(rt; is_integer(b"\x00"));
