@@ -330,7 +330,7 @@ answering_unit r a ResetQuery items is h l = ends_0 r ResetQuery items l.0 h.now
 answering_unit r a CacheReset items is h l = ends_0 r CacheReset items l.0 h.now_is h.kept_is h.due_is
 
 -- every unit
-live_unit : (r : Router) (l : Link) (u : Unit) (items : List Item) → is_reading l ≡ true → r.link ≡ l → Before r items → LinkTells l r.agreed r.session r.table items → After (on_unit l u r) u items
+pub live_unit : (r : Router) (l : Link) (u : Unit) (items : List Item) → is_reading l ≡ true → r.link ≡ l → Before r items → LinkTells l r.agreed r.session r.table items → After (on_unit l u r) u items
 live_unit r Closed u items live is h t = absurd (let e : false ≡ true = live in cc)
 live_unit r (Ended end) u items live is h t = absurd (let e : false ≡ true = live in cc)
 live_unit r Idle u items live is h t = idle_unit r u items is h t

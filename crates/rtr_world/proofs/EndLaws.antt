@@ -16,10 +16,10 @@ AllLawful w = AllByRecursion SideLawful w.sides
 
 -- what is known of a side at an event
 abbrev Known : World → Side → Type 0
-Known w s = (Good (instances w) w.present s × SideTells s) × SideLawful s
+Known w s = (Good w.past w.present s × SideTells s) × SideLawful s
 
 known : (w : World) → GoodWorld w → AllTell w → AllLawful w → AllByRecursion (Known w) w.sides
-known w g t h = all_both (λ s. Good (instances w) w.present s × SideTells s) SideLawful w.sides (all_both (Good (instances w) w.present) SideTells w.sides g.sides t) h
+known w g t h = all_both (λ s. Good w.past w.present s × SideTells s) SideLawful w.sides (all_both (Good w.past w.present) SideTells w.sides g.sides t) h
 
 through_lawful : (event : Event) (wanting : Option ℕ) (w : World) → GoodWorld w → AllTell w → AllLawful w → AllLawful (goes_through event wanting w)
 unfolding goes_through
@@ -50,7 +50,7 @@ after_lawful event NoSuchRouter w g t h = h
 history_lawful : (old : World) (history : List Entry) (w : World) → LeadsFrom old history w → GoodWorld old → AllTell old → AllLawful old → AllLawful w
 history_lawful old [] w leads g t h = subst AllLawful (sym leads) h
 history_lawful old (entry ∷ history) w leads g t h =
-    history_lawful leads.0 history w leads.2 (subst GoodWorld (sym leads.1.2) (after_good entry.event entry.outcome old leads.1.0 leads.1.1 g))
+    history_lawful leads.0 history w leads.2 (subst GoodWorld (sym leads.1.2) (after_good entry.event entry.outcome old leads.1.0 leads.1.1 g t))
     (subst AllTell (sym leads.1.2) (after_tells entry.event entry.outcome old t)) (subst AllLawful (sym leads.1.2) (after_lawful entry.event entry.outcome old g t h))
 
 pub lawful_ends : LawfulEnds

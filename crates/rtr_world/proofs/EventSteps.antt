@@ -6,15 +6,20 @@ use Rattle.vrps.specs.Instance.{Instance}
 use Rattle.rtr_pdu.specs.declared.unit.Unit.{Unit}
 use Rattle.rtr_ends.specs.Answer.{sent}
 use Rattle.rtr_ends.specs.Cache.{Conn, conn_pulled, conn_takes, pulled_count}
-use Rattle.rtr_ends.specs.Router.{Router, Link, Closed, Idle, Asked, Answering, Ended, choose, is_closed, close, clocked, is_due, is_idle, connects_at, closed_at, ticks_at, asks, receives, router_pulled}
-use Rattle.rtr_ends.specs.Transcript.{At, Question, query}
+use Rattle.rtr_ends.specs.Router.{Router, Link, Closed, Idle, Asked, Answering, Ended, choose, is_closed, close, clocked, is_due, is_idle, asks_if, connects_at, closed_at, ticks_at, asks, receives, router_pulled}
+use Rattle.rtr_ends.specs.Transcript.{At, Item, Question, query}
+use Rattle.rtr_ends.proofs.KeptLaws.{clocked_tells}
+use Rattle.rtr_world.specs.Place.{Place}
 use Rattle.rtr_world.specs.History.{conn_due}
-use Rattle.rtr_world.specs.World.{Side, World, instances, timing, SideEvent, RouterRestart, Connect, RouterSends, CacheGets, CacheSends, RouterGets, Cut, NotifyRouter, Ask, Tick, noted, connects, router_restarts, router_sends, sends_from, cache_sends, gets_at, cache_gets, router_gets, cut, notifies_at, side_step, side_part, side_refused, tell_closed, close_ended, settle_conn, settle_link, settle_rest, settle_wire, settle}
+use Rattle.rtr_world.specs.World.{Side, World, instances, timing, SideEvent, RouterRestart, Connect, RouterSends, CacheGets, CacheSends, RouterGets, Cut, NotifyRouter, Ask, Tick, noted, places_of, connects, router_restarts, router_sends, sends_from, cache_sends, gets_at, cache_gets, router_gets, cut, notifies_at, side_step, side_part, side_refused, tell_closed, close_ended, settle_conn, settle_link, settle_rest, settle_wire, settle}
 use Rattle.rtr_world.proofs.CacheMoves as cache
-use Rattle.rtr_world.proofs.Invariant.{OwnSession, IfOpen, Open, GoodLink, GoodRouter, Good}
+use Rattle.rtr_world.proofs.Commits.{goes_fed}
+use Rattle.rtr_world.proofs.Invariant.{OwnSession, IfOpen, Open, GoodLink, GoodRouter, Good, IsSeen}
+use Rattle.rtr_world.proofs.Places.{Ordered, ordered_connects, ordered_none}
 use Rattle.rtr_world.proofs.RouterSteps.{first_fits, query_unit}
-use Rattle.rtr_world.proofs.SideSteps.{live_map, fed_good, clocked_good, close_shut, asks_good}
+use Rattle.rtr_world.proofs.SideSteps.{live_map, clocked_good, close_shut, asks_good}
 use Rattle.rtr_world.proofs.Streams.{Stream}
+use Rattle.rtr_world.proofs.TableLaws.{SideTells}
 use Rattle.rtr_world.proofs.Versions.{Present}
 
 not_due : (l : Link) (when : Option ℕ) (now : ℕ) → is_idle l ≡ false → is_due l when now ≡ false
@@ -34,15 +39,18 @@ open_sent i h most out up wanted lost (Some o) op = record { upward = sent_first
 
 module _ (w : World) (p : Present (instances w) w.present) where
   abbrev GoodS : Side → Type 0
-  GoodS s = Good (instances w) w.present s
+  GoodS s = Good w.past w.present s
 
   router_sends_good : (most : ℕ) (s : Side) → GoodS s → GoodS (router_sends most s)
   unfolding router_sends router_pulled
   router_sends_good most s g = record {
+    seen = g.seen;
+    is_seen = g.is_seen;
+    order = g.order;
     router = record {
       table = g.router.table;
       unmarked = g.router.unmarked;
-      link = live_map s.router.link (instances w) (instances w) w.present w.present s.home s.home s.router (router_pulled most s.router) s.conn s.conn s.up (s.up ++ take most s.router.out) s.down s.down (λ e. e) refl refl g.router.link (λ l. (
+      link = live_map s.router.link (instances w) (instances w) w.present w.present g.seen g.seen s.router (router_pulled most s.router) s.conn s.conn s.up (s.up ++ take most s.router.out) s.down s.down (λ e. e) refl refl g.router.link (λ l. (
         l.0,
         l.1,
         record {
@@ -65,10 +73,13 @@ module _ (w : World) (p : Present (instances w) w.present) where
   unfolding conn_pulled
   sends_good most s None e g = g
   sends_good most s (Some o) e g = record {
+    seen = g.seen;
+    is_seen = g.is_seen;
+    order = g.order;
     router = record {
       table = g.router.table;
       unmarked = g.router.unmarked;
-      link = live_map s.router.link (instances w) (instances w) w.present w.present s.home s.home s.router s.router s.conn (Some (conn_pulled w.keep timing most o)) s.up s.up s.down (s.down ++ take most o.state.due) (λ x. x) refl refl g.router.link (λ l.
+      link = live_map s.router.link (instances w) (instances w) w.present w.present g.seen g.seen s.router s.router s.conn (Some (conn_pulled w.keep timing most o)) s.up s.up s.down (s.down ++ take most o.state.due) (λ x. x) refl refl g.router.link (λ l.
           let f = l.2 in
           let op : Open w.present l.0 s.router.out s.up f.wanted f.lost o = subst (λ x. IfOpen x (Open w.present l.0 s.router.out s.up f.wanted f.lost)) e f.open_at in
           let due : List ℕ = o.state.due in
@@ -103,29 +114,33 @@ module _ (w : World) (p : Present (instances w) w.present) where
   unfolding conn_takes
   gets_good most wanting s None e g = g
   gets_good most wanting s (Some o) e g =
-      let start : GoodRouter (instances w) w.present s.home (Some o) (take most s.up ++ drop most s.up) s.down s.router =
-      subst (λ u. GoodRouter (instances w) w.present s.home (Some o) u s.down s.router) (sym (take-append-drop most s.up)) (subst (λ x. GoodRouter (instances w) w.present s.home x s.up s.down s.router) e g.router) in
-      record { router = cache.fed_good (instances w) w.present p w.keep s.home s.router s.down (drop most s.up) (record { conn = o; moments = []; wanting = wanting }) (take most s.up) start }
+      let start : GoodRouter (instances w) w.present g.seen (Some o) (take most s.up ++ drop most s.up) s.down s.router =
+      subst (λ u. GoodRouter (instances w) w.present g.seen (Some o) u s.down s.router) (sym (take-append-drop most s.up)) (subst (λ x. GoodRouter (instances w) w.present g.seen x s.up s.down s.router) e g.router) in
+      record { seen = g.seen; is_seen = g.is_seen; order = g.order; router = cache.fed_good (instances w) w.present p w.keep g.seen s.router s.down (drop most s.up) (record { conn = o; moments = []; wanting = wanting }) (take most s.up) start }
 
   cache_gets_good : (most : ℕ) (wanting : Option ℕ) (s : Side) → GoodS s → GoodS (cache_gets w most wanting s)
   unfolding cache_gets
   cache_gets_good most wanting s g = gets_good most wanting s s.conn refl g
 
-  router_gets_good : (most : ℕ) (wanting : Option ℕ) (s : Side) → GoodS s → GoodS (router_gets w most wanting s)
+  router_gets_good : (most : ℕ) (wanting : Option ℕ) (s : Side) → GoodS s → SideTells s → GoodS (router_gets w most wanting s)
   unfolding router_gets receives
-  router_gets_good most wanting s g =
-      let start : GoodRouter (instances w) w.present s.home s.conn s.up (take most s.down ++ drop most s.down) s.router =
-      subst (λ d. GoodRouter (instances w) w.present s.home s.conn s.up d s.router) (sym (take-append-drop most s.down)) g.router in
-      let told = clocked_good (instances w) w.present s.home s.conn s.up (take most s.down ++ drop most s.down) s.router.now s.router start in
-      record { router = fed_good (instances w) w.present s.home s.conn s.up (drop most s.down) (record { router = clocked s.router.now s.router; items = At s.router.now ∷ []; wanting = wanting }) (take most s.down) told }
+  router_gets_good most wanting s g t =
+      let start = subst (λ d. GoodRouter (instances w) w.present g.seen s.conn s.up d s.router) (sym (take-append-drop most s.down)) g.router in
+      let told = clocked_good (instances w) w.present g.seen s.conn s.up (take most s.down ++ drop most s.down) s.router.now s.router start in
+      let fed = goes_fed w.past w.present s.home s.conn s.up s.items s.places (drop most s.down) (record { router = clocked s.router.now s.router; items = At s.router.now ∷ []; wanting = wanting }) (take most s.down)
+      (record { seen = g.seen; good = told; tells = clocked_tells s.router.now s.router s.items t.tells; is_seen = g.is_seen; order = g.order }) in
+      record { seen = fed.seen; router = fed.good; is_seen = fed.is_seen; order = fed.order }
 
   cut_good : (left : ℕ) (s : Side) → GoodS s → GoodS (cut left s)
   unfolding cut
   cut_good left s g = record {
+    seen = g.seen;
+    is_seen = g.is_seen;
+    order = g.order;
     router = record {
       table = g.router.table;
       unmarked = g.router.unmarked;
-      link = live_map s.router.link (instances w) (instances w) w.present w.present s.home s.home s.router s.router s.conn None s.up [] s.down (take left s.down) (λ x. x) refl refl g.router.link (λ l.
+      link = live_map s.router.link (instances w) (instances w) w.present w.present g.seen g.seen s.router s.router s.conn None s.up [] s.down (take left s.down) (λ x. x) refl refl g.router.link (λ l.
           let f = l.2 in
           let after : List ℕ = conn_due s.conn ++ f.lost in
           let bytes : s.down ++ (conn_due s.conn ++ f.lost) ≡ take left s.down ++ ([] ++ (drop left s.down ++ (conn_due s.conn ++ f.lost))) =
@@ -151,12 +166,15 @@ module _ (w : World) (p : Present (instances w) w.present) where
   connects_good : (s : Side) → GoodS s → GoodS (connects w s)
   unfolding connects connects_at
   connects_good s g =
-      let told = clocked_good (instances w) w.present s.home s.conn s.up s.down s.router.now s.router g.router in
-      let shut = close_shut (instances w) w.present s.home s.conn s.up s.down (clocked s.router.now s.router) told in
+      let told = clocked_good (instances w) w.present g.seen s.conn s.up s.down s.router.now s.router g.router in
+      let shut = close_shut (instances w) w.present g.seen s.conn s.up s.down (clocked s.router.now s.router) told in
       let r : Router = close (clocked s.router.now s.router) in
       let q : Question = choose (close (clocked s.router.now s.router)).version (close (clocked s.router.now s.router)).mark in
       let fits = first_fits w.present.session (close (clocked s.router.now s.router)).version (close (clocked s.router.now s.router)).mark shut.unmarked in
       record {
+        seen = Some w.present;
+        is_seen = (refl, omega arith);
+        order = ordered_connects w.past w.present s.places g.seen g.order;
         router = record {
           table = shut.table;
           unmarked = shut.unmarked;
@@ -191,49 +209,64 @@ module _ (w : World) (p : Present (instances w) w.present) where
       own None e = tt
       own (Some x) e = absurd (let h : ◌≡◌ {A = Option ℕ} (Some x) None = e in cc)
 
-  asks_so : (s : Side) → GoodS s → GoodRouter (instances w) w.present s.home s.conn s.up s.down (asks s.router).router
+  asks_so : (s : Side) (g : GoodS s) → GoodRouter (instances w) w.present g.seen s.conn s.up s.down (asks s.router).router
   unfolding asks
-  asks_so s g = asks_good (instances w) w.present s.home s.conn s.up s.down s.router.link s.router (is_idle s.router.link) refl (λ h. h) g.router g.router.link
+  asks_so s g = asks_good (instances w) w.present g.seen s.conn s.up s.down s.router.link s.router (is_idle s.router.link) refl (λ h. h) g.router g.router.link
 
-  ticks_so : (now : ℕ) (s : Side) → GoodS s → GoodRouter (instances w) w.present s.home s.conn s.up s.down (ticks_at now s.router).router
+  ticks_so : (now : ℕ) (s : Side) (g : GoodS s) → GoodRouter (instances w) w.present g.seen s.conn s.up s.down (ticks_at now s.router).router
   unfolding ticks_at
   ticks_so now s g =
-      let told = clocked_good (instances w) w.present s.home s.conn s.up s.down now s.router g.router in
-      asks_good (instances w) w.present s.home s.conn s.up s.down (clocked now s.router).link (clocked now s.router) (is_due (clocked now s.router).link (clocked now s.router).due (clocked now s.router).now) refl (not_due (clocked now s.router).link (clocked now s.router).due (clocked now s.router).now) told told.link
+      let told = clocked_good (instances w) w.present g.seen s.conn s.up s.down now s.router g.router in
+      asks_good (instances w) w.present g.seen s.conn s.up s.down (clocked now s.router).link (clocked now s.router) (is_due (clocked now s.router).link (clocked now s.router).due (clocked now s.router).now) refl (not_due (clocked now s.router).link (clocked now s.router).due (clocked now s.router).now) told told.link
 
   notifies_good : (s : Side) (o : Option Conn) → s.conn ≡ o → GoodS s → GoodS (notifies_at w s o)
   notifies_good s None e g = g
   notifies_good s (Some o) e g =
-      record { router = cache.notified_good (instances w) w.present p w.keep s.home s.router s.down o s.up (subst (λ x. GoodRouter (instances w) w.present s.home x s.up s.down s.router) e g.router) }
+      record { seen = g.seen; is_seen = g.is_seen; order = g.order; router = cache.notified_good (instances w) w.present p w.keep g.seen s.router s.down o s.up (subst (λ x. GoodRouter (instances w) w.present g.seen x s.up s.down s.router) e g.router) }
 
-  pub step_good : (event : SideEvent) (wanting : Option ℕ) (s : Side) → GoodS s → GoodS (side_step w event wanting s)
-  unfolding side_step router_restarts
-  step_good RouterRestart wanting s g = record { router = record { table = refl; unmarked = refl; link = (refl, refl, refl) } }
-  step_good Connect wanting s g = connects_good s g
-  step_good (RouterSends most) wanting s g = router_sends_good most s g
-  step_good (CacheGets most) wanting s g = cache_gets_good most wanting s g
-  step_good (CacheSends most) wanting s g = cache_sends_good most s g
-  step_good (RouterGets most) wanting s g = router_gets_good most wanting s g
-  step_good (Cut left) wanting s g = cut_good left s g
-  step_good NotifyRouter wanting s g = notifies_good s s.conn refl g
-  step_good Ask wanting s g = record { router = asks_so s g }
-  step_good (Tick now) wanting s g = record { router = ticks_so now s g }
+  -- asking commits nothing
+  asks_places : (b : Bool) (r : Router) (items : List Item) → places_of (instances w) (asks_if b r).items items ≡ []
+  asks_places true r items = refl
+  asks_places false r items = refl
 
-  part_good : (event : SideEvent) (bytes : ℕ) (wanting : Option ℕ) (s : Side) → GoodS s → GoodS (side_part w event bytes wanting s)
-  part_good (RouterSends most) bytes wanting s g = router_sends_good bytes s g
-  part_good (CacheGets most) bytes wanting s g = cache_gets_good bytes wanting s g
-  part_good (CacheSends most) bytes wanting s g = cache_sends_good bytes s g
-  part_good (RouterGets most) bytes wanting s g = router_gets_good bytes wanting s g
-  part_good RouterRestart bytes wanting s g = g
-  part_good Connect bytes wanting s g = g
-  part_good (Cut left) bytes wanting s g = g
-  part_good NotifyRouter bytes wanting s g = g
-  part_good Ask bytes wanting s g = g
-  part_good (Tick now) bytes wanting s g = g
+  ticks_places : (now : ℕ) (b : Bool) (r : Router) (items : List Item) → places_of (instances w) ((asks_if b r).items ++ At now ∷ []) items ≡ []
+  ticks_places now true r items = refl
+  ticks_places now false r items = refl
 
-  pub refused_good : (event : SideEvent) (bytes : ℕ) (wanting : Option ℕ) (s : Side) → GoodS s → GoodS (side_refused w event bytes wanting s)
+  no_places : (s : Side) (g : GoodS s) (more : List (Option Place)) → more ≡ [] → Ordered w.past w.present (more ++ s.places) g.seen
+  no_places s g more e = subst (λ x. Ordered w.past w.present (x ++ s.places) g.seen) (sym e) g.order
+
+  pub step_good : (event : SideEvent) (wanting : Option ℕ) (s : Side) → GoodS s → SideTells s → GoodS (side_step w event wanting s)
+  unfolding side_step router_restarts asks ticks_at
+  step_good RouterRestart wanting s g t = record { seen = None; is_seen = tt; order = ordered_none w.past w.present s.places g.seen g.order; router = record { table = refl; unmarked = refl; link = (refl, refl, refl) } }
+  step_good Connect wanting s g t = connects_good s g
+  step_good (RouterSends most) wanting s g t = router_sends_good most s g
+  step_good (CacheGets most) wanting s g t = cache_gets_good most wanting s g
+  step_good (CacheSends most) wanting s g t = cache_sends_good most s g
+  step_good (RouterGets most) wanting s g t = router_gets_good most wanting s g t
+  step_good (Cut left) wanting s g t = cut_good left s g
+  step_good NotifyRouter wanting s g t = notifies_good s s.conn refl g
+  step_good Ask wanting s g t = record { seen = g.seen; is_seen = g.is_seen; order = no_places s g (places_of (instances w) (asks_if (is_idle s.router.link) s.router).items s.items) (asks_places (is_idle s.router.link) s.router s.items); router = asks_so s g }
+  step_good (Tick now) wanting s g t =
+      let k : Router = clocked now s.router in
+      let b : Bool = is_due k.link k.due k.now in
+      record { seen = g.seen; is_seen = g.is_seen; order = no_places s g (places_of (instances w) ((asks_if b k).items ++ At now ∷ []) s.items) (ticks_places now b k s.items); router = ticks_so now s g }
+
+  part_good : (event : SideEvent) (bytes : ℕ) (wanting : Option ℕ) (s : Side) → GoodS s → SideTells s → GoodS (side_part w event bytes wanting s)
+  part_good (RouterSends most) bytes wanting s g t = router_sends_good bytes s g
+  part_good (CacheGets most) bytes wanting s g t = cache_gets_good bytes wanting s g
+  part_good (CacheSends most) bytes wanting s g t = cache_sends_good bytes s g
+  part_good (RouterGets most) bytes wanting s g t = router_gets_good bytes wanting s g t
+  part_good RouterRestart bytes wanting s g t = g
+  part_good Connect bytes wanting s g t = g
+  part_good (Cut left) bytes wanting s g t = g
+  part_good NotifyRouter bytes wanting s g t = g
+  part_good Ask bytes wanting s g t = g
+  part_good (Tick now) bytes wanting s g t = g
+
+  pub refused_good : (event : SideEvent) (bytes : ℕ) (wanting : Option ℕ) (s : Side) → GoodS s → SideTells s → GoodS (side_refused w event bytes wanting s)
   unfolding side_refused
-  refused_good event bytes wanting s g = let k = cut_good 0 (side_part w event bytes wanting s) (part_good event bytes wanting s g) in record { router = k.router }
+  refused_good event bytes wanting s g t = let k = cut_good 0 (side_part w event bytes wanting s) (part_good event bytes wanting s g t) in record { seen = k.seen; router = k.router; is_seen = k.is_seen; order = k.order }
 
   -- After each event
 
@@ -250,14 +283,14 @@ module _ (w : World) (p : Present (instances w) w.present) where
 
       so : GoodRouter (instances w) w.present None conn up down r
       so =
-          let shut = close_shut (instances w) w.present s.home s.conn s.up s.down (clocked s.router.now s.router) (clocked_good (instances w) w.present s.home s.conn s.up s.down s.router.now s.router g.router) in
+          let shut = close_shut (instances w) w.present g.seen s.conn s.up s.down (clocked s.router.now s.router) (clocked_good (instances w) w.present g.seen s.conn s.up s.down s.router.now s.router g.router) in
           record { table = shut.table; unmarked = shut.unmarked; link = closed_link (close (clocked s.router.now s.router)) None conn up down shut.closed shut.held shut.agreed shut.session }
 
       by_bool : (b : Bool) → is_closed s.router.link ≡ b → GoodRouter (instances w) w.present None conn up down (if b then s.router else r) → GoodRouter (instances w) w.present None conn up down (tell_closed (instances w) s).router
       by_bool true e h = subst (λ b. GoodRouter (instances w) w.present None conn up down (if b then record s { home = None } else record (noted (instances w) (closed_at s.router.now s.router) s) { home = None }).router) (sym e) h
       by_bool false e h = subst (λ b. GoodRouter (instances w) w.present None conn up down (if b then record s { home = None } else record (noted (instances w) (closed_at s.router.now s.router) s) { home = None }).router) (sym e) h
 
-      by_link : (l : Link) → s.router.link ≡ l → GoodLink (instances w) w.present s.home l s.router s.conn s.up s.down → GoodRouter (instances w) w.present None conn up down (tell_closed (instances w) s).router
+      by_link : (l : Link) → s.router.link ≡ l → GoodLink (instances w) w.present g.seen l s.router s.conn s.up s.down → GoodRouter (instances w) w.present None conn up down (tell_closed (instances w) s).router
       by_link Closed is h = by_bool true (ap is_closed is) (record { table = g.router.table; unmarked = g.router.unmarked; link = closed_link s.router None conn up down is h.0 h.1 h.2 })
       by_link (Ended end) is h = by_bool false (ap is_closed is) so
       by_link Idle is h = by_bool false (ap is_closed is) so
@@ -271,15 +304,29 @@ module _ (w : World) (p : Present (instances w) w.present) where
       by_link true = refl
       by_link false = refl
 
-  told_side : (s : Side) → GoodS s → (conn : Option Conn) (up down : List ℕ) → GoodRouter (instances w) w.present (tell_closed (instances w) s).home conn up down (tell_closed (instances w) s).router
-  told_side s g conn up down = subst (λ h. GoodRouter (instances w) w.present h conn up down (tell_closed (instances w) s).router) (sym (home_told s)) (told_good s g conn up down)
+  places_told : (s : Side) → (tell_closed (instances w) s).places ≡ s.places
+  unfolding closed_at
+  places_told s = by_link (is_closed s.router.link)
+    where
+      by_link : (b : Bool) → (if b then record s { home = None } else record (noted (instances w) (closed_at s.router.now s.router) s) { home = None }).places ≡ s.places
+      by_link true = refl
+      by_link false = refl
+
+  seen_told : (s : Side) → IsSeen (tell_closed (instances w) s).home None
+  seen_told s = subst (λ h. IsSeen h None) (sym (home_told s)) tt
+
+  order_told : (s : Side) (g : GoodS s) → Ordered w.past w.present (tell_closed (instances w) s).places None
+  order_told s g = subst (λ x. Ordered w.past w.present x None) (sym (places_told s)) (ordered_none w.past w.present s.places g.seen g.order)
 
   ended_good : (s : Side) (o : Conn) (ended : Bool) (due : List ℕ) → s.conn ≡ Some o → o.state.due ≡ due → GoodS s → GoodS (close_ended s ended due)
   ended_good s o true [] e de g = record {
+    seen = g.seen;
+    is_seen = g.is_seen;
+    order = g.order;
     router = record {
       table = g.router.table;
       unmarked = g.router.unmarked;
-      link = live_map s.router.link (instances w) (instances w) w.present w.present s.home s.home s.router s.router s.conn None s.up s.up s.down s.down (λ x. x) refl refl g.router.link (λ l.
+      link = live_map s.router.link (instances w) (instances w) w.present w.present g.seen g.seen s.router s.router s.conn None s.up s.up s.down s.down (λ x. x) refl refl g.router.link (λ l.
           let f = l.2 in
           let bytes : s.down ++ (conn_due s.conn ++ f.lost) ≡ s.down ++ ([] ++ f.lost) = ap (λ x. s.down ++ (conn_due x ++ f.lost)) e ∙ ap (λ x. s.down ++ (x ++ f.lost)) de in (
             l.0,
@@ -306,28 +353,28 @@ module _ (w : World) (p : Present (instances w) w.present) where
   conn_good s (Some o) e g = ended_good s o o.state.ended o.state.due e refl g
 
   link_good : (s : Side) (l : Link) (out : List ℕ) → GoodS s → GoodS (settle_link (instances w) s l out)
-  link_good s (Ended end) [] g = record { router = told_side s g (tell_closed (instances w) s).conn (tell_closed (instances w) s).up (tell_closed (instances w) s).down }
+  link_good s (Ended end) [] g = record { seen = None; is_seen = seen_told s; order = order_told s g; router = told_good s g (tell_closed (instances w) s).conn (tell_closed (instances w) s).up (tell_closed (instances w) s).down }
   link_good s (Ended end) (b ∷ out) g = g
   link_good s Closed out g = g
   link_good s Idle out g = g
   link_good s (Asked q) out g = g
   link_good s (Answering a) out g = g
 
-  shut_of : (s : Side) → s.router.link ≡ Closed → GoodS s → (conn : Option Conn) (up down : List ℕ) → GoodRouter (instances w) w.present s.home conn up down s.router
+  shut_of : (s : Side) → s.router.link ≡ Closed → (g : GoodS s) (conn : Option Conn) (up down : List ℕ) → GoodRouter (instances w) w.present g.seen conn up down s.router
   shut_of s is g conn up down =
-      let h = subst (λ l. GoodLink (instances w) w.present s.home l s.router s.conn s.up s.down) is g.router.link in
-      record { table = g.router.table; unmarked = g.router.unmarked; link = closed_link s.router s.home conn up down is h.0 h.1 h.2 }
+      let h = subst (λ l. GoodLink (instances w) w.present g.seen l s.router s.conn s.up s.down) is g.router.link in
+      record { table = g.router.table; unmarked = g.router.unmarked; link = closed_link s.router g.seen conn up down is h.0 h.1 h.2 }
 
   rest_good : (s : Side) (l : Link) (up : List ℕ) → s.router.link ≡ l → GoodS s → GoodS (settle_rest s l up)
-  rest_good s Closed [] is g = record { router = shut_of s is g None s.up [] }
-  rest_good s Closed (b ∷ up) is g = record { router = shut_of s is g s.conn s.up [] }
+  rest_good s Closed [] is g = record { seen = g.seen; is_seen = g.is_seen; order = g.order; router = shut_of s is g None s.up [] }
+  rest_good s Closed (b ∷ up) is g = record { seen = g.seen; is_seen = g.is_seen; order = g.order; router = shut_of s is g s.conn s.up [] }
   rest_good s (Ended end) up is g = g
   rest_good s Idle up is g = g
   rest_good s (Asked q) up is g = g
   rest_good s (Answering a) up is g = g
 
   wire_good : (s : Side) (o : Option Conn) (down : List ℕ) → GoodS s → GoodS (settle_wire (instances w) s o down)
-  wire_good s None [] g = record { router = told_side s g (tell_closed (instances w) s).conn [] (tell_closed (instances w) s).down }
+  wire_good s None [] g = record { seen = None; is_seen = seen_told s; order = order_told s g; router = told_good s g (tell_closed (instances w) s).conn [] (tell_closed (instances w) s).down }
   wire_good s None (b ∷ down) g = g
   wire_good s (Some o) down g = g
 

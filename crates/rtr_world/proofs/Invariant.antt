@@ -11,6 +11,7 @@ use Rattle.rtr_ends.specs.Transcript.{Begun, Committed, Question, AskReset, AskS
 use Rattle.rtr_world.specs.History.{conn_due}
 use Rattle.rtr_world.specs.OneAnswer.{NotifiesOf, without_notifies}
 use Rattle.rtr_world.specs.World.{Side}
+use Rattle.rtr_world.proofs.Places.{Ordered}
 use Rattle.rtr_world.proofs.Streams.{Stream}
 use Rattle.rtr_world.proofs.Versions.{Stands, TableAt}
 
@@ -115,5 +116,15 @@ pub record GoodRouter (all : List Instance) (i : Instance) (home : Option Instan
   pub unmarked : r.mark ≡ false
   pub link : GoodLink all i home r.link r conn up down
 
-pub record Good (all : List Instance) (i : Instance) (s : Side) : Type 0 where
-  pub router : GoodRouter all i s.home s.conn s.up s.down s.router
+-- the instance of the connection, as it was when the connection was made, or when what was committed on it last was its newest version
+abbrev pub IsSeen : Option Instance → Option Instance → Type 0
+IsSeen None None = ⊤
+IsSeen (Some home) (Some seen) = (seen.session ≡ home.session) × (length home.sets ≤ length seen.sets)
+IsSeen None (Some seen) = ⊥
+IsSeen (Some home) None = ⊥
+
+pub record Good (past : List Instance) (i : Instance) (s : Side) : Type 0 where
+  pub seen : Option Instance
+  pub router : GoodRouter (i ∷ past) i seen s.conn s.up s.down s.router
+  pub is_seen : IsSeen s.home seen
+  pub order : Ordered past i s.places seen

@@ -1,10 +1,12 @@
 pub mod AnswerLaws
 pub mod CacheMoves
 pub mod CacheSteps
+pub mod Commits
 pub mod EndLaws
 pub mod Endings
 pub mod EventSteps
 pub mod Invariant
+pub mod Places
 pub mod RouterSteps
 pub mod SideLaws
 pub mod SideSteps

@@ -24,6 +24,9 @@ equal_true a b h = grind (arith, nat_tests)
 pub lt_of : (a b : ℕ) → nat_lt a b ≡ true → a < b
 lt_of a b h = grind (arith, nat_tests)
 
+pub lt_true : (a b : ℕ) → a < b → nat_lt a b ≡ true
+lt_true a b h = grind (arith, nat_tests)
+
 -- the newest instance of a session
 abbrev pub find_session : ℕ → List Instance → Option Instance
 find_session session all = find (λ i. i.session == session) all

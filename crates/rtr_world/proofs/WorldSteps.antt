@@ -12,25 +12,26 @@ use Rattle.rtr_pdu.specs.declared.unit.Unit.{Unit}
 use Rattle.rtr_ends.specs.Cache.{Conn}
 use Rattle.rtr_ends.specs.Router.{Router, Link, Closed, Idle, Asked, Answering, Ended, IsKept}
 use Rattle.rtr_ends.specs.Transcript.{Begun, Committed, Question, base_of, kept}
-use Rattle.rtr_world.specs.Claims.{IsNamed, Headline}
+use Rattle.rtr_world.specs.Claims.{IsNamed, Headline, NoWayBack}
 use Rattle.rtr_world.specs.History.{Outcome, Done, SessionUsed, TooManyVersions, NoSuchRouter, Memory, is_near, room_for, room_since, all_have_room, is_used, refusal, MayEnd, after, IsEvent, Entry, LeadsFrom, Made, IsMade, conn_due}
 use Rattle.rtr_world.specs.OneAnswer.{without_notifies}
-use Rattle.rtr_world.specs.Place.{position_of}
+use Rattle.rtr_world.specs.Place.{NeverBack, position_of}
 use Rattle.rtr_world.specs.World.{Side, World, instances, Event, Publish, Restart, On, cache_gone, on_side, goes_through, settled, is_refused, side_step, side_refused, settle, new_world}
 use Rattle.rtr_world.proofs.EventSteps.{step_good, refused_good, settle_good}
-use Rattle.rtr_world.proofs.Invariant.{OfAnswer, Replies, no_data, not_kept, other_session, no_memory, response, Shape, IfOpen, Open, Flow, Good}
-use Rattle.rtr_world.proofs.SideLaws.{all_new, all_on_side, all_map}
+use Rattle.rtr_world.proofs.Invariant.{OfAnswer, Replies, no_data, not_kept, other_session, no_memory, response, Shape, IfOpen, Open, Flow, Good, IsSeen}
+use Rattle.rtr_world.proofs.Places.{ordered_published, ordered_restarted}
+use Rattle.rtr_world.proofs.SideLaws.{all_new, all_on_side, all_map, all_both}
 use Rattle.rtr_world.proofs.SideSteps.{live_map}
 use Rattle.rtr_world.proofs.Streams.{Stream}
-use Rattle.rtr_world.proofs.TableLaws.{tables}
-use Rattle.rtr_world.proofs.Versions.{Stands, TableAt, Present, table_named, position_at, of_present, stands_published, stands_restarted, find_session, same_number, equal_true, lt_of}
+use Rattle.rtr_world.proofs.TableLaws.{AllTell, SideTells, after_tells, new_side_tells, tables}
+use Rattle.rtr_world.proofs.Versions.{Stands, TableAt, Present, table_named, position_at, of_present, stands_published, stands_restarted, find_session, same_number, equal_true, lt_of, lt_true}
 
 false_true : {P : Type 0} → false ≡ true → P
 false_true h = absurd (let e : false ≡ true = h in cc)
 
 pub record GoodWorld (w : World) : Type 0 where
   pub present : Present (instances w) w.present
-  pub sides : AllByRecursion (Good (instances w) w.present) w.sides
+  pub sides : AllByRecursion (Good w.past w.present) w.sides
 
 -- An answer that stays one makes a shape that stays.
 abbrev StaysAnswer : List Instance → List Instance → Instance → Type 0
@@ -93,10 +94,18 @@ module _ (past : List Instance) (i : Instance) (y : VrpSet) (p : Present (i ∷ 
           let place : position_of version.serial (versions i) ≡ Some (length t.older) = ap (λ x. position_of version.serial (versions x)) (sym found) ∙ position_at (i ∷ past) version.session version.serial table t in
           ap (is_near i) (sym place) ∙ sym (ap (λ b. if b then is_near i (position_of version.serial (versions i)) else true) (equal_true i.session version.session e)) ∙ room
 
-  answer_published : (h : Instance) → room_since i (Some h) ≡ true → StaysAnswer (i ∷ past) (next ∷ past) h
-  answer_published h room base a rest o =
+  -- room after what was seen
+  room_seen : (home : Option Instance) (h : Instance) → IsSeen home (Some h) → room_since i home ≡ true → i.session ≡ h.session → nat_lt (length i.sets - (length h.sets - 1)) (2 ^ 31) ≡ true
+  room_seen None h seen room e = absurd seen
+  room_seen (Some home) h seen room e =
+      let test : nat_lt (length i.sets - (length home.sets - 1)) (2 ^ 31) ≡ true = sym (ap (λ b. if b then is_near i (Some (length home.sets - 1)) else true) (equal_true i.session home.session (e ∙ seen.0))) ∙ room in
+      let few = lt_of (length i.sets - (length home.sets - 1)) 2147483648 test in
+      let more = seen.1 in
+      lt_true (length i.sets - (length h.sets - 1)) 2147483648 (omega (arith, few, more))
+
+  answer_published : (h : Instance) → (i.session ≡ h.session → nat_lt (length i.sets - (length h.sets - 1)) (2 ^ 31) ≡ true) → StaysAnswer (i ∷ past) (next ∷ past) h
+  answer_published h test base a rest o =
       let low : length h.sets - 1 ≤ length o.stands.older = (let s = o.since in omega (arith, s)) in
-      let test : i.session ≡ h.session → nat_lt (length i.sets - (length h.sets - 1)) (2 ^ 31) ≡ true = λ e. sym (ap (λ b. if b then is_near i (Some (length h.sets - 1)) else true) (equal_true i.session h.session e)) ∙ room in
       let s = stands_published past i y h.session o.serial o.set o.stands (room_of h.session o.serial o.set o.stands (length h.sets - 1) low test) in
       record { serial = o.serial; set = o.set; stands = s.0; leads = o.leads; since = subst (λ x. length h.sets ≤ length x + 1) (sym s.1) o.since }
 
@@ -104,48 +113,54 @@ module _ (past : List Instance) (i : Instance) (y : VrpSet) (p : Present (i ∷ 
   open_published h out up wanted lost None op = tt
   open_published h out up wanted lost (Some o) op = record { upward = op.upward; whole = op.whole; session = op.session; made = (let m = op.made in omega (arith, m)) }
 
-  side_published : (s : Side) → (room_for i s.router.version && room_since i s.home) ≡ true → Good (i ∷ past) i s → Good (next ∷ past) next s
+  side_published : (s : Side) → (room_for i s.router.version && room_since i s.home) ≡ true → Good past i s → Good past next s
   side_published s room g =
       let parts = and_parts (room_for i s.router.version) (room_since i s.home) room in
       record {
+        seen = g.seen;
+        is_seen = g.is_seen;
+        order = ordered_published past i y s.places g.seen g.order;
         router = record {
           table = table_published s.router.version s.router.table parts.0 g.router.table;
           unmarked = g.router.unmarked;
-          link = live_map s.router.link (i ∷ past) (next ∷ past) i next s.home s.home s.router s.router s.conn s.conn s.up s.up s.down s.down (λ x. x) refl refl g.router.link (λ l. (
+          link = live_map s.router.link (i ∷ past) (next ∷ past) i next g.seen g.seen s.router s.router s.conn s.conn s.up s.up s.down s.down (λ x. x) refl refl g.router.link (λ l. (
             l.0,
             l.1,
             flow_map (i ∷ past) (next ∷ past) i next l.0 s.router s.conn s.conn s.up s.up s.down l.2 l.2.lost refl (open_published l.0 s.router.out s.up l.2.wanted l.2.lost s.conn l.2.open_at)
-                (answer_published l.0 (subst (λ x. room_since i x ≡ true) l.1 parts.1)),
+                (answer_published l.0 (room_seen s.home l.0 (subst (λ x. IsSeen s.home x) l.1 g.is_seen) parts.1)),
           ));
         };
       }
 
-  sides_published : (sides : List Side) → all_have_room i sides ≡ true → AllByRecursion (Good (i ∷ past) i) sides → AllByRecursion (Good (next ∷ past) next) sides
+  sides_published : (sides : List Side) → all_have_room i sides ≡ true → AllByRecursion (Good past i) sides → AllByRecursion (Good past next) sides
   sides_published [] room g = tt
   sides_published (s ∷ sides) room g =
       let parts = and_parts (room_for i s.router.version && room_since i s.home) (all_have_room i sides) room in
       (side_published s parts.0 g.0, sides_published sides parts.1 g.1)
 
 -- The cache restarts under a session that no instance has
-module _ (all : List Instance) (old i : Instance) (new : find_session i.session all ≡ None) where
-  table_restarted : (version : Option Committed) (table : VrpSet) → TableAt all version table → TableAt (i ∷ all) version table
+module _ (past : List Instance) (old i : Instance) (new : find_session i.session (old ∷ past) ≡ None) where
+  table_restarted : (version : Option Committed) (table : VrpSet) → TableAt (old ∷ past) version table → TableAt (i ∷ (old ∷ past)) version table
   table_restarted None table t = t
-  table_restarted (Some version) table t = (stands_restarted all i version.session version.serial table new t).0
+  table_restarted (Some version) table t = (stands_restarted (old ∷ past) i version.session version.serial table new t).0
 
-  answer_restarted : (h : Instance) → StaysAnswer all (i ∷ all) h
+  answer_restarted : (h : Instance) → StaysAnswer (old ∷ past) (i ∷ (old ∷ past)) h
   answer_restarted h base a rest o =
-      let s = stands_restarted all i h.session o.serial o.set new o.stands in
+      let s = stands_restarted (old ∷ past) i h.session o.serial o.set new o.stands in
       record { serial = o.serial; set = o.set; stands = s.0; leads = o.leads; since = subst (λ x. length h.sets ≤ length x + 1) (sym s.1) o.since }
 
-  side_restarted : (s : Side) → Good all old s → Good (i ∷ all) i (cache_gone s)
+  side_restarted : (s : Side) → Good past old s → Good (old ∷ past) i (cache_gone s)
   side_restarted s g = record {
+    seen = g.seen;
+    is_seen = g.is_seen;
+    order = ordered_restarted past old i s.places g.seen new g.order;
     router = record {
       table = table_restarted s.router.version s.router.table g.router.table;
       unmarked = g.router.unmarked;
-      link = live_map s.router.link all (i ∷ all) old i s.home s.home s.router s.router s.conn None s.up [] s.down s.down (λ x. x) refl refl g.router.link (λ l. (
+      link = live_map s.router.link (old ∷ past) (i ∷ (old ∷ past)) old i g.seen g.seen s.router s.router s.conn None s.up [] s.down s.down (λ x. x) refl refl g.router.link (λ l. (
         l.0,
         l.1,
-        flow_map all (i ∷ all) old i l.0 s.router s.conn None s.up [] s.down l.2 (conn_due s.conn ++ l.2.lost) refl tt (answer_restarted l.0),
+        flow_map (old ∷ past) (i ∷ (old ∷ past)) old i l.0 s.router s.conn None s.up [] s.down l.2 (conn_due s.conn ++ l.2.lost) refl tt (answer_restarted l.0),
       ));
     };
   }
@@ -153,7 +168,7 @@ module _ (all : List Instance) (old i : Instance) (new : find_session i.session 
 -- Every event
 settled_good : (w : World) → GoodWorld w → GoodWorld (settled w)
 unfolding settled
-settled_good w g = record { present = g.present; sides = all_map (Good (instances w) w.present) (Good (instances w) w.present) (settle (instances w)) w.sides (settle_good w g.present) g.sides }
+settled_good w g = record { present = g.present; sides = all_map (Good w.past w.present) (Good w.past w.present) (settle (instances w)) w.sides (settle_good w g.present) g.sides }
 
 or_cases : (a b : Bool) → (a || b) ≡ true → a ≡ false → b ≡ true
 or_cases true b h e = absurd (let k : true ≡ false = e in cc)
@@ -172,9 +187,9 @@ none_found : (o : Option Instance) → is_some o ≡ false → o ≡ None
 none_found None h = refl
 none_found (Some i) h = absurd (let e : true ≡ false = h in cc)
 
-through_good : (event : Event) (wanting : Option ℕ) (w : World) → IsEvent event → MayEnd (refusal w event) w event (Done wanting) → GoodWorld w → GoodWorld (goes_through event wanting w)
+through_good : (event : Event) (wanting : Option ℕ) (w : World) → IsEvent event → MayEnd (refusal w event) w event (Done wanting) → GoodWorld w → AllTell w → GoodWorld (goes_through event wanting w)
 unfolding goes_through refusal
-through_good (Publish set) wanting w fits may g = by_current (is_current w.present.sets set) refl
+through_good (Publish set) wanting w fits may g t = by_current (is_current w.present.sets set) refl
   where
     i : Instance
     i = w.present
@@ -194,7 +209,7 @@ through_good (Publish set) wanting w fits may g = by_current (is_current w.prese
           };
           sides = sides_published w.past i set g.present w.sides (or_cases (is_current i.sets set) (all_have_room i w.sides) free e) g.sides;
         })
-through_good (Restart session start) wanting w fits may g =
+through_good (Restart session start) wanting w fits may g t =
     let i : Instance = record { session = session; start = start; sets = [] } in
     let unused = restarted_so (is_used (instances w) session) w (Restart session start) wanting may in
     let new : find_session session (instances w) ≡ None = none_found (find_session session (instances w)) unused in
@@ -203,31 +218,40 @@ through_good (Restart session start) wanting w fits may g =
         found = ap (λ b. if b then Some (record { session = session; start = start; sets = [] }) else find_session session (instances w)) (same_number session);
         is = record { session = fits.0; start = fits.1; sets = tt; news = tt };
       };
-      sides = all_map (Good (instances w) w.present) (Good (record { session = session; start = start; sets = [] } ∷ instances w) (record { session = session; start = start; sets = [] })) cache_gone w.sides
-          (side_restarted (instances w) w.present (record { session = session; start = start; sets = [] }) new) g.sides;
+      sides = all_map (Good w.past w.present) (Good (instances w) (record { session = session; start = start; sets = [] })) cache_gone w.sides
+          (side_restarted w.past w.present (record { session = session; start = start; sets = [] }) new) g.sides;
     }
-through_good (On r event) wanting w fits may g =
-    record { present = g.present; sides = all_on_side (Good (instances w) w.present) (Good (instances w) w.present) r (side_step w event wanting) w.sides (λ s h. h) (step_good w g.present event wanting) g.sides }
+through_good (On r event) wanting w fits may g t =
+    record {
+      present = g.present;
+      sides = all_on_side (λ s. Good w.past w.present s × SideTells s) (Good w.past w.present) r (side_step w event wanting) w.sides (λ s h. h.0) (λ s h. step_good w g.present event wanting s h.0 h.1)
+          (all_both (Good w.past w.present) SideTells w.sides g.sides t);
+    }
 
-refused_so : (event : Event) (bytes : ℕ) (wanting : Option ℕ) (w : World) → GoodWorld w → GoodWorld (is_refused event bytes wanting w)
+refused_so : (event : Event) (bytes : ℕ) (wanting : Option ℕ) (w : World) → GoodWorld w → AllTell w → GoodWorld (is_refused event bytes wanting w)
 unfolding is_refused
-refused_so (Publish set) bytes wanting w g = g
-refused_so (Restart session start) bytes wanting w g = g
-refused_so (On r event) bytes wanting w g =
+refused_so (Publish set) bytes wanting w g t = g
+refused_so (Restart session start) bytes wanting w g t = g
+refused_so (On r event) bytes wanting w g t =
     settled_good (record w { sides = on_side r (side_refused w event bytes wanting) w.sides })
-    (record { present = g.present; sides = all_on_side (Good (instances w) w.present) (Good (instances w) w.present) r (side_refused w event bytes wanting) w.sides (λ s h. h) (refused_good w g.present event bytes wanting) g.sides })
+    (record {
+      present = g.present;
+      sides = all_on_side (λ s. Good w.past w.present s × SideTells s) (Good w.past w.present) r (side_refused w event bytes wanting) w.sides (λ s h. h.0) (λ s h. refused_good w g.present event bytes wanting s h.0 h.1)
+          (all_both (Good w.past w.present) SideTells w.sides g.sides t);
+    })
 
-pub after_good : (event : Event) (outcome : Outcome) (w : World) → IsEvent event → MayEnd (refusal w event) w event outcome → GoodWorld w → GoodWorld (after event outcome w)
-after_good event (Done wanting) w fits may g = settled_good (goes_through event wanting w) (through_good event wanting w fits may g)
-after_good event (Memory bytes wanting) w fits may g = refused_so event bytes wanting w g
-after_good event SessionUsed w fits may g = g
-after_good event TooManyVersions w fits may g = g
-after_good event NoSuchRouter w fits may g = g
+pub after_good : (event : Event) (outcome : Outcome) (w : World) → IsEvent event → MayEnd (refusal w event) w event outcome → GoodWorld w → AllTell w → GoodWorld (after event outcome w)
+after_good event (Done wanting) w fits may g t = settled_good (goes_through event wanting w) (through_good event wanting w fits may g t)
+after_good event (Memory bytes wanting) w fits may g t = refused_so event bytes wanting w g t
+after_good event SessionUsed w fits may g t = g
+after_good event TooManyVersions w fits may g t = g
+after_good event NoSuchRouter w fits may g t = g
 
-pub history_good : (old : World) (history : List Entry) (w : World) → LeadsFrom old history w → GoodWorld old → GoodWorld w
-history_good old [] w leads g = subst GoodWorld (sym leads) g
-history_good old (entry ∷ history) w leads g =
-    history_good leads.0 history w leads.2 (subst GoodWorld (sym leads.1.2) (after_good entry.event entry.outcome old leads.1.0 leads.1.1 g))
+pub history_good : (old : World) (history : List Entry) (w : World) → LeadsFrom old history w → GoodWorld old → AllTell old → GoodWorld w
+history_good old [] w leads g t = subst GoodWorld (sym leads) g
+history_good old (entry ∷ history) w leads g t =
+    history_good leads.0 history w leads.2 (subst GoodWorld (sym leads.1.2) (after_good entry.event entry.outcome old leads.1.0 leads.1.1 g t))
+    (subst AllTell (sym leads.1.2) (after_tells entry.event entry.outcome old t))
 
 pub new_good : (made : Made) → IsMade made → GoodWorld (new_world made.routers made.session made.start made.keep)
 new_good made is =
@@ -237,14 +261,23 @@ new_good made is =
         found = ap (λ b. if b then Some (record { session = made.session; start = made.start; sets = [] }) else None) (same_number made.session);
         is = record { session = is.session; start = is.start; sets = tt; news = tt };
       };
-      sides = all_new (Good (record { session = made.session; start = made.start; sets = [] } ∷ []) (record { session = made.session; start = made.start; sets = [] })) (record { router = record { table = refl; unmarked = refl; link = (refl, refl, refl) } }) made.routers;
+      sides = all_new (Good [] (record { session = made.session; start = made.start; sets = [] })) (record { seen = None; is_seen = tt; order = record { never_back = tt; current = tt; at_seen = tt }; router = record { table = refl; unmarked = refl; link = (refl, refl, refl) } }) made.routers;
     }
 
 -- The headline
 pub headline : Headline
 headline made history w leads =
-    named_all w.sides (history_good (new_world made.routers made.session made.start made.keep) history w leads.1 (new_good made leads.0)).sides (tables made history w leads)
+    named_all w.sides (history_good (new_world made.routers made.session made.start made.keep) history w leads.1 (new_good made leads.0) (all_new SideTells new_side_tells made.routers)).sides (tables made history w leads)
   where
-    named_all : (sides : List Side) → AllByRecursion (Good (instances w) w.present) sides → AllByRecursion (λ s. IsKept s.router s.items) sides → AllByRecursion (λ s. IsNamed (instances w) (kept s.items).version s.router.table) sides
+    named_all : (sides : List Side) → AllByRecursion (Good w.past w.present) sides → AllByRecursion (λ s. IsKept s.router s.items) sides → AllByRecursion (λ s. IsNamed (instances w) (kept s.items).version s.router.table) sides
     named_all [] g k = tt
     named_all (s ∷ sides) g k = (subst (λ v. IsNamed (instances w) v s.router.table) k.0.version (table_named (instances w) s.router.version s.router.table g.0.router.table), named_all sides g.1 k.1)
+
+-- No way back
+pub no_way_back : NoWayBack
+no_way_back made history w leads =
+    each w.sides (history_good (new_world made.routers made.session made.start made.keep) history w leads.1 (new_good made leads.0) (all_new SideTells new_side_tells made.routers)).sides
+  where
+    each : (sides : List Side) → AllByRecursion (Good w.past w.present) sides → AllByRecursion (λ s. NeverBack s.places) sides
+    each [] g = tt
+    each (s ∷ sides) g = (g.0.order.never_back, each sides g.1)

@@ -1,5 +1,5 @@
 //! Laws of the definitions. These functions do nothing: their contracts are the laws.
-ghost use Rattle.rtr_world.specs.Claims.{EachLeads, Headline, LawfulEnds, OneWorld, Tables};
+ghost use Rattle.rtr_world.specs.Claims.{EachLeads, Headline, LawfulEnds, NoWayBack, OneWorld, Tables};
 
 /// A history of events with their outcomes leads to one world, and every list of events has outcomes with which it leads to one.
 pub fn steps()
@@ -24,4 +24,10 @@ pub fn headline()
 /// cache), or by one of code 0 to a Serial Query of another session than the cache's, and by nothing else.
 pub fn lawful_ends()
     ensures { LawfulEnds }
+{}
+
+/// After every list of events, no version was committed at a router that was published before one that it had committed earlier: not in
+/// an earlier instance of the cache, and not earlier in the same one.
+pub fn no_way_back()
+    ensures { NoWayBack }
 {}

@@ -1,0 +1,192 @@
+-- What a router commits of a piece, and where that stands.
+use Rattle.std.specs.Prelude.{◌≡◌, ℕ, ◌+◌, ◌≤◌, Bool, true, false, not, ◌&&◌, List, [], ◌∷◌, ◌++◌, length, Option, Some, None, if◌then◌else◌, refl}
+use Rattle.std.proofs.Common.{sym, ap, ◌∙◌, subst, arith, append_assoc}
+use Rattle.std.proofs.lemmas.Bool.{and_parts}
+use Rattle.vrps.specs.Instance.{Instance}
+use Rattle.vrps.specs.VrpSet.{VrpSet}
+use Rattle.rtr_pdu.specs.Judging.{judge}
+use Rattle.rtr_pdu.specs.declared.unit.Unit.{Unit}
+use Rattle.rtr_pdu.specs.declared.unit.Unit.TheVariants.{EndOfData}
+use Rattle.rtr_ends.specs.Cache.{Conn, is_none, finds_memory}
+use Rattle.rtr_ends.specs.Feeding.{feed}
+use Rattle.rtr_ends.specs.Router.{Router, Link, Closed, Idle, Asked, Answering, Ended, Noted, Receiving, asked_by, on_unit, may_lack, reads, lacks, with_bytes, is_reading, router_stops, router_byte}
+use Rattle.rtr_ends.specs.Transcript.{Committed, Item, Reads, kept, is_commit}
+use Rattle.rtr_ends.proofs.FeedingLaws.{feed_keeps}
+use Rattle.rtr_ends.proofs.KeptLaws.{Tells, byte_tells, live_unit}
+use Rattle.rtr_world.specs.History.{conn_due}
+use Rattle.rtr_world.specs.OneAnswer.{NotifiesOf, without_notifies}
+use Rattle.rtr_world.specs.Place.{Place, place_of}
+use Rattle.rtr_world.specs.World.{places_of}
+use Rattle.rtr_world.proofs.Invariant.{Flow, GoodLink, GoodRouter, IfOpen, Live, Open, Shape, IsSeen}
+use Rattle.rtr_world.proofs.Places.{Found, Ordered, ordered_more, place_at, stands_found, young_enough}
+use Rattle.rtr_world.proofs.RouterSteps.{right_response}
+use Rattle.rtr_world.proofs.SideSteps.{live_of, byte_good, none_is, not_true}
+use Rattle.rtr_world.proofs.Streams.{ByteCase, partly, wholly, byte_case}
+use Rattle.rtr_world.proofs.UnitCases.{Brings, goes_on, ends_other, ends_memory, commits, unit_brings, is_end}
+use Rattle.rtr_world.proofs.Versions.{Stands, find_session, same_instance, same_number, some_is}
+
+-- the places of items that come after others
+places-append : (all : List Instance) (xs ys before : List Item) → places_of all (xs ++ ys) before ≡ places_of all xs (ys ++ before) ++ places_of all ys before
+places-append all [] ys before = refl
+places-append all (x ∷ xs) ys before =
+    (λ j. (if is_commit (x ∷ append_assoc xs ys before j) then place_of all (kept (x ∷ append_assoc xs ys before j)).version ∷ [] else []) ++ places-append all xs ys before j)
+    ∙ sym (append_assoc (if is_commit (x ∷ (xs ++ (ys ++ before))) then place_of all (kept (x ∷ (xs ++ (ys ++ before)))).version ∷ [] else []) (places_of all xs (ys ++ before)) (places_of all ys before))
+
+-- only an End of Data commits
+no_commit : (u : Unit) (items : List Item) → is_end u ≡ false → is_commit (Reads u ∷ items) ≡ false
+no_commit (EndOfData session serial refresh retry expire) items h = absurd (let e : true ≡ false = h in cc)
+no_commit u items h = refl
+
+one_place : (b : Bool) (p : Option Place) → ((if b then p ∷ [] else []) ++ []) ≡ (if b then p ∷ [] else [])
+one_place true p = refl
+one_place false p = refl
+
+unit_places : (all : List Instance) (l : Link) (out : List ℕ) (u : Unit) (items : List Item) (b : Bool) → is_commit (Reads u ∷ items) ≡ b
+    → places_of all (asked_by l out ++ Reads u ∷ []) items ≡ (if b then place_of all (kept (Reads u ∷ items)).version ∷ [] else [])
+unit_places all l out u items b e = asked l out ∙ one_place (is_commit (Reads u ∷ items)) p ∙ ap (λ x. if x then place_of all (kept (Reads u ∷ items)).version ∷ [] else []) e
+  where
+    p : Option Place
+    p = place_of all (kept (Reads u ∷ items)).version
+
+    asked : (l : Link) (out : List ℕ) → places_of all (asked_by l out ++ Reads u ∷ []) items ≡ (if is_commit (Reads u ∷ items) then place_of all (kept (Reads u ∷ items)).version ∷ [] else []) ++ []
+    asked (Asked q) [] = refl
+    asked (Asked q) (c ∷ out) = refl
+    asked Closed out = refl
+    asked Idle out = refl
+    asked (Answering a) out = refl
+    asked (Ended end) out = refl
+
+-- What reading adds to the places: nothing, or that of a version that stands no earlier than what was seen
+pub data Adds (past : List Instance) (i h : Instance) (n : Noted) (items : List Item) : Type 0 where
+  nothing : places_of (i ∷ past) n.items items ≡ [] → Adds past i h n items
+  one : (version : Committed) (table : VrpSet) (stands : Stands (i ∷ past) version.session version.serial table) (f : Found (i ∷ past) version.session version.serial (length stands.older))
+      → n.router.link ≡ Idle → version.session ≡ h.session → length h.sets ≤ length stands.older + 1
+      → places_of (i ∷ past) n.items items ≡ Some (place_at f.rank (length stands.older)) ∷ [] → Adds past i h n items
+
+unit_adds : (past : List Instance) (i h : Instance) (r : Router) (u : Unit) (items : List Item) → Tells (on_unit r.link u r) (asked_by (on_unit r.link u r).link (on_unit r.link u r).out ++ Reads u ∷ items)
+    → Brings (i ∷ past) h r r.link u (on_unit r.link u r) → Adds past i h (reads u r) items
+unit_adds past i h r u items t (goes_on on none) = nothing (unit_places (i ∷ past) (on_unit r.link u r).link (on_unit r.link u r).out u items false (no_commit u items none))
+unit_adds past i h r u items t (ends_other session serial is other e none) = nothing (unit_places (i ∷ past) (on_unit r.link u r).link (on_unit r.link u r).out u items false (no_commit u items none))
+unit_adds past i h r u items t (ends_memory e none) = nothing (unit_places (i ∷ past) (on_unit r.link u r).link (on_unit r.link u r).out u items false (no_commit u items none))
+unit_adds past i h r u items t (commits version table e v own stands since) = by_commit (is_commit (Reads u ∷ items)) refl
+  where
+    k : Router
+    k = on_unit r.link u r
+
+    f : Found (i ∷ past) version.session version.serial (length stands.older)
+    f = stands_found (i ∷ past) version.session version.serial table stands
+
+    told : Tells k (Reads u ∷ items)
+    told = subst (λ l. Tells k (asked_by l k.out ++ Reads u ∷ items)) e t
+
+    place : place_of (i ∷ past) (kept (Reads u ∷ items)).version ≡ Some (place_at f.rank (length stands.older))
+    place = ap (λ x. place_of (i ∷ past) x.version) told.kept_is ∙ ap (place_of (i ∷ past)) v ∙ f.named
+
+    by_commit : (b : Bool) → is_commit (Reads u ∷ items) ≡ b → Adds past i h (reads u r) items
+    by_commit false c = nothing (unit_places (i ∷ past) k.link k.out u items false c)
+    by_commit true c = one version table stands f e own since (unit_places (i ∷ past) k.link k.out u items true c ∙ ap (λ x. x ∷ []) place)
+
+-- what a later version is seen as
+seen_more : (home : Option Instance) (h : Instance) (set : VrpSet) (older : List VrpSet) → length h.sets ≤ length older + 1 → IsSeen home (Some h) → IsSeen home (Some (record h { sets = set ∷ older }))
+seen_more None h set older since s = s
+seen_more (Some home) h set older since s = let k = s.1 in (s.0, omega (arith, k, since))
+
+module _ (past : List Instance) (i : Instance) (home : Option Instance) (conn : Option Conn) (up : List ℕ) where
+  abbrev all : List Instance
+  all = i ∷ past
+
+  -- an idle router whose version stands later
+  raised_open : (h : Instance) (out : List ℕ) (wanted : List Unit) (lost : List ℕ) (o : Option Conn) (session serial : ℕ) (set : VrpSet) (a : Stands (i ∷ past) session serial set) → session ≡ h.session
+      → IfOpen o (Open i h out up wanted lost) → IfOpen o (Open i (record h { sets = set ∷ a.older }) out up wanted lost)
+  raised_open h out wanted lost None session serial set a own op = tt
+  raised_open h out wanted lost (Some o) session serial set a own op =
+      let here : find_session i.session (i ∷ past) ≡ Some i = ap (λ b. if b then Some i else find_session i.session past) (same_number i.session) in
+      let same : a.i ≡ i = same_instance a.i i (find_session session (i ∷ past)) a.found (subst (λ s. find_session s (i ∷ past) ≡ Some i) (sym (own ∙ op.session)) here) in
+      let k = young_enough i a.newer set a.older (ap (λ x. x.sets) (sym same) ∙ a.sets) in
+      record { upward = op.upward; whole = op.whole; session = op.session; made = omega (arith, k) }
+
+  raised : (down : List ℕ) (r : Router) (h : Instance) (session serial : ℕ) (set : VrpSet) (a : Stands (i ∷ past) session serial set) → session ≡ h.session → r.link ≡ Idle
+      → GoodRouter (i ∷ past) i (Some h) conn up down r → GoodRouter (i ∷ past) i (Some (record h { sets = set ∷ a.older })) conn up down r
+  raised down r h session serial set a own is g =
+      let k : Instance = record h { sets = set ∷ a.older } in
+      let l : Live (i ∷ past) i (Some h) r conn up down = subst (λ x. GoodLink (i ∷ past) i (Some h) x r conn up down) is g.link in
+      let f : Flow (i ∷ past) i h r conn up down = subst (λ x. Flow (i ∷ past) i x r conn up down) (sym (some_is h l.0 l.1)) l.2 in
+      let sh : Shape (i ∷ past) h Idle r.agreed r.version r.table f.wanted (without_notifies f.coming) = subst (λ x. Shape (i ∷ past) h x r.agreed r.version r.table f.wanted (without_notifies f.coming)) is f.shape in
+      let live : Live (i ∷ past) i (Some (record h { sets = set ∷ a.older })) r conn up down = (
+        record h { sets = set ∷ a.older },
+        refl,
+        record {
+          coming = f.coming;
+          lost = f.lost;
+          wanted = f.wanted;
+          downward = f.downward;
+          open_at = raised_open h r.out f.wanted f.lost conn session serial set a own f.open_at;
+          notifies = f.notifies;
+          own = f.own;
+          mine = f.mine;
+          shape = subst (λ x. Shape (i ∷ past) (record h { sets = set ∷ a.older }) x r.agreed r.version r.table f.wanted (without_notifies f.coming)) (sym is) sh;
+        },
+      ) in
+      record { table = g.table; unmarked = g.unmarked; link = subst (λ x. GoodLink (i ∷ past) i (Some (record h { sets = set ∷ a.older })) x r conn up down) (sym is) live }
+
+  -- a byte is read
+  byte_read : (seen : Option Instance) (down : List ℕ) (r : Router) (b : ℕ) (memory : Bool) (items : List Item) (h : Instance) (f : Flow (i ∷ past) i h r conn up (b ∷ down)) → is_reading r.link ≡ true → r.out ≡ [] → Tells r items
+      → ByteCase (not r.agreed) r.held b (down ++ (conn_due conn ++ f.lost)) f.coming → Adds past i h (with_bytes memory (r.held ++ b ∷ []) r (judge 1 (not r.agreed) (r.held ++ b ∷ []))) items
+  byte_read seen down r b memory items h f live none t (partly e s) = subst (λ j. Adds past i h (with_bytes memory (r.held ++ b ∷ []) r j) items) (sym e) (nothing refl)
+  byte_read seen down r b memory items h f live none t (wholly u more is e fit s) =
+      subst (λ j. Adds past i h (with_bytes memory (r.held ++ b ∷ []) r j) items) (sym e) (by_memory (may_lack r.link u r && not memory))
+    where
+      k : Router
+      k = record r { held = [] }
+
+      brings : Brings (i ∷ past) h k r.link u (on_unit r.link u k)
+      brings =
+          unit_brings (i ∷ past) h k r.link u more f.wanted refl live f.own f.mine (λ q. right_response (i ∷ past) i seen conn up down h.session q r.version) (subst (λ x. NotifiesOf h.session x) is f.notifies)
+          (subst (λ x. Shape (i ∷ past) h r.link r.agreed r.version r.table f.wanted (without_notifies x)) is f.shape)
+
+      by_memory : (w : Bool) → Adds past i h (if w then lacks u k else reads u k) items
+      by_memory true = nothing refl
+      by_memory false = unit_adds past i h k u items (live_unit k r.link u items live refl (record { kept_is = t.kept_is; due_is = t.due_is; now_is = t.now_is; none = none }) t.link) brings
+
+  -- what holds between two bytes
+  pub record Goes (items : List Item) (places : List (Option Place)) (down : List ℕ) (m : Receiving) : Type 0 where
+    pub seen : Option Instance
+    pub good : GoodRouter (i ∷ past) i seen conn up down m.router
+    pub tells : Tells m.router (m.items ++ items)
+    pub is_seen : IsSeen home seen
+    pub order : Ordered past i (places_of (i ∷ past) m.items items ++ places) seen
+
+  adds_goes : (items : List Item) (places : List (Option Place)) (down : List ℕ) (m : Receiving) (n : Noted) (wanting : Option ℕ) (seen : Option Instance) (h : Instance) → seen ≡ Some h → Adds past i h n (m.items ++ items) → GoodRouter (i ∷ past) i seen conn up down n.router
+      → Tells n.router ((n.items ++ m.items) ++ items) → IsSeen home seen → Ordered past i (places_of (i ∷ past) m.items items ++ places) seen → Goes items places down (record { router = n.router; items = n.items ++ m.items; wanting = wanting })
+  adds_goes items places down m n wanting seen h e (nothing none) g t s o = record {
+    seen = seen;
+    good = g;
+    tells = t;
+    is_seen = s;
+    order = subst (λ x. Ordered past i (x ++ places) seen) (sym (places-append (i ∷ past) n.items m.items items ∙ ap (λ x. x ++ places_of (i ∷ past) m.items items) none)) o;
+  }
+  adds_goes items places down m n wanting seen h e (one version table stands f is own since more) g t s o = record {
+    seen = Some (record h { sets = table ∷ stands.older });
+    good = raised down n.router h version.session version.serial table stands own is (subst (λ x. GoodRouter (i ∷ past) i x conn up down n.router) e g);
+    tells = t;
+    is_seen = seen_more home h table stands.older since (subst (λ x. IsSeen home x) e s);
+    order = subst (λ x. Ordered past i (x ++ places) (Some (record h { sets = table ∷ stands.older })))
+        (sym (places-append (i ∷ past) n.items m.items items ∙ ap (λ x. x ++ places_of (i ∷ past) m.items items) more))
+        (ordered_more past i h (places_of (i ∷ past) m.items items ++ places) version.session version.serial table stands f own since (subst (λ x. Ordered past i (places_of (i ∷ past) m.items items ++ places) x) e o));
+  }
+
+  goes_byte : (items : List Item) (places : List (Option Place)) (tail : List ℕ) (b : ℕ) (rest : List ℕ) (m : Receiving) → router_stops m.router ≡ false → Goes items places (b ∷ rest ++ tail) m → Goes items places (rest ++ tail) (router_byte m b)
+  unfolding router_byte
+  goes_byte items places tail b rest m on g =
+      let parts = and_parts (is_reading m.router.link) (is_none m.router.out) (not_true (is_reading m.router.link && is_none m.router.out) on) in
+      let l = live_of m.router.link (i ∷ past) i g.seen m.router conn up (b ∷ rest ++ tail) g.good.link parts.0 in
+      let n : Noted = with_bytes (finds_memory m.wanting) (m.router.held ++ b ∷ []) m.router (judge 1 (not m.router.agreed) (m.router.held ++ b ∷ [])) in
+      adds_goes items places (rest ++ tail) m n (router_byte m b).wanting g.seen l.0 l.1
+      (byte_read g.seen (rest ++ tail) m.router b (finds_memory m.wanting) (m.items ++ items) l.0 l.2 parts.0 (none_is m.router.out parts.1) g.tells
+      (byte_case (not m.router.agreed) m.router.held b ((rest ++ tail) ++ (conn_due conn ++ l.2.lost)) l.2.coming l.2.downward))
+      (byte_good (i ∷ past) i g.seen conn up (rest ++ tail) m b on g.good) (byte_tells m b items on g.tells) g.is_seen g.order
+
+  -- it is handed a piece
+  pub goes_fed : (items : List Item) (places : List (Option Place)) (tail : List ℕ) (m : Receiving) (piece : List ℕ) → Goes items places (piece ++ tail) m
+      → Goes items places ((feed (λ x. router_stops x.router) router_byte m piece).rest ++ tail) (feed (λ x. router_stops x.router) router_byte m piece).machine
+  goes_fed items places tail m piece g = feed_keeps (λ x. router_stops x.router) router_byte (λ rest x. Goes items places (rest ++ tail) x) (goes_byte items places tail) m piece g
