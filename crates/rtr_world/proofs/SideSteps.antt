@@ -10,7 +10,6 @@ use Rattle.rtr_pdu.specs.declared.unit.Unit.TheVariants.{SerialNotify}
 use Rattle.rtr_ends.specs.declared.link.End.TheVariants as ends
 use Rattle.rtr_ends.specs.Answer.{sent_all}
 use Rattle.rtr_ends.specs.Cache.{Conn, is_none, finds_memory}
-use Rattle.rtr_ends.specs.Feeding.{Fed, feed}
 use Rattle.rtr_ends.specs.Router.{Router, Receiving, Link, Closed, Idle, Asked, Answering, Ended, choose, emptied, on_unit, may_lack, lacks, reads, with_bytes, is_reading, router_stops, router_byte, expired, clocked, is_closed, close, is_idle, asks_if}
 use Rattle.rtr_ends.specs.Transcript.{Question, AskReset, AskSerial, query, is_serial, is_over, later, sum_of, retry_of}
 use Rattle.rtr_ends.proofs.KeptLaws.{same_base}
@@ -146,22 +145,6 @@ module _ (all : List Instance) (i : Instance) (home : Option Instance) (conn : O
       let l = live_of m.router.link all i home m.router conn up (b ∷ down) g.link parts.0 in
       byte_read down m.router b (finds_memory m.wanting) l.0 l.2 l.1 parts.0 (none_is m.router.out parts.1) g.table g.unmarked
       (byte_case (not m.router.agreed) m.router.held b (down ++ (conn_due conn ++ l.2.lost)) l.2.coming l.2.downward)
-
-  abbrev by_stop : Receiving → ℕ → List ℕ → Bool → Fed Receiving
-  by_stop m b piece s = elim s [ true ↦ record { machine = m; rest = b ∷ piece } | false ↦ feed (λ x. router_stops x.router) router_byte (router_byte m b) piece ]
-
-  abbrev GoodFed : List ℕ → Fed Receiving → Type 0
-  GoodFed tail f = GoodRouter all i home conn up (f.rest ++ tail) f.machine.router
-
-  fed_by : (tail : List ℕ) (m : Receiving) (b : ℕ) (piece : List ℕ) (s : Bool) → router_stops m.router ≡ s → GoodRouter all i home conn up (b ∷ (piece ++ tail)) m.router
-      → (GoodRouter all i home conn up (piece ++ tail) (router_byte m b).router → GoodFed tail (feed (λ x. router_stops x.router) router_byte (router_byte m b) piece)) → GoodFed tail (by_stop m b piece s)
-  fed_by tail m b piece true is g on = g
-  fed_by tail m b piece false is g on = on (byte_good (piece ++ tail) m b is g)
-
-  -- it is handed a piece
-  pub fed_good : (tail : List ℕ) (m : Receiving) (piece : List ℕ) → GoodRouter all i home conn up (piece ++ tail) m.router → GoodFed tail (feed (λ x. router_stops x.router) router_byte m piece)
-  fed_good tail m [] g = g
-  fed_good tail m (b ∷ piece) g = fed_by tail m b piece (router_stops m.router) refl g (fed_good tail (router_byte m b) piece)
 
   module _ (down : List ℕ) where
     abbrev GoodR : Router → Type 0
