@@ -24,6 +24,7 @@ use Rattle.rtr_world.proofs.RouterSteps.{live_link}
 use Rattle.rtr_world.proofs.SideSteps.{live_of}
 use Rattle.rtr_world.proofs.Streams.{Stream, ByteCase, partly, wholly, byte_case, stream-append, all_bytes}
 use Rattle.rtr_world.proofs.Versions.{TableAt, Present}
+use Rattle.rtr_world.proofs.Seen.{Seen}
 
 false_true : {P : Type 0} → false ≡ true → P
 false_true h = absurd (let e : false ≡ true = h in cc)
@@ -33,7 +34,7 @@ none_is [] h = refl
 none_is (b ∷ out) h = absurd (let e : true ≡ false = h in cc)
 
 -- A link that does not live asks for nothing.
-pub dead_link : (l : Link) (all : List Instance) (i : Instance) (home : Option Instance) (r : Router) (conn conn' : Option Conn) (up up' down down' : List ℕ) → is_reading l ≡ false → GoodLink all i home l r conn up down → GoodLink all i home l r conn' up' down'
+pub dead_link : (l : Link) (all : List Instance) (i : Instance) (home : Option Seen) (r : Router) (conn conn' : Option Conn) (up up' down down' : List ℕ) → is_reading l ≡ false → GoodLink all i home l r conn up down → GoodLink all i home l r conn' up' down'
 dead_link Closed all i home r conn conn' up up' down down' dead g = g
 dead_link (Ended end) all i home r conn conn' up up' down down' dead g = tt
 dead_link Idle all i home r conn conn' up up' down down' dead g = absurd (let e : true ≡ false = dead in cc)
@@ -49,9 +50,9 @@ stream_more held down due lost coming units de le fit s =
     ∙ ap (λ x. down ++ x) (sym (append-nil (sent_all units)) ∙ ap (λ x. sent_all units ++ x) (sym le)) in
     subst (λ x. Stream held x (coming ++ units)) bytes more
 
-module _ (all : List Instance) (i : Instance) (p : Present all i) (keep : ℕ) (home : Option Instance) (r : Router) (down : List ℕ) where
+module _ (all : List Instance) (i : Instance) (p : Present all i) (keep : ℕ) (home : Option Seen) (keeps : (h : Seen) → home ≡ Some h → h.keep ≡ keep) (r : Router) (down : List ℕ) where
   -- What the router waits for, once the cache has read its question whole
-  record IsWhole (h : Instance) (l : Link) (u : Unit) (more rest : List Unit) : Type 0 where
+  record IsWhole (h : Seen) (l : Link) (u : Unit) (more rest : List Unit) : Type 0 where
     q : Question
     asks : l ≡ Asked q
     is : u ≡ query q
@@ -59,7 +60,7 @@ module _ (all : List Instance) (i : Instance) (p : Present all i) (keep : ℕ) (
     none : rest ≡ []
     fits : QuestionFits h.session q r.version
 
-  whole_question : (h : Instance) (l : Link) (u : Unit) (more rest : List Unit) → is_reading l ≡ true → Shape all h l r.agreed r.version r.table (u ∷ more) rest → IsWhole h l u more rest
+  whole_question : (h : Seen) (l : Link) (u : Unit) (more rest : List Unit) → is_reading l ≡ true → Shape all h l r.agreed r.version r.table (u ∷ more) rest → IsWhole h l u more rest
   whole_question h Closed u more rest live s = false_true live
   whole_question h (Ended end) u more rest live s = false_true live
   whole_question h Idle u more rest live s = absurd (let e : u ∷ more ≡ [] = s.0 in cc)
@@ -71,7 +72,7 @@ module _ (all : List Instance) (i : Instance) (p : Present all i) (keep : ℕ) (
       ]
 
   -- The cache has read the question, and these units are the answer.
-  answered : (o : Conn) (up bs : List ℕ) (h : Instance) (f : Flow all i h r (Some o) up down) (q : Question) (units : List Unit) (st : Connection) → home ≡ Some h → o.state.due ≡ [] → st.due ≡ sent_all units → Stream [] (bs ++ r.out) [] → r.link ≡ Asked q
+  answered : (o : Conn) (up bs : List ℕ) (h : Seen) (f : Flow all i h r (Some o) up down) (q : Question) (units : List Unit) (st : Connection) → home ≡ Some h → o.state.due ≡ [] → st.due ≡ sent_all units → Stream [] (bs ++ r.out) [] → r.link ≡ Asked q
       → without_notifies f.coming ≡ [] → QuestionFits h.session q r.version → IsAnswered units → Replies all h q (base_of q r.table) units → Live all i home r (Some (record { state = st; held = [] })) bs down
   answered o up bs h f q units st eh eo due up_stream link rest fits is replies =
       let op : Open i h r.out up f.wanted f.lost o = f.open_at in
@@ -83,7 +84,7 @@ module _ (all : List Instance) (i : Instance) (p : Present all i) (keep : ℕ) (
           lost = f.lost;
           wanted = [];
           downward = subst (λ x. Stream r.held (down ++ (x ++ f.lost)) (f.coming ++ units)) (sym due) (stream_more r.held down o.state.due f.lost f.coming units eo op.whole is.fit f.downward);
-          open_at = record { upward = up_stream; whole = op.whole; session = op.session; made = op.made };
+          open_at = record { upward = up_stream; whole = op.whole; session = op.session; made = op.made; later = op.later };
           notifies = notifies-append h.session f.coming units f.notifies (plain_notifies h.session units is.plain);
           own = f.own;
           mine = f.mine;
@@ -92,7 +93,7 @@ module _ (all : List Instance) (i : Instance) (p : Present all i) (keep : ℕ) (
       )
 
   -- it reads a byte
-  byte_live : (m : Taking) (b : ℕ) (bs : List ℕ) (h : Instance) (f : Flow all i h r (Some m.conn) (b ∷ bs) down) → home ≡ Some h → m.conn.state.due ≡ [] → is_reading r.link ≡ true → TableAt all r.version r.table
+  byte_live : (m : Taking) (b : ℕ) (bs : List ℕ) (h : Seen) (f : Flow all i h r (Some m.conn) (b ∷ bs) down) → home ≡ Some h → m.conn.state.due ≡ [] → is_reading r.link ≡ true → TableAt all r.version r.table
       → ByteCase false m.conn.held b (bs ++ r.out) f.wanted → (memory : Bool) → Live all i home r (Some (with_moment keep timing (m.conn.held ++ b ∷ []) m.conn (moment_of i memory (m.conn.held ++ b ∷ []) (judge 1 false (m.conn.held ++ b ∷ []))))) bs down
   byte_live m b bs h f eh eo live table (partly e s) memory =
       let op : Open i h r.out (b ∷ bs) f.wanted f.lost m.conn = f.open_at in
@@ -104,7 +105,7 @@ module _ (all : List Instance) (i : Instance) (p : Present all i) (keep : ℕ) (
           lost = f.lost;
           wanted = f.wanted;
           downward = f.downward;
-          open_at = record { upward = s; whole = op.whole; session = op.session; made = op.made };
+          open_at = record { upward = s; whole = op.whole; session = op.session; made = op.made; later = op.later };
           notifies = f.notifies;
           own = f.own;
           mine = f.mine;
@@ -195,7 +196,7 @@ module _ (all : List Instance) (i : Instance) (p : Present all i) (keep : ℕ) (
           lost = f.lost;
           wanted = f.wanted;
           downward = stream_more r.held down o.state.due f.lost f.coming (notice i.session (versions i)) due op.whole (notice_fit i.sets) f.downward;
-          open_at = record { upward = op.upward; whole = op.whole; session = op.session; made = op.made };
+          open_at = record { upward = op.upward; whole = op.whole; session = op.session; made = op.made; later = op.later };
           notifies = notifies-append l.0.session f.coming (notice i.session (versions i)) f.notifies (notice_own l.0.session op.session i.sets);
           own = f.own;
           mine = f.mine;

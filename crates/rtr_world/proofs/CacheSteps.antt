@@ -23,6 +23,7 @@ use Rattle.rtr_world.proofs.AnswerLaws.{Plain, plain-append, plain_records, chan
 use Rattle.rtr_world.proofs.Invariant.{Leads, QuestionFits, IsOwn, Replies, nothing_yet, no_data, not_kept, other_session, response}
 use Rattle.rtr_world.proofs.Streams.{all-append, all_bytes}
 use Rattle.rtr_world.proofs.Versions.{Stands, TableAt, Present, kept_at, has_sets, of_present, equal_of, equal_true, find_session}
+use Rattle.rtr_world.proofs.Seen.{Seen}
 
 not_both : (b : Bool) → b ≡ true → b ≡ false → ⊥
 not_both b h k = let e : true ≡ false = sym h ∙ k in cc
@@ -70,11 +71,11 @@ serial_bytes session serial =
     all_bytes (sent (SerialQuery session serial)) (omega arith, (omega arith, (omega arith, (omega arith, (omega arith, (omega arith, (omega arith, (omega arith, (omega arith, (omega arith, (omega arith, (omega arith, tt))))))))))))
 
 -- an answer that leads on, with what is asked of its units
-pub record Answers (all : List Instance) (home : Instance) (q : Question) (base : VrpSet) (units : List Unit) : Type 0 where
+pub record Answers (all : List Instance) (home : Seen) (q : Question) (base : VrpSet) (units : List Unit) : Type 0 where
   pub replies : Replies all home q base units
   pub answered : IsAnswered units
 
-module _ (all : List Instance) (i : Instance) (p : Present all i) (home : Instance) (same : home.session ≡ i.session) (made : length home.sets ≤ length i.sets) where
+module _ (all : List Instance) (i : Instance) (p : Present all i) (home : Seen) (same : home.session ≡ i.session) (made : length home.sets ≤ length i.sets) where
   low : i.session < 2 ^ 16
   low = p.is.session
 

@@ -17,13 +17,14 @@ use Rattle.rtr_world.specs.History.{conn_due}
 use Rattle.rtr_world.specs.OneAnswer.{NotifiesOf, without_notifies}
 use Rattle.rtr_world.specs.Place.{Place, place_of}
 use Rattle.rtr_world.specs.World.{places_of}
-use Rattle.rtr_world.proofs.Invariant.{Flow, GoodLink, GoodRouter, IfOpen, Live, Open, Shape, IsSeen}
+use Rattle.rtr_world.proofs.Invariant.{Flow, GoodLink, GoodRouter, IfOpen, Live, Open, Shape}
 use Rattle.rtr_world.proofs.Places.{Found, Ordered, ordered_more, place_at, stands_found, young_enough}
 use Rattle.rtr_world.proofs.RouterSteps.{right_response}
 use Rattle.rtr_world.proofs.SideSteps.{live_of, byte_good, none_is, not_true}
 use Rattle.rtr_world.proofs.Streams.{ByteCase, partly, wholly, byte_case}
 use Rattle.rtr_world.proofs.UnitCases.{Brings, goes_on, ends_other, ends_memory, commits, unit_brings, is_end}
 use Rattle.rtr_world.proofs.Versions.{Stands, find_session, same_instance, same_number, some_is}
+use Rattle.rtr_world.proofs.Seen.{Seen, IsSeen}
 
 -- the places of items that come after others
 places-append : (all : List Instance) (xs ys before : List Item) → places_of all (xs ++ ys) before ≡ places_of all xs (ys ++ before) ++ places_of all ys before
@@ -57,13 +58,13 @@ unit_places all l out u items b e = asked l out ∙ one_place (is_commit (Reads 
     asked (Ended end) out = refl
 
 -- What reading adds to the places: nothing, or that of a version that stands no earlier than what was seen
-pub data Adds (past : List Instance) (i h : Instance) (n : Noted) (items : List Item) : Type 0 where
+pub data Adds (past : List Instance) (i : Instance) (h : Seen) (n : Noted) (items : List Item) : Type 0 where
   nothing : places_of (i ∷ past) n.items items ≡ [] → Adds past i h n items
   one : (version : Committed) (table : VrpSet) (stands : Stands (i ∷ past) version.session version.serial table) (f : Found (i ∷ past) version.session version.serial (length stands.older))
       → n.router.link ≡ Idle → version.session ≡ h.session → length h.sets ≤ length stands.older + 1
       → places_of (i ∷ past) n.items items ≡ Some (place_at f.rank (length stands.older)) ∷ [] → Adds past i h n items
 
-unit_adds : (past : List Instance) (i h : Instance) (r : Router) (u : Unit) (items : List Item) → Tells (on_unit r.link u r) (asked_by (on_unit r.link u r).link (on_unit r.link u r).out ++ Reads u ∷ items)
+unit_adds : (past : List Instance) (i : Instance) (h : Seen) (r : Router) (u : Unit) (items : List Item) → Tells (on_unit r.link u r) (asked_by (on_unit r.link u r).link (on_unit r.link u r).out ++ Reads u ∷ items)
     → Brings (i ∷ past) h r r.link u (on_unit r.link u r) → Adds past i h (reads u r) items
 unit_adds past i h r u items t (goes_on on none) = nothing (unit_places (i ∷ past) (on_unit r.link u r).link (on_unit r.link u r).out u items false (no_commit u items none))
 unit_adds past i h r u items t (ends_other session serial is other e none) = nothing (unit_places (i ∷ past) (on_unit r.link u r).link (on_unit r.link u r).out u items false (no_commit u items none))
@@ -87,28 +88,27 @@ unit_adds past i h r u items t (commits version table e v own stands since) = by
     by_commit true c = one version table stands f e own since (unit_places (i ∷ past) k.link k.out u items true c ∙ ap (λ x. x ∷ []) place)
 
 -- what a later version is seen as
-seen_more : (home : Option Instance) (h : Instance) (set : VrpSet) (older : List VrpSet) → length h.sets ≤ length older + 1 → IsSeen home (Some h) → IsSeen home (Some (record h { sets = set ∷ older }))
-seen_more None h set older since s = s
-seen_more (Some home) h set older since s = let k = s.1 in (s.0, omega (arith, k, since))
+seen_more : (keep : ℕ) (home : Option Instance) (h : Seen) (set : VrpSet) (older : List VrpSet) → length h.sets ≤ length older + 1 → IsSeen keep home (Some h) → IsSeen keep home (Some (record h { sets = set ∷ older }))
+seen_more keep None h set older since s = s
+seen_more keep (Some home) h set older since s = let k = s.3 in (s.0, s.1, s.2, omega (arith, k, since))
 
-module _ (past : List Instance) (i : Instance) (home : Option Instance) (conn : Option Conn) (up : List ℕ) where
+module _ (keep : ℕ) (past : List Instance) (i : Instance) (home : Option Instance) (conn : Option Conn) (up : List ℕ) where
   abbrev all : List Instance
   all = i ∷ past
 
   -- an idle router whose version stands later
-  raised_open : (h : Instance) (out : List ℕ) (wanted : List Unit) (lost : List ℕ) (o : Option Conn) (session serial : ℕ) (set : VrpSet) (a : Stands (i ∷ past) session serial set) → session ≡ h.session
+  raised_open : (h : Seen) (out : List ℕ) (wanted : List Unit) (lost : List ℕ) (o : Option Conn) (session serial : ℕ) (set : VrpSet) (a : Stands (i ∷ past) session serial set) → session ≡ h.session
       → IfOpen o (Open i h out up wanted lost) → IfOpen o (Open i (record h { sets = set ∷ a.older }) out up wanted lost)
   raised_open h out wanted lost None session serial set a own op = tt
   raised_open h out wanted lost (Some o) session serial set a own op =
       let here : find_session i.session (i ∷ past) ≡ Some i = ap (λ b. if b then Some i else find_session i.session past) (same_number i.session) in
       let same : a.i ≡ i = same_instance a.i i (find_session session (i ∷ past)) a.found (subst (λ s. find_session s (i ∷ past) ≡ Some i) (sym (own ∙ op.session)) here) in
       let k = young_enough i a.newer set a.older (ap (λ x. x.sets) (sym same) ∙ a.sets) in
-      record { upward = op.upward; whole = op.whole; session = op.session; made = omega (arith, k) }
+      record { upward = op.upward; whole = op.whole; session = op.session; made = omega (arith, k); later = op.later }
 
-  raised : (down : List ℕ) (r : Router) (h : Instance) (session serial : ℕ) (set : VrpSet) (a : Stands (i ∷ past) session serial set) → session ≡ h.session → r.link ≡ Idle
+  raised : (down : List ℕ) (r : Router) (h : Seen) (session serial : ℕ) (set : VrpSet) (a : Stands (i ∷ past) session serial set) → session ≡ h.session → r.link ≡ Idle
       → GoodRouter (i ∷ past) i (Some h) conn up down r → GoodRouter (i ∷ past) i (Some (record h { sets = set ∷ a.older })) conn up down r
   raised down r h session serial set a own is g =
-      let k : Instance = record h { sets = set ∷ a.older } in
       let l : Live (i ∷ past) i (Some h) r conn up down = subst (λ x. GoodLink (i ∷ past) i (Some h) x r conn up down) is g.link in
       let f : Flow (i ∷ past) i h r conn up down = subst (λ x. Flow (i ∷ past) i x r conn up down) (sym (some_is h l.0 l.1)) l.2 in
       let sh : Shape (i ∷ past) h Idle r.agreed r.version r.table f.wanted (without_notifies f.coming) = subst (λ x. Shape (i ∷ past) h x r.agreed r.version r.table f.wanted (without_notifies f.coming)) is f.shape in
@@ -130,7 +130,7 @@ module _ (past : List Instance) (i : Instance) (home : Option Instance) (conn : 
       record { table = g.table; unmarked = g.unmarked; link = subst (λ x. GoodLink (i ∷ past) i (Some (record h { sets = set ∷ a.older })) x r conn up down) (sym is) live }
 
   -- a byte is read
-  byte_read : (seen : Option Instance) (down : List ℕ) (r : Router) (b : ℕ) (memory : Bool) (items : List Item) (h : Instance) (f : Flow (i ∷ past) i h r conn up (b ∷ down)) → is_reading r.link ≡ true → r.out ≡ [] → Tells r items
+  byte_read : (seen : Option Seen) (down : List ℕ) (r : Router) (b : ℕ) (memory : Bool) (items : List Item) (h : Seen) (f : Flow (i ∷ past) i h r conn up (b ∷ down)) → is_reading r.link ≡ true → r.out ≡ [] → Tells r items
       → ByteCase (not r.agreed) r.held b (down ++ (conn_due conn ++ f.lost)) f.coming → Adds past i h (with_bytes memory (r.held ++ b ∷ []) r (judge 1 (not r.agreed) (r.held ++ b ∷ []))) items
   byte_read seen down r b memory items h f live none t (partly e s) = subst (λ j. Adds past i h (with_bytes memory (r.held ++ b ∷ []) r j) items) (sym e) (nothing refl)
   byte_read seen down r b memory items h f live none t (wholly u more is e fit s) =
@@ -150,14 +150,14 @@ module _ (past : List Instance) (i : Instance) (home : Option Instance) (conn : 
 
   -- what holds between two bytes
   pub record Goes (items : List Item) (places : List (Option Place)) (down : List ℕ) (m : Receiving) : Type 0 where
-    pub seen : Option Instance
+    pub seen : Option Seen
     pub good : GoodRouter (i ∷ past) i seen conn up down m.router
     pub tells : Tells m.router (m.items ++ items)
-    pub is_seen : IsSeen home seen
+    pub is_seen : IsSeen keep home seen
     pub order : Ordered past i (places_of (i ∷ past) m.items items ++ places) seen
 
-  adds_goes : (items : List Item) (places : List (Option Place)) (down : List ℕ) (m : Receiving) (n : Noted) (wanting : Option ℕ) (seen : Option Instance) (h : Instance) → seen ≡ Some h → Adds past i h n (m.items ++ items) → GoodRouter (i ∷ past) i seen conn up down n.router
-      → Tells n.router ((n.items ++ m.items) ++ items) → IsSeen home seen → Ordered past i (places_of (i ∷ past) m.items items ++ places) seen → Goes items places down (record { router = n.router; items = n.items ++ m.items; wanting = wanting })
+  adds_goes : (items : List Item) (places : List (Option Place)) (down : List ℕ) (m : Receiving) (n : Noted) (wanting : Option ℕ) (seen : Option Seen) (h : Seen) → seen ≡ Some h → Adds past i h n (m.items ++ items) → GoodRouter (i ∷ past) i seen conn up down n.router
+      → Tells n.router ((n.items ++ m.items) ++ items) → IsSeen keep home seen → Ordered past i (places_of (i ∷ past) m.items items ++ places) seen → Goes items places down (record { router = n.router; items = n.items ++ m.items; wanting = wanting })
   adds_goes items places down m n wanting seen h e (nothing none) g t s o = record {
     seen = seen;
     good = g;
@@ -169,7 +169,7 @@ module _ (past : List Instance) (i : Instance) (home : Option Instance) (conn : 
     seen = Some (record h { sets = table ∷ stands.older });
     good = raised down n.router h version.session version.serial table stands own is (subst (λ x. GoodRouter (i ∷ past) i x conn up down n.router) e g);
     tells = t;
-    is_seen = seen_more home h table stands.older since (subst (λ x. IsSeen home x) e s);
+    is_seen = seen_more keep home h table stands.older since (subst (λ x. IsSeen keep home x) e s);
     order = subst (λ x. Ordered past i (x ++ places) (Some (record h { sets = table ∷ stands.older })))
         (sym (places-append (i ∷ past) n.items m.items items ∙ ap (λ x. x ++ places_of (i ∷ past) m.items items) more))
         (ordered_more past i h (places_of (i ∷ past) m.items items ++ places) version.session version.serial table stands f own since (subst (λ x. Ordered past i (places_of (i ∷ past) m.items items ++ places) x) e o));

@@ -16,10 +16,10 @@ AllLawful w = AllByRecursion SideLawful w.sides
 
 -- what is known of a side at an event
 abbrev Known : World → Side → Type 0
-Known w s = (Good w.past w.present s × SideTells s) × SideLawful s
+Known w s = (Good w.keep w.past w.present s × SideTells s) × SideLawful s
 
 known : (w : World) → GoodWorld w → AllTell w → AllLawful w → AllByRecursion (Known w) w.sides
-known w g t h = all_both (λ s. Good w.past w.present s × SideTells s) SideLawful w.sides (all_both (Good w.past w.present) SideTells w.sides g.sides t) h
+known w g t h = all_both (λ s. Good w.keep w.past w.present s × SideTells s) SideLawful w.sides (all_both (Good w.keep w.past w.present) SideTells w.sides g.sides t) h
 
 through_lawful : (event : Event) (wanting : Option ℕ) (w : World) → GoodWorld w → AllTell w → AllLawful w → AllLawful (goes_through event wanting w)
 unfolding goes_through

@@ -18,12 +18,13 @@ use Rattle.rtr_world.specs.Claims.{IsLawfulEnd, OfAnother}
 use Rattle.rtr_world.specs.History.{conn_due}
 use Rattle.rtr_world.specs.OneAnswer.{NotifiesOf, without_notifies}
 use Rattle.rtr_world.specs.World.{Side, World, Ending, instances, SideEvent, RouterRestart, Connect, RouterSends, CacheGets, CacheSends, RouterGets, Cut, NotifyRouter, Ask, Tick, is_ended, ending_of, noted, connects, router_restarts, router_sends, sends_from, cache_sends, gets_at, cache_gets, router_gets, cut, notifies_at, side_step, side_part, side_refused, tell_closed, close_ended, settle_conn, settle_link, settle_rest, settle_wire, settle}
-use Rattle.rtr_world.proofs.Invariant.{Flow, GoodRouter, Good, IsSeen, Shape}
+use Rattle.rtr_world.proofs.Invariant.{Flow, GoodRouter, Good, Shape}
 use Rattle.rtr_world.proofs.RouterSteps.{right_response}
 use Rattle.rtr_world.proofs.SideSteps.{live_of, byte_good, clocked_good, not_true}
 use Rattle.rtr_world.proofs.Streams.{ByteCase, partly, wholly, byte_case}
 use Rattle.rtr_world.proofs.TableLaws.{SideTells}
 use Rattle.rtr_world.proofs.UnitCases.{Brings, goes_on, ends_other, ends_memory, commits, unit_brings}
+use Rattle.rtr_world.proofs.Seen.{Seen, IsSeen}
 
 false_true : {P : Type 0} → false ≡ true → P
 false_true h = absurd (let e : false ≡ true = h in cc)
@@ -57,18 +58,18 @@ asked_is r items q is t =
     λ i. question_of (l.2 i) (l.1 i)
 
 -- the session of the connection
-other_session : (home : Option Instance) (h : Instance) (session serial : ℕ) → IsSeen home (Some h) → (session ≡ h.session → ⊥) → OfAnother (Some (AskSerial session serial)) home
-other_session None h session serial s other = absurd s
-other_session (Some home) h session serial s other = λ e. other (e ∙ sym s.0)
+other_session : (keep : ℕ) (home : Option Instance) (h : Seen) (session serial : ℕ) → IsSeen keep home (Some h) → (session ≡ h.session → ⊥) → OfAnother (Some (AskSerial session serial)) home
+other_session keep None h session serial s other = absurd s
+other_session keep (Some home) h session serial s other = λ e. other (e ∙ sym s.2)
 
-module _ (all : List Instance) (i : Instance) (home seen : Option Instance) (is_seen : IsSeen home seen) (conn : Option Conn) (up : List ℕ) where
+module _ (all : List Instance) (i : Instance) (keep : ℕ) (home : Option Instance) (seen : Option Seen) (is_seen : IsSeen keep home seen) (conn : Option Conn) (up : List ℕ) where
   -- a unit is read
-  unit_lawful : (h : Instance) (r : Router) (u : Unit) (items : List Item) → seen ≡ Some h → Tells r items → Brings all h r r.link u (on_unit r.link u r)
+  unit_lawful : (h : Seen) (r : Router) (u : Unit) (items : List Item) → seen ≡ Some h → Tells r items → Brings all h r r.link u (on_unit r.link u r)
       → LawfulLink (on_unit r.link u r).link (asked_by (on_unit r.link u r).link (on_unit r.link u r).out ++ Reads u ∷ items) home
   unit_lawful h r u items eh t (goes_on on none) = lawful_on (on_unit r.link u r).link (asked_by (on_unit r.link u r).link (on_unit r.link u r).out ++ Reads u ∷ items) home on
   unit_lawful h r u items eh t (ends_other session serial is other e none) =
       subst (λ l. LawfulLink l (asked_by l (on_unit r.link u r).out ++ Reads u ∷ items) home) (sym e)
-      (subst (λ o. OfAnother o home) (sym (asked_is r items (AskSerial session serial) is t)) (other_session home h session serial (subst (λ x. IsSeen home x) eh is_seen) other))
+      (subst (λ o. OfAnother o home) (sym (asked_is r items (AskSerial session serial) is t)) (other_session keep home h session serial (subst (λ x. IsSeen keep home x) eh is_seen) other))
   unit_lawful h r u items eh t (ends_memory e none) = subst (λ l. LawfulLink l (asked_by l (on_unit r.link u r).out ++ Reads u ∷ items) home) (sym e) tt
   unit_lawful h r u items eh t (commits version table e v own stands since) = lawful_on (on_unit r.link u r).link (asked_by (on_unit r.link u r).link (on_unit r.link u r).out ++ Reads u ∷ items) home (ap is_ended e)
 
@@ -76,7 +77,7 @@ module _ (all : List Instance) (i : Instance) (home seen : Option Instance) (is_
   abbrev LawfulNoted : Noted → List Item → Type 0
   LawfulNoted n items = LawfulLink n.router.link (n.items ++ items) home
 
-  byte_read : (down : List ℕ) (r : Router) (b : ℕ) (memory : Bool) (items : List Item) (h : Instance) (f : Flow all i h r conn up (b ∷ down)) → seen ≡ Some h → is_reading r.link ≡ true → Tells r items
+  byte_read : (down : List ℕ) (r : Router) (b : ℕ) (memory : Bool) (items : List Item) (h : Seen) (f : Flow all i h r conn up (b ∷ down)) → seen ≡ Some h → is_reading r.link ≡ true → Tells r items
       → ByteCase (not r.agreed) r.held b (down ++ (conn_due conn ++ f.lost)) f.coming → LawfulNoted (with_bytes memory (r.held ++ b ∷ []) r (judge 1 (not r.agreed) (r.held ++ b ∷ []))) items
   byte_read down r b memory items h f eh live t (partly e s) =
       subst (λ j. LawfulNoted (with_bytes memory (r.held ++ b ∷ []) r j) items) (sym e) (lawful_on r.link items home (reading_on r.link live))
@@ -187,13 +188,13 @@ asks_lawful : (l : Link) (r : Router) (b : Bool) (items : List Item) (home : Opt
 asks_lawful l r true items home h = tt
 asks_lawful l r false items home h = h
 
-gets_lawful : (w : World) (most : ℕ) (wanting : Option ℕ) (s : Side) → Good w.past w.present s → SideTells s → SideLawful s → SideLawful (router_gets w most wanting s)
+gets_lawful : (w : World) (most : ℕ) (wanting : Option ℕ) (s : Side) → Good w.keep w.past w.present s → SideTells s → SideLawful s → SideLawful (router_gets w most wanting s)
 unfolding router_gets receives
 gets_lawful w most wanting s g t h =
     let start = subst (λ d. GoodRouter (instances w) w.present g.seen s.conn s.up d s.router) (sym (take-append-drop most s.down)) g.router in
     let m : Receiving = record { router = clocked s.router.now s.router; items = At s.router.now ∷ []; wanting = wanting } in
     let n = noted_lawful (instances w) (of_received (feed (λ x. router_stops x.router) router_byte m (take most s.down))) s
-    (λ on. (goes_fed (instances w) w.present s.home g.seen g.is_seen s.conn s.up s.items (drop most s.down) m (take most s.down) (record {
+    (λ on. (goes_fed (instances w) w.present w.keep s.home g.seen g.is_seen s.conn s.up s.items (drop most s.down) m (take most s.down) (record {
       good = clocked_good (instances w) w.present g.seen s.conn s.up (take most s.down ++ drop most s.down) s.router.now s.router start;
       tells = clocked_tells s.router.now s.router s.items t.tells;
       lawful = clocked_lawful s.router.now s.router (At s.router.now ∷ s.items) s.home on;
@@ -212,7 +213,7 @@ notifies_keeps : (w : World) (s : Side) (o : Option Conn) → SideLawful s → S
 notifies_keeps w s None h = h
 notifies_keeps w s (Some o) h = record { endings = h.endings }
 
-pub step_lawful : (w : World) (event : SideEvent) (wanting : Option ℕ) (s : Side) → Good w.past w.present s → SideTells s → SideLawful s → SideLawful (side_step w event wanting s)
+pub step_lawful : (w : World) (event : SideEvent) (wanting : Option ℕ) (s : Side) → Good w.keep w.past w.present s → SideTells s → SideLawful s → SideLawful (side_step w event wanting s)
 unfolding side_step connects connects_at router_restarts router_sends cache_sends cache_gets cut ticks_at asks
 step_lawful w RouterRestart wanting s g t h = record { endings = h.endings }
 step_lawful w Connect wanting s g t h = let n = noted_lawful (instances w) (connects_at s.router.now s.router) s (λ on. tt) h in record { endings = n.endings }
@@ -230,7 +231,7 @@ step_lawful w (Tick now) wanting s g t h =
     (λ on. subst (λ x. LawfulLink (asks_if b k).router.link x s.home) (sym (append_assoc (asks_if b k).items (At now ∷ []) s.items))
     (asks_lawful k.link k b (At now ∷ s.items) s.home (clocked_lawful now s.router (At now ∷ s.items) s.home on))) h
 
-part_lawful : (w : World) (event : SideEvent) (bytes : ℕ) (wanting : Option ℕ) (s : Side) → Good w.past w.present s → SideTells s → SideLawful s → SideLawful (side_part w event bytes wanting s)
+part_lawful : (w : World) (event : SideEvent) (bytes : ℕ) (wanting : Option ℕ) (s : Side) → Good w.keep w.past w.present s → SideTells s → SideLawful s → SideLawful (side_part w event bytes wanting s)
 unfolding router_sends cache_sends cache_gets
 part_lawful w (RouterSends most) bytes wanting s g t h = record { endings = h.endings }
 part_lawful w (CacheGets most) bytes wanting s g t h = cache_gets_keeps w bytes wanting s s.conn h
@@ -243,7 +244,7 @@ part_lawful w NotifyRouter bytes wanting s g t h = h
 part_lawful w Ask bytes wanting s g t h = h
 part_lawful w (Tick now) bytes wanting s g t h = h
 
-pub refused_lawful : (w : World) (event : SideEvent) (bytes : ℕ) (wanting : Option ℕ) (s : Side) → Good w.past w.present s → SideTells s → SideLawful s → SideLawful (side_refused w event bytes wanting s)
+pub refused_lawful : (w : World) (event : SideEvent) (bytes : ℕ) (wanting : Option ℕ) (s : Side) → Good w.keep w.past w.present s → SideTells s → SideLawful s → SideLawful (side_refused w event bytes wanting s)
 unfolding side_refused cut
 refused_lawful w event bytes wanting s g t h = let p = part_lawful w event bytes wanting s g t h in record { endings = p.endings }
 

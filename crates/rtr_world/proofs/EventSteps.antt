@@ -14,13 +14,14 @@ use Rattle.rtr_world.specs.History.{conn_due}
 use Rattle.rtr_world.specs.World.{Side, World, instances, timing, SideEvent, RouterRestart, Connect, RouterSends, CacheGets, CacheSends, RouterGets, Cut, NotifyRouter, Ask, Tick, noted, places_of, connects, router_restarts, router_sends, sends_from, cache_sends, gets_at, cache_gets, router_gets, cut, notifies_at, side_step, side_part, side_refused, tell_closed, close_ended, settle_conn, settle_link, settle_rest, settle_wire, settle}
 use Rattle.rtr_world.proofs.CacheMoves as cache
 use Rattle.rtr_world.proofs.Commits.{goes_fed}
-use Rattle.rtr_world.proofs.Invariant.{OwnSession, IfOpen, Open, GoodLink, GoodRouter, Good, IsSeen}
+use Rattle.rtr_world.proofs.Invariant.{OwnSession, IfOpen, Open, GoodLink, GoodRouter, Good}
 use Rattle.rtr_world.proofs.Places.{Ordered, ordered_connects, ordered_none}
 use Rattle.rtr_world.proofs.RouterSteps.{first_fits, query_unit}
 use Rattle.rtr_world.proofs.SideSteps.{live_map, clocked_good, close_shut, asks_good}
 use Rattle.rtr_world.proofs.Streams.{Stream}
 use Rattle.rtr_world.proofs.TableLaws.{SideTells}
 use Rattle.rtr_world.proofs.Versions.{Present}
+use Rattle.rtr_world.proofs.Seen.{Seen, IsSeen, seen_at}
 
 not_due : (l : Link) (when : Option ℕ) (now : ℕ) → is_idle l ≡ false → is_due l when now ≡ false
 not_due Closed when now h = refl
@@ -33,13 +34,13 @@ not_due (Answering a) when now h = refl
 sent_first : (most : ℕ) (held up out : List ℕ) (units : List Unit) → Stream held (up ++ out) units → Stream held ((up ++ take most out) ++ drop most out) units
 sent_first most held up out units s = subst (λ x. Stream held x units) (ap (λ x. up ++ x) (sym (take-append-drop most out)) ∙ sym (append_assoc up (take most out) (drop most out))) s
 
-open_sent : (i h : Instance) (most : ℕ) (out up : List ℕ) (wanted : List Unit) (lost : List ℕ) (conn : Option Conn) → IfOpen conn (Open i h out up wanted lost) → IfOpen conn (Open i h (drop most out) (up ++ take most out) wanted lost)
+open_sent : (i : Instance) (h : Seen) (most : ℕ) (out up : List ℕ) (wanted : List Unit) (lost : List ℕ) (conn : Option Conn) → IfOpen conn (Open i h out up wanted lost) → IfOpen conn (Open i h (drop most out) (up ++ take most out) wanted lost)
 open_sent i h most out up wanted lost None op = tt
-open_sent i h most out up wanted lost (Some o) op = record { upward = sent_first most o.held up out wanted op.upward; whole = op.whole; session = op.session; made = op.made }
+open_sent i h most out up wanted lost (Some o) op = record { upward = sent_first most o.held up out wanted op.upward; whole = op.whole; session = op.session; made = op.made; later = op.later }
 
 module _ (w : World) (p : Present (instances w) w.present) where
   abbrev GoodS : Side → Type 0
-  GoodS s = Good w.past w.present s
+  GoodS s = Good w.keep w.past w.present s
 
   router_sends_good : (most : ℕ) (s : Side) → GoodS s → GoodS (router_sends most s)
   unfolding router_sends router_pulled
@@ -96,7 +97,7 @@ module _ (w : World) (p : Present (instances w) w.present) where
               lost = f.lost;
               wanted = f.wanted;
               downward = subst (λ x. Stream s.router.held x f.coming) bytes f.downward;
-              open_at = record { upward = op.upward; whole = op.whole; session = op.session; made = op.made };
+              open_at = record { upward = op.upward; whole = op.whole; session = op.session; made = op.made; later = op.later };
               notifies = f.notifies;
               own = f.own;
               mine = f.mine;
@@ -110,13 +111,19 @@ module _ (w : World) (p : Present (instances w) w.present) where
   unfolding cache_sends
   cache_sends_good most s g = sends_good most s s.conn refl g
 
+  keeps_so : (home : Option Instance) (seen : Option Seen) → IsSeen w.keep home seen → (h : Seen) → seen ≡ Some h → h.keep ≡ w.keep
+  keeps_so None None s h e = absurd (let k : ◌≡◌ {A = Option Seen} None (Some h) = e in cc)
+  keeps_so None (Some k) s h e = absurd s
+  keeps_so (Some home) None s h e = absurd s
+  keeps_so (Some home) (Some k) s h e = let same : k ≡ h = cc in ap (λ x. x.keep) (sym same) ∙ s.1
+
   gets_good : (most : ℕ) (wanting : Option ℕ) (s : Side) (o : Option Conn) → s.conn ≡ o → GoodS s → GoodS (gets_at w most wanting s o)
   unfolding conn_takes
   gets_good most wanting s None e g = g
   gets_good most wanting s (Some o) e g =
       let start : GoodRouter (instances w) w.present g.seen (Some o) (take most s.up ++ drop most s.up) s.down s.router =
       subst (λ u. GoodRouter (instances w) w.present g.seen (Some o) u s.down s.router) (sym (take-append-drop most s.up)) (subst (λ x. GoodRouter (instances w) w.present g.seen x s.up s.down s.router) e g.router) in
-      record { seen = g.seen; is_seen = g.is_seen; order = g.order; router = cache.fed_good (instances w) w.present p w.keep g.seen s.router s.down (drop most s.up) (record { conn = o; moments = []; wanting = wanting }) (take most s.up) start }
+      record { seen = g.seen; is_seen = g.is_seen; order = g.order; router = cache.fed_good (instances w) w.present p w.keep g.seen (keeps_so s.home g.seen g.is_seen) s.router s.down (drop most s.up) (record { conn = o; moments = []; wanting = wanting }) (take most s.up) start }
 
   cache_gets_good : (most : ℕ) (wanting : Option ℕ) (s : Side) → GoodS s → GoodS (cache_gets w most wanting s)
   unfolding cache_gets
@@ -127,7 +134,7 @@ module _ (w : World) (p : Present (instances w) w.present) where
   router_gets_good most wanting s g t =
       let start = subst (λ d. GoodRouter (instances w) w.present g.seen s.conn s.up d s.router) (sym (take-append-drop most s.down)) g.router in
       let told = clocked_good (instances w) w.present g.seen s.conn s.up (take most s.down ++ drop most s.down) s.router.now s.router start in
-      let fed = goes_fed w.past w.present s.home s.conn s.up s.items s.places (drop most s.down) (record { router = clocked s.router.now s.router; items = At s.router.now ∷ []; wanting = wanting }) (take most s.down)
+      let fed = goes_fed w.keep w.past w.present s.home s.conn s.up s.items s.places (drop most s.down) (record { router = clocked s.router.now s.router; items = At s.router.now ∷ []; wanting = wanting }) (take most s.down)
       (record { seen = g.seen; good = told; tells = clocked_tells s.router.now s.router s.items t.tells; is_seen = g.is_seen; order = g.order }) in
       record { seen = fed.seen; router = fed.good; is_seen = fed.is_seen; order = fed.order }
 
@@ -172,14 +179,14 @@ module _ (w : World) (p : Present (instances w) w.present) where
       let q : Question = choose (close (clocked s.router.now s.router)).version (close (clocked s.router.now s.router)).mark in
       let fits = first_fits w.present.session (close (clocked s.router.now s.router)).version (close (clocked s.router.now s.router)).mark shut.unmarked in
       record {
-        seen = Some w.present;
-        is_seen = (refl, omega arith);
-        order = ordered_connects w.past w.present s.places g.seen g.order;
+        seen = Some (seen_at w.keep w.present);
+        is_seen = (refl, refl, refl, omega arith);
+        order = ordered_connects w.keep w.past w.present s.places g.seen g.order;
         router = record {
           table = shut.table;
           unmarked = shut.unmarked;
           link = (
-            w.present,
+            seen_at w.keep w.present,
             refl,
             record {
               coming = [];
@@ -195,6 +202,7 @@ module _ (w : World) (p : Present (instances w) w.present) where
                 whole = refl;
                 session = refl;
                 made = omega arith;
+                later = record { session = refl; start = refl; more = []; sets = refl };
               };
               notifies = tt;
               own = own (close (clocked s.router.now s.router)).session shut.session;
@@ -222,7 +230,7 @@ module _ (w : World) (p : Present (instances w) w.present) where
   notifies_good : (s : Side) (o : Option Conn) → s.conn ≡ o → GoodS s → GoodS (notifies_at w s o)
   notifies_good s None e g = g
   notifies_good s (Some o) e g =
-      record { seen = g.seen; is_seen = g.is_seen; order = g.order; router = cache.notified_good (instances w) w.present p w.keep g.seen s.router s.down o s.up (subst (λ x. GoodRouter (instances w) w.present g.seen x s.up s.down s.router) e g.router) }
+      record { seen = g.seen; is_seen = g.is_seen; order = g.order; router = cache.notified_good (instances w) w.present p w.keep g.seen (keeps_so s.home g.seen g.is_seen) s.router s.down o s.up (subst (λ x. GoodRouter (instances w) w.present g.seen x s.up s.down s.router) e g.router) }
 
   -- asking commits nothing
   asks_places : (b : Bool) (r : Router) (items : List Item) → places_of (instances w) (asks_if b r).items items ≡ []
@@ -270,7 +278,7 @@ module _ (w : World) (p : Present (instances w) w.present) where
 
   -- After each event
 
-  closed_link : (r : Router) (home : Option Instance) (conn : Option Conn) (up down : List ℕ) → r.link ≡ Closed → r.held ≡ [] → r.agreed ≡ false → r.session ≡ None → GoodLink (instances w) w.present home r.link r conn up down
+  closed_link : (r : Router) (home : Option Seen) (conn : Option Conn) (up down : List ℕ) → r.link ≡ Closed → r.held ≡ [] → r.agreed ≡ false → r.session ≡ None → GoodLink (instances w) w.present home r.link r conn up down
   closed_link r home conn up down is held agreed session = subst (λ l. GoodLink (instances w) w.present home l r conn up down) (sym is) (held, agreed, session)
 
   -- a closed router is so, whatever its connection
@@ -312,8 +320,8 @@ module _ (w : World) (p : Present (instances w) w.present) where
       by_link true = refl
       by_link false = refl
 
-  seen_told : (s : Side) → IsSeen (tell_closed (instances w) s).home None
-  seen_told s = subst (λ h. IsSeen h None) (sym (home_told s)) tt
+  seen_told : (s : Side) → IsSeen w.keep (tell_closed (instances w) s).home None
+  seen_told s = subst (λ h. IsSeen w.keep h None) (sym (home_told s)) tt
 
   order_told : (s : Side) (g : GoodS s) → Ordered w.past w.present (tell_closed (instances w) s).places None
   order_told s g = subst (λ x. Ordered w.past w.present x None) (sym (places_told s)) (ordered_none w.past w.present s.places g.seen g.order)

@@ -6,6 +6,7 @@ use Rattle.rtr_pdu.specs.declared.unit.Unit.{Unit}
 use Rattle.rtr_pdu.specs.declared.unit.Unit.TheVariants.{CacheResponse, Prefix, EndOfData, CacheReset}
 use Rattle.rtr_ends.specs.Answer.{report}
 use Rattle.rtr_ends.specs.Cache.{Conn}
+use Rattle.rtr_ends.specs.Connection.{IsLater}
 use Rattle.rtr_ends.specs.Router.{Router, Link, Closed, Idle, Asked, Answering, Ended, Staged, Stays, Wrong, Over, stage}
 use Rattle.rtr_ends.specs.Transcript.{Begun, Committed, Question, AskReset, AskSerial, query, base_of, led_to}
 use Rattle.rtr_world.specs.History.{conn_due}
@@ -14,6 +15,7 @@ use Rattle.rtr_world.specs.World.{Side}
 use Rattle.rtr_world.proofs.Places.{Ordered}
 use Rattle.rtr_world.proofs.Streams.{Stream}
 use Rattle.rtr_world.proofs.Versions.{Stands, TableAt}
+use Rattle.rtr_world.proofs.Seen.{Seen, IsSeen}
 
 abbrev pub after_stage : Staged → (Begun → Type 0) → Type 0
 after_stage (Stays a) Goes = Goes a
@@ -48,7 +50,7 @@ IsOwn session AskReset = ⊤
 IsOwn session (AskSerial one serial) = one ≡ session
 
 -- The rest of an answer is to a version that was current when the connection was made, or later.
-pub record OfAnswer (all : List Instance) (home : Instance) (base : VrpSet) (a : Begun) (rest : List Unit) : Type 0 where
+pub record OfAnswer (all : List Instance) (home : Seen) (base : VrpSet) (a : Begun) (rest : List Unit) : Type 0 where
   pub serial : ℕ
   pub set : VrpSet
   pub stands : Stands all home.session serial set
@@ -59,7 +61,7 @@ abbrev pub nothing_yet : Question → ℕ → Begun
 nothing_yet question session = record { question = question; session = session; withdrawn = []; announced = [] }
 
 -- One whole answer to the question
-pub data Replies (all : List Instance) (home : Instance) (q : Question) (base : VrpSet) (rest : List Unit) : Type 0 where
+pub data Replies (all : List Instance) (home : Seen) (q : Question) (base : VrpSet) (rest : List Unit) : Type 0 where
   no_data : (copy : List ℕ) → q ≡ AskReset → rest ≡ report 2 copy ∷ [] → Replies all home q base rest
   not_kept : (serial : ℕ) → q ≡ AskSerial home.session serial → rest ≡ CacheReset ∷ [] → Replies all home q base rest
   other_session : (session serial : ℕ) (copy : List ℕ) → q ≡ AskSerial session serial → (session ≡ home.session → ⊥) → rest ≡ report 0 copy ∷ [] → Replies all home q base rest
@@ -67,10 +69,10 @@ pub data Replies (all : List Instance) (home : Instance) (q : Question) (base : 
   response : (tail : List Unit) → rest ≡ CacheResponse home.session ∷ tail → IsOwn home.session q → OfAnswer all home base (nothing_yet q home.session) tail → Replies all home q base rest
 
 -- The question is on its way and nothing is answered, or the cache has read it and the whole answer is to come.
-abbrev pub Waits : List Instance → Instance → Question → VrpSet → List Unit → List Unit → Type 0
+abbrev pub Waits : List Instance → Seen → Question → VrpSet → List Unit → List Unit → Type 0
 Waits all home q base wanted rest = ((wanted ≡ query q ∷ []) × (rest ≡ [])) ⊎ ((wanted ≡ []) × Replies all home q base rest)
 
-abbrev pub Shape : List Instance → Instance → Link → Bool → Option Committed → VrpSet → List Unit → List Unit → Type 0
+abbrev pub Shape : List Instance → Seen → Link → Bool → Option Committed → VrpSet → List Unit → List Unit → Type 0
 Shape all home Closed agreed version table wanted rest = ⊤
 Shape all home (Ended end) agreed version table wanted rest = ⊤
 Shape all home Idle agreed version table wanted rest = (wanted ≡ []) × (rest ≡ []) × (agreed ≡ true)
@@ -84,13 +86,14 @@ IfOpen None P = ⊤
 IfOpen (Some o) P = P o
 
 -- Open at the cache: what the router asked and the cache has not read whole are these units.
-pub record Open (i home : Instance) (out up : List ℕ) (wanted : List Unit) (lost : List ℕ) (o : Conn) : Type 0 where
+pub record Open (i : Instance) (home : Seen) (out up : List ℕ) (wanted : List Unit) (lost : List ℕ) (o : Conn) : Type 0 where
   pub upward : Stream o.held (up ++ out) wanted
   pub whole : lost ≡ []
   pub session : home.session ≡ i.session
   pub made : length home.sets ≤ length i.sets
+  pub later : IsLater home.made i
 
-pub record Flow (all : List Instance) (i home : Instance) (r : Router) (conn : Option Conn) (up down : List ℕ) : Type 0 where
+pub record Flow (all : List Instance) (i : Instance) (home : Seen) (r : Router) (conn : Option Conn) (up down : List ℕ) : Type 0 where
   pub coming : List Unit
   pub lost : List ℕ
   pub wanted : List Unit
@@ -101,30 +104,23 @@ pub record Flow (all : List Instance) (i home : Instance) (r : Router) (conn : O
   pub mine : r.agreed ≡ true → Mine home.session r.version
   pub shape : Shape all home r.link r.agreed r.version r.table wanted (without_notifies coming)
 
-abbrev pub Live : List Instance → Instance → Option Instance → Router → Option Conn → List ℕ → List ℕ → Type 0
-Live all i home r conn up down = (h : Instance) × (home ≡ Some h) × Flow all i h r conn up down
+abbrev pub Live : List Instance → Instance → Option Seen → Router → Option Conn → List ℕ → List ℕ → Type 0
+Live all i home r conn up down = (h : Seen) × (home ≡ Some h) × Flow all i h r conn up down
 
-abbrev pub GoodLink : List Instance → Instance → Option Instance → Link → Router → Option Conn → List ℕ → List ℕ → Type 0
+abbrev pub GoodLink : List Instance → Instance → Option Seen → Link → Router → Option Conn → List ℕ → List ℕ → Type 0
 GoodLink all i home Closed r conn up down = (r.held ≡ []) × (r.agreed ≡ false) × (r.session ≡ None)
 GoodLink all i home (Ended end) r conn up down = ⊤
 GoodLink all i home Idle r conn up down = Live all i home r conn up down
 GoodLink all i home (Asked q) r conn up down = Live all i home r conn up down
 GoodLink all i home (Answering a) r conn up down = Live all i home r conn up down
 
-pub record GoodRouter (all : List Instance) (i : Instance) (home : Option Instance) (conn : Option Conn) (up down : List ℕ) (r : Router) : Type 0 where
+pub record GoodRouter (all : List Instance) (i : Instance) (home : Option Seen) (conn : Option Conn) (up down : List ℕ) (r : Router) : Type 0 where
   pub table : TableAt all r.version r.table
   pub unmarked : r.mark ≡ false
   pub link : GoodLink all i home r.link r conn up down
 
--- the instance of the connection, as it was when the connection was made, or when what was committed on it last was its newest version
-abbrev pub IsSeen : Option Instance → Option Instance → Type 0
-IsSeen None None = ⊤
-IsSeen (Some home) (Some seen) = (seen.session ≡ home.session) × (length home.sets ≤ length seen.sets)
-IsSeen None (Some seen) = ⊥
-IsSeen (Some home) None = ⊥
-
-pub record Good (past : List Instance) (i : Instance) (s : Side) : Type 0 where
-  pub seen : Option Instance
+pub record Good (keep : ℕ) (past : List Instance) (i : Instance) (s : Side) : Type 0 where
+  pub seen : Option Seen
   pub router : GoodRouter (i ∷ past) i seen s.conn s.up s.down s.router
-  pub is_seen : IsSeen s.home seen
+  pub is_seen : IsSeen keep s.home seen
   pub order : Ordered past i s.places seen

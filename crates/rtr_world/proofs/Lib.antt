@@ -8,6 +8,7 @@ pub mod EventSteps
 pub mod Invariant
 pub mod Places
 pub mod RouterSteps
+pub mod Seen
 pub mod SideLaws
 pub mod SideSteps
 pub mod StepLaws

@@ -7,6 +7,7 @@ use Rattle.vrps.specs.Instance.{Instance, versions}
 use Rattle.vrps.specs.VrpSet.{VrpSet}
 use Rattle.rtr_world.specs.Place.{Place, position_of, place_named, IsNotAfter, NeverBack}
 use Rattle.rtr_world.proofs.Versions.{Stands, position_at, find_session, some_is, equal_of, same_number}
+use Rattle.rtr_world.proofs.Seen.{Seen, seen_at}
 
 -- how many instances came before that of a session
 abbrev pub rank_of : ℕ → List Instance → Option ℕ
@@ -113,17 +114,17 @@ last_trans [] b c h k = tt
 last_trans (last ∷ earlier) b c h k = not_after_trans last b c h k
 
 -- the instance of the connection, as it was when the connection was made or after a commit: what was committed is not after it
-abbrev pub IfSeen : Option Instance → (Instance → Type 0) → Type 0
+abbrev pub IfSeen : Option Seen → (Seen → Type 0) → Type 0
 IfSeen None P = ⊤
 IfSeen (Some h) P = P h
 
-pub record Below (all : List Instance) (places : List (Option Place)) (h : Instance) : Type 0 where
+pub record Below (all : List Instance) (places : List (Option Place)) (h : Seen) : Type 0 where
   pub rank : ℕ
   pub is : rank_of h.session all ≡ Some rank
   pub below : LastBefore places (place_at rank (length h.sets - 1))
 
 -- What was committed is in order, and not after the newest version.
-pub record Ordered (past : List Instance) (i : Instance) (places : List (Option Place)) (seen : Option Instance) : Type 0 where
+pub record Ordered (past : List Instance) (i : Instance) (places : List (Option Place)) (seen : Option Seen) : Type 0 where
   pub never_back : NeverBack places
   pub current : LastBefore places (newest_place past i)
   pub at_seen : IfSeen seen (Below (i ∷ past) places)
@@ -133,7 +134,7 @@ never_more : (place : Place) (places : List (Option Place)) → LastBefore place
 never_more place [] h k = inr (refl, omega arith)
 never_more place (last ∷ earlier) h k = (h, k)
 
-pub ordered_more : (past : List Instance) (i h : Instance) (places : List (Option Place)) (session serial : ℕ) (set : VrpSet) (a : Stands (i ∷ past) session serial set) (f : Found (i ∷ past) session serial (length a.older)) → session ≡ h.session
+pub ordered_more : (past : List Instance) (i : Instance) (h : Seen) (places : List (Option Place)) (session serial : ℕ) (set : VrpSet) (a : Stands (i ∷ past) session serial set) (f : Found (i ∷ past) session serial (length a.older)) → session ≡ h.session
     → length h.sets ≤ length a.older + 1 → Ordered past i places (Some h) → Ordered past i (Some (place_at f.rank (length a.older)) ∷ places) (Some (record h { sets = set ∷ a.older }))
 ordered_more past i h places session serial set a f own since o =
     let b : Below (i ∷ past) places h = o.at_seen in
@@ -149,33 +150,33 @@ ordered_more past i h places session serial set a f own since o =
     same o m n p q = let e : Some m ≡ Some n = sym p ∙ q in cc
 
 -- no connection
-pub ordered_none : (past : List Instance) (i : Instance) (places : List (Option Place)) (seen : Option Instance) → Ordered past i places seen → Ordered past i places None
+pub ordered_none : (past : List Instance) (i : Instance) (places : List (Option Place)) (seen : Option Seen) → Ordered past i places seen → Ordered past i places None
 ordered_none past i places seen o = record { never_back = o.never_back; current = o.current; at_seen = tt }
 
 -- a new one
-pub ordered_connects : (past : List Instance) (i : Instance) (places : List (Option Place)) (seen : Option Instance) → Ordered past i places seen → Ordered past i places (Some i)
-ordered_connects past i places seen o = record { never_back = o.never_back; current = o.current; at_seen = record { rank = length past; is = rank_present i past; below = o.current } }
+pub ordered_connects : (keep : ℕ) (past : List Instance) (i : Instance) (places : List (Option Place)) (seen : Option Seen) → Ordered past i places seen → Ordered past i places (Some (seen_at keep i))
+ordered_connects keep past i places seen o = record { never_back = o.never_back; current = o.current; at_seen = record { rank = length past; is = rank_present i past; below = o.current } }
 
 -- a set is published
-pub ordered_published : (past : List Instance) (i : Instance) (y : VrpSet) (places : List (Option Place)) (seen : Option Instance) → Ordered past i places seen → Ordered past (record i { sets = y ∷ i.sets }) places seen
+pub ordered_published : (past : List Instance) (i : Instance) (y : VrpSet) (places : List (Option Place)) (seen : Option Seen) → Ordered past i places seen → Ordered past (record i { sets = y ∷ i.sets }) places seen
 ordered_published past i y places seen o = record {
   never_back = o.never_back;
   current = last_trans places (newest_place past i) (newest_place past (record i { sets = y ∷ i.sets })) o.current (inr (refl, omega arith));
   at_seen = still seen o.at_seen;
 }
   where
-    still : (seen : Option Instance) → IfSeen seen (Below (i ∷ past) places) → IfSeen seen (Below (record i { sets = y ∷ i.sets } ∷ past) places)
+    still : (seen : Option Seen) → IfSeen seen (Below (i ∷ past) places) → IfSeen seen (Below (record i { sets = y ∷ i.sets } ∷ past) places)
     still None h = tt
     still (Some k) h = record { rank = h.rank; is = h.is; below = h.below }
 
 -- the cache restarts
-pub ordered_restarted : (past : List Instance) (old i : Instance) (places : List (Option Place)) (seen : Option Instance) → find_session i.session (old ∷ past) ≡ None → Ordered past old places seen → Ordered (old ∷ past) i places seen
+pub ordered_restarted : (past : List Instance) (old i : Instance) (places : List (Option Place)) (seen : Option Seen) → find_session i.session (old ∷ past) ≡ None → Ordered past old places seen → Ordered (old ∷ past) i places seen
 ordered_restarted past old i places seen new o = record {
   never_back = o.never_back;
   current = last_trans places (newest_place past old) (newest_place (old ∷ past) i) o.current (inl (omega arith));
   at_seen = still seen o.at_seen;
 }
   where
-    still : (seen : Option Instance) → IfSeen seen (Below (old ∷ past) places) → IfSeen seen (Below (i ∷ old ∷ past) places)
+    still : (seen : Option Seen) → IfSeen seen (Below (old ∷ past) places) → IfSeen seen (Below (i ∷ old ∷ past) places)
     still None h = tt
     still (Some k) h = record { rank = h.rank; is = rank_restarted i (old ∷ past) k.session h.rank new h.is; below = h.below }

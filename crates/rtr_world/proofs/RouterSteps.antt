@@ -19,6 +19,7 @@ use Rattle.rtr_world.specs.OneAnswer.{NotifiesOf, without_notifies}
 use Rattle.rtr_world.proofs.Invariant.{after_stage, Leads, Mine, OwnSession, QuestionFits, IsOwn, OfAnswer, nothing_yet, Replies, no_data, not_kept, other_session, no_memory, response, Shape, IfOpen, Open, Live, GoodLink, GoodRouter}
 use Rattle.rtr_world.proofs.Streams.{Stream, stream-append}
 use Rattle.rtr_world.proofs.Versions.{Stands, TableAt, equal_true}
+use Rattle.rtr_world.proofs.Seen.{Seen}
 
 false_true : {P : Type 0} → false ≡ true → P
 false_true h = absurd (let e : false ≡ true = h in cc)
@@ -73,13 +74,13 @@ stage_keeps base a true v b e = by_test (has base v || is_listed v a.announced) 
     by_test false true e = absurd (let h : Over ≡ Stays b = e in cc)
     by_test false false e = let same : record a { announced = v ∷ a.announced } ≡ b = cc in (ap (λ x. x.question) (sym same), ap (λ x. x.session) (sym same))
 
-module _ (all : List Instance) (i : Instance) (home : Option Instance) (conn : Option Conn) (up down : List ℕ) where
+module _ (all : List Instance) (i : Instance) (home : Option Seen) (conn : Option Conn) (up down : List ℕ) where
   abbrev GoodR : Router → Type 0
   GoodR r = GoodRouter all i home conn up down r
 
   -- what is known when a unit has just been read, and `more` are to come
   pub record Reads (r : Router) (more : List Unit) : Type 0 where
-    pub h : Instance
+    pub h : Seen
     pub is_home : home ≡ Some h
     pub lost : List ℕ
     pub wanted : List Unit
@@ -124,7 +125,7 @@ module _ (all : List Instance) (i : Instance) (home : Option Instance) (conn : O
   }
 
   -- a question is put where none is on its way
-  pub open_asking : (h : Instance) (wanted : List Unit) (lost : List ℕ) (q : Question) (o : Option Conn) → wanted ≡ [] → IsUnit (query q) → IfOpen o (Open i h [] up wanted lost) → IfOpen o (Open i h (sent (query q)) up (query q ∷ []) lost)
+  pub open_asking : (h : Seen) (wanted : List Unit) (lost : List ℕ) (q : Question) (o : Option Conn) → wanted ≡ [] → IsUnit (query q) → IfOpen o (Open i h [] up wanted lost) → IfOpen o (Open i h (sent (query q)) up (query q ∷ []) lost)
   open_asking h wanted lost q None e fit op = tt
   open_asking h wanted lost q (Some o) e fit op =
       let before : Stream o.held (up ++ []) [] = subst (λ x. Stream o.held (up ++ []) x) e op.upward in
@@ -133,7 +134,7 @@ module _ (all : List Instance) (i : Instance) (home : Option Instance) (conn : O
         upward = subst (λ x. Stream o.held x (query q ∷ [])) (ap (λ x. x ++ sent_all (query q ∷ [])) (append-nil up) ∙ ap (λ x. up ++ x) (append-nil (sent (query q)))) after;
         whole = op.whole;
         session = op.session;
-        made = op.made;
+        made = op.made; later = op.later;
       }
 
   asking_good : (r : Router) (more : List Unit) (q : Question) (d : Reads r more) → d.wanted ≡ [] → without_notifies more ≡ [] → QuestionFits d.h.session q r.version → GoodR (asking q r)

@@ -19,12 +19,13 @@ use Rattle.rtr_world.proofs.Invariant.{OfAnswer, Shape, QuestionFits, IfOpen, Op
 use Rattle.rtr_world.proofs.RouterSteps.{Reads, on_notify, on_other, live_link, question_fits, query_unit, open_asking}
 use Rattle.rtr_world.proofs.Streams.{Stream, ByteCase, partly, wholly, byte_case}
 use Rattle.rtr_world.proofs.Versions.{TableAt}
+use Rattle.rtr_world.proofs.Seen.{Seen}
 
 false_true : {P : Type 0} → false ≡ true → P
 false_true h = absurd (let e : false ≡ true = h in cc)
 
 -- A link keeps its state; what lives goes on to live.
-pub live_map : (l : Link) (all all' : List Instance) (i i' : Instance) (home home' : Option Instance) (r r' : Router) (conn conn' : Option Conn) (up up' down down' : List ℕ)
+pub live_map : (l : Link) (all all' : List Instance) (i i' : Instance) (home home' : Option Seen) (r r' : Router) (conn conn' : Option Conn) (up up' down down' : List ℕ)
     → (r.held ≡ [] → r'.held ≡ []) → r'.agreed ≡ r.agreed → r'.session ≡ r.session → GoodLink all i home l r conn up down → (Live all i home r conn up down → Live all' i' home' r' conn' up' down') → GoodLink all' i' home' l r' conn' up' down'
 live_map Closed all all' i i' home home' r r' conn conn' up up' down down' held agreed session g f = (held g.0, agreed ∙ g.1, session ∙ g.2)
 live_map (Ended end) all all' i i' home home' r r' conn conn' up up' down down' held agreed session g f = tt
@@ -32,7 +33,7 @@ live_map Idle all all' i i' home home' r r' conn conn' up up' down down' held ag
 live_map (Asked q) all all' i i' home home' r r' conn conn' up up' down down' held agreed session g f = f g
 live_map (Answering a) all all' i i' home home' r r' conn conn' up up' down down' held agreed session g f = f g
 
-pub live_of : (l : Link) (all : List Instance) (i : Instance) (home : Option Instance) (r : Router) (conn : Option Conn) (up down : List ℕ) → GoodLink all i home l r conn up down → is_reading l ≡ true → Live all i home r conn up down
+pub live_of : (l : Link) (all : List Instance) (i : Instance) (home : Option Seen) (r : Router) (conn : Option Conn) (up down : List ℕ) → GoodLink all i home l r conn up down → is_reading l ≡ true → Live all i home r conn up down
 live_of Closed all i home r conn up down g live = false_true live
 live_of (Ended end) all i home r conn up down g live = false_true live
 live_of Idle all i home r conn up down g live = g
@@ -73,7 +74,7 @@ fits_nothing : (session : ℕ) (q : Question) → is_serial (Some q) ≡ false �
 fits_nothing session AskReset h = tt
 fits_nothing session (AskSerial one serial) h = false_true (sym h)
 
-module _ (all : List Instance) (i : Instance) (home : Option Instance) (conn : Option Conn) (up : List ℕ) where
+module _ (all : List Instance) (i : Instance) (home : Option Seen) (conn : Option Conn) (up : List ℕ) where
   -- the router reads a unit
   unit_read : (down : List ℕ) (r : Router) (more : List Unit) (u : Unit) → HeadCase u more → (d : Reads all i home conn up down r more) → is_reading r.link ≡ true → NotifiesOf d.h.session (u ∷ more)
       → Shape all d.h r.link r.agreed r.version r.table d.wanted (without_notifies (u ∷ more)) → GoodRouter all i home conn up down (on_unit r.link u r)
@@ -85,7 +86,7 @@ module _ (all : List Instance) (i : Instance) (home : Option Instance) (conn : O
       on_other all i home conn up down r more r.link u d live (subst (λ x. Shape all d.h r.link r.agreed r.version r.table d.wanted x) e shape)
 
   -- it reads a byte
-  byte_read : (down : List ℕ) (r : Router) (b : ℕ) (memory : Bool) (h : Instance) (f : Flow all i h r conn up (b ∷ down)) → home ≡ Some h → is_reading r.link ≡ true → r.out ≡ [] → TableAt all r.version r.table → r.mark ≡ false
+  byte_read : (down : List ℕ) (r : Router) (b : ℕ) (memory : Bool) (h : Seen) (f : Flow all i h r conn up (b ∷ down)) → home ≡ Some h → is_reading r.link ≡ true → r.out ≡ [] → TableAt all r.version r.table → r.mark ≡ false
       → ByteCase (not r.agreed) r.held b (down ++ (conn_due conn ++ f.lost)) f.coming → GoodRouter all i home conn up down (with_bytes memory (r.held ++ b ∷ []) r (judge 1 (not r.agreed) (r.held ++ b ∷ []))).router
   byte_read down r b memory h f eh live none table mark (partly e s) =
       let k : Router = record r { held = r.held ++ b ∷ [] } in
@@ -151,7 +152,7 @@ module _ (all : List Instance) (i : Instance) (home : Option Instance) (conn : O
     GoodR r = GoodRouter all i home conn up down r
 
     -- the clock
-    emptied_live : (r : Router) → ((h : Instance) (wanted rest : List Unit) → Shape all h r.link r.agreed r.version r.table wanted rest → Shape all h r.link r.agreed None empty wanted rest) → Live all i home r conn up down → Live all i home (emptied r) conn up down
+    emptied_live : (r : Router) → ((h : Seen) (wanted rest : List Unit) → Shape all h r.link r.agreed r.version r.table wanted rest → Shape all h r.link r.agreed None empty wanted rest) → Live all i home r conn up down → Live all i home (emptied r) conn up down
     emptied_live r k l = (
       l.0,
       l.1,
@@ -171,8 +172,8 @@ module _ (all : List Instance) (i : Instance) (home : Option Instance) (conn : O
     emptied_good : (r : Router) (l : Link) → r.link ≡ l → GoodLink all i home l (emptied r) conn up down → GoodR (emptied r)
     emptied_good r l is g = record { table = refl; unmarked = refl; link = subst (λ x. GoodLink all i home x (emptied r) conn up down) (sym is) g }
 
-    shape_as : (r : Router) (l : Link) → r.link ≡ l → ((h : Instance) (wanted rest : List Unit) → Shape all h l r.agreed r.version r.table wanted rest → Shape all h l r.agreed None empty wanted rest)
-        → (h : Instance) (wanted rest : List Unit) → Shape all h r.link r.agreed r.version r.table wanted rest → Shape all h r.link r.agreed None empty wanted rest
+    shape_as : (r : Router) (l : Link) → r.link ≡ l → ((h : Seen) (wanted rest : List Unit) → Shape all h l r.agreed r.version r.table wanted rest → Shape all h l r.agreed None empty wanted rest)
+        → (h : Seen) (wanted rest : List Unit) → Shape all h r.link r.agreed r.version r.table wanted rest → Shape all h r.link r.agreed None empty wanted rest
     shape_as r l is k h wanted rest s =
         subst (λ x. Shape all h x r.agreed None empty wanted rest) (sym is) (k h wanted rest (subst (λ x. Shape all h x r.agreed r.version r.table wanted rest) is s))
 
@@ -252,12 +253,12 @@ module _ (all : List Instance) (i : Instance) (home : Option Instance) (conn : O
         by_link (Answering a) is h = open_link (ap is_closed is)
 
     -- an idle link asks
-    open_quiet : (h : Instance) (out : List ℕ) (wanted : List Unit) (lost : List ℕ) (o : Option Conn) → wanted ≡ [] → IfOpen o (Open i h out up wanted lost) → IfOpen o (Open i h [] up wanted lost)
+    open_quiet : (h : Seen) (out : List ℕ) (wanted : List Unit) (lost : List ℕ) (o : Option Conn) → wanted ≡ [] → IfOpen o (Open i h out up wanted lost) → IfOpen o (Open i h [] up wanted lost)
     open_quiet h out wanted lost None e op = tt
     open_quiet h out wanted lost (Some o) e op =
         let none : o.held ++ (up ++ out) ≡ [] = op.upward.whole ∙ ap (λ x. sent_all x) e in
         let empty_out : out ≡ [] = nothing_right up out (nothing_right o.held (up ++ out) none) in
-        record { upward = subst (λ x. Stream o.held (up ++ x) wanted) empty_out op.upward; whole = op.whole; session = op.session; made = op.made }
+        record { upward = subst (λ x. Stream o.held (up ++ x) wanted) empty_out op.upward; whole = op.whole; session = op.session; made = op.made; later = op.later }
 
     pub asks_good : (l : Link) (r : Router) (b : Bool) → r.link ≡ l → (is_idle l ≡ false → b ≡ false) → GoodR r → GoodLink all i home l r conn up down → GoodR (asks_if b r).router
     asks_good l r false is idle g k = g

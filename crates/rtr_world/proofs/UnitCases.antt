@@ -15,6 +15,7 @@ use Rattle.rtr_world.proofs.Invariant.{after_stage, Leads, Mine, OwnSession, Que
 use Rattle.rtr_world.proofs.RouterSteps.{no_difference, first_is, no_unit}
 use Rattle.rtr_world.proofs.SideSteps.{HeadCase, a_notify, another, head_case}
 use Rattle.rtr_world.proofs.Versions.{Stands, equal_true, find_session}
+use Rattle.rtr_world.proofs.Seen.{Seen}
 
 false_true : {P : Type 0} → false ≡ true → P
 false_true h = absurd (let e : false ≡ true = h in cc)
@@ -25,14 +26,14 @@ is_end u = false
 
 -- The link goes on; or it is told that another session is asked for, or that memory is wanting; or a version is committed that
 -- stands no earlier than the one that was current when the connection was made.
-pub data Brings (all : List Instance) (h : Instance) (r : Router) (l : Link) (u : Unit) (k : Router) : Type 0 where
+pub data Brings (all : List Instance) (h : Seen) (r : Router) (l : Link) (u : Unit) (k : Router) : Type 0 where
   goes_on : is_ended k.link ≡ false → is_end u ≡ false → Brings all h r l u k
   ends_other : (session serial : ℕ) → l ≡ Asked (AskSerial session serial) → (session ≡ h.session → ⊥) → k.link ≡ Ended (ends.Told 0) → is_end u ≡ false → Brings all h r l u k
   ends_memory : k.link ≡ Ended (ends.Told 1) → is_end u ≡ false → Brings all h r l u k
   commits : (version : Committed) (table : VrpSet) → k.link ≡ Idle → k.version ≡ Some version → version.session ≡ h.session
       → (stands : Stands all version.session version.serial table) → length h.sets ≤ length stands.older + 1 → Brings all h r l u k
 
-module _ (all : List Instance) (h : Instance) (r : Router) where
+module _ (all : List Instance) (h : Seen) (r : Router) where
   quiet : (one : ℕ) → OwnSession h.session r.session → (r.agreed ≡ true → Mine h.session r.version) → one ≡ h.session → is_strange r one ≡ false
   quiet one own mine e = by_agreed r.agreed refl
     where

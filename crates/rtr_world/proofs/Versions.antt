@@ -31,7 +31,7 @@ lt_true a b h = grind (arith, nat_tests)
 abbrev pub find_session : ℕ → List Instance → Option Instance
 find_session session all = find (λ i. i.session == session) all
 
-pub some_is : (a b : Instance) → Some a ≡ Some b → a ≡ b
+pub some_is : {A : Type 0} (a b : A) → Some a ≡ Some b → a ≡ b
 some_is a b h = cc
 
 pub same_instance : (a b : Instance) (o : Option Instance) → o ≡ Some a → o ≡ Some b → a ≡ b

@@ -18,33 +18,34 @@ use Rattle.rtr_world.specs.OneAnswer.{without_notifies}
 use Rattle.rtr_world.specs.Place.{NeverBack, position_of}
 use Rattle.rtr_world.specs.World.{Side, World, instances, Event, Publish, Restart, On, cache_gone, on_side, goes_through, settled, is_refused, side_step, side_refused, settle, new_world}
 use Rattle.rtr_world.proofs.EventSteps.{step_good, refused_good, settle_good}
-use Rattle.rtr_world.proofs.Invariant.{OfAnswer, Replies, no_data, not_kept, other_session, no_memory, response, Shape, IfOpen, Open, Flow, Good, IsSeen}
+use Rattle.rtr_world.proofs.Invariant.{OfAnswer, Replies, no_data, not_kept, other_session, no_memory, response, Shape, IfOpen, Open, Flow, Good}
 use Rattle.rtr_world.proofs.Places.{ordered_published, ordered_restarted}
 use Rattle.rtr_world.proofs.SideLaws.{all_new, all_on_side, all_map, all_both}
 use Rattle.rtr_world.proofs.SideSteps.{live_map}
 use Rattle.rtr_world.proofs.Streams.{Stream}
 use Rattle.rtr_world.proofs.TableLaws.{AllTell, SideTells, after_tells, new_side_tells, tables}
 use Rattle.rtr_world.proofs.Versions.{Stands, TableAt, Present, table_named, position_at, of_present, stands_published, stands_restarted, find_session, same_number, equal_true, lt_of, lt_true}
+use Rattle.rtr_world.proofs.Seen.{Seen, IsSeen}
 
 false_true : {P : Type 0} → false ≡ true → P
 false_true h = absurd (let e : false ≡ true = h in cc)
 
 pub record GoodWorld (w : World) : Type 0 where
   pub present : Present (instances w) w.present
-  pub sides : AllByRecursion (Good w.past w.present) w.sides
+  pub sides : AllByRecursion (Good w.keep w.past w.present) w.sides
 
 -- An answer that stays one makes a shape that stays.
-abbrev StaysAnswer : List Instance → List Instance → Instance → Type 0
+abbrev StaysAnswer : List Instance → List Instance → Seen → Type 0
 StaysAnswer all all' h = (base : VrpSet) (a : Begun) (rest : List Unit) → OfAnswer all h base a rest → OfAnswer all' h base a rest
 
-replies_map : (all all' : List Instance) (h : Instance) (q : Question) (base : VrpSet) (rest : List Unit) → StaysAnswer all all' h → Replies all h q base rest → Replies all' h q base rest
+replies_map : (all all' : List Instance) (h : Seen) (q : Question) (base : VrpSet) (rest : List Unit) → StaysAnswer all all' h → Replies all h q base rest → Replies all' h q base rest
 replies_map all all' h q base rest stays (no_data copy a b) = no_data copy a b
 replies_map all all' h q base rest stays (not_kept serial a b) = not_kept serial a b
 replies_map all all' h q base rest stays (other_session session serial copy a differs b) = other_session session serial copy a differs b
 replies_map all all' h q base rest stays (no_memory a) = no_memory a
 replies_map all all' h q base rest stays (response tail a b c) = response tail a b (stays base _ tail c)
 
-shape_map : (l : Link) (all all' : List Instance) (h : Instance) (agreed : Bool) (version : Option Committed) (table : VrpSet) (wanted rest : List Unit) → StaysAnswer all all' h → Shape all h l agreed version table wanted rest → Shape all' h l agreed version table wanted rest
+shape_map : (l : Link) (all all' : List Instance) (h : Seen) (agreed : Bool) (version : Option Committed) (table : VrpSet) (wanted rest : List Unit) → StaysAnswer all all' h → Shape all h l agreed version table wanted rest → Shape all' h l agreed version table wanted rest
 shape_map Closed all all' h agreed version table wanted rest stays s = tt
 shape_map (Ended end) all all' h agreed version table wanted rest stays s = tt
 shape_map Idle all all' h agreed version table wanted rest stays s = s
@@ -53,7 +54,7 @@ shape_map (Asked q) all all' h agreed version table wanted rest stays s =
 shape_map (Answering a) all all' h agreed version table wanted rest stays s = (s.0, s.1, s.2, s.3, stays (base_of a.question table) a rest s.4)
 
 -- a flow whose answer and connection stay
-flow_map : (all all' : List Instance) (i i' h : Instance) (r : Router) (conn conn' : Option Conn) (up up' down : List ℕ) (f : Flow all i h r conn up down) (lost : List ℕ) → conn_due conn ++ f.lost ≡ conn_due conn' ++ lost
+flow_map : (all all' : List Instance) (i i' : Instance) (h : Seen) (r : Router) (conn conn' : Option Conn) (up up' down : List ℕ) (f : Flow all i h r conn up down) (lost : List ℕ) → conn_due conn ++ f.lost ≡ conn_due conn' ++ lost
     → IfOpen conn' (Open i' h r.out up' f.wanted lost) → StaysAnswer all all' h → Flow all' i' h r conn' up' down
 flow_map all all' i i' h r conn conn' up up' down f lost bytes opens stays = record {
   coming = f.coming;
@@ -68,7 +69,7 @@ flow_map all all' i i' h r conn conn' up up' down f lost bytes opens stays = rec
 }
 
 -- A set is published
-module _ (past : List Instance) (i : Instance) (y : VrpSet) (p : Present (i ∷ past) i) where
+module _ (keep : ℕ) (past : List Instance) (i : Instance) (y : VrpSet) (p : Present (i ∷ past) i) where
   abbrev next : Instance
   next = record i { sets = y ∷ i.sets }
 
@@ -95,25 +96,25 @@ module _ (past : List Instance) (i : Instance) (y : VrpSet) (p : Present (i ∷ 
           ap (is_near i) (sym place) ∙ sym (ap (λ b. if b then is_near i (position_of version.serial (versions i)) else true) (equal_true i.session version.session e)) ∙ room
 
   -- room after what was seen
-  room_seen : (home : Option Instance) (h : Instance) → IsSeen home (Some h) → room_since i home ≡ true → i.session ≡ h.session → nat_lt (length i.sets - (length h.sets - 1)) (2 ^ 31) ≡ true
+  room_seen : (home : Option Instance) (h : Seen) → IsSeen keep home (Some h) → room_since i home ≡ true → i.session ≡ h.session → nat_lt (length i.sets - (length h.sets - 1)) (2 ^ 31) ≡ true
   room_seen None h seen room e = absurd seen
   room_seen (Some home) h seen room e =
-      let test : nat_lt (length i.sets - (length home.sets - 1)) (2 ^ 31) ≡ true = sym (ap (λ b. if b then is_near i (Some (length home.sets - 1)) else true) (equal_true i.session home.session (e ∙ seen.0))) ∙ room in
+      let test : nat_lt (length i.sets - (length home.sets - 1)) (2 ^ 31) ≡ true = sym (ap (λ b. if b then is_near i (Some (length home.sets - 1)) else true) (equal_true i.session home.session (e ∙ seen.2))) ∙ room in
       let few = lt_of (length i.sets - (length home.sets - 1)) 2147483648 test in
-      let more = seen.1 in
+      let more = seen.3 in
       lt_true (length i.sets - (length h.sets - 1)) 2147483648 (omega (arith, few, more))
 
-  answer_published : (h : Instance) → (i.session ≡ h.session → nat_lt (length i.sets - (length h.sets - 1)) (2 ^ 31) ≡ true) → StaysAnswer (i ∷ past) (next ∷ past) h
+  answer_published : (h : Seen) → (i.session ≡ h.session → nat_lt (length i.sets - (length h.sets - 1)) (2 ^ 31) ≡ true) → StaysAnswer (i ∷ past) (next ∷ past) h
   answer_published h test base a rest o =
       let low : length h.sets - 1 ≤ length o.stands.older = (let s = o.since in omega (arith, s)) in
       let s = stands_published past i y h.session o.serial o.set o.stands (room_of h.session o.serial o.set o.stands (length h.sets - 1) low test) in
       record { serial = o.serial; set = o.set; stands = s.0; leads = o.leads; since = subst (λ x. length h.sets ≤ length x + 1) (sym s.1) o.since }
 
-  open_published : (h : Instance) (out up : List ℕ) (wanted : List Unit) (lost : List ℕ) (conn : Option Conn) → IfOpen conn (Open i h out up wanted lost) → IfOpen conn (Open next h out up wanted lost)
+  open_published : (h : Seen) (out up : List ℕ) (wanted : List Unit) (lost : List ℕ) (conn : Option Conn) → IfOpen conn (Open i h out up wanted lost) → IfOpen conn (Open next h out up wanted lost)
   open_published h out up wanted lost None op = tt
-  open_published h out up wanted lost (Some o) op = record { upward = op.upward; whole = op.whole; session = op.session; made = (let m = op.made in omega (arith, m)) }
+  open_published h out up wanted lost (Some o) op = record { upward = op.upward; whole = op.whole; session = op.session; made = (let m = op.made in omega (arith, m)); later = (let l = op.later in record { session = l.session; start = l.start; more = y ∷ l.more; sets = ap (λ x. y ∷ x) l.sets }) }
 
-  side_published : (s : Side) → (room_for i s.router.version && room_since i s.home) ≡ true → Good past i s → Good past next s
+  side_published : (s : Side) → (room_for i s.router.version && room_since i s.home) ≡ true → Good keep past i s → Good keep past next s
   side_published s room g =
       let parts = and_parts (room_for i s.router.version) (room_since i s.home) room in
       record {
@@ -127,29 +128,29 @@ module _ (past : List Instance) (i : Instance) (y : VrpSet) (p : Present (i ∷ 
             l.0,
             l.1,
             flow_map (i ∷ past) (next ∷ past) i next l.0 s.router s.conn s.conn s.up s.up s.down l.2 l.2.lost refl (open_published l.0 s.router.out s.up l.2.wanted l.2.lost s.conn l.2.open_at)
-                (answer_published l.0 (room_seen s.home l.0 (subst (λ x. IsSeen s.home x) l.1 g.is_seen) parts.1)),
+                (answer_published l.0 (room_seen s.home l.0 (subst (λ x. IsSeen keep s.home x) l.1 g.is_seen) parts.1)),
           ));
         };
       }
 
-  sides_published : (sides : List Side) → all_have_room i sides ≡ true → AllByRecursion (Good past i) sides → AllByRecursion (Good past next) sides
+  sides_published : (sides : List Side) → all_have_room i sides ≡ true → AllByRecursion (Good keep past i) sides → AllByRecursion (Good keep past next) sides
   sides_published [] room g = tt
   sides_published (s ∷ sides) room g =
       let parts = and_parts (room_for i s.router.version && room_since i s.home) (all_have_room i sides) room in
       (side_published s parts.0 g.0, sides_published sides parts.1 g.1)
 
 -- The cache restarts under a session that no instance has
-module _ (past : List Instance) (old i : Instance) (new : find_session i.session (old ∷ past) ≡ None) where
+module _ (keep : ℕ) (past : List Instance) (old i : Instance) (new : find_session i.session (old ∷ past) ≡ None) where
   table_restarted : (version : Option Committed) (table : VrpSet) → TableAt (old ∷ past) version table → TableAt (i ∷ (old ∷ past)) version table
   table_restarted None table t = t
   table_restarted (Some version) table t = (stands_restarted (old ∷ past) i version.session version.serial table new t).0
 
-  answer_restarted : (h : Instance) → StaysAnswer (old ∷ past) (i ∷ (old ∷ past)) h
+  answer_restarted : (h : Seen) → StaysAnswer (old ∷ past) (i ∷ (old ∷ past)) h
   answer_restarted h base a rest o =
       let s = stands_restarted (old ∷ past) i h.session o.serial o.set new o.stands in
       record { serial = o.serial; set = o.set; stands = s.0; leads = o.leads; since = subst (λ x. length h.sets ≤ length x + 1) (sym s.1) o.since }
 
-  side_restarted : (s : Side) → Good past old s → Good (old ∷ past) i (cache_gone s)
+  side_restarted : (s : Side) → Good keep past old s → Good keep (old ∷ past) i (cache_gone s)
   side_restarted s g = record {
     seen = g.seen;
     is_seen = g.is_seen;
@@ -168,7 +169,7 @@ module _ (past : List Instance) (old i : Instance) (new : find_session i.session
 -- Every event
 settled_good : (w : World) → GoodWorld w → GoodWorld (settled w)
 unfolding settled
-settled_good w g = record { present = g.present; sides = all_map (Good w.past w.present) (Good w.past w.present) (settle (instances w)) w.sides (settle_good w g.present) g.sides }
+settled_good w g = record { present = g.present; sides = all_map (Good w.keep w.past w.present) (Good w.keep w.past w.present) (settle (instances w)) w.sides (settle_good w g.present) g.sides }
 
 or_cases : (a b : Bool) → (a || b) ≡ true → a ≡ false → b ≡ true
 or_cases true b h e = absurd (let k : true ≡ false = e in cc)
@@ -207,7 +208,7 @@ through_good (Publish set) wanting w fits may g t = by_current (is_current w.pre
             found = ap (λ b. if b then Some (record i { sets = set ∷ i.sets }) else find_session i.session w.past) (same_number i.session);
             is = subst (λ b. IsInstance (if b then i else record i { sets = set ∷ i.sets })) e n;
           };
-          sides = sides_published w.past i set g.present w.sides (or_cases (is_current i.sets set) (all_have_room i w.sides) free e) g.sides;
+          sides = sides_published w.keep w.past i set g.present w.sides (or_cases (is_current i.sets set) (all_have_room i w.sides) free e) g.sides;
         })
 through_good (Restart session start) wanting w fits may g t =
     let i : Instance = record { session = session; start = start; sets = [] } in
@@ -218,14 +219,14 @@ through_good (Restart session start) wanting w fits may g t =
         found = ap (λ b. if b then Some (record { session = session; start = start; sets = [] }) else find_session session (instances w)) (same_number session);
         is = record { session = fits.0; start = fits.1; sets = tt; news = tt };
       };
-      sides = all_map (Good w.past w.present) (Good (instances w) (record { session = session; start = start; sets = [] })) cache_gone w.sides
-          (side_restarted w.past w.present (record { session = session; start = start; sets = [] }) new) g.sides;
+      sides = all_map (Good w.keep w.past w.present) (Good w.keep (instances w) (record { session = session; start = start; sets = [] })) cache_gone w.sides
+          (side_restarted w.keep w.past w.present (record { session = session; start = start; sets = [] }) new) g.sides;
     }
 through_good (On r event) wanting w fits may g t =
     record {
       present = g.present;
-      sides = all_on_side (λ s. Good w.past w.present s × SideTells s) (Good w.past w.present) r (side_step w event wanting) w.sides (λ s h. h.0) (λ s h. step_good w g.present event wanting s h.0 h.1)
-          (all_both (Good w.past w.present) SideTells w.sides g.sides t);
+      sides = all_on_side (λ s. Good w.keep w.past w.present s × SideTells s) (Good w.keep w.past w.present) r (side_step w event wanting) w.sides (λ s h. h.0) (λ s h. step_good w g.present event wanting s h.0 h.1)
+          (all_both (Good w.keep w.past w.present) SideTells w.sides g.sides t);
     }
 
 refused_so : (event : Event) (bytes : ℕ) (wanting : Option ℕ) (w : World) → GoodWorld w → AllTell w → GoodWorld (is_refused event bytes wanting w)
@@ -236,8 +237,8 @@ refused_so (On r event) bytes wanting w g t =
     settled_good (record w { sides = on_side r (side_refused w event bytes wanting) w.sides })
     (record {
       present = g.present;
-      sides = all_on_side (λ s. Good w.past w.present s × SideTells s) (Good w.past w.present) r (side_refused w event bytes wanting) w.sides (λ s h. h.0) (λ s h. refused_good w g.present event bytes wanting s h.0 h.1)
-          (all_both (Good w.past w.present) SideTells w.sides g.sides t);
+      sides = all_on_side (λ s. Good w.keep w.past w.present s × SideTells s) (Good w.keep w.past w.present) r (side_refused w event bytes wanting) w.sides (λ s h. h.0) (λ s h. refused_good w g.present event bytes wanting s h.0 h.1)
+          (all_both (Good w.keep w.past w.present) SideTells w.sides g.sides t);
     })
 
 pub after_good : (event : Event) (outcome : Outcome) (w : World) → IsEvent event → MayEnd (refusal w event) w event outcome → GoodWorld w → AllTell w → GoodWorld (after event outcome w)
@@ -261,7 +262,7 @@ new_good made is =
         found = ap (λ b. if b then Some (record { session = made.session; start = made.start; sets = [] }) else None) (same_number made.session);
         is = record { session = is.session; start = is.start; sets = tt; news = tt };
       };
-      sides = all_new (Good [] (record { session = made.session; start = made.start; sets = [] })) (record { seen = None; is_seen = tt; order = record { never_back = tt; current = tt; at_seen = tt }; router = record { table = refl; unmarked = refl; link = (refl, refl, refl) } }) made.routers;
+      sides = all_new (Good made.keep [] (record { session = made.session; start = made.start; sets = [] })) (record { seen = None; is_seen = tt; order = record { never_back = tt; current = tt; at_seen = tt }; router = record { table = refl; unmarked = refl; link = (refl, refl, refl) } }) made.routers;
     }
 
 -- The headline
@@ -269,7 +270,7 @@ pub headline : Headline
 headline made history w leads =
     named_all w.sides (history_good (new_world made.routers made.session made.start made.keep) history w leads.1 (new_good made leads.0) (all_new SideTells new_side_tells made.routers)).sides (tables made history w leads)
   where
-    named_all : (sides : List Side) → AllByRecursion (Good w.past w.present) sides → AllByRecursion (λ s. IsKept s.router s.items) sides → AllByRecursion (λ s. IsNamed (instances w) (kept s.items).version s.router.table) sides
+    named_all : (sides : List Side) → AllByRecursion (Good w.keep w.past w.present) sides → AllByRecursion (λ s. IsKept s.router s.items) sides → AllByRecursion (λ s. IsNamed (instances w) (kept s.items).version s.router.table) sides
     named_all [] g k = tt
     named_all (s ∷ sides) g k = (subst (λ v. IsNamed (instances w) v s.router.table) k.0.version (table_named (instances w) s.router.version s.router.table g.0.router.table), named_all sides g.1 k.1)
 
@@ -278,6 +279,6 @@ pub no_way_back : NoWayBack
 no_way_back made history w leads =
     each w.sides (history_good (new_world made.routers made.session made.start made.keep) history w leads.1 (new_good made leads.0) (all_new SideTells new_side_tells made.routers)).sides
   where
-    each : (sides : List Side) → AllByRecursion (Good w.past w.present) sides → AllByRecursion (λ s. NeverBack s.places) sides
+    each : (sides : List Side) → AllByRecursion (Good w.keep w.past w.present) sides → AllByRecursion (λ s. NeverBack s.places) sides
     each [] g = tt
     each (s ∷ sides) g = (g.0.order.never_back, each sides g.1)

@@ -1,0 +1,21 @@
+-- What an invariant knows of a connection.
+use Rattle.std.specs.Prelude.{◌≡◌, ℕ, ◌≤◌, List, length, Option, Some, None, ⊤}
+use Rattle.vrps.specs.Instance.{Instance}
+use Rattle.vrps.specs.VrpSet.{VrpSet}
+
+-- The instance as it was when the connection was made, how many versions the cache keeps, and the session and the sets of that instance
+-- then, or when what was committed on the connection last was its newest version
+pub record Seen : Type 0 where
+  pub made : Instance
+  pub keep : ℕ
+  pub session : ℕ
+  pub sets : List VrpSet
+
+abbrev pub seen_at : ℕ → Instance → Seen
+seen_at keep i = record { made = i; keep = keep; session = i.session; sets = i.sets }
+
+abbrev pub IsSeen : ℕ → Option Instance → Option Seen → Type 0
+IsSeen keep None None = ⊤
+IsSeen keep (Some home) (Some seen) = (seen.made ≡ home) × (seen.keep ≡ keep) × (seen.session ≡ home.session) × (length home.sets ≤ length seen.sets)
+IsSeen keep None (Some seen) = ⊥
+IsSeen keep (Some home) None = ⊥
