@@ -18,8 +18,8 @@ use Rattle.rtr_ends.specs.Transcript.{Question, query, base_of}
 use Rattle.rtr_world.specs.OneAnswer.{NotifiesOf, without_notifies}
 use Rattle.rtr_world.specs.World.{timing}
 use Rattle.rtr_world.proofs.AnswerLaws.{plain_stays, plain_notifies, without-append, notifies-append}
-use Rattle.rtr_world.proofs.CacheSteps.{IsAnswered, answered_report, answer_answers, serial_low}
-use Rattle.rtr_world.proofs.Invariant.{QuestionFits, Replies, no_memory, Shape, Open, Flow, Live, GoodLink, GoodRouter}
+use Rattle.rtr_world.proofs.CacheSteps.{from_now, IsAnswered, answered_report, answer_answers, serial_low}
+use Rattle.rtr_world.proofs.Invariant.{OneReply, QuestionFits, Replies, no_memory, Shape, Open, Flow, Live, GoodLink, GoodRouter}
 use Rattle.rtr_world.proofs.RouterSteps.{live_link}
 use Rattle.rtr_world.proofs.SideSteps.{live_of}
 use Rattle.rtr_world.proofs.Streams.{Stream, ByteCase, partly, wholly, byte_case, stream-append, all_bytes}
@@ -73,8 +73,8 @@ module _ (all : List Instance) (i : Instance) (p : Present all i) (keep : ℕ) (
 
   -- The cache has read the question, and these units are the answer.
   answered : (o : Conn) (up bs : List ℕ) (h : Seen) (f : Flow all i h r (Some o) up down) (q : Question) (units : List Unit) (st : Connection) → home ≡ Some h → o.state.due ≡ [] → st.due ≡ sent_all units → Stream [] (bs ++ r.out) [] → r.link ≡ Asked q
-      → without_notifies f.coming ≡ [] → QuestionFits h.session q r.version → IsAnswered units → Replies all h q (base_of q r.table) units → Live all i home r (Some (record { state = st; held = [] })) bs down
-  answered o up bs h f q units st eh eo due up_stream link rest fits is replies =
+      → without_notifies f.coming ≡ [] → QuestionFits h.session q r.version → IsAnswered units → Replies all h q (base_of q r.table) units → OneReply all h q units → Live all i home r (Some (record { state = st; held = [] })) bs down
+  answered o up bs h f q units st eh eo due up_stream link rest fits is replies one =
       let op : Open i h r.out up f.wanted f.lost o = f.open_at in
       let whole : without_notifies (f.coming ++ units) ≡ units = without-append f.coming units ∙ ap (λ x. x ++ without_notifies units) rest ∙ plain_stays units is.plain in (
         h,
@@ -88,7 +88,7 @@ module _ (all : List Instance) (i : Instance) (p : Present all i) (keep : ℕ) (
           notifies = notifies-append h.session f.coming units f.notifies (plain_notifies h.session units is.plain);
           own = f.own;
           mine = f.mine;
-          shape = subst (λ x. Shape all h x r.agreed r.version r.table [] (without_notifies (f.coming ++ units))) (sym link) (fits, inr (refl, subst (λ x. Replies all h q (base_of q r.table) x) (sym whole) replies));
+          shape = subst (λ x. Shape all h x r.agreed r.version r.table [] (without_notifies (f.coming ++ units))) (sym link) (fits, inr (refl, subst (λ x. Replies all h q (base_of q r.table) x) (sym whole) replies, subst (λ x. OneReply all h q x) (sym whole) one));
         },
       )
 
@@ -130,10 +130,10 @@ module _ (all : List Instance) (i : Instance) (p : Present all i) (keep : ℕ) (
       by_memory : (t : Bool) → Live all i home r (Some (record { state = after keep timing m.conn.state (if t then Wanting i u bytes else Read i u bytes); held = [] })) bs down
       by_memory true =
           answered m.conn (b ∷ bs) bs h f w.q (report 1 [] ∷ []) (after keep timing m.conn.state (Wanting i u bytes)) eh eo refl up_stream w.asks w.none w.fits
-          (answered_report 1 [] (omega arith) (all_bytes [] tt)) (no_memory refl)
+          (answered_report 1 [] (omega arith) (all_bytes [] tt)) (no_memory refl) (inr refl)
       by_memory false =
-          let a = answer_answers all i p h op.session op.made keep w.q r.version r.table w.fits table in
-          answered m.conn (b ∷ bs) bs h f w.q (answer i keep timing (query w.q)).units (after keep timing m.conn.state (Read i u bytes)) eh eo (ap (λ x. sent_all (answer i keep timing x).units) w.is) up_stream w.asks w.none w.fits a.answered a.replies
+          let a = answer_answers all i p h op.session op.made keep w.q r.version r.table w.fits table (from_now all i p h op.session op.made w.q keep (keeps h eh) op.later) in
+          answered m.conn (b ∷ bs) bs h f w.q (answer i keep timing (query w.q)).units (after keep timing m.conn.state (Read i u bytes)) eh eo (ap (λ x. sent_all (answer i keep timing x).units) w.is) up_stream w.asks w.none w.fits a.answered a.replies (inl a.from)
 
   abbrev GoodC : Conn → List ℕ → Type 0
   GoodC o up = GoodRouter all i home (Some o) up down r

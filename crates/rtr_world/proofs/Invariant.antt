@@ -1,20 +1,22 @@
 -- What holds of a router, its connection and the wires between two bytes.
 use Rattle.std.specs.Prelude.{◌≡◌, ◌⊎◌, ℕ, ◌+◌, ◌≤◌, Bool, true, false, List, [], ◌∷◌, ◌++◌, length, Option, Some, None, ⊤}
+use Rattle.prefixes.specs.Payload.{Payload}
 use Rattle.vrps.specs.Instance.{Instance}
 use Rattle.vrps.specs.VrpSet.{VrpSet}
 use Rattle.rtr_pdu.specs.declared.unit.Unit.{Unit}
 use Rattle.rtr_pdu.specs.declared.unit.Unit.TheVariants.{CacheResponse, Prefix, EndOfData, CacheReset}
-use Rattle.rtr_ends.specs.Answer.{report}
+use Rattle.rtr_ends.specs.Answer.{answer, report}
 use Rattle.rtr_ends.specs.Cache.{Conn}
+use Rattle.rtr_ends.specs.Commit.{Commits}
 use Rattle.rtr_ends.specs.Connection.{IsLater}
 use Rattle.rtr_ends.specs.Router.{Router, Link, Closed, Idle, Asked, Answering, Ended, Staged, Stays, Wrong, Over, stage}
 use Rattle.rtr_ends.specs.Transcript.{Begun, Committed, Question, AskReset, AskSerial, query, base_of, led_to}
 use Rattle.rtr_world.specs.History.{conn_due}
-use Rattle.rtr_world.specs.OneAnswer.{NotifiesOf, without_notifies}
-use Rattle.rtr_world.specs.World.{Side}
+use Rattle.rtr_world.specs.OneAnswer.{EndsWith, NotifiesOf, announced_in, withdrawn_in, without_notifies}
+use Rattle.rtr_world.specs.World.{Side, timing}
 use Rattle.rtr_world.proofs.Places.{Ordered}
 use Rattle.rtr_world.proofs.Streams.{Stream}
-use Rattle.rtr_world.proofs.Versions.{Stands, TableAt}
+use Rattle.rtr_world.proofs.Versions.{Stands, TableAt, find_session}
 use Rattle.rtr_world.proofs.Seen.{Seen, IsSeen}
 
 abbrev pub after_stage : Staged → (Begun → Type 0) → Type 0
@@ -49,6 +51,40 @@ abbrev pub IsOwn : ℕ → Question → Type 0
 IsOwn session AskReset = ⊤
 IsOwn session (AskSerial one serial) = one ≡ session
 
+-- the units of records, of which the last stands first
+abbrev pub records_of : Bool → List Payload → List Unit
+records_of announce [] = []
+records_of announce (v ∷ vs) = records_of announce vs ++ Prefix announce v ∷ []
+
+-- what was read of an answer that withdraws first
+abbrev pub read_of : Begun → List Unit
+read_of a = CacheResponse a.session ∷ (records_of false a.withdrawn ++ records_of true a.announced)
+
+abbrev pub NoneWithdrawn : List Unit → Type 0
+NoneWithdrawn [] = ⊤
+NoneWithdrawn (Prefix false v ∷ units) = ⊥
+NoneWithdrawn (unit ∷ units) = NoneWithdrawn units
+
+abbrev pub WithdrawsFirst : List Unit → Type 0
+WithdrawsFirst [] = ⊤
+WithdrawsFirst (Prefix true v ∷ units) = NoneWithdrawn units
+WithdrawsFirst (unit ∷ units) = WithdrawsFirst units
+
+abbrev pub InOrder : Begun → List Unit → Type 0
+InOrder a rest = WithdrawsFirst rest × ((a.announced ≡ []) ⊎ NoneWithdrawn rest)
+
+-- These units are the answer of the connection's instance, as it was at some time after the connection was made.
+pub record FromCache (all : List Instance) (home : Seen) (q : Question) (units : List Unit) : Type 0 where
+  pub cache : Instance
+  pub since : IsLater home.made cache
+  pub latest : Instance
+  pub found : find_session home.made.session all ≡ Some latest
+  pub until : IsLater cache latest
+  pub are : units ≡ (answer cache home.keep timing (query q)).units
+
+abbrev pub OneReply : List Instance → Seen → Question → List Unit → Type 0
+OneReply all home q units = FromCache all home q units ⊎ (units ≡ report 1 [] ∷ [])
+
 -- The rest of an answer is to a version that was current when the connection was made, or later.
 pub record OfAnswer (all : List Instance) (home : Seen) (base : VrpSet) (a : Begun) (rest : List Unit) : Type 0 where
   pub serial : ℕ
@@ -56,6 +92,10 @@ pub record OfAnswer (all : List Instance) (home : Seen) (base : VrpSet) (a : Beg
   pub stands : Stands all home.session serial set
   pub leads : Leads base a rest home.session serial set
   pub since : length home.sets ≤ length stands.older + 1
+  pub from : FromCache all home a.question (read_of a ++ rest)
+  pub ends : EndsWith home.session serial (read_of a ++ rest)
+  pub commits : Commits base (withdrawn_in (read_of a ++ rest)) (announced_in (read_of a ++ rest)) set
+  pub order : InOrder a rest
 
 abbrev pub nothing_yet : Question → ℕ → Begun
 nothing_yet question session = record { question = question; session = session; withdrawn = []; announced = [] }
@@ -70,7 +110,7 @@ pub data Replies (all : List Instance) (home : Seen) (q : Question) (base : VrpS
 
 -- The question is on its way and nothing is answered, or the cache has read it and the whole answer is to come.
 abbrev pub Waits : List Instance → Seen → Question → VrpSet → List Unit → List Unit → Type 0
-Waits all home q base wanted rest = ((wanted ≡ query q ∷ []) × (rest ≡ [])) ⊎ ((wanted ≡ []) × Replies all home q base rest)
+Waits all home q base wanted rest = ((wanted ≡ query q ∷ []) × (rest ≡ [])) ⊎ ((wanted ≡ []) × Replies all home q base rest × OneReply all home q rest)
 
 abbrev pub Shape : List Instance → Seen → Link → Bool → Option Committed → VrpSet → List Unit → List Unit → Type 0
 Shape all home Closed agreed version table wanted rest = ⊤

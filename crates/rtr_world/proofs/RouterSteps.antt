@@ -1,6 +1,6 @@
 -- A unit that comes to the router keeps the invariant.
 use Rattle.std.specs.Prelude.{◌≡◌, ℕ, ◌+◌, ◌<◌, ◌≤◌, Bool, true, false, not, ◌&&◌, ◌||◌, ◌==◌, nat_lt, List, [], ◌∷◌, ◌++◌, length, Option, Some, None, if◌then◌else◌, refl}
-use Rattle.std.proofs.Common.{sym, ap, ◌∙◌, subst, subst₂, arith, inl, inr}
+use Rattle.std.proofs.Common.{sym, ap, ◌∙◌, append_assoc, subst, subst₂, arith, inl, inr}
 use Rattle.std.proofs.lemmas.List.{append-nil}
 use Rattle.prefixes.specs.Payload.{Payload}
 use Rattle.vrps.specs.Instance.{Instance}
@@ -12,11 +12,12 @@ use Rattle.rtr_ends.specs.declared.link.End.{End}
 use Rattle.rtr_ends.specs.declared.link.End.TheVariants as ends
 use Rattle.rtr_ends.specs.Answer.{report, sent, sent_all}
 use Rattle.rtr_ends.specs.Cache.{Conn}
+use Rattle.rtr_ends.specs.Commit.{Commits}
 use Rattle.rtr_ends.specs.Router.{Router, Link, Closed, Idle, Asked, Answering, Ended, Staged, Stays, Wrong, Over, choose, asking, ask, emptied, told, fails, is_strange, is_news, stage, staged, commit, on_unit, is_reading}
 use Rattle.rtr_ends.specs.Transcript.{Begun, Committed, Question, AskReset, AskSerial, query, is_listed, led_to, base_of, session_of, differs, is_serial, is_wrong, bounded, sum_of, retry_of}
 use Rattle.rtr_world.specs.History.{conn_due}
-use Rattle.rtr_world.specs.OneAnswer.{NotifiesOf, without_notifies}
-use Rattle.rtr_world.proofs.Invariant.{after_stage, Leads, Mine, OwnSession, QuestionFits, IsOwn, OfAnswer, nothing_yet, Replies, no_data, not_kept, other_session, no_memory, response, Shape, IfOpen, Open, Live, GoodLink, GoodRouter}
+use Rattle.rtr_world.specs.OneAnswer.{EndsWith, NotifiesOf, announced_in, withdrawn_in, without_notifies}
+use Rattle.rtr_world.proofs.Invariant.{after_stage, FromCache, InOrder, Leads, NoneWithdrawn, WithdrawsFirst, read_of, records_of, Mine, OwnSession, QuestionFits, IsOwn, OfAnswer, nothing_yet, Replies, no_data, not_kept, other_session, no_memory, response, Shape, IfOpen, Open, Live, GoodLink, GoodRouter}
 use Rattle.rtr_world.proofs.Streams.{Stream, stream-append}
 use Rattle.rtr_world.proofs.Versions.{Stands, TableAt, equal_true}
 use Rattle.rtr_world.proofs.Seen.{Seen}
@@ -73,6 +74,63 @@ stage_keeps base a true v b e = by_test (has base v || is_listed v a.announced) 
     by_test true s e = absurd (let h : Wrong 7 ≡ Stays b = e in cc)
     by_test false true e = absurd (let h : Over ≡ Stays b = e in cc)
     by_test false false e = let same : record a { announced = v ∷ a.announced } ≡ b = cc in (ap (λ x. x.question) (sym same), ap (λ x. x.session) (sym same))
+
+-- what is read once a record is staged
+pub first_withdraws : (a : Begun) (announce : Bool) (v : Payload) (rest : List Unit) → InOrder a (Prefix announce v ∷ rest) → announce ≡ false → a.announced ≡ []
+first_withdraws a true v rest h e = absurd (let k : true ≡ false = e in cc)
+first_withdraws a false v rest h e = elim (h.1) [ inl none ↦ none | inr k ↦ absurd k ]
+
+none_first : (units : List Unit) → NoneWithdrawn units → WithdrawsFirst units
+none_first [] h = tt
+none_first (Prefix true v ∷ units) h = h
+none_first (Prefix false v ∷ units) h = absurd h
+none_first (u ∷ units) h = none_first units h
+
+read_withdrawn : (a : Begun) (v : Payload) → a.announced ≡ [] → read_of (record a { withdrawn = v ∷ a.withdrawn }) ≡ read_of a ++ Prefix false v ∷ []
+read_withdrawn a v none =
+    ap (λ x. CacheResponse a.session ∷ x)
+    (ap (λ x. (records_of false a.withdrawn ++ Prefix false v ∷ []) ++ records_of true x) none ∙ append-nil (records_of false a.withdrawn ++ Prefix false v ∷ [])
+    ∙ ap (λ x. x ++ Prefix false v ∷ []) (sym (append-nil (records_of false a.withdrawn)) ∙ ap (λ x. records_of false a.withdrawn ++ records_of true x) (sym none)))
+
+read_announced : (a : Begun) (v : Payload) → read_of (record a { announced = v ∷ a.announced }) ≡ read_of a ++ Prefix true v ∷ []
+read_announced a v = ap (λ x. CacheResponse a.session ∷ x) (sym (append_assoc (records_of false a.withdrawn) (records_of true a.announced) (Prefix true v ∷ [])))
+
+pub stage_reads : (base : VrpSet) (a : Begun) (announce : Bool) (v : Payload) (b : Begun) (rest : List Unit) → stage base a announce v ≡ Stays b → InOrder a (Prefix announce v ∷ rest) → (read_of b ≡ read_of a ++ Prefix announce v ∷ []) × InOrder b rest
+stage_reads base a false v b rest e h = by_test (has base v && not (is_listed v a.withdrawn)) e
+  where
+    by_test : (t : Bool) → (if t then Stays (record a { withdrawn = v ∷ a.withdrawn }) else Wrong 6) ≡ Stays b → (read_of b ≡ read_of a ++ Prefix false v ∷ []) × InOrder b rest
+    by_test true e =
+        let same : record a { withdrawn = v ∷ a.withdrawn } ≡ b = cc in
+        let none : a.announced ≡ [] = first_withdraws a false v rest h refl in
+        subst (λ x. (read_of x ≡ read_of a ++ Prefix false v ∷ []) × InOrder x rest) same (read_withdrawn a v none, (h.0, inl none))
+    by_test false e = absurd (let h : Wrong 6 ≡ Stays b = e in cc)
+stage_reads base a true v b rest e h = by_test (has base v || is_listed v a.announced) (nat_lt 16777215 (size (led_to base a.withdrawn (v ∷ a.announced)))) e
+  where
+    by_test : (t s : Bool) → (if t then Wrong 7 else if s then Over else Stays (record a { announced = v ∷ a.announced })) ≡ Stays b → (read_of b ≡ read_of a ++ Prefix true v ∷ []) × InOrder b rest
+    by_test true s e = absurd (let h : Wrong 7 ≡ Stays b = e in cc)
+    by_test false true e = absurd (let h : Over ≡ Stays b = e in cc)
+    by_test false false e =
+        let same : record a { announced = v ∷ a.announced } ≡ b = cc in
+        subst (λ x. (read_of x ≡ read_of a ++ Prefix true v ∷ []) × InOrder x rest) same (read_announced a v, (none_first rest h.0, inr h.0))
+
+-- the rest of an answer once a record is staged
+staged_answer : (all : List Instance) (home : Seen) (base : VrpSet) (a : Begun) (announce : Bool) (v : Payload) (b : Begun) (rest : List Unit) → stage base a announce v ≡ Stays b → (o : OfAnswer all home base a (Prefix announce v ∷ rest)) → Leads base b rest home.session o.serial o.set
+    → OfAnswer all home base b rest
+staged_answer all home base a announce v b rest e o leads =
+    let same = stage_keeps base a announce v b e in
+    let read = stage_reads base a announce v b rest e o.order in
+    let units : read_of a ++ (Prefix announce v ∷ rest) ≡ read_of b ++ rest = sym (append_assoc (read_of a) (Prefix announce v ∷ []) rest) ∙ ap (λ x. x ++ rest) (sym read.0) in
+    record {
+      serial = o.serial;
+      set = o.set;
+      stands = o.stands;
+      leads = leads;
+      since = o.since;
+      from = subst₂ (λ q x. FromCache all home q x) (sym same.0) units o.from;
+      ends = subst (λ x. EndsWith home.session o.serial x) units o.ends;
+      commits = subst (λ x. Commits base (withdrawn_in x) (announced_in x) o.set) units o.commits;
+      order = read.1;
+    }
 
 module _ (all : List Instance) (i : Instance) (home : Option Seen) (conn : Option Conn) (up down : List ℕ) where
   abbrev GoodR : Router → Type 0
@@ -296,11 +354,11 @@ module _ (all : List Instance) (i : Instance) (home : Option Seen) (conn : Optio
       (response_good r more q d w f own (subst (λ x. OfAnswer all d.h (base_of q r.table) (nothing_yet q d.h.session) x) (sym (rest_is u (CacheResponse d.h.session) (without_notifies more) tail e)) a))
 
   -- a record comes
-  staged_good : (r : Router) (more : List Unit) (a : Begun) (announce : Bool) (v : Payload) (serial : ℕ) (set : VrpSet) (d : Reads r more) (stands : Stands all d.h.session serial set) (st : Staged) → stage (base_of a.question r.table) a announce v ≡ st → d.wanted ≡ [] → r.agreed ≡ true → a.session ≡ d.h.session
-      → QuestionFits d.h.session a.question r.version → length d.h.sets ≤ length stands.older + 1 → after_stage st (λ b. Leads (base_of a.question r.table) b (without_notifies more) d.h.session serial set) → GoodR (staged (Prefix announce v) st r)
-  staged_good r more a announce v serial set d stands (Wrong code) e w ag se f since l = absurd l
-  staged_good r more a announce v serial set d stands Over e w ag se f since l = absurd l
-  staged_good r more a announce v serial set d stands (Stays b) e w ag se f since l =
+  staged_good : (r : Router) (more : List Unit) (a : Begun) (announce : Bool) (v : Payload) (d : Reads r more) (o : OfAnswer all d.h (base_of a.question r.table) a (Prefix announce v ∷ without_notifies more)) (st : Staged) → stage (base_of a.question r.table) a announce v ≡ st → d.wanted ≡ [] → r.agreed ≡ true → a.session ≡ d.h.session
+      → QuestionFits d.h.session a.question r.version → after_stage st (λ b. Leads (base_of a.question r.table) b (without_notifies more) d.h.session o.serial o.set) → GoodR (staged (Prefix announce v) st r)
+  staged_good r more a announce v d o (Wrong code) e w ag se f l = absurd l
+  staged_good r more a announce v d o Over e w ag se f l = absurd l
+  staged_good r more a announce v d o (Stays b) e w ag se f l =
       let same = stage_keeps (base_of a.question r.table) a announce v b e in
       same_good (record r { link = Answering b }) more (Answering b)
       (record {
@@ -322,7 +380,7 @@ module _ (all : List Instance) (i : Instance) (home : Option Seen) (conn : Optio
         ag,
         same.1 ∙ se,
         subst (λ x. QuestionFits d.h.session x r.version) (sym same.0) f,
-        subst (λ x. OfAnswer all d.h (base_of x r.table) b (without_notifies more)) (sym same.0) (record { serial = serial; set = set; stands = stands; leads = l; since = since }),
+        subst (λ x. OfAnswer all d.h (base_of x r.table) b (without_notifies more)) (sym same.0) (staged_answer all d.h (base_of a.question r.table) a announce v b (without_notifies more) e o l),
       )
 
   -- the answer ends
@@ -350,14 +408,14 @@ module _ (all : List Instance) (i : Instance) (home : Option Seen) (conn : Optio
       }) refl refl (w, e, ag))
 
   answering : (r : Router) (more : List Unit) (a : Begun) (u : Unit) (d : Reads r more) → d.wanted ≡ [] → r.agreed ≡ true → a.session ≡ d.h.session → QuestionFits d.h.session a.question r.version
-      → (serial : ℕ) (set : VrpSet) (stands : Stands all d.h.session serial set) → length d.h.sets ≤ length stands.older + 1 → Leads (base_of a.question r.table) a (u ∷ without_notifies more) d.h.session serial set → GoodR (on_unit (Answering a) u r)
+      → OfAnswer all d.h (base_of a.question r.table) a (u ∷ without_notifies more) → GoodR (on_unit (Answering a) u r)
   unfolding on_unit
-  answering r more a (Prefix announce v) d w ag se f serial set stands since l =
-      staged_good r more a announce v serial set d stands (stage (base_of a.question r.table) a announce v) refl w ag se f since l
-  answering r more a (EndOfData one number refresh retry expire) d w ag se f serial set stands since l =
+  answering r more a (Prefix announce v) d w ag se f o = staged_good r more a announce v d o (stage (base_of a.question r.table) a announce v) refl w ag se f o.leads
+  answering r more a (EndOfData one number refresh retry expire) d w ag se f o =
+      let l = o.leads in
       committed_good r more a one number refresh retry expire d w l.0 ag se l.1
-      (subst (λ x. Stands all one number x) (sym l.3) (subst₂ (λ x y. Stands all x y set) (sym l.1) (sym l.2) stands))
-  answering r more a u d w ag se f serial set stands since l = absurd l
+      (subst (λ x. Stands all one number x) (sym l.3) (subst₂ (λ x y. Stands all x y o.set) (sym l.1) (sym l.2) o.stands))
+  answering r more a u d w ag se f o = absurd o.leads
 
   -- a unit comes that is no notify
   pub on_other : (r : Router) (more : List Unit) (l : Link) (u : Unit) (d : Reads r more) → is_reading l ≡ true → Shape all d.h l r.agreed r.version r.table d.wanted (u ∷ without_notifies more) → GoodR (on_unit l u r)
@@ -370,4 +428,4 @@ module _ (all : List Instance) (i : Instance) (home : Option Seen) (conn : Optio
         | inr w ↦ replied r more q u d w.0 shape.0 w.1
       ]
   on_other r more (Answering a) u d live shape =
-      answering r more a u d shape.0 shape.1 shape.2 shape.3 shape.4.serial shape.4.set shape.4.stands shape.4.since shape.4.leads
+      answering r more a u d shape.0 shape.1 shape.2 shape.3 shape.4
