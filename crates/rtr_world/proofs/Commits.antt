@@ -66,7 +66,7 @@ pub data Adds (past : List Instance) (i : Instance) (h : Seen) (n : Noted) (item
 
 unit_adds : (past : List Instance) (i : Instance) (h : Seen) (r : Router) (u : Unit) (items : List Item) → Tells (on_unit r.link u r) (asked_by (on_unit r.link u r).link (on_unit r.link u r).out ++ Reads u ∷ items)
     → Brings (i ∷ past) h r r.link u (on_unit r.link u r) → Adds past i h (reads u r) items
-unit_adds past i h r u items t (goes_on on none) = nothing (unit_places (i ∷ past) (on_unit r.link u r).link (on_unit r.link u r).out u items false (no_commit u items none))
+unit_adds past i h r u items t (goes_on on none c) = nothing (unit_places (i ∷ past) (on_unit r.link u r).link (on_unit r.link u r).out u items false (no_commit u items none))
 unit_adds past i h r u items t (ends_other session serial is other e none) = nothing (unit_places (i ∷ past) (on_unit r.link u r).link (on_unit r.link u r).out u items false (no_commit u items none))
 unit_adds past i h r u items t (ends_memory e none) = nothing (unit_places (i ∷ past) (on_unit r.link u r).link (on_unit r.link u r).out u items false (no_commit u items none))
 unit_adds past i h r u items t (commits version table e v own stands since) = by_commit (is_commit (Reads u ∷ items)) refl

@@ -66,7 +66,7 @@ module _ (all : List Instance) (i : Instance) (keep : ℕ) (home : Option Instan
   -- a unit is read
   unit_lawful : (h : Seen) (r : Router) (u : Unit) (items : List Item) → seen ≡ Some h → Tells r items → Brings all h r r.link u (on_unit r.link u r)
       → LawfulLink (on_unit r.link u r).link (asked_by (on_unit r.link u r).link (on_unit r.link u r).out ++ Reads u ∷ items) home
-  unit_lawful h r u items eh t (goes_on on none) = lawful_on (on_unit r.link u r).link (asked_by (on_unit r.link u r).link (on_unit r.link u r).out ++ Reads u ∷ items) home on
+  unit_lawful h r u items eh t (goes_on on none c) = lawful_on (on_unit r.link u r).link (asked_by (on_unit r.link u r).link (on_unit r.link u r).out ++ Reads u ∷ items) home on
   unit_lawful h r u items eh t (ends_other session serial is other e none) =
       subst (λ l. LawfulLink l (asked_by l (on_unit r.link u r).out ++ Reads u ∷ items) home) (sym e)
       (subst (λ o. OfAnother o home) (sym (asked_is r items (AskSerial session serial) is t)) (other_session keep home h session serial (subst (λ x. IsSeen keep home x) eh is_seen) other))

@@ -1,11 +1,14 @@
 pub mod AnswerLaws
+pub mod Answered
 pub mod CacheMoves
 pub mod CacheSteps
 pub mod Commits
 pub mod EndLaws
 pub mod Endings
 pub mod EventSteps
+pub mod Histories
 pub mod Invariant
+pub mod OneAnswers
 pub mod Places
 pub mod RouterSteps
 pub mod Seen

@@ -1,5 +1,5 @@
 -- A unit that comes to the router keeps the invariant.
-use Rattle.std.specs.Prelude.{◌≡◌, ℕ, ◌+◌, ◌<◌, ◌≤◌, Bool, true, false, not, ◌&&◌, ◌||◌, ◌==◌, nat_lt, List, [], ◌∷◌, ◌++◌, length, Option, Some, None, if◌then◌else◌, refl}
+use Rattle.std.specs.Prelude.{◌≡◌, ℕ, ◌<◌, Bool, true, false, not, ◌&&◌, ◌||◌, ◌==◌, nat_lt, List, [], ◌∷◌, ◌++◌, Option, Some, None, if◌then◌else◌, refl}
 use Rattle.std.proofs.Common.{sym, ap, ◌∙◌, append_assoc, subst, subst₂, arith, inl, inr}
 use Rattle.std.proofs.lemmas.List.{append-nil}
 use Rattle.prefixes.specs.Payload.{Payload}
@@ -192,7 +192,8 @@ module _ (all : List Instance) (i : Instance) (home : Option Seen) (conn : Optio
         upward = subst (λ x. Stream o.held x (query q ∷ [])) (ap (λ x. x ++ sent_all (query q ∷ [])) (append-nil up) ∙ ap (λ x. up ++ x) (append-nil (sent (query q)))) after;
         whole = op.whole;
         session = op.session;
-        made = op.made; later = op.later;
+        made = op.made;
+        later = op.later;
       }
 
   asking_good : (r : Router) (more : List Unit) (q : Question) (d : Reads r more) → d.wanted ≡ [] → without_notifies more ≡ [] → QuestionFits d.h.session q r.version → GoodR (asking q r)

@@ -10,6 +10,7 @@ use Rattle.rtr_pdu.specs.Unit.{IsUnit}
 use Rattle.rtr_pdu.specs.declared.unit.Unit.{Unit}
 use Rattle.rtr_pdu.proofs.NextLaws.{judge_sent, judge_part, some_sent}
 use Rattle.rtr_ends.specs.Answer.{sent, sent_all}
+use Rattle.rtr_world.specs.OneAnswer.{IsPart}
 
 -- What is held is a proper beginning of the first of these units.
 pub record Begun (held : List ℕ) (units : List Unit) : Type 0 where
@@ -95,6 +96,12 @@ stream-append held after units more s fit = record {
   partial = begun-append held units more s.partial;
   fit = all-append IsUnit units more s.fit fit;
 }
+
+-- what is held of the first unit
+pub part_of : (held : List ℕ) (units : List Unit) → (held ≡ []) ⊎ Begun held units → IsPart held units
+part_of [] units h = tt
+part_of (b ∷ held) units (inl e) = absurd (let k : b ∷ held ≡ [] = e in cc)
+part_of (b ∷ held) units (inr p) = subst (λ x. IsPart (b ∷ held) x) (sym p.is) (p.byte, p.rest, p.begins)
 
 -- bytes, one by one
 pub all_bytes : (bytes : List ℕ) → AllByRecursion (λ b. b < 256) bytes → AreBytes bytes

@@ -230,7 +230,7 @@ after_tells event SessionUsed w h = h
 after_tells event TooManyVersions w h = h
 after_tells event NoSuchRouter w h = h
 
-history_tells : (old : World) (history : List Entry) (w : World) → LeadsFrom old history w → AllTell old → AllTell w
+pub history_tells : (old : World) (history : List Entry) (w : World) → LeadsFrom old history w → AllTell old → AllTell w
 history_tells old [] w leads h = subst AllTell (sym leads) h
 history_tells old (entry ∷ history) w leads h =
     history_tells leads.0 history w leads.2 (subst AllTell (sym leads.1.2) (after_tells entry.event entry.outcome old h))

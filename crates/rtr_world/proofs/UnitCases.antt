@@ -1,6 +1,7 @@
 -- What a unit that comes to the router does to its link.
 use Rattle.std.specs.Prelude.{◌≡◌, ℕ, ◌+◌, ◌≤◌, ◌<◌, Bool, true, false, ◌&&◌, List, [], ◌∷◌, ◌++◌, length, Some, if◌then◌else◌, refl}
 use Rattle.std.proofs.Common.{sym, ap, ◌∙◌, subst, subst₂, inl, inr}
+use Rattle.prefixes.specs.Payload.{Payload}
 use Rattle.vrps.specs.Instance.{Instance}
 use Rattle.vrps.specs.VrpSet.{VrpSet}
 use Rattle.rtr_pdu.specs.declared.unit.Unit.{Unit}
@@ -11,8 +12,8 @@ use Rattle.rtr_ends.specs.Router.{Router, Link, Closed, Idle, Asked, Answering, 
 use Rattle.rtr_ends.specs.Transcript.{Begun, Committed, Question, AskReset, AskSerial, base_of, led_to, session_of, differs, is_wrong, bounded}
 use Rattle.rtr_world.specs.OneAnswer.{NotifiesOf, without_notifies}
 use Rattle.rtr_world.specs.World.{is_ended}
-use Rattle.rtr_world.proofs.Invariant.{after_stage, Leads, Mine, OwnSession, QuestionFits, IsOwn, OfAnswer, Replies, no_data, not_kept, other_session, no_memory, response, Shape, nothing_yet}
-use Rattle.rtr_world.proofs.RouterSteps.{no_difference, first_is, no_unit}
+use Rattle.rtr_world.proofs.Invariant.{after_stage, InOrder, read_of, Leads, Mine, OwnSession, QuestionFits, IsOwn, OfAnswer, Replies, no_data, not_kept, other_session, no_memory, response, Shape, nothing_yet}
+use Rattle.rtr_world.proofs.RouterSteps.{stage_reads, no_difference, first_is, no_unit}
 use Rattle.rtr_world.proofs.SideSteps.{HeadCase, a_notify, another, head_case}
 use Rattle.rtr_world.proofs.Versions.{Stands, equal_true, find_session}
 use Rattle.rtr_world.proofs.Seen.{Seen}
@@ -24,10 +25,21 @@ abbrev pub is_end : Unit → Bool
 is_end (EndOfData session serial refresh retry expire) = true
 is_end u = false
 
+abbrev pub is_answering : Link → Bool
+is_answering (Answering a) = true
+is_answering l = false
+
+-- How a link goes on: it stays at a notify; an answer begins; a record is staged; or no answer is under way.
+pub data Continues (l : Link) (u : Unit) (next : Link) : Type 0 where
+  stays : (session serial : ℕ) → u ≡ SerialNotify session serial → next ≡ l → Continues l u next
+  begins : (q : Question) (session : ℕ) → u ≡ CacheResponse session → next ≡ Answering (nothing_yet q session) → Continues l u next
+  stages : (a b : Begun) (announce : Bool) (v : Payload) → l ≡ Answering a → u ≡ Prefix announce v → next ≡ Answering b → read_of b ≡ read_of a ++ Prefix announce v ∷ [] → Continues l u next
+  leaves : is_answering next ≡ false → Continues l u next
+
 -- The link goes on; or it is told that another session is asked for, or that memory is wanting; or a version is committed that
 -- stands no earlier than the one that was current when the connection was made.
 pub data Brings (all : List Instance) (h : Seen) (r : Router) (l : Link) (u : Unit) (k : Router) : Type 0 where
-  goes_on : is_ended k.link ≡ false → is_end u ≡ false → Brings all h r l u k
+  goes_on : is_ended k.link ≡ false → is_end u ≡ false → Continues l u k.link → Brings all h r l u k
   ends_other : (session serial : ℕ) → l ≡ Asked (AskSerial session serial) → (session ≡ h.session → ⊥) → k.link ≡ Ended (ends.Told 0) → is_end u ≡ false → Brings all h r l u k
   ends_memory : k.link ≡ Ended (ends.Told 1) → is_end u ≡ false → Brings all h r l u k
   commits : (version : Committed) (table : VrpSet) → k.link ≡ Idle → k.version ≡ Some version → version.session ≡ h.session
@@ -50,21 +62,21 @@ module _ (all : List Instance) (h : Seen) (r : Router) where
       subst (λ b. Brings all h r Idle (SerialNotify one serial) (if b then fails (SerialNotify one serial) r else if is_news r.version serial then ask r else r)) (sym q) (by_news (is_news r.version serial))
     where
       by_news : (b : Bool) → Brings all h r Idle (SerialNotify one serial) (if b then ask r else r)
-      by_news true = goes_on refl refl
-      by_news false = goes_on (ap is_ended is) refl
+      by_news true = goes_on refl refl (leaves refl)
+      by_news false = goes_on (ap is_ended is) refl (stays one serial refl is)
   notified (Asked q) one serial is live quiet =
-      subst (λ b. Brings all h r (Asked q) (SerialNotify one serial) (if b then fails (SerialNotify one serial) r else r)) (sym quiet) (goes_on (ap is_ended is) refl)
+      subst (λ b. Brings all h r (Asked q) (SerialNotify one serial) (if b then fails (SerialNotify one serial) r else r)) (sym quiet) (goes_on (ap is_ended is) refl (stays one serial refl is))
   notified (Answering a) one serial is live quiet =
-      subst (λ b. Brings all h r (Answering a) (SerialNotify one serial) (if b then fails (SerialNotify one serial) r else r)) (sym quiet) (goes_on (ap is_ended is) refl)
+      subst (λ b. Brings all h r (Answering a) (SerialNotify one serial) (if b then fails (SerialNotify one serial) r else r)) (sym quiet) (goes_on (ap is_ended is) refl (stays one serial refl is))
 
   -- a reply
   no_data_brings : (copy : List ℕ) → Brings all h r (Asked AskReset) (report 2 copy) (on_unit (Asked AskReset) (report 2 copy) r)
   unfolding on_unit
-  no_data_brings copy = goes_on refl refl
+  no_data_brings copy = goes_on refl refl (leaves refl)
 
   reset_brings : (session serial : ℕ) → Brings all h r (Asked (AskSerial session serial)) CacheReset (on_unit (Asked (AskSerial session serial)) CacheReset r)
   unfolding on_unit
-  reset_brings session serial = goes_on refl refl
+  reset_brings session serial = goes_on refl refl (leaves refl)
 
   other_brings : (session serial : ℕ) (copy : List ℕ) → (session ≡ h.session → ⊥) → Brings all h r (Asked (AskSerial session serial)) (report 0 copy) (on_unit (Asked (AskSerial session serial)) (report 0 copy) r)
   unfolding on_unit
@@ -78,7 +90,7 @@ module _ (all : List Instance) (h : Seen) (r : Router) where
   unfolding on_unit
   response_brings q right =
       subst (λ b. Brings all h r (Asked q) (CacheResponse h.session) (if b then fails (CacheResponse h.session) r else record r { agreed = true; session = Some h.session; link = Answering (nothing_yet q h.session) })) (sym right)
-      (goes_on refl refl)
+      (goes_on refl refl (begins q h.session refl refl))
 
   replied : (q : Question) (u : Unit) (rest : List Unit) (base : VrpSet) → ((IsOwn h.session q) → is_wrong (Some q) r.version h.session ≡ false) → Replies all h q base (u ∷ rest) → Brings all h r (Asked q) u (on_unit (Asked q) u r)
   replied q u rest base right (no_data copy qe e) = subst₂ (λ a b. Brings all h r (Asked a) b (on_unit (Asked a) b r)) (sym qe) (sym (first_is u (report 2 copy) rest [] e)) (no_data_brings copy)
@@ -89,10 +101,11 @@ module _ (all : List Instance) (h : Seen) (r : Router) where
   replied q u rest base right (response tail e own a) = subst (λ b. Brings all h r (Asked q) b (on_unit (Asked q) b r)) (sym (first_is u (CacheResponse h.session) rest tail e)) (response_brings q (right own))
 
   -- a record or the end of an answer
-  record_brings : (a : Begun) (u : Unit) (st : Staged) (Goes : Begun → Type 0) → is_end u ≡ false → after_stage st Goes → Brings all h r (Answering a) u (staged u st r)
-  record_brings a u (Stays b) Goes none on = goes_on refl none
-  record_brings a u (Wrong code) Goes none on = absurd on
-  record_brings a u Over Goes none on = absurd on
+  record_brings : (a : Begun) (announce : Bool) (v : Payload) (rest : List Unit) (base : VrpSet) (st : Staged) (Goes : Begun → Type 0) → stage base a announce v ≡ st → InOrder a (Prefix announce v ∷ rest) → after_stage st Goes
+      → Brings all h r (Answering a) (Prefix announce v) (staged (Prefix announce v) st r)
+  record_brings a announce v rest base (Stays b) Goes e order on = goes_on refl refl (stages a b announce v refl refl refl (stage_reads base a announce v b rest e order).0)
+  record_brings a announce v rest base (Wrong code) Goes e order on = absurd on
+  record_brings a announce v rest base Over Goes e order on = absurd on
 
   ended_brings : (a : Begun) (one number refresh retry expire : ℕ) → one ≡ a.session → one ≡ h.session → (stands : Stands all one number (led_to (base_of a.question r.table) a.withdrawn a.announced))
       → length h.sets ≤ length stands.older + 1 → Brings all h r (Answering a) (EndOfData one number refresh retry expire) (on_unit (Answering a) (EndOfData one number refresh retry expire) r)
@@ -106,7 +119,7 @@ module _ (all : List Instance) (h : Seen) (r : Router) where
   answered : (a : Begun) (u : Unit) (rest : List Unit) → a.session ≡ h.session → OfAnswer all h (base_of a.question r.table) a (u ∷ rest) → Brings all h r (Answering a) u (on_unit (Answering a) u r)
   unfolding on_unit
   answered a (Prefix announce v) rest se o =
-      record_brings a (Prefix announce v) (stage (base_of a.question r.table) a announce v) (λ b. Leads (base_of a.question r.table) b rest h.session o.serial o.set) refl o.leads
+      record_brings a announce v rest (base_of a.question r.table) (stage (base_of a.question r.table) a announce v) (λ b. Leads (base_of a.question r.table) b rest h.session o.serial o.set) refl o.order o.leads
   answered a (EndOfData one number refresh retry expire) rest se o =
       let leads = o.leads in
       let s = o.stands in

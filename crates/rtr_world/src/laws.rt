@@ -1,5 +1,5 @@
 //! Laws of the definitions. These functions do nothing: their contracts are the laws.
-ghost use Rattle.rtr_world.specs.Claims.{EachLeads, Headline, LawfulEnds, NoWayBack, OneWorld, Tables};
+ghost use Rattle.rtr_world.specs.Claims.{EachLeads, Headline, LawfulEnds, NoWayBack, OneAnswerAlways, OneWorld, Tables};
 
 /// A history of events with their outcomes leads to one world, and every list of events has outcomes with which it leads to one.
 pub fn steps()
@@ -30,4 +30,11 @@ pub fn lawful_ends()
 /// an earlier instance of the cache, and not earlier in the same one.
 pub fn no_way_back()
     ensures { NoWayBack }
+{}
+
+/// After every list of events what is on its way to a router on a live link is at most one answer, and what a cut took of it: the
+/// answer of its cache to its question, as the cache was at some time after the connection was made. Its records lead from what the
+/// router holds to the set that was published under its End of Data. Notifies may stand between its units.
+pub fn one_answer()
+    ensures { OneAnswerAlways }
 {}

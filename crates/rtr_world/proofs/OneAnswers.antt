@@ -1,0 +1,129 @@
+-- What is on its way to a router is at most one answer, after every list of events.
+use Rattle.std.specs.Prelude.{◌≡◌, ℕ, true, false, List, [], ◌∷◌, ◌++◌, Option, Some, None, refl}
+use Rattle.std.proofs.Common.{sym, ap, ◌∙◌, subst, inl, inr}
+use Rattle.std.specs.List.{AllByRecursion}
+use Rattle.vrps.specs.Instance.{Instance}
+use Rattle.vrps.specs.VrpSet.{VrpSet}
+use Rattle.rtr_pdu.specs.declared.unit.Unit.{Unit}
+use Rattle.rtr_ends.specs.Answer.{answer}
+use Rattle.rtr_ends.specs.Cache.{Conn}
+use Rattle.rtr_ends.specs.Router.{Link, Closed, Idle, Asked, Answering, Ended, is_reading}
+use Rattle.rtr_ends.specs.Transcript.{AskReset, AskSerial, Begun, Committed, Question, base_of, query}
+use Rattle.rtr_ends.proofs.KeptLaws.{LinkTells}
+use Rattle.rtr_world.specs.Claims.{OneAnswerAlways}
+use Rattle.rtr_world.specs.OneAnswer.{ComesOn, Fits, IfLive, IfResponse, IsAnswer, IsReply, IsWhole, LeadsTo, NotifiesOf, OneAnswer, answered, without_notifies}
+use Rattle.rtr_world.specs.World.{Side, World, instances, timing}
+use Rattle.rtr_world.proofs.Answered.{ReadsSo, SideReads, kept_reads}
+use Rattle.rtr_world.proofs.Histories.{Known, history_keeps, history_known}
+use Rattle.rtr_world.proofs.Invariant.{FromCache, Flow, Good, IfOpen, OfAnswer, OneReply, Open, QuestionFits, Replies, Shape, no_data, not_kept, other_session, no_memory, read_of, records_of, response}
+use Rattle.rtr_world.proofs.Seen.{IsSeen, Seen}
+use Rattle.rtr_world.proofs.SideSteps.{live_of}
+use Rattle.rtr_world.proofs.Streams.{part_of}
+use Rattle.rtr_world.proofs.TableLaws.{SideTells}
+use Rattle.rtr_world.proofs.Versions.{named_at}
+
+-- the instance of the connection
+record Home (keep : ℕ) (home : Option Instance) (h : Seen) : Type 0 where
+  is : home ≡ Some h.made
+  session : h.session ≡ h.made.session
+  keeps : h.keep ≡ keep
+
+home_of : (keep : ℕ) (home : Option Instance) (h : Seen) → IsSeen keep home (Some h) → Home keep home h
+home_of keep None h s = absurd s
+home_of keep (Some home) h s = record { is = ap Some (sym s.0); session = s.2 ∙ ap (λ x. x.session) (sym s.0); keeps = s.1 }
+
+-- a cut alone takes bytes away
+whole_of : (i : Instance) (h : Seen) (out up : List ℕ) (wanted : List Unit) (lost : List ℕ) (o : Option Conn) → IfOpen o (Open i h out up wanted lost) → (o ≡ None → ⊥) → lost ≡ []
+whole_of i h out up wanted lost None op some = absurd (some refl)
+whole_of i h out up wanted lost (Some o) op some = op.whole
+
+-- a question is of what is committed
+fits_of : (session : ℕ) (q : Question) (version : Option Committed) → QuestionFits session q version → Fits q version
+fits_of session AskReset version f = tt
+fits_of session (AskSerial one serial) None f = f
+fits_of session (AskSerial one serial) (Some version) f = f
+
+module _ (w : World) (h : Seen) (keeps : h.keep ≡ w.keep) where
+  answer_of : (q : Question) (units : List Unit) → FromCache (instances w) h q units → IsAnswer w h.made q units
+  answer_of q units f = record {
+    cache = f.cache;
+    since = f.since;
+    latest = f.latest;
+    found = f.found;
+    until = f.until;
+    are = f.are ∙ ap (λ k. (answer f.cache k timing (query q)).units) keeps;
+  }
+
+  reply_of : (q : Question) (units : List Unit) → OneReply (instances w) h q units → IsReply w h.made q units
+  reply_of q units (inl f) = inl (answer_of q units f)
+  reply_of q units (inr e) = inr e
+
+  leads_of : (base : VrpSet) (a : Begun) (rest : List Unit) → a.session ≡ h.session → OfAnswer (instances w) h base a rest → IfResponse (instances w) base (read_of a ++ rest)
+  leads_of base a rest e o =
+      subst (λ s. LeadsTo (instances w) base s ((records_of false a.withdrawn ++ records_of true a.announced) ++ rest)) (sym e)
+      (record { serial = o.serial; ends = o.ends; set = o.set; commits = o.commits; published = named_at (instances w) h.session o.serial o.set o.stands })
+
+  response_of : (q : Question) (base : VrpSet) (rest : List Unit) → Replies (instances w) h q base rest → IfResponse (instances w) base rest
+  response_of q base rest (no_data copy qe e) = subst (λ x. IfResponse (instances w) base x) (sym e) tt
+  response_of q base rest (not_kept serial qe e) = subst (λ x. IfResponse (instances w) base x) (sym e) tt
+  response_of q base rest (other_session session serial copy qe other e) = subst (λ x. IfResponse (instances w) base x) (sym e) tt
+  response_of q base rest (no_memory e) = subst (λ x. IfResponse (instances w) base x) (sym e) tt
+  response_of q base rest (response tail e own o) =
+      subst (λ x. IfResponse (instances w) base x) (sym e) (leads_of base (record { question = q; session = h.session; withdrawn = []; announced = [] }) tail refl o)
+
+  comes_on : (s : Side) (l : Link) (wanted rest : List Unit) → s.router.link ≡ l → SideTells s → SideReads s → Shape (instances w) h l s.router.agreed s.router.version s.router.table wanted rest → ComesOn w h.made s l rest
+  comes_on s Closed wanted rest is t k sh = tt
+  comes_on s (Ended end) wanted rest is t k sh = tt
+  comes_on s Idle wanted rest is t k sh = sh.1
+  comes_on s (Asked q) wanted rest is t k sh = (
+    fits_of h.session q s.router.version sh.0,
+    elim (sh.1) [
+      | inl x ↦ inl x.1
+      | inr x ↦ inr (reply_of q rest x.2, response_of q (base_of q s.router.table) rest x.1)
+    ],
+  )
+  comes_on s (Answering a) wanted rest is t k sh =
+      let told : LinkTells (Answering a) s.router.agreed s.router.session s.router.table s.items = subst (λ x. LinkTells x s.router.agreed s.router.session s.router.table s.items) is t.tells.link in
+      let read : answered s.items ≡ read_of a = subst (λ x. ReadsSo x s.items) is k.reads_so in
+      let o : OfAnswer (instances w) h (base_of a.question s.router.table) a rest = sh.4 in (
+        fits_of h.session a.question s.router.version sh.3,
+        told.2,
+        subst (λ x. IsWhole w h.made a.question s.router.table (x ++ rest)) (sym read) (inl (answer_of a.question (read_of a ++ rest) o.from), leads_of (base_of a.question s.router.table) a rest sh.2 o),
+      )
+
+live_answer : (w : World) (s : Side) → is_reading s.router.link ≡ true → Good w.keep w.past w.present s → SideTells s → SideReads s → OneAnswer w s
+live_answer w s live g t k =
+    let l = live_of s.router.link (instances w) w.present g.seen s.router s.conn s.up s.down g.router.link live in
+    let h : Seen = l.0 in
+    let f : Flow (instances w) w.present h s.router s.conn s.up s.down = l.2 in
+    let home : Home w.keep s.home h = home_of w.keep s.home h (subst (λ x. IsSeen w.keep s.home x) l.1 g.is_seen) in
+    record {
+      home = h.made;
+      home_is = home.is;
+      coming = f.coming;
+      lost = f.lost;
+      bytes = f.downward.whole;
+      part = part_of s.router.held f.coming f.downward.partial;
+      whole = whole_of w.present h s.router.out s.up f.wanted f.lost s.conn f.open_at;
+      notifies = subst (λ x. NotifiesOf x f.coming) home.session f.notifies;
+      rest = comes_on w h home.keeps s s.router.link f.wanted (without_notifies f.coming) refl t k f.shape;
+    }
+
+if_live : (w : World) (s : Side) → Good w.keep w.past w.present s → SideTells s → SideReads s → IfLive s.router.link (OneAnswer w s)
+if_live w s g t k = by_link s.router.link refl
+  where
+    by_link : (l : Link) → s.router.link ≡ l → IfLive l (OneAnswer w s)
+    by_link Closed is = tt
+    by_link (Ended end) is = tt
+    by_link Idle is = live_answer w s (ap is_reading is) g t k
+    by_link (Asked q) is = live_answer w s (ap is_reading is) g t k
+    by_link (Answering a) is = live_answer w s (ap is_reading is) g t k
+
+-- One answer
+pub one_answer : OneAnswerAlways
+one_answer made history w leads =
+    each w.sides (history_known made history w leads) (history_keeps SideReads kept_reads made history w leads)
+  where
+    each : (sides : List Side) → AllByRecursion (Known w) sides → AllByRecursion SideReads sides → AllByRecursion (λ s. IfLive s.router.link (OneAnswer w s)) sides
+    each [] g k = tt
+    each (s ∷ sides) g k = (if_live w s g.0.0 g.0.1 k.0, each sides g.1 k.1)

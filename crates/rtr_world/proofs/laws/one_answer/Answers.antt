@@ -1,0 +1,5 @@
+use Rattle.rtr_world.proofs.OneAnswers.{one_answer}
+use Rattle.rtr_world.proofs.laws.one_answer.Goals as goal
+
+pub returns : goal.returns
+returns c = one_answer
