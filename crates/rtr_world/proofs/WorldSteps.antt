@@ -5,6 +5,9 @@ use Rattle.std.specs.List.{AllByRecursion}
 use Rattle.std.proofs.lemmas.Bool.{and_parts}
 use Rattle.std.proofs.lemmas.List.{length-append}
 use Rattle.vrps.specs.Instance.{Instance, IsInstance, versions}
+use Rattle.prefixes.specs.declared.route.Route.{Route}
+use Rattle.vrps.specs.Origin.{HasState, state}
+use Rattle.vrps.proofs.StateLaws.{state_is}
 use Rattle.vrps.specs.Store.{is_current, published}
 use Rattle.vrps.specs.VrpSet.{VrpSet}
 use Rattle.vrps.proofs.VersionLaws.{published_is_instance}
@@ -13,7 +16,7 @@ use Rattle.rtr_ends.specs.Cache.{Conn}
 use Rattle.rtr_ends.specs.Connection.{IsLater}
 use Rattle.rtr_ends.specs.Router.{Router, Link, Closed, Idle, Asked, Answering, Ended, IsKept}
 use Rattle.rtr_ends.specs.Transcript.{Begun, Committed, Question, base_of, kept}
-use Rattle.rtr_world.specs.Claims.{IsNamed, Headline, NoWayBack}
+use Rattle.rtr_world.specs.Claims.{IsJudged, IsNamed, Headline, NoWayBack, RouteStates}
 use Rattle.rtr_world.specs.History.{Outcome, Done, SessionUsed, TooManyVersions, NoSuchRouter, Memory, is_near, room_for, room_since, all_have_room, is_used, refusal, MayEnd, after, IsEvent, Entry, LeadsFrom, Made, IsMade, conn_due}
 use Rattle.rtr_world.specs.OneAnswer.{without_notifies}
 use Rattle.rtr_world.specs.Place.{NeverBack, position_of}
@@ -313,6 +316,19 @@ headline made history w leads =
     named_all : (sides : List Side) → AllByRecursion (Good w.keep w.past w.present) sides → AllByRecursion (λ s. IsKept s.router s.items) sides → AllByRecursion (λ s. IsNamed (instances w) (kept s.items).version s.router.table) sides
     named_all [] g k = tt
     named_all (s ∷ sides) g k = (subst (λ v. IsNamed (instances w) v s.router.table) k.0.version (table_named (instances w) s.router.version s.router.table g.0.router.table), named_all sides g.1 k.1)
+
+-- and so do the states of routes
+judged : (all : List Instance) (version : Option Committed) (table : VrpSet) (route : Route) → IsNamed all version table → IsJudged all version route (state table route)
+judged all None table route is = subst (λ t. HasState t route (state table route)) is (state_is table route)
+judged all (Some version) table route is = (table, is, state_is table route)
+
+pub route_states : RouteStates
+route_states made history w leads = each w.sides (headline made history w leads)
+  where
+    each : (sides : List Side) → AllByRecursion (λ s. IsNamed (instances w) (kept s.items).version s.router.table) sides
+        → AllByRecursion (λ s. (route : Route) → IsJudged (instances w) (kept s.items).version route (state s.router.table route)) sides
+    each [] h = tt
+    each (s ∷ sides) h = (λ route. judged (instances w) (kept s.items).version s.router.table route h.0, each sides h.1)
 
 -- No way back
 pub no_way_back : NoWayBack

@@ -1,8 +1,11 @@
 -- What holds after every list of events.
 use Rattle.std.specs.Prelude.{◌≡◌, List, Option, Some, None, ⊤, zero, suc, map}
 use Rattle.std.specs.List.{AllByRecursion}
+use Rattle.prefixes.specs.declared.route.Route.{Route}
 use Rattle.vrps.specs.Instance.{Instance, named}
+use Rattle.vrps.specs.Origin.{HasState, state}
 use Rattle.vrps.specs.VrpSet.{VrpSet, empty}
+use Rattle.vrps.specs.declared.origin.OriginState.{OriginState}
 use Rattle.rtr_ends.specs.declared.link.End.{End}
 use Rattle.rtr_ends.specs.declared.link.End.TheVariants as ends
 use Rattle.rtr_ends.specs.Router.{IsKept}
@@ -32,6 +35,14 @@ IsNamed all (Some version) table = named all version.session version.serial ≡ 
 
 abbrev pub Headline : Type 0
 Headline = Always (λ w s. IsNamed (instances w) (kept s.items).version s.router.table)
+
+-- What a router answers for a route is its state over that set, or over the empty one (RFC 6811 section 2).
+abbrev pub IsJudged : List Instance → Option Committed → Route → OriginState → Type 0
+IsJudged all None route answer = HasState empty route answer
+IsJudged all (Some version) route answer = (set : VrpSet) × (named all version.session version.serial ≡ Some set) × HasState set route answer
+
+abbrev pub RouteStates : Type 0
+RouteStates = Always (λ w s. (route : Route) → IsJudged (instances w) (kept s.items).version route (state s.router.table route))
 
 -- No way back: no version is committed that was published before one that was committed earlier.
 abbrev pub NoWayBack : Type 0

@@ -1,5 +1,5 @@
 //! Laws of the definitions. These functions do nothing: their contracts are the laws.
-ghost use Rattle.rtr_world.specs.Claims.{EachLeads, Headline, LawfulEnds, NoWayBack, OneAnswerAlways, OneWorld, Tables};
+ghost use Rattle.rtr_world.specs.Claims.{EachLeads, Headline, LawfulEnds, NoWayBack, OneAnswerAlways, OneWorld, RouteStates, Tables};
 
 /// A history of events with their outcomes leads to one world, and every list of events has outcomes with which it leads to one.
 pub fn steps()
@@ -15,9 +15,10 @@ pub fn tables()
 
 /// After every list of events each router's table is empty if it holds no session, and otherwise is exactly the set that was published
 /// under the session and the serial of the End of Data that it committed last, each announcement and each withdrawal having acted
-/// exactly once.
+/// exactly once; and the answer for every route is RFC 6811's state over that set, or over the empty one.
 pub fn headline()
-    ensures { Headline }
+    ensures table { Headline }
+    ensures routes { RouteStates }
 {}
 
 /// A link ends by want of memory at the router, by the expiry of its version, by an Error Report of code 1 (want of memory at the

@@ -1,5 +1,5 @@
-use Rattle.rtr_world.proofs.WorldSteps.{headline}
+use Rattle.rtr_world.proofs.WorldSteps.{headline, route_states}
 use Rattle.rtr_world.proofs.laws.headline.Goals as goal
 
 pub returns : goal.returns
-returns c = headline
+returns c = record { table = headline; routes = route_states }
