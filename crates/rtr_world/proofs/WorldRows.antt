@@ -1,20 +1,22 @@
 -- A world, event by event, worked out.
-use Rattle.std.specs.Prelude.{◌≡◌, ℕ, true, false, ◌&&◌, ◌||◌, nat_lt, List, [], ◌∷◌, ◌++◌, take, Option, Some, None, if◌then◌else◌, refl}
+use Rattle.std.specs.Prelude.{◌≡◌, ℕ, Bool, true, false, not, ◌&&◌, ◌||◌, nat_lt, List, [], ◌∷◌, ◌++◌, take, Option, Some, None, if◌then◌else◌, refl}
 use Rattle.std.proofs.Common.{ap, ◌∙◌}
-use Rattle.vrps.specs.Instance.{Instance}
-use Rattle.vrps.specs.VrpSet.{VrpSet, empty, set_of, size}
+use Rattle.vrps.specs.Instance.{Instance, named}
+use Rattle.vrps.specs.VrpSet.{VrpSet, empty, has, set_of, size}
 use Rattle.vrps.proofs.SetLaws.{has-empty, listing-set_of, size-set_of}
 use Rattle.rtr_pdu.specs.Judging.{judge}
 use Rattle.rtr_pdu.specs.Stream.{as_read}
-use Rattle.rtr_pdu.specs.declared.unit.Unit.TheVariants.{CacheResponse, Prefix}
+use Rattle.rtr_pdu.specs.declared.unit.Unit.TheVariants.{CacheResponse, EndOfData, Prefix}
 use Rattle.rtr_ends.specs.Answer.{sent_all}
 use Rattle.rtr_ends.specs.Cache.{Conn, new_conn, conn_takes, conn_byte, conn_pulled}
 use Rattle.rtr_ends.specs.Feeding.{Fed, feed}
-use Rattle.rtr_ends.specs.Router.{Router, Receiving, Staged, Stays, Wrong, Over, Asked, Answering, new_router, stage, staged, is_staged, lacks, asked_by, Noted, on_unit, router_byte, router_stops, receives, clocked, connects_at, closed_at, router_pulled, of_received}
-use Rattle.rtr_ends.specs.Transcript.{At, Opened, Asks, Reads, Shut, Begun, AskReset}
-use Rattle.rtr_ends.proofs.Rows.{v, v_ascends, cache, with_all_of, reset_bytes, response_bytes, v_bytes, end_bytes}
+use Rattle.rtr_ends.specs.Router.{Router, Receiving, Staged, Stays, Wrong, Over, Idle, Asked, Answering, new_router, stage, staged, is_staged, lacks, asked_by, Noted, on_unit, router_byte, router_stops, receives, clocked, connects_at, closed_at, router_pulled, of_received}
+use Rattle.rtr_ends.specs.Timing.{default_intervals}
+use Rattle.rtr_ends.specs.Transcript.{At, Opened, Asks, Reads, Shut, Item, Begun, AskReset, Committed, Kept, led_to, nothing}
+use Rattle.rtr_ends.proofs.Rows.{v, w, v_ascends, cache, with_all_of, reset_bytes, response_bytes, v_bytes, end_bytes}
 use Rattle.rtr_ends.proofs.FeedingLaws.{feed_on}
 use Rattle.rtr_ends.proofs.TableLaws.{led_from_empty}
+use Rattle.rtr_world.specs.Place.{place_of}
 use Rattle.rtr_world.specs.History.{Done, SessionUsed, NoSuchRouter, after, refusal}
 use Rattle.rtr_world.specs.World.{Side, World, Publish, Restart, On, Connect, RouterSends, CacheGets, CacheSends, RouterGets, Cut, new_side, new_world, noted, connects, router_sends, cache_gets, cache_sends, router_gets, cut, side_step, settle, goes_through, settled}
 
@@ -151,6 +153,92 @@ cut_off = refl
 cut_behind : after (On 0 (Cut 1)) (Done None) (world (read_side (Some (replied [])) (0x20 ∷ []))) ≡ world (read_side None (0x20 ∷ []))
 unfolding goes_through settled settle side_step cut
 cut_behind = refl
+
+-- That byte commits the answer, and the router is told that the connection is closed: it holds {v} under session 0x1234 and serial 5.
+abbrev version_5 : Committed
+version_5 = record { session = 0x1234; serial = 5; moment = 0; intervals = default_intervals }
+
+abbrev holds_v : Router
+holds_v = record new_router { table = just_v; version = Some version_5; due = Some 600 }
+
+abbrev commits_v : List Item → Side
+commits_v items = record new_side { router = holds_v; items = items; places = Some (record { instance = 0; position = 0 }) ∷ [] }
+
+abbrev end_of_v : Item
+end_of_v = Reads (EndOfData 0x1234 5 3600 600 7200)
+
+abbrev told_items : List Item
+told_items = third.items ++ Asks AskReset ∷ Opened ∷ At 0 ∷ []
+
+-- whether the record acts once, and the place that is noted then
+abbrev acts : Bool
+acts = (not (has empty v) && true) && true
+
+acts_so : acts ≡ true
+acts_so = λ i. (not (has-empty v i) && true) && true
+
+abbrev committing : VrpSet → Router
+committing set = record (answering v_read) { table = set; version = Some version_5; due = Some 3600; link = Idle }
+
+abbrev kept_by : Bool → Kept
+kept_by once = if once then record { version = Some version_5; table = led_to empty [] (v ∷ []) } else nothing
+
+abbrev noted_by : List Instance → Bool → VrpSet → List Item → Side
+noted_by all once set items = record (read_side None []) {
+  router = committing set;
+  items = items;
+  places = ((if once then place_of all (kept_by once).version ∷ [] else []) ++ []) ++ [];
+}
+
+late_byte : after (On 0 (RouterGets 1)) (Done None) (world (read_side None (0x20 ∷ []))) ≡ world (commits_v (Shut ∷ At 0 ∷ end_of_v ∷ At 0 ∷ told_items))
+unfolding goes_through settled settle side_step router_gets receives clocked router_byte on_unit judge as_read closed_at
+late_byte = λ i. settled (world (noted_by (with_v ∷ []) (acts_so i) (led_from_empty (v ∷ []) i) (end_of_v ∷ At 0 ∷ told_items)))
+
+-- Late bytes of an instance that ended: the cache restarts and publishes {w} while the whole answer is on the wire. The router still
+-- commits {v}, which stays named.
+abbrev just_w : VrpSet
+just_w = set_of (w ∷ [])
+
+abbrev later : List VrpSet → Instance
+later sets = record { session = 0x2222; start = 9; sets = sets }
+
+abbrev later_world : List VrpSet → Side → World
+later_world sets s = record { keep = 2; past = with_v ∷ []; present = later sets; sides = s ∷ [] }
+
+abbrev left_side : Side
+left_side = record (open_side asking (replied []) [] answer_bytes) { conn = None }
+
+restarted : after (Restart 0x2222 9) (Done None) (world (open_side asking (replied []) [] answer_bytes)) ≡ later_world [] left_side
+unfolding goes_through settled settle
+restarted = refl
+
+publishes_w : after (Publish just_w) (Done None) (later_world [] left_side) ≡ later_world (just_w ∷ []) left_side
+unfolding goes_through settled settle
+publishes_w = refl
+
+abbrev fourth : VrpSet → Receiving
+fourth set = record { router = committing set; items = end_of_v ∷ third.items; wanting = None }
+
+end_read : fed second (end_bytes 5) ≡ record { machine = fourth (led_to empty [] (v ∷ [])); rest = [] }
+unfolding router_byte on_unit judge as_read
+end_read = refl
+
+all_52 : fed hears answer_bytes ≡ record { machine = fourth (led_to empty [] (v ∷ [])); rest = [] }
+all_52 =
+    feed_on (λ x. router_stops x.router) router_byte hears first response_bytes (v_bytes ++ end_bytes 5) response_read
+    ∙ feed_on (λ x. router_stops x.router) router_byte first second v_bytes (end_bytes 5) record_read ∙ end_read
+
+abbrev after_late : Fed Receiving → World
+after_late f = settled (later_world (just_w ∷ []) (record (noted (later (just_w ∷ []) ∷ with_v ∷ []) (of_received f) left_side) { down = f.rest ++ [] }))
+
+late_answer : after (On 0 (RouterGets 52)) (Done None) (later_world (just_w ∷ []) left_side) ≡ later_world (just_w ∷ []) (commits_v (Shut ∷ At 0 ∷ end_of_v ∷ told_items))
+unfolding goes_through settled settle side_step router_gets receives clocked closed_at
+late_answer =
+    ap after_late all_52
+    ∙ (λ i. settled (later_world (just_w ∷ []) (noted_by (later (just_w ∷ []) ∷ with_v ∷ []) (acts_so i) (led_from_empty (v ∷ []) i) (end_of_v ∷ told_items))))
+
+still_named : named (later (just_w ∷ []) ∷ with_v ∷ []) 0x1234 5 ≡ Some just_v
+still_named = refl
 
 -- Refusals: a session that is used, a router that is not there
 session_used : refusal (world new_side) (Restart 0x1234 1) ≡ Some SessionUsed
