@@ -14,24 +14,12 @@ use Rattle.rtr_ends.specs.declared.link.End.TheVariants as ends
 use Rattle.rtr_ends.specs.Answer.{sent}
 use Rattle.rtr_ends.specs.Cache.{is_none, finds_memory}
 use Rattle.rtr_ends.specs.Feeding.{Fed, feed}
-use Rattle.rtr_ends.specs.Router.{Link, Closed, Idle, Asked, Answering, Ended, Router, Noted, Receiving, Staged, Stays, Wrong, Over, choose, asking, ask, emptied, reports, told, fails, is_strange, is_news, stage, staged, commit, told_off, on_unit, may_lack, asked_by, reads, lacks, with_bytes, is_reading, router_stops, router_byte, expired, clocked, is_closed, close, is_due, is_idle, asks_if, connects_at, closed_at, ticks_at, asks, receives, router_pulled, Call, Connects, Receives, Pulls, Closes, AsksNow, Ticks, called, played, IsKept, RouterKeeps}
+use Rattle.rtr_ends.specs.Router.{Link, Closed, Idle, Asked, Answering, Ended, Router, Noted, Receiving, Staged, Stays, Wrong, Over, choose, asking, ask, emptied, reports, told, fails, is_strange, is_news, stage, staged, commit, told_off, on_unit, may_lack, asked_by, reads, lacks, with_bytes, is_reading, router_stops, router_byte, expired, clocked, is_closed, close, is_due, is_idle, asks_if, connects_at, closed_at, ticks_at, asks, receives, router_pulled, Call, Connects, Receives, Pulls, Closes, AsksNow, Ticks, called, played, LinkTells, IsKept, RouterKeeps}
 use Rattle.rtr_ends.specs.Transcript.{Question, AskReset, AskSerial, query, Item, At, Opened, Asks, Reads, Refused, Shut, Begun, begun, with_record, waiting, under_way, outstanding, question_of, has_agreed, responded, is_connected, moment, later, is_listed, may_withdraw, may_announce, acts_once, led_to, Committed, Kept, nothing, bounded, base_of, session_of, differs, is_serial, is_wrong, does_commit, emptied_if, at_end, kept, is_over, sum_of, retry_of, refreshed, due}
 use Rattle.rtr_ends.proofs.TableLaws.{false_true}
 
 abbrev pub holds : Router → Kept
 holds r = record { version = r.version; table = r.table }
-
--- What the link, agreement and the session of the connection say of the transcript
-abbrev pub LinkTells : Link → Bool → Option ℕ → VrpSet → List Item → Type 0
-LinkTells Closed agreed session table items = (is_connected items ≡ false) × (agreed ≡ false) × (session ≡ None)
-LinkTells (Ended end) agreed session table items = is_connected items ≡ true
-LinkTells Idle agreed session table items =
-    (is_connected items ≡ true) × (waiting items ≡ None) × (under_way items ≡ None) × (has_agreed items ≡ agreed) × (responded items ≡ session) × (agreed ≡ true)
-LinkTells (Asked question) agreed session table items =
-    (is_connected items ≡ true) × (waiting items ≡ Some question) × (under_way items ≡ None) × (has_agreed items ≡ agreed) × (responded items ≡ session)
-LinkTells (Answering a) agreed session table items =
-    (is_connected items ≡ true) × (waiting items ≡ None) × (under_way items ≡ Some a) × (has_agreed items ≡ agreed) × (responded items ≡ session) × (agreed ≡ true)
-    × (acts_once (base_of a.question table) a.withdrawn a.announced ≡ true)
 
 pub record Tells (r : Router) (items : List Item) : Type 0 where
   pub kept_is : kept items ≡ holds r
@@ -40,11 +28,11 @@ pub record Tells (r : Router) (items : List Item) : Type 0 where
   pub link : LinkTells r.link r.agreed r.session r.table items
 
 -- tests
-and_false : (b : Bool) → (b && false) ≡ false
+pub and_false : (b : Bool) → (b && false) ≡ false
 and_false true = refl
 and_false false = refl
 
-and_true : (b : Bool) → (b && true) ≡ b
+pub and_true : (b : Bool) → (b && true) ≡ b
 and_true true = refl
 and_true false = refl
 
@@ -337,7 +325,7 @@ live_unit r Idle u items live is h t = idle_unit r u items is h t
 live_unit r (Asked q) u items live is h t = asked_unit r q u items is h t
 live_unit r (Answering a) u items live is h t = answering_unit r a u items is h t
 
-connected : (l : Link) (agreed : Bool) (session : Option ℕ) (table : VrpSet) (items : List Item) → is_reading l ≡ true → LinkTells l agreed session table items → is_connected items ≡ true
+pub connected : (l : Link) (agreed : Bool) (session : Option ℕ) (table : VrpSet) (items : List Item) → is_reading l ≡ true → LinkTells l agreed session table items → is_connected items ≡ true
 connected Closed agreed session table items live t = absurd (let e : false ≡ true = live in cc)
 connected (Ended end) agreed session table items live t = absurd (let e : false ≡ true = live in cc)
 connected Idle agreed session table items live t = t.0
@@ -353,7 +341,7 @@ reads_adds r u items live none t =
     let after = live_unit r r.link u items live refl (record { kept_is = t.kept_is; due_is = t.due_is; now_is = t.now_is; none = none }) t.link in
     record { tells = subst (λ x. Tells (on_unit r.link u r) x) (sym (append_assoc (asked_by (on_unit r.link u r).link (on_unit r.link u r).out) (Reads u ∷ []) items)) after }
 
-bytes_add : (memory : Bool) (bytes : List ℕ) (r : Router) (j : Judgement) (items : List Item) → is_reading r.link ≡ true → r.out ≡ [] → Tells r items → Adds (with_bytes memory bytes r j) items
+pub bytes_add : (memory : Bool) (bytes : List ℕ) (r : Router) (j : Judgement) (items : List Item) → is_reading r.link ≡ true → r.out ≡ [] → Tells r items → Adds (with_bytes memory bytes r j) items
 bytes_add memory bytes r Begins items live none t = record { tells = record { kept_is = t.kept_is; due_is = t.due_is; now_is = t.now_is; link = t.link } }
 bytes_add memory bytes r (Faulty fault) items live none t =
     record { tells = record { kept_is = t.kept_is; due_is = t.due_is; now_is = t.now_is; link = connected r.link r.agreed r.session r.table items live t.link } }
@@ -367,11 +355,11 @@ bytes_add memory bytes r (Whole u) items live none t = by_memory (may_lack r.lin
     by_memory false = reads_adds emptied_hand u items live none (record { kept_is = t.kept_is; due_is = t.due_is; now_is = t.now_is; link = t.link })
 
 -- a piece
-none_is : (out : List ℕ) → is_none out ≡ true → out ≡ []
+pub none_is : (out : List ℕ) → is_none out ≡ true → out ≡ []
 none_is [] h = refl
 none_is (b ∷ out) h = absurd (let e : false ≡ true = h in cc)
 
-not_true : (b : Bool) → not b ≡ false → b ≡ true
+pub not_true : (b : Bool) → not b ≡ false → b ≡ true
 not_true true h = refl
 not_true false h = absurd (let e : true ≡ false = h in cc)
 
@@ -529,7 +517,7 @@ played_tells [] = new_tells
 played_tells (call ∷ calls) = called_tells call (played calls).router (played calls).items (played_tells calls)
 
 pub is_kept : (r : Router) (items : List Item) → Tells r items → IsKept r items
-is_kept r items t = record { table = ap (λ k. k.table) (sym t.kept_is); version = ap (λ k. k.version) (sym t.kept_is); due = sym t.due_is; now = sym t.now_is }
+is_kept r items t = record { table = ap (λ k. k.table) (sym t.kept_is); version = ap (λ k. k.version) (sym t.kept_is); due = sym t.due_is; now = sym t.now_is; link = t.link }
 
 -- What a router holds is what its transcript keeps.
 pub router_keeps : RouterKeeps

@@ -1,5 +1,7 @@
+pub mod Bytes
 pub mod CacheRows
 pub mod CommitLaws
+pub mod ConsumedLaws
 pub mod FeedingLaws
 pub mod HistoryLaws
 pub mod KeptLaws

@@ -4,8 +4,7 @@ use Rattle.std.proofs.Common.{sym, ap, ◌∙◌, subst, arith, append_assoc, in
 use Rattle.std.specs.List.{AllByRecursion}
 use Rattle.std.proofs.lemmas.Bool.{and_parts, or_parts}
 use Rattle.std.proofs.Math.Nat.{min-le_right}
-use Rattle.std.proofs.Math.Seq.{take-append_seam}
-use Rattle.std.proofs.lemmas.List.{append-nil, length-append, take_min}
+use Rattle.std.proofs.lemmas.List.{append-nil, take_min}
 use Rattle.vrps.specs.Instance.{Instance, IsInstance}
 use Rattle.vrps.specs.Store.{is_current, published}
 use Rattle.vrps.specs.VrpSet.{VrpSet}
@@ -24,6 +23,7 @@ use Rattle.rtr_ends.specs.Cache.{Conn, Taking, is_none, conn_stops, moment_of, w
 use Rattle.rtr_ends.specs.Connection.{Connection, Moment, Read, Wanting, Fault, Notify, Pull, bytes_of, IsLater, IsHistory, MayCome, MayHold, after, after_all, opened, pulled, is_published, takes_memory}
 use Rattle.rtr_ends.specs.Feeding.{feed, run}
 use Rattle.rtr_ends.specs.Timing.{Intervals}
+use Rattle.rtr_ends.proofs.Bytes.{none_bytes, more_bytes, bytes_front, front_of}
 use Rattle.rtr_ends.proofs.FeedingLaws.{feed_takes}
 use Rattle.rtr_ends.proofs.HistoryLaws.{pulled_are_replies}
 
@@ -99,9 +99,6 @@ module _ (keep : ℕ) (t : Intervals) where
         replies = (λ j. g.given_is j ++ (state j).due) ∙ pulled_are_replies keep t i s.moments (g.used ++ s.conn.held) history;
       }
 
-  none_bytes : AreBytes []
-  none_bytes i = omega arith
-
   -- nothing is held behind a moment
   holds_none : (c : Connection) → MayHold c []
   holds_none c = by_end c.ended
@@ -116,15 +113,6 @@ module _ (keep : ℕ) (t : Intervals) where
 
   holds_open : (c : Connection) (held : List ℕ) → c.ended ≡ false → IsPartial 1 held → (held ≡ []) ⊎ ((c.due ≡ []) ⊎ (c.notified ≡ true)) → MayHold c held
   holds_open c held is part h = subst (λ b. MatchBool b (held ≡ []) (IsPartial 1 held × ((held ≡ []) ⊎ ((c.due ≡ []) ⊎ (c.notified ≡ true))))) (sym is) (part, h)
-
-  one_byte : (b : ℕ) → b < 256 → AreBytes (b ∷ [])
-  one_byte b h zero = h
-  one_byte b h (suc i) = omega arith
-
-  more_bytes : (held : List ℕ) (b : ℕ) → AreBytes held → b < 256 → AreBytes (held ++ b ∷ [])
-  more_bytes [] b each h i = one_byte b h i
-  more_bytes (x ∷ held) b each h zero = each 0
-  more_bytes (x ∷ held) b each h (suc i) = more_bytes held b (λ j. each (suc j)) h i
 
   module _ (opened_at : Instance) where
     -- a moment that the last of these bytes brings
@@ -246,18 +234,6 @@ module _ (keep : ℕ) (t : Intervals) where
           subst (λ x. Stands i before (run stops step (step m b) taken) x given) (append_assoc came (b ∷ []) taken)
           (stands_run (step m b) taken (came ++ b ∷ []) (λ j. each (suc j)) (λ front back e some. goes_on (b ∷ front) back (ap (λ x. b ∷ x) e) some)
           (stands_byte m b came (each 0) (goes_on [] (b ∷ taken) refl (omega arith)) s))
-
-    -- What is taken are bytes of the piece.
-    bytes_front : (piece taken rest : List ℕ) → piece ≡ taken ++ rest → AreBytes piece → AreBytes taken
-    bytes_front piece [] rest e each j = none_bytes j
-    bytes_front [] (b ∷ taken) rest e each j = absurd (let h : ◌≡◌ {A = List ℕ} [] (b ∷ (taken ++ rest)) = e in cc)
-    bytes_front (x ∷ piece) (b ∷ taken) rest e each zero = let same : x ≡ b = cc in let low : x < 256 = each 0 in subst (λ y. y < 256) same low
-    bytes_front (x ∷ piece) (b ∷ taken) rest e each (suc j) = bytes_front piece taken rest (let h : x ∷ piece ≡ b ∷ (taken ++ rest) = e in cc) (λ k. each (suc k)) j
-
-    front_of : (piece taken rest : List ℕ) → piece ≡ taken ++ rest → take (length piece - length rest) piece ≡ taken
-    front_of piece taken rest e =
-        let size : length piece - length rest ≡ length taken = omega (arith, ap length e, length-append taken rest) in
-        (λ j. take (size j) (e j)) ∙ take-append_seam taken rest
 
     -- a piece is handed in
     takes_goes : (i : Instance) (is : IsInstance i) (wanting : Option ℕ) (piece : List ℕ) (s : Serving) → AreBytes piece → IsLater s.conn.state.cache i → s.cache ≡ i → Goes opened_at s.conn s.moments s.came s.given

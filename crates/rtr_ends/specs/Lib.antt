@@ -2,6 +2,7 @@ pub mod Answer
 pub mod Cache
 pub mod Commit
 pub mod Connection
+pub mod Consumed
 pub mod Cursor
 pub mod Feeding
 pub mod Router

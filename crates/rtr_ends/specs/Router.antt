@@ -14,7 +14,7 @@ use Rattle.rtr_ends.specs.Answer.{report, sent, sent_all}
 use Rattle.rtr_ends.specs.Cache.{is_none, finds_memory, counted}
 use Rattle.rtr_ends.specs.Connection.{fault_code, fault_report}
 use Rattle.rtr_ends.specs.Feeding.{Fed, feed, IsTaken}
-use Rattle.rtr_ends.specs.Transcript.{Question, AskReset, AskSerial, query, Item, At, Opened, Asks, Reads, Lacks, Breaks, Shut, Begun, Committed, is_listed, led_to, base_of, session_of, differs, is_serial, is_wrong, is_over, bounded, later, sum_of, retry_of, kept, due, moment}
+use Rattle.rtr_ends.specs.Transcript.{Question, AskReset, AskSerial, query, Item, At, Opened, Asks, Reads, Lacks, Breaks, Shut, Begun, Committed, is_listed, led_to, base_of, session_of, differs, is_serial, is_wrong, is_over, bounded, later, sum_of, retry_of, kept, due, moment, is_connected, waiting, under_way, has_agreed, responded, acts_once}
 
 -- A link is closed; or idle; or its question is not answered yet; or an answer has begun; or it has ended and is still to be closed.
 pub data Link : Type 0 where
@@ -316,12 +316,27 @@ RouterStops =
     (m : Receiving) (b : ℕ) → judge 1 (not m.router.agreed) (m.router.held ++ b ∷ []) ≡ Begins →
     router_stops (router_byte m b).router ≡ router_stops m.router
 
--- What a router holds, when it asks, and the greatest moment it was told, are those of its transcript.
+-- What the transcript says of a link with this agreement and session of its connection, over this table: a closed link has no
+-- connection; an idle one has no question outstanding; one that is asked has that question waiting; and an answer has come as far as
+-- is staged, each record of it acting once.
+abbrev pub LinkTells : Link → Bool → Option ℕ → VrpSet → List Item → Type 0
+LinkTells Closed agreed session table items = (is_connected items ≡ false) × (agreed ≡ false) × (session ≡ None)
+LinkTells (Ended end) agreed session table items = is_connected items ≡ true
+LinkTells Idle agreed session table items =
+    (is_connected items ≡ true) × (waiting items ≡ None) × (under_way items ≡ None) × (has_agreed items ≡ agreed) × (responded items ≡ session) × (agreed ≡ true)
+LinkTells (Asked question) agreed session table items =
+    (is_connected items ≡ true) × (waiting items ≡ Some question) × (under_way items ≡ None) × (has_agreed items ≡ agreed) × (responded items ≡ session)
+LinkTells (Answering a) agreed session table items =
+    (is_connected items ≡ true) × (waiting items ≡ None) × (under_way items ≡ Some a) × (has_agreed items ≡ agreed) × (responded items ≡ session) × (agreed ≡ true)
+    × (acts_once (base_of a.question table) a.withdrawn a.announced ≡ true)
+
+-- What a router holds, when it asks, the greatest moment it was told, and its link are those of its transcript.
 pub record IsKept (r : Router) (items : List Item) : Type 0 where
   pub table : r.table ≡ (kept items).table
   pub version : r.version ≡ (kept items).version
   pub due : r.due ≡ due items
   pub now : r.now ≡ moment items
+  pub link : LinkTells r.link r.agreed r.session r.table items
 
 abbrev pub RouterKeeps : Type 0
 RouterKeeps = (calls : List Call) → IsKept (played calls).router (played calls).items

@@ -2,6 +2,7 @@
 ghost use Rattle.rtr_ends.specs.Cache.{ConnStops, ConnTakes, ServesHistory};
 ghost use Rattle.rtr_ends.specs.Commit.{ChangeCommits, OneCommit};
 ghost use Rattle.rtr_ends.specs.Connection.{HistorySplits, PulledAreReplies};
+ghost use Rattle.rtr_ends.specs.Consumed.{RouterSplits};
 ghost use Rattle.rtr_ends.specs.Router.{RouterKeeps, RouterStops, RouterTakes};
 ghost use Rattle.rtr_ends.specs.Transcript.{ActsExactly};
 
@@ -50,8 +51,14 @@ pub fn serves_history()
     ensures { ServesHistory }
 {}
 
-/// After any calls a router holds what its transcript keeps, asks again when the transcript says, and knows the greatest moment that it
-/// was told.
+/// What a router consumed on its latest connection, by any calls and with any cutting of the bytes, is split as its transcript has it: all
+/// units in their order, and the fault that shows. It holds what follows them as long as it reads; a closed link holds nothing.
+pub fn router_splits()
+    ensures { RouterSplits }
+{}
+
+/// After any calls a router holds what its transcript keeps, asks again when the transcript says, knows the greatest moment that it was
+/// told, and its link is the one of the transcript.
 pub fn router_keeps()
     ensures { RouterKeeps }
 {}

@@ -18,13 +18,13 @@ use Rattle.rtr_pdu.specs.Reader.{Reader, Takes, IsReader, fresh, after_agreed, t
 use Rattle.rtr_pdu.specs.Run.{HasRead, HasFed, HasOnly, GoesOn}
 
 -- one unit more
-AreRead-push : (any : Bool) (units : List Unit) (front more : List ℕ) (u : Unit) → AreRead 1 any units front → Reads 1 u (as_read 1 (any_after any units) more) → AreRead 1 any (units ++ u ∷ []) (front ++ more)
+pub AreRead-push : (any : Bool) (units : List Unit) (front more : List ℕ) (u : Unit) → AreRead 1 any units front → Reads 1 u (as_read 1 (any_after any units) more) → AreRead 1 any (units ++ u ∷ []) (front ++ more)
 AreRead-push any [] front more u h r = (more, [], ap (λ x. x ++ more) h ∙ sym (append-nil more), r, refl)
 AreRead-push any (v ∷ units) front more u h r =
     (h.0, h.1 ++ more, ap (λ x. x ++ more) h.2 ∙ append_assoc h.0 h.1 more, h.3, AreRead-push (any && is_notify v) units h.1 more u h.4 r)
 
 -- the mode after one unit more
-any_after-push : (any : Bool) (units : List Unit) (u : Unit) → any_after any (units ++ u ∷ []) ≡ (any_after any units && is_notify u)
+pub any_after-push : (any : Bool) (units : List Unit) (u : Unit) → any_after any (units ++ u ∷ []) ≡ (any_after any units && is_notify u)
 any_after-push any [] u = refl
 any_after-push any (v ∷ units) u = any_after-push (any && is_notify v) units u
 

@@ -10,10 +10,10 @@ use Rattle.rtr_pdu.specs.declared.unit.Unit.{Unit}
 use Rattle.rtr_ends.specs.declared.link.End.TheVariants as ends
 use Rattle.rtr_ends.specs.Cache.{Conn, is_none, finds_memory}
 use Rattle.rtr_ends.specs.Feeding.{feed}
-use Rattle.rtr_ends.specs.Router.{Router, Link, Closed, Idle, Asked, Answering, Ended, Noted, Receiving, asked_by, on_unit, may_lack, reads, lacks, with_bytes, is_reading, router_stops, router_byte, expired, clocked, is_closed, close, is_due, is_idle, asks_if, emptied, connects_at, closed_at, ticks_at, asks, receives, of_received}
+use Rattle.rtr_ends.specs.Router.{Router, Link, LinkTells, Closed, Idle, Asked, Answering, Ended, Noted, Receiving, asked_by, on_unit, may_lack, reads, lacks, with_bytes, is_reading, router_stops, router_byte, expired, clocked, is_closed, close, is_due, is_idle, asks_if, emptied, connects_at, closed_at, ticks_at, asks, receives, of_received}
 use Rattle.rtr_ends.specs.Transcript.{Question, AskReset, AskSerial, Item, At, Reads, outstanding, question_of, is_serial, is_over, later, sum_of, retry_of}
 use Rattle.rtr_ends.proofs.FeedingLaws.{feed_keeps}
-use Rattle.rtr_ends.proofs.KeptLaws.{Tells, LinkTells, byte_tells, clocked_tells}
+use Rattle.rtr_ends.proofs.KeptLaws.{Tells, byte_tells, clocked_tells}
 use Rattle.rtr_world.specs.Claims.{IsLawfulEnd, OfAnother}
 use Rattle.rtr_world.specs.History.{conn_due}
 use Rattle.rtr_world.specs.OneAnswer.{NotifiesOf, without_notifies}

@@ -7,9 +7,8 @@ use Rattle.vrps.specs.VrpSet.{VrpSet}
 use Rattle.rtr_pdu.specs.declared.unit.Unit.{Unit}
 use Rattle.rtr_ends.specs.Answer.{answer}
 use Rattle.rtr_ends.specs.Cache.{Conn}
-use Rattle.rtr_ends.specs.Router.{Link, Closed, Idle, Asked, Answering, Ended, is_reading}
+use Rattle.rtr_ends.specs.Router.{Link, LinkTells, Closed, Idle, Asked, Answering, Ended, is_reading}
 use Rattle.rtr_ends.specs.Transcript.{AskReset, AskSerial, Begun, Committed, Question, base_of, query}
-use Rattle.rtr_ends.proofs.KeptLaws.{LinkTells}
 use Rattle.rtr_world.specs.Claims.{OneAnswerAlways}
 use Rattle.rtr_world.specs.OneAnswer.{ComesOn, Fits, IfLive, IfResponse, IsAnswer, IsReply, IsWhole, LeadsTo, NotifiesOf, OneAnswer, answered, without_notifies}
 use Rattle.rtr_world.specs.World.{Side, World, instances, timing}

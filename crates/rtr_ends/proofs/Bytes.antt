@@ -1,0 +1,32 @@
+-- Lists of bytes, and parts of them.
+use Rattle.std.specs.Prelude.{◌≡◌, ℕ, zero, suc, ◌-◌, ◌<◌, List, [], ◌∷◌, ◌++◌, length, take}
+use Rattle.std.proofs.Common.{◌∙◌, ap, arith, subst}
+use Rattle.std.proofs.Math.Seq.{take-append_seam}
+use Rattle.std.proofs.lemmas.List.{length-append}
+use Rattle.rtr_pdu.specs.Payloads.{AreBytes}
+
+-- no bytes, and one more
+pub none_bytes : AreBytes []
+none_bytes i = omega arith
+
+one_byte : (b : ℕ) → b < 256 → AreBytes (b ∷ [])
+one_byte b h zero = h
+one_byte b h (suc i) = omega arith
+
+pub more_bytes : (held : List ℕ) (b : ℕ) → AreBytes held → b < 256 → AreBytes (held ++ b ∷ [])
+more_bytes [] b each h i = one_byte b h i
+more_bytes (x ∷ held) b each h zero = each 0
+more_bytes (x ∷ held) b each h (suc i) = more_bytes held b (λ j. each (suc j)) h i
+
+-- What is taken are bytes of the piece.
+pub bytes_front : (piece taken rest : List ℕ) → piece ≡ taken ++ rest → AreBytes piece → AreBytes taken
+bytes_front piece [] rest e each j = none_bytes j
+bytes_front [] (b ∷ taken) rest e each j = absurd (let h : ◌≡◌ {A = List ℕ} [] (b ∷ (taken ++ rest)) = e in cc)
+bytes_front (x ∷ piece) (b ∷ taken) rest e each zero = let same : x ≡ b = cc in let low : x < 256 = each 0 in subst (λ y. y < 256) same low
+bytes_front (x ∷ piece) (b ∷ taken) rest e each (suc j) = bytes_front piece taken rest (let h : x ∷ piece ≡ b ∷ (taken ++ rest) = e in cc) (λ k. each (suc k)) j
+
+-- what is left tells what was taken
+pub front_of : (piece taken rest : List ℕ) → piece ≡ taken ++ rest → take (length piece - length rest) piece ≡ taken
+front_of piece taken rest e =
+    let size : length piece - length rest ≡ length taken = omega (arith, ap length e, length-append taken rest) in
+    (λ j. take (size j) (e j)) ∙ take-append_seam taken rest
