@@ -1,5 +1,5 @@
 -- Lists of bytes, and parts of them.
-use Rattle.std.specs.Prelude.{◌≡◌, ℕ, zero, suc, ◌-◌, ◌<◌, List, [], ◌∷◌, ◌++◌, length, take}
+use Rattle.std.specs.Prelude.{◌≡◌, ℕ, zero, suc, ◌-◌, ◌<◌, List, [], ◌∷◌, ◌++◌, length, take, drop}
 use Rattle.std.proofs.Common.{◌∙◌, ap, arith, subst}
 use Rattle.std.proofs.Math.Seq.{take-append_seam}
 use Rattle.std.proofs.lemmas.List.{length-append}
@@ -30,3 +30,8 @@ pub front_of : (piece taken rest : List ℕ) → piece ≡ taken ++ rest → tak
 front_of piece taken rest e =
     let size : length piece - length rest ≡ length taken = omega (arith, ap length e, length-append taken rest) in
     (λ j. take (size j) (e j)) ∙ take-append_seam taken rest
+
+-- nothing is left of nothing
+pub drop_none : (most : ℕ) (out : List ℕ) → out ≡ [] → drop most out ≡ []
+drop_none zero out e = e
+drop_none (suc most) out e = ap (drop (suc most)) e

@@ -24,7 +24,7 @@ use Rattle.rtr_ends.specs.Consumed.{units_in, fault_in, consumed, came, IsCall, 
 use Rattle.rtr_ends.specs.Feeding.{feed, run}
 use Rattle.rtr_ends.specs.Router.{Link, LinkTells, Closed, Idle, Asked, Answering, Ended, Router, Noted, Receiving, Staged, Stays, Wrong, Over, ask, asked_by, asks, asks_if, Call, Connects, Receives, Pulls, Closes, AsksNow, Ticks, clocked, close, closed_at, choose, commit, connects_at, emptied, expired, fails, is_closed, is_due, is_idle, is_news, is_reading, is_strange, lacks, may_lack, on_unit, played, reads, receives, router_byte, router_pulled, router_stops, stage, staged, ticks_at, told, told_off, with_bytes}
 use Rattle.rtr_ends.specs.Transcript.{Question, AskReset, AskSerial, Item, At, Opened, Asks, Reads, Lacks, Shut, base_of, bounded, has_agreed, is_connected, is_over, is_serial, is_wrong, later, retry_of, sum_of}
-use Rattle.rtr_ends.proofs.Bytes.{none_bytes, more_bytes, bytes_front, front_of}
+use Rattle.rtr_ends.proofs.Bytes.{none_bytes, more_bytes, bytes_front, drop_none, front_of}
 use Rattle.rtr_ends.proofs.FeedingLaws.{feed_takes}
 use Rattle.rtr_ends.proofs.KeptLaws.{Tells, bytes_add, called_tells, clocked_tells, and_false, and_true, connected, new_tells, none_is, not_true}
 use Rattle.rtr_ends.proofs.TableLaws.{false_true}
@@ -506,10 +506,6 @@ receive_comes now wanting piece r items bytes each c =
     let ran = run_comes (record { router = clocked now r; items = At now ∷ []; wanting = wanting }) taken.0 items bytes (bytes_front piece taken.0 _ taken.1.piece_is each) taken.1.shortest (clocked_comes now r items bytes c) in
     subst (λ m. MComes m items (bytes ++ take (length piece - length (feed stops router_byte (record { router = clocked now r; items = At now ∷ []; wanting = wanting }) piece).rest) piece)) (sym taken.1.machine_is)
     (subst (λ x. MComes (run stops router_byte (record { router = clocked now r; items = At now ∷ []; wanting = wanting }) taken.0) items (bytes ++ x)) (sym (front_of piece taken.0 _ taken.1.piece_is)) ran)
-
-drop_none : (most : ℕ) (out : List ℕ) → out ≡ [] → drop most out ≡ []
-drop_none zero out e = e
-drop_none (suc most) out e = ap (drop (suc most)) e
 
 -- no byte more
 same_bytes : (r : Router) (items : List Item) (bytes : List ℕ) → Comes r items bytes → Comes r items (bytes ++ [])

@@ -209,7 +209,7 @@ step_so w (Tick now) wanting s k h =
 
 -- after each event
 module _ (all : List Instance) where
-  told_closes : (s : Side) → is_closed (tell_closed all s).router.link ≡ true
+  pub told_closes : (s : Side) → is_closed (tell_closed all s).router.link ≡ true
   unfolding closed_at
   told_closes s = by_link (is_closed s.router.link) refl
     where

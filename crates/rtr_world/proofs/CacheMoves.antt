@@ -36,7 +36,7 @@ none_is (b ∷ out) h = absurd (let e : true ≡ false = h in cc)
 -- A link that does not live asks for nothing.
 pub dead_link : (l : Link) (all : List Instance) (i : Instance) (home : Option Seen) (r : Router) (conn conn' : Option Conn) (up up' down down' : List ℕ) → is_reading l ≡ false → GoodLink all i home l r conn up down → GoodLink all i home l r conn' up' down'
 dead_link Closed all i home r conn conn' up up' down down' dead g = g
-dead_link (Ended end) all i home r conn conn' up up' down down' dead g = tt
+dead_link (Ended end) all i home r conn conn' up up' down down' dead g = g
 dead_link Idle all i home r conn conn' up up' down down' dead g = absurd (let e : true ≡ false = dead in cc)
 dead_link (Asked q) all i home r conn conn' up up' down down' dead g = absurd (let e : true ≡ false = dead in cc)
 dead_link (Answering a) all i home r conn conn' up up' down down' dead g = absurd (let e : true ≡ false = dead in cc)

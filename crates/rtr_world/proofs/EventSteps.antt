@@ -17,6 +17,7 @@ use Rattle.rtr_world.proofs.Commits.{goes_fed}
 use Rattle.rtr_world.proofs.Invariant.{OwnSession, IfOpen, Open, GoodLink, GoodRouter, Good}
 use Rattle.rtr_world.proofs.Places.{Ordered, ordered_connects, ordered_none}
 use Rattle.rtr_world.proofs.RouterSteps.{first_fits, query_unit}
+use Rattle.rtr_ends.proofs.Bytes.{drop_none}
 use Rattle.rtr_world.proofs.SideSteps.{live_map, clocked_good, close_shut, asks_good}
 use Rattle.rtr_world.proofs.Streams.{Stream}
 use Rattle.rtr_world.proofs.TableLaws.{SideTells}
@@ -51,7 +52,7 @@ module _ (w : World) (p : Present (instances w) w.present) where
     router = record {
       table = g.router.table;
       unmarked = g.router.unmarked;
-      link = live_map s.router.link (instances w) (instances w) w.present w.present g.seen g.seen s.router (router_pulled most s.router) s.conn s.conn s.up (s.up ++ take most s.router.out) s.down s.down (λ e. e) refl refl g.router.link (λ l. (
+      link = live_map s.router.link (instances w) (instances w) w.present w.present g.seen g.seen s.router (router_pulled most s.router) s.conn s.conn s.up (s.up ++ take most s.router.out) s.down s.down (λ e. e) (drop_none most s.router.out) refl refl g.router.link (λ l. (
         l.0,
         l.1,
         record {
@@ -80,7 +81,7 @@ module _ (w : World) (p : Present (instances w) w.present) where
     router = record {
       table = g.router.table;
       unmarked = g.router.unmarked;
-      link = live_map s.router.link (instances w) (instances w) w.present w.present g.seen g.seen s.router s.router s.conn (Some (conn_pulled w.keep timing most o)) s.up s.up s.down (s.down ++ take most o.state.due) (λ x. x) refl refl g.router.link (λ l.
+      link = live_map s.router.link (instances w) (instances w) w.present w.present g.seen g.seen s.router s.router s.conn (Some (conn_pulled w.keep timing most o)) s.up s.up s.down (s.down ++ take most o.state.due) (λ x. x) (λ x. x) refl refl g.router.link (λ l.
           let f = l.2 in
           let op : Open w.present l.0 s.router.out s.up f.wanted f.lost o = subst (λ x. IfOpen x (Open w.present l.0 s.router.out s.up f.wanted f.lost)) e f.open_at in
           let due : List ℕ = o.state.due in
@@ -147,7 +148,7 @@ module _ (w : World) (p : Present (instances w) w.present) where
     router = record {
       table = g.router.table;
       unmarked = g.router.unmarked;
-      link = live_map s.router.link (instances w) (instances w) w.present w.present g.seen g.seen s.router s.router s.conn None s.up [] s.down (take left s.down) (λ x. x) refl refl g.router.link (λ l.
+      link = live_map s.router.link (instances w) (instances w) w.present w.present g.seen g.seen s.router s.router s.conn None s.up [] s.down (take left s.down) (λ x. x) (λ x. x) refl refl g.router.link (λ l.
           let f = l.2 in
           let after : List ℕ = conn_due s.conn ++ f.lost in
           let bytes : s.down ++ (conn_due s.conn ++ f.lost) ≡ take left s.down ++ ([] ++ (drop left s.down ++ (conn_due s.conn ++ f.lost))) =
@@ -246,7 +247,7 @@ module _ (w : World) (p : Present (instances w) w.present) where
 
   pub step_good : (event : SideEvent) (wanting : Option ℕ) (s : Side) → GoodS s → SideTells s → GoodS (side_step w event wanting s)
   unfolding side_step router_restarts asks ticks_at
-  step_good RouterRestart wanting s g t = record { seen = None; is_seen = tt; order = ordered_none w.past w.present s.places g.seen g.order; router = record { table = refl; unmarked = refl; link = (refl, refl, refl) } }
+  step_good RouterRestart wanting s g t = record { seen = None; is_seen = tt; order = ordered_none w.past w.present s.places g.seen g.order; router = record { table = refl; unmarked = refl; link = (refl, refl, refl, refl) } }
   step_good Connect wanting s g t = connects_good s g
   step_good (RouterSends most) wanting s g t = router_sends_good most s g
   step_good (CacheGets most) wanting s g t = cache_gets_good most wanting s g
@@ -278,8 +279,8 @@ module _ (w : World) (p : Present (instances w) w.present) where
 
   -- After each event
 
-  closed_link : (r : Router) (home : Option Seen) (conn : Option Conn) (up down : List ℕ) → r.link ≡ Closed → r.held ≡ [] → r.agreed ≡ false → r.session ≡ None → GoodLink (instances w) w.present home r.link r conn up down
-  closed_link r home conn up down is held agreed session = subst (λ l. GoodLink (instances w) w.present home l r conn up down) (sym is) (held, agreed, session)
+  closed_link : (r : Router) (home : Option Seen) (conn : Option Conn) (up down : List ℕ) → r.link ≡ Closed → r.held ≡ [] → r.agreed ≡ false → r.session ≡ None → r.out ≡ [] → GoodLink (instances w) w.present home r.link r conn up down
+  closed_link r home conn up down is held agreed session out = subst (λ l. GoodLink (instances w) w.present home l r conn up down) (sym is) (held, agreed, session, out)
 
   -- a closed router is so, whatever its connection
   told_good : (s : Side) → GoodS s → (conn : Option Conn) (up down : List ℕ) → GoodRouter (instances w) w.present None conn up down (tell_closed (instances w) s).router
@@ -292,14 +293,14 @@ module _ (w : World) (p : Present (instances w) w.present) where
       so : GoodRouter (instances w) w.present None conn up down r
       so =
           let shut = close_shut (instances w) w.present g.seen s.conn s.up s.down (clocked s.router.now s.router) (clocked_good (instances w) w.present g.seen s.conn s.up s.down s.router.now s.router g.router) in
-          record { table = shut.table; unmarked = shut.unmarked; link = closed_link (close (clocked s.router.now s.router)) None conn up down shut.closed shut.held shut.agreed shut.session }
+          record { table = shut.table; unmarked = shut.unmarked; link = closed_link (close (clocked s.router.now s.router)) None conn up down shut.closed shut.held shut.agreed shut.session shut.out }
 
       by_bool : (b : Bool) → is_closed s.router.link ≡ b → GoodRouter (instances w) w.present None conn up down (if b then s.router else r) → GoodRouter (instances w) w.present None conn up down (tell_closed (instances w) s).router
       by_bool true e h = subst (λ b. GoodRouter (instances w) w.present None conn up down (if b then record s { home = None } else record (noted (instances w) (closed_at s.router.now s.router) s) { home = None }).router) (sym e) h
       by_bool false e h = subst (λ b. GoodRouter (instances w) w.present None conn up down (if b then record s { home = None } else record (noted (instances w) (closed_at s.router.now s.router) s) { home = None }).router) (sym e) h
 
       by_link : (l : Link) → s.router.link ≡ l → GoodLink (instances w) w.present g.seen l s.router s.conn s.up s.down → GoodRouter (instances w) w.present None conn up down (tell_closed (instances w) s).router
-      by_link Closed is h = by_bool true (ap is_closed is) (record { table = g.router.table; unmarked = g.router.unmarked; link = closed_link s.router None conn up down is h.0 h.1 h.2 })
+      by_link Closed is h = by_bool true (ap is_closed is) (record { table = g.router.table; unmarked = g.router.unmarked; link = closed_link s.router None conn up down is h.0 h.1 h.2 h.3 })
       by_link (Ended end) is h = by_bool false (ap is_closed is) so
       by_link Idle is h = by_bool false (ap is_closed is) so
       by_link (Asked q) is h = by_bool false (ap is_closed is) so
@@ -334,7 +335,7 @@ module _ (w : World) (p : Present (instances w) w.present) where
     router = record {
       table = g.router.table;
       unmarked = g.router.unmarked;
-      link = live_map s.router.link (instances w) (instances w) w.present w.present g.seen g.seen s.router s.router s.conn None s.up s.up s.down s.down (λ x. x) refl refl g.router.link (λ l.
+      link = live_map s.router.link (instances w) (instances w) w.present w.present g.seen g.seen s.router s.router s.conn None s.up s.up s.down s.down (λ x. x) (λ x. x) refl refl g.router.link (λ l.
           let f = l.2 in
           let bytes : s.down ++ (conn_due s.conn ++ f.lost) ≡ s.down ++ ([] ++ f.lost) = ap (λ x. s.down ++ (conn_due x ++ f.lost)) e ∙ ap (λ x. s.down ++ (x ++ f.lost)) de in (
             l.0,
@@ -371,7 +372,7 @@ module _ (w : World) (p : Present (instances w) w.present) where
   shut_of : (s : Side) → s.router.link ≡ Closed → (g : GoodS s) (conn : Option Conn) (up down : List ℕ) → GoodRouter (instances w) w.present g.seen conn up down s.router
   shut_of s is g conn up down =
       let h = subst (λ l. GoodLink (instances w) w.present g.seen l s.router s.conn s.up s.down) is g.router.link in
-      record { table = g.router.table; unmarked = g.router.unmarked; link = closed_link s.router g.seen conn up down is h.0 h.1 h.2 }
+      record { table = g.router.table; unmarked = g.router.unmarked; link = closed_link s.router g.seen conn up down is h.0 h.1 h.2 h.3 }
 
   rest_good : (s : Side) (l : Link) (up : List ℕ) → s.router.link ≡ l → GoodS s → GoodS (settle_rest s l up)
   rest_good s Closed [] is g = record { seen = g.seen; is_seen = g.is_seen; order = g.order; router = shut_of s is g None s.up [] }

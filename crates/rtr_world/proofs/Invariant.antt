@@ -148,8 +148,8 @@ abbrev pub Live : List Instance → Instance → Option Seen → Router → Opti
 Live all i home r conn up down = (h : Seen) × (home ≡ Some h) × Flow all i h r conn up down
 
 abbrev pub GoodLink : List Instance → Instance → Option Seen → Link → Router → Option Conn → List ℕ → List ℕ → Type 0
-GoodLink all i home Closed r conn up down = (r.held ≡ []) × (r.agreed ≡ false) × (r.session ≡ None)
-GoodLink all i home (Ended end) r conn up down = ⊤
+GoodLink all i home Closed r conn up down = (r.held ≡ []) × (r.agreed ≡ false) × (r.session ≡ None) × (r.out ≡ [])
+GoodLink all i home (Ended end) r conn up down = r.out ≡ []
 GoodLink all i home Idle r conn up down = Live all i home r conn up down
 GoodLink all i home (Asked q) r conn up down = Live all i home r conn up down
 GoodLink all i home (Answering a) r conn up down = Live all i home r conn up down

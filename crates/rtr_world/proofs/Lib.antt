@@ -10,6 +10,7 @@ pub mod Histories
 pub mod Invariant
 pub mod OneAnswers
 pub mod Places
+pub mod Rests
 pub mod RouterSteps
 pub mod Seen
 pub mod SideLaws

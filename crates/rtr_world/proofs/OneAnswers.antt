@@ -7,14 +7,16 @@ use Rattle.vrps.specs.VrpSet.{VrpSet}
 use Rattle.rtr_pdu.specs.declared.unit.Unit.{Unit}
 use Rattle.rtr_ends.specs.Answer.{answer}
 use Rattle.rtr_ends.specs.Cache.{Conn}
-use Rattle.rtr_ends.specs.Router.{Link, LinkTells, Closed, Idle, Asked, Answering, Ended, is_reading}
+use Rattle.rtr_ends.specs.Router.{Link, LinkTells, Closed, Idle, Asked, Answering, Ended, is_closed, is_reading}
 use Rattle.rtr_ends.specs.Transcript.{AskReset, AskSerial, Begun, Committed, Question, base_of, query}
+use Rattle.rtr_ends.proofs.TableLaws.{false_true}
 use Rattle.rtr_world.specs.Claims.{OneAnswerAlways}
-use Rattle.rtr_world.specs.OneAnswer.{ComesOn, Fits, IfLive, IfResponse, IsAnswer, IsReply, IsWhole, LeadsTo, NotifiesOf, OneAnswer, answered, without_notifies}
-use Rattle.rtr_world.specs.World.{Side, World, instances, timing}
+use Rattle.rtr_world.specs.OneAnswer.{Between, ComesOn, Fits, IfResponse, IsAnswer, IsReply, IsWhole, LeadsTo, NotifiesOf, OneAnswer, answered, without_notifies}
+use Rattle.rtr_world.specs.World.{Side, World, instances, is_ended, timing}
 use Rattle.rtr_world.proofs.Answered.{ReadsSo, SideReads, kept_reads}
 use Rattle.rtr_world.proofs.Histories.{Known, history_keeps, history_known}
-use Rattle.rtr_world.proofs.Invariant.{FromCache, Flow, Good, IfOpen, OfAnswer, OneReply, Open, QuestionFits, Replies, Shape, no_data, not_kept, other_session, no_memory, read_of, records_of, response}
+use Rattle.rtr_world.proofs.Invariant.{FromCache, Flow, Good, GoodLink, IfOpen, OfAnswer, OneReply, Open, QuestionFits, Replies, Shape, no_data, not_kept, other_session, no_memory, read_of, records_of, response}
+use Rattle.rtr_world.proofs.Rests.{Rests, history_rests}
 use Rattle.rtr_world.proofs.Seen.{IsSeen, Seen}
 use Rattle.rtr_world.proofs.SideSteps.{live_of}
 use Rattle.rtr_world.proofs.Streams.{part_of}
@@ -108,21 +110,21 @@ live_answer w s live g t k =
       rest = comes_on w h home.keeps s s.router.link f.wanted (without_notifies f.coming) refl t k f.shape;
     }
 
-if_live : (w : World) (s : Side) → Good w.keep w.past w.present s → SideTells s → SideReads s → IfLive s.router.link (OneAnswer w s)
-if_live w s g t k = by_link s.router.link refl
+between : (w : World) (s : Side) → Good w.keep w.past w.present s → SideTells s → SideReads s → Rests s → Between w s s.router.link
+between w s g t k rests = by_link s.router.link refl g.router.link
   where
-    by_link : (l : Link) → s.router.link ≡ l → IfLive l (OneAnswer w s)
-    by_link Closed is = tt
-    by_link (Ended end) is = tt
-    by_link Idle is = live_answer w s (ap is_reading is) g t k
-    by_link (Asked q) is = live_answer w s (ap is_reading is) g t k
-    by_link (Answering a) is = live_answer w s (ap is_reading is) g t k
+    by_link : (l : Link) → s.router.link ≡ l → GoodLink (instances w) w.present g.seen l s.router s.conn s.up s.down → Between w s l
+    by_link Closed is h = (h.0, h.3, rests.none_down (ap is_closed is))
+    by_link (Ended end) is h = false_true (sym rests.goes_on ∙ ap is_ended is)
+    by_link Idle is h = live_answer w s (ap is_reading is) g t k
+    by_link (Asked q) is h = live_answer w s (ap is_reading is) g t k
+    by_link (Answering a) is h = live_answer w s (ap is_reading is) g t k
 
 -- One answer
 pub one_answer : OneAnswerAlways
 one_answer made history w leads =
-    each w.sides (history_known made history w leads) (history_keeps SideReads kept_reads made history w leads)
+    each w.sides (history_known made history w leads) (history_keeps SideReads kept_reads made history w leads) (history_rests made history w leads)
   where
-    each : (sides : List Side) → AllByRecursion (Known w) sides → AllByRecursion SideReads sides → AllByRecursion (λ s. IfLive s.router.link (OneAnswer w s)) sides
-    each [] g k = tt
-    each (s ∷ sides) g k = (if_live w s g.0.0 g.0.1 k.0, each sides g.1 k.1)
+    each : (sides : List Side) → AllByRecursion (Known w) sides → AllByRecursion SideReads sides → AllByRecursion Rests sides → AllByRecursion (λ s. Between w s s.router.link) sides
+    each [] g k r = tt
+    each (s ∷ sides) g k r = (between w s g.0.0 g.0.1 k.0 r.0, each sides g.1 k.1 r.1)

@@ -218,8 +218,8 @@ module _ (all : List Instance) (i : Instance) (home : Option Seen) (conn : Optio
   }
 
   -- a link that ended
-  ended_good : (r : Router) (end : End) → r.link ≡ Ended end → TableAt all r.version r.table → r.mark ≡ false → GoodR r
-  ended_good r end is table unmarked = record { table = table; unmarked = unmarked; link = subst (λ x. GoodLink all i home x r conn up down) (sym is) tt }
+  ended_good : (r : Router) (end : End) → r.link ≡ Ended end → TableAt all r.version r.table → r.mark ≡ false → r.out ≡ [] → GoodR r
+  ended_good r end is table unmarked none = record { table = table; unmarked = unmarked; link = subst (λ x. GoodLink all i home x r conn up down) (sym is) none }
 
   -- a notify comes
   pub on_notify : (r : Router) (more : List Unit) (l : Link) (one serial : ℕ) (d : Reads r more) → r.link ≡ l → is_reading l ≡ true → one ≡ d.h.session → Shape all d.h l r.agreed r.version r.table d.wanted (without_notifies more) → GoodR (on_unit l (SerialNotify one serial) r)
@@ -299,17 +299,17 @@ module _ (all : List Instance) (i : Instance) (home : Option Seen) (conn : Optio
         unmarked = d.unmarked;
       }) refl refl (wanted, rest, refl)
 
-  zero_good : (r : Router) (q : Question) (copy : List ℕ) → TableAt all r.version r.table → r.mark ≡ false → GoodR (on_unit (Asked q) (report 0 copy) r)
+  zero_good : (r : Router) (q : Question) (copy : List ℕ) → TableAt all r.version r.table → r.mark ≡ false → r.out ≡ [] → GoodR (on_unit (Asked q) (report 0 copy) r)
   unfolding on_unit
-  zero_good r q copy table unmarked = by_question (is_serial (Some q))
+  zero_good r q copy table unmarked none = by_question (is_serial (Some q))
     where
       by_question : (b : Bool) → GoodR (if b then told 0 (emptied (record r { agreed = true })) else told 0 (record r { agreed = true }))
-      by_question true = ended_good (told 0 (emptied (record r { agreed = true }))) (ends.Told 0) refl refl refl
-      by_question false = ended_good (told 0 (record r { agreed = true })) (ends.Told 0) refl table unmarked
+      by_question true = ended_good (told 0 (emptied (record r { agreed = true }))) (ends.Told 0) refl refl refl none
+      by_question false = ended_good (told 0 (record r { agreed = true })) (ends.Told 0) refl table unmarked none
 
-  one_good : (r : Router) (q : Question) → TableAt all r.version r.table → r.mark ≡ false → GoodR (on_unit (Asked q) (report 1 []) r)
+  one_good : (r : Router) (q : Question) → TableAt all r.version r.table → r.mark ≡ false → r.out ≡ [] → GoodR (on_unit (Asked q) (report 1 []) r)
   unfolding on_unit
-  one_good r q table unmarked = ended_good (told 1 (record r { agreed = true })) (ends.Told 1) refl table unmarked
+  one_good r q table unmarked none = ended_good (told 1 (record r { agreed = true })) (ends.Told 1) refl table unmarked none
 
   reset_good : (r : Router) (more : List Unit) (serial : ℕ) (d : Reads r more) → d.wanted ≡ [] → without_notifies more ≡ [] → Mine d.h.session r.version → GoodR (on_unit (Asked (AskSerial d.h.session serial)) CacheReset r)
   unfolding on_unit agreed_reads
@@ -347,9 +347,9 @@ module _ (all : List Instance) (i : Instance) (home : Option Seen) (conn : Optio
       let m : Mine d.h.session r.version = fits_mine d.h.session (AskSerial d.h.session serial) r.version (subst (λ x. QuestionFits d.h.session x r.version) qe f) refl in
       subst₂ (λ a b. GoodR (on_unit (Asked a) b r)) (sym qe) (sym (first_is u CacheReset (without_notifies more) [] e)) (reset_good r more serial d w (rest_is u CacheReset (without_notifies more) [] e) m)
   replied r more q u d w f (other_session session serial copy qe differs e) =
-      subst (λ b. GoodR (on_unit (Asked q) b r)) (sym (first_is u (report 0 copy) (without_notifies more) [] e)) (zero_good r q copy d.table d.unmarked)
+      subst (λ b. GoodR (on_unit (Asked q) b r)) (sym (first_is u (report 0 copy) (without_notifies more) [] e)) (zero_good r q copy d.table d.unmarked d.none)
   replied r more q u d w f (no_memory e) =
-      subst (λ b. GoodR (on_unit (Asked q) b r)) (sym (first_is u (report 1 []) (without_notifies more) [] e)) (one_good r q d.table d.unmarked)
+      subst (λ b. GoodR (on_unit (Asked q) b r)) (sym (first_is u (report 1 []) (without_notifies more) [] e)) (one_good r q d.table d.unmarked d.none)
   replied r more q u d w f (response tail e own a) =
       subst (λ b. GoodR (on_unit (Asked q) b r)) (sym (first_is u (CacheResponse d.h.session) (without_notifies more) tail e))
       (response_good r more q d w f own (subst (λ x. OfAnswer all d.h (base_of q r.table) (nothing_yet q d.h.session) x) (sym (rest_is u (CacheResponse d.h.session) (without_notifies more) tail e)) a))

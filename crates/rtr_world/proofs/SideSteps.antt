@@ -26,12 +26,12 @@ false_true h = absurd (let e : false ≡ true = h in cc)
 
 -- A link keeps its state; what lives goes on to live.
 pub live_map : (l : Link) (all all' : List Instance) (i i' : Instance) (home home' : Option Seen) (r r' : Router) (conn conn' : Option Conn) (up up' down down' : List ℕ)
-    → (r.held ≡ [] → r'.held ≡ []) → r'.agreed ≡ r.agreed → r'.session ≡ r.session → GoodLink all i home l r conn up down → (Live all i home r conn up down → Live all' i' home' r' conn' up' down') → GoodLink all' i' home' l r' conn' up' down'
-live_map Closed all all' i i' home home' r r' conn conn' up up' down down' held agreed session g f = (held g.0, agreed ∙ g.1, session ∙ g.2)
-live_map (Ended end) all all' i i' home home' r r' conn conn' up up' down down' held agreed session g f = tt
-live_map Idle all all' i i' home home' r r' conn conn' up up' down down' held agreed session g f = f g
-live_map (Asked q) all all' i i' home home' r r' conn conn' up up' down down' held agreed session g f = f g
-live_map (Answering a) all all' i i' home home' r r' conn conn' up up' down down' held agreed session g f = f g
+    → (r.held ≡ [] → r'.held ≡ []) → (r.out ≡ [] → r'.out ≡ []) → r'.agreed ≡ r.agreed → r'.session ≡ r.session → GoodLink all i home l r conn up down → (Live all i home r conn up down → Live all' i' home' r' conn' up' down') → GoodLink all' i' home' l r' conn' up' down'
+live_map Closed all all' i i' home home' r r' conn conn' up up' down down' held out agreed session g f = (held g.0, agreed ∙ g.1, session ∙ g.2, out g.3)
+live_map (Ended end) all all' i i' home home' r r' conn conn' up up' down down' held out agreed session g f = out g
+live_map Idle all all' i i' home home' r r' conn conn' up up' down down' held out agreed session g f = f g
+live_map (Asked q) all all' i i' home home' r r' conn conn' up up' down down' held out agreed session g f = f g
+live_map (Answering a) all all' i i' home home' r r' conn conn' up up' down down' held out agreed session g f = f g
 
 pub live_of : (l : Link) (all : List Instance) (i : Instance) (home : Option Seen) (r : Router) (conn : Option Conn) (up down : List ℕ) → GoodLink all i home l r conn up down → is_reading l ≡ true → Live all i home r conn up down
 live_of Closed all i home r conn up down g live = false_true live
@@ -136,7 +136,7 @@ module _ (all : List Instance) (i : Instance) (home : Option Seen) (conn : Optio
       }
 
       by_memory : (w : Bool) → GoodRouter all i home conn up down (if w then lacks u k else reads u k).router
-      by_memory true = record { table = table; unmarked = mark; link = tt }
+      by_memory true = record { table = table; unmarked = mark; link = none }
       by_memory false = unit_read down k more u (head_case u more) d live notes (subst (λ x. Shape all h r.link r.agreed r.version r.table f.wanted (without_notifies x)) is f.shape)
 
   pub byte_good : (down : List ℕ) (m : Receiving) (b : ℕ) → router_stops m.router ≡ false → GoodRouter all i home conn up (b ∷ down) m.router → GoodRouter all i home conn up down (router_byte m b).router
@@ -179,14 +179,14 @@ module _ (all : List Instance) (i : Instance) (home : Option Seen) (conn : Optio
 
     expired_good : (l : Link) (r : Router) → r.link ≡ l → GoodLink all i home l r conn up down → GoodR (expired l r)
     expired_good Closed r is g = emptied_good r Closed is g
-    expired_good (Ended end) r is g = emptied_good r (Ended end) is tt
+    expired_good (Ended end) r is g = emptied_good r (Ended end) is g
     expired_good Idle r is g = emptied_good r Idle is (emptied_live r (shape_as r Idle is (λ h w t s. s)) g)
     expired_good (Asked AskReset) r is g = emptied_good r (Asked AskReset) is (emptied_live r (shape_as r (Asked AskReset) is (λ h w t s. (tt, s.1))) g)
-    expired_good (Asked (AskSerial one serial)) r is g = record { table = refl; unmarked = refl; link = tt }
+    expired_good (Asked (AskSerial one serial)) r is g = record { table = refl; unmarked = refl; link = refl }
     expired_good (Answering a) r is g = by_question (is_serial (Some a.question)) refl
       where
         by_question : (b : Bool) → is_serial (Some a.question) ≡ b → GoodR (if b then record (emptied r) { link = Ended ends.Expired; out = [] } else emptied r)
-        by_question true e = record { table = refl; unmarked = refl; link = tt }
+        by_question true e = record { table = refl; unmarked = refl; link = refl }
         by_question false e =
             emptied_good r (Answering a) is (emptied_live r (shape_as r (Answering a) is (λ h w t s.
             (s.0, s.1, s.2, fits_nothing h.session a.question e, subst (λ base. OfAnswer all h base a t) (sym (same_base a.question r.table e)) s.4))) g)
@@ -195,7 +195,7 @@ module _ (all : List Instance) (i : Instance) (home : Option Seen) (conn : Optio
     told_good now r g = record {
       table = g.table;
       unmarked = g.unmarked;
-      link = live_map r.link all all i i home home r (record r { now = now }) conn conn up up down down (λ e. e) refl refl g.link (λ l. (
+      link = live_map r.link all all i i home home r (record r { now = now }) conn conn up up down down (λ e. e) (λ e. e) refl refl g.link (λ l. (
         l.0,
         l.1,
         record {
@@ -231,6 +231,7 @@ module _ (all : List Instance) (i : Instance) (home : Option Seen) (conn : Optio
       pub held : r.held ≡ []
       pub agreed : r.agreed ≡ false
       pub session : r.session ≡ None
+      pub out : r.out ≡ []
 
     pub close_shut : (r : Router) → GoodR r → Shut (close r)
     close_shut r g = by_link r.link refl g.link
@@ -239,14 +240,14 @@ module _ (all : List Instance) (i : Instance) (home : Option Seen) (conn : Optio
         closed = record r { link = Closed; agreed = false; session = None; held = []; out = []; due = Some (sum_of r.now (retry_of r.version)) }
 
         so : Shut closed
-        so = record { table = g.table; unmarked = g.unmarked; closed = refl; held = refl; agreed = refl; session = refl }
+        so = record { table = g.table; unmarked = g.unmarked; closed = refl; held = refl; agreed = refl; session = refl; out = refl }
 
         open_link : is_closed r.link ≡ false → Shut (close r)
         open_link e = subst (λ b. Shut (if b then r else closed)) (sym e) so
 
         by_link : (l : Link) → r.link ≡ l → GoodLink all i home l r conn up down → Shut (close r)
         by_link Closed is h =
-            subst (λ b. Shut (if b then r else closed)) (ap is_closed (sym is)) (record { table = g.table; unmarked = g.unmarked; closed = is; held = h.0; agreed = h.1; session = h.2 })
+            subst (λ b. Shut (if b then r else closed)) (ap is_closed (sym is)) (record { table = g.table; unmarked = g.unmarked; closed = is; held = h.0; agreed = h.1; session = h.2; out = h.3 })
         by_link (Ended end) is h = open_link (ap is_closed is)
         by_link Idle is h = open_link (ap is_closed is)
         by_link (Asked q) is h = open_link (ap is_closed is)

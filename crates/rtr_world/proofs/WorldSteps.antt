@@ -20,7 +20,7 @@ use Rattle.rtr_world.specs.Claims.{IsJudged, IsNamed, Headline, NoWayBack, Route
 use Rattle.rtr_world.specs.History.{Outcome, Done, SessionUsed, TooManyVersions, NoSuchRouter, Memory, is_near, room_for, room_since, all_have_room, is_used, refusal, MayEnd, after, IsEvent, Entry, LeadsFrom, Made, IsMade, conn_due}
 use Rattle.rtr_world.specs.OneAnswer.{without_notifies}
 use Rattle.rtr_world.specs.Place.{NeverBack, position_of}
-use Rattle.rtr_world.specs.World.{Side, World, instances, Event, Publish, Restart, On, cache_gone, on_side, goes_through, settled, is_refused, side_step, side_refused, settle, new_world}
+use Rattle.rtr_world.specs.World.{Side, SideEvent, World, instances, Event, Publish, Restart, On, cache_gone, on_side, goes_through, settled, is_refused, side_step, side_refused, settle, new_world}
 use Rattle.rtr_world.proofs.EventSteps.{step_good, refused_good, settle_good}
 use Rattle.rtr_world.proofs.Invariant.{FromCache, OfAnswer, OneReply, read_of, Replies, no_data, not_kept, other_session, no_memory, response, Shape, IfOpen, Open, Flow, Good}
 use Rattle.rtr_world.proofs.Places.{ordered_published, ordered_restarted}
@@ -158,7 +158,7 @@ module _ (keep : ℕ) (past : List Instance) (i : Instance) (y : VrpSet) (p : Pr
         router = record {
           table = table_published s.router.version s.router.table parts.0 g.router.table;
           unmarked = g.router.unmarked;
-          link = live_map s.router.link (i ∷ past) (next ∷ past) i next g.seen g.seen s.router s.router s.conn s.conn s.up s.up s.down s.down (λ x. x) refl refl g.router.link (λ l. (
+          link = live_map s.router.link (i ∷ past) (next ∷ past) i next g.seen g.seen s.router s.router s.conn s.conn s.up s.up s.down s.down (λ x. x) (λ x. x) refl refl g.router.link (λ l. (
             l.0,
             l.1,
             flow_map (i ∷ past) (next ∷ past) i next l.0 s.router s.conn s.conn s.up s.up s.down l.2 l.2.lost refl (open_published l.0 s.router.out s.up l.2.wanted l.2.lost s.conn l.2.open_at)
@@ -201,7 +201,7 @@ module _ (keep : ℕ) (past : List Instance) (old i : Instance) (new : find_sess
     router = record {
       table = table_restarted s.router.version s.router.table g.router.table;
       unmarked = g.router.unmarked;
-      link = live_map s.router.link (old ∷ past) (i ∷ (old ∷ past)) old i g.seen g.seen s.router s.router s.conn None s.up [] s.down s.down (λ x. x) refl refl g.router.link (λ l. (
+      link = live_map s.router.link (old ∷ past) (i ∷ (old ∷ past)) old i g.seen g.seen s.router s.router s.conn None s.up [] s.down s.down (λ x. x) (λ x. x) refl refl g.router.link (λ l. (
         l.0,
         l.1,
         flow_map (old ∷ past) (i ∷ (old ∷ past)) old i l.0 s.router s.conn None s.up [] s.down l.2 (conn_due s.conn ++ l.2.lost) refl tt (answer_restarted l.0, from_restarted l.0),
@@ -231,7 +231,7 @@ none_found : (o : Option Instance) → is_some o ≡ false → o ≡ None
 none_found None h = refl
 none_found (Some i) h = absurd (let e : true ≡ false = h in cc)
 
-through_good : (event : Event) (wanting : Option ℕ) (w : World) → IsEvent event → MayEnd (refusal w event) w event (Done wanting) → GoodWorld w → AllTell w → GoodWorld (goes_through event wanting w)
+pub through_good : (event : Event) (wanting : Option ℕ) (w : World) → IsEvent event → MayEnd (refusal w event) w event (Done wanting) → GoodWorld w → AllTell w → GoodWorld (goes_through event wanting w)
 unfolding goes_through refusal
 through_good (Publish set) wanting w fits may g t = by_current (is_current w.present.sets set) refl
   where
@@ -272,17 +272,19 @@ through_good (On r event) wanting w fits may g t =
           (all_both (Good w.keep w.past w.present) SideTells w.sides g.sides t);
     }
 
+-- what is refused for want of memory, before the routers are told
+pub part_so : (r : ℕ) (event : SideEvent) (bytes : ℕ) (wanting : Option ℕ) (w : World) → GoodWorld w → AllTell w → GoodWorld (record w { sides = on_side r (side_refused w event bytes wanting) w.sides })
+part_so r event bytes wanting w g t = record {
+  present = g.present;
+  sides = all_on_side (λ s. Good w.keep w.past w.present s × SideTells s) (Good w.keep w.past w.present) r (side_refused w event bytes wanting) w.sides (λ s h. h.0) (λ s h. refused_good w g.present event bytes wanting s h.0 h.1)
+      (all_both (Good w.keep w.past w.present) SideTells w.sides g.sides t);
+}
+
 refused_so : (event : Event) (bytes : ℕ) (wanting : Option ℕ) (w : World) → GoodWorld w → AllTell w → GoodWorld (is_refused event bytes wanting w)
 unfolding is_refused
 refused_so (Publish set) bytes wanting w g t = g
 refused_so (Restart session start) bytes wanting w g t = g
-refused_so (On r event) bytes wanting w g t =
-    settled_good (record w { sides = on_side r (side_refused w event bytes wanting) w.sides })
-    (record {
-      present = g.present;
-      sides = all_on_side (λ s. Good w.keep w.past w.present s × SideTells s) (Good w.keep w.past w.present) r (side_refused w event bytes wanting) w.sides (λ s h. h.0) (λ s h. refused_good w g.present event bytes wanting s h.0 h.1)
-          (all_both (Good w.keep w.past w.present) SideTells w.sides g.sides t);
-    })
+refused_so (On r event) bytes wanting w g t = settled_good (record w { sides = on_side r (side_refused w event bytes wanting) w.sides }) (part_so r event bytes wanting w g t)
 
 pub after_good : (event : Event) (outcome : Outcome) (w : World) → IsEvent event → MayEnd (refusal w event) w event outcome → GoodWorld w → AllTell w → GoodWorld (after event outcome w)
 after_good event (Done wanting) w fits may g t = settled_good (goes_through event wanting w) (through_good event wanting w fits may g t)
@@ -305,7 +307,7 @@ new_good made is =
         found = ap (λ b. if b then Some (record { session = made.session; start = made.start; sets = [] }) else None) (same_number made.session);
         is = record { session = is.session; start = is.start; sets = tt; news = tt };
       };
-      sides = all_new (Good made.keep [] (record { session = made.session; start = made.start; sets = [] })) (record { seen = None; is_seen = tt; order = record { never_back = tt; current = tt; at_seen = tt }; router = record { table = refl; unmarked = refl; link = (refl, refl, refl) } }) made.routers;
+      sides = all_new (Good made.keep [] (record { session = made.session; start = made.start; sets = [] })) (record { seen = None; is_seen = tt; order = record { never_back = tt; current = tt; at_seen = tt }; router = record { table = refl; unmarked = refl; link = (refl, refl, refl, refl) } }) made.routers;
     }
 
 -- The headline

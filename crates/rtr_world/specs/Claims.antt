@@ -13,7 +13,7 @@ use Rattle.rtr_ends.specs.Transcript.{Question, AskSerial, Committed, kept}
 use Rattle.rtr_world.specs.Place.{NeverBack}
 use Rattle.rtr_world.specs.World.{Side, World, Event, Ending, instances}
 use Rattle.rtr_world.specs.History.{Made, IsMade, Entry, IsEvent, Leads}
-use Rattle.rtr_world.specs.OneAnswer.{OneAnswer, IfLive}
+use Rattle.rtr_world.specs.OneAnswer.{Between}
 
 -- a fact of each router of each world to which a history leads
 abbrev pub Always : (World → Side → Type 0) → Type 0
@@ -25,7 +25,7 @@ Tables = Always (λ w s. IsKept s.router s.items)
 
 -- One answer
 abbrev pub OneAnswerAlways : Type 0
-OneAnswerAlways = Always (λ w s. IfLive s.router.link (OneAnswer w s))
+OneAnswerAlways = Always (λ w s. Between w s s.router.link)
 
 -- The headline: the table is empty where no session is held, else the set that was published under the session and the serial
 -- of the version that was committed last, by the transcript.

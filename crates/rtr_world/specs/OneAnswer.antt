@@ -114,8 +114,9 @@ pub record OneAnswer (w : World) (s : Side) : Type 0 where
   pub notifies : NotifiesOf home.session coming
   pub rest : ComesOn w home s s.router.link (without_notifies coming)
 
--- of a link that is neither closed nor ended
-abbrev pub IfLive : Link → Type 0 → Type 0
-IfLive Closed P = ⊤
-IfLive (Ended end) P = ⊤
-IfLive link P = P
+-- Between events a closed link holds nothing, nothing is to be pulled from it, and nothing is on the way to it; no link has ended;
+-- and on any other there is one answer.
+abbrev pub Between : World → Side → Link → Type 0
+Between w s Closed = (s.router.held ≡ []) × (s.router.out ≡ []) × (s.down ≡ [])
+Between w s (Ended end) = ⊥
+Between w s link = OneAnswer w s
