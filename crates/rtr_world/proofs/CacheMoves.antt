@@ -18,7 +18,7 @@ use Rattle.rtr_ends.specs.Transcript.{Question, query, base_of}
 use Rattle.rtr_world.specs.OneAnswer.{NotifiesOf, without_notifies}
 use Rattle.rtr_world.specs.World.{timing}
 use Rattle.rtr_world.proofs.AnswerLaws.{plain_stays, plain_notifies, without-append, notifies-append}
-use Rattle.rtr_world.proofs.CacheSteps.{from_now, IsAnswered, answered_report, answer_answers, serial_low}
+use Rattle.rtr_world.proofs.CacheSteps.{from_now, is_now, IsAnswered, answered_report, answer_answers, serial_low}
 use Rattle.rtr_world.proofs.Invariant.{OneReply, QuestionFits, Replies, no_memory, Shape, Open, Flow, Live, GoodLink, GoodRouter}
 use Rattle.rtr_world.proofs.RouterSteps.{live_link}
 use Rattle.rtr_world.proofs.SideSteps.{live_of}
@@ -113,7 +113,7 @@ module _ (all : List Instance) (i : Instance) (p : Present all i) (keep : ℕ) (
         },
       )
   byte_live m b bs h f eh eo live table (wholly u more is e fit s) memory =
-      subst (λ j. Live all i home r (Some (with_moment keep timing bytes m.conn (moment_of i memory bytes j))) bs down) (sym e) (by_memory (takes_memory i u && not memory))
+      subst (λ j. Live all i home r (Some (with_moment keep timing bytes m.conn (moment_of i memory bytes j))) bs down) (sym e) (by_memory (takes_memory i u && not memory) refl)
     where
       bytes : List ℕ
       bytes = m.conn.held ++ b ∷ []
@@ -127,11 +127,12 @@ module _ (all : List Instance) (i : Instance) (p : Present all i) (keep : ℕ) (
       up_stream : Stream [] (bs ++ r.out) []
       up_stream = subst (λ x. Stream [] (bs ++ r.out) x) w.no_more s
 
-      by_memory : (t : Bool) → Live all i home r (Some (record { state = after keep timing m.conn.state (if t then Wanting i u bytes else Read i u bytes); held = [] })) bs down
-      by_memory true =
+      by_memory : (t : Bool) → (takes_memory i u && not memory) ≡ t → Live all i home r (Some (record { state = after keep timing m.conn.state (if t then Wanting i u bytes else Read i u bytes); held = [] })) bs down
+      by_memory true wants =
           answered m.conn (b ∷ bs) bs h f w.q (report 1 [] ∷ []) (after keep timing m.conn.state (Wanting i u bytes)) eh eo refl up_stream w.asks w.none w.fits
-          (answered_report 1 [] (omega arith) (all_bytes [] tt)) (no_memory refl) (inr refl)
-      by_memory false =
+          (answered_report 1 [] (omega arith) (all_bytes [] tt)) (no_memory refl)
+          (inr (record { cache = i; was = is_now all i p h op.session op.made op.later; takes = subst (λ x. takes_memory i x ≡ true) w.is (and_parts (takes_memory i u) (not memory) wants).0 }, refl))
+      by_memory false wants =
           let a = answer_answers all i p h op.session op.made keep w.q r.version r.table w.fits table (from_now all i p h op.session op.made w.q keep (keeps h eh) op.later) in
           answered m.conn (b ∷ bs) bs h f w.q (answer i keep timing (query w.q)).units (after keep timing m.conn.state (Read i u bytes)) eh eo (ap (λ x. sent_all (answer i keep timing x).units) w.is) up_stream w.asks w.none w.fits a.answered a.replies (inl a.from)
 

@@ -26,7 +26,7 @@ use Rattle.rtr_world.specs.OneAnswer.{EndsWith, announced_in, withdrawn_in}
 use Rattle.rtr_ends.specs.Transcript.{Committed, Question, AskReset, AskSerial, query, base_of}
 use Rattle.rtr_world.specs.World.{timing}
 use Rattle.rtr_world.proofs.AnswerLaws.{Plain, plain-append, plain_records, change_leads, whole_leads}
-use Rattle.rtr_world.proofs.Invariant.{FromCache, Leads, NoneWithdrawn, WithdrawsFirst, QuestionFits, IsOwn, Replies, nothing_yet, no_data, not_kept, other_session, response}
+use Rattle.rtr_world.proofs.Invariant.{FromCache, WasCache, Leads, NoneWithdrawn, WithdrawsFirst, QuestionFits, IsOwn, Replies, nothing_yet, no_data, not_kept, other_session, response}
 use Rattle.rtr_world.proofs.Streams.{all-append, all_bytes}
 use Rattle.rtr_world.proofs.Versions.{Stands, TableAt, Present, kept_at, has_sets, of_present, equal_of, equal_true, find_session}
 use Rattle.rtr_world.proofs.Seen.{Seen}
@@ -105,16 +105,17 @@ module _ (all : List Instance) (i : Instance) (p : Present all i) (home : Seen) 
   since : (x : VrpSet) (older : List VrpSet) → i.sets ≡ x ∷ older → length home.sets ≤ length older + 1
   since x older e = let k : length i.sets ≡ suc (length older) = ap length e in omega (arith, k, made)
 
-  -- what the cache answers now
-  pub from_now : (q : Question) (keep : ℕ) → home.keep ≡ keep → IsLater home.made i → FromCache all home q (answer i keep timing (query q)).units
-  from_now q keep kept later = record {
-    cache = i;
+  -- as the cache is now
+  pub is_now : IsLater home.made i → WasCache all home i
+  is_now later = record {
     since = later;
     latest = i;
     found = subst (λ s. find_session s all ≡ Some i) (sym later.session) p.found;
     until = record { session = refl; start = refl; more = []; sets = refl };
-    are = ap (λ k. (answer i k timing (query q)).units) (sym kept);
   }
+
+  pub from_now : (q : Question) (keep : ℕ) → home.keep ≡ keep → IsLater home.made i → FromCache all home q (answer i keep timing (query q)).units
+  from_now q keep kept later = record { cache = i; was = is_now later; are = ap (λ k. (answer i k timing (query q)).units) (sym kept) }
 
   -- a response with these records
   abbrev tail_of : List Unit → ℕ → ℕ → List Unit

@@ -8,7 +8,7 @@ use Rattle.rtr_pdu.specs.declared.unit.Unit.TheVariants.{CacheResponse, Prefix, 
 use Rattle.rtr_ends.specs.Answer.{answer, report}
 use Rattle.rtr_ends.specs.Cache.{Conn}
 use Rattle.rtr_ends.specs.Commit.{Commits}
-use Rattle.rtr_ends.specs.Connection.{IsLater}
+use Rattle.rtr_ends.specs.Connection.{IsLater, takes_memory}
 use Rattle.rtr_ends.specs.Router.{Router, Link, Closed, Idle, Asked, Answering, Ended, Staged, Stays, Wrong, Over, stage}
 use Rattle.rtr_ends.specs.Transcript.{Begun, Committed, Question, AskReset, AskSerial, query, base_of, led_to}
 use Rattle.rtr_world.specs.History.{conn_due}
@@ -73,17 +73,27 @@ WithdrawsFirst (unit ∷ units) = WithdrawsFirst units
 abbrev pub InOrder : Begun → List Unit → Type 0
 InOrder a rest = WithdrawsFirst rest × ((a.announced ≡ []) ⊎ NoneWithdrawn rest)
 
--- These units are the answer of the connection's instance, as it was at some time after the connection was made.
-pub record FromCache (all : List Instance) (home : Seen) (q : Question) (units : List Unit) : Type 0 where
-  pub cache : Instance
+-- The connection's instance was like this at some time after the connection was made.
+pub record WasCache (all : List Instance) (home : Seen) (cache : Instance) : Type 0 where
   pub since : IsLater home.made cache
   pub latest : Instance
   pub found : find_session home.made.session all ≡ Some latest
   pub until : IsLater cache latest
+
+-- These units are its answer then.
+pub record FromCache (all : List Instance) (home : Seen) (q : Question) (units : List Unit) : Type 0 where
+  pub cache : Instance
+  pub was : WasCache all home cache
   pub are : units ≡ (answer cache home.keep timing (query q)).units
 
+-- Its answer then takes memory.
+pub record Lacked (all : List Instance) (home : Seen) (q : Question) : Type 0 where
+  pub cache : Instance
+  pub was : WasCache all home cache
+  pub takes : takes_memory cache (query q) ≡ true
+
 abbrev pub OneReply : List Instance → Seen → Question → List Unit → Type 0
-OneReply all home q units = FromCache all home q units ⊎ (units ≡ report 1 [] ∷ [])
+OneReply all home q units = FromCache all home q units ⊎ (Lacked all home q × (units ≡ report 1 [] ∷ []))
 
 -- The rest of an answer is to a version that was current when the connection was made, or later.
 pub record OfAnswer (all : List Instance) (home : Seen) (base : VrpSet) (a : Begun) (rest : List Unit) : Type 0 where

@@ -11,11 +11,11 @@ use Rattle.rtr_ends.specs.Router.{Link, LinkTells, Closed, Idle, Asked, Answerin
 use Rattle.rtr_ends.specs.Transcript.{AskReset, AskSerial, Begun, Committed, Question, base_of, query}
 use Rattle.rtr_ends.proofs.TableLaws.{false_true}
 use Rattle.rtr_world.specs.Claims.{OneAnswerAlways}
-use Rattle.rtr_world.specs.OneAnswer.{Between, ComesOn, Fits, IfResponse, IsAnswer, IsReply, IsWhole, LeadsTo, NotifiesOf, OneAnswer, answered, without_notifies}
+use Rattle.rtr_world.specs.OneAnswer.{Between, ComesOn, Fits, IfResponse, IsAnswer, IsReply, IsWhole, LeadsTo, NotifiesOf, OneAnswer, WasSo, answered, without_notifies}
 use Rattle.rtr_world.specs.World.{Side, World, instances, is_ended, timing}
 use Rattle.rtr_world.proofs.Answered.{ReadsSo, SideReads, kept_reads}
 use Rattle.rtr_world.proofs.Histories.{Known, history_keeps, history_known}
-use Rattle.rtr_world.proofs.Invariant.{FromCache, Flow, Good, GoodLink, IfOpen, OfAnswer, OneReply, Open, QuestionFits, Replies, Shape, no_data, not_kept, other_session, no_memory, read_of, records_of, response}
+use Rattle.rtr_world.proofs.Invariant.{FromCache, Flow, Good, GoodLink, IfOpen, OfAnswer, OneReply, Open, QuestionFits, Replies, Shape, WasCache, no_data, not_kept, other_session, no_memory, read_of, records_of, response}
 use Rattle.rtr_world.proofs.Rests.{Rests, history_rests}
 use Rattle.rtr_world.proofs.Seen.{IsSeen, Seen}
 use Rattle.rtr_world.proofs.SideSteps.{live_of}
@@ -45,19 +45,19 @@ fits_of session (AskSerial one serial) None f = f
 fits_of session (AskSerial one serial) (Some version) f = f
 
 module _ (w : World) (h : Seen) (keeps : h.keep ≡ w.keep) where
+  was_so : (cache : Instance) → WasCache (instances w) h cache → WasSo w h.made cache
+  was_so cache was = record { since = was.since; latest = was.latest; found = was.found; until = was.until }
+
   answer_of : (q : Question) (units : List Unit) → FromCache (instances w) h q units → IsAnswer w h.made q units
   answer_of q units f = record {
     cache = f.cache;
-    since = f.since;
-    latest = f.latest;
-    found = f.found;
-    until = f.until;
+    was = was_so f.cache f.was;
     are = f.are ∙ ap (λ k. (answer f.cache k timing (query q)).units) keeps;
   }
 
   reply_of : (q : Question) (units : List Unit) → OneReply (instances w) h q units → IsReply w h.made q units
   reply_of q units (inl f) = inl (answer_of q units f)
-  reply_of q units (inr e) = inr e
+  reply_of q units (inr e) = inr (record { cache = e.0.cache; was = was_so e.0.cache e.0.was; takes = e.0.takes; are = e.1 })
 
   leads_of : (base : VrpSet) (a : Begun) (rest : List Unit) → a.session ≡ h.session → OfAnswer (instances w) h base a rest → IfResponse (instances w) base (read_of a ++ rest)
   leads_of base a rest e o =

@@ -22,7 +22,7 @@ use Rattle.rtr_world.specs.OneAnswer.{without_notifies}
 use Rattle.rtr_world.specs.Place.{NeverBack, position_of}
 use Rattle.rtr_world.specs.World.{Side, SideEvent, World, instances, Event, Publish, Restart, On, cache_gone, on_side, goes_through, settled, is_refused, side_step, side_refused, settle, new_world}
 use Rattle.rtr_world.proofs.EventSteps.{step_good, refused_good, settle_good}
-use Rattle.rtr_world.proofs.Invariant.{FromCache, OfAnswer, OneReply, read_of, Replies, no_data, not_kept, other_session, no_memory, response, Shape, IfOpen, Open, Flow, Good}
+use Rattle.rtr_world.proofs.Invariant.{WasCache, OfAnswer, OneReply, Replies, no_data, not_kept, other_session, no_memory, response, Shape, IfOpen, Open, Flow, Good}
 use Rattle.rtr_world.proofs.Places.{ordered_published, ordered_restarted}
 use Rattle.rtr_world.proofs.SideLaws.{all_new, all_on_side, all_map, all_both}
 use Rattle.rtr_world.proofs.SideSteps.{live_map}
@@ -42,7 +42,7 @@ pub record GoodWorld (w : World) : Type 0 where
 abbrev StaysAnswer : List Instance → List Instance → Seen → Type 0
 StaysAnswer all all' h =
     ((base : VrpSet) (a : Begun) (rest : List Unit) → OfAnswer all h base a rest → OfAnswer all' h base a rest)
-    × ((q : Question) (units : List Unit) → FromCache all h q units → FromCache all' h q units)
+    × ((cache : Instance) → WasCache all h cache → WasCache all' h cache)
 
 replies_map : (all all' : List Instance) (h : Seen) (q : Question) (base : VrpSet) (rest : List Unit) → StaysAnswer all all' h → Replies all h q base rest → Replies all' h q base rest
 replies_map all all' h q base rest stays (no_data copy a b) = no_data copy a b
@@ -52,8 +52,8 @@ replies_map all all' h q base rest stays (no_memory a) = no_memory a
 replies_map all all' h q base rest stays (response tail a b c) = response tail a b (stays.0 base _ tail c)
 
 one_map : (all all' : List Instance) (h : Seen) (q : Question) (units : List Unit) → StaysAnswer all all' h → OneReply all h q units → OneReply all' h q units
-one_map all all' h q units stays (inl a) = inl (stays.1 q units a)
-one_map all all' h q units stays (inr a) = inr a
+one_map all all' h q units stays (inl a) = inl (record { cache = a.cache; was = stays.1 a.cache a.was; are = a.are })
+one_map all all' h q units stays (inr a) = inr (record { cache = a.0.cache; was = stays.1 a.0.cache a.0.was; takes = a.0.takes }, a.1)
 
 shape_map : (l : Link) (all all' : List Instance) (h : Seen) (agreed : Bool) (version : Option Committed) (table : VrpSet) (wanted rest : List Unit) → StaysAnswer all all' h → Shape all h l agreed version table wanted rest → Shape all' h l agreed version table wanted rest
 shape_map Closed all all' h agreed version table wanted rest stays s = tt
@@ -114,35 +114,31 @@ module _ (keep : ℕ) (past : List Instance) (i : Instance) (y : VrpSet) (p : Pr
       let more = seen.3 in
       lt_true (length i.sets - (length h.sets - 1)) 2147483648 (omega (arith, few, more))
 
-  from_published : (h : Seen) (q : Question) (units : List Unit) → FromCache (i ∷ past) h q units → FromCache (next ∷ past) h q units
-  from_published h q units f = by_session (i.session == h.made.session) refl f.found
+  was_published : (h : Seen) (cache : Instance) → WasCache (i ∷ past) h cache → WasCache (next ∷ past) h cache
+  was_published h cache f = by_session (i.session == h.made.session) refl f.found
     where
-      by_session : (b : Bool) → (i.session == h.made.session) ≡ b → (if b then Some i else find_session h.made.session past) ≡ Some f.latest → FromCache (next ∷ past) h q units
+      by_session : (b : Bool) → (i.session == h.made.session) ≡ b → (if b then Some i else find_session h.made.session past) ≡ Some f.latest → WasCache (next ∷ past) h cache
       by_session true e g =
           let same : i ≡ f.latest = some_is i f.latest g in
-          let u : IsLater f.cache i = subst (λ x. IsLater f.cache x) (sym same) f.until in
+          let u : IsLater cache i = subst (λ x. IsLater cache x) (sym same) f.until in
           record {
-            cache = f.cache;
             since = f.since;
             latest = next;
             found = ap (λ b. if b then Some next else find_session h.made.session past) e;
             until = record { session = u.session; start = u.start; more = y ∷ u.more; sets = ap (λ x. y ∷ x) u.sets };
-            are = f.are;
           }
       by_session false e g = record {
-        cache = f.cache;
         since = f.since;
         latest = f.latest;
         found = ap (λ b. if b then Some next else find_session h.made.session past) e ∙ g;
         until = f.until;
-        are = f.are;
       }
 
   answer_published : (h : Seen) → (i.session ≡ h.session → nat_lt (length i.sets - (length h.sets - 1)) (2 ^ 31) ≡ true) → (base : VrpSet) (a : Begun) (rest : List Unit) → OfAnswer (i ∷ past) h base a rest → OfAnswer (next ∷ past) h base a rest
   answer_published h test base a rest o =
       let low : length h.sets - 1 ≤ length o.stands.older = (let s = o.since in omega (arith, s)) in
       let s = stands_published past i y h.session o.serial o.set o.stands (room_of h.session o.serial o.set o.stands (length h.sets - 1) low test) in
-      record { serial = o.serial; set = o.set; stands = s.0; leads = o.leads; since = subst (λ x. length h.sets ≤ length x + 1) (sym s.1) o.since; from = from_published h a.question (read_of a ++ rest) o.from; ends = o.ends; commits = o.commits; order = o.order }
+      record { serial = o.serial; set = o.set; stands = s.0; leads = o.leads; since = subst (λ x. length h.sets ≤ length x + 1) (sym s.1) o.since; from = record { cache = o.from.cache; was = was_published h o.from.cache o.from.was; are = o.from.are }; ends = o.ends; commits = o.commits; order = o.order }
 
   open_published : (h : Seen) (out up : List ℕ) (wanted : List Unit) (lost : List ℕ) (conn : Option Conn) → IfOpen conn (Open i h out up wanted lost) → IfOpen conn (Open next h out up wanted lost)
   open_published h out up wanted lost None op = tt
@@ -162,7 +158,7 @@ module _ (keep : ℕ) (past : List Instance) (i : Instance) (y : VrpSet) (p : Pr
             l.0,
             l.1,
             flow_map (i ∷ past) (next ∷ past) i next l.0 s.router s.conn s.conn s.up s.up s.down l.2 l.2.lost refl (open_published l.0 s.router.out s.up l.2.wanted l.2.lost s.conn l.2.open_at)
-                (answer_published l.0 (room_seen s.home l.0 (subst (λ x. IsSeen keep s.home x) l.1 g.is_seen) parts.1), from_published l.0),
+                (answer_published l.0 (room_seen s.home l.0 (subst (λ x. IsSeen keep s.home x) l.1 g.is_seen) parts.1), was_published l.0),
           ));
         };
       }
@@ -179,8 +175,8 @@ module _ (keep : ℕ) (past : List Instance) (old i : Instance) (new : find_sess
   table_restarted None table t = t
   table_restarted (Some version) table t = (stands_restarted (old ∷ past) i version.session version.serial table new t).0
 
-  from_restarted : (h : Seen) (q : Question) (units : List Unit) → FromCache (old ∷ past) h q units → FromCache (i ∷ (old ∷ past)) h q units
-  from_restarted h q units f = record { cache = f.cache; since = f.since; latest = f.latest; found = by_session (i.session == h.made.session) refl; until = f.until; are = f.are }
+  was_restarted : (h : Seen) (cache : Instance) → WasCache (old ∷ past) h cache → WasCache (i ∷ (old ∷ past)) h cache
+  was_restarted h cache f = record { since = f.since; latest = f.latest; found = by_session (i.session == h.made.session) refl; until = f.until }
     where
       by_session : (b : Bool) → (i.session == h.made.session) ≡ b → find_session h.made.session (i ∷ (old ∷ past)) ≡ Some f.latest
       by_session true e =
@@ -191,7 +187,7 @@ module _ (keep : ℕ) (past : List Instance) (old i : Instance) (new : find_sess
   answer_restarted : (h : Seen) (base : VrpSet) (a : Begun) (rest : List Unit) → OfAnswer (old ∷ past) h base a rest → OfAnswer (i ∷ (old ∷ past)) h base a rest
   answer_restarted h base a rest o =
       let s = stands_restarted (old ∷ past) i h.session o.serial o.set new o.stands in
-      record { serial = o.serial; set = o.set; stands = s.0; leads = o.leads; since = subst (λ x. length h.sets ≤ length x + 1) (sym s.1) o.since; from = from_restarted h a.question (read_of a ++ rest) o.from; ends = o.ends; commits = o.commits; order = o.order }
+      record { serial = o.serial; set = o.set; stands = s.0; leads = o.leads; since = subst (λ x. length h.sets ≤ length x + 1) (sym s.1) o.since; from = record { cache = o.from.cache; was = was_restarted h o.from.cache o.from.was; are = o.from.are }; ends = o.ends; commits = o.commits; order = o.order }
 
   side_restarted : (s : Side) → Good keep past old s → Good keep (old ∷ past) i (cache_gone s)
   side_restarted s g = record {
@@ -204,7 +200,7 @@ module _ (keep : ℕ) (past : List Instance) (old i : Instance) (new : find_sess
       link = live_map s.router.link (old ∷ past) (i ∷ (old ∷ past)) old i g.seen g.seen s.router s.router s.conn None s.up [] s.down s.down (λ x. x) (λ x. x) refl refl g.router.link (λ l. (
         l.0,
         l.1,
-        flow_map (old ∷ past) (i ∷ (old ∷ past)) old i l.0 s.router s.conn None s.up [] s.down l.2 (conn_due s.conn ++ l.2.lost) refl tt (answer_restarted l.0, from_restarted l.0),
+        flow_map (old ∷ past) (i ∷ (old ∷ past)) old i l.0 s.router s.conn None s.up [] s.down l.2 (conn_due s.conn ++ l.2.lost) refl tt (answer_restarted l.0, was_restarted l.0),
       ));
     };
   }

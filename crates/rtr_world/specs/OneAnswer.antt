@@ -7,7 +7,7 @@ use Rattle.rtr_pdu.specs.declared.unit.Unit.{Unit}
 use Rattle.rtr_pdu.specs.declared.unit.Unit.TheVariants.{SerialNotify, CacheResponse, Prefix, EndOfData, RouterKey}
 use Rattle.rtr_ends.specs.Answer.{answer, report, sent, sent_all}
 use Rattle.rtr_ends.specs.Commit.{Commits}
-use Rattle.rtr_ends.specs.Connection.{IsLater}
+use Rattle.rtr_ends.specs.Connection.{IsLater, takes_memory}
 use Rattle.rtr_ends.specs.Router.{Link, Closed, Idle, Asked, Answering, Ended}
 use Rattle.rtr_ends.specs.Transcript.{Question, AskReset, AskSerial, query, Item, At, Reads, Committed, base_of, under_way}
 use Rattle.rtr_world.specs.World.{Side, World, instances, timing}
@@ -41,18 +41,28 @@ answered (Reads (RouterKey key) ∷ items) = answered items
 answered (At now ∷ items) = answered items
 answered (item ∷ items) = []
 
--- These units are the answer of the connection's instance, as it was at some time after the connection was made.
-pub record IsAnswer (w : World) (home : Instance) (question : Question) (units : List Unit) : Type 0 where
-  pub cache : Instance
+-- The connection's instance was like this at some time after the connection was made.
+pub record WasSo (w : World) (home cache : Instance) : Type 0 where
   pub since : IsLater home cache
   pub latest : Instance
   pub found : find (λ i. i.session == home.session) (instances w) ≡ Some latest
   pub until : IsLater cache latest
+
+-- These units are its answer then,
+pub record IsAnswer (w : World) (home : Instance) (question : Question) (units : List Unit) : Type 0 where
+  pub cache : Instance
+  pub was : WasSo w home cache
   pub are : units ≡ (answer cache w.keep timing (query question)).units
 
--- Where memory was wanting, Error Report 1 stands in its place.
+-- or Error Report 1 in the place of one that takes memory.
+pub record IsWanting (w : World) (home : Instance) (question : Question) (units : List Unit) : Type 0 where
+  pub cache : Instance
+  pub was : WasSo w home cache
+  pub takes : takes_memory cache (query question) ≡ true
+  pub are : units ≡ report 1 [] ∷ []
+
 abbrev pub IsReply : World → Instance → Question → List Unit → Type 0
-IsReply w home question units = IsAnswer w home question units ⊎ (units ≡ report 1 [] ∷ [])
+IsReply w home question units = IsAnswer w home question units ⊎ IsWanting w home question units
 
 -- the records of an answer
 abbrev pub withdrawn_in : List Unit → List Payload
