@@ -17,7 +17,7 @@ use Rattle.rtr_ends.proofs.Rows.{v, w, v_ascends, cache, with_all_of, reset_byte
 use Rattle.rtr_ends.proofs.FeedingLaws.{feed_on}
 use Rattle.rtr_ends.proofs.TableLaws.{led_from_empty}
 use Rattle.rtr_world.specs.Place.{place_of}
-use Rattle.rtr_world.specs.History.{Done, SessionUsed, NoSuchRouter, after, refusal}
+use Rattle.rtr_world.specs.History.{Done, SessionUsed, NoSuchRouter, after, refusal, wants_at}
 use Rattle.rtr_world.specs.World.{Side, World, Publish, Restart, On, Connect, RouterSends, CacheGets, CacheSends, RouterGets, Cut, new_side, new_world, noted, connects, router_sends, cache_gets, cache_sends, router_gets, cut, side_step, settle, goes_through, settled}
 
 abbrev just_v : VrpSet
@@ -248,3 +248,40 @@ session_used = refl
 no_router : refusal (world new_side) (On 1 Connect) ≡ Some NoSuchRouter
 unfolding refusal
 no_router = refl
+
+-- The session of an instance that ended stays used; what is published then is the first version of the new one, the empty set too.
+used_before : refusal (later_world [] left_side) (Restart 0x1234 1) ≡ Some SessionUsed
+unfolding refusal
+used_before = refl
+
+publishes_nothing : after (Publish empty) (Done None) (later_world [] left_side) ≡ later_world (empty ∷ []) left_side
+unfolding goes_through settled settle
+publishes_nothing = refl
+
+names_nothing : named (later (empty ∷ []) ∷ with_v ∷ []) 0x2222 9 ≡ Some empty
+names_nothing = refl
+
+-- Memory can be wanting at the query, when its last byte is there, and at no unit after it.
+abbrev query_side : Side
+query_side = open_side asking (new_conn with_v) reset_bytes []
+
+wants_memory : wants_at (world query_side) (CacheGets 8) 8 0 (Some query_side) ≡ true
+unfolding conn_takes conn_byte judge as_read
+wants_memory = refl
+
+too_early : wants_at (world query_side) (CacheGets 7) 7 0 (Some query_side) ≡ false
+unfolding conn_takes conn_byte judge as_read
+too_early = refl
+
+no_such_unit : wants_at (world query_side) (CacheGets 8) 8 1 (Some query_side) ≡ false
+unfolding conn_takes conn_byte judge as_read
+no_such_unit = refl
+
+-- Then an Internal Error is due in the answer's place, and the connection has ended.
+abbrev internal_error : List ℕ
+internal_error = 0x01 ∷ 0x0a ∷ 0x00 ∷ 0x01 ∷ 0 ∷ 0 ∷ 0 ∷ 0x10 ∷ 0 ∷ 0 ∷ 0 ∷ 0 ∷ 0 ∷ 0 ∷ 0 ∷ 0 ∷ []
+
+memory_wanted : after (On 0 (CacheGets 8)) (Done (Some 0)) (world query_side)
+    ≡ world (open_side asking (record { state = record { cache = with_v; agreed = true; ended = true; due = internal_error; notified = false }; held = [] }) [] [])
+unfolding goes_through settled settle side_step cache_gets conn_takes conn_byte judge as_read
+memory_wanted = refl

@@ -1,13 +1,15 @@
 -- What is refused, and what a list of events with its outcomes leads to.
-use Rattle.std.specs.Prelude.{◌≡◌, ℕ, zero, suc, ◌-◌, ◌^◌, ◌<◌, ◌≤◌, Bool, true, false, not, ◌||◌, ◌&&◌, ◌==◌, nat_lt, List, [], ◌∷◌, length, take, find, Option, Some, None, is_some, if◌then◌else◌, ⊤}
+use Rattle.std.specs.Prelude.{◌≡◌, ℕ, zero, suc, ◌-◌, ◌^◌, ◌<◌, ◌≤◌, Bool, true, false, not, ◌||◌, ◌&&◌, ◌==◌, nat_lt, List, [], ◌∷◌, length, take, find, Option, Some, None, is_some, if◌then◌else◌, IsTrue, ⊤}
+use Rattle.std.specs.List.{list_any}
 use Rattle.vrps.specs.Instance.{Instance, versions}
 use Rattle.vrps.specs.Store.{is_current}
 use Rattle.vrps.specs.VrpSet.{IsVrpSet}
-use Rattle.rtr_ends.specs.Cache.{Conn}
-use Rattle.rtr_ends.specs.Router.{is_closed}
-use Rattle.rtr_ends.specs.Transcript.{Committed}
+use Rattle.rtr_ends.specs.Cache.{Conn, conn_takes}
+use Rattle.rtr_ends.specs.Connection.{Moment, Wanting}
+use Rattle.rtr_ends.specs.Router.{is_closed, receives}
+use Rattle.rtr_ends.specs.Transcript.{Committed, Item, Lacks}
 use Rattle.rtr_world.specs.Place.{position_of}
-use Rattle.rtr_world.specs.World.{Side, World, instances, SideEvent, RouterRestart, Connect, RouterSends, CacheGets, CacheSends, RouterGets, Event, Publish, Restart, On, cache_gets, router_gets, goes_through, settled, is_refused, new_world}
+use Rattle.rtr_world.specs.World.{Side, World, instances, SideEvent, RouterRestart, Connect, RouterSends, CacheGets, CacheSends, RouterGets, Event, Publish, Restart, On, cache_gets, router_gets, goes_through, settled, is_refused, new_world, timing}
 
 -- How an event ended: it went through, and at this unit of it an end met want of memory, if at any; or it was refused: the session
 -- is used already; too many versions; no such router; or want of memory, after so many bytes.
@@ -88,18 +90,44 @@ abbrev pub moved : World → Event → Option ℕ → ℕ
 moved w (On r event) wanting = moved_at w event wanting (side_at r w.sides)
 moved w event wanting = 0
 
--- Units are read where bytes arrive alone.
-abbrev pub ReadsUnits : Event → Option ℕ → Type 0
-ReadsUnits event None = ⊤
-ReadsUnits (On r (CacheGets most)) wanting = ⊤
-ReadsUnits (On r (RouterGets most)) wanting = ⊤
-ReadsUnits event wanting = ⊥
+-- the bytes that an event may move
+abbrev pub most_of : SideEvent → ℕ
+most_of (RouterSends most) = most
+most_of (CacheGets most) = most
+most_of (CacheSends most) = most
+most_of (RouterGets most) = most
+most_of event = 0
+
+abbrev pub is_wanting : Moment → Bool
+is_wanting (Wanting cache unit bytes) = true
+is_wanting m = false
+
+abbrev pub is_lacking : Item → Bool
+is_lacking (Lacks unit) = true
+is_lacking item = false
+
+abbrev pub conn_wants : World → ℕ → ℕ → Side → Option Conn → Bool
+conn_wants w bytes unit s None = false
+conn_wants w bytes unit s (Some o) = list_any is_wanting (conn_takes w.keep timing w.present (Some unit) (take bytes s.up) o).machine.moments
+
+-- Of so many bytes that arrive this unit is read, and what is done with it takes memory.
+abbrev pub wants_at : World → SideEvent → ℕ → ℕ → Option Side → Bool
+wants_at w event bytes unit None = false
+wants_at w (CacheGets most) bytes unit (Some s) = conn_wants w bytes unit s s.conn
+wants_at w (RouterGets most) bytes unit (Some s) = list_any is_lacking (receives s.router.now (Some unit) (take bytes s.down) s.router).machine.items
+wants_at w event bytes unit (Some s) = false
+
+-- Where an outcome names a unit, memory was wanting at it.
+abbrev pub IsWanted : World → Event → (SideEvent → ℕ) → Option ℕ → Type 0
+IsWanted w event bytes None = ⊤
+IsWanted w (On r event) bytes (Some unit) = IsTrue (wants_at w event (bytes event) unit (side_at r w.sides))
+IsWanted w event bytes (Some unit) = ⊥
 
 -- the outcomes that an event may have
 abbrev pub MayEnd : Option Outcome → World → Event → Outcome → Type 0
 MayEnd (Some refused) w event outcome = outcome ≡ refused
-MayEnd None w event (Done wanting) = ReadsUnits event wanting
-MayEnd None w event (Memory bytes wanting) = (may_refuse w event ≡ true) × ReadsUnits event wanting × (bytes ≤ moved w event wanting)
+MayEnd None w event (Done wanting) = IsWanted w event most_of wanting
+MayEnd None w event (Memory bytes wanting) = (may_refuse w event ≡ true) × IsWanted w event (λ e. bytes) wanting × (bytes ≤ moved w event wanting)
 MayEnd None w event outcome = ⊥
 
 -- after SessionUsed, TooManyVersions and NoSuchRouter nothing has changed
