@@ -16,13 +16,13 @@ use Rattle.rtr_ends.specs.Timing.{default_intervals}
 use Rattle.rtr_ends.proofs.Rows.{v, w, v_ascends, reset_bytes, serial_bytes, response_bytes, v_bytes, end_bytes}
 use Rattle.rtr_ends.proofs.TableLaws.{led_from_empty}
 
-abbrev just_v : VrpSet
+abbrev pub just_v : VrpSet
 just_v = set_of (v ∷ [])
 
 -- An answer to a Reset Query
 
 -- A router connects at 100, and its query is pulled.
-abbrev asked_all : Router
+abbrev pub asked_all : Router
 asked_all = record new_router { now = 100; link = Asked AskReset }
 
 connects : (played (Pulls 8 ∷ Connects 100 ∷ [])).router ≡ asked_all
@@ -34,30 +34,30 @@ unfolding connects_at clocked
 first_query = refl
 
 -- the Cache Response
-abbrev nothing_yet : Begun
+abbrev pub nothing_yet : Begun
 nothing_yet = record { question = AskReset; session = 0x1234; withdrawn = []; announced = [] }
 
-abbrev answering : Begun → Router
+abbrev pub answering : Begun → Router
 answering a = record asked_all { agreed = true; session = Some 0x1234; link = Answering a }
 
-response : called (Receives 100 None response_bytes) asked_all ≡ record { router = answering nothing_yet; items = Reads (CacheResponse 0x1234) ∷ At 100 ∷ [] }
+pub response : called (Receives 100 None response_bytes) asked_all ≡ record { router = answering nothing_yet; items = Reads (CacheResponse 0x1234) ∷ At 100 ∷ [] }
 unfolding receives router_byte clocked on_unit judge as_read
 response = refl
 
 -- What a record does, by how it is staged
-abbrev by_stage : ℕ → Payload → Bool → Router → Staged → Noted
+abbrev pub by_stage : ℕ → Payload → Bool → Router → Staged → Noted
 by_stage now x announce r st =
     let k : Router = staged (Prefix announce x) st r in
     let n : Noted = if is_staged st && false then lacks (Prefix announce x) r else record { router = k; items = asked_by k.link k.out ++ Reads (Prefix announce x) ∷ [] } in
     record { router = n.router; items = n.items ++ At now ∷ [] }
 
-abbrev v_read : Begun
+abbrev pub v_read : Begun
 v_read = record nothing_yet { announced = v ∷ [] }
 
-stage_v : stage empty nothing_yet true v ≡ Stays v_read
+pub stage_v : stage empty nothing_yet true v ≡ Stays v_read
 stage_v = λ i. if has-empty v i || false then Wrong 7 else if nat_lt 16777215 ((ap size (led_from_empty (v ∷ [])) ∙ size-set_of (v ∷ []) v_ascends) i) then Over else Stays v_read
 
-record_v : called (Receives 100 None v_bytes) (answering nothing_yet) ≡ record { router = answering v_read; items = Reads (Prefix true v) ∷ At 100 ∷ [] }
+pub record_v : called (Receives 100 None v_bytes) (answering nothing_yet) ≡ record { router = answering v_read; items = Reads (Prefix true v) ∷ At 100 ∷ [] }
 unfolding receives router_byte clocked on_unit judge as_read
 record_v = ap (by_stage 100 v true (answering nothing_yet)) stage_v
 
@@ -67,10 +67,10 @@ unfolding receives router_byte clocked on_unit judge as_read
 cut_in_a_record = refl
 
 -- the End of Data commits
-abbrev committed_at : ℕ → Committed
+abbrev pub committed_at : ℕ → Committed
 committed_at now = record { session = 0x1234; serial = 5; moment = now; intervals = default_intervals }
 
-abbrev holds_v : Router
+abbrev pub holds_v : Router
 holds_v = record (answering v_read) { table = just_v; version = Some (committed_at 100); due = Some 3700; link = Idle }
 
 commits : called (Receives 100 None (end_bytes 5)) (answering v_read) ≡ record { router = holds_v; items = Reads (EndOfData 0x1234 5 3600 600 7200) ∷ At 100 ∷ [] }
@@ -102,7 +102,7 @@ unfolding ticks_at clocked
 ticks = refl
 
 -- A closed router keeps its table for expire, and no longer.
-abbrev closed_v : Router
+abbrev pub closed_v : Router
 closed_v = record holds_v { link = Closed; agreed = false; session = None; due = Some 700 }
 
 closes : called (Closes 100) holds_v ≡ record { router = closed_v; items = Shut ∷ At 100 ∷ [] }
@@ -130,7 +130,7 @@ goes_not_back = refl
 
 -- Notifies
 
-abbrev notify_bytes : ℕ → ℕ → List ℕ
+abbrev pub notify_bytes : ℕ → ℕ → List ℕ
 notify_bytes session serial = sent (SerialNotify session serial)
 
 wakes : (called (Receives 100 None (notify_bytes 0x1234 2147483652)) holds_v).router ≡ record holds_v { link = Asked (AskSerial 0x1234 5); out = serial_bytes }
@@ -163,7 +163,7 @@ busy = refl
 
 -- Other answers to a Serial Query
 
-abbrev asks_since : Router
+abbrev pub asks_since : Router
 asks_since = record holds_v { link = Asked (AskSerial 0x1234 5) }
 
 corrupt : (called (Receives 100 None (sent (report 0 serial_bytes))) asks_since).router ≡ record asks_since { agreed = true; table = empty; version = None; link = Ended (ends.Told 0) }
@@ -195,16 +195,16 @@ unfolding receives router_byte clocked on_unit judge as_read is_utf8 chars
 idle_no_data = refl
 
 -- Records that act wrongly: one of the base is announced, one outside it is withdrawn. The mark is set.
-abbrev since_v : Begun
+abbrev pub since_v : Begun
 since_v = record { question = AskSerial 0x1234 5; session = 0x1234; withdrawn = []; announced = [] }
 
-abbrev changes : Router
+abbrev pub changes : Router
 changes = record holds_v { link = Answering since_v }
 
-has_v : has just_v v ≡ true
+pub has_v : has just_v v ≡ true
 has_v = has-set_of (v ∷ []) v
 
-has_not_w : has just_v w ≡ false
+pub has_not_w : has just_v w ≡ false
 has_not_w = has-set_of (v ∷ []) w
 
 stage_again : stage just_v since_v true v ≡ Wrong 7
