@@ -11,8 +11,8 @@ use Rattle.rtr_pdu.specs.declared.unit.Unit.{Unit}
 use Rattle.rtr_pdu.specs.declared.unit.Unit.TheVariants.{SerialNotify, SerialQuery, ResetQuery, CacheResponse, Prefix, EndOfData, CacheReset, RouterKey, ErrorReport}
 use Rattle.rtr_ends.specs.declared.link.End.TheVariants as ends
 use Rattle.rtr_ends.specs.Answer.{report, sent}
-use Rattle.rtr_ends.specs.Router.{Link, Router, Staged, Stays, Wrong, Over, Closed, Idle, Asked, Answering, Ended, on_unit, router_byte, receives, clocked, connects_at, closed_at, ticks_at, called, Connects, Receives, Closes, Ticks, stage}
-use Rattle.rtr_ends.specs.Transcript.{Begun, Committed, Question, AskReset, AskSerial, is_listed, led_to, base_of}
+use Rattle.rtr_ends.specs.Router.{Link, Router, Staged, Stays, Wrong, Over, Closed, Idle, Asked, Answering, Ended, emptied, told, told_off, on_unit, router_byte, receives, clocked, connects_at, closed_at, ticks_at, called, Connects, Receives, Closes, Ticks, stage}
+use Rattle.rtr_ends.specs.Transcript.{Begun, Committed, Question, AskReset, AskSerial, is_listed, is_serial, led_to, base_of, sum_of, retry_of}
 use Rattle.rtr_ends.specs.Timing.{Intervals, intervals}
 use Rattle.rtr_ends.proofs.Rows.{v, w, reset_bytes, serial_bytes, response_bytes, v_bytes, end_bytes}
 use Rattle.rtr_ends.proofs.TableLaws.{led_from_empty}
@@ -57,3 +57,180 @@ record_too_early : (called (Receives 100 None v_bytes) asks_since).router
     ≡ record asks_since { link = Ended (ends.Reported 0); out = 0x01 ∷ 0x0a ∷ 0 ∷ 0 ∷ 0 ∷ 0 ∷ 0 ∷ 0x24 ∷ 0 ∷ 0 ∷ 0 ∷ 0x14 ∷ v_bytes ++ 0 ∷ 0 ∷ 0 ∷ 0 ∷ [] }
 unfolding receives router_byte clocked on_unit judge as_read
 record_too_early = refl
+
+-- Another session: the same report, and emptied. The mark goes with the rest.
+
+end_of_other_session : (called (Receives 100 None (sent (EndOfData 0x2222 6 3600 600 7200))) (record changes { mark = true })).router
+    ≡ record changes { table = empty; version = None; link = Ended (ends.Reported 0); out = sent (report 0 (sent (EndOfData 0x2222 6 3600 600 7200))) }
+unfolding receives router_byte clocked on_unit judge as_read
+end_of_other_session = refl
+
+other_session_asked : (called (Receives 100 None (notify_bytes 0x2222 6)) asks_since).router
+    ≡ record asks_since { table = empty; version = None; link = Ended (ends.Reported 0); out = sent (report 0 (notify_bytes 0x2222 6)) }
+unfolding receives router_byte clocked on_unit judge as_read
+other_session_asked = refl
+
+other_session_answering : (called (Receives 100 None (notify_bytes 0x2222 6)) changes).router
+    ≡ record changes { table = empty; version = None; link = Ended (ends.Reported 0); out = sent (report 0 (notify_bytes 0x2222 6)) }
+unfolding receives router_byte clocked on_unit judge as_read
+other_session_answering = refl
+
+-- of this session: ignored until the answer has ended
+same_session_asked : (called (Receives 100 None (notify_bytes 0x1234 6)) asks_since).router ≡ asks_since
+unfolding receives router_byte clocked on_unit judge as_read
+same_session_asked = refl
+
+same_session_answering : (called (Receives 100 None (notify_bytes 0x1234 6)) changes).router ≡ changes
+unfolding receives router_byte clocked on_unit judge as_read
+same_session_answering = refl
+
+-- A Reset Query may be answered by another session than the committed one. Then that is the connection's session.
+abbrev renews : Begun
+renews = record { question = AskReset; session = 0x2222; withdrawn = []; announced = [] }
+
+new_session : (called (Receives 100 None (sent (CacheResponse 0x2222))) (record holds_v { link = Asked AskReset })).router ≡ record holds_v { session = Some 0x2222; link = Answering renews }
+unfolding receives router_byte clocked on_unit judge as_read
+new_session = refl
+
+of_new_session : (called (Receives 100 None (notify_bytes 0x2222 6)) (record holds_v { session = Some 0x2222; link = Answering renews })).router ≡ record holds_v { session = Some 0x2222; link = Answering renews }
+unfolding receives router_byte clocked on_unit judge as_read
+of_new_session = refl
+
+of_old_session : (called (Receives 100 None (notify_bytes 0x1234 6)) (record holds_v { session = Some 0x2222; link = Answering renews })).router
+    ≡ record holds_v { table = empty; version = None; session = Some 0x2222; link = Ended (ends.Reported 0); out = sent (report 0 (notify_bytes 0x1234 6)) }
+unfolding receives router_byte clocked on_unit judge as_read
+of_old_session = refl
+
+-- A notify where nothing is committed
+wakes_empty : (called (Receives 100 None (notify_bytes 0x1234 6)) (record asked_all { agreed = true; link = Idle })).router ≡ record asked_all { agreed = true; link = Asked AskReset; out = reset_bytes }
+unfolding receives router_byte clocked on_unit judge as_read
+wakes_empty = refl
+
+-- Router Keys and Error Reports
+
+key_passed_over : (a : Begun) (key : Key) (r : Router) → on_unit (Answering a) (RouterKey key) r ≡ r
+unfolding on_unit
+key_passed_over a key r = refl
+
+-- a version of other intervals than the standard's
+abbrev slow : Committed
+slow = record (committed_at 100) { intervals = intervals 7200 900 86400 }
+
+-- Code 2 drops what was staged; the router asks again after retry, 600 where nothing is committed.
+no_data_answering : (called (Receives 1000 None (sent (report 2 serial_bytes))) (record changes { version = Some slow; link = Answering (record since_v { withdrawn = v ∷ [] }) })).router
+    ≡ record changes { version = Some slow; now = 1000; link = Idle; due = Some 1900 }
+unfolding receives router_byte clocked on_unit judge as_read is_utf8 chars
+no_data_answering = refl
+
+no_data_at_all : (called (Receives 1000 None (sent (report 2 reset_bytes))) asked_all).router ≡ record asked_all { agreed = true; now = 1000; link = Idle; due = Some 1600 }
+unfolding receives router_byte clocked on_unit judge as_read is_utf8 chars
+no_data_at_all = refl
+
+-- Other codes end the link, and what is held stays; after a Serial Query code 0 empties.
+abbrev Tells : Link → Report → Router → Router → Type 0
+Tells link e r after = on_unit link (ErrorReport e) r ≡ record after { link = Ended (ends.Told e.code) }
+
+and_false : (b : Bool) → (b && false) ≡ false
+and_false true = refl
+and_false false = refl
+
+ends_told : (q : Question) (code : ℕ) (r : Router) → (code == 2) ≡ false → (code == 0 && is_serial (Some q)) ≡ false → told_off q code r ≡ told code r
+ends_told q code r two zero = λ i. if two i then record r { link = Idle; due = Some (sum_of r.now (retry_of r.version)) } else if zero i then told code (emptied r) else told code r
+
+told_idle : (e : Report) (r : Router) → (e.code == 2) ≡ false → Tells Idle e r r
+unfolding on_unit
+told_idle e r h = λ i. if h i then r else told e.code r
+
+told_reset : (e : Report) (a : Begun) (r : Router) → (e.code == 2) ≡ false → Tells (Asked AskReset) e r (record r { agreed = true }) × Tells (Answering (record a { question = AskReset })) e r r
+unfolding on_unit
+told_reset e a r h = (ends_told AskReset e.code (record r { agreed = true }) h (and_false (e.code == 0)), ends_told AskReset e.code r h (and_false (e.code == 0)))
+
+told_serial : (e : Report) (q : Question) (a : Begun) (r : Router) → (e.code == 2) ≡ false → (e.code == 0) ≡ false → Tells (Asked q) e r (record r { agreed = true }) × Tells (Answering a) e r r
+unfolding on_unit
+told_serial e q a r two zero =
+    (ends_told q e.code (record r { agreed = true }) two (ap (λ z. z && is_serial (Some q)) zero), ends_told a.question e.code r two (ap (λ z. z && is_serial (Some a.question)) zero))
+
+corrupt_answering : (called (Receives 100 None (sent (report 0 serial_bytes))) (record changes { mark = true })).router ≡ record changes { table = empty; version = None; link = Ended (ends.Told 0) }
+unfolding receives router_byte clocked on_unit judge as_read is_utf8 chars
+corrupt_answering = refl
+
+internal_answering : (called (Receives 100 None (sent (report 1 []))) changes).router ≡ record changes { link = Ended (ends.Told 1) }
+unfolding receives router_byte clocked on_unit judge as_read is_utf8 chars
+internal_answering = refl
+
+-- Records that act twice, or on what this answer brought. The mark is set, and what is held stays.
+
+or_true : (b : Bool) → (b || true) ≡ true
+or_true true = refl
+or_true false = refl
+
+-- code 7: of the base, whatever was withdrawn of it, or announced by this answer
+duplicate_of_base : (base : VrpSet) (a : Begun) (x : Payload) → has base x ≡ true → stage base a true x ≡ Wrong 7
+duplicate_of_base base a x h = λ i. if h i || is_listed x a.announced then Wrong 7 else if nat_lt 16777215 (size (led_to base a.withdrawn (x ∷ a.announced))) then Over else Stays (record a { announced = x ∷ a.announced })
+
+duplicate_of_answer : (base : VrpSet) (a : Begun) (x : Payload) → is_listed x a.announced ≡ true → stage base a true x ≡ Wrong 7
+duplicate_of_answer base a x h =
+    (λ i. if has base x || h i then Wrong 7 else if nat_lt 16777215 (size (led_to base a.withdrawn (x ∷ a.announced))) then Over else Stays (record a { announced = x ∷ a.announced }))
+    ∙ (λ i. if or_true (has base x) i then Wrong 7 else if nat_lt 16777215 (size (led_to base a.withdrawn (x ∷ a.announced))) then Over else Stays (record a { announced = x ∷ a.announced }))
+
+-- code 6: not of the base, so also what this answer announced, or withdrawn by this answer
+unknown_to_base : (base : VrpSet) (a : Begun) (x : Payload) → has base x ≡ false → stage base a false x ≡ Wrong 6
+unknown_to_base base a x h = λ i. if h i && not (is_listed x a.withdrawn) then Stays (record a { withdrawn = x ∷ a.withdrawn }) else Wrong 6
+
+withdrawn_before : (base : VrpSet) (a : Begun) (x : Payload) → is_listed x a.withdrawn ≡ true → stage base a false x ≡ Wrong 6
+withdrawn_before base a x h =
+    (λ i. if has base x && not (h i) then Stays (record a { withdrawn = x ∷ a.withdrawn }) else Wrong 6)
+    ∙ (λ i. if and_false (has base x) i then Stays (record a { withdrawn = x ∷ a.withdrawn }) else Wrong 6)
+
+announced_twice : (called (Receives 100 None v_bytes) (answering v_read)).router ≡ record (answering v_read) { mark = true; link = Ended (ends.Reported 7); out = sent (report 7 v_bytes) }
+unfolding receives router_byte clocked on_unit judge as_read
+announced_twice = ap (λ st. (by_stage 100 v true (answering v_read) st).router) (duplicate_of_answer empty v_read v refl)
+
+abbrev without_v : Begun
+without_v = record since_v { withdrawn = v ∷ [] }
+
+withdrawn_first : (called (Receives 100 None v_bytes) (record changes { link = Answering without_v })).router ≡ record changes { mark = true; link = Ended (ends.Reported 7); out = sent (report 7 v_bytes) }
+unfolding receives router_byte clocked on_unit judge as_read
+withdrawn_first = ap (λ st. (by_stage 100 v true (record changes { link = Answering without_v }) st).router) (duplicate_of_base just_v without_v v has_v)
+
+withdrawn_twice : (called (Receives 100 None (sent (Prefix false v))) (record changes { link = Answering without_v })).router ≡ record changes { mark = true; link = Ended (ends.Reported 6); out = sent (report 6 (sent (Prefix false v))) }
+unfolding receives router_byte clocked on_unit judge as_read
+withdrawn_twice = ap (λ st. (by_stage 100 v false (record changes { link = Answering without_v }) st).router) (withdrawn_before just_v without_v v refl)
+
+abbrev with_w : Begun
+with_w = record since_v { announced = w ∷ [] }
+
+announced_first : (called (Receives 100 None (sent (Prefix false w))) (record changes { link = Answering with_w })).router ≡ record changes { mark = true; link = Ended (ends.Reported 6); out = sent (report 6 (sent (Prefix false w))) }
+unfolding receives router_byte clocked on_unit judge as_read
+announced_first = ap (λ st. (by_stage 100 w false (record changes { link = Answering with_w }) st).router) (unknown_to_base just_v with_w w has_not_w)
+
+-- A withdrawal that acts is staged.
+stage_withdrawn : stage just_v since_v false v ≡ Stays without_v
+stage_withdrawn = λ i. if has_v i && true then Stays without_v else Wrong 6
+
+withdrawn_v : (called (Receives 100 None (sent (Prefix false v))) changes).router ≡ record changes { link = Answering without_v }
+unfolding receives router_byte clocked on_unit judge as_read
+withdrawn_v = ap (λ st. (by_stage 100 v false changes st).router) stage_withdrawn
+
+-- With the mark the next connection asks for all, though something is committed. Asking leaves the mark, and a commit clears it.
+asks_all_by_mark : (called (Connects 100) (record changes { mark = true; link = Ended (ends.Reported 7); out = sent (report 7 v_bytes) })).router
+    ≡ record holds_v { mark = true; due = Some 700; agreed = false; session = None; link = Asked AskReset; out = reset_bytes }
+unfolding connects_at clocked
+asks_all_by_mark = refl
+
+commit_clears : (called (Receives 100 None (end_bytes 5)) (record (answering v_read) { mark = true })).router ≡ holds_v
+unfolding receives router_byte clocked on_unit judge as_read
+commit_clears = ap (λ s. record holds_v { table = s }) (led_from_empty (v ∷ []))
+
+-- A record too many
+
+over : (base : VrpSet) (a : Begun) (x : Payload) → has base x ≡ false → is_listed x a.announced ≡ false → nat_lt 16777215 (size (led_to base a.withdrawn (x ∷ a.announced))) ≡ true → stage base a true x ≡ Over
+over base a x known once much = λ i. if known i || once i then Wrong 7 else if much i then Over else Stays (record a { announced = x ∷ a.announced })
+
+not_over : (base : VrpSet) (a : Begun) (x : Payload) → has base x ≡ false → is_listed x a.announced ≡ false → nat_lt 16777215 (size (led_to base a.withdrawn (x ∷ a.announced))) ≡ false → stage base a true x ≡ Stays (record a { announced = x ∷ a.announced })
+not_over base a x known once much = λ i. if known i || once i then Wrong 7 else if much i then Over else Stays (record a { announced = x ∷ a.announced })
+
+-- ends the link, and nothing is sent.
+too_many : (a : Begun) → stage (base_of a.question just_v) a true v ≡ Over → (called (Receives 100 None v_bytes) (record changes { link = Answering a })).router ≡ record changes { link = Ended ends.TooMany }
+unfolding receives router_byte clocked on_unit judge as_read
+too_many a h = ap (λ st. (by_stage 100 v true (record changes { link = Answering a }) st).router) h
