@@ -1,5 +1,5 @@
 -- What a router does at each unit on each link, and at the clock, worked out.
-use Rattle.std.proofs.Common.{◌≡◌, ℕ, Bool, true, false, not, ◌||◌, ◌&&◌, ◌==◌, nat_lt, List, [], ◌∷◌, ◌++◌, Option, Some, None, if◌then◌else◌, refl, ap, ◌∙◌, take, drop}
+use Rattle.std.proofs.Common.{◌≡◌, ℕ, Bool, true, false, not, ◌||◌, ◌&&◌, ◌==◌, nat_lt, ◌+◌, List, [], ◌∷◌, ◌++◌, length, Option, Some, None, if◌then◌else◌, refl, ap, ◌∙◌, take, drop}
 use Rattle.std.specs.Str.{chars, is_utf8}
 use Rattle.prefixes.specs.Payload.{Payload}
 use Rattle.vrps.specs.VrpSet.{VrpSet, empty, has, size}
@@ -47,14 +47,18 @@ answering_rejects : (r : Router) (a : Begun) (session : ℕ) → Rejects (Answer
 unfolding on_unit
 answering_rejects r a session = (refl, refl, ((λ s t. refl), refl))
 
+-- a report with this code that copies these bytes, at most 239
+abbrev report_bytes : ℕ → List ℕ → List ℕ
+report_bytes code copy = 0x01 ∷ 0x0a ∷ 0 ∷ code ∷ 0 ∷ 0 ∷ 0 ∷ (16 + length copy) ∷ 0 ∷ 0 ∷ 0 ∷ length copy ∷ copy ++ 0 ∷ 0 ∷ 0 ∷ 0 ∷ []
+
 -- the same, byte by byte: a Cache Reset on an idle link, and a record before the Cache Response
 idle_reset : (called (Receives 100 None (sent CacheReset)) holds_v).router
-    ≡ record holds_v { link = Ended (ends.Reported 0); out = 0x01 ∷ 0x0a ∷ 0 ∷ 0 ∷ 0 ∷ 0 ∷ 0 ∷ 0x18 ∷ 0 ∷ 0 ∷ 0 ∷ 0x08 ∷ 0x01 ∷ 0x08 ∷ 0 ∷ 0 ∷ 0 ∷ 0 ∷ 0 ∷ 0x08 ∷ 0 ∷ 0 ∷ 0 ∷ 0 ∷ [] }
+    ≡ record holds_v { link = Ended (ends.Reported 0); out = report_bytes 0 (0x01 ∷ 0x08 ∷ 0 ∷ 0 ∷ 0 ∷ 0 ∷ 0 ∷ 0x08 ∷ []) }
 unfolding receives router_byte clocked on_unit judge as_read
 idle_reset = refl
 
 record_too_early : (called (Receives 100 None v_bytes) asks_since).router
-    ≡ record asks_since { link = Ended (ends.Reported 0); out = 0x01 ∷ 0x0a ∷ 0 ∷ 0 ∷ 0 ∷ 0 ∷ 0 ∷ 0x24 ∷ 0 ∷ 0 ∷ 0 ∷ 0x14 ∷ v_bytes ++ 0 ∷ 0 ∷ 0 ∷ 0 ∷ [] }
+    ≡ record asks_since { link = Ended (ends.Reported 0); out = report_bytes 0 v_bytes }
 unfolding receives router_byte clocked on_unit judge as_read
 record_too_early = refl
 
@@ -234,3 +238,169 @@ not_over base a x known once much = λ i. if known i || once i then Wrong 7 else
 too_many : (a : Begun) → stage (base_of a.question just_v) a true v ≡ Over → (called (Receives 100 None v_bytes) (record changes { link = Answering a })).router ≡ record changes { link = Ended ends.TooMany }
 unfolding receives router_byte clocked on_unit judge as_read
 too_many a h = ap (λ st. (by_stage 100 v true (record changes { link = Answering a }) st).router) h
+
+-- Intervals are brought to the nearest bound at a commit.
+
+abbrev commits_with : ℕ → ℕ → ℕ → Router
+commits_with refresh retry expire = (called (Receives 100 None (sent (EndOfData 0x1234 5 refresh retry expire))) (answering v_read)).router
+
+abbrev holds_with : Intervals → ℕ → Router
+holds_with t due = record holds_v { version = Some (record (committed_at 100) { intervals = t }); due = Some due }
+
+with_table : (r : Router) → record r { table = led_to empty [] (v ∷ []) } ≡ record r { table = just_v }
+with_table r = ap (λ s. record r { table = s }) (led_from_empty (v ∷ []))
+
+intervals_zero : commits_with 0 0 0 ≡ holds_with (intervals 1 1 600) 101
+unfolding receives router_byte clocked on_unit judge as_read
+intervals_zero = with_table (holds_with (intervals 1 1 600) 101)
+
+intervals_greatest : commits_with 4294967295 4294967295 4294967295 ≡ holds_with (intervals 86400 7200 172800) 86500
+unfolding receives router_byte clocked on_unit judge as_read
+intervals_greatest = with_table (holds_with (intervals 86400 7200 172800) 86500)
+
+intervals_at_bounds : (commits_with 1 1 600 ≡ holds_with (intervals 1 1 600) 101) × (commits_with 86400 7200 172800 ≡ holds_with (intervals 86400 7200 172800) 86500)
+unfolding receives router_byte clocked on_unit judge as_read
+intervals_at_bounds = (with_table (holds_with (intervals 1 1 600) 101), with_table (holds_with (intervals 86400 7200 172800) 86500))
+
+intervals_past_bounds : commits_with 86401 7201 599 ≡ holds_with (intervals 86400 7200 600) 86500
+unfolding receives router_byte clocked on_unit judge as_read
+intervals_past_bounds = with_table (holds_with (intervals 86400 7200 600) 86500)
+
+-- Sums stop at the greatest moment.
+commits_last : (called (Receives 18446744073709551615 None (end_bytes 5)) (answering v_read)).router
+    ≡ record holds_v { version = Some (committed_at 18446744073709551615); now = 18446744073709551615; due = Some 18446744073709551615 }
+unfolding receives router_byte clocked on_unit judge as_read
+commits_last = with_table (record holds_v { version = Some (committed_at 18446744073709551615); now = 18446744073709551615; due = Some 18446744073709551615 })
+
+closes_last : (called (Closes 18446744073709551615) asked_all).router ≡ record asked_all { now = 18446744073709551615; link = Closed; due = Some 18446744073709551615 }
+unfolding closed_at clocked
+closes_last = refl
+
+-- Expiry on each link. The mark goes with the rest.
+
+expires_answering : (called (Ticks 7301) (record changes { link = Answering without_v; mark = true })).router ≡ record changes { now = 7301; table = empty; version = None; link = Ended ends.Expired }
+unfolding ticks_at clocked
+expires_answering = refl
+
+-- A Reset Query stays, and what was not pulled of it.
+expires_asked_all : (called (Ticks 7301) (record holds_v { mark = true; link = Asked AskReset; out = reset_bytes })).router
+    ≡ record holds_v { now = 7301; table = empty; version = None; link = Asked AskReset; out = reset_bytes }
+unfolding ticks_at clocked
+expires_asked_all = refl
+
+-- Its answer goes on, and commits.
+expires_answering_all : (called (Receives 7301 None []) (record holds_v { link = Answering v_read })).router ≡ record holds_v { now = 7301; table = empty; version = None; link = Answering v_read }
+unfolding receives clocked
+expires_answering_all = refl
+
+commits_after_expiry : (called (Receives 7301 None (end_bytes 5)) (record holds_v { link = Answering v_read })).router ≡ record holds_v { now = 7301; version = Some (committed_at 7301); due = Some 10901 }
+unfolding receives router_byte clocked on_unit judge as_read
+commits_after_expiry = with_table (record holds_v { now = 7301; version = Some (committed_at 7301); due = Some 10901 })
+
+-- An idle link that is due asks for all then.
+expires_idle : (called (Receives 7301 None []) holds_v).router ≡ record holds_v { now = 7301; table = empty; version = None }
+unfolding receives clocked
+expires_idle = refl
+
+expires_due : (called (Ticks 7301) holds_v).router ≡ record holds_v { now = 7301; table = empty; version = None; link = Asked AskReset; out = reset_bytes }
+unfolding ticks_at clocked
+expires_due = refl
+
+-- A link that has ended keeps its end and its report.
+expires_ended : (called (Ticks 7301) (record changes { mark = true; link = Ended (ends.Reported 7); out = sent (report 7 v_bytes) })).router
+    ≡ record changes { now = 7301; table = empty; version = None; link = Ended (ends.Reported 7); out = sent (report 7 v_bytes) }
+unfolding ticks_at clocked
+expires_ended = refl
+
+-- Bytes that are no unit
+
+-- another version before agreement, and after it
+abbrev version_0 : List ℕ
+version_0 = 0 ∷ 0x03 ∷ 0x12 ∷ 0x34 ∷ 0 ∷ 0 ∷ 0 ∷ 0x08 ∷ []
+
+other_version : (called (Receives 100 None version_0) asked_all).router ≡ record asked_all { link = Ended (ends.Reported 4); out = report_bytes 4 version_0 }
+unfolding receives router_byte clocked judge as_read
+other_version = refl
+
+other_version_later : (called (Receives 100 None version_0) asks_since).router ≡ record asks_since { link = Ended (ends.Reported 8); out = report_bytes 8 version_0 }
+unfolding receives router_byte clocked judge as_read
+other_version_later = refl
+
+-- A notify of another version is read before agreement alone, and with length 12 alone.
+notify_later : (called (Receives 100 None (0 ∷ drop 1 (notify_bytes 0x1234 6))) holds_v).router ≡ record holds_v { link = Ended (ends.Reported 8); out = report_bytes 8 (0 ∷ 0 ∷ 0x12 ∷ 0x34 ∷ 0 ∷ 0 ∷ 0 ∷ 0x0c ∷ []) }
+unfolding receives router_byte clocked judge as_read
+notify_later = refl
+
+long_notify : (called (Receives 100 None (0 ∷ 0 ∷ 0x12 ∷ 0x34 ∷ 0 ∷ 0 ∷ 0 ∷ 0x0d ∷ [])) asked_all).router ≡ record asked_all { link = Ended (ends.Reported 4); out = report_bytes 4 (0 ∷ 0 ∷ 0x12 ∷ 0x34 ∷ 0 ∷ 0 ∷ 0 ∷ 0x0d ∷ []) }
+unfolding receives router_byte clocked judge as_read
+long_notify = refl
+
+-- types that are none
+type_5 : (called (Receives 100 None (0x01 ∷ 0x05 ∷ 0 ∷ 0 ∷ 0 ∷ 0 ∷ 0 ∷ 0x08 ∷ [])) changes).router ≡ record changes { link = Ended (ends.Reported 5); out = report_bytes 5 (0x01 ∷ 0x05 ∷ 0 ∷ 0 ∷ 0 ∷ 0 ∷ 0 ∷ 0x08 ∷ []) }
+unfolding receives router_byte clocked judge as_read
+type_5 = refl
+
+type_11 : (called (Receives 100 None (0x01 ∷ 0x0b ∷ 0 ∷ 0 ∷ 0 ∷ 0 ∷ 0 ∷ 0x08 ∷ [])) holds_v).router ≡ record holds_v { link = Ended (ends.Reported 5); out = report_bytes 5 (0x01 ∷ 0x0b ∷ 0 ∷ 0 ∷ 0 ∷ 0 ∷ 0 ∷ 0x08 ∷ []) }
+unfolding receives router_byte clocked judge as_read
+type_11 = refl
+
+-- a unit of 4,097 bytes
+too_long : (called (Receives 100 None (0x01 ∷ 0x09 ∷ 0x01 ∷ 0 ∷ 0 ∷ 0 ∷ 0x10 ∷ 0x01 ∷ [])) changes).router ≡ record changes { link = Ended (ends.Reported 0); out = report_bytes 0 (0x01 ∷ 0x09 ∷ 0x01 ∷ 0 ∷ 0 ∷ 0 ∷ 0x10 ∷ 0x01 ∷ []) }
+unfolding receives router_byte clocked judge as_read
+too_long = refl
+
+-- a prefix of length 24 with maximum 23, of which the whole is copied, as it came
+abbrev bad_record : List ℕ
+bad_record = 0x01 ∷ 0x04 ∷ 0xff ∷ 0 ∷ 0 ∷ 0 ∷ 0 ∷ 0x14 ∷ 0x81 ∷ 0x18 ∷ 0x17 ∷ 0 ∷ 0xc0 ∷ 0 ∷ 0x02 ∷ 0 ∷ 0 ∷ 0 ∷ 0xfb ∷ 0xf0 ∷ []
+
+maximum_below : (called (Receives 100 None bad_record) changes).router ≡ record changes { link = Ended (ends.Reported 0); out = report_bytes 0 bad_record }
+unfolding receives router_byte clocked judge as_read
+maximum_below = refl
+
+-- Nothing is sent on an Error Report: another version, and lengths that do not add up
+report_of_other_version : (called (Receives 100 None (0 ∷ 0x0a ∷ 0 ∷ 0 ∷ 0 ∷ 0 ∷ 0 ∷ 0x10 ∷ [])) asked_all).router ≡ record asked_all { link = Ended ends.Malformed }
+unfolding receives router_byte clocked judge as_read
+report_of_other_version = refl
+
+report_of_bad_lengths : (called (Receives 100 None (0x01 ∷ 0x0a ∷ 0 ∷ 0 ∷ 0 ∷ 0 ∷ 0 ∷ 0x10 ∷ 0 ∷ 0 ∷ 0 ∷ 0x01 ∷ 0 ∷ 0 ∷ 0 ∷ 0 ∷ [])) changes).router ≡ record changes { link = Ended ends.Malformed }
+unfolding receives router_byte clocked judge as_read is_utf8 chars
+report_of_bad_lengths = refl
+
+-- The calls on a connection
+
+-- `connect` closes a connection that is open, so that retry counts from then, and asks.
+connects_anew : (called (Connects 1000) (record changes { version = Some slow; link = Answering without_v; held = take 19 v_bytes })).router
+    ≡ record holds_v { version = Some slow; now = 1000; due = Some 1900; agreed = false; session = None; link = Asked (AskSerial 0x1234 5); out = serial_bytes }
+unfolding connects_at clocked
+connects_anew = refl
+
+connects_idle : (called (Connects 1000) (record holds_v { version = Some slow })).router
+    ≡ record holds_v { version = Some slow; now = 1000; due = Some 1900; agreed = false; session = None; link = Asked (AskSerial 0x1234 5); out = serial_bytes }
+unfolding connects_at clocked
+connects_idle = refl
+
+-- One that is closed leaves when to ask.
+connects_closed : (called (Connects 1000) closed_v).router ≡ record closed_v { now = 1000; link = Asked (AskSerial 0x1234 5); out = serial_bytes }
+unfolding connects_at clocked
+connects_closed = refl
+
+-- What has expired is asked for from nothing, and its retry does not count.
+connects_expired : (called (Connects 86501) (record holds_v { version = Some slow; mark = true })).router
+    ≡ record holds_v { version = None; table = empty; now = 86501; due = Some 87101; agreed = false; session = None; link = Asked AskReset; out = reset_bytes }
+unfolding connects_at clocked
+connects_expired = refl
+
+-- On a link that is closed already only the clock acts.
+closes_again : (called (Closes 1000) closed_v).router ≡ record closed_v { now = 1000 }
+unfolding closed_at clocked
+closes_again = refl
+
+closes_again_late : (called (Closes 7301) closed_v).router ≡ record closed_v { now = 7301; table = empty; version = None }
+unfolding closed_at clocked
+closes_again_late = refl
+
+-- A link that has ended is closed like another; what was not pulled is dropped.
+closes_ended : (called (Closes 1000) (record changes { version = Some slow; mark = true; link = Ended (ends.Reported 7); out = sent (report 7 v_bytes) })).router
+    ≡ record holds_v { version = Some slow; mark = true; now = 1000; due = Some 1900; agreed = false; session = None; link = Closed }
+unfolding closed_at clocked
+closes_ended = refl
