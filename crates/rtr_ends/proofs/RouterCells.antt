@@ -2,8 +2,8 @@
 use Rattle.std.proofs.Common.{◌≡◌, ℕ, Bool, true, false, not, ◌||◌, ◌&&◌, ◌==◌, nat_lt, ◌+◌, List, [], ◌∷◌, ◌++◌, length, Option, Some, None, if◌then◌else◌, refl, ap, ◌∙◌, take, drop}
 use Rattle.std.specs.Str.{chars, is_utf8}
 use Rattle.prefixes.specs.Payload.{Payload}
-use Rattle.vrps.specs.VrpSet.{VrpSet, empty, has, size}
-use Rattle.vrps.proofs.SetLaws.{has-empty}
+use Rattle.vrps.specs.VrpSet.{VrpSet, empty, has, set_of, size, without}
+use Rattle.vrps.proofs.SetLaws.{same_set, has-union, has-without}
 use Rattle.rtr_pdu.specs.Judging.{judge}
 use Rattle.rtr_pdu.specs.Payloads.{Key, Report}
 use Rattle.rtr_pdu.specs.Stream.{as_read}
@@ -11,8 +11,8 @@ use Rattle.rtr_pdu.specs.declared.unit.Unit.{Unit}
 use Rattle.rtr_pdu.specs.declared.unit.Unit.TheVariants.{SerialNotify, SerialQuery, ResetQuery, CacheResponse, Prefix, EndOfData, CacheReset, RouterKey, ErrorReport}
 use Rattle.rtr_ends.specs.declared.link.End.TheVariants as ends
 use Rattle.rtr_ends.specs.Answer.{report, sent}
-use Rattle.rtr_ends.specs.Router.{Link, Router, Staged, Stays, Wrong, Over, Closed, Idle, Asked, Answering, Ended, emptied, told, told_off, on_unit, router_byte, receives, clocked, connects_at, closed_at, ticks_at, called, Connects, Receives, Closes, Ticks, stage}
-use Rattle.rtr_ends.specs.Transcript.{Begun, Committed, Question, AskReset, AskSerial, is_listed, is_serial, led_to, base_of, sum_of, retry_of}
+use Rattle.rtr_ends.specs.Router.{Link, Router, Noted, Staged, Stays, Wrong, Over, Closed, Idle, Asked, Answering, Ended, emptied, told, told_off, on_unit, router_byte, receives, clocked, connects_at, closed_at, ticks_at, asks, called, Connects, Receives, Closes, AsksNow, Ticks, stage, staged, is_staged, lacks, asked_by}
+use Rattle.rtr_ends.specs.Transcript.{Reads, Begun, Committed, Question, AskReset, AskSerial, is_listed, is_serial, led_to, base_of, sum_of, retry_of}
 use Rattle.rtr_ends.specs.Timing.{Intervals, intervals}
 use Rattle.rtr_ends.proofs.Rows.{v, w, reset_bytes, serial_bytes, response_bytes, v_bytes, end_bytes}
 use Rattle.rtr_ends.proofs.TableLaws.{led_from_empty}
@@ -109,6 +109,11 @@ of_old_session = refl
 wakes_empty : (called (Receives 100 None (notify_bytes 0x1234 6)) (record asked_all { agreed = true; link = Idle })).router ≡ record asked_all { agreed = true; link = Asked AskReset; out = reset_bytes }
 unfolding receives router_byte clocked on_unit judge as_read
 wakes_empty = refl
+
+-- The committed session after a Serial Query: the answer begins.
+begins_change : (called (Receives 100 None response_bytes) asks_since).router ≡ changes
+unfolding receives router_byte clocked on_unit judge as_read
+begins_change = refl
 
 -- Router Keys and Error Reports
 
@@ -404,3 +409,91 @@ closes_ended : (called (Closes 1000) (record changes { version = Some slow; mark
     ≡ record holds_v { version = Some slow; mark = true; now = 1000; due = Some 1900; agreed = false; session = None; link = Closed }
 unfolding closed_at clocked
 closes_ended = refl
+
+-- `ask` on an idle link chooses as `connect` does.
+asks_now : (called AsksNow (record holds_v { mark = false })).router ≡ record holds_v { link = Asked (AskSerial 0x1234 5); out = serial_bytes }
+unfolding asks
+asks_now = refl
+
+asks_now_by_mark : (called AsksNow (record holds_v { mark = true })).router ≡ record holds_v { mark = true; link = Asked AskReset; out = reset_bytes }
+unfolding asks
+asks_now_by_mark = refl
+
+asks_closed : (called AsksNow closed_v).router ≡ closed_v
+unfolding asks
+asks_closed = refl
+
+-- What is consumed
+
+-- what is left of a piece, and the router after it
+abbrev Leaves : ℕ → List ℕ → Router → List ℕ → Router → Type 0
+Leaves now piece r rest after = ((receives now None piece r).rest ≡ rest) × ((receives now None piece r).machine.router ≡ after)
+
+-- Nothing is consumed where bytes are to be pulled, or the link is closed, or has ended. The clock is judged all the same.
+not_pulled : Leaves 100 response_bytes (record asked_all { out = drop 7 reset_bytes }) response_bytes (record asked_all { out = drop 7 reset_bytes })
+unfolding receives clocked
+not_pulled = (refl, refl)
+
+none_when_closed : Leaves 7301 response_bytes closed_v response_bytes (record closed_v { now = 7301; table = empty; version = None })
+unfolding receives clocked
+none_when_closed = (refl, refl)
+
+none_when_ended : Leaves 100 v_bytes (record changes { link = Ended (ends.Told 1) }) v_bytes (record changes { link = Ended (ends.Told 1) })
+unfolding receives clocked
+none_when_ended = (refl, refl)
+
+-- What follows a unit that makes it ask, or that ends the link, is left.
+stops_at_asking : Leaves 100 (notify_bytes 0x1234 6 ++ response_bytes) holds_v response_bytes (record holds_v { link = Asked (AskSerial 0x1234 5); out = serial_bytes })
+unfolding receives router_byte clocked on_unit judge as_read
+stops_at_asking = (refl, refl)
+
+stops_at_end : Leaves 100 (sent CacheReset ++ v_bytes) changes v_bytes (record changes { link = Ended (ends.Reported 0); out = report_bytes 0 (sent CacheReset) })
+unfolding receives router_byte clocked on_unit judge as_read
+stops_at_end = (refl, refl)
+
+-- Other units are consumed one after the other.
+goes_on : Leaves 100 (notify_bytes 0x1234 5 ++ notify_bytes 0x1234 5 ++ take 3 response_bytes) holds_v [] (record holds_v { held = take 3 response_bytes })
+unfolding receives router_byte clocked on_unit judge as_read
+goes_on = (refl, refl)
+
+-- Want of memory
+
+lacks_at_response : (called (Receives 100 (Some 0) response_bytes) asked_all).router ≡ record asked_all { link = Ended ends.Memory }
+unfolding receives router_byte clocked on_unit judge as_read
+lacks_at_response = refl
+
+-- A record that acts wrongly or is too many is judged before memory is asked for.
+abbrev by_stage_wanting : Payload → Bool → Router → Staged → Router
+by_stage_wanting x announce r st =
+    let k : Router = staged (Prefix announce x) st r in
+    let n : Noted = if is_staged st && true then lacks (Prefix announce x) r else record { router = k; items = asked_by k.link k.out ++ Reads (Prefix announce x) ∷ [] } in
+    n.router
+
+lacks_at_record : (called (Receives 100 (Some 0) v_bytes) (answering nothing_yet)).router ≡ record (answering nothing_yet) { link = Ended ends.Memory }
+unfolding receives router_byte clocked on_unit judge as_read
+lacks_at_record = ap (by_stage_wanting v true (answering nothing_yet)) stage_v
+
+wrong_before_memory : (called (Receives 100 (Some 0) v_bytes) (answering v_read)).router ≡ record (answering v_read) { mark = true; link = Ended (ends.Reported 7); out = sent (report 7 v_bytes) }
+unfolding receives router_byte clocked on_unit judge as_read
+wrong_before_memory = ap (by_stage_wanting v true (answering v_read)) (duplicate_of_answer empty v_read v refl)
+
+too_many_before_memory : (a : Begun) → stage (base_of a.question just_v) a true v ≡ Over → (called (Receives 100 (Some 0) v_bytes) (record changes { link = Answering a })).router ≡ record changes { link = Ended ends.TooMany }
+unfolding receives router_byte clocked on_unit judge as_read
+too_many_before_memory a h = ap (by_stage_wanting v true (record changes { link = Answering a })) h
+
+-- A commit of a change: v goes and w comes.
+
+and_not : (b : Bool) → (b && not b) ≡ false
+and_not true = refl
+and_not false = refl
+
+v_to_w : led_to just_v (v ∷ []) (w ∷ []) ≡ set_of (w ∷ [])
+unfolding led_to
+v_to_w = same_set _ _ (λ q.
+    has-union (without just_v just_v) (set_of (w ∷ [])) q
+    ∙ ap (λ b. b || has (set_of (w ∷ [])) q) (has-without just_v just_v q ∙ and_not (has just_v q)))
+
+commits_change : (called (Receives 100 None (end_bytes 6)) (record changes { link = Answering (record without_v { announced = w ∷ [] }) })).router
+    ≡ record holds_v { table = set_of (w ∷ []); version = Some (record (committed_at 100) { serial = 6 }) }
+unfolding receives router_byte clocked on_unit judge as_read
+commits_change = ap (λ s. record holds_v { table = s; version = Some (record (committed_at 100) { serial = 6 }) }) v_to_w
