@@ -1,21 +1,24 @@
 -- What a router does at each unit on each link, and at the clock, worked out.
-use Rattle.std.proofs.Common.{◌≡◌, ℕ, Bool, true, false, not, ◌||◌, ◌&&◌, ◌==◌, nat_lt, ◌+◌, List, [], ◌∷◌, ◌++◌, length, Option, Some, None, if◌then◌else◌, refl, ap, ◌∙◌, take, drop}
+use Rattle.std.proofs.Common.{◌≡◌, ◌⊎◌, inl, inr, subst, ℕ, zero, suc, Bool, true, false, not, ◌||◌, ◌&&◌, ◌==◌, nat_lt, ◌+◌, List, [], ◌∷◌, ◌++◌, length, Option, Some, None, if◌then◌else◌, refl, ap, sym, ◌∙◌, take, drop, append_assoc, append-nil}
+use Rattle.std.proofs.lemmas.Bool.{and_parts}
 use Rattle.std.specs.Str.{chars, is_utf8}
 use Rattle.prefixes.specs.Payload.{Payload}
 use Rattle.vrps.specs.VrpSet.{VrpSet, empty, has, set_of, size, without}
 use Rattle.vrps.proofs.SetLaws.{same_set, has-union, has-without}
-use Rattle.rtr_pdu.specs.Judging.{judge}
+use Rattle.rtr_pdu.specs.Judging.{Judgement, Begins, Whole, Faulty, judge}
 use Rattle.rtr_pdu.specs.Payloads.{Key, Report}
 use Rattle.rtr_pdu.specs.Stream.{as_read}
 use Rattle.rtr_pdu.specs.declared.unit.Unit.{Unit}
 use Rattle.rtr_pdu.specs.declared.unit.Unit.TheVariants.{SerialNotify, SerialQuery, ResetQuery, CacheResponse, Prefix, EndOfData, CacheReset, RouterKey, ErrorReport}
 use Rattle.rtr_ends.specs.declared.link.End.TheVariants as ends
 use Rattle.rtr_ends.specs.Answer.{report, sent}
-use Rattle.rtr_ends.specs.Router.{Link, Router, Noted, Staged, Stays, Wrong, Over, Closed, Idle, Asked, Answering, Ended, emptied, told, told_off, on_unit, router_byte, receives, clocked, connects_at, closed_at, ticks_at, asks, called, Connects, Receives, Closes, AsksNow, Ticks, stage, staged, is_staged, lacks, asked_by}
-use Rattle.rtr_ends.specs.Transcript.{Reads, Begun, Committed, Question, AskReset, AskSerial, is_listed, is_serial, led_to, base_of, sum_of, retry_of}
+use Rattle.rtr_ends.specs.Feeding.{Fed, feed}
+use Rattle.rtr_ends.specs.Router.{Link, Router, Noted, Receiving, with_judged, with_read, router_stops, Staged, Stays, Wrong, Over, Closed, Idle, Asked, Answering, Ended, emptied, told, told_off, on_unit, router_byte, receives, clocked, connects_at, closed_at, ticks_at, asks, called, Connects, Receives, Closes, AsksNow, Ticks, stage, staged, is_staged, lacks, asked_by}
+use Rattle.rtr_ends.specs.Transcript.{Item, At, Reads, Begun, Committed, Question, AskReset, AskSerial, is_listed, is_serial, led_to, base_of, sum_of, retry_of}
 use Rattle.rtr_ends.specs.Timing.{Intervals, intervals}
+use Rattle.rtr_ends.proofs.FeedingLaws.{feed_on}
 use Rattle.rtr_ends.proofs.Rows.{v, w, reset_bytes, serial_bytes, response_bytes, v_bytes, end_bytes}
-use Rattle.rtr_ends.proofs.TableLaws.{led_from_empty}
+use Rattle.rtr_ends.proofs.TableLaws.{false_true, led_from_empty}
 use Rattle.rtr_ends.proofs.RouterRows.{just_v, asked_all, nothing_yet, answering, by_stage, v_read, stage_v, committed_at, holds_v, closed_v, notify_bytes, asks_since, since_v, changes, has_v, has_not_w}
 
 -- Units that do not belong where they come
@@ -144,7 +147,7 @@ and_false true = refl
 and_false false = refl
 
 ends_told : (q : Question) (code : ℕ) (r : Router) → (code == 2) ≡ false → (code == 0 && is_serial (Some q)) ≡ false → told_off q code r ≡ told code r
-ends_told q code r two zero = λ i. if two i then record r { link = Idle; due = Some (sum_of r.now (retry_of r.version)) } else if zero i then told code (emptied r) else told code r
+ends_told q code r h g = λ i. if h i then record r { link = Idle; due = Some (sum_of r.now (retry_of r.version)) } else if g i then told code (emptied r) else told code r
 
 told_idle : (e : Report) (r : Router) → (e.code == 2) ≡ false → Tells Idle e r r
 unfolding on_unit
@@ -154,10 +157,10 @@ told_reset : (e : Report) (a : Begun) (r : Router) → (e.code == 2) ≡ false �
 unfolding on_unit
 told_reset e a r h = (ends_told AskReset e.code (record r { agreed = true }) h (and_false (e.code == 0)), ends_told AskReset e.code r h (and_false (e.code == 0)))
 
-told_serial : (e : Report) (q : Question) (a : Begun) (r : Router) → (e.code == 2) ≡ false → (e.code == 0) ≡ false → Tells (Asked q) e r (record r { agreed = true }) × Tells (Answering a) e r r
+told_other : (e : Report) (q : Question) (a : Begun) (r : Router) → (e.code == 2) ≡ false → (e.code == 0) ≡ false → Tells (Asked q) e r (record r { agreed = true }) × Tells (Answering a) e r r
 unfolding on_unit
-told_serial e q a r two zero =
-    (ends_told q e.code (record r { agreed = true }) two (ap (λ z. z && is_serial (Some q)) zero), ends_told a.question e.code r two (ap (λ z. z && is_serial (Some a.question)) zero))
+told_other e q a r h g =
+    (ends_told q e.code (record r { agreed = true }) h (ap (λ c. c && is_serial (Some q)) g), ends_told a.question e.code r h (ap (λ c. c && is_serial (Some a.question)) g))
 
 corrupt_answering : (called (Receives 100 None (sent (report 0 serial_bytes))) (record changes { mark = true })).router ≡ record changes { table = empty; version = None; link = Ended (ends.Told 0) }
 unfolding receives router_byte clocked on_unit judge as_read is_utf8 chars
@@ -497,3 +500,148 @@ commits_change : (called (Receives 100 None (end_bytes 6)) (record changes { lin
     ≡ record holds_v { table = set_of (w ∷ []); version = Some (record (committed_at 100) { serial = 6 }) }
 unfolding receives router_byte clocked on_unit judge as_read
 commits_change = ap (λ s. record holds_v { table = s; version = Some (record (committed_at 100) { serial = 6 }) }) v_to_w
+
+-- An answer that is cut
+
+abbrev is_begun : Judgement → Bool
+is_begun Begins = true
+is_begun other = false
+
+begun_so : (j : Judgement) → is_begun j ≡ true → j ≡ Begins
+begun_so Begins h = refl
+begun_so (Whole u) h = false_true h
+begun_so (Faulty fault) h = false_true h
+
+-- Behind the bytes held, each of these leaves the beginning of a unit.
+abbrev all_begin : Bool → List ℕ → List ℕ → Bool
+all_begin any held [] = true
+all_begin any held (b ∷ bytes) = is_begun (judge 1 any (held ++ b ∷ [])) && all_begin any (held ++ b ∷ []) bytes
+
+abbrev holding : Receiving → List ℕ → Receiving
+holding m held = record m { router = record m.router { held = held } }
+
+abbrev fed : Receiving → List ℕ → Fed Receiving
+fed m piece = feed (λ n. router_stops n.router) router_byte m piece
+
+begins_at : (m : Receiving) (b : ℕ) → judge 1 (not m.router.agreed) (m.router.held ++ b ∷ []) ≡ Begins → router_byte m b ≡ holding m (m.router.held ++ b ∷ [])
+unfolding router_byte
+begins_at m b h = ap (λ j. with_judged m (m.router.held ++ b ∷ []) j) h
+
+-- However many of them come, they are held.
+are_held : (m : Receiving) (bytes : List ℕ) (k : ℕ) → router_stops m.router ≡ false → all_begin (not m.router.agreed) m.router.held bytes ≡ true
+    → fed m (take k bytes) ≡ record { machine = holding m (m.router.held ++ take k bytes); rest = [] }
+are_held m bytes zero on h = λ i. record { machine = holding m (sym (append-nil m.router.held) i); rest = [] }
+are_held m [] (suc k) on h = λ i. record { machine = holding m (sym (append-nil m.router.held) i); rest = [] }
+are_held m (b ∷ bytes) (suc k) on h =
+    let parts = and_parts (is_begun (judge 1 (not m.router.agreed) (m.router.held ++ b ∷ []))) (all_begin (not m.router.agreed) (m.router.held ++ b ∷ []) bytes) h in
+    let next : Receiving = holding m (m.router.held ++ b ∷ []) in
+    feed_on (λ n. router_stops n.router) router_byte m next (b ∷ []) (take k bytes)
+        (λ i. elim (on i) [ true ↦ record { machine = m; rest = b ∷ [] } | false ↦ record { machine = begins_at m b (begun_so _ parts.0) i; rest = [] } ])
+    ∙ are_held next bytes k on parts.1
+    ∙ ap (λ held. record { machine = holding m held; rest = [] }) (append_assoc m.router.held (b ∷ []) (take k bytes))
+
+-- What is committed, and the table, are this router's.
+abbrev Keeps : Router → Receiving → Type 0
+Keeps r m = (m.router.version ≡ r.version) × (m.router.table ≡ r.table)
+
+-- So they are after any part of this piece.
+abbrev KeepsAll : Router → Receiving → List ℕ → Type 0
+KeepsAll r m piece = (k : ℕ) → Keeps r (fed m (take k piece)).machine
+
+-- A part of two pieces ends in the first, or in the second.
+take_in : (k : ℕ) (xs ys : List ℕ) → (take k (xs ++ ys) ≡ take k xs) ⊎ ((j : ℕ) × (take k (xs ++ ys) ≡ xs ++ take (suc j) ys))
+take_in zero [] ys = inl refl
+take_in zero (x ∷ xs) ys = inl refl
+take_in (suc k) [] ys = inr (k, refl)
+take_in (suc k) (x ∷ xs) ys = elim (take_in k xs ys) [ inl e ↦ inl (ap (λ zs. x ∷ zs) e) | inr p ↦ inr (p.0, ap (λ zs. x ∷ zs) p.1) ]
+
+take_none : (k : ℕ) → take {A = ℕ} k [] ≡ []
+take_none zero = refl
+take_none (suc k) = refl
+
+keeps_held : (r : Router) (m : Receiving) (bytes : List ℕ) → router_stops m.router ≡ false → all_begin (not m.router.agreed) m.router.held bytes ≡ true → Keeps r m → KeepsAll r m bytes
+keeps_held r m bytes on h keeps k = subst (λ f. Keeps r f.machine) (sym (are_held m bytes k on h)) keeps
+
+-- a unit, of which all but the last byte is held
+keeps_unit : (r : Router) (m n : Receiving) (front : List ℕ) (b : ℕ) → router_stops m.router ≡ false → all_begin (not m.router.agreed) m.router.held front ≡ true
+    → fed m (front ++ b ∷ []) ≡ record { machine = n; rest = [] } → Keeps r m → Keeps r n → KeepsAll r m (front ++ b ∷ [])
+keeps_unit r m n front b on h e before after k = elim (take_in k front (b ∷ [])) [
+  | inl g ↦ subst (λ zs. Keeps r (fed m zs).machine) (sym g) (keeps_held r m front on h before k)
+  | inr p ↦ subst (λ zs. Keeps r (fed m zs).machine) (sym (p.1 ∙ ap (λ zs. front ++ b ∷ zs) (take_none p.0))) (subst (λ f. Keeps r f.machine) (sym e) after)
+]
+
+keeps_on : (r : Router) (m n : Receiving) (xs ys : List ℕ) → fed m xs ≡ record { machine = n; rest = [] } → KeepsAll r m xs → KeepsAll r n ys → KeepsAll r m (xs ++ ys)
+keeps_on r m n xs ys e first second k = elim (take_in k xs ys) [
+  | inl g ↦ subst (λ zs. Keeps r (fed m zs).machine) (sym g) (first k)
+  | inr p ↦ subst (λ zs. Keeps r (fed m zs).machine) (sym p.1) (subst (λ f. Keeps r f.machine) (sym (feed_on (λ x. router_stops x.router) router_byte m n xs (take (suc p.0) ys) e)) (second (suc p.0)))
+]
+
+-- a router in the middle of a piece
+abbrev amid : Router → List Item → Receiving
+amid r items = record { router = r; items = items; wanting = None }
+
+-- after a record
+abbrev after_record : Bool → Payload → Receiving → Staged → Fed Receiving
+after_record announce x m st =
+    let k : Router = staged (Prefix announce x) st m.router in
+    let n : Noted = if is_staged st && false then lacks (Prefix announce x) m.router else record { router = k; items = asked_by k.link k.out ++ Reads (Prefix announce x) ∷ [] } in
+    record { machine = with_read m (Whole (Prefix announce x)) n; rest = [] }
+
+-- An answer of 52 bytes. Cut after any k of the first 51 it commits nothing, and with all it does.
+abbrev answer_bytes : List ℕ
+answer_bytes = response_bytes ++ v_bytes ++ end_bytes 5
+
+abbrev before_v : Receiving
+before_v = amid (answering nothing_yet) (Reads (CacheResponse 0x1234) ∷ At 100 ∷ [])
+
+abbrev after_v : Receiving
+after_v = amid (answering v_read) (Reads (Prefix true v) ∷ before_v.items)
+
+to_v : fed (amid asked_all (At 100 ∷ [])) response_bytes ≡ record { machine = before_v; rest = [] }
+unfolding router_byte on_unit judge as_read
+to_v = refl
+
+over_v : fed before_v v_bytes ≡ record { machine = after_v; rest = [] }
+unfolding router_byte on_unit judge as_read
+over_v = ap (after_record true v before_v) stage_v
+
+cut_anywhere : (k : ℕ) → let r = (called (Receives 100 None (take k (take 51 answer_bytes))) asked_all).router in (r.version ≡ None) × (r.table ≡ empty)
+unfolding receives clocked judge as_read
+cut_anywhere = keeps_on asked_all (amid asked_all (At 100 ∷ [])) before_v response_bytes (v_bytes ++ take 23 (end_bytes 5)) to_v
+    (keeps_unit asked_all (amid asked_all (At 100 ∷ [])) before_v (take 7 response_bytes) 0x08 refl refl to_v (refl, refl) (refl, refl))
+    (keeps_on asked_all before_v after_v v_bytes (take 23 (end_bytes 5)) over_v
+        (keeps_unit asked_all before_v after_v (take 19 v_bytes) 0xf0 refl refl over_v (refl, refl) (refl, refl))
+        (keeps_held asked_all after_v (take 23 (end_bytes 5)) refl refl (refl, refl)))
+
+not_cut : (called (Receives 100 None answer_bytes) asked_all).router ≡ holds_v
+unfolding receives clocked router_byte on_unit judge as_read
+not_cut =
+    ap (λ f. f.machine.router) (feed_on (λ m. router_stops m.router) router_byte (amid asked_all (At 100 ∷ [])) before_v response_bytes (v_bytes ++ end_bytes 5) to_v
+        ∙ feed_on (λ m. router_stops m.router) router_byte before_v after_v v_bytes (end_bytes 5) over_v)
+    ∙ with_table holds_v
+
+-- A change that is cut leaves what was committed before.
+abbrev change_bytes : List ℕ
+change_bytes = response_bytes ++ sent (Prefix false v) ++ end_bytes 6
+
+abbrev before_change : Receiving
+before_change = amid changes (Reads (CacheResponse 0x1234) ∷ At 100 ∷ [])
+
+abbrev after_change : Receiving
+after_change = amid (record changes { link = Answering without_v }) (Reads (Prefix false v) ∷ before_change.items)
+
+to_change : fed (amid asks_since (At 100 ∷ [])) response_bytes ≡ record { machine = before_change; rest = [] }
+unfolding router_byte on_unit judge as_read
+to_change = refl
+
+over_change : fed before_change (sent (Prefix false v)) ≡ record { machine = after_change; rest = [] }
+unfolding router_byte on_unit judge as_read
+over_change = ap (after_record false v before_change) stage_withdrawn
+
+cut_change : (k : ℕ) → let r = (called (Receives 100 None (take k (take 51 change_bytes))) asks_since).router in (r.version ≡ Some (committed_at 100)) × (r.table ≡ just_v)
+unfolding receives clocked judge as_read
+cut_change = keeps_on asks_since (amid asks_since (At 100 ∷ [])) before_change response_bytes (sent (Prefix false v) ++ take 23 (end_bytes 6)) to_change
+    (keeps_unit asks_since (amid asks_since (At 100 ∷ [])) before_change (take 7 response_bytes) 0x08 refl refl to_change (refl, refl) (refl, refl))
+    (keeps_on asks_since before_change after_change (sent (Prefix false v)) (take 23 (end_bytes 6)) over_change
+        (keeps_unit asks_since before_change after_change (take 19 (sent (Prefix false v))) 0xf0 refl refl over_change (refl, refl) (refl, refl))
+        (keeps_held asks_since after_change (take 23 (end_bytes 6)) refl refl (refl, refl)))
