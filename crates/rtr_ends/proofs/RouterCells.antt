@@ -1,5 +1,7 @@
 -- What a router does at each unit on each link, and at the clock, worked out.
-use Rattle.std.proofs.Common.{◌≡◌, ◌⊎◌, inl, inr, subst, ℕ, zero, suc, Bool, true, false, not, ◌||◌, ◌&&◌, ◌==◌, nat_lt, ◌+◌, List, [], ◌∷◌, ◌++◌, length, Option, Some, None, if◌then◌else◌, refl, ap, sym, ◌∙◌, take, drop, append_assoc, append-nil}
+use Rattle.std.proofs.Common.{◌≡◌, ◌⊎◌, inl, inr, subst, ℕ, zero, suc, Bool, true, false, not, ◌||◌, ◌&&◌, ◌==◌, nat_lt, ◌+◌, List, [], ◌∷◌, ◌++◌, length, Some, None, if◌then◌else◌, refl, ap, sym, ◌∙◌, take, drop, append_assoc, append-nil}
+use Rattle.std.proofs.Math.Bool.{and-false, and-not_self, or-true}
+use Rattle.std.proofs.Math.Seq.{take-nil}
 use Rattle.std.proofs.lemmas.Bool.{and_parts}
 use Rattle.std.specs.Str.{chars, is_utf8}
 use Rattle.prefixes.specs.Payload.{Payload}
@@ -9,7 +11,7 @@ use Rattle.rtr_pdu.specs.Judging.{Judgement, Begins, Whole, Faulty, judge}
 use Rattle.rtr_pdu.specs.Payloads.{Key, Report}
 use Rattle.rtr_pdu.specs.Stream.{as_read}
 use Rattle.rtr_pdu.specs.declared.unit.Unit.{Unit}
-use Rattle.rtr_pdu.specs.declared.unit.Unit.TheVariants.{SerialNotify, SerialQuery, ResetQuery, CacheResponse, Prefix, EndOfData, CacheReset, RouterKey, ErrorReport}
+use Rattle.rtr_pdu.specs.declared.unit.Unit.TheVariants.{SerialQuery, ResetQuery, CacheResponse, Prefix, EndOfData, CacheReset, RouterKey, ErrorReport}
 use Rattle.rtr_ends.specs.declared.link.End.TheVariants as ends
 use Rattle.rtr_ends.specs.Answer.{report, sent}
 use Rattle.rtr_ends.specs.Feeding.{Fed, feed}
@@ -113,6 +115,18 @@ wakes_empty : (called (Receives 100 None (notify_bytes 0x1234 6)) (record asked_
 unfolding receives router_byte clocked on_unit judge as_read
 wakes_empty = refl
 
+-- An older serial does not wake it, and serials go on from 2^32 - 1 with 0.
+older_serial : (called (Receives 100 None (notify_bytes 0x1234 4)) holds_v).router ≡ holds_v
+unfolding receives router_byte clocked on_unit judge as_read
+older_serial = refl
+
+abbrev holds_last : Router
+holds_last = record holds_v { version = Some (record (committed_at 100) { serial = 4294967295 }) }
+
+goes_round : (called (Receives 100 None (notify_bytes 0x1234 0)) holds_last).router ≡ record holds_last { link = Asked (AskSerial 0x1234 4294967295); out = sent (SerialQuery 0x1234 4294967295) }
+unfolding receives router_byte clocked on_unit judge as_read
+goes_round = refl
+
 -- The committed session after a Serial Query: the answer begins.
 begins_change : (called (Receives 100 None response_bytes) asks_since).router ≡ changes
 unfolding receives router_byte clocked on_unit judge as_read
@@ -142,10 +156,6 @@ no_data_at_all = refl
 abbrev Tells : Link → Report → Router → Router → Type 0
 Tells link e r after = on_unit link (ErrorReport e) r ≡ record after { link = Ended (ends.Told e.code) }
 
-and_false : (b : Bool) → (b && false) ≡ false
-and_false true = refl
-and_false false = refl
-
 ends_told : (q : Question) (code : ℕ) (r : Router) → (code == 2) ≡ false → (code == 0 && is_serial (Some q)) ≡ false → told_off q code r ≡ told code r
 ends_told q code r h g = λ i. if h i then record r { link = Idle; due = Some (sum_of r.now (retry_of r.version)) } else if g i then told code (emptied r) else told code r
 
@@ -155,7 +165,7 @@ told_idle e r h = λ i. if h i then r else told e.code r
 
 told_reset : (e : Report) (a : Begun) (r : Router) → (e.code == 2) ≡ false → Tells (Asked AskReset) e r (record r { agreed = true }) × Tells (Answering (record a { question = AskReset })) e r r
 unfolding on_unit
-told_reset e a r h = (ends_told AskReset e.code (record r { agreed = true }) h (and_false (e.code == 0)), ends_told AskReset e.code r h (and_false (e.code == 0)))
+told_reset e a r h = (ends_told AskReset e.code (record r { agreed = true }) h (and-false (e.code == 0)), ends_told AskReset e.code r h (and-false (e.code == 0)))
 
 told_other : (e : Report) (q : Question) (a : Begun) (r : Router) → (e.code == 2) ≡ false → (e.code == 0) ≡ false → Tells (Asked q) e r (record r { agreed = true }) × Tells (Answering a) e r r
 unfolding on_unit
@@ -172,10 +182,6 @@ internal_answering = refl
 
 -- Records that act twice, or on what this answer brought. The mark is set, and what is held stays.
 
-or_true : (b : Bool) → (b || true) ≡ true
-or_true true = refl
-or_true false = refl
-
 -- code 7: of the base, whatever was withdrawn of it, or announced by this answer
 duplicate_of_base : (base : VrpSet) (a : Begun) (x : Payload) → has base x ≡ true → stage base a true x ≡ Wrong 7
 duplicate_of_base base a x h = λ i. if h i || is_listed x a.announced then Wrong 7 else if nat_lt 16777215 (size (led_to base a.withdrawn (x ∷ a.announced))) then Over else Stays (record a { announced = x ∷ a.announced })
@@ -183,7 +189,7 @@ duplicate_of_base base a x h = λ i. if h i || is_listed x a.announced then Wron
 duplicate_of_answer : (base : VrpSet) (a : Begun) (x : Payload) → is_listed x a.announced ≡ true → stage base a true x ≡ Wrong 7
 duplicate_of_answer base a x h =
     (λ i. if has base x || h i then Wrong 7 else if nat_lt 16777215 (size (led_to base a.withdrawn (x ∷ a.announced))) then Over else Stays (record a { announced = x ∷ a.announced }))
-    ∙ (λ i. if or_true (has base x) i then Wrong 7 else if nat_lt 16777215 (size (led_to base a.withdrawn (x ∷ a.announced))) then Over else Stays (record a { announced = x ∷ a.announced }))
+    ∙ (λ i. if or-true (has base x) i then Wrong 7 else if nat_lt 16777215 (size (led_to base a.withdrawn (x ∷ a.announced))) then Over else Stays (record a { announced = x ∷ a.announced }))
 
 -- code 6: not of the base, so also what this answer announced, or withdrawn by this answer
 unknown_to_base : (base : VrpSet) (a : Begun) (x : Payload) → has base x ≡ false → stage base a false x ≡ Wrong 6
@@ -192,7 +198,7 @@ unknown_to_base base a x h = λ i. if h i && not (is_listed x a.withdrawn) then 
 withdrawn_before : (base : VrpSet) (a : Begun) (x : Payload) → is_listed x a.withdrawn ≡ true → stage base a false x ≡ Wrong 6
 withdrawn_before base a x h =
     (λ i. if has base x && not (h i) then Stays (record a { withdrawn = x ∷ a.withdrawn }) else Wrong 6)
-    ∙ (λ i. if and_false (has base x) i then Stays (record a { withdrawn = x ∷ a.withdrawn }) else Wrong 6)
+    ∙ (λ i. if and-false (has base x) i then Stays (record a { withdrawn = x ∷ a.withdrawn }) else Wrong 6)
 
 announced_twice : (called (Receives 100 None v_bytes) (answering v_read)).router ≡ record (answering v_read) { mark = true; link = Ended (ends.Reported 7); out = sent (report 7 v_bytes) }
 unfolding receives router_byte clocked on_unit judge as_read
@@ -273,6 +279,11 @@ intervals_at_bounds = (with_table (holds_with (intervals 1 1 600) 101), with_tab
 intervals_past_bounds : commits_with 86401 7201 599 ≡ holds_with (intervals 86400 7200 600) 86500
 unfolding receives router_byte clocked on_unit judge as_read
 intervals_past_bounds = with_table (holds_with (intervals 86400 7200 600) 86500)
+
+-- The moment of a commit is the greatest one told.
+commits_not_back : (called (Receives 50 None (end_bytes 5)) (answering v_read)).router ≡ holds_v
+unfolding receives router_byte clocked on_unit judge as_read
+commits_not_back = with_table holds_v
 
 -- Sums stop at the greatest moment.
 commits_last : (called (Receives 18446744073709551615 None (end_bytes 5)) (answering v_read)).router
@@ -407,6 +418,11 @@ closes_again_late : (called (Closes 7301) closed_v).router ≡ record closed_v {
 unfolding closed_at clocked
 closes_again_late = refl
 
+-- The clock is judged before the link is closed.
+closes_expired : (called (Closes 86501) (record asks_since { version = Some slow })).router ≡ record asks_since { version = None; table = empty; now = 86501; due = Some 87101; agreed = false; session = None; link = Closed }
+unfolding closed_at clocked
+closes_expired = refl
+
 -- A link that has ended is closed like another; what was not pulled is dropped.
 closes_ended : (called (Closes 1000) (record changes { version = Some slow; mark = true; link = Ended (ends.Reported 7); out = sent (report 7 v_bytes) })).router
     ≡ record holds_v { version = Some slow; mark = true; now = 1000; due = Some 1900; agreed = false; session = None; link = Closed }
@@ -444,6 +460,10 @@ none_when_closed = (refl, refl)
 none_when_ended : Leaves 100 v_bytes (record changes { link = Ended (ends.Told 1) }) v_bytes (record changes { link = Ended (ends.Told 1) })
 unfolding receives clocked
 none_when_ended = (refl, refl)
+
+none_after_expiry : Leaves 7301 (end_bytes 6) changes (end_bytes 6) (record changes { now = 7301; table = empty; version = None; link = Ended ends.Expired })
+unfolding receives clocked
+none_after_expiry = (refl, refl)
 
 -- What follows a unit that makes it ask, or that ends the link, is left.
 stops_at_asking : Leaves 100 (notify_bytes 0x1234 6 ++ response_bytes) holds_v response_bytes (record holds_v { link = Asked (AskSerial 0x1234 5); out = serial_bytes })
@@ -486,15 +506,11 @@ too_many_before_memory a h = ap (by_stage_wanting v true (record changes { link 
 
 -- A commit of a change: v goes and w comes.
 
-and_not : (b : Bool) → (b && not b) ≡ false
-and_not true = refl
-and_not false = refl
-
 v_to_w : led_to just_v (v ∷ []) (w ∷ []) ≡ set_of (w ∷ [])
 unfolding led_to
 v_to_w = same_set _ _ (λ q.
     has-union (without just_v just_v) (set_of (w ∷ [])) q
-    ∙ ap (λ b. b || has (set_of (w ∷ [])) q) (has-without just_v just_v q ∙ and_not (has just_v q)))
+    ∙ ap (λ b. b || has (set_of (w ∷ [])) q) (has-without just_v just_v q ∙ and-not_self (has just_v q)))
 
 commits_change : (called (Receives 100 None (end_bytes 6)) (record changes { link = Answering (record without_v { announced = w ∷ [] }) })).router
     ≡ record holds_v { table = set_of (w ∷ []); version = Some (record (committed_at 100) { serial = 6 }) }
@@ -536,7 +552,7 @@ are_held m (b ∷ bytes) (suc k) on h =
     let parts = and_parts (is_begun (judge 1 (not m.router.agreed) (m.router.held ++ b ∷ []))) (all_begin (not m.router.agreed) (m.router.held ++ b ∷ []) bytes) h in
     let next : Receiving = holding m (m.router.held ++ b ∷ []) in
     feed_on (λ n. router_stops n.router) router_byte m next (b ∷ []) (take k bytes)
-        (λ i. elim (on i) [ true ↦ record { machine = m; rest = b ∷ [] } | false ↦ record { machine = begins_at m b (begun_so _ parts.0) i; rest = [] } ])
+    (λ i. elim (on i) [ true ↦ record { machine = m; rest = b ∷ [] } | false ↦ record { machine = begins_at m b (begun_so _ parts.0) i; rest = [] } ])
     ∙ are_held next bytes k on parts.1
     ∙ ap (λ held. record { machine = holding m held; rest = [] }) (append_assoc m.router.held (b ∷ []) (take k bytes))
 
@@ -555,10 +571,6 @@ take_in zero (x ∷ xs) ys = inl refl
 take_in (suc k) [] ys = inr (k, refl)
 take_in (suc k) (x ∷ xs) ys = elim (take_in k xs ys) [ inl e ↦ inl (ap (λ zs. x ∷ zs) e) | inr p ↦ inr (p.0, ap (λ zs. x ∷ zs) p.1) ]
 
-take_none : (k : ℕ) → take {A = ℕ} k [] ≡ []
-take_none zero = refl
-take_none (suc k) = refl
-
 keeps_held : (r : Router) (m : Receiving) (bytes : List ℕ) → router_stops m.router ≡ false → all_begin (not m.router.agreed) m.router.held bytes ≡ true → Keeps r m → KeepsAll r m bytes
 keeps_held r m bytes on h keeps k = subst (λ f. Keeps r f.machine) (sym (are_held m bytes k on h)) keeps
 
@@ -567,7 +579,7 @@ keeps_unit : (r : Router) (m n : Receiving) (front : List ℕ) (b : ℕ) → rou
     → fed m (front ++ b ∷ []) ≡ record { machine = n; rest = [] } → Keeps r m → Keeps r n → KeepsAll r m (front ++ b ∷ [])
 keeps_unit r m n front b on h e before after k = elim (take_in k front (b ∷ [])) [
   | inl g ↦ subst (λ zs. Keeps r (fed m zs).machine) (sym g) (keeps_held r m front on h before k)
-  | inr p ↦ subst (λ zs. Keeps r (fed m zs).machine) (sym (p.1 ∙ ap (λ zs. front ++ b ∷ zs) (take_none p.0))) (subst (λ f. Keeps r f.machine) (sym e) after)
+  | inr p ↦ subst (λ zs. Keeps r (fed m zs).machine) (sym (p.1 ∙ ap (λ zs. front ++ b ∷ zs) (take-nil p.0))) (subst (λ f. Keeps r f.machine) (sym e) after)
 ]
 
 keeps_on : (r : Router) (m n : Receiving) (xs ys : List ℕ) → fed m xs ≡ record { machine = n; rest = [] } → KeepsAll r m xs → KeepsAll r n ys → KeepsAll r m (xs ++ ys)
@@ -610,14 +622,14 @@ unfolding receives clocked judge as_read
 cut_anywhere = keeps_on asked_all (amid asked_all (At 100 ∷ [])) before_v response_bytes (v_bytes ++ take 23 (end_bytes 5)) to_v
     (keeps_unit asked_all (amid asked_all (At 100 ∷ [])) before_v (take 7 response_bytes) 0x08 refl refl to_v (refl, refl) (refl, refl))
     (keeps_on asked_all before_v after_v v_bytes (take 23 (end_bytes 5)) over_v
-        (keeps_unit asked_all before_v after_v (take 19 v_bytes) 0xf0 refl refl over_v (refl, refl) (refl, refl))
-        (keeps_held asked_all after_v (take 23 (end_bytes 5)) refl refl (refl, refl)))
+    (keeps_unit asked_all before_v after_v (take 19 v_bytes) 0xf0 refl refl over_v (refl, refl) (refl, refl))
+    (keeps_held asked_all after_v (take 23 (end_bytes 5)) refl refl (refl, refl)))
 
 not_cut : (called (Receives 100 None answer_bytes) asked_all).router ≡ holds_v
 unfolding receives clocked router_byte on_unit judge as_read
 not_cut =
     ap (λ f. f.machine.router) (feed_on (λ m. router_stops m.router) router_byte (amid asked_all (At 100 ∷ [])) before_v response_bytes (v_bytes ++ end_bytes 5) to_v
-        ∙ feed_on (λ m. router_stops m.router) router_byte before_v after_v v_bytes (end_bytes 5) over_v)
+    ∙ feed_on (λ m. router_stops m.router) router_byte before_v after_v v_bytes (end_bytes 5) over_v)
     ∙ with_table holds_v
 
 -- A change that is cut leaves what was committed before.
@@ -643,5 +655,5 @@ unfolding receives clocked judge as_read
 cut_change = keeps_on asks_since (amid asks_since (At 100 ∷ [])) before_change response_bytes (sent (Prefix false v) ++ take 23 (end_bytes 6)) to_change
     (keeps_unit asks_since (amid asks_since (At 100 ∷ [])) before_change (take 7 response_bytes) 0x08 refl refl to_change (refl, refl) (refl, refl))
     (keeps_on asks_since before_change after_change (sent (Prefix false v)) (take 23 (end_bytes 6)) over_change
-        (keeps_unit asks_since before_change after_change (take 19 (sent (Prefix false v))) 0xf0 refl refl over_change (refl, refl) (refl, refl))
-        (keeps_held asks_since after_change (take 23 (end_bytes 6)) refl refl (refl, refl)))
+    (keeps_unit asks_since before_change after_change (take 19 (sent (Prefix false v))) 0xf0 refl refl over_change (refl, refl) (refl, refl))
+    (keeps_held asks_since after_change (take 23 (end_bytes 6)) refl refl (refl, refl)))
