@@ -6,7 +6,7 @@ use Rattle.std.proofs.lemmas.Bool.{and_parts}
 use Rattle.std.specs.Str.{chars, is_utf8}
 use Rattle.prefixes.specs.Payload.{Payload}
 use Rattle.vrps.specs.VrpSet.{VrpSet, empty, has, set_of, size, without}
-use Rattle.vrps.proofs.SetLaws.{same_set, has-union, has-without}
+use Rattle.vrps.proofs.SetLaws.{same_set, has-empty, has-union, has-without, size-set_of}
 use Rattle.rtr_pdu.specs.Judging.{Judgement, Begins, Whole, Faulty, judge}
 use Rattle.rtr_pdu.specs.Payloads.{Key, Report}
 use Rattle.rtr_pdu.specs.Stream.{as_read}
@@ -19,7 +19,7 @@ use Rattle.rtr_ends.specs.Router.{Link, Router, Noted, Receiving, with_judged, w
 use Rattle.rtr_ends.specs.Transcript.{Item, At, Reads, Begun, Committed, Question, AskReset, AskSerial, is_listed, is_serial, led_to, base_of, sum_of, retry_of}
 use Rattle.rtr_ends.specs.Timing.{Intervals, intervals}
 use Rattle.rtr_ends.proofs.FeedingLaws.{feed_on}
-use Rattle.rtr_ends.proofs.Rows.{v, w, reset_bytes, serial_bytes, response_bytes, v_bytes, end_bytes}
+use Rattle.rtr_ends.proofs.Rows.{v, w, v_ascends, reset_bytes, serial_bytes, response_bytes, v_bytes, end_bytes}
 use Rattle.rtr_ends.proofs.TableLaws.{false_true, led_from_empty}
 use Rattle.rtr_ends.proofs.RouterRows.{just_v, asked_all, nothing_yet, answering, by_stage, v_read, stage_v, committed_at, holds_v, closed_v, notify_bytes, asks_since, since_v, changes, has_v, has_not_w}
 
@@ -29,28 +29,29 @@ use Rattle.rtr_ends.proofs.RouterRows.{just_v, asked_all, nothing_yet, answering
 abbrev Rejects : Link → Unit → Router → Type 0
 Rejects link u r = on_unit link u r ≡ record r { link = Ended (ends.Reported 0); out = sent (report 0 (sent u)) }
 
-abbrev RejectsQueries : Link → Router → Type 0
-RejectsQueries link r = ((session serial : ℕ) → Rejects link (SerialQuery session serial) r) × Rejects link ResetQuery r
-
 idle_rejects : (r : Router) (announce : Bool) (x : Payload) (key : Key) (session serial refresh retry expire : ℕ)
     → Rejects Idle (CacheResponse session) r × Rejects Idle (Prefix announce x) r × Rejects Idle (RouterKey key) r
-    × Rejects Idle (EndOfData session serial refresh retry expire) r × Rejects Idle CacheReset r × RejectsQueries Idle r
+    × Rejects Idle (EndOfData session serial refresh retry expire) r × Rejects Idle CacheReset r
+    × Rejects Idle (SerialQuery session serial) r × Rejects Idle ResetQuery r
 unfolding on_unit
-idle_rejects r announce x key session serial refresh retry expire = (refl, refl, refl, refl, refl, ((λ a b. refl), refl))
+idle_rejects r announce x key session serial refresh retry expire = (refl, refl, refl, refl, refl, refl, refl)
 
 asked_rejects : (r : Router) (q : Question) (announce : Bool) (x : Payload) (key : Key) (session serial refresh retry expire : ℕ)
     → Rejects (Asked q) (Prefix announce x) r × Rejects (Asked q) (RouterKey key) r
-    × Rejects (Asked q) (EndOfData session serial refresh retry expire) r × RejectsQueries (Asked q) r
+    × Rejects (Asked q) (EndOfData session serial refresh retry expire) r
+    × Rejects (Asked q) (SerialQuery session serial) r × Rejects (Asked q) ResetQuery r
 unfolding on_unit
-asked_rejects r q announce x key session serial refresh retry expire = (refl, refl, refl, ((λ a b. refl), refl))
+asked_rejects r q announce x key session serial refresh retry expire = (refl, refl, refl, refl, refl)
 
 reset_after_reset : (r : Router) → Rejects (Asked AskReset) CacheReset r
 unfolding on_unit
 reset_after_reset r = refl
 
-answering_rejects : (r : Router) (a : Begun) (session : ℕ) → Rejects (Answering a) (CacheResponse session) r × Rejects (Answering a) CacheReset r × RejectsQueries (Answering a) r
+answering_rejects : (r : Router) (a : Begun) (session serial : ℕ)
+    → Rejects (Answering a) (CacheResponse session) r × Rejects (Answering a) CacheReset r
+    × Rejects (Answering a) (SerialQuery session serial) r × Rejects (Answering a) ResetQuery r
 unfolding on_unit
-answering_rejects r a session = (refl, refl, ((λ s t. refl), refl))
+answering_rejects r a session serial = (refl, refl, refl, refl)
 
 -- a report with this code that copies these bytes, at most 239
 abbrev report_bytes : ℕ → List ℕ → List ℕ
@@ -229,6 +230,19 @@ stage_withdrawn = λ i. if has_v i && true then Stays without_v else Wrong 6
 withdrawn_v : (called (Receives 100 None (sent (Prefix false v))) changes).router ≡ record changes { link = Answering without_v }
 unfolding receives router_byte clocked on_unit judge as_read
 withdrawn_v = ap (λ st. (by_stage 100 v false changes st).router) stage_withdrawn
+
+-- The base of an answer to a Reset Query is empty, whatever is committed.
+stage_anew : stage empty renews true v ≡ Stays (record renews { announced = v ∷ [] })
+stage_anew = λ i. if has-empty v i || false then Wrong 7 else if nat_lt 16777215 ((ap size (led_from_empty (v ∷ [])) ∙ size-set_of (v ∷ []) v_ascends) i) then Over else Stays (record renews { announced = v ∷ [] })
+
+announced_anew : (called (Receives 100 None v_bytes) (record holds_v { link = Answering renews })).router ≡ record holds_v { link = Answering (record renews { announced = v ∷ [] }) }
+unfolding receives router_byte clocked on_unit judge as_read
+announced_anew = ap (λ st. (by_stage 100 v true (record holds_v { link = Answering renews }) st).router) stage_anew
+
+commits_anew : (called (Receives 200 None (sent (EndOfData 0x2222 9 3600 600 7200))) (record holds_v { link = Answering (record renews { announced = w ∷ [] }) })).router
+    ≡ record holds_v { table = set_of (w ∷ []); version = Some (record (committed_at 200) { session = 0x2222; serial = 9 }); now = 200; due = Some 3800 }
+unfolding receives router_byte clocked on_unit judge as_read
+commits_anew = ap (λ s. record holds_v { table = s; version = Some (record (committed_at 200) { session = 0x2222; serial = 9 }); now = 200; due = Some 3800 }) (led_from_empty (w ∷ []))
 
 -- With the mark the next connection asks for all, though something is committed. Asking leaves the mark, and a commit clears it.
 asks_all_by_mark : (called (Connects 100) (record changes { mark = true; link = Ended (ends.Reported 7); out = sent (report 7 v_bytes) })).router
