@@ -15,7 +15,7 @@ use Rattle.rtr_pdu.specs.declared.unit.Unit.TheVariants.{SerialQuery, ResetQuery
 use Rattle.rtr_ends.specs.declared.link.End.TheVariants as ends
 use Rattle.rtr_ends.specs.Answer.{report, sent}
 use Rattle.rtr_ends.specs.Feeding.{Fed, feed}
-use Rattle.rtr_ends.specs.Router.{Link, Router, Noted, Receiving, with_judged, with_read, router_stops, Staged, Stays, Wrong, Over, Closed, Idle, Asked, Answering, Ended, emptied, told, told_off, on_unit, router_byte, receives, clocked, connects_at, closed_at, ticks_at, asks, called, Connects, Receives, Closes, AsksNow, Ticks, stage, staged, is_staged, lacks, asked_by}
+use Rattle.rtr_ends.specs.Router.{Link, Router, Noted, Receiving, with_judged, with_read, router_stops, Staged, Stays, Wrong, Over, Closed, Idle, Asked, Answering, Ended, emptied, told, told_off, on_unit, router_byte, receives, clocked, connects_at, closed_at, ticks_at, asks, router_pulled, called, Connects, Receives, Pulls, Closes, AsksNow, Ticks, stage, staged, is_staged, lacks, asked_by}
 use Rattle.rtr_ends.specs.Transcript.{Item, At, Reads, Begun, Committed, Question, AskReset, AskSerial, is_listed, is_serial, led_to, base_of, sum_of, retry_of}
 use Rattle.rtr_ends.specs.Timing.{Intervals, intervals}
 use Rattle.rtr_ends.proofs.FeedingLaws.{feed_on}
@@ -116,6 +116,11 @@ wakes_empty : (called (Receives 100 None (notify_bytes 0x1234 6)) (record asked_
 unfolding receives router_byte clocked on_unit judge as_read
 wakes_empty = refl
 
+-- and where the mark is set
+wakes_by_mark : (called (Receives 100 None (notify_bytes 0x1234 6)) (record holds_v { mark = true })).router ≡ record holds_v { mark = true; link = Asked AskReset; out = reset_bytes }
+unfolding receives router_byte clocked on_unit judge as_read
+wakes_by_mark = refl
+
 -- An older serial does not wake it, and serials go on from 2^32 - 1 with 0.
 older_serial : (called (Receives 100 None (notify_bytes 0x1234 4)) holds_v).router ≡ holds_v
 unfolding receives router_byte clocked on_unit judge as_read
@@ -132,6 +137,11 @@ goes_round = refl
 begins_change : (called (Receives 100 None response_bytes) asks_since).router ≡ changes
 unfolding receives router_byte clocked on_unit judge as_read
 begins_change = refl
+
+-- A Cache Reset as the first unit is the agreement on the version.
+reset_agrees : (called (Receives 100 None (sent CacheReset)) (record asks_since { agreed = false; session = None })).router ≡ record asks_since { session = None; link = Asked AskReset; out = reset_bytes }
+unfolding receives router_byte clocked on_unit judge as_read
+reset_agrees = refl
 
 -- Router Keys and Error Reports
 
@@ -444,7 +454,7 @@ unfolding closed_at clocked
 closes_ended = refl
 
 -- `ask` on an idle link chooses as `connect` does.
-asks_now : (called AsksNow (record holds_v { mark = false })).router ≡ record holds_v { link = Asked (AskSerial 0x1234 5); out = serial_bytes }
+asks_now : (called AsksNow holds_v).router ≡ record holds_v { link = Asked (AskSerial 0x1234 5); out = serial_bytes }
 unfolding asks
 asks_now = refl
 
@@ -455,6 +465,11 @@ asks_now_by_mark = refl
 asks_closed : (called AsksNow closed_v).router ≡ closed_v
 unfolding asks
 asks_closed = refl
+
+-- A question is pulled in parts.
+pulled_in_part : (called (Pulls 3) (record asked_all { out = reset_bytes })).router ≡ record asked_all { out = drop 3 reset_bytes }
+unfolding router_pulled
+pulled_in_part = refl
 
 -- What is consumed
 
@@ -499,7 +514,23 @@ lacks_at_response : (called (Receives 100 (Some 0) response_bytes) asked_all).ro
 unfolding receives router_byte clocked on_unit judge as_read
 lacks_at_response = refl
 
--- A record that acts wrongly or is too many is judged before memory is asked for.
+-- at the second unit of a piece
+lacks_at_end : (called (Receives 100 (Some 1) (response_bytes ++ end_bytes 5)) asked_all).router ≡ record (answering nothing_yet) { link = Ended ends.Memory }
+unfolding receives router_byte clocked on_unit judge as_read
+lacks_at_end = refl
+
+-- None is asked for where the session is another one,
+session_before_memory : (called (Receives 100 (Some 0) (sent (CacheResponse 0x2222))) asks_since).router
+    ≡ record asks_since { table = empty; version = None; link = Ended (ends.Reported 0); out = sent (report 0 (sent (CacheResponse 0x2222))) }
+unfolding receives router_byte clocked on_unit judge as_read
+session_before_memory = refl
+
+end_before_memory : (called (Receives 100 (Some 0) (sent (EndOfData 0x2222 6 3600 600 7200))) changes).router
+    ≡ record changes { table = empty; version = None; link = Ended (ends.Reported 0); out = sent (report 0 (sent (EndOfData 0x2222 6 3600 600 7200))) }
+unfolding receives router_byte clocked on_unit judge as_read
+end_before_memory = refl
+
+-- nor before a record that acts wrongly, or is too many, has been judged.
 abbrev by_stage_wanting : Payload → Bool → Router → Staged → Router
 by_stage_wanting x announce r st =
     let k : Router = staged (Prefix announce x) st r in
