@@ -40,7 +40,7 @@ nothing_yet = record { question = AskReset; session = 0x1234; withdrawn = []; an
 abbrev pub answering : Begun → Router
 answering a = record asked_all { agreed = true; session = Some 0x1234; link = Answering a }
 
-pub response : called (Receives 100 None response_bytes) asked_all ≡ record { router = answering nothing_yet; items = Reads (CacheResponse 0x1234) ∷ At 100 ∷ [] }
+response : called (Receives 100 None response_bytes) asked_all ≡ record { router = answering nothing_yet; items = Reads (CacheResponse 0x1234) ∷ At 100 ∷ [] }
 unfolding receives router_byte clocked on_unit judge as_read
 response = refl
 
@@ -57,7 +57,7 @@ v_read = record nothing_yet { announced = v ∷ [] }
 pub stage_v : stage empty nothing_yet true v ≡ Stays v_read
 stage_v = λ i. if has-empty v i || false then Wrong 7 else if nat_lt 16777215 ((ap size (led_from_empty (v ∷ [])) ∙ size-set_of (v ∷ []) v_ascends) i) then Over else Stays v_read
 
-pub record_v : called (Receives 100 None v_bytes) (answering nothing_yet) ≡ record { router = answering v_read; items = Reads (Prefix true v) ∷ At 100 ∷ [] }
+record_v : called (Receives 100 None v_bytes) (answering nothing_yet) ≡ record { router = answering v_read; items = Reads (Prefix true v) ∷ At 100 ∷ [] }
 unfolding receives router_byte clocked on_unit judge as_read
 record_v = ap (by_stage 100 v true (answering nothing_yet)) stage_v
 
