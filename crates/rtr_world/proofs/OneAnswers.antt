@@ -115,7 +115,7 @@ between w s g t k rests = by_link s.router.link refl g.router.link
   where
     by_link : (l : Link) → s.router.link ≡ l → GoodLink (instances w) w.present g.seen l s.router s.conn s.up s.down → Between w s l
     by_link Closed is h = (h.0, h.3, rests.none_down (ap is_closed is))
-    by_link (Ended end) is h = false_true (sym rests.goes_on ∙ ap is_ended is)
+    by_link (Ended end) is h = false_true (sym rests.link_on ∙ ap is_ended is)
     by_link Idle is h = live_answer w s (ap is_reading is) g t k
     by_link (Asked q) is h = live_answer w s (ap is_reading is) g t k
     by_link (Answering a) is h = live_answer w s (ap is_reading is) g t k

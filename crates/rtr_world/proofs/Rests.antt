@@ -1,11 +1,12 @@
--- Between events no link has ended, and nothing is on the way to a closed one.
-use Rattle.std.specs.Prelude.{◌≡◌, ℕ, Bool, true, false, List, [], ◌∷◌, Option, Some, None, if◌then◌else◌, refl}
+-- Between events no link has ended, nothing is on the way to a closed one, and the clean-up has nothing to do.
+use Rattle.std.specs.Prelude.{◌≡◌, ℕ, Bool, true, false, List, [], ◌∷◌, Option, Some, None, if◌then◌else◌, ⊤, refl}
 use Rattle.std.proofs.Common.{sym, ap, ◌∙◌, subst}
 use Rattle.std.specs.List.{AllByRecursion}
 use Rattle.vrps.specs.Instance.{Instance}
 use Rattle.rtr_ends.specs.Cache.{Conn}
 use Rattle.rtr_ends.specs.Router.{Link, Closed, Idle, Asked, Answering, Ended, closed_at, is_closed}
 use Rattle.rtr_ends.proofs.TableLaws.{false_true}
+use Rattle.rtr_world.specs.Claims.{Settles}
 use Rattle.rtr_world.specs.History.{Entry, IsEvent, Leads, LeadsFrom, Made, MayEnd, Memory, NoSuchRouter, Outcome, Done, SessionUsed, TooManyVersions, after, refusal}
 use Rattle.rtr_world.specs.World.{Event, On, Publish, Restart, Side, World, goes_through, close_ended, instances, is_ended, is_refused, new_world, noted, on_side, settle, settle_conn, settle_link, settle_rest, settle_wire, settled, side_refused, tell_closed}
 use Rattle.rtr_world.proofs.Answered.{told_closes}
@@ -14,9 +15,22 @@ use Rattle.rtr_world.proofs.SideLaws.{all_map, all_new}
 use Rattle.rtr_world.proofs.TableLaws.{AllTell, SideTells, after_tells, new_side_tells}
 use Rattle.rtr_world.proofs.WorldSteps.{GoodWorld, after_good, new_good, part_so, through_good}
 
+-- a connection at the cache that has not ended, or has bytes due
+abbrev pub GoesOn : Option Conn → Type 0
+GoesOn None = ⊤
+GoesOn (Some o) = o.state.ended ≡ true → o.state.due ≡ [] → ⊥
+
+pub record IsTold (s : Side) : Type 0 where
+  pub closed : is_closed s.router.link ≡ true
+  pub home : s.home ≡ None
+  pub up : s.up ≡ []
+
 pub record Rests (s : Side) : Type 0 where
-  pub goes_on : is_ended s.router.link ≡ false
+  pub conn_on : GoesOn s.conn
+  pub link_on : is_ended s.router.link ≡ false
   pub none_down : is_closed s.router.link ≡ true → s.down ≡ []
+  pub none_open : is_closed s.router.link ≡ true → s.up ≡ [] → s.conn ≡ None
+  pub told : s.conn ≡ None → s.down ≡ [] → IsTold s
 
 closed_goes_on : (l : Link) → is_closed l ≡ true → is_ended l ≡ false
 closed_goes_on Closed h = refl
@@ -25,35 +39,30 @@ closed_goes_on Idle h = refl
 closed_goes_on (Asked q) h = refl
 closed_goes_on (Answering a) h = refl
 
-down_told : (all : List Instance) (s : Side) → (tell_closed all s).down ≡ s.down
-down_told all s = by_link (is_closed s.router.link)
+-- what being told changes, and what not
+record Tells (s n : Side) : Type 0 where
+  pub conn : n.conn ≡ s.conn
+  pub down : n.down ≡ s.down
+  pub up : n.up ≡ s.up
+  pub home : n.home ≡ None
+
+tells : (all : List Instance) (s : Side) → Tells s (tell_closed all s)
+tells all s = by_link (is_closed s.router.link)
   where
-    by_link : (b : Bool) → (if b then record s { home = None } else record (noted all (closed_at s.router.now s.router) s) { home = None }).down ≡ s.down
-    by_link true = refl
-    by_link false = refl
+    by_link : (b : Bool) → Tells s (if b then record s { home = None } else record (noted all (closed_at s.router.now s.router) s) { home = None })
+    by_link true = record { conn = refl; down = refl; up = refl; home = refl }
+    by_link false = record { conn = refl; down = refl; up = refl; home = refl }
 
-link_goes_on : (all : List Instance) (s : Side) (l : Link) (out : List ℕ) → s.router.link ≡ l → s.router.out ≡ out → (is_ended l ≡ true → out ≡ []) → is_ended (settle_link all s l out).router.link ≡ false
-link_goes_on all s (Ended end) [] is e none = closed_goes_on (tell_closed all s).router.link (told_closes all s)
-link_goes_on all s (Ended end) (b ∷ out) is e none = absurd (let h : b ∷ out ≡ [] = none refl in cc)
-link_goes_on all s Closed out is e none = ap is_ended is
-link_goes_on all s Idle out is e none = ap is_ended is
-link_goes_on all s (Asked q) out is e none = ap is_ended is
-link_goes_on all s (Answering a) out is e none = ap is_ended is
+-- step by step: a connection at the cache that ended
+ended_on : (s : Side) (o : Conn) (ended : Bool) (due : List ℕ) → s.conn ≡ Some o → o.state.ended ≡ ended → o.state.due ≡ due → GoesOn (close_ended s ended due).conn
+ended_on s o true [] is e d = tt
+ended_on s o true (b ∷ due) is e d = subst GoesOn (sym is) (λ ended none. let h : b ∷ due ≡ [] = sym d ∙ none in cc)
+ended_on s o false due is e d = subst GoesOn (sym is) (λ ended none. let h : false ≡ true = sym e ∙ ended in cc)
 
-rest_rests : (s : Side) (l : Link) (up : List ℕ) → s.router.link ≡ l → is_ended s.router.link ≡ false → Rests (settle_rest s l up)
-rest_rests s Closed [] is h = record { goes_on = h; none_down = λ c. refl }
-rest_rests s Closed (b ∷ up) is h = record { goes_on = h; none_down = λ c. refl }
-rest_rests s (Ended end) up is h = record { goes_on = h; none_down = λ c. false_true (ap is_closed (sym is) ∙ c) }
-rest_rests s Idle up is h = record { goes_on = h; none_down = λ c. false_true (ap is_closed (sym is) ∙ c) }
-rest_rests s (Asked q) up is h = record { goes_on = h; none_down = λ c. false_true (ap is_closed (sym is) ∙ c) }
-rest_rests s (Answering a) up is h = record { goes_on = h; none_down = λ c. false_true (ap is_closed (sym is) ∙ c) }
+conn_goes_on : (s : Side) (o : Option Conn) → s.conn ≡ o → GoesOn (settle_conn s o).conn
+conn_goes_on s None is = subst GoesOn (sym is) tt
+conn_goes_on s (Some o) is = ended_on s o o.state.ended o.state.due is refl refl
 
-wire_rests : (all : List Instance) (s : Side) (o : Option Conn) (down : List ℕ) → s.down ≡ down → Rests s → Rests (settle_wire all s o down)
-wire_rests all s None [] e h = record { goes_on = closed_goes_on (tell_closed all s).router.link (told_closes all s); none_down = λ c. down_told all s ∙ e }
-wire_rests all s None (b ∷ down) e h = h
-wire_rests all s (Some o) down e h = h
-
--- the connection's end at the cache leaves the router
 conn_router : (s : Side) (o : Option Conn) → (settle_conn s o).router ≡ s.router
 conn_router s None = refl
 conn_router s (Some o) = by_end o.state.ended o.state.due
@@ -63,15 +72,122 @@ conn_router s (Some o) = by_end o.state.ended o.state.due
     by_end true (b ∷ due) = refl
     by_end false due = refl
 
+-- a link that ended
+link_conn : (all : List Instance) (s : Side) (l : Link) (out : List ℕ) → (settle_link all s l out).conn ≡ s.conn
+link_conn all s (Ended end) [] = (tells all s).conn
+link_conn all s (Ended end) (b ∷ out) = refl
+link_conn all s Closed out = refl
+link_conn all s Idle out = refl
+link_conn all s (Asked q) out = refl
+link_conn all s (Answering a) out = refl
+
+link_goes_on : (all : List Instance) (s : Side) (l : Link) (out : List ℕ) → s.router.link ≡ l → (is_ended l ≡ true → out ≡ []) → is_ended (settle_link all s l out).router.link ≡ false
+link_goes_on all s (Ended end) [] is none = closed_goes_on (tell_closed all s).router.link (told_closes all s)
+link_goes_on all s (Ended end) (b ∷ out) is none = absurd (let h : b ∷ out ≡ [] = none refl in cc)
+link_goes_on all s Closed out is none = ap is_ended is
+link_goes_on all s Idle out is none = ap is_ended is
+link_goes_on all s (Asked q) out is none = ap is_ended is
+link_goes_on all s (Answering a) out is none = ap is_ended is
+
+-- what is on the way to a closed link
+record Cleared (s : Side) : Type 0 where
+  pub conn_on : GoesOn s.conn
+  pub link_on : is_ended s.router.link ≡ false
+  pub none_down : is_closed s.router.link ≡ true → s.down ≡ []
+  pub none_open : is_closed s.router.link ≡ true → s.up ≡ [] → s.conn ≡ None
+
+not_closed : (s : Side) (l : Link) → s.router.link ≡ l → is_closed l ≡ false → GoesOn s.conn → is_ended s.router.link ≡ false → Cleared s
+not_closed s l is differs on h = record {
+  conn_on = on;
+  link_on = h;
+  none_down = λ c. false_true (sym (ap is_closed is ∙ differs) ∙ c);
+  none_open = λ c. false_true (sym (ap is_closed is ∙ differs) ∙ c);
+}
+
+rest_clears : (s : Side) (l : Link) (up : List ℕ) → s.router.link ≡ l → s.up ≡ up → GoesOn s.conn → is_ended s.router.link ≡ false → Cleared (settle_rest s l up)
+rest_clears s Closed [] is e on h = record { conn_on = tt; link_on = h; none_down = λ c. refl; none_open = λ c none. refl }
+rest_clears s Closed (b ∷ up) is e on h = record { conn_on = on; link_on = h; none_down = λ c. refl; none_open = λ c none. absurd (let k : b ∷ up ≡ [] = sym e ∙ none in cc) }
+rest_clears s (Ended end) up is e on h = not_closed s (Ended end) is refl on h
+rest_clears s Idle up is e on h = not_closed s Idle is refl on h
+rest_clears s (Asked q) up is e on h = not_closed s (Asked q) is refl on h
+rest_clears s (Answering a) up is e on h = not_closed s (Answering a) is refl on h
+
+-- no connection
+wire_rests : (all : List Instance) (s : Side) (o : Option Conn) (down : List ℕ) → s.conn ≡ o → s.down ≡ down → Cleared s → Rests (settle_wire all s o down)
+wire_rests all s None [] is e h =
+    let t = tells all s in
+    record {
+      conn_on = subst GoesOn (sym (t.conn ∙ is)) tt;
+      link_on = closed_goes_on (tell_closed all s).router.link (told_closes all s);
+      none_down = λ c. t.down ∙ e;
+      none_open = λ c none. t.conn ∙ is;
+      told = λ n d. record { closed = told_closes all s; home = t.home; up = refl };
+    }
+wire_rests all s None (b ∷ down) is e h = record {
+  conn_on = h.conn_on;
+  link_on = h.link_on;
+  none_down = h.none_down;
+  none_open = h.none_open;
+  told = λ n d. absurd (let k : b ∷ down ≡ [] = sym e ∙ d in cc);
+}
+wire_rests all s (Some o) down is e h = record {
+  conn_on = h.conn_on;
+  link_on = h.link_on;
+  none_down = h.none_down;
+  none_open = h.none_open;
+  told = λ n d. absurd (let k : Some o ≡ None = sym is ∙ n in cc);
+}
+
 settle_rests : (all : List Instance) (s : Side) → (is_ended s.router.link ≡ true → s.router.out ≡ []) → Rests (settle all s)
 unfolding settle
 settle_rests all s none =
     let a : Side = settle_conn s s.conn in
     let b : Side = settle_link all (settle_conn s s.conn) (settle_conn s s.conn).router.link (settle_conn s s.conn).router.out in
     let c : Side = settle_rest b b.router.link b.up in
-    wire_rests all c c.conn c.down refl
-    (rest_rests b b.router.link b.up refl
-    (link_goes_on all a a.router.link a.router.out refl refl (subst (λ r. is_ended r.link ≡ true → r.out ≡ []) (sym (conn_router s s.conn)) none)))
+    wire_rests all c c.conn c.down refl refl
+    (rest_clears b b.router.link b.up refl refl (subst GoesOn (sym (link_conn all a a.router.link a.router.out)) (conn_goes_on s s.conn refl))
+    (link_goes_on all a a.router.link a.router.out refl (subst (λ r. is_ended r.link ≡ true → r.out ≡ []) (sym (conn_router s s.conn)) none)))
+
+-- Once more changes nothing.
+conn_stays : (s : Side) (o : Option Conn) → GoesOn o → settle_conn s o ≡ s
+conn_stays s None on = refl
+conn_stays s (Some o) on = by_end o.state.ended o.state.due on
+  where
+    by_end : (ended : Bool) (due : List ℕ) → (ended ≡ true → due ≡ [] → ⊥) → close_ended s ended due ≡ s
+    by_end true [] on = absurd (on refl refl)
+    by_end true (b ∷ due) on = refl
+    by_end false due on = refl
+
+link_stays : (all : List Instance) (s : Side) (l : Link) (out : List ℕ) → is_ended l ≡ false → settle_link all s l out ≡ s
+link_stays all s (Ended end) out on = false_true (sym on)
+link_stays all s Closed out on = refl
+link_stays all s Idle out on = refl
+link_stays all s (Asked q) out on = refl
+link_stays all s (Answering a) out on = refl
+
+rest_stays : (s : Side) (l : Link) (up : List ℕ) → s.router.link ≡ l → s.up ≡ up → Rests s → settle_rest s l up ≡ s
+rest_stays s Closed [] is e h = λ i. record s { conn = sym (h.none_open (ap is_closed is) e) i; down = sym (h.none_down (ap is_closed is)) i }
+rest_stays s Closed (b ∷ up) is e h = λ i. record s { down = sym (h.none_down (ap is_closed is)) i }
+rest_stays s (Ended end) up is e h = refl
+rest_stays s Idle up is e h = refl
+rest_stays s (Asked q) up is e h = refl
+rest_stays s (Answering a) up is e h = refl
+
+wire_stays : (all : List Instance) (s : Side) (o : Option Conn) (down : List ℕ) → s.conn ≡ o → s.down ≡ down → Rests s → settle_wire all s o down ≡ s
+wire_stays all s None [] is e h =
+    let t = h.told is e in
+    ap (λ b. record (if b then record s { home = None } else record (noted all (closed_at s.router.now s.router) s) { home = None }) { up = [] }) t.closed
+    ∙ (λ i. record s { home = sym t.home i; up = sym t.up i })
+wire_stays all s None (b ∷ down) is e h = refl
+wire_stays all s (Some o) down is e h = refl
+
+pub stays : (all : List Instance) (s : Side) → Rests s → settle all s ≡ s
+unfolding settle
+stays all s h =
+    (λ i. let a : Side = conn_stays s s.conn h.conn_on i in let b : Side = settle_link all a a.router.link a.router.out in let c : Side = settle_rest b b.router.link b.up in settle_wire all c c.conn c.down)
+    ∙ (λ i. let b : Side = link_stays all s s.router.link s.router.out h.link_on i in let c : Side = settle_rest b b.router.link b.up in settle_wire all c c.conn c.down)
+    ∙ (λ i. let c : Side = rest_stays s s.router.link s.up refl refl h i in settle_wire all c c.conn c.down)
+    ∙ wire_stays all s s.conn s.down refl refl h
 
 -- A link that ended has nothing to be pulled.
 none_out : (keep : ℕ) (past : List Instance) (i : Instance) (s : Side) → Good keep past i s → is_ended s.router.link ≡ true → s.router.out ≡ []
@@ -111,4 +227,12 @@ from_old old (entry ∷ history) w leads g t h =
 pub history_rests : (made : Made) (history : List Entry) (w : World) → Leads made history w → AllByRecursion Rests w.sides
 history_rests made history w leads =
     from_old (new_world made.routers made.session made.start made.keep) history w leads.1 (new_good made leads.0) (all_new SideTells new_side_tells made.routers)
-    (all_new Rests (record { goes_on = refl; none_down = λ c. refl }) made.routers)
+    (all_new Rests (record { conn_on = tt; link_on = refl; none_down = λ c. refl; none_open = λ c none. refl; told = λ n d. record { closed = refl; home = refl; up = refl } }) made.routers)
+
+-- The clean-up after an event leaves nothing to be done.
+pub settles : Settles
+settles made history w leads = each w.sides (history_rests made history w leads)
+  where
+    each : (sides : List Side) → AllByRecursion Rests sides → AllByRecursion (λ s. settle (instances w) s ≡ s) sides
+    each [] h = tt
+    each (s ∷ sides) h = (stays (instances w) s h.0, each sides h.1)

@@ -11,7 +11,7 @@ use Rattle.rtr_ends.specs.declared.link.End.TheVariants as ends
 use Rattle.rtr_ends.specs.Router.{IsKept}
 use Rattle.rtr_ends.specs.Transcript.{Question, AskSerial, Committed, kept}
 use Rattle.rtr_world.specs.Place.{NeverBack}
-use Rattle.rtr_world.specs.World.{Side, World, Event, Ending, instances}
+use Rattle.rtr_world.specs.World.{Side, World, Event, Ending, instances, settle}
 use Rattle.rtr_world.specs.History.{Made, IsMade, Entry, IsEvent, Leads}
 use Rattle.rtr_world.specs.OneAnswer.{Between}
 
@@ -26,6 +26,10 @@ Tables = Always (λ w s. IsKept s.router s.items)
 -- One answer
 abbrev pub OneAnswerAlways : Type 0
 OneAnswerAlways = Always (λ w s. Between w s s.router.link)
+
+-- The clean-up after an event leaves nothing to be done: once more, it changes nothing.
+abbrev pub Settles : Type 0
+Settles = Always (λ w s. settle (instances w) s ≡ s)
 
 -- The headline: the table is empty where no session is held, else the set that was published under the session and the serial
 -- of the version that was committed last, by the transcript.

@@ -1,10 +1,12 @@
 //! Laws of the definitions. These functions do nothing: their contracts are the laws.
-ghost use Rattle.rtr_world.specs.Claims.{EachLeads, Headline, LawfulEnds, NoWayBack, OneAnswerAlways, OneWorld, RouteStates, Tables};
+ghost use Rattle.rtr_world.specs.Claims.{EachLeads, Headline, LawfulEnds, NoWayBack, OneAnswerAlways, OneWorld, RouteStates, Settles, Tables};
 
-/// A history of events with their outcomes leads to one world, and every list of events has outcomes with which it leads to one.
+/// A history of events with their outcomes leads to one world, and every list of events has outcomes with which it leads to one. The
+/// clean-up after each event leaves nothing to be done.
 pub fn steps()
     ensures one { OneWorld }
     ensures each { EachLeads }
+    ensures settles { Settles }
 {}
 
 /// After every list of events each router holds what its transcript keeps, asks again when the transcript says, and knows the
