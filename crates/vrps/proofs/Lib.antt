@@ -1,5 +1,6 @@
 pub mod Cuts
 pub mod Listed
+pub mod LogLaws
 pub mod OriginRows
 pub mod PathRows
 pub mod Searching

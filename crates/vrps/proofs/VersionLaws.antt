@@ -2,6 +2,7 @@
 use Rattle.std.specs.Prelude.{◌≡◌, ◌≢◌, ℕ, ◌+◌, ◌%◌, ◌^◌, ◌<◌, Bool, true, false, ◌&&◌, ◌==◌, nat_lt, nat_le, List, [], ◌∷◌, ◌++◌, length, take, Some, if◌then◌else◌, refl}
 use Rattle.std.proofs.Common.{sym, ap, ◌∙◌, subst, arith, inl, inr, zero, suc}
 use Rattle.std.specs.Cmp.{tied_itself}
+use Rattle.std.specs.Cmp.Lexicographic.{pointwise}
 use Rattle.std.specs.Ordering.{eq_by_cmp, is_eq}
 use Rattle.std.specs.declared.cmp.Ordering.{Ordering}
 use Rattle.std.specs.declared.cmp.Ordering.TheVariants.{Less, Equal, Greater}
@@ -9,6 +10,8 @@ use Rattle.std.proofs.lemmas.Bool.{and_parts}
 use Rattle.std.proofs.lemmas.Bool.Decides.{nat_tests}
 use Rattle.std.proofs.lemmas.List.{length-append}
 use Rattle.prefixes.specs.Payload.{Payload, vrp_cmp}
+use Rattle.prefixes.specs.contracts.vrp.VrpPartialEq.TheImpl as derived_eq
+use Rattle.prefixes.proofs.DerivedOrder.{ties}
 use Rattle.prefixes.proofs.PayloadOrder.{vrp_total, vrp_exact}
 use Rattle.vrps.specs.Instance.{Instance, IsInstance, AreNews, Version, versions_from, with_serial}
 use Rattle.vrps.specs.Serial.{serial_at, steps_to}
@@ -30,6 +33,13 @@ lists_same [] [] h = refl
 lists_same [] (w ∷ ws) h = absurd (let e : false ≡ true = h in cc)
 lists_same (v ∷ vs) [] h = absurd (let e : false ≡ true = h in cc)
 lists_same (v ∷ vs) (w ∷ ws) h = let parts = and_parts (eq_by_cmp vrp_cmp v w) (same_list vs ws) h in λ i. tied v w parts.0 i ∷ lists_same vs ws parts.1 i
+
+-- the equality that is derived for lists of payloads
+pub tied_lists : (vs ws : List Payload) → pointwise (derived_eq.ghosts).eq vs ws ≡ same_list vs ws
+tied_lists [] [] = refl
+tied_lists [] (w ∷ ws) = refl
+tied_lists (v ∷ vs) [] = refl
+tied_lists (v ∷ vs) (w ∷ ws) = λ i. ties v w i && tied_lists vs ws i
 
 list_itself : (vs : List Payload) → same_list vs vs ≡ true
 list_itself [] = refl
@@ -66,7 +76,7 @@ serial_differs start place steps some few =
     differ : (a b : ℕ) → (a ≡ b → ⊥) → (a == b) ≡ false
     differ a b h = grind (arith, nat_tests, h)
 
-same_serial : (n : ℕ) → (n == n) ≡ true
+pub same_serial : (n : ℕ) → (n == n) ≡ true
 same_serial n = grind (arith, nat_tests)
 
 -- how many versions are newer

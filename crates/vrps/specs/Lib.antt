@@ -1,6 +1,8 @@
 pub mod Change
 pub mod Fault
 pub mod Instance
+pub mod Log
+pub mod Logs
 pub mod Origin
 pub mod Path
 pub mod Serial

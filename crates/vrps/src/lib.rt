@@ -3,6 +3,7 @@
 
 mod change;
 pub mod laws;
+mod log;
 mod origin;
 mod path;
 mod serial;
@@ -12,6 +13,7 @@ mod store;
 mod tests;
 
 pub use change::Change;
+pub use log::VersionLog;
 pub use origin::{OriginIndex, OriginState};
 pub use path::{PathFault, Segment, SegmentKind, origin_of_path};
 pub use serial::Serial;

@@ -5,6 +5,7 @@ ghost use Rattle.std.specs.List.Sorted.{IsStrictlySortedBy};
 ghost use Rattle.std.specs.Iterator.Adapters.{IterYieldsInOrder};
 ghost use Rattle.std.specs.Slice.Iter.{iter_rest};
 ghost use Rattle.prefixes.specs.Payload.{IsPayload, vrp_cmp};
+ghost use Rattle.vrps.specs.Store.{is_same};
 ghost use Rattle.vrps.specs.VrpSet.{IsListing, IsVrpSet, empty, has, listing, size, set_of};
 
 use prefixes::Vrp;
@@ -143,6 +144,13 @@ impl VrpSet {
         ensures runs { IterYieldsInOrder Vrp }
     {
         self.as_slice().iter()
+    }
+
+    /// Whether both sets have the same members. It takes no memory.
+    pub fn is_same(&self, other: &VrpSet) -> bool
+        ensures { result ≡ is_same self.now other.now }
+    {
+        self.items == other.items
     }
 
     /// The same set in memory of its own.

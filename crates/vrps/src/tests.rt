@@ -1,10 +1,11 @@
 use crate::{
-    Change, OriginIndex, OriginState, PathFault, Segment, SegmentKind, Serial, SetFault, VrpSet,
-    origin_of_path,
+    Change, OriginIndex, OriginState, PathFault, Published, Segment, SegmentKind, Serial, SetFault,
+    Since, VersionLog, VersionStore, VrpSet, origin_of_path,
 };
 use prefixes::{Asn, IpPrefix, Route, Vrp};
 use std::alloc::Global;
 use std::process::Abort;
+use std::rc::Rc;
 use std::test::Fail;
 
 fn payload(text: &str, max_len: u8, asn: u32) -> Result<Vrp, Fail> {
@@ -407,4 +408,80 @@ fn families_are_judged_apart(rt: HostRuntime) -> Result<(), Fail> {
         ("::/0", Some(40), OriginState::NotFound),
     ];
     expect_states(&rt, &records, &table)
+}
+
+#[test]
+fn equal_sets_are_same(rt: HostRuntime) -> Result<(), Fail> {
+    let alloc = rt.alloc();
+    let set = set_of(alloc, &[V, W])?;
+    assert!(rt; set.is_same(&set_of(alloc, &[W, V, W])?));
+    assert!(rt; !set.is_same(&set_of(alloc, &[V])?));
+    assert!(rt; !set.is_same(&set_of(alloc, &[V, X])?));
+    assert!(rt; VrpSet::empty(alloc).is_same(&set_of(alloc, &[])?));
+    Ok(())
+}
+
+/// Publishes the set of these rows.
+fn publish<S: VersionStore>(store: &mut S, alloc: Global, rows: Rows) -> Result<Published, Fail> {
+    let set = Rc::new(alloc, set_of(alloc, rows)?)?;
+    Ok(store.publish(set)?)
+}
+
+#[test]
+fn a_log_knows_what_changed_since_a_version(rt: HostRuntime) -> Result<(), Fail> {
+    let alloc = rt.alloc();
+    let mut log = VersionLog::new(alloc, 0x1234, 4, 2)?;
+    assert_eq!(rt; log.session(), 0x1234);
+    assert!(rt; log.current().is_none());
+    assert!(rt; matches!(log.since(Serial(4))?, Since::NoData));
+    let published: [(Rows, Published); 5] = [
+        (&[], Published::New(Serial(4))),
+        (&[V], Published::New(Serial(5))),
+        (&[V], Published::Unchanged),
+        (&[V, W], Published::New(Serial(6))),
+        (&[V], Published::New(Serial(7))),
+    ];
+    for (rows, answer) in published {
+        assert!(rt; publish(&mut log, alloc, rows)? == answer);
+    }
+    let Some((serial, now)) = log.current() else {
+        return Err(Fail::from("no version"));
+    };
+    assert!(rt; serial == Serial(7));
+    assert!(rt; now.as_ref().is_same(&set_of(alloc, &[V])?));
+    let changes: [(u32, Rows, Rows); 3] = [(5, &[], &[]), (6, &[W], &[]), (7, &[], &[])];
+    for (serial, withdraw, announce) in changes {
+        let Since::Change(change) = log.since(Serial(serial))? else {
+            return Err(Fail::from("no change"));
+        };
+        assert!(rt;
+            change.withdraw.is_same(&set_of(alloc, withdraw)?),
+            "{serial}"
+        );
+        assert!(rt;
+            change.announce.is_same(&set_of(alloc, announce)?),
+            "{serial}"
+        );
+    }
+    for serial in [4, 8, 0, 2147483655] {
+        assert!(rt;
+            matches!(log.since(Serial(serial))?, Since::Unknown),
+            "{serial}"
+        );
+    }
+    Ok(())
+}
+
+#[test]
+fn serials_of_a_log_go_round(rt: HostRuntime) -> Result<(), Fail> {
+    let alloc = rt.alloc();
+    let mut log = VersionLog::new(alloc, 0x1234, 4294967295, 2)?;
+    assert!(rt; publish(&mut log, alloc, &[V])? == Published::New(Serial(4294967295)));
+    assert!(rt; publish(&mut log, alloc, &[V, W])? == Published::New(Serial(0)));
+    let Since::Change(change) = log.since(Serial(4294967295))? else {
+        return Err(Fail::from("no change"));
+    };
+    assert!(rt; change.withdraw.is_empty());
+    assert!(rt; change.announce.is_same(&set_of(alloc, &[W])?));
+    Ok(())
 }
