@@ -1,8 +1,7 @@
 -- Entries of a ROA: their order and what each validates.
 use Rattle.std.specs.Prelude.{ℕ, Bool, true, false, not, nat_lt, ◌||◌, ◌==◌, Option, Some, None, unwrap_or}
-use Rattle.std.specs.Ordering.{nat_cmp, ordering_then}
+use Rattle.std.specs.Ordering.{nat_cmp, ordering_then, is_lt}
 use Rattle.std.specs.declared.cmp.Ordering.{Ordering}
-use Rattle.std.specs.declared.cmp.Ordering.TheVariants.{Less, Equal, Greater}
 use Rattle.prefixes.specs.Address.{IsPrefix}
 use Rattle.prefixes.specs.Payload.{Payload, block_of, width_of, prefix_cmp}
 use Rattle.payloads.specs.declared.entry.RoaEntry.{RoaEntry}
@@ -15,15 +14,10 @@ greatest_length entry = unwrap_or entry.max_len (block_of entry.prefix).len
 abbrev pub entry_cmp : RoaEntry → RoaEntry → Ordering
 entry_cmp e f = ordering_then (prefix_cmp e.prefix f.prefix) (nat_cmp (greatest_length e) (greatest_length f))
 
-abbrev pub is_less : Ordering → Bool
-is_less Less = true
-is_less Equal = false
-is_less Greater = false
-
 -- the entry is not above the one before it
 abbrev pub is_not_above : Option RoaEntry → RoaEntry → Bool
 is_not_above None entry = false
-is_not_above (Some before) entry = not (is_less (entry_cmp before entry))
+is_not_above (Some before) entry = not (is_lt (entry_cmp before entry))
 
 -- the maximum length is below the length of the prefix, or over the width of its family
 abbrev pub is_bad_maximum : RoaEntry → Bool

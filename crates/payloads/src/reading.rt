@@ -25,10 +25,9 @@ pub(crate) fn first_integer<'a>(cursor: &mut Cursor<'a>) -> Result<&'a [u8], Gra
     let has_version = cursor.peek_tag() == Some(0xa0);
     match cursor.integer() {
         Ok(content) => Ok(content),
-        Err(fault) if has_version && fault.kind == DerFaultKind::WrongTag => Err(GrammarFault {
-            kind: GrammarFaultKind::VersionPresent,
-            offset: fault.offset,
-        }),
+        Err(fault) if has_version && fault.kind == DerFaultKind::WrongTag => Err(
+            GrammarFaultKind::VersionPresent.at(fault.offset),
+        ),
         Err(fault) => Err(GrammarFault::from(fault)),
     }
 }
@@ -42,10 +41,7 @@ fn as_id(cursor: &mut Cursor) -> Result<Asn, GrammarFault>
     let content = first_integer(cursor)?;
     match unsigned(content) {
         Some(number) => Ok(Asn(number)),
-        None => Err(GrammarFault {
-            kind: GrammarFaultKind::AsnRange,
-            offset,
-        }),
+        None => Err(GrammarFaultKind::AsnRange.at(offset)),
     }
 }
 
@@ -61,23 +57,12 @@ fn address_family(
     let family = match cursor.octets()? {
         [0, 1] => AddressFamily::Ipv4,
         [0, 2] => AddressFamily::Ipv6,
-        _ => {
-            return Err(GrammarFault {
-                kind: GrammarFaultKind::Family,
-                offset,
-            });
-        }
+        _ => return Err(GrammarFaultKind::Family.at(offset)),
     };
     match (before, family) {
         (None, _) | (Some(AddressFamily::Ipv4), AddressFamily::Ipv6) => Ok(family),
-        (Some(AddressFamily::Ipv6), AddressFamily::Ipv4) => Err(GrammarFault {
-            kind: GrammarFaultKind::Order,
-            offset,
-        }),
-        _ => Err(GrammarFault {
-            kind: GrammarFaultKind::Family,
-            offset,
-        }),
+        (Some(AddressFamily::Ipv6), AddressFamily::Ipv4) => Err(GrammarFaultKind::Order.at(offset)),
+        _ => Err(GrammarFaultKind::Family.at(offset)),
     }
 }
 
@@ -94,10 +79,7 @@ fn address(cursor: &mut Cursor, family: AddressFamily) -> Result<IpPrefix, Gramm
     };
     match prefix {
         Some(prefix) => Ok(prefix),
-        None => Err(GrammarFault {
-            kind: GrammarFaultKind::PrefixTooLong,
-            offset,
-        }),
+        None => Err(GrammarFaultKind::PrefixTooLong.at(offset)),
     }
 }
 
@@ -122,10 +104,7 @@ fn maximum(members: Cursor, prefix: &IpPrefix) -> Result<Option<u8>, GrammarFaul
             members.finish()?;
             Ok(Some(number as u8))
         }
-        _ => Err(GrammarFault {
-            kind: GrammarFaultKind::MaxLength,
-            offset,
-        }),
+        _ => Err(GrammarFaultKind::MaxLength.at(offset)),
     }
 }
 
@@ -144,19 +123,13 @@ fn entry(
     let offset = cursor.offset();
     let mut members = cursor.sequence()?;
     if count >= LIMIT {
-        return Err(GrammarFault {
-            kind: GrammarFaultKind::TooMany,
-            offset,
-        });
+        return Err(GrammarFaultKind::TooMany.at(offset));
     }
     let prefix = address(&mut members, family)?;
     let max_len = maximum(members, &prefix)?;
     let entry = RoaEntry { prefix, max_len };
     if entry.is_not_above(before) {
-        return Err(GrammarFault {
-            kind: GrammarFaultKind::Order,
-            offset,
-        });
+        return Err(GrammarFaultKind::Order.at(offset));
     }
     Ok(entry)
 }
@@ -191,10 +164,7 @@ fn addresses(
     let offset = cursor.offset();
     let members = cursor.sequence()?;
     if members.at_end() {
-        return Err(GrammarFault {
-            kind: GrammarFaultKind::Empty,
-            offset,
-        });
+        return Err(GrammarFaultKind::Empty.at(offset));
     }
     each_entry(members, family, entries)
 }
@@ -241,10 +211,7 @@ fn ip_addr_blocks(cursor: &mut Cursor, entries: &mut Entries) -> Result<(), Gram
     let offset = cursor.offset();
     let mut members = cursor.sequence()?;
     if members.at_end() {
-        return Err(GrammarFault {
-            kind: GrammarFaultKind::Empty,
-            offset,
-        });
+        return Err(GrammarFaultKind::Empty.at(offset));
     }
     let first = ip_family(&mut members, None, entries)?;
     second_family(members, first, entries)
