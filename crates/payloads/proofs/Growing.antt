@@ -3,6 +3,7 @@ use Rattle.std.proofs.Common.{◌≡◌, ◌≢◌, ℕ, zero, suc, ◌-◌, ◌
 use Rattle.std.specs.Prelude.{⊤}
 use Rattle.std.proofs.lemmas.Bool.{ne_eqb}
 use Rattle.std.proofs.lemmas.List.{append-nil, length-take, nil_from_length}
+use Rattle.std.specs.List.{last_or}
 use Rattle.der_lite.specs.Place.{Place, Fault}
 use Rattle.der_lite.specs.Decoding.{read_each, read_member}
 use Rattle.der_lite.specs.Reading.{element_at}
@@ -14,7 +15,7 @@ use Rattle.payloads.specs.declared.entry.RoaEntry.{RoaEntry}
 use Rattle.payloads.specs.declared.fault.GrammarFault.{GrammarFault}
 use Rattle.payloads.specs.Faults.{fault_of}
 use Rattle.payloads.specs.RoaValues.{entries_of, all_entries}
-use Rattle.payloads.specs.Roa.{Family, last_of, too_many_rules, order_rules}
+use Rattle.payloads.specs.Roa.{Family, too_many_rules, order_rules}
 use Rattle.payloads.specs.RoaReading.{address_at, maximum_at, entry_of, entry_at, entry_behind_at, ip_family_at, blocks_at}
 use Rattle.payloads.specs.Gives.{Progress, Grows, Lists}
 
@@ -55,16 +56,15 @@ grows_on old mid new more others g h =
     }
 
 -- the last is the one that came last
-pub last_is : (es : List RoaEntry) (e : RoaEntry) → last_of (es ++ e ∷ []) ≡ Some e
-last_is [] e = refl
-last_is (x ∷ []) e = refl
-last_is (x ∷ y ∷ more) e = last_is (y ∷ more) e
+pub last_is : (before : Option RoaEntry) (es : List RoaEntry) (e : RoaEntry) → last_or before (es ++ e ∷ []) ≡ Some e
+last_is before [] e = refl
+last_is before (x ∷ es) e = last_is (Some x) es e
 
 -- Of the entries of a family these were read before here and came behind the others.
 pub record Seen (family : AddressFamily) (start : Place) (old : Progress) (before : Option RoaEntry) (now : Progress) (here : Place) : Type 0 where
   pub seen : List RoaEntry
   pub goes : Goes (entry_behind_at family old.count) start seen here
-  pub last : before ≡ last_of seen
+  pub last : before ≡ last_or None seen
   pub grown : Grows old now seen
 
 -- at first none was
@@ -79,14 +79,14 @@ entry_shorter family count before p e q h = sequence_shorter (too_many_rules cou
 module _ (family : AddressFamily) (start : Place) (old : Progress) (before : Option RoaEntry) (now : Progress) (here : Place) (s : Seen family start old before now here) where
   -- the entry that stands here is read behind those before it
   read_is : entry_behind_at family old.count s.seen here ≡ entry_at family now.count before here
-  read_is = ap (λ (n : ℕ). entry_at family n (last_of s.seen) here) (sym s.grown.counted) ∙ ap (λ (b : Option RoaEntry). entry_at family now.count b here) (sym s.last)
+  read_is = ap (λ (n : ℕ). entry_at family n (last_or None s.seen) here) (sym s.grown.counted) ∙ ap (λ (b : Option RoaEntry). entry_at family now.count b here) (sym s.last)
 
   -- one entry more
   pub seen_on : (e : RoaEntry) (next : Place) (later : Progress) → here.rest ≢ [] → entry_at family now.count before here ≡ Ok (e, next) → Grows now later (e ∷ []) → Seen family start old (Some e) later next
   seen_on e next later more read g = record {
     seen = s.seen ++ e ∷ [];
     goes = goes_on (entry_behind_at family old.count) start s.seen here s.goes e next more (read_is ∙ read) (entry_shorter family now.count before here e next read);
-    last = sym (last_is s.seen e);
+    last = sym (last_is None s.seen e);
     grown = grows_on old now later s.seen (e ∷ []) s.grown g;
   }
 

@@ -1,6 +1,7 @@
 -- Nothing is wrong with a value that is spelled.
 use Rattle.std.proofs.Common.{◌≡◌, ◌≢◌, ◌⊎◌, ℕ, zero, suc, ◌+◌, ◌<◌, ◌≤◌, Bool, true, false, not, ◌||◌, eqb, ltb, leb, List, [], ◌∷◌, ◌++◌, length, get_or, Option, Some, None, refl, sym, ap, subst, ◌∙◌, inl, inr, arith, length-append}
 use Rattle.std.proofs.lemmas.Bool.{le-ltb, or_parts}
+use Rattle.std.specs.List.{last_or}
 use Rattle.der_lite.specs.Place.{first_of}
 use Rattle.der_lite.specs.Grammar.{EachSpells}
 use Rattle.der_lite.proofs.Integers.{between_kept, value_is, pos_is}
@@ -11,7 +12,7 @@ use Rattle.payloads.specs.declared.family.AddressFamily.{AddressFamily}
 use Rattle.payloads.specs.declared.family.AddressFamily.TheVariants.{Ipv4, Ipv6}
 use Rattle.payloads.specs.declared.entry.RoaEntry.{RoaEntry}
 use Rattle.payloads.specs.Entry.{is_not_above, is_bad_maximum}
-use Rattle.payloads.specs.Roa.{family_number, is_family, address_family, family_width, of_bits, address, max_length, entry_members, ip_address, last_of, entry_behind, addresses, ip_family, ip_addr_blocks, RoaTree, route_origin_attestation, roa_payload}
+use Rattle.payloads.specs.Roa.{family_number, is_family, address_family, family_width, of_bits, address, max_length, entry_members, ip_address, entry_behind, addresses, ip_family, ip_addr_blocks, RoaTree, route_origin_attestation, roa_payload}
 use Rattle.payloads.specs.RoaValues.{all_entries, TreeSpells, RoaValue, RoaSpells}
 use Rattle.payloads.specs.Refusal.{goes_back, is_family_below, entry_rules, at_index, entries_refusal, roa_refusal}
 use Rattle.payloads.proofs.RoaOnce.{few_bits}
@@ -51,7 +52,7 @@ maximum_right family prefix (Some m) inner s =
 
 -- it stands behind those before it in its family, or is the first behind an entry of IPv4
 abbrev Behind : AddressFamily → List RoaEntry → Option RoaEntry → Type 0
-Behind family seen before = ((before ≡ last_of seen) × AllIn family seen) ⊎ ((family ≡ Ipv6) × ((b : RoaEntry) × (before ≡ Some b) × (family_of b.prefix ≡ Ipv4)))
+Behind family seen before = ((before ≡ last_or None seen) × AllIn family seen) ⊎ ((family ≡ Ipv6) × ((b : RoaEntry) × (before ≡ Some b) × (family_of b.prefix ≡ Ipv4)))
 
 -- one rule behind the others
 rules_kept : (a b c d : Bool) → a ≡ false → b ≡ false → c ≡ false → d ≡ false → first_of ((19, a) ∷ (12, b) ∷ (11, c) ∷ (12, d) ∷ []) ≡ None
@@ -73,11 +74,18 @@ above_ipv4 b e hb he = by b.prefix e.prefix hb he b.max_len e.max_len
     by (V4 p) (V4 q) hp hq m n = absurd cc
     by (V6 p) q hp hq m n = absurd cc
 
+-- the last of some entries of a family
+some_last : (family : AddressFamily) (before : RoaEntry) (es : List RoaEntry) → family_of before.prefix ≡ family → AllIn family es → (b : RoaEntry) × (last_or (Some before) es ≡ Some b) × (family_of b.prefix ≡ family)
+some_last family before [] f all = (before, refl, f)
+some_last family before (e ∷ es) f all = some_last family e es all.0 all.1
+
 -- the last is of the family of all
-last_in : (family : AddressFamily) (seen : List RoaEntry) (b : RoaEntry) → AllIn family seen → last_of seen ≡ Some b → family_of b.prefix ≡ family
+last_in : (family : AddressFamily) (seen : List RoaEntry) (b : RoaEntry) → AllIn family seen → last_or None seen ≡ Some b → family_of b.prefix ≡ family
 last_in family [] b all e = absurd cc
-last_in family (x ∷ []) b all e = let same : x ≡ b = cc in ap (λ (y : RoaEntry). family_of y.prefix) (sym same) ∙ all.0
-last_in family (x ∷ y ∷ more) b all e = last_in family (y ∷ more) b all.1 e
+last_in family (x ∷ seen) b all e =
+    let l = some_last family x seen all.0 all.1 in
+    let same : b ≡ l.0 = let h = sym e ∙ l.1 in cc in
+    ap (λ (y : RoaEntry). family_of y.prefix) same ∙ l.2
 
 -- the family is not below that before it
 family_right : (family : AddressFamily) (seen : List RoaEntry) (before : Option RoaEntry) (e : RoaEntry) → Behind family seen before → family_of e.prefix ≡ family → is_family_below before e ≡ false
@@ -86,7 +94,7 @@ family_right family seen (Some b) e (inl h) f = no_way_back b.prefix e.prefix fa
 family_right family seen (Some b) e (inr h) f = let same : b ≡ h.1.0 = let k = h.1.1 in cc in no_way_back b.prefix e.prefix family (inr (ap (λ (y : RoaEntry). family_of y.prefix) same ∙ h.1.2)) f
 
 -- and the entry is above that before it
-order_right : (family : AddressFamily) (seen : List RoaEntry) (before : Option RoaEntry) (e : RoaEntry) → Behind family seen before → family_of e.prefix ≡ family → is_not_above (last_of seen) e ≡ false → is_not_above before e ≡ false
+order_right : (family : AddressFamily) (seen : List RoaEntry) (before : Option RoaEntry) (e : RoaEntry) → Behind family seen before → family_of e.prefix ≡ family → is_not_above (last_or None seen) e ≡ false → is_not_above before e ≡ false
 order_right family seen before e (inl h) f o = ap (λ (b : Option RoaEntry). is_not_above b e) h.0 ∙ o
 order_right family seen before e (inr h) f o = ap (λ (b : Option RoaEntry). is_not_above b e) h.1.1 ∙ above_ipv4 h.1.0 e h.1.2 (f ∙ h.0)
 
@@ -99,7 +107,7 @@ unfolding ip_address
 entry_right family count seen before e bytes s h f =
     rules_kept (leb 65536 (count + length seen)) (is_family_below before e) (is_bad_maximum e) (is_not_above before e)
     (kept_first 19 (leb 65536 (count + length seen)) [] s.2.0).0 (family_right family seen before e h f) (maximum_right family e.prefix e.max_len s.0 s.2.1)
-    (order_right family seen before e h f (kept_first 12 (is_not_above (last_of seen) e) [] s.2.2).0)
+    (order_right family seen before e h f (kept_first 12 (is_not_above (last_or None seen) e) [] s.2.2).0)
 
 -- one more is of the family too
 all_more : (family : AddressFamily) (seen : List RoaEntry) (e : RoaEntry) → AllIn family seen → family_of e.prefix ≡ family → AllIn family (seen ++ e ∷ [])
@@ -118,12 +126,7 @@ entries_right family count seen (e ∷ es) before bytes s h all those =
     let more = all_more family seen e all those.0 in
     let next : suc (count + length seen) ≡ count + length (seen ++ e ∷ []) = omega (arith, length-append seen (e ∷ [])) in
     later_right (count + length seen) before e es (entry_right family count seen before e s.0 s.3 h those.0)
-    (ap (λ (n : ℕ). entries_refusal n (Some e) es) next ∙ entries_right family count (seen ++ e ∷ []) es (Some e) s.1 s.4 (inl (sym (last_is seen e), more)) more those.1)
-
--- entries in two parts
-unfoldable pub last_behind : Option RoaEntry → List RoaEntry → Option RoaEntry
-last_behind before [] = before
-last_behind before (e ∷ es) = last_behind (Some e) es
+    (ap (λ (n : ℕ). entries_refusal n (Some e) es) next ∙ entries_right family count (seen ++ e ∷ []) es (Some e) s.1 s.4 (inl (sym (last_is None seen e), more)) more those.1)
 
 -- nothing is wrong at an index, nor later
 pub none_at : (index : ℕ) (r : Option ℕ) (later : Option (ℕ × ℕ)) → at_index index r later ≡ None → (r ≡ None) × (later ≡ None)
@@ -131,22 +134,14 @@ none_at index None later h = (refl, h)
 none_at index (Some n) later h = absurd cc
 
 -- the first part is right, and the second behind it
-parts_right : (index : ℕ) (before : Option RoaEntry) (es others : List RoaEntry) → entries_refusal index before es ≡ None → entries_refusal (index + length es) (last_behind before es) others ≡ None → entries_refusal index before (es ++ others) ≡ None
-unfolding last_behind
+parts_right : (index : ℕ) (before : Option RoaEntry) (es others : List RoaEntry) → entries_refusal index before es ≡ None → entries_refusal (index + length es) (last_or before es) others ≡ None → entries_refusal index before (es ++ others) ≡ None
 parts_right index before [] others h k = ap (λ (n : ℕ). entries_refusal n before others) (omega arith) ∙ k
 parts_right index before (e ∷ es) others h k =
     let s = none_at index (first_of (entry_rules index before e)) (entries_refusal (suc index) (Some e) es) h in
-    later_right index before e (es ++ others) s.0 (parts_right (suc index) (Some e) es others s.1 (ap (λ (n : ℕ). entries_refusal n (last_behind (Some e) es) others) (omega arith) ∙ k))
-
--- the last of some entries of a family
-some_last : (family : AddressFamily) (before : RoaEntry) (es : List RoaEntry) → family_of before.prefix ≡ family → AllIn family es → (b : RoaEntry) × (last_behind (Some before) es ≡ Some b) × (family_of b.prefix ≡ family)
-unfolding last_behind
-some_last family before [] f all = (before, refl, f)
-some_last family before (e ∷ es) f all = some_last family e es all.0 all.1
+    later_right index before e (es ++ others) s.0 (parts_right (suc index) (Some e) es others s.1 (ap (λ (n : ℕ). entries_refusal n (last_or (Some e) es) others) (omega arith) ∙ k))
 
 -- the last of the first family
-last_of_some : (family : AddressFamily) (es : List RoaEntry) → IsAddresses (family, es) → family ≡ Ipv4 → (b : RoaEntry) × (last_behind None es ≡ Some b) × (family_of b.prefix ≡ Ipv4)
-unfolding last_behind
+last_of_some : (family : AddressFamily) (es : List RoaEntry) → IsAddresses (family, es) → family ≡ Ipv4 → (b : RoaEntry) × (last_or None es ≡ Some b) × (family_of b.prefix ≡ Ipv4)
 last_of_some family [] i f = absurd (i.some refl)
 last_of_some family (e ∷ es) i f =
     let l = some_last family e es i.all.0 i.all.1 in
@@ -208,7 +203,7 @@ tree_right (asn, ((first, es), Some (second, others))) bytes s =
     let b = last_of_some first es some families.0 in
     refusal_is (es ++ others) (not_empty_with es others some.some)
     (parts_right 0 None es others (first_right first es spelled.1 spelled.4)
-    (ap (λ (n : ℕ). entries_refusal n (last_behind None es) others) (omega arith) ∙ second_right second (length es) others (last_behind None es) b.0 behind.1 behind.4 families.1 b.1 b.2))
+    (ap (λ (n : ℕ). entries_refusal n (last_or None es) others) (omega arith) ∙ second_right second (length es) others (last_or None es) b.0 behind.1 behind.4 families.1 b.1 b.2))
 
 -- nor with a value that is spelled
 pub roa_right : (roa : RoaValue) (bytes : List ℕ) → RoaSpells roa bytes → roa_refusal roa.entries ≡ None

@@ -1,6 +1,7 @@
 -- No ROA has two spellings.
 use Rattle.std.proofs.Common.{◌≡◌, ℕ, ◌+◌, ◌≤◌, Bool, true, false, None, not, ltb, List, [], ◌∷◌, length, Option, Some, refl, sym, ap, subst, ◌∙◌, arith}
 use Rattle.std.proofs.lemmas.Bool.{ltb-false}
+use Rattle.std.specs.List.{last_or}
 use Rattle.der_lite.specs.Place.{first_of}
 use Rattle.der_lite.specs.Der.{BitsSpell, is_bit_string, bit_count, head_rules}
 use Rattle.der_lite.specs.Grammar.{Keeps, primitive, constructed, member, last, optional, each}
@@ -14,7 +15,7 @@ use Rattle.prefixes.specs.declared.prefix.IpPrefix.{IpPrefix}
 use Rattle.payloads.specs.declared.family.AddressFamily.{AddressFamily}
 use Rattle.payloads.specs.declared.family.AddressFamily.TheVariants.{Ipv4, Ipv6}
 use Rattle.payloads.specs.declared.entry.RoaEntry.{RoaEntry}
-use Rattle.payloads.specs.Roa.{no_rules, first_head, as_id, FamilySpells, family_rules, address_family, family_width, of_bits, PrefixSpells, address_rules, address, max_length, entry_parts, too_many_rules, order_rules, entry_members, ip_address, last_of, not_empty, entry_behind, addresses, ip_family, ip_addr_blocks, route_origin_attestation, roa_payload}
+use Rattle.payloads.specs.Roa.{no_rules, first_head, as_id, FamilySpells, family_rules, address_family, family_width, of_bits, PrefixSpells, address_rules, address, max_length, entry_parts, too_many_rules, order_rules, entry_members, ip_address, not_empty, entry_behind, addresses, ip_family, ip_addr_blocks, route_origin_attestation, roa_payload}
 use Rattle.payloads.specs.RoaValues.{TreeSpells}
 
 -- ---- a prefix has one list of bits
@@ -69,7 +70,7 @@ once_entry family count before = once_element 48 (head_rules 48) (constructed (t
 once_addresses : (family : AddressFamily) (count : ℕ) → Once (addresses family count).Spells
 unfolding addresses
 once_addresses family count = once_element 48 (head_rules 48) (constructed not_empty (each (entry_behind family count)) no_rules)
-    (once_constructed not_empty (each (entry_behind family count)) no_rules (once_each (entry_behind family count) (λ before. once_entry family (count + length before) (last_of before))))
+    (once_constructed not_empty (each (entry_behind family count)) no_rules (once_each (entry_behind family count) (λ before. once_entry family (count + length before) (last_or None before))))
 
 once_ip_family : (before : Option AddressFamily) (count : ℕ) → Once (ip_family before count).Spells
 unfolding ip_family

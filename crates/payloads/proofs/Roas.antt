@@ -1,5 +1,6 @@
 -- Reading the payload of a ROA is exact.
 use Rattle.std.proofs.Common.{ℕ, ◌+◌, Option, Some, None, length, refl}
+use Rattle.std.specs.List.{last_or}
 use Rattle.der_lite.specs.Grammar.{last, optional, each, member}
 use Rattle.der_lite.specs.Decoding.{read_member}
 use Rattle.der_lite.specs.Fields.{last_at, optional_at, valued_at}
@@ -7,7 +8,7 @@ use Rattle.der_lite.proofs.Exact.{ExactElement, ExactMembers, exact_member, exac
 use Rattle.der_lite.proofs.Fields.{exact_sequence, exact_last_at, exact_optional_at, exact_valued}
 use Rattle.payloads.specs.declared.family.AddressFamily.{AddressFamily}
 use Rattle.payloads.specs.declared.entry.RoaEntry.{RoaEntry}
-use Rattle.payloads.specs.Roa.{no_rules, as_id, address_family, address, max_length, entry_parts, too_many_rules, order_rules, entry_members, ip_address, not_empty, last_of, entry_behind, addresses, ip_family, ip_addr_blocks, route_origin_attestation, roa_payload}
+use Rattle.payloads.specs.Roa.{no_rules, as_id, address_family, address, max_length, entry_parts, too_many_rules, order_rules, entry_members, ip_address, not_empty, entry_behind, addresses, ip_family, ip_addr_blocks, route_origin_attestation, roa_payload}
 use Rattle.payloads.specs.RoaReading.{as_id_at, address_family_at, address_at, max_length_at, maximum_at, entry_of, entry_at, entry_behind_at, entries_at, addresses_at, ip_family_at, blocks_at, attestation_at}
 use Rattle.payloads.proofs.Fields.{exact_as_id, exact_address_family, exact_address, exact_max_length}
 
@@ -23,7 +24,7 @@ pub exact_addresses : (family : AddressFamily) (count : ℕ) → ExactElement (a
 unfolding addresses addresses_at entries_at
 exact_addresses family count =
     exact_sequence not_empty (each (entry_behind family count)) (entries_at family count) no_rules
-    (exact_each (entry_behind family count) (entry_behind_at family count) (λ before. exact_entry family (count + length before) (last_of before)))
+    (exact_each (entry_behind family count) (entry_behind_at family count) (λ before. exact_entry family (count + length before) (last_or None before)))
 
 pub exact_ip_family : (before : Option AddressFamily) (count : ℕ) → ExactElement (ip_family before count) (ip_family_at before count)
 unfolding ip_family ip_family_at

@@ -2,7 +2,7 @@
 use Rattle.std.proofs.Common.{◌≡◌, ◌≢◌, ◌⊎◌, ℕ, suc, ◌+◌, ◌*◌, ◌^◌, ◌<◌, ◌≤◌, Bool, true, false, cond, eqb, ltb, leb, List, [], ◌∷◌, ◌++◌, length, get_or, take, Option, Some, None, refl, sym, ap, subst, ◌∙◌, inl, inr, arith, length-append, append_assoc}
 use Rattle.std.specs.Prelude.{Result, Ok, Err, OnOk}
 use Rattle.std.specs.declared.alloc.AllocError.{AllocError}
-use Rattle.std.specs.List.{All}
+use Rattle.std.specs.List.{All, last_or}
 use Rattle.std.proofs.lemmas.Bool.{or_parts, ltb-false, leb-false, ne_eqb}
 use Rattle.std.proofs.lemmas.List.{append-nil}
 use Rattle.std.proofs.lemmas.List.Elements.{All-cons}
@@ -20,7 +20,7 @@ use Rattle.payloads.specs.declared.family.AddressFamily.{AddressFamily}
 use Rattle.payloads.specs.declared.family.AddressFamily.TheVariants.{Ipv4, Ipv6}
 use Rattle.payloads.specs.declared.entry.RoaEntry.{RoaEntry}
 use Rattle.payloads.specs.Entry.{is_not_above, is_bad_maximum, HasPrefix}
-use Rattle.payloads.specs.Roa.{as_id, family_number, family_rules, address_family, address, max_length, ip_address, last_of, entry_behind, addresses, ip_family, ip_addr_blocks, Blocks, route_origin_attestation, roa_payload}
+use Rattle.payloads.specs.Roa.{as_id, family_number, family_rules, address_family, address, max_length, ip_address, entry_behind, addresses, ip_family, ip_addr_blocks, Blocks, route_origin_attestation, roa_payload}
 use Rattle.payloads.specs.RoaValues.{RoaValue, all_entries, TreeSpells, RoaSpells}
 use Rattle.payloads.specs.RoaBytes.{address_content, maximum_bytes, entry_bytes, is_of, list_bytes, family_bytes, families_bytes, roa_bytes}
 use Rattle.payloads.specs.Refusal.{goes_back, is_family_below, entry_rules, entries_refusal, roa_refusal}
@@ -28,7 +28,7 @@ use Rattle.payloads.specs.Laws.{RoaRefusesExactly}
 use Rattle.payloads.proofs.Flats.{family_of, AllIn}
 use Rattle.payloads.proofs.Growing.{last_is}
 use Rattle.payloads.proofs.Prefixes.{address_few, address_are, address_spells}
-use Rattle.payloads.proofs.Refusals.{last_behind, none_at, later_right, roa_right}
+use Rattle.payloads.proofs.Refusals.{none_at, later_right, roa_right}
 
 -- ---- how many bytes there are
 
@@ -216,12 +216,12 @@ all_first e es h = (h 0 e (omega arith), λ k d less. h (suc k) d (omega (arith,
 
 -- the entry before it is the last of its family, if one came
 abbrev Follows : List RoaEntry → Option RoaEntry → Type 0
-Follows seen before = (before ≡ last_of seen) ⊎ (seen ≡ [])
+Follows seen before = (before ≡ last_or None seen) ⊎ (seen ≡ [])
 
 -- in its family it stands above the one before it
-above_last : (seen : List RoaEntry) (before : Option RoaEntry) (e : RoaEntry) → Follows seen before → is_not_above before e ≡ false → is_not_above (last_of seen) e ≡ false
+above_last : (seen : List RoaEntry) (before : Option RoaEntry) (e : RoaEntry) → Follows seen before → is_not_above before e ≡ false → is_not_above (last_or None seen) e ≡ false
 above_last seen before e (inl h) k = ap (λ (b : Option RoaEntry). is_not_above b e) (sym h) ∙ k
-above_last seen before e (inr h) k = ap (λ (l : List RoaEntry). is_not_above (last_of l) e) h
+above_last seen before e (inr h) k = ap (λ (l : List RoaEntry). is_not_above (last_or None l) e) h
 
 -- entries of a family with which nothing is wrong
 each_spells : (family : AddressFamily) (count : ℕ) (seen es : List RoaEntry) (before : Option RoaEntry) → entries_refusal (count + length seen) before es ≡ None → Follows seen before → AllIn family es → All HasPrefix es
@@ -235,8 +235,8 @@ each_spells family count seen (e ∷ es) before right follows those all =
       entry_bytes e,
       list_bytes family es,
       record { parts = ap (λ (l : List ℕ). l ++ list_bytes family es) mine },
-      entry_spells family (count + length seen) (last_of seen) e those.0 a.0 r.0.few r.0.maximum (above_last seen before e follows r.0.order),
-      each_spells family count (seen ++ e ∷ []) es (Some e) (ap (λ (n : ℕ). entries_refusal n (Some e) es) (sym next) ∙ r.1) (inl (sym (last_is seen e))) those.1 a.1,
+      entry_spells family (count + length seen) (last_or None seen) e those.0 a.0 r.0.few r.0.maximum (above_last seen before e follows r.0.order),
+      each_spells family count (seen ++ e ∷ []) es (Some e) (ap (λ (n : ℕ). entries_refusal n (Some e) es) (sym next) ∙ r.1) (inl (sym (last_is None seen e))) those.1 a.1,
     )
 
 -- some entries have some bytes
@@ -320,13 +320,12 @@ parts_of index before (e ∷ es) h =
 
 -- nothing is wrong with the front of entries, nor with those behind it
 split_right : (index : ℕ) (before : Option RoaEntry) (es others : List RoaEntry) → entries_refusal index before (es ++ others) ≡ None
-    → (entries_refusal index before es ≡ None) × (entries_refusal (index + length es) (last_behind before es) others ≡ None)
-unfolding last_behind
+    → (entries_refusal index before es ≡ None) × (entries_refusal (index + length es) (last_or before es) others ≡ None)
 split_right index before [] others h = (refl, ap (λ (n : ℕ). entries_refusal n before others) (omega arith) ∙ h)
 split_right index before (e ∷ es) others h =
     let s = none_at index (first_of (entry_rules index before e)) (entries_refusal (suc index) (Some e) (es ++ others)) h in
     let r = split_right (suc index) (Some e) es others s.1 in
-    (later_right index before e es s.0 r.0, ap (λ (n : ℕ). entries_refusal n (last_behind (Some e) es) others) (omega arith) ∙ r.1)
+    (later_right index before e es s.0 r.0, ap (λ (n : ℕ). entries_refusal n (last_or (Some e) es) others) (omega arith) ∙ r.1)
 
 all_split : (es others : List RoaEntry) → All HasPrefix (es ++ others) → All HasPrefix es × All HasPrefix others
 all_split [] others h = ((λ k d less. absurd (omega (arith, less))), h)
@@ -474,8 +473,8 @@ blocks_of (e ∷ es) (x ∷ xs) right some first second all few short =
     record {
       some = is_there x xs;
       few = omega (arith, few, count);
-      before = last_behind None (e ∷ es);
-      right = ap (λ (n : ℕ). entries_refusal n (last_behind None (e ∷ es)) (x ∷ xs)) (omega arith) ∙ r.1;
+      before = last_or None (e ∷ es);
+      right = ap (λ (n : ℕ). entries_refusal n (last_or None (e ∷ es)) (x ∷ xs)) (omega arith) ∙ r.1;
       those = second;
       all = a.1;
     } in (

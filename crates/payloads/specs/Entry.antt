@@ -1,5 +1,5 @@
 -- Entries of a ROA: their order and what each validates.
-use Rattle.std.specs.Prelude.{ℕ, Bool, true, false, not, nat_lt, ◌||◌, ◌==◌, Option, Some, None, unwrap_or}
+use Rattle.std.specs.Prelude.{ℕ, Bool, false, not, nat_lt, ◌||◌, ◌==◌, Option, Some, None, unwrap_or}
 use Rattle.std.specs.Ordering.{nat_cmp, ordering_then, is_lt}
 use Rattle.std.specs.declared.cmp.Ordering.{Ordering}
 use Rattle.prefixes.specs.Address.{IsPrefix}

@@ -1,5 +1,6 @@
 -- The payload of a ROA (RFC 9582 section 4), and the first fault of bytes that spell none.
 use Rattle.std.specs.Prelude.{◌≡◌, ℕ, ◌+◌, ◌&&◌, ◌||◌, Bool, not, nat_lt, nat_le, ◌==◌, List, [], ◌∷◌, length, slice_index, Option, Some, None}
+use Rattle.std.specs.List.{last_or}
 use Rattle.der_lite.specs.Der.{BitsSpell, is_bit_string, bit_count, is_truncated, tag_of, head_rules}
 use Rattle.der_lite.specs.Grammar.{Element, Members, element, primitive, constructed, last, member, optional, each}
 use Rattle.der_lite.specs.Values.{integer_between, bits_number}
@@ -113,19 +114,13 @@ ip_address family count before = element 48 (head_rules 48) (constructed (too_ma
 
 -- ---- 4.3: ipAddrBlocks
 
--- the last of them
-abbrev pub last_of : {A : Type 0} → List A → Option A
-last_of [] = None
-last_of (x ∷ []) = Some x
-last_of (x ∷ y ∷ more) = last_of (y ∷ more)
-
 -- there is a member
 abbrev pub not_empty : List ℕ → List (ℕ × Bool)
 not_empty content = (9, length content == 0) ∷ []
 
 -- the element of each entry behind those before it in its family, and so many of other families
 abbrev pub entry_behind : AddressFamily → ℕ → List RoaEntry → Element RoaEntry
-entry_behind family count before = ip_address family (count + length before) (last_of before)
+entry_behind family count before = ip_address family (count + length before) (last_or None before)
 
 -- addresses SEQUENCE (SIZE(1..MAX)) OF ROAIPAddress
 unfoldable pub addresses : AddressFamily → ℕ → Element (List RoaEntry)

@@ -1,5 +1,6 @@
 -- Reading the payload of a ROA over what the reads of a cursor give.
 use Rattle.std.specs.Prelude.{ℕ, ◌+◌, ◌==◌, ◌&&◌, ◌||◌, Bool, nat_lt, if◌then◌else◌, List, [], ◌∷◌, length, slice_index, Option, Some, None, Result, Ok, Err}
+use Rattle.std.specs.List.{last_or}
 use Rattle.der_lite.specs.Place.{Fault, place_of}
 use Rattle.der_lite.specs.Der.{number, bit_count, tag_of}
 use Rattle.der_lite.specs.Values.{is_negative, bits_value}
@@ -11,7 +12,7 @@ use Rattle.prefixes.specs.declared.prefix.IpPrefix.{IpPrefix}
 use Rattle.payloads.specs.declared.family.AddressFamily.{AddressFamily}
 use Rattle.payloads.specs.declared.family.AddressFamily.TheVariants.{Ipv4, Ipv6}
 use Rattle.payloads.specs.declared.entry.RoaEntry.{RoaEntry}
-use Rattle.payloads.specs.Roa.{no_rules, family_rules, family_width, of_bits, too_many_rules, order_rules, not_empty, last_of, Family, Blocks, RoaTree}
+use Rattle.payloads.specs.Roa.{no_rules, family_rules, family_width, of_bits, too_many_rules, order_rules, not_empty, Family, Blocks, RoaTree}
 
 -- a version that is there is its own fault
 abbrev pub version_fault : Bool → Fault → Fault
@@ -59,7 +60,7 @@ entry_at family count before = sequence_at (too_many_rules count) (valued_at ent
 
 -- an entry behind those before it in its family, and so many of other families
 abbrev pub entry_behind_at : AddressFamily → ℕ → List RoaEntry → Read RoaEntry
-entry_behind_at family count before = entry_at family (count + length before) (last_of before)
+entry_behind_at family count before = entry_at family (count + length before) (last_or None before)
 
 unfoldable pub entries_at : AddressFamily → ℕ → ReadAll (List RoaEntry)
 entries_at family count = read_each (entry_behind_at family count)
