@@ -1,11 +1,12 @@
 -- What is read as an element is spelled so, and what is spelled so is read.
 use Rattle.std.proofs.Common.{◌≡◌, ℕ, ◌+◌, ◌-◌, ◌^◌, ◌<◌, ◌≤◌, Bool, true, false, not, ◌&&◌, ltb, eqb, List, [], ◌∷◌, ◌++◌, length, take, drop, None, refl, sym, ap, ◌∙◌, arith, inl, inr, append_assoc, length-append, length-take, length-drop}
-use Rattle.std.proofs.lemmas.Bool.{cases_lt, le-ltb, ltb-false, or_parts, or_from, and_right, eqb-true, eq-eqb}
+use Rattle.std.proofs.lemmas.Bool.{not-false, cases_lt, le-ltb, ltb-false, or_parts, or_from, and_right, eqb-true, eq-eqb}
 use Rattle.std.proofs.lemmas.List.{take_at, drop_at, take-append-drop, drop-drop, get_or-take, get_or-drop, get_or_past}
 use Rattle.der_lite.specs.Place.{Place, place_of, first_of}
 use Rattle.der_lite.specs.Der.{IsBytes, tlv, length_bytes, announced, told_length, is_length, tag_of, first_length_byte, later_length_bytes, has_length, length_end, content_end, is_truncated, head_rules}
 use Rattle.der_lite.specs.Grammar.{inside, behind, Keeps}
 use Rattle.der_lite.specs.Reading.{content_place, next_place}
+use Rattle.der_lite.proofs.Rules.{kept_first}
 use Rattle.der_lite.proofs.Lengths.{length_tells, told_spells}
 
 -- bytes that begin with a tag and the bytes of a length
@@ -50,14 +51,7 @@ pub record HasHead (tag : ℕ) (bytes : List ℕ) : Type 0 where
   pub tag_is : tag_of bytes ≡ tag
   pub fewest : has_length bytes ≡ true
 
--- three rules are kept where each is
-kept_3 : (a b c : Bool) → first_of ((1, a) ∷ (2, not b) ∷ (3, not c) ∷ []) ≡ None → (a ≡ false) × (b ≡ true) × (c ≡ true)
-kept_3 true b c h = absurd cc
-kept_3 false false c h = absurd cc
-kept_3 false true false h = absurd cc
-kept_3 false true true h = (refl, refl, refl)
-
--- and where each is kept, the three are
+-- where each of three rules is kept, they are
 kept_again : (a b c : Bool) → a ≡ false → b ≡ true → c ≡ true → first_of ((1, a) ∷ (2, not b) ∷ (3, not c) ∷ []) ≡ None
 kept_again a b c ha hb hc = rw (ha, hb, hc) refl
 
@@ -65,8 +59,10 @@ kept_again a b c ha hb hc = rw (ha, hb, hc) refl
 pub head_kept : (tag : ℕ) (bytes : List ℕ) → Keeps (head_rules tag bytes) → HasHead tag bytes
 unfolding head_rules
 head_kept tag bytes h =
-    let k = kept_3 (is_truncated bytes) (eqb (tag_of bytes) tag) (has_length bytes) h in
-    record { whole = k.0; tag_is = eqb-true (tag_of bytes) tag k.1; fewest = k.2 }
+    let k = kept_first 1 (is_truncated bytes) ((2, not (eqb (tag_of bytes) tag)) ∷ (3, not (has_length bytes)) ∷ []) h in
+    let t = kept_first 2 (not (eqb (tag_of bytes) tag)) ((3, not (has_length bytes)) ∷ []) k.1 in
+    let l = kept_first 3 (not (has_length bytes)) [] t.1 in
+    record { whole = k.0; tag_is = eqb-true (tag_of bytes) tag (not-false (eqb (tag_of bytes) tag) t.0); fewest = not-false (has_length bytes) l.0 }
 
 -- bytes that have a head keep its rules
 pub head_keeps : (tag : ℕ) (bytes : List ℕ) → HasHead tag bytes → Keeps (head_rules tag bytes)

@@ -1,24 +1,18 @@
 -- Integers that are not negative: a content has one number, and a number one content.
 use Rattle.std.proofs.Common.{◌≡◌, ◌≢◌, ℕ, zero, suc, ◌+◌, ◌*◌, ◌/◌, ◌^◌, ◌<◌, ◌≤◌, Bool, true, false, not, ◌&&◌, ◌||◌, cond, eqb, ltb, leb, List, [], ◌∷◌, ◌++◌, length, get_or, take, drop, pos, Option, Some, None, refl, sym, ap, subst, ◌∙◌, inl, inr, arith, length-append}
-use Rattle.std.proofs.lemmas.Bool.{or_parts, or_right, leb-false, ltb-false, lt-ltb, cases_lt, cond-true}
+use Rattle.std.proofs.lemmas.Bool.{not-false, or_parts, or_right, leb-false, ltb-false, lt-ltb, cases_lt, cond-true}
 use Rattle.std.proofs.lemmas.Bool.Decides.{nat_tests}
 use Rattle.std.proofs.lemmas.Nat.{div-mul-add}
 use Rattle.std.proofs.lemmas.List.{length-take-le, take-append-drop}
 use Rattle.std.proofs.Math.Seq.{take-suc}
 use Rattle.std.proofs.Math.Nat.{pow-suc, pow-le-pow_right, mul-le-mul_right}
-use Rattle.der_lite.specs.Place.{first_of}
 use Rattle.der_lite.specs.Der.{IsBytes, number, twos_complement, is_integer, IntSpells}
 use Rattle.der_lite.specs.Grammar.{Keeps}
 use Rattle.der_lite.specs.Decoding.{read_primitive}
 use Rattle.der_lite.specs.Values.{is_negative, between_rules, integer_between}
+use Rattle.der_lite.proofs.Rules.{kept_first}
 use Rattle.der_lite.proofs.Exact.{ExactContent, exact_primitive}
 use Rattle.der_lite.proofs.Once.{Once, front_bytes, once_primitive}
-
--- two rules are kept
-pub kept_2 : (m n : ℕ) (a b : Bool) → first_of ((m, not a) ∷ (n, b) ∷ []) ≡ None → (a ≡ true) × (b ≡ false)
-kept_2 m n true true h = absurd cc
-kept_2 m n true false h = (refl, refl)
-kept_2 m n false b h = absurd cc
 
 -- an integer that is not negative
 pub value_is : (content : List ℕ) → is_negative content ≡ false → twos_complement content ≡ pos (number content)
@@ -30,10 +24,11 @@ pos_is m n e = cc
 module _ (least most fault : ℕ) where
   pub between_kept : (content : List ℕ) → Keeps (between_rules least most fault content) → (is_integer content ≡ true) × (is_negative content ≡ false) × (least ≤ number content) × (number content ≤ most)
   between_kept content h =
-      let k = kept_2 4 fault (is_integer content) (is_negative content || ltb (number content) least || ltb most (number content)) h in
-      let o = or_parts (is_negative content || ltb (number content) least) (ltb most (number content)) k.1 in
+      let out : Bool = is_negative content || ltb (number content) least || ltb most (number content) in
+      let k = kept_first 4 (not (is_integer content)) ((fault, out) ∷ []) h in
+      let o = or_parts (is_negative content || ltb (number content) least) (ltb most (number content)) (kept_first fault out [] k.1).0 in
       let n = or_parts (is_negative content) (ltb (number content) least) o.0 in
-      (k.0, n.0, ltb-false (number content) least n.1, ltb-false most (number content) o.1)
+      (not-false (is_integer content) k.0, n.0, ltb-false (number content) least n.1, ltb-false most (number content) o.1)
 
   pub exact_between : ExactContent (integer_between least most fault) (read_primitive (between_rules least most fault) number)
   exact_between = exact_primitive (λ n content. IntSpells (pos n) content) (between_rules least most fault) number

@@ -4,6 +4,16 @@ use Rattle.der_lite.specs.Place.{Fault, first_of}
 use Rattle.der_lite.specs.Grammar.{Breaks, Keeps}
 use Rattle.der_lite.specs.Reading.{◌>>=◌, judged}
 
+-- the first rule is kept, and the others
+pub kept_first : (number : ℕ) (a : Bool) (rules : List (ℕ × Bool)) → Keeps ((number, a) ∷ rules) → (a ≡ false) × Keeps rules
+kept_first number true rules h = absurd cc
+kept_first number false rules h = (refl, h)
+
+-- a rule that is kept, before others
+pub kept_on : (number : ℕ) (a : Bool) (rules : List (ℕ × Bool)) → a ≡ false → Keeps rules → Keeps ((number, a) ∷ rules)
+kept_on number true rules h later = absurd cc
+kept_on number false rules h later = later
+
 -- where no rule is broken, what follows is the result
 pub judged-kept : {A : Type 0} (rules : List (ℕ × Bool)) (at : ℕ) (r : Result A Fault) → first_of rules ≡ None → judged rules at r ≡ r
 judged-kept [] at r kept = refl

@@ -1,20 +1,21 @@
 -- Reading a GeneralizedTime gives the moment that the grammar says.
-use Rattle.std.proofs.Common.{◌≡◌, ℕ, Bool, true, false, not, List, [], ◌∷◌, get_or, None, Result, Ok, Err, refl, sym, ap, ◌∙◌, ◌⊎◌, inl, inr}
+use Rattle.std.proofs.Common.{◌≡◌, ℕ, Bool, true, false, not, List, [], ◌∷◌, get_or, Result, Ok, Err, refl, sym, ap, ◌∙◌, ◌⊎◌, inl, inr}
 use Rattle.std.specs.Ordering.{ordering_reverse, nat_cmp, is_eq, is_lt, is_le}
 use Rattle.std.specs.declared.cmp.Ordering.{Ordering}
 use Rattle.std.specs.declared.cmp.Ordering.TheVariants.{Less, Equal, Greater}
 use Rattle.std.specs.Cmp.{IsTotalOrder, nat_cmp_total}
 use Rattle.std.specs.Cmp.Lexicographic.{slice_cmp, lists_total}
+use Rattle.std.proofs.lemmas.Bool.{not-false}
 use Rattle.std.proofs.lemmas.Map.Text.{is_eq-slice_cmp}
 use Rattle.std.proofs.lemmas.Slice.Eq.{bytes_eq-Decides}
-use Rattle.der_lite.specs.Place.{Place, Fault, first_of}
+use Rattle.der_lite.specs.Place.{Place, Fault}
 use Rattle.der_lite.specs.Der.{tlv, head_rules}
 use Rattle.der_lite.specs.Moments.{CivilMoment, told, numbers_of, moment_cmp, moment_before, moment_of, is_time, TimeSpells}
 use Rattle.der_lite.specs.Grammar.{primitive}
 use Rattle.der_lite.specs.Reading.{◌>>=◌, judged, element_at, content_at, time_at}
 use Rattle.der_lite.specs.Decoding.{ReadContent, read_element, read_primitive}
 use Rattle.der_lite.specs.Times.{time_rules, timed, timed_at}
-use Rattle.der_lite.proofs.Rules.{judged-bind}
+use Rattle.der_lite.proofs.Rules.{judged-bind, kept_first}
 use Rattle.der_lite.proofs.Exact.{ExactElement, exact_element, exact_primitive}
 use Rattle.der_lite.proofs.Once.{Once}
 use Rattle.der_lite.proofs.Plain.{usual_head, element_is, exact_along}
@@ -61,17 +62,12 @@ module _ (rules : CivilMoment → List (ℕ × Bool)) where
   unfolding time_at content_at read_time with_next given content_of ruled
   timed_is p = element_is 24 read_time p ∙ from_element p.at (element_at 24 p)
 
-  -- a content that keeps the rules is a time
-  kept_time : (inner : List ℕ) (time : Bool) → first_of ((4, not time) ∷ rules (moment_of inner)) ≡ None → time ≡ true
-  kept_time inner true h = refl
-  kept_time inner false h = absurd cc
-
   -- reading it is exact
   pub exact_timed : ExactElement (timed rules) (timed_at rules)
   unfolding read_time
   exact_timed =
       let c = exact_primitive TimeSpells (time_rules rules) moment_of
-      (λ inner bytes kept. time_is inner (kept_time inner (is_time inner) kept))
+      (λ inner bytes kept. time_is inner (not-false (is_time inner) (kept_first 4 (not (is_time inner)) (rules (moment_of inner)) kept).0))
       (λ inner v kept s. (spelled_is inner v s).1) in
       exact_along (timed rules) (read_element (head_rules 24) read_time) (timed_at rules) timed_is
       (exact_element 24 (head_rules 24) (primitive TimeSpells (time_rules rules)) read_time (usual_head 24) c)

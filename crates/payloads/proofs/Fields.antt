@@ -1,19 +1,19 @@
 -- The fields of a ROA are read exactly.
-use Rattle.std.proofs.Common.{◌≡◌, ℕ, pos, None, Bool, true, false, not, ◌&&◌, ◌||◌, cond, eqb, ltb, List, [], ◌∷◌, ◌++◌, length, get_or, Option, Result, Ok, Err, refl, sym, ap, ◌∙◌, arith}
-use Rattle.std.proofs.lemmas.Bool.{and_parts, eqb-true, ne_eqb}
-use Rattle.der_lite.specs.Place.{Place, Fault, first_of}
+use Rattle.std.proofs.Common.{◌≡◌, ℕ, pos, Bool, true, false, not, ◌&&◌, ◌||◌, cond, eqb, ltb, List, [], ◌∷◌, ◌++◌, length, get_or, Option, Result, Ok, Err, refl, sym, ap, ◌∙◌, arith}
+use Rattle.std.proofs.lemmas.Bool.{and_parts, or_parts, not-false, eqb-true, ne_eqb}
+use Rattle.der_lite.specs.Place.{Place, Fault}
 use Rattle.der_lite.specs.Der.{number, is_integer, IntSpells, is_bit_string, bit_count, head_rules, is_truncated, has_length, tag_of}
 use Rattle.der_lite.specs.Grammar.{element, primitive}
 use Rattle.der_lite.specs.Reading.{◌>>=◌, judged, element_at, content_at, integer_at, content_place, next_place}
 use Rattle.der_lite.specs.Decoding.{Read, read_element, read_primitive}
 use Rattle.der_lite.specs.Values.{bits_value}
 use Rattle.der_lite.specs.Fields.{field_at}
-use Rattle.der_lite.proofs.Rules.{judged-bind}
+use Rattle.der_lite.proofs.Rules.{judged-bind, kept_first, kept_on}
 use Rattle.der_lite.proofs.Elements.{head_kept}
 use Rattle.der_lite.proofs.Exact.{ExactElement, ExactContent, IsHead, exact_element, exact_primitive}
 use Rattle.der_lite.proofs.Plain.{exact_along}
 use Rattle.der_lite.proofs.Fields.{judged-append, exact_field}
-use Rattle.der_lite.proofs.Integers.{kept_2, exact_between}
+use Rattle.der_lite.proofs.Integers.{exact_between}
 use Rattle.der_lite.proofs.BitStrings.{taken, bits_spelled}
 use Rattle.prefixes.specs.Payload.{block_of, width_of}
 use Rattle.prefixes.specs.declared.prefix.IpPrefix.{IpPrefix}
@@ -24,23 +24,13 @@ use Rattle.payloads.specs.RoaReading.{with_version, range_rules, as_id_at, famil
 
 -- ---- the place of the version
 
--- what is kept behind two rules that are kept
-head_usual : (a b : Bool) (rules : List (ℕ × Bool)) → first_of ((1, a) ∷ (6, b) ∷ rules) ≡ None → first_of rules ≡ None
-head_usual true b rules h = absurd cc
-head_usual false true rules h = absurd cc
-head_usual false false rules h = h
-
--- two more rules that are kept
-head_keeps : (a b : Bool) (rules : List (ℕ × Bool)) → a ≡ false → b ≡ false → first_of rules ≡ None → first_of ((1, a) ∷ (6, b) ∷ rules) ≡ None
-head_keeps a b rules ha hb h = rw (ha, hb) h
-
 -- an INTEGER has no tag of a version
 version_head : IsHead 2 first_head
 version_head = record {
-  usual = λ bytes h. head_usual (is_truncated bytes) (eqb (tag_of bytes) 160) (head_rules 2 bytes) h;
+  usual = λ bytes h. (kept_first 6 (eqb (tag_of bytes) 160) (head_rules 2 bytes) (kept_first 1 (is_truncated bytes) ((6, eqb (tag_of bytes) 160) ∷ head_rules 2 bytes) h).1).1;
   keeps = λ bytes h.
       let k = head_kept 2 bytes h in
-      head_keeps (is_truncated bytes) (eqb (tag_of bytes) 160) (head_rules 2 bytes) k.whole (ne_eqb (tag_of bytes) 160 (λ n. absurd (omega (arith, k.tag_is)))) h;
+      kept_on 1 (is_truncated bytes) ((6, eqb (tag_of bytes) 160) ∷ head_rules 2 bytes) k.whole (kept_on 6 (eqb (tag_of bytes) 160) (head_rules 2 bytes) (ne_eqb (tag_of bytes) 160 (λ n. absurd (omega (arith, k.tag_is)))) h);
 }
 
 -- where there is no version the read is as it was
@@ -105,13 +95,6 @@ two_cells (a ∷ []) h = absurd (omega arith)
 two_cells (a ∷ b ∷ []) h = refl
 two_cells (a ∷ b ∷ c ∷ more) h = absurd (omega arith)
 
--- the first of two rules is kept
-kept_or : (m n : ℕ) (a b c : Bool) → first_of ((m, not a || b) ∷ (n, c) ∷ []) ≡ None → (a ≡ true) × (b ≡ false) × (c ≡ false)
-kept_or m n true true c h = absurd cc
-kept_or m n true false true h = absurd cc
-kept_or m n true false false h = (refl, refl, refl)
-kept_or m n false b c h = absurd cc
-
 -- the number of a family that is 1 or 2
 number_by : (n : ℕ) (is_one : Bool) → eqb n 1 ≡ is_one → (is_one || eqb n 2) ≡ true → family_number (cond is_one Ipv4 Ipv6) ≡ n
 number_by n true e h = sym (eqb-true n 1 e)
@@ -135,7 +118,9 @@ unfolding address_family address_family_at
 exact_address_family before =
     exact_field 4 (λ content. []) (family_rules before) family_in FamilySpells
     (exact_primitive FamilySpells (family_rules before) family_in
-    (λ content bytes kept. family_is content (kept_or 8 12 (is_family content) (eqb (get_or content 1 0) (number_before before)) (ltb (get_or content 1 0) (number_before before)) kept).0)
+    (λ content bytes kept.
+    let k = kept_first 8 (not (is_family content) || eqb (get_or content 1 0) (number_before before)) ((12, ltb (get_or content 1 0) (number_before before)) ∷ []) kept in
+    family_is content (not-false (is_family content) (or_parts (not (is_family content)) (eqb (get_or content 1 0) (number_before before)) k.0).0))
     (λ content family kept s. ap family_in s ∙ family_again family))
 
 -- ---- the prefix and its maximum
@@ -145,7 +130,7 @@ unfolding address address_at
 exact_address family =
     exact_field 3 (λ content. (4, not (is_bit_string content)) ∷ []) (λ content. (10, ltb (family_width family) (bit_count content)) ∷ []) (prefix_in family) (PrefixSpells family)
     (exact_primitive (PrefixSpells family) (address_rules family) (prefix_in family)
-    (λ content bytes kept. record { bits = bits_value content; spelled = bits_spelled content (kept_2 4 10 (is_bit_string content) (ltb (family_width family) (bit_count content)) kept).0; is = refl })
+    (λ content bytes kept. record { bits = bits_value content; spelled = bits_spelled content (not-false (is_bit_string content) (kept_first 4 (not (is_bit_string content)) ((10, ltb (family_width family) (bit_count content)) ∷ []) kept).0); is = refl })
     (λ content prefix kept s. ap (of_bits family) (ap bits_value s.spelled.counted ∙ taken s.spelled.unused s.spelled.body s.bits s.spelled.padded) ∙ sym s.is))
 
 pub exact_max_length : (prefix : IpPrefix) → ExactElement (max_length prefix) (max_length_at prefix)

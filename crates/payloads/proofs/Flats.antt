@@ -2,10 +2,10 @@
 use Rattle.std.proofs.Common.{◌≡◌, ◌≢◌, ℕ, Bool, true, false, not, ◌||◌, eqb, ltb, List, [], ◌∷◌, ◌++◌, length, get_or, Option, Some, None, refl, sym, ap, subst, ◌∙◌}
 use Rattle.std.proofs.lemmas.Bool.{or_parts, eq-eqb}
 use Rattle.std.proofs.lemmas.List.{append-nil}
-use Rattle.der_lite.specs.Place.{first_of}
 use Rattle.der_lite.specs.Grammar.{EachSpells, OptionSpells}
 use Rattle.prefixes.specs.declared.prefix.IpPrefix.{IpPrefix}
 use Rattle.prefixes.specs.declared.prefix.IpPrefix.TheVariants.{V4, V6}
+use Rattle.der_lite.proofs.Rules.{kept_first}
 use Rattle.payloads.specs.declared.family.AddressFamily.{AddressFamily}
 use Rattle.payloads.specs.declared.family.AddressFamily.TheVariants.{Ipv4, Ipv6}
 use Rattle.payloads.specs.declared.entry.RoaEntry.{RoaEntry}
@@ -110,11 +110,6 @@ flat_one (asn, ((f, xs), m)) (other, ((g, ys), n)) i j e =
     ∙ ap (λ (l : List RoaEntry). (other, ((g, l), m))) r.1 ∙ ap (λ (o : Option Family). (other, ((g, ys), o))) rest
 
 -- ---- the trees that are spelled
-
--- the first rule is kept, and the others
-pub kept_first : (m : ℕ) (a : Bool) (rules : List (ℕ × Bool)) → first_of ((m, a) ∷ rules) ≡ None → (a ≡ false) × (first_of rules ≡ None)
-kept_first m true rules h = absurd cc
-kept_first m false rules h = (refl, h)
 
 -- spelled entries are of their family
 all_in : (family : AddressFamily) (count : ℕ) (before es : List RoaEntry) (bytes : List ℕ) → EachSpells (entry_behind family count) before es bytes → AllIn family es

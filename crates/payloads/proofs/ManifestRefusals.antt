@@ -15,13 +15,8 @@ use Rattle.payloads.specs.declared.fault.ValueFault.{ValueFault}
 use Rattle.payloads.specs.Faults.{fault_of}
 use Rattle.payloads.specs.Refusal.{Finds}
 use Rattle.payloads.specs.Gives.{GivesAllOrMemory, DecodesManifest}
-use Rattle.payloads.proofs.Flats.{kept_first}
+use Rattle.der_lite.proofs.Rules.{kept_first, kept_on}
 use Rattle.payloads.proofs.Manifests.{exact_payload}
-
--- a rule that is kept, before others
-pub kept_on : (number : ℕ) (a : Bool) (rules : List (ℕ × Bool)) → a ≡ false → first_of rules ≡ None → first_of ((number, a) ∷ rules) ≡ None
-kept_on number true rules h later = absurd cc
-kept_on number false rules h later = later
 
 -- one of three
 or_three : (a b c : Bool) → a ≡ false → (b || c) ≡ false → (a || b || c) ≡ false

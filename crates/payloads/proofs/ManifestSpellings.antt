@@ -3,7 +3,7 @@ use Rattle.std.proofs.Common.{◌≡◌, ℕ, zero, suc, ◌+◌, ◌*◌, ◌/�
 use Rattle.std.specs.Prelude.{Result, Ok, Err, OnOk}
 use Rattle.std.specs.declared.alloc.AllocError.{AllocError}
 use Rattle.std.specs.List.{All}
-use Rattle.std.proofs.lemmas.Bool.{or_parts, or_from, not_from_true, leb-false, ltb-false, lt-leb, le-ltb, eq-eqb}
+use Rattle.std.proofs.lemmas.Bool.{or_parts, or_from, not-false, not_from_true, leb-false, ltb-false, lt-leb, le-ltb, eq-eqb}
 use Rattle.std.proofs.lemmas.List.{append-nil}
 use Rattle.std.proofs.Math.Seq.{take-suc}
 use Rattle.std.proofs.lemmas.List.Elements.{All-cons, All-append, All-head, All-tail}
@@ -21,8 +21,8 @@ use Rattle.payloads.specs.Manifest.{manifest_number, this_update, next_rules, ne
 use Rattle.payloads.specs.ManifestBytes.{file_bytes, files_bytes, front_bytes, manifest_bytes}
 use Rattle.payloads.specs.ManifestRefusal.{value_rules, file_rules, files_refusal, manifest_refusal, HasHash, HasShortName}
 use Rattle.payloads.proofs.FileNames.{name_facts, ascii_are}
-use Rattle.payloads.proofs.Flats.{kept_first}
-use Rattle.payloads.proofs.ManifestRefusals.{kept_on, manifest_right}
+use Rattle.der_lite.proofs.Rules.{kept_first, kept_on}
+use Rattle.payloads.proofs.ManifestRefusals.{manifest_right}
 use Rattle.payloads.proofs.Decoding.{are_bytes}
 use Rattle.payloads.specs.Laws.{IsHash, ManifestRefusesExactly}
 use Rattle.payloads.proofs.Refusals.{none_at}
@@ -102,11 +102,6 @@ pub record FirstRight (before : List ListedFile) (file : ListedFile) (files : Li
   pub new : is_listed file.name before ≡ false
   pub later : files_refusal (before ++ file ∷ []) files ≡ None
 
--- a test of which the opposite is false
-of_not : (a : Bool) → not a ≡ false → a ≡ true
-of_not true h = refl
-of_not false h = absurd cc
-
 first_file : (before : List ListedFile) (file : ListedFile) (files : List ListedFile) → files_refusal before (file ∷ files) ≡ None → FirstRight before file files
 first_file before file files h =
     let n = none_at (length before) (first_of (file_rules before file)) (files_refusal (before ++ file ∷ []) files) h in
@@ -114,7 +109,7 @@ first_file before file files h =
     let name = kept_first 16 (not (is_name file.name)) ((18, is_listed file.name before) ∷ []) many.1 in
     record {
       few = leb-false 65536 (length before) many.0;
-      name = of_not (is_name file.name) name.0;
+      name = not-false (is_name file.name) name.0;
       new = (kept_first 18 (is_listed file.name before) [] name.1).0;
       later = n.1;
     }
@@ -147,10 +142,10 @@ is_right m h =
     let o = or_parts (not (is_integer m.number) || is_negative m.number) (ltb 20 (length m.number)) v.0 in
     let i = or_parts (not (is_integer m.number)) (is_negative m.number) o.0 in
     record {
-      fewest = of_not (is_integer m.number) i.0;
+      fewest = not-false (is_integer m.number) i.0;
       natural = i.1;
       short = ltb-false 20 (length m.number) o.1;
-      order = of_not (moment_before m.this_update m.next_update) (kept_first 14 (not (moment_before m.this_update m.next_update)) [] v.1).0;
+      order = not-false (moment_before m.this_update m.next_update) (kept_first 14 (not (moment_before m.this_update m.next_update)) [] v.1).0;
       files = n.1;
     }
 

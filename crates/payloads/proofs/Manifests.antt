@@ -1,6 +1,6 @@
 -- Reading the payload of a manifest is exact.
-use Rattle.std.proofs.Common.{◌≡◌, ℕ, ◌^◌, ◌%◌, ◌||◌, Bool, true, false, not, eqb, ltb, bytes_eq, List, [], ◌∷◌, length, get_or, drop, refl, ap, arith}
-use Rattle.std.proofs.lemmas.Bool.{and_parts, or_parts, eqb-true, ltb-true}
+use Rattle.std.proofs.Common.{◌≡◌, ℕ, ◌^◌, ◌%◌, ◌||◌, true, not, eqb, ltb, bytes_eq, List, [], ◌∷◌, length, get_or, drop, refl, ap, arith}
+use Rattle.std.proofs.lemmas.Bool.{not-false, and_parts, or_parts, eqb-true, ltb-true}
 use Rattle.std.proofs.lemmas.Slice.Eq.{bytes_eq-Decides}
 use Rattle.der_lite.specs.Der.{is_integer, is_bit_string, bit_count, is_ia5}
 use Rattle.der_lite.specs.Moments.{CivilMoment}
@@ -12,17 +12,12 @@ use Rattle.der_lite.specs.Values.{is_negative}
 use Rattle.der_lite.proofs.Exact.{ExactElement, ExactMembers, exact_primitive, exact_member, exact_each}
 use Rattle.der_lite.proofs.Fields.{exact_field, exact_sequence, exact_last_at, exact_valued}
 use Rattle.der_lite.proofs.Integers.{value_is}
+use Rattle.der_lite.proofs.Rules.{kept_first}
 use Rattle.der_lite.proofs.Times.{exact_timed, exact_time}
 use Rattle.payloads.specs.Roa.{no_rules}
 use Rattle.payloads.specs.Manifest.{NumberSpells, number_range, number_rules, manifest_number, this_update, next_rules, next_update, sha_256, AlgorithmSpells, algorithm_rules, hash_algorithm, ListedFile, listed_rules, name_rules, NameSpells, file_name, HashSpells, hash_length, hash_rules, file_hash, too_many_files, file_parts, file_members, file_and_hash, file_list, manifest_parts, behind_next, behind_this, manifest_members, manifest, manifest_payload}
 use Rattle.payloads.specs.ManifestReading.{number_at, next_at, algorithm_at, name_at, hash_at, file_of, file_at, files_at, manifest_of, behind_next_at, behind_this_at, manifest_at}
 use Rattle.payloads.proofs.Fields.{exact_first}
-use Rattle.payloads.proofs.Flats.{kept_first}
-
--- what is not false is true
-not_false : (a : Bool) → not a ≡ false → a ≡ true
-not_false true h = refl
-not_false false h = absurd cc
 
 pub exact_number : ExactElement manifest_number number_at
 unfolding manifest_number number_at
@@ -32,7 +27,7 @@ exact_number =
     (λ content bytes kept.
     let k = kept_first 4 (not (is_integer content)) (number_range content) kept in
     let r = kept_first 13 (is_negative content || ltb 20 (length content)) [] k.1 in
-    record { bytes = refl; spelled = record { value = value_is content (or_parts (is_negative content) (ltb 20 (length content)) r.0).0; fewest = not_false (is_integer content) k.0 } })
+    record { bytes = refl; spelled = record { value = value_is content (or_parts (is_negative content) (ltb 20 (length content)) r.0).0; fewest = not-false (is_integer content) k.0 } })
     (λ content n kept s. s.bytes))
 
 exact_this : ExactElement this_update time_at
@@ -48,7 +43,7 @@ unfolding hash_algorithm algorithm_at
 exact_algorithm =
     exact_field 6 (λ content. []) algorithm_rules (λ content. tt) AlgorithmSpells
     (exact_primitive AlgorithmSpells algorithm_rules (λ content. tt)
-    (λ content bytes kept. (bytes_eq-Decides content sha_256).0 (not_false (bytes_eq content sha_256) (kept_first 15 (not (bytes_eq content sha_256)) [] kept).0))
+    (λ content bytes kept. (bytes_eq-Decides content sha_256).0 (not-false (bytes_eq content sha_256) (kept_first 15 (not (bytes_eq content sha_256)) [] kept).0))
     (λ content u kept s. refl))
 
 exact_name : (before : List ListedFile) → ExactElement (file_name before) (name_at before)
@@ -74,7 +69,7 @@ exact_hash =
     (λ content bytes kept.
     let k = kept_first 4 (not (is_bit_string content)) (hash_length content) kept in
     let r = kept_first 17 (not (eqb (bit_count content) 256)) [] k.1 in
-    no_unused content (not_false (is_bit_string content) k.0) (eqb-true (bit_count content) 256 (not_false (eqb (bit_count content) 256) r.0)))
+    no_unused content (not-false (is_bit_string content) k.0) (eqb-true (bit_count content) 256 (not-false (eqb (bit_count content) 256) r.0)))
     (λ content hash kept s. ap (λ (l : List ℕ). drop 1 l) s))
 
 pub exact_file : (before : List ListedFile) → ExactElement (file_and_hash before) (file_at before)

@@ -1,9 +1,10 @@
 -- Nothing is wrong with a value that is spelled.
-use Rattle.std.proofs.Common.{◌≡◌, ◌≢◌, ◌⊎◌, ℕ, zero, suc, ◌+◌, ◌<◌, ◌≤◌, Bool, true, false, not, ◌||◌, eqb, ltb, leb, List, [], ◌∷◌, ◌++◌, length, get_or, Option, Some, None, refl, sym, ap, subst, ◌∙◌, inl, inr, arith, length-append}
+use Rattle.std.proofs.Common.{◌≡◌, ◌≢◌, ◌⊎◌, ℕ, zero, suc, ◌+◌, ◌<◌, ◌≤◌, Bool, false, not, ◌||◌, eqb, ltb, leb, List, [], ◌∷◌, ◌++◌, length, get_or, Option, Some, None, refl, sym, ap, subst, ◌∙◌, inl, inr, arith, length-append}
 use Rattle.std.proofs.lemmas.Bool.{le-ltb, or_parts}
 use Rattle.std.specs.List.{last_or}
 use Rattle.der_lite.specs.Place.{first_of}
 use Rattle.der_lite.specs.Grammar.{EachSpells}
+use Rattle.der_lite.proofs.Rules.{kept_first}
 use Rattle.der_lite.proofs.Integers.{between_kept, value_is, pos_is}
 use Rattle.prefixes.specs.Payload.{block_of, width_of}
 use Rattle.prefixes.specs.declared.prefix.IpPrefix.{IpPrefix}
@@ -16,7 +17,7 @@ use Rattle.payloads.specs.Roa.{family_number, is_family, address_family, family_
 use Rattle.payloads.specs.RoaValues.{all_entries, TreeSpells, RoaValue, RoaSpells}
 use Rattle.payloads.specs.Refusal.{goes_back, is_family_below, entry_rules, at_index, entries_refusal, roa_refusal}
 use Rattle.payloads.proofs.RoaOnce.{few_bits}
-use Rattle.payloads.proofs.Flats.{family_of, AllIn, IsAddresses, kept_first, addresses_are}
+use Rattle.payloads.proofs.Flats.{family_of, AllIn, IsAddresses, addresses_are}
 use Rattle.payloads.proofs.Growing.{last_is}
 
 -- ---- the maximum
@@ -211,22 +212,28 @@ roa_right roa bytes s = ap (λ (r : RoaValue). roa_refusal r.entries) (sym s.is_
 
 -- ---- what is right with each entry
 
--- three rules of four are kept
-third_kept : (a b c : Bool) (rules : List (ℕ × Bool)) → first_of ((19, a) ∷ (12, b) ∷ (11, c) ∷ rules) ≡ None → c ≡ false
-third_kept true b c rules h = absurd cc
-third_kept false true c rules h = absurd cc
-third_kept false false true rules h = absurd cc
-third_kept false false false rules h = refl
+-- four rules are kept
+pub record RulesKept (index : ℕ) (before : Option RoaEntry) (e : RoaEntry) : Type 0 where
+  pub few : leb 65536 index ≡ false
+  pub family : is_family_below before e ≡ false
+  pub maximum : is_bad_maximum e ≡ false
+  pub order : is_not_above before e ≡ false
+
+-- nothing is wrong with the first of entries, nor with the others
+pub first_and_later : (index : ℕ) (before : Option RoaEntry) (e : RoaEntry) (es : List RoaEntry) → entries_refusal index before (e ∷ es) ≡ None → RulesKept index before e × (entries_refusal (suc index) (Some e) es ≡ None)
+first_and_later index before e es h =
+    let s = none_at index (first_of (entry_rules index before e)) (entries_refusal (suc index) (Some e) es) h in
+    let above : List (ℕ × Bool) = (12, is_not_above before e) ∷ [] in
+    let few = kept_first 19 (leb 65536 index) ((12, is_family_below before e) ∷ (11, is_bad_maximum e) ∷ above) s.0 in
+    let family = kept_first 12 (is_family_below before e) ((11, is_bad_maximum e) ∷ above) few.1 in
+    let maximum = kept_first 11 (is_bad_maximum e) above family.1 in
+    (record { few = few.0; family = family.0; maximum = maximum.0; order = (kept_first 12 (is_not_above before e) [] maximum.1).0 }, s.1)
 
 -- entries that are right have right maxima
 maxima_from : (index : ℕ) (before : Option RoaEntry) (es : List RoaEntry) (i : ℕ) (d : RoaEntry) → entries_refusal index before es ≡ None → i < length es → is_bad_maximum (get_or es i d) ≡ false
 maxima_from index before [] i d h less = absurd (omega (arith, less))
-maxima_from index before (e ∷ es) zero d h less =
-    let s = none_at index (first_of (entry_rules index before e)) (entries_refusal (suc index) (Some e) es) h in
-    third_kept (leb 65536 index) (is_family_below before e) (is_bad_maximum e) ((12, is_not_above before e) ∷ []) s.0
-maxima_from index before (e ∷ es) (suc i) d h less =
-    let s = none_at index (first_of (entry_rules index before e)) (entries_refusal (suc index) (Some e) es) h in
-    maxima_from (suc index) (Some e) es i d s.1 (omega (arith, less))
+maxima_from index before (e ∷ es) zero d h less = (first_and_later index before e es h).0.maximum
+maxima_from index before (e ∷ es) (suc i) d h less = maxima_from (suc index) (Some e) es i d (first_and_later index before e es h).1 (omega (arith, less))
 
 pub maxima_right : (es : List RoaEntry) (i : ℕ) (d : RoaEntry) → roa_refusal es ≡ None → i < length es → is_bad_maximum (get_or es i d) ≡ false
 unfolding roa_refusal

@@ -1,11 +1,11 @@
 -- No ROA has two spellings.
-use Rattle.std.proofs.Common.{◌≡◌, ℕ, ◌+◌, ◌≤◌, Bool, true, false, None, not, ltb, List, [], ◌∷◌, length, Option, Some, refl, sym, ap, subst, ◌∙◌, arith}
+use Rattle.std.proofs.Common.{◌≡◌, ℕ, ◌+◌, ◌≤◌, Bool, None, not, ltb, List, [], ◌∷◌, length, Option, Some, sym, ap, subst, ◌∙◌, arith}
 use Rattle.std.proofs.lemmas.Bool.{ltb-false}
 use Rattle.std.specs.List.{last_or}
-use Rattle.der_lite.specs.Place.{first_of}
 use Rattle.der_lite.specs.Der.{BitsSpell, is_bit_string, bit_count, head_rules}
 use Rattle.der_lite.specs.Grammar.{Keeps, primitive, constructed, member, last, optional, each}
 use Rattle.der_lite.specs.Values.{integer_between}
+use Rattle.der_lite.proofs.Rules.{kept_first}
 use Rattle.der_lite.proofs.Once.{Once, once_element, once_primitive, once_constructed, once_last, once_member, once_optional, once_each}
 use Rattle.der_lite.proofs.Fields.{once_valued}
 use Rattle.der_lite.proofs.Integers.{once_between}
@@ -25,16 +25,12 @@ bits_from : (family : AddressFamily) (bits others : List Bool) → length bits �
 bits_from Ipv4 bits others h e = bits_one bits others 32 h (ap (λ (p : IpPrefix). (block_of p).len) e) (ap (λ (p : IpPrefix). (block_of p).addr) e)
 bits_from Ipv6 bits others h e = bits_one bits others 128 h (ap (λ (p : IpPrefix). (block_of p).len) e) (ap (λ (p : IpPrefix). (block_of p).addr) e)
 
--- the second rule is kept
-kept_second : (m n : ℕ) (a b : Bool) → first_of ((m, a) ∷ (n, b) ∷ []) ≡ None → b ≡ false
-kept_second m n true b h = absurd cc
-kept_second m n false true h = absurd cc
-kept_second m n false false h = refl
-
 -- the bits of a spelled prefix are as many as an address has, or fewer
 pub few_bits : (family : AddressFamily) (prefix : IpPrefix) (content : List ℕ) (s : PrefixSpells family prefix content) → Keeps (address_rules family content) → length s.bits ≤ family_width family
 few_bits family prefix content s kept =
-    let within = ltb-false (family_width family) (bit_count content) (kept_second 4 10 (not (is_bit_string content)) (ltb (family_width family) (bit_count content)) kept) in
+    let long : Bool = ltb (family_width family) (bit_count content) in
+    let k = kept_first 4 (not (is_bit_string content)) ((10, long) ∷ []) kept in
+    let within = ltb-false (family_width family) (bit_count content) (kept_first 10 long [] k.1).0 in
     omega (arith, within, spelled_count s.bits content s.spelled)
 
 once_address : (family : AddressFamily) → Once (address family).Spells

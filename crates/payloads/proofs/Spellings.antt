@@ -23,12 +23,12 @@ use Rattle.payloads.specs.Entry.{is_not_above, is_bad_maximum, HasPrefix}
 use Rattle.payloads.specs.Roa.{as_id, family_number, family_rules, address_family, address, max_length, ip_address, entry_behind, addresses, ip_family, ip_addr_blocks, Blocks, route_origin_attestation, roa_payload}
 use Rattle.payloads.specs.RoaValues.{RoaValue, all_entries, TreeSpells, RoaSpells}
 use Rattle.payloads.specs.RoaBytes.{address_content, maximum_bytes, entry_bytes, is_of, list_bytes, family_bytes, families_bytes, roa_bytes}
-use Rattle.payloads.specs.Refusal.{goes_back, is_family_below, entry_rules, entries_refusal, roa_refusal}
+use Rattle.payloads.specs.Refusal.{goes_back, entry_rules, entries_refusal, roa_refusal}
 use Rattle.payloads.specs.Laws.{RoaRefusesExactly}
 use Rattle.payloads.proofs.Flats.{family_of, AllIn}
 use Rattle.payloads.proofs.Growing.{last_is}
 use Rattle.payloads.proofs.Prefixes.{address_few, address_are, address_spells}
-use Rattle.payloads.proofs.Refusals.{none_at, later_right, roa_right}
+use Rattle.payloads.proofs.Refusals.{first_and_later, none_at, later_right, roa_right}
 
 -- ---- how many bytes there are
 
@@ -189,27 +189,6 @@ of_other Ipv4 Ipv6 (V6 p) h n = refl
 of_other Ipv6 Ipv4 (V4 p) h n = refl
 of_other Ipv6 Ipv4 (V6 p) h n = absurd cc
 
--- four rules are kept
-record RulesKept (index : ℕ) (before : Option RoaEntry) (e : RoaEntry) : Type 0 where
-  pub few : leb 65536 index ≡ false
-  pub family : is_family_below before e ≡ false
-  pub maximum : is_bad_maximum e ≡ false
-  pub order : is_not_above before e ≡ false
-
-four_kept : (a b c d : Bool) → first_of ((19, a) ∷ (12, b) ∷ (11, c) ∷ (12, d) ∷ []) ≡ None → (a ≡ false) × (b ≡ false) × (c ≡ false) × (d ≡ false)
-four_kept true b c d h = absurd cc
-four_kept false true c d h = absurd cc
-four_kept false false true d h = absurd cc
-four_kept false false false true h = absurd cc
-four_kept false false false false h = (refl, refl, refl, refl)
-
--- nothing is wrong with the first of entries, nor with the others
-first_right : (index : ℕ) (before : Option RoaEntry) (e : RoaEntry) (es : List RoaEntry) → entries_refusal index before (e ∷ es) ≡ None → RulesKept index before e × (entries_refusal (suc index) (Some e) es ≡ None)
-first_right index before e es h =
-    let s = none_at index (first_of (entry_rules index before e)) (entries_refusal (suc index) (Some e) es) h in
-    let k = four_kept (leb 65536 index) (is_family_below before e) (is_bad_maximum e) (is_not_above before e) s.0 in
-    (record { few = k.0; family = k.1; maximum = k.2; order = k.3 }, s.1)
-
 -- the first and the others
 all_first : (e : RoaEntry) (es : List RoaEntry) → All HasPrefix (e ∷ es) → HasPrefix e × All HasPrefix es
 all_first e es h = (h 0 e (omega arith), λ k d less. h (suc k) d (omega (arith, less)))
@@ -228,7 +207,7 @@ each_spells : (family : AddressFamily) (count : ℕ) (seen es : List RoaEntry) (
     → EachSpells (entry_behind family count) seen es (list_bytes family es)
 each_spells family count seen [] before right follows those all = refl
 each_spells family count seen (e ∷ es) before right follows those all =
-    let r = first_right (count + length seen) before e es right in
+    let r = first_and_later (count + length seen) before e es right in
     let a = all_first e es all in
     let next : suc (count + length seen) ≡ count + length (seen ++ e ∷ []) = omega (arith, length-append seen (e ∷ [])) in
     let mine : chosen (is_of family e.prefix) e ≡ entry_bytes e = ap (λ (test : Bool). chosen test e) (of_family family e.prefix those.0) in (
@@ -251,7 +230,7 @@ some_list family (e ∷ es) some those =
 few_from : (index : ℕ) (before : Option RoaEntry) (es : List RoaEntry) → entries_refusal index before es ≡ None → index ≤ 65536 → index + length es ≤ 65536
 few_from index before [] h le = omega (arith, le)
 few_from index before (e ∷ es) h le =
-    let r = first_right index before e es h in
+    let r = first_and_later index before e es h in
     omega (arith, few_from (suc index) (Some e) es r.1 (omega (arith, leb-false 65536 index r.0.few)))
 
 pub few_entries : (es : List RoaEntry) → roa_refusal es ≡ None → length es ≤ 65536
@@ -303,7 +282,7 @@ stays (V6 p) (V6 q) h g = refl
 all_ipv6 : (index : ℕ) (before : RoaEntry) (es : List RoaEntry) → family_of before.prefix ≡ Ipv6 → entries_refusal index (Some before) es ≡ None → AllIn Ipv6 es
 all_ipv6 index before [] f h = tt
 all_ipv6 index before (e ∷ es) f h =
-    let r = first_right index (Some before) e es h in
+    let r = first_and_later index (Some before) e es h in
     let mine : family_of e.prefix ≡ Ipv6 = stays before.prefix e.prefix f r.0.family in
     (mine, all_ipv6 (suc index) e es mine r.1)
 
@@ -315,7 +294,7 @@ parts_by index e es Ipv6 f h p = record { ipv4 = []; ipv6 = e ∷ es; whole = re
 parts_of : (index : ℕ) (before : Option RoaEntry) (es : List RoaEntry) → entries_refusal index before es ≡ None → Parts es
 parts_of index before [] h = record { ipv4 = []; ipv6 = []; whole = refl; first = tt; second = tt }
 parts_of index before (e ∷ es) h =
-    let r = first_right index before e es h in
+    let r = first_and_later index before e es h in
     parts_by (suc index) e es (family_of e.prefix) refl r.1 (parts_of (suc index) (Some e) es r.1)
 
 -- nothing is wrong with the front of entries, nor with those behind it
