@@ -1,12 +1,13 @@
 -- What is read as an element is spelled so, and what is spelled so is read.
-use Rattle.std.proofs.Common.{◌≡◌, ℕ, ◌+◌, ◌-◌, ◌^◌, ◌<◌, ◌≤◌, Bool, true, false, not, ◌&&◌, ltb, eqb, List, [], ◌∷◌, ◌++◌, length, take, drop, None, refl, sym, ap, ◌∙◌, arith, inl, inr, append_assoc, length-append, length-take, length-drop}
-use Rattle.std.proofs.lemmas.Bool.{not-false, cases_lt, le-ltb, ltb-false, or_parts, or_from, and_right, eqb-true, eq-eqb}
-use Rattle.std.proofs.lemmas.List.{take_at, drop_at, take-append-drop, drop-drop, get_or-take, get_or-drop, get_or_past}
+use Rattle.std.proofs.Common.{◌≡◌, ℕ, ◌+◌, ◌-◌, ◌^◌, ◌<◌, ◌≤◌, Bool, true, false, not, ◌&&◌, ltb, eqb, List, [], ◌∷◌, ◌++◌, length, take, drop, None, refl, sym, ap, subst, ◌∙◌, arith, append_assoc, length-append, length-take, length-drop}
+use Rattle.std.proofs.lemmas.Bool.{not-false, le-ltb, ltb-false, or_parts, or_from, and_right, eqb-true, eq-eqb}
+use Rattle.std.proofs.lemmas.List.{take_at, drop_at, take-append-drop, drop-drop, get_or-drop}
 use Rattle.der_lite.specs.Place.{Place, place_of, first_of}
 use Rattle.der_lite.specs.Der.{IsBytes, tlv, length_bytes, announced, told_length, is_length, tag_of, first_length_byte, later_length_bytes, has_length, length_end, content_end, is_truncated, head_rules}
 use Rattle.der_lite.specs.Grammar.{inside, behind, Keeps}
 use Rattle.der_lite.specs.Reading.{content_place, next_place}
 use Rattle.der_lite.proofs.Rules.{kept_first}
+use Rattle.der_lite.proofs.Once.{front_bytes}
 use Rattle.der_lite.proofs.Lengths.{length_tells, told_spells}
 
 -- bytes that begin with a tag and the bytes of a length
@@ -90,12 +91,8 @@ begins (a ∷ b ∷ bytes) h =
     }
 
 -- the front of bytes is bytes
-IsBytes-take : (n : ℕ) (bytes : List ℕ) → IsBytes bytes → IsBytes (take n bytes)
-IsBytes-take n bytes h i =
-    elim (cases_lt i n) [
-      | inl lt ↦ rw (get_or-take n bytes i 0 lt) (h i)
-      | inr le ↦ rw (get_or_past (take n bytes) i 0 (omega (arith, length-take n bytes))) (omega arith)
-    ]
+pub IsBytes-take : (n : ℕ) (bytes : List ℕ) → IsBytes bytes → IsBytes (take n bytes)
+IsBytes-take n bytes h = front_bytes (take n bytes) (drop n bytes) (subst (λ (l : List ℕ). IsBytes l) (sym (take-append-drop n bytes)) h)
 
 -- what is behind a front of bytes is bytes
 pub IsBytes-drop : (n : ℕ) (bytes : List ℕ) → IsBytes bytes → IsBytes (drop n bytes)

@@ -1,14 +1,13 @@
 -- Numbers as bytes, and the bytes of elements: how many there are, and that they are bytes.
-use Rattle.std.proofs.Common.{◌≡◌, ℕ, zero, suc, ◌+◌, ◌*◌, ◌/◌, ◌%◌, ◌^◌, ◌<◌, ◌≤◌, Bool, true, false, not, ◌&&◌, ◌||◌, cond, eqb, ltb, leb, List, [], ◌∷◌, ◌++◌, length, take, drop, pos, refl, sym, ap, subst, ◌∙◌, inl, inr, arith, length-append}
+use Rattle.std.proofs.Common.{◌≡◌, ℕ, zero, suc, ◌+◌, ◌*◌, ◌/◌, ◌%◌, ◌^◌, ◌<◌, ◌≤◌, Bool, true, false, not, ◌&&◌, ◌||◌, cond, eqb, ltb, leb, List, [], ◌∷◌, ◌++◌, length, take, pos, refl, sym, ap, ◌∙◌, inl, inr, arith, length-append}
 use Rattle.std.specs.Int.{byte_at, bytes_high_first}
 use Rattle.std.proofs.lemmas.Bool.{cases_lt, lt-ltb, le-ltb, ltb-true}
 use Rattle.std.proofs.lemmas.Bool.Decides.{nat_tests}
-use Rattle.std.proofs.lemmas.List.{take_all, take-append-le, take-append-drop}
+use Rattle.std.proofs.lemmas.List.{take_all, take-append-le}
 use Rattle.std.proofs.Math.Nat.{pow-suc, div-one, div-div-eq-div-mul}
 use Rattle.der_lite.specs.Der.{IsBytes, number, base_256, length_bytes, tlv, is_integer}
 use Rattle.der_lite.specs.Grammar.{Keeps}
 use Rattle.der_lite.specs.Values.{is_negative, integer_between, unsigned_bytes}
-use Rattle.der_lite.proofs.Once.{front_bytes}
 use Rattle.der_lite.proofs.Integers.{number_more, value_is}
 
 -- ---- lists of bytes
@@ -24,9 +23,6 @@ bytes_cons x xs h hs (suc i) = hs i
 
 pub no_bytes : IsBytes []
 no_bytes i = omega arith
-
-pub bytes_take : (count : ℕ) (xs : List ℕ) → IsBytes xs → IsBytes (take count xs)
-bytes_take count xs h = front_bytes (take count xs) (drop count xs) (subst IsBytes (sym (take-append-drop count xs)) h)
 
 -- ---- a number in a count of bytes
 

@@ -31,7 +31,7 @@ abbrev pub none_yet : ℕ → Progress
 none_yet room = record { count = 0; room = room; listed = [] }
 
 -- a value with these entries
-abbrev value_of : ℕ → List RoaEntry → RoaValue
+abbrev pub value_of : ℕ → List RoaEntry → RoaValue
 value_of asn entries = record { asn = asn; entries = entries }
 
 -- The entries were counted first, and then there was room for all.

@@ -11,7 +11,8 @@ use Rattle.der_lite.specs.Der.{IsBytes, number, base_256, tlv, is_bit_string, bi
 use Rattle.der_lite.specs.Values.{bits_value, bits_number}
 use Rattle.der_lite.specs.Grammar.{Keeps}
 use Rattle.der_lite.proofs.BitStrings.{pow_256, bits_spelled}
-use Rattle.der_lite.proofs.Numbers.{bytes_cons, bytes_take, base_length, base_bytes, base_number, base_take, base_high_first}
+use Rattle.der_lite.proofs.Elements.{IsBytes-take}
+use Rattle.der_lite.proofs.Numbers.{bytes_cons, base_length, base_bytes, base_number, base_take, base_high_first}
 use Rattle.prefixes.specs.Address.{Block, IsPrefix}
 use Rattle.prefixes.specs.Payload.{block_of, width_of}
 use Rattle.prefixes.specs.declared.prefix.IpPrefix.{IpPrefix}
@@ -131,7 +132,7 @@ few_bytes : (octets : ℕ) (p : Block) → octets ≤ 16 → length (first_bytes
 few_bytes octets p h = omega (arith, h, length-take (bytes_of_bits p.len) (base_256 octets p.addr), base_length octets p.addr, min-le_right (bytes_of_bits p.len) (length (base_256 octets p.addr)))
 
 are_bytes : (octets : ℕ) (p : Block) → IsBytes (first_bytes octets p)
-are_bytes octets p = bytes_cons (8 * bytes_of_bits p.len - p.len) (take (bytes_of_bits p.len) (base_256 octets p.addr)) (omega arith) (bytes_take (bytes_of_bits p.len) (base_256 octets p.addr) (base_bytes octets p.addr))
+are_bytes octets p = bytes_cons (8 * bytes_of_bits p.len - p.len) (take (bytes_of_bits p.len) (base_256 octets p.addr)) (omega arith) (IsBytes-take (bytes_of_bits p.len) (base_256 octets p.addr) (base_bytes octets p.addr))
 
 -- there are 17 bytes at most
 pub address_few : (prefix : IpPrefix) → length (address_content prefix) ≤ 17

@@ -25,6 +25,8 @@ use Rattle.payloads.specs.RoaValues.{RoaValue, all_entries, TreeSpells, RoaSpell
 use Rattle.payloads.specs.RoaBytes.{address_content, maximum_bytes, entry_bytes, is_of, list_bytes, family_bytes, families_bytes, roa_bytes}
 use Rattle.payloads.specs.Refusal.{goes_back, entry_rules, entries_refusal, roa_refusal}
 use Rattle.payloads.specs.Laws.{RoaRefusesExactly}
+use Rattle.der_lite.proofs.Rules.{kept_on}
+use Rattle.payloads.proofs.Decoding.{value_of}
 use Rattle.payloads.proofs.Flats.{family_of, AllIn}
 use Rattle.payloads.proofs.Growing.{last_is}
 use Rattle.payloads.proofs.Prefixes.{address_few, address_are, address_spells}
@@ -153,10 +155,6 @@ maximum_spells prefix (Some m) h =
     narrow (V4 p) = omega arith
     narrow (V6 p) = omega arith
 
--- one rule is kept
-one_kept : (number : ℕ) (a : Bool) → a ≡ false → Keeps ((number, a) ∷ [])
-one_kept number a h = rw h refl
-
 -- an entry with which nothing is wrong
 entry_spells : (family : AddressFamily) (count : ℕ) (before : Option RoaEntry) (e : RoaEntry) → family_of e.prefix ≡ family → HasPrefix e → leb 65536 count ≡ false → is_bad_maximum e ≡ false → is_not_above before e ≡ false
     → (ip_address family count before).Spells e (entry_bytes e)
@@ -166,9 +164,9 @@ entry_spells family count before e f is few maximum order =
       members_bytes e.prefix e.max_len,
       record { short = omega (arith, members_few e.prefix e.max_len); spelled = refl },
       (
-        one_kept 19 (leb 65536 count) few,
+        kept_on 19 (leb 65536 count) [] few refl,
         (tlv 3 (address_content e.prefix), maximum_bytes e.max_len, record { parts = refl }, spelled, maximum_spells e.prefix e.max_len maximum),
-        one_kept 12 (is_not_above before e) order,
+        kept_on 12 (is_not_above before e) [] order refl,
       ),
     )
 
@@ -335,7 +333,7 @@ addresses_spell family count es i =
       list,
       record { short = omega (arith, list_short family es i.few); spelled = refl },
       (
-        one_kept 9 (eqb (length list) 0) (ne_eqb (length list) 0 (λ n. absurd (omega (arith, n, ap (λ (l : List ℕ). length l) s.2)))),
+        kept_on 9 (eqb (length list) 0) [] (ne_eqb (length list) 0 (λ n. absurd (omega (arith, n, ap (λ (l : List ℕ). length l) s.2)))) refl,
         each_spells family count [] es i.before (ap (λ (n : ℕ). entries_refusal n i.before es) (omega arith) ∙ i.right) (inr refl) i.those i.all,
         refl,
       ),
@@ -373,7 +371,7 @@ blocks_spell blocks (b ∷ front) rest some short s t =
     let content = b ∷ front ++ rest in (
       content,
       record { short = short; spelled = refl },
-      (one_kept 9 (eqb (length content) 0) (ne_eqb (length content) 0 (λ n. absurd (omega (arith, n)))), (b ∷ front, rest, record { parts = refl }, s, t), refl),
+      (kept_on 9 (eqb (length content) 0) [] (ne_eqb (length content) 0 (λ n. absurd (omega (arith, n)))) refl, (b ∷ front, rest, record { parts = refl }, s, t), refl),
     )
 
 -- the whole
@@ -462,10 +460,6 @@ blocks_of (e ∷ es) (x ∷ xs) right some first second all few short =
       blocks_spell ((Ipv4, e ∷ es), Some (Ipv6, x ∷ xs)) (family_bytes Ipv4 (list_bytes Ipv4 (e ∷ es))) (family_bytes Ipv6 (list_bytes Ipv6 (x ∷ xs))) (family_there Ipv4 (e ∷ es) (is_there e es) first) short
           (family_spells None Ipv4 0 (e ∷ es) refl listed) (family_spells (Some Ipv4) Ipv6 (length (e ∷ es)) (x ∷ xs) refl behind),
     )
-
--- a value with these entries
-abbrev pub value_of : ℕ → List RoaEntry → RoaValue
-value_of asn es = record { asn = asn; entries = es }
 
 -- A value with which nothing is wrong is spelled by its bytes.
 pub value_spells : (asn : ℕ) (es : List RoaEntry) → asn < 2 ^ 32 → roa_refusal es ≡ None → All HasPrefix es → RoaSpells (value_of asn es) (roa_bytes (value_of asn es))

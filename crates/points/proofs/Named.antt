@@ -1,5 +1,6 @@
 -- Files found by their names.
 use Rattle.std.proofs.Common.{◌≡◌, ◌≢◌, ◌⊎◌, ℕ, zero, suc, ◌<◌, Bool, true, false, ◌||◌, cond, get_or, bytes_eq, List, [], ◌∷◌, ◌++◌, length, Some, refl, sym, ap, ◌∙◌, inl, inr, arith}
+use Rattle.std.proofs.Math.Bool.{or-false}
 use Rattle.std.specs.List.{Contains}
 use Rattle.std.proofs.lemmas.Bool.{false_from_ne_true}
 use Rattle.std.proofs.lemmas.Slice.Eq.{bytes_eq-Decides}
@@ -27,14 +28,10 @@ contains_first x y ys e = (0, omega arith, e)
 pub contains_later : {X : Type 0} (x y : X) (ys : List X) → Contains ys x → Contains (y ∷ ys) x
 contains_later x y ys c = (suc c.0, omega (arith, c.1), c.2)
 
-none_or : (b : Bool) → (b || false) ≡ b
-none_or true = refl
-none_or false = refl
-
 -- a name among files and one more
 pub named_more : (name : List ℕ) (earlier : List FileIn) (file : FileIn) → is_named name (earlier ++ file ∷ []) ≡ (is_named name earlier || bytes_eq file.name.now name)
 named_more name earlier file =
-    list_any-append (has_name name) earlier (file ∷ []) ∙ ap (λ b. is_named name earlier || b) (none_or (bytes_eq file.name.now name))
+    list_any-append (has_name name) earlier (file ∷ []) ∙ ap (λ b. is_named name earlier || b) (or-false (bytes_eq file.name.now name))
 
 some_is : (f g : FileIn) → Some f ≡ Some g → f ≡ g
 some_is f g e = cc

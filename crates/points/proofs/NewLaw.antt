@@ -1,7 +1,7 @@
 -- An offer is judged New exactly where it is acceptable.
-use Rattle.std.proofs.Common.{◌≡◌, ◌≢◌, ℕ, suc, Bool, true, false, not, leb, get_or, bytes_eq, List, [], ◌∷◌, ◌++◌, Option, Some, None, refl, sym, ap, subst, ◌∙◌, inl, inr, arith}
+use Rattle.std.proofs.Common.{◌≡◌, ◌≢◌, ℕ, suc, Bool, true, false, leb, get_or, bytes_eq, List, [], ◌∷◌, ◌++◌, Option, Some, None, refl, sym, ap, subst, ◌∙◌, inl, inr, arith}
 use Rattle.std.specs.List.{All, Contains}
-use Rattle.std.proofs.lemmas.Bool.{or_parts, or_from, leb-false, leb-true, false_from_ne_true}
+use Rattle.std.proofs.lemmas.Bool.{not-false, not_from_true, or_parts, or_from, leb-false, leb-true, false_from_ne_true}
 use Rattle.std.proofs.lemmas.Slice.Eq.{bytes_eq-Decides}
 use Rattle.std.proofs.lemmas.List.Elements.{All-nil, All-cons, All-head, All-tail, All-weaker, All-contains}
 use Rattle.std.proofs.lemmas.List.Kept.{AllPairs-cons}
@@ -141,17 +141,9 @@ serve_files i (l ∷ others) files s e =
 
 -- ---- above what was accepted
 
-not_false : (a : Bool) → not a ≡ false → a ≡ true
-not_false true h = refl
-not_false false h = absurd cc
-
-not_true : (a : Bool) → a ≡ true → not a ≡ false
-not_true true h = refl
-not_true false h = absurd cc
-
 above_from : (before : Option Accepted) (m : ManifestValue) → is_old_number before m ≡ false → is_old_time before m ≡ false → IsAbove before m
 above_from None m n t = tt
-above_from (Some last) m n t = (leb-false (number m.number) (number last.manifest.number) n, not_false (moment_before last.manifest.this_update m.this_update) t)
+above_from (Some last) m n t = (leb-false (number m.number) (number last.manifest.number) n, not-false (moment_before last.manifest.this_update m.this_update) t)
 
 new_number : (before : Option Accepted) (m : ManifestValue) → IsAbove before m → is_old_number before m ≡ false
 new_number None m a = refl
@@ -159,7 +151,7 @@ new_number (Some last) m a = false_from_ne_true (leb (number m.number) (number l
 
 new_time : (before : Option Accepted) (m : ManifestValue) → IsAbove before m → is_old_time before m ≡ false
 new_time None m a = refl
-new_time (Some last) m a = not_true (moment_before last.manifest.this_update m.this_update) a.1
+new_time (Some last) m a = not_from_true (moment_before last.manifest.this_update m.this_update) a.1
 
 -- the bytes accepted last do not spell a higher number
 not_same : (before : Option Accepted) (m : ManifestValue) (bytes : List ℕ) → IsPoint before → ManifestSpells m bytes → IsAbove before m → is_same before bytes ≡ false

@@ -1,5 +1,6 @@
 -- What sets and changes satisfy.
 use Rattle.std.specs.Prelude.{◌≡◌, Bool, true, false, not, ◌&&◌, ◌||◌, cond, List, [], ◌∷◌, Option, Some, None, is_some, refl, length, map as map_list, T, filter}
+use Rattle.std.proofs.Math.Bool.{or-true, or-false, and-false, or_comm}
 use Rattle.std.specs.List.{AllByRecursion, list_any}
 use Rattle.std.specs.List.Sorted.{IsStrictlySortedBy}
 use Rattle.std.specs.Ordering.{eq_by_cmp, is_lt, is_eq}
@@ -34,14 +35,6 @@ or_swap true true c = refl
 or_swap true false c = refl
 or_swap false b c = refl
 
-pub or_true : (a : Bool) → (a || true) ≡ true
-or_true true = refl
-or_true false = refl
-
-pub or_false : (a : Bool) → a ≡ (a || false)
-or_false true = refl
-or_false false = refl
-
 pub has-empty : (q : Payload) → has empty q ≡ false
 has-empty q = ap is_some (map.get-empty vrp_cmp q)
 
@@ -49,7 +42,7 @@ pub has-with_member : (s : VrpSet) (v q : Payload) → has (with_member s v) q �
 has-with_member s v q = ap is_some (map.get-insert vrp_total s v tt q) ∙ some_or _ _
 
 pub has-with_all : (s : VrpSet) (vs : List Payload) (q : Payload) → has (with_all s vs) q ≡ (has s q || list_any (same_vrp q) vs)
-has-with_all s [] q = or_false _
+has-with_all s [] q = sym (or-false _)
 has-with_all s (v ∷ vs) q = has-with_member (with_all s vs) v q ∙ ap (λ b. same_vrp q v || b) (has-with_all s vs q) ∙ or_swap (same_vrp q v) (has s q) _
 
 pub has-set_of : (vs : List Payload) (q : Payload) → has (set_of vs) q ≡ list_any (same_vrp q) vs
@@ -121,7 +114,7 @@ all_listed : (P : Payload → Type 0) (vs : List Payload) → ((q : Payload) →
 all_listed P [] h = tt
 all_listed P (v ∷ vs) h = (
   h v (ap (λ r. is_eq r || list_any (same_vrp v) vs) (tied_itself vrp_total v)),
-  all_listed P vs (λ q one. h q (ap (λ b. same_vrp q v || b) one ∙ or_true (same_vrp q v))),
+  all_listed P vs (λ q one. h q (ap (λ b. same_vrp q v || b) one ∙ or-true (same_vrp q v))),
 )
 
 pub all_of_members : (P : Payload → Type 0) (s : VrpSet) → ((q : Payload) → has s q ≡ true → P q) → AllByRecursion P (listing s)
@@ -148,16 +141,10 @@ halves s t u = same_set _ _ (λ q.
 pub merge-between : (s t u : VrpSet) → merge (between s t) (between t u) ≡ between s u
 merge-between s t u = λ i. record { withdraw = halves s t u i; announce = flipped i }
   where
-    or_swapped : (a b : Bool) → (a || b) ≡ (b || a)
-    or_swapped true true = refl
-    or_swapped true false = refl
-    or_swapped false true = refl
-    or_swapped false false = refl
-
     flipped : union (without (without t s) (without t u)) (without (without u t) (without s t)) ≡ without u s
     flipped = same_set _ _ (λ q.
         has-union (without (without t s) (without t u)) (without (without u t) (without s t)) q
-        ∙ or_swapped (has (without (without t s) (without t u)) q) (has (without (without u t) (without s t)) q)
+        ∙ or_comm (has (without (without t s) (without t u)) q) (has (without (without u t) (without s t)) q)
         ∙ sym (has-union (without (without u t) (without s t)) (without (without t s) (without t u)) q)
         ∙ ap (λ x. has x q) (halves u t s))
 
@@ -198,10 +185,6 @@ listing-set_of vs h = ap (map_list (λ e. e.0)) (entries-set_of vs h) ∙ unpair
 pub size-set_of : (vs : List Payload) → IsStrictlySortedBy vrp_cmp vs → size (set_of vs) ≡ length vs
 size-set_of vs h = map.len-entries (set_of vs) ∙ ap length (entries-set_of vs h) ∙ length-map vs (λ v. (v, tt))
 
-and_false : (b : Bool) → (b && false) ≡ false
-and_false true = refl
-and_false false = refl
-
 -- What a filter by a test that answers alike at ties keeps of a member
 pub kept : (p : Payload → Bool) (q : Payload) → ((x : Payload) → vrp_cmp q x ≡ Equal → p x ≡ p q) → (vs : List Payload) → list_any (same_vrp q) (filter p vs) ≡ (list_any (same_vrp q) vs && p q)
 kept p q alike [] = refl
@@ -221,7 +204,7 @@ kept p q alike (v ∷ vs) =
 
     taken : vrp_cmp q v ≡ Equal → (b : Bool) → list_any (same_vrp q) (filter p vs) ≡ (list_any (same_vrp q) vs && b) → list_any (same_vrp q) (cond b (v ∷ filter p vs) (filter p vs)) ≡ b
     taken is true h = ap (λ o. is_eq o || list_any (same_vrp q) (filter p vs)) is
-    taken is false h = h ∙ and_false (list_any (same_vrp q) vs)
+    taken is false h = h ∙ and-false (list_any (same_vrp q) vs)
 
 -- The members of s that are not in t, in order
 pub listing-without : (s t : VrpSet) → listing (without s t) ≡ filter (λ v. not (has t v)) (listing s)

@@ -1,5 +1,7 @@
 -- What the states of routes satisfy.
 use Rattle.std.proofs.Common.{◌≡◌, ◌∙◌, ◌↔◌, Bool, true, false, ◌&&◌, ◌||◌, cond, List, [], ◌∷◌, filter, refl, ap, sym}
+use Rattle.std.proofs.Math.Bool.{or-true}
+use Rattle.std.proofs.lemmas.Bool.{and_parts}
 use Rattle.std.specs.Prelude.{nat_le}
 use Rattle.std.specs.Cmp.{tied_itself}
 use Rattle.std.specs.List.{list_any}
@@ -13,8 +15,7 @@ use Rattle.vrps.specs.Origin.{CoveringDecides, HasState, IsCovered, IsMatched, L
 use Rattle.vrps.specs.VrpSet.{VrpSet, has, listing}
 use Rattle.vrps.specs.declared.origin.OriginState.{OriginState}
 use Rattle.vrps.specs.declared.origin.OriginState.TheVariants.{Valid, Invalid, NotFound}
-use Rattle.vrps.proofs.SetLaws.{has-listing, has-set_of, kept, listing_ascends, or_true, same_vrp}
-use Rattle.vrps.proofs.Walks.{and_left}
+use Rattle.vrps.proofs.SetLaws.{has-listing, has-set_of, kept, listing_ascends, same_vrp}
 
 -- An element that passes a test is a member that passes it, and the other way round.
 some_member : (p : Payload → Bool) (vs : List Payload) → list_any p vs ≡ true → (v : Payload) × (list_any (same_vrp v) vs ≡ true) × (p v ≡ true)
@@ -22,16 +23,16 @@ some_member p [] h = absurd (cc)
 some_member p (v ∷ vs) h =
     elim (p v) as (λ b. p v ≡ b → (b || list_any p vs) ≡ true → (w : Payload) × (list_any (same_vrp w) (v ∷ vs) ≡ true) × (p w ≡ true)) [
       | true ↦ λ is h. (v, ap (λ o. is_eq o || list_any (same_vrp v) vs) (tied_itself vrp_total v), is)
-      | false ↦ λ is h. let later = some_member p vs h in (later.0, ap (λ b. same_vrp later.0 v || b) later.1 ∙ or_true (same_vrp later.0 v), later.2)
+      | false ↦ λ is h. let later = some_member p vs h in (later.0, ap (λ b. same_vrp later.0 v || b) later.1 ∙ or-true (same_vrp later.0 v), later.2)
     ] refl h
 
 passes : (p : Payload → Bool) (vs : List Payload) (v : Payload) → list_any (same_vrp v) vs ≡ true → p v ≡ true → list_any p vs ≡ true
 passes p [] v h k = absurd (cc)
 passes p (w ∷ vs) v h k =
     elim (vrp_cmp v w) as (λ o. vrp_cmp v w ≡ o → (is_eq o || list_any (same_vrp v) vs) ≡ true → list_any p (w ∷ vs) ≡ true) [
-      | Less ↦ λ is h. ap (λ b. p w || b) (passes p vs v h k) ∙ or_true (p w)
+      | Less ↦ λ is h. ap (λ b. p w || b) (passes p vs v h k) ∙ or-true (p w)
       | Equal ↦ λ is h. ap (λ b. b || list_any p vs) (ap p (sym (vrp_exact v w is)) ∙ k)
-      | Greater ↦ λ is h. ap (λ b. p w || b) (passes p vs v h k) ∙ or_true (p w)
+      | Greater ↦ λ is h. ap (λ b. p w || b) (passes p vs v h k) ∙ or-true (p w)
     ] refl h
 
 is_some_member : (p : Payload → Bool) (s : VrpSet) → list_any p (listing s) ≡ true → (v : Payload) × (has s v ≡ true) × (p v ≡ true)
@@ -52,7 +53,7 @@ state_is s r = by_tests (list_any (matches r) (listing s)) (list_any (covers_rou
     by_tests false false is_m is_c = none (covers_route r) s is_c
 
 matched_is_covered : (s : VrpSet) (r : Route) → IsMatched s r → IsCovered s r
-matched_is_covered s r w = (w.0, w.1, and_left (covers_route r w.0) _ w.2)
+matched_is_covered s r w = (w.0, w.1, (and_parts (covers_route r w.0) _ w.2).0)
 
 pub one_state : (s : VrpSet) (r : Route) (one other : OriginState) → HasState s r one → HasState s r other → one ≡ other
 one_state s r Valid Valid h k = refl

@@ -1,5 +1,7 @@
 -- What a walk over ascending lists gives: each step takes one record of one list, and the part of another list that is not above it.
 use Rattle.std.proofs.Common.{◌≡◌, ◌∙◌, ℕ, Bool, true, false, not, ◌&&◌, ◌||◌, cond, List, [], ◌∷◌, ◌++◌, append_assoc, append-nil, take, drop, refl, ap, sym, subst}
+use Rattle.std.proofs.Math.Bool.{or-false, and-true}
+use Rattle.std.proofs.lemmas.Bool.{and_parts}
 use Rattle.std.specs.List.{AllByRecursion, list_any}
 use Rattle.std.specs.List.Sorted.{IsStrictlySortedBy}
 use Rattle.std.specs.Ordering.{is_eq, ordering_reverse}
@@ -12,7 +14,7 @@ use Rattle.vrps.specs.Change.{apply}
 use Rattle.vrps.specs.VrpSet.{VrpSet, listing, set_of, union, without}
 use Rattle.vrps.specs.Walk.{IsCut, led, left_out}
 use Rattle.vrps.specs.declared.change.Change.{Change}
-use Rattle.vrps.proofs.SetLaws.{all_of_members, has-set_of, has-union, has-without, listing-set_of, listing_ascends, same_set, same_vrp, set_of-listing, has-listing, or_false}
+use Rattle.vrps.proofs.SetLaws.{all_of_members, has-set_of, has-union, has-without, listing-set_of, listing_ascends, same_set, same_vrp, set_of-listing, has-listing}
 
 abbrev pub Ascends : List Payload → Type 0
 Ascends vs = IsStrictlySortedBy vrp_cmp vs
@@ -167,10 +169,6 @@ any-left_out q vs ws =
     sym (has-listing (without (set_of vs) (set_of ws)) q) ∙ has-without (set_of vs) (set_of ws) q
     ∙ (λ i. has-set_of vs q i && not (has-set_of ws q i))
 
-pub and_left : (a b : Bool) → (a && b) ≡ true → a ≡ true
-and_left true b h = refl
-and_left false b h = absurd (cc)
-
 -- the members of one list without those of a second, together with those of a third
 any-led : (q : Payload) (vs ws zs : List Payload) → list_any (same_vrp q) (led vs ws zs) ≡ ((list_any (same_vrp q) vs && not (list_any (same_vrp q) ws)) || list_any (same_vrp q) zs)
 any-led q vs ws zs =
@@ -188,7 +186,7 @@ led_above x vs ws zs h k =
   where
     in_either : (q : Payload) (a b : Bool) → (list_any (same_vrp q) vs && not (list_any (same_vrp q) ws)) ≡ a → list_any (same_vrp q) zs ≡ b
         → ((list_any (same_vrp q) vs && not (list_any (same_vrp q) ws)) || list_any (same_vrp q) zs) ≡ true → vrp_cmp x q ≡ Less
-    in_either q true b first second one = of_member (λ v. vrp_cmp x v ≡ Less) vs h q (and_left _ _ first)
+    in_either q true b first second one = of_member (λ v. vrp_cmp x v ≡ Less) vs h q (and_parts _ _ first).0
     in_either q false b first second one = of_member (λ v. vrp_cmp x v ≡ Less) zs k q (sym (λ i. first i || list_any (same_vrp q) zs) ∙ one)
 
 -- A record and those above it, without a list that is cut at the record, together with another that is cut there
@@ -235,7 +233,7 @@ left_out_ascends vs ws = listing_ascends (without (set_of vs) (set_of ws))
 
 -- Together with none, the same is what is left out.
 led_none : (vs ws : List Payload) → led vs ws [] ≡ left_out vs ws
-led_none vs ws = same_listing _ _ (led_ascends vs ws []) (left_out_ascends vs ws) (λ q. any-led q vs ws [] ∙ sym (or_false _) ∙ sym (any-left_out q vs ws))
+led_none vs ws = same_listing _ _ (led_ascends vs ws []) (left_out_ascends vs ws) (λ q. any-led q vs ws [] ∙ or-false _ ∙ sym (any-left_out q vs ws))
 
 left_out_above : (x : Payload) (vs ws : List Payload) → Above x vs → Above x (left_out vs ws)
 left_out_above x vs ws h = subst (λ l. Above x l) (led_none vs ws) (led_above x vs ws [] h tt)
@@ -285,11 +283,7 @@ cut_ascends x ws below false above k cut = ascends_after below above (subst (λ 
 
 -- without anything nothing is left, and without nothing all
 pub left_out_all : (vs : List Payload) → Ascends vs → left_out vs [] ≡ vs
-left_out_all vs h = same_listing _ _ (left_out_ascends vs []) h (λ q. any-left_out q vs [] ∙ and_true (list_any (same_vrp q) vs))
-  where
-    and_true : (b : Bool) → (b && true) ≡ b
-    and_true true = refl
-    and_true false = refl
+left_out_all vs h = same_listing _ _ (left_out_ascends vs []) h (λ q. any-left_out q vs [] ∙ and-true (list_any (same_vrp q) vs))
 
 pub left_out_none : (ws : List Payload) → left_out [] ws ≡ []
 left_out_none ws = sym (led_none [] ws) ∙ led_end ws [] no_records

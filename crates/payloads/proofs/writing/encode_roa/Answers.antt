@@ -4,7 +4,8 @@ use Rattle.der_lite.specs.Values.{unsigned_bytes}
 use Rattle.payloads.specs.declared.entry.RoaEntry.{RoaEntry}
 use Rattle.payloads.specs.RoaBytes.{families_bytes, roa_bytes}
 use Rattle.payloads.specs.RoaValues.{RoaValue, RoaSpells}
-use Rattle.payloads.proofs.Spellings.{few_entries, families_few, roa_members, members_short, value_of, value_spells}
+use Rattle.payloads.proofs.Decoding.{value_of}
+use Rattle.payloads.proofs.Spellings.{few_entries, families_few, roa_members, members_short, value_spells}
 use Rattle.payloads.proofs.writing.encode_roa.Goals as goal
 
 pub families-requires : goal.families-requires
