@@ -22,8 +22,8 @@ use Rattle.rtr_ends.specs.declared.link.End.TheVariants as ends
 use Rattle.rtr_ends.specs.Cache.{is_none, finds_memory}
 use Rattle.rtr_ends.specs.Consumed.{units_in, fault_in, consumed, came, IsCall, IsSplit, RouterSplits}
 use Rattle.rtr_ends.specs.Feeding.{feed, run}
-use Rattle.rtr_ends.specs.Router.{Link, LinkTells, Closed, Idle, Asked, Answering, Ended, Router, Noted, Receiving, Staged, Stays, Wrong, Over, ask, asked_by, asks, asks_if, Call, Connects, Receives, Pulls, Closes, AsksNow, Ticks, clocked, close, closed_at, choose, commit, connects_at, emptied, expired, fails, is_closed, is_due, is_idle, is_news, is_reading, is_strange, lacks, may_lack, on_unit, played, reads, receives, router_byte, router_pulled, router_stops, stage, staged, ticks_at, told, told_off, with_bytes}
-use Rattle.rtr_ends.specs.Transcript.{Question, AskReset, AskSerial, Item, At, Opened, Asks, Reads, Lacks, Shut, base_of, bounded, has_agreed, is_connected, is_over, is_serial, is_wrong, later, retry_of, sum_of}
+use Rattle.rtr_ends.specs.Router.{Link, LinkTells, Closed, Idle, Asked, Answering, Ended, Router, Noted, Receiving, Staged, Stays, Wrong, Over, ask, asked_by, asks, asks_if, Call, Connects, Receives, Pulls, Closes, AsksNow, Ticks, clocked, close, closed_at, commit, connects_at, emptied, expired, fails, is_closed, is_due, is_idle, is_news, is_reading, is_strange, lacks, may_lack, on_unit, played, reads, receives, router_byte, router_pulled, router_stops, stage, staged, ticks_at, told, told_off, with_bytes}
+use Rattle.rtr_ends.specs.Transcript.{choose, Question, AskReset, AskSerial, Item, At, Opened, Asks, Reads, Lacks, Shut, base_of, bounded, has_agreed, is_connected, is_over, is_serial, is_wrong, later, retry_of, sum_of}
 use Rattle.rtr_ends.proofs.Bytes.{none_bytes, more_bytes, bytes_front, drop_none, front_of}
 use Rattle.rtr_ends.proofs.FeedingLaws.{feed_takes}
 use Rattle.rtr_ends.proofs.KeptLaws.{Tells, bytes_add, called_tells, clocked_tells, and_false, and_true, connected, new_tells, none_is, not_true}

@@ -14,8 +14,8 @@ use Rattle.rtr_ends.specs.declared.link.End.TheVariants as ends
 use Rattle.rtr_ends.specs.Answer.{sent}
 use Rattle.rtr_ends.specs.Cache.{is_none, finds_memory}
 use Rattle.rtr_ends.specs.Feeding.{Fed, feed}
-use Rattle.rtr_ends.specs.Router.{Link, Closed, Idle, Asked, Answering, Ended, Router, Noted, Receiving, Staged, Stays, Wrong, Over, choose, asking, ask, emptied, reports, told, fails, is_strange, is_news, stage, staged, commit, told_off, on_unit, may_lack, asked_by, reads, lacks, with_bytes, is_reading, router_stops, router_byte, expired, clocked, is_closed, close, is_due, is_idle, asks_if, connects_at, closed_at, ticks_at, asks, receives, router_pulled, Call, Connects, Receives, Pulls, Closes, AsksNow, Ticks, called, played, LinkTells, IsKept, RouterKeeps}
-use Rattle.rtr_ends.specs.Transcript.{Question, AskReset, AskSerial, query, Item, At, Opened, Asks, Reads, Refused, Shut, Begun, begun, with_record, waiting, under_way, outstanding, question_of, has_agreed, responded, is_connected, moment, later, is_listed, may_withdraw, may_announce, acts_once, led_to, Committed, Kept, nothing, bounded, base_of, session_of, differs, is_serial, is_wrong, does_commit, emptied_if, at_end, kept, is_over, sum_of, retry_of, refreshed, due}
+use Rattle.rtr_ends.specs.Router.{Link, Closed, Idle, Asked, Answering, Ended, Router, Noted, Receiving, Staged, Stays, Wrong, Over, asking, ask, emptied, reports, told, fails, is_strange, is_news, stage, staged, commit, told_off, on_unit, may_lack, asked_by, reads, lacks, with_bytes, is_reading, router_stops, router_byte, expired, clocked, is_closed, close, is_due, is_idle, asks_if, connects_at, closed_at, ticks_at, asks, receives, router_pulled, Call, Connects, Receives, Pulls, Closes, AsksNow, Ticks, called, played, LinkTells, IsKept, RouterKeeps}
+use Rattle.rtr_ends.specs.Transcript.{choose, Question, AskReset, AskSerial, query, Item, At, Opened, Asks, Reads, Refused, Shut, Begun, begun, with_record, waiting, under_way, outstanding, question_of, has_agreed, responded, is_connected, moment, later, is_listed, may_withdraw, may_announce, acts_once, led_to, Committed, Kept, nothing, bounded, base_of, session_of, differs, is_serial, is_wrong, does_commit, emptied_if, at_end, kept, is_over, sum_of, retry_of, refreshed, due}
 use Rattle.rtr_ends.proofs.TableLaws.{false_true}
 
 abbrev pub holds : Router → Kept

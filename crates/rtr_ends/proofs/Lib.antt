@@ -5,6 +5,7 @@ pub mod ConsumedLaws
 pub mod FeedingLaws
 pub mod HistoryLaws
 pub mod KeptLaws
+pub mod QuestionLaws
 pub mod RouterCells
 pub mod RouterRows
 pub mod Rows

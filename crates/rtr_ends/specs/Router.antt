@@ -14,7 +14,7 @@ use Rattle.rtr_ends.specs.Answer.{report, sent, sent_all}
 use Rattle.rtr_ends.specs.Cache.{is_none, finds_memory, counted}
 use Rattle.rtr_ends.specs.Connection.{fault_code, fault_report}
 use Rattle.rtr_ends.specs.Feeding.{Fed, feed, IsTaken}
-use Rattle.rtr_ends.specs.Transcript.{Question, AskReset, AskSerial, query, Item, At, Opened, Asks, Reads, Lacks, Breaks, Shut, Begun, Committed, is_listed, led_to, base_of, session_of, differs, is_serial, is_wrong, is_over, bounded, later, sum_of, retry_of, kept, due, moment, is_connected, waiting, under_way, has_agreed, responded, acts_once}
+use Rattle.rtr_ends.specs.Transcript.{Question, AskReset, AskSerial, query, Item, At, Opened, Asks, Reads, Lacks, Breaks, Shut, Begun, Committed, choose, is_listed, led_to, base_of, session_of, differs, is_serial, is_wrong, is_over, bounded, later, sum_of, retry_of, kept, due, moment, is_connected, waiting, under_way, has_agreed, responded, acts_once, marked, AsksRightly}
 
 -- A link is closed; or idle; or its question is not answered yet; or an answer has begun; or it has ended and is still to be closed.
 pub data Link : Type 0 where
@@ -41,11 +41,6 @@ pub record Router : Type 0 where
 
 abbrev pub new_router : Router
 new_router = record { table = empty; version = None; mark = false; due = None; now = 0; link = Closed; agreed = false; session = None; held = []; out = [] }
-
--- A Serial Query where something is committed and the mark is not set, else a Reset Query
-abbrev pub choose : Option Committed → Bool → Question
-choose (Some version) false = AskSerial version.session version.serial
-choose version mark = AskReset
 
 abbrev pub asking : Question → Router → Router
 asking question r = record r { link = Asked question; out = sent (query question) }
@@ -340,3 +335,11 @@ pub record IsKept (r : Router) (items : List Item) : Type 0 where
 
 abbrev pub RouterKeeps : Type 0
 RouterKeeps = (calls : List Call) → IsKept (played calls).router (played calls).items
+
+-- A router's questions are those that its transcript calls for, and so is the next one.
+pub record IsAsking (r : Router) (items : List Item) : Type 0 where
+  pub next : choose r.version r.mark ≡ choose (kept items).version (marked items)
+  pub asked : AsksRightly items
+
+abbrev pub RouterAsks : Type 0
+RouterAsks = (calls : List Call) → IsAsking (played calls).router (played calls).items

@@ -1,12 +1,12 @@
 -- What a router was told, asked and read, and what it must hold after that (RFC 8210 sections 5, 6 and 8). All lists stand with
 -- the last first.
-use Rattle.std.specs.Prelude.{◌≡◌, ◌↔◌, ℕ, ◌+◌, ◌-◌, Bool, true, false, not, ◌&&◌, ◌==◌, nat_lt, List, [], ◌∷◌, Option, Some, None, is_some, if◌then◌else◌}
+use Rattle.std.specs.Prelude.{◌≡◌, ◌↔◌, ℕ, ◌+◌, ◌-◌, Bool, true, false, not, ◌&&◌, ◌||◌, ◌==◌, nat_lt, List, [], ◌∷◌, Option, Some, None, is_some, if◌then◌else◌, ⊤}
 use Rattle.std.specs.List.{list_any}
 use Rattle.std.specs.Ordering.{eq_by_cmp}
 use Rattle.prefixes.specs.Payload.{Payload, vrp_cmp}
 use Rattle.vrps.specs.VrpSet.{VrpSet, empty, has, set_of, union, without}
 use Rattle.rtr_pdu.specs.declared.unit.Unit.{Unit}
-use Rattle.rtr_pdu.specs.declared.unit.Unit.TheVariants.{SerialNotify, SerialQuery, ResetQuery, CacheResponse, Prefix, EndOfData, RouterKey, ErrorReport}
+use Rattle.rtr_pdu.specs.declared.unit.Unit.TheVariants.{SerialNotify, SerialQuery, ResetQuery, CacheResponse, Prefix, EndOfData, CacheReset, RouterKey, ErrorReport}
 use Rattle.rtr_pdu.specs.declared.unit.UnitFault.{UnitFault}
 use Rattle.rtr_ends.specs.Commit.{Commits}
 use Rattle.rtr_ends.specs.Timing.{Intervals, intervals}
@@ -261,3 +261,33 @@ due (Reads (EndOfData session serial refresh retry expire) ∷ items) =
     else due items
 due (Reads (ErrorReport r) ∷ items) = if r.code == 2 && is_some (outstanding items) then retried items else due items
 due (item ∷ items) = due items
+
+-- A record that acts wrongly in the answer under way, with code 6 or 7 (section 12)
+abbrev pub acts_wrongly : Option Begun → VrpSet → Bool → Payload → Bool
+acts_wrongly None table announce v = false
+acts_wrongly (Some a) table false v = not (has (base_of a.question table) v && not (is_listed v a.withdrawn))
+acts_wrongly (Some a) table true v = has (base_of a.question table) v || is_listed v a.announced
+
+-- A record has acted wrongly since the last commit.
+abbrev pub marked : List Item → Bool
+marked [] = false
+marked (Restarts ∷ items) = false
+marked (Reads (Prefix announce v) ∷ items) = acts_wrongly (under_way items) (kept items).table announce v || marked items
+marked (Reads (EndOfData session serial refresh retry expire) ∷ items) = not (does_commit (under_way items) session (kept items).table) && marked items
+marked (item ∷ items) = marked items
+
+-- A Serial Query where something is committed and the mark is not set, else a Reset Query
+abbrev pub choose : Option Committed → Bool → Question
+choose (Some version) false = AskSerial version.session version.serial
+choose version mark = AskReset
+
+-- The question that is put next: after a Cache Reset a Reset Query (section 5.9)
+abbrev pub next_question : List Item → Question
+next_question (Reads CacheReset ∷ items) = AskReset
+next_question items = choose (kept items).version (marked items)
+
+-- Each question is the one to be put.
+abbrev pub AsksRightly : List Item → Type 0
+AsksRightly [] = ⊤
+AsksRightly (Asks question ∷ items) = (question ≡ next_question items) × AsksRightly items
+AsksRightly (item ∷ items) = AsksRightly items

@@ -3,7 +3,7 @@ ghost use Rattle.rtr_ends.specs.Cache.{ConnStops, ConnTakes, ServesHistory};
 ghost use Rattle.rtr_ends.specs.Commit.{ChangeCommits, OneCommit};
 ghost use Rattle.rtr_ends.specs.Connection.{HistorySplits, PulledAreReplies};
 ghost use Rattle.rtr_ends.specs.Consumed.{RouterSplits};
-ghost use Rattle.rtr_ends.specs.Router.{RouterKeeps, RouterStops, RouterTakes};
+ghost use Rattle.rtr_ends.specs.Router.{RouterAsks, RouterKeeps, RouterStops, RouterTakes};
 ghost use Rattle.rtr_ends.specs.Transcript.{ActsExactly};
 
 /// The change between two sets, listed, commits from the first to the second.
@@ -61,4 +61,10 @@ pub fn router_splits()
 /// told, and its link is the one of the transcript.
 pub fn router_keeps()
     ensures { RouterKeeps }
+{}
+
+/// After any calls each question that a router put is the one that its transcript called for, and so is the next: since what was
+/// committed last, or for all where nothing is, where a record acted wrongly since, or after a Cache Reset.
+pub fn router_asks()
+    ensures { RouterAsks }
 {}

@@ -6,8 +6,8 @@ use Rattle.vrps.specs.Instance.{Instance}
 use Rattle.rtr_pdu.specs.declared.unit.Unit.{Unit}
 use Rattle.rtr_ends.specs.Answer.{sent}
 use Rattle.rtr_ends.specs.Cache.{Conn, conn_pulled, conn_takes, pulled_count}
-use Rattle.rtr_ends.specs.Router.{Router, Link, Closed, Idle, Asked, Answering, Ended, choose, is_closed, close, clocked, is_due, is_idle, asks_if, connects_at, closed_at, ticks_at, asks, receives, router_pulled}
-use Rattle.rtr_ends.specs.Transcript.{At, Item, Question, query}
+use Rattle.rtr_ends.specs.Router.{Router, Link, Closed, Idle, Asked, Answering, Ended, is_closed, close, clocked, is_due, is_idle, asks_if, connects_at, closed_at, ticks_at, asks, receives, router_pulled}
+use Rattle.rtr_ends.specs.Transcript.{choose, At, Item, Question, query}
 use Rattle.rtr_ends.proofs.KeptLaws.{clocked_tells}
 use Rattle.rtr_world.specs.Place.{Place}
 use Rattle.rtr_world.specs.History.{conn_due}

@@ -10,8 +10,8 @@ use Rattle.rtr_pdu.specs.declared.unit.Unit.TheVariants.{SerialNotify}
 use Rattle.rtr_ends.specs.declared.link.End.TheVariants as ends
 use Rattle.rtr_ends.specs.Answer.{sent_all}
 use Rattle.rtr_ends.specs.Cache.{Conn, is_none, finds_memory}
-use Rattle.rtr_ends.specs.Router.{Router, Receiving, Link, Closed, Idle, Asked, Answering, Ended, choose, emptied, on_unit, may_lack, lacks, reads, with_bytes, is_reading, router_stops, router_byte, expired, clocked, is_closed, close, is_idle, asks_if}
-use Rattle.rtr_ends.specs.Transcript.{Question, AskReset, AskSerial, query, is_serial, is_over, later, sum_of, retry_of}
+use Rattle.rtr_ends.specs.Router.{Router, Receiving, Link, Closed, Idle, Asked, Answering, Ended, emptied, on_unit, may_lack, lacks, reads, with_bytes, is_reading, router_stops, router_byte, expired, clocked, is_closed, close, is_idle, asks_if}
+use Rattle.rtr_ends.specs.Transcript.{choose, Question, AskReset, AskSerial, query, is_serial, is_over, later, sum_of, retry_of}
 use Rattle.rtr_ends.proofs.KeptLaws.{same_base}
 use Rattle.rtr_world.specs.History.{conn_due}
 use Rattle.rtr_world.specs.OneAnswer.{NotifiesOf, without_notifies}

@@ -1,0 +1,403 @@
+-- A router's questions are those that its transcript calls for.
+use Rattle.std.specs.Prelude.{◌≡◌, ◌⊎◌, ℕ, Bool, true, false, not, ◌&&◌, ◌||◌, ◌==◌, nat_lt, List, [], ◌∷◌, ◌++◌, Some, None, if◌then◌else◌, ⊤, refl}
+use Rattle.std.proofs.Common.{sym, ap, ◌∙◌, subst, append_assoc, inl, inr}
+use Rattle.std.proofs.lemmas.Bool.{and_parts}
+use Rattle.prefixes.specs.Payload.{Payload}
+use Rattle.vrps.specs.VrpSet.{VrpSet, has, size}
+use Rattle.rtr_pdu.specs.Judging.{Judgement, Begins, Whole, Faulty, judge}
+use Rattle.rtr_pdu.specs.Payloads.{Report}
+use Rattle.rtr_pdu.specs.declared.unit.Unit.{Unit}
+use Rattle.rtr_pdu.specs.declared.unit.Unit.TheVariants.{SerialNotify, SerialQuery, ResetQuery, CacheResponse, Prefix, EndOfData, CacheReset, RouterKey, ErrorReport}
+use Rattle.rtr_ends.specs.declared.link.End.{End}
+use Rattle.rtr_ends.specs.declared.link.End.TheVariants as ends
+use Rattle.rtr_ends.specs.Cache.{is_none, finds_memory}
+use Rattle.rtr_ends.specs.Answer.{sent}
+use Rattle.rtr_ends.specs.Router.{Call, Connects, Receives, Pulls, Closes, AsksNow, Ticks, called, played, RouterAsks, Receiving, router_byte, router_stops, asks, asks_if, clocked, close, closed_at, connects_at, expired, is_closed, is_due, receives, router_pulled, ticks_at, Link, LinkTells, Noted, asked_by, lacks, may_lack, reads, with_bytes, Closed, Idle, Asked, Answering, Ended, Router, Staged, Stays, Wrong, Over, ask, commit, emptied, fails, is_idle, is_news, is_reading, is_strange, on_unit, reports, stage, staged, told, told_off}
+use Rattle.rtr_ends.specs.Transcript.{Question, AskReset, AskSerial, AsksRightly, Begun, Item, At, Opened, Asks, Reads, Lacks, Breaks, Refused, Restarts, Shut, acts_once, acts_wrongly, base_of, bounded, choose, does_commit, is_listed, is_serial, is_wrong, is_over, kept, later, led_to, marked, next_question, query, retry_of, sum_of, under_way}
+use Rattle.rtr_ends.proofs.FeedingLaws.{feed_keeps}
+use Rattle.rtr_ends.proofs.KeptLaws.{Tells, bytes_add, called_tells, clocked_tells, holds, new_tells, none_is, not_true}
+use Rattle.rtr_ends.proofs.TableLaws.{false_true}
+
+-- The mark is the one of the transcript, where something is committed.
+abbrev MarkTells : Router → List Item → Type 0
+MarkTells r items = (r.version ≡ None) ⊎ (marked items ≡ r.mark)
+
+choose_same : (r : Router) (items : List Item) → kept items ≡ holds r → MarkTells r items → choose r.version r.mark ≡ choose (kept items).version (marked items)
+choose_same r items k (inl none) = ap (λ v. choose v r.mark) none ∙ sym (ap (λ x. choose x.version (marked items)) k ∙ ap (λ v. choose v (marked items)) none)
+choose_same r items k (inr e) = λ i. choose (sym k i).version (sym e i)
+
+-- the question that a unit makes a router put
+abbrev put_by : Unit → Router → Question
+put_by CacheReset n = AskReset
+put_by u n = choose n.version n.mark
+
+abbrev Puts : Unit → Router → Link → List ℕ → Type 0
+Puts u n (Asked q) (b ∷ out) = q ≡ put_by u n
+Puts u n link out = ⊤
+
+record UnitAsks (u : Unit) (n : Router) (later : List Item) : Type 0 where
+  pub mark : MarkTells n later
+  pub puts : Puts u n n.link n.out
+
+if_asks : (u : Unit) (b : Bool) (x y : Router) (later : List Item) → UnitAsks u x later → UnitAsks u y later → UnitAsks u (if b then x else y) later
+if_asks u true x y later hx hy = hx
+if_asks u false x y later hx hy = hy
+
+-- nothing is put where nothing is to be pulled
+puts_none : (u : Unit) (n : Router) (l : Link) (out : List ℕ) → out ≡ [] → Puts u n l out
+puts_none u n Closed out e = tt
+puts_none u n (Ended end) out e = tt
+puts_none u n Idle out e = tt
+puts_none u n (Answering a) out e = tt
+puts_none u n (Asked q) [] e = tt
+puts_none u n (Asked q) (b ∷ out) e = absurd (let h : b ∷ out ≡ [] = e in cc)
+
+-- a question that is put
+puts_it : (u : Unit) (n : Router) (q : Question) → q ≡ put_by u n → Puts u n (Asked q) (sent (query q))
+puts_it u n AskReset e = e
+puts_it u n (AskSerial session serial) e = e
+
+-- the router stays as it was, but for what is no question
+quiet : (u : Unit) (n : Router) (later : List Item) → n.out ≡ [] → MarkTells n later → UnitAsks u n later
+quiet u n later none m = record { mark = m; puts = puts_none u n n.link n.out none }
+
+-- the link ends
+ends_quiet : (u : Unit) (n : Router) (end : End) (later : List Item) → n.link ≡ Ended end → MarkTells n later → UnitAsks u n later
+ends_quiet u n end later is m = record { mark = m; puts = subst (λ l. Puts u n l n.out) (sym is) tt }
+
+-- what is read
+abbrev After : Unit → Router → List Item → Type 0
+After u n items = UnitAsks u n (Reads u ∷ items)
+
+idle_asks : (u : Unit) (r : Router) (items : List Item) → r.out ≡ [] → under_way items ≡ None → MarkTells r items → After u (on_unit Idle u r) items
+unfolding on_unit
+idle_asks (SerialNotify session serial) r items none w m =
+    let u : Unit = SerialNotify session serial in
+    if_asks u (is_strange r session) (fails u r) (if is_news r.version serial then ask r else r) (Reads u ∷ items) (ends_quiet u (fails u r) (ends.Reported 0) (Reads u ∷ items) refl (inl refl))
+    (if_asks u (is_news r.version serial) (ask r) r (Reads u ∷ items) (record { mark = m; puts = puts_it u (ask r) (choose r.version r.mark) refl }) (quiet u r (Reads u ∷ items) none m))
+idle_asks (ErrorReport e) r items none w m =
+    let u : Unit = ErrorReport e in
+    if_asks u (e.code == 2) r (told e.code r) (Reads u ∷ items) (quiet u r (Reads u ∷ items) none m) (ends_quiet u (told e.code r) (ends.Told e.code) (Reads u ∷ items) refl m)
+idle_asks (Prefix announce v) r items none w m =
+    ends_quiet (Prefix announce v) (reports 0 (Prefix announce v) r) (ends.Reported 0) (Reads (Prefix announce v) ∷ items) refl
+    (subst (λ o. (r.version ≡ None) ⊎ ((acts_wrongly o (kept items).table announce v || marked items) ≡ r.mark)) (sym w) m)
+idle_asks (EndOfData session serial refresh retry expire) r items none w m =
+    let u : Unit = EndOfData session serial refresh retry expire in
+    ends_quiet u (reports 0 u r) (ends.Reported 0) (Reads u ∷ items) refl
+    (subst (λ o. (r.version ≡ None) ⊎ ((not (does_commit o session (kept items).table) && marked items) ≡ r.mark)) (sym w) m)
+idle_asks (SerialQuery session serial) r items none w m = ends_quiet (SerialQuery session serial) (reports 0 (SerialQuery session serial) r) (ends.Reported 0) (Reads (SerialQuery session serial) ∷ items) refl m
+idle_asks ResetQuery r items none w m = ends_quiet ResetQuery (reports 0 ResetQuery r) (ends.Reported 0) (Reads ResetQuery ∷ items) refl m
+idle_asks (CacheResponse session) r items none w m = ends_quiet (CacheResponse session) (reports 0 (CacheResponse session) r) (ends.Reported 0) (Reads (CacheResponse session) ∷ items) refl m
+idle_asks CacheReset r items none w m = ends_quiet CacheReset (reports 0 CacheReset r) (ends.Reported 0) (Reads CacheReset ∷ items) refl m
+idle_asks (RouterKey key) r items none w m = ends_quiet (RouterKey key) (reports 0 (RouterKey key) r) (ends.Reported 0) (Reads (RouterKey key) ∷ items) refl m
+
+-- an Error Report to the question that is outstanding
+told_asks : (q : Question) (e : Report) (r : Router) (items : List Item) → r.out ≡ [] → MarkTells r items → After (ErrorReport e) (told_off q e.code r) items
+told_asks q e r items none m =
+    let u : Unit = ErrorReport e in
+    let later : List Item = Reads (ErrorReport e) ∷ items in
+    if_asks u (e.code == 2) (record r { link = Idle; due = Some (sum_of r.now (retry_of r.version)) }) (if e.code == 0 && is_serial (Some q) then told e.code (emptied r) else told e.code r) later
+    (quiet u (record r { link = Idle; due = Some (sum_of r.now (retry_of r.version)) }) later none m)
+    (if_asks u (e.code == 0 && is_serial (Some q)) (told e.code (emptied r)) (told e.code r) later
+    (ends_quiet u (told e.code (emptied r)) (ends.Told e.code) later refl (inl refl)) (ends_quiet u (told e.code r) (ends.Told e.code) later refl m))
+
+asked_asks : (q : Question) (u : Unit) (r : Router) (items : List Item) → r.out ≡ [] → under_way items ≡ None → MarkTells r items → After u (on_unit (Asked q) u r) items
+unfolding on_unit
+asked_asks q (SerialNotify session serial) r items none w m =
+    let u : Unit = SerialNotify session serial in
+    if_asks u (is_strange r session) (fails u r) r (Reads u ∷ items) (ends_quiet u (fails u r) (ends.Reported 0) (Reads u ∷ items) refl (inl refl)) (quiet u r (Reads u ∷ items) none m)
+asked_asks q (CacheResponse session) r items none w m =
+    let u : Unit = CacheResponse session in
+    let n : Router = record r { agreed = true; session = Some session; link = Answering (record { question = q; session = session; withdrawn = []; announced = [] }) } in
+    if_asks u (is_wrong (Some q) r.version session) (fails u r) n (Reads u ∷ items) (ends_quiet u (fails u r) (ends.Reported 0) (Reads u ∷ items) refl (inl refl)) (quiet u n (Reads u ∷ items) none m)
+asked_asks (AskSerial session serial) CacheReset r items none w m = record { mark = m; puts = refl }
+asked_asks AskReset CacheReset r items none w m = ends_quiet CacheReset (reports 0 CacheReset r) (ends.Reported 0) (Reads CacheReset ∷ items) refl m
+asked_asks q (ErrorReport e) r items none w m = told_asks q e (record r { agreed = true }) items none m
+asked_asks q (Prefix announce v) r items none w m =
+    ends_quiet (Prefix announce v) (reports 0 (Prefix announce v) r) (ends.Reported 0) (Reads (Prefix announce v) ∷ items) refl
+    (subst (λ o. (r.version ≡ None) ⊎ ((acts_wrongly o (kept items).table announce v || marked items) ≡ r.mark)) (sym w) m)
+asked_asks q (EndOfData session serial refresh retry expire) r items none w m =
+    let u : Unit = EndOfData session serial refresh retry expire in
+    ends_quiet u (reports 0 u r) (ends.Reported 0) (Reads u ∷ items) refl
+    (subst (λ o. (r.version ≡ None) ⊎ ((not (does_commit o session (kept items).table) && marked items) ≡ r.mark)) (sym w) m)
+asked_asks q (SerialQuery session serial) r items none w m = ends_quiet (SerialQuery session serial) (reports 0 (SerialQuery session serial) r) (ends.Reported 0) (Reads (SerialQuery session serial) ∷ items) refl m
+asked_asks q ResetQuery r items none w m = ends_quiet ResetQuery (reports 0 ResetQuery r) (ends.Reported 0) (Reads ResetQuery ∷ items) refl m
+asked_asks q (RouterKey key) r items none w m = ends_quiet (RouterKey key) (reports 0 (RouterKey key) r) (ends.Reported 0) (Reads (RouterKey key) ∷ items) refl m
+
+-- How a record acts tells whether the mark is set.
+abbrev IsMarked : Staged → Bool → Type 0
+IsMarked (Wrong code) b = b ≡ true
+IsMarked st b = b ≡ false
+
+withdrawn_marks : (base : VrpSet) (a : Begun) (v : Payload) → IsMarked (stage base a false v) (not (has base v && not (is_listed v a.withdrawn)))
+withdrawn_marks base a v = by_test (has base v && not (is_listed v a.withdrawn))
+  where
+    by_test : (b : Bool) → IsMarked (if b then Stays (record a { withdrawn = v ∷ a.withdrawn }) else Wrong 6) (not b)
+    by_test true = refl
+    by_test false = refl
+
+announced_marks : (base : VrpSet) (a : Begun) (v : Payload) → IsMarked (stage base a true v) (has base v || is_listed v a.announced)
+announced_marks base a v = by_test (has base v || is_listed v a.announced) (nat_lt 16777215 (size (led_to base a.withdrawn (v ∷ a.announced))))
+  where
+    by_test : (b over : Bool) → IsMarked (if b then Wrong 7 else if over then Over else Stays (record a { announced = v ∷ a.announced })) b
+    by_test true over = refl
+    by_test false true = refl
+    by_test false false = refl
+
+record_marks : (table : VrpSet) (a : Begun) (announce : Bool) (v : Payload) → IsMarked (stage (base_of a.question table) a announce v) (acts_wrongly (Some a) table announce v)
+record_marks table a false v = withdrawn_marks (base_of a.question table) a v
+record_marks table a true v = announced_marks (base_of a.question table) a v
+
+-- a mark that a record leaves
+left_so : (b : Bool) (r : Router) (items later : List Item) → b ≡ false → marked later ≡ (b || marked items) → MarkTells r items → MarkTells r later
+left_so b r items later k e (inl n) = inl n
+left_so b r items later k e (inr h) = inr (e ∙ ap (λ x. x || marked items) k ∙ h)
+
+staged_asks : (u : Unit) (st : Staged) (b : Bool) (r : Router) (items later : List Item) → r.out ≡ [] → IsMarked st b → marked later ≡ (b || marked items) → MarkTells r items → UnitAsks u (staged u st r) later
+staged_asks u (Stays a) b r items later none k e m = quiet u (record r { link = Answering a }) later none (left_so b r items later k e m)
+staged_asks u (Wrong code) b r items later none k e m =
+    ends_quiet u (record (reports code u r) { mark = true }) (ends.Reported code) later refl (inr (e ∙ ap (λ x. x || marked items) k))
+staged_asks u Over b r items later none k e m = ends_quiet u (record r { link = Ended ends.TooMany }) ends.TooMany later refl (left_so b r items later k e m)
+
+answering_asks : (a : Begun) (u : Unit) (r : Router) (items : List Item) → r.out ≡ [] → under_way items ≡ Some a → kept items ≡ holds r → acts_once (base_of a.question r.table) a.withdrawn a.announced ≡ true → MarkTells r items
+    → After u (on_unit (Answering a) u r) items
+unfolding on_unit
+answering_asks a (SerialNotify session serial) r items none w k once m =
+    let u : Unit = SerialNotify session serial in
+    if_asks u (is_strange r session) (fails u r) r (Reads u ∷ items) (ends_quiet u (fails u r) (ends.Reported 0) (Reads u ∷ items) refl (inl refl)) (quiet u r (Reads u ∷ items) none m)
+answering_asks a (Prefix announce v) r items none w k once m =
+    staged_asks (Prefix announce v) (stage (base_of a.question r.table) a announce v) (acts_wrongly (Some a) r.table announce v) r items (Reads (Prefix announce v) ∷ items) none (record_marks r.table a announce v)
+    (λ i. acts_wrongly (w i) (k i).table announce v || marked items) m
+answering_asks a (RouterKey key) r items none w k once m = quiet (RouterKey key) r (Reads (RouterKey key) ∷ items) none m
+answering_asks a (EndOfData session serial refresh retry expire) r items none w k once m = by_session (session == a.session) refl
+  where
+    u : Unit
+    u = EndOfData session serial refresh retry expire
+
+    done : Router
+    done = commit a (record { session = session; serial = serial; moment = r.now; intervals = bounded refresh retry expire }) r
+
+    by_session : (b : Bool) → (session == a.session) ≡ b → After u (if b then done else fails u r) items
+    by_session true same = quiet u done (Reads u ∷ items) none (inr ((λ i. not (does_commit (w i) session (k i).table) && marked items) ∙ (λ i. not (same i && once i) && marked items)))
+    by_session false other = ends_quiet u (fails u r) (ends.Reported 0) (Reads u ∷ items) refl (inl refl)
+answering_asks a (ErrorReport e) r items none w k once m = told_asks a.question e r items none m
+answering_asks a (CacheResponse session) r items none w k once m = ends_quiet (CacheResponse session) (reports 0 (CacheResponse session) r) (ends.Reported 0) (Reads (CacheResponse session) ∷ items) refl m
+answering_asks a (SerialQuery session serial) r items none w k once m = ends_quiet (SerialQuery session serial) (reports 0 (SerialQuery session serial) r) (ends.Reported 0) (Reads (SerialQuery session serial) ∷ items) refl m
+answering_asks a ResetQuery r items none w k once m = ends_quiet ResetQuery (reports 0 ResetQuery r) (ends.Reported 0) (Reads ResetQuery ∷ items) refl m
+answering_asks a CacheReset r items none w k once m = ends_quiet CacheReset (reports 0 CacheReset r) (ends.Reported 0) (Reads CacheReset ∷ items) refl m
+
+unit_asks : (l : Link) (u : Unit) (r : Router) (items : List Item) → is_reading l ≡ true → r.out ≡ [] → kept items ≡ holds r → LinkTells l r.agreed r.session r.table items → MarkTells r items → After u (on_unit l u r) items
+unit_asks Closed u r items live none k t m = false_true live
+unit_asks (Ended end) u r items live none k t m = false_true live
+unit_asks Idle u r items live none k t m = idle_asks u r items none t.2 m
+unit_asks (Asked q) u r items live none k t m = asked_asks q u r items none t.2 m
+unit_asks (Answering a) u r items live none k t m = answering_asks a u r items none t.2 k t.6 m
+
+-- a link that is idle did not read a Cache Reset last
+abbrev is_reset : List Item → Bool
+is_reset (Reads CacheReset ∷ items) = true
+is_reset items = false
+
+next_is : (items : List Item) → is_reset items ≡ false → next_question items ≡ choose (kept items).version (marked items)
+next_is [] h = refl
+next_is (At now ∷ items) h = refl
+next_is (Opened ∷ items) h = refl
+next_is (Asks q ∷ items) h = refl
+next_is (Lacks u ∷ items) h = refl
+next_is (Breaks fault ∷ items) h = refl
+next_is (Refused ∷ items) h = refl
+next_is (Shut ∷ items) h = refl
+next_is (Restarts ∷ items) h = refl
+next_is (Reads CacheReset ∷ items) h = false_true (sym h)
+next_is (Reads (SerialNotify session serial) ∷ items) h = refl
+next_is (Reads (SerialQuery session serial) ∷ items) h = refl
+next_is (Reads ResetQuery ∷ items) h = refl
+next_is (Reads (CacheResponse session) ∷ items) h = refl
+next_is (Reads (Prefix announce v) ∷ items) h = refl
+next_is (Reads (EndOfData session serial refresh retry expire) ∷ items) h = refl
+next_is (Reads (RouterKey key) ∷ items) h = refl
+next_is (Reads (ErrorReport e) ∷ items) h = refl
+
+reset_ends : (l : Link) (r : Router) → is_reading l ≡ true → is_idle (on_unit l CacheReset r).link ≡ false
+unfolding on_unit
+reset_ends Closed r live = false_true live
+reset_ends (Ended end) r live = false_true live
+reset_ends Idle r live = refl
+reset_ends (Asked AskReset) r live = refl
+reset_ends (Asked (AskSerial session serial)) r live = refl
+reset_ends (Answering a) r live = refl
+
+-- what is known of a router's questions
+record Chooses (r : Router) (items : List Item) : Type 0 where
+  pub tells : Tells r items
+  pub mark : MarkTells r items
+  pub asked : AsksRightly items
+  pub not_reset : is_idle r.link ≡ true → is_reset items ≡ false
+
+-- what a unit adds
+asked_so : (u : Unit) (n : Router) (items : List Item) (l : Link) (out : List ℕ) → kept (asked_by l out ++ Reads u ∷ items) ≡ holds n → MarkTells n (Reads u ∷ items) → Puts u n l out → AsksRightly items → AsksRightly (asked_by l out ++ Reads u ∷ items)
+asked_so u n items Closed out k m p a = a
+asked_so u n items (Ended end) out k m p a = a
+asked_so u n items Idle out k m p a = a
+asked_so u n items (Answering b) out k m p a = a
+asked_so u n items (Asked q) [] k m p a = a
+asked_so u n items (Asked q) (b ∷ out) k m p a = (by_unit u k m p, a)
+  where
+    by_unit : (v : Unit) → kept (Reads v ∷ items) ≡ holds n → MarkTells n (Reads v ∷ items) → q ≡ put_by v n → q ≡ next_question (Reads v ∷ items)
+    by_unit CacheReset k m p = p
+    by_unit v k m p = p ∙ choose_same n (Reads v ∷ items) k m
+
+-- the mark beside a question
+asked_mark : (n : Router) (items : List Item) (l : Link) (out : List ℕ) → MarkTells n items → MarkTells n (asked_by l out ++ items)
+asked_mark n items Closed out m = m
+asked_mark n items (Ended end) out m = m
+asked_mark n items Idle out m = m
+asked_mark n items (Answering b) out m = m
+asked_mark n items (Asked q) [] m = m
+asked_mark n items (Asked q) (b ∷ out) m = m
+
+-- what is idle asked nothing
+idle_so : (l : Link) (out : List ℕ) (u : Unit) (items : List Item) → is_idle l ≡ true → is_reset (Reads u ∷ items) ≡ false → is_reset (asked_by l out ++ Reads u ∷ items) ≡ false
+idle_so Idle out u items h e = e
+idle_so Closed out u items h e = false_true h
+idle_so (Ended end) out u items h e = false_true h
+idle_so (Asked q) out u items h e = false_true h
+idle_so (Answering b) out u items h e = false_true h
+
+not_reset_unit : (r : Router) (u : Unit) (items : List Item) → is_reading r.link ≡ true → is_idle (on_unit r.link u r).link ≡ true → is_reset (Reads u ∷ items) ≡ false
+not_reset_unit r CacheReset items live idle = false_true (sym (reset_ends r.link r live) ∙ idle)
+not_reset_unit r u items live idle = refl
+
+reads_choose : (r : Router) (u : Unit) (items : List Item) → is_reading r.link ≡ true → r.out ≡ [] → Chooses r items → Tells (reads u r).router ((reads u r).items ++ items) → Chooses (reads u r).router ((reads u r).items ++ items)
+reads_choose r u items live none c tells = record { tells = tells; mark = mark; asked = asked; not_reset = not_reset }
+  where
+    n : Router
+    n = on_unit r.link u r
+
+    did : UnitAsks u n (Reads u ∷ items)
+    did = unit_asks r.link u r items live none c.tells.kept_is c.tells.link c.mark
+
+    later_is : (asked_by n.link n.out ++ Reads u ∷ []) ++ items ≡ asked_by n.link n.out ++ Reads u ∷ items
+    later_is = append_assoc (asked_by n.link n.out) (Reads u ∷ []) items
+
+    mark : MarkTells n ((asked_by n.link n.out ++ Reads u ∷ []) ++ items)
+    mark = subst (λ x. MarkTells n x) (sym later_is) (asked_mark n (Reads u ∷ items) n.link n.out did.mark)
+
+    asked : AsksRightly ((asked_by n.link n.out ++ Reads u ∷ []) ++ items)
+    asked = subst (λ x. AsksRightly x) (sym later_is) (asked_so u n items n.link n.out (ap kept (sym later_is) ∙ tells.kept_is) did.mark did.puts c.asked)
+
+    not_reset : is_idle n.link ≡ true → is_reset ((asked_by n.link n.out ++ Reads u ∷ []) ++ items) ≡ false
+    not_reset idle = ap is_reset later_is ∙ idle_so n.link n.out u items idle (not_reset_unit r u items live idle)
+
+-- bytes, as they are judged
+bytes_choose : (memory : Bool) (bytes : List ℕ) (r : Router) (j : Judgement) (items : List Item) → is_reading r.link ≡ true → r.out ≡ [] → Chooses r items → Chooses (with_bytes memory bytes r j).router ((with_bytes memory bytes r j).items ++ items)
+bytes_choose memory bytes r Begins items live none c = record { tells = (bytes_add memory bytes r Begins items live none c.tells).tells; mark = c.mark; asked = c.asked; not_reset = c.not_reset }
+bytes_choose memory bytes r (Faulty fault) items live none c = record { tells = (bytes_add memory bytes r (Faulty fault) items live none c.tells).tells; mark = c.mark; asked = c.asked; not_reset = λ h. false_true h }
+bytes_choose memory bytes r (Whole u) items live none c = by_memory (may_lack r.link u r && not memory) (bytes_add memory bytes r (Whole u) items live none c.tells).tells
+  where
+    hand : Router
+    hand = record r { held = [] }
+
+    by_test : Bool → Noted
+    by_test w = if w then lacks u hand else reads u hand
+
+    by_memory : (w : Bool) → Tells (by_test w).router ((by_test w).items ++ items) → Chooses (by_test w).router ((by_test w).items ++ items)
+    by_memory true tells = record { tells = tells; mark = c.mark; asked = c.asked; not_reset = λ h. false_true h }
+    by_memory false tells =
+        reads_choose hand u items live none
+        (record { tells = record { kept_is = c.tells.kept_is; due_is = c.tells.due_is; now_is = c.tells.now_is; link = c.tells.link }; mark = c.mark; asked = c.asked; not_reset = c.not_reset }) tells
+
+-- a piece, byte by byte
+byte_chooses : (items : List Item) (m : Receiving) (b : ℕ) → router_stops m.router ≡ false → Chooses m.router (m.items ++ items) → Chooses (router_byte m b).router ((router_byte m b).items ++ items)
+unfolding router_byte
+byte_chooses items m b goes_on c =
+    let parts = and_parts (is_reading m.router.link) (is_none m.router.out) (not_true (is_reading m.router.link && is_none m.router.out) goes_on) in
+    let n : Noted = with_bytes (finds_memory m.wanting) (m.router.held ++ b ∷ []) m.router (judge 1 (not m.router.agreed) (m.router.held ++ b ∷ [])) in
+    subst (λ x. Chooses n.router x) (sym (append_assoc n.items m.items items))
+    (bytes_choose (finds_memory m.wanting) (m.router.held ++ b ∷ []) m.router (judge 1 (not m.router.agreed) (m.router.held ++ b ∷ [])) (m.items ++ items) parts.0 (none_is m.router.out parts.1) c)
+
+-- the clock
+expired_mark : (l : Link) (r : Router) (items : List Item) → MarkTells (expired l r) items
+expired_mark Closed r items = inl refl
+expired_mark (Ended end) r items = inl refl
+expired_mark Idle r items = inl refl
+expired_mark (Asked AskReset) r items = inl refl
+expired_mark (Asked (AskSerial session serial)) r items = inl refl
+expired_mark (Answering a) r items = by_question (is_serial (Some a.question))
+  where
+    by_question : (b : Bool) → MarkTells (if b then record (emptied r) { link = Ended ends.Expired; out = [] } else emptied r) items
+    by_question true = inl refl
+    by_question false = inl refl
+
+clocked_mark : (now : ℕ) (r : Router) (items : List Item) → MarkTells r items → MarkTells (clocked now r) (At now ∷ items)
+unfolding clocked
+clocked_mark now r items m = by_clock (is_over r.version (later r.now now))
+  where
+    told_r : Router
+    told_r = record r { now = later r.now now }
+
+    by_clock : (b : Bool) → MarkTells (if b then expired told_r.link told_r else told_r) (At now ∷ items)
+    by_clock true = expired_mark told_r.link told_r (At now ∷ items)
+    by_clock false = m
+
+clocked_chooses : (now : ℕ) (r : Router) (items : List Item) → Chooses r items → Chooses (clocked now r) (At now ∷ items)
+clocked_chooses now r items c = record { tells = clocked_tells now r items c.tells; mark = clocked_mark now r items c.mark; asked = c.asked; not_reset = λ h. refl }
+
+-- a link that is closed
+close_mark : (r : Router) (items : List Item) → MarkTells r items → MarkTells (close r) items
+close_mark r items m = by_test (is_closed r.link)
+  where
+    by_test : (b : Bool) → MarkTells (if b then r else record r { link = Closed; agreed = false; session = None; held = []; out = []; due = Some (sum_of r.now (retry_of r.version)) }) items
+    by_test true = m
+    by_test false = m
+
+-- the question of an idle link, or of a new connection
+asks_choose : (r : Router) (items : List Item) (b : Bool) → (b ≡ true → is_reset items ≡ false) → (b ≡ false → is_idle r.link ≡ true → is_reset items ≡ false) → kept items ≡ holds r → MarkTells r items → AsksRightly items
+    → Tells (asks_if b r).router ((asks_if b r).items ++ items) → Chooses (asks_if b r).router ((asks_if b r).items ++ items)
+asks_choose r items false resets idle k m a tells = record { tells = tells; mark = m; asked = a; not_reset = idle refl }
+asks_choose r items true resets idle k m a tells = record {
+  tells = tells;
+  mark = m;
+  asked = (choose_same r items k m ∙ sym (next_is items (resets refl)), a);
+  not_reset = λ h. false_true h;
+}
+
+called_chooses : (call : Call) (r : Router) (items : List Item) → Chooses r items → Chooses (called call r).router ((called call r).items ++ items)
+unfolding connects_at closed_at ticks_at asks receives router_pulled
+called_chooses (Connects now) r items c =
+    let k = clocked_chooses now r items c in
+    let shut : Router = close (clocked now r) in
+    let m = close_mark (clocked now r) (At now ∷ items) k.mark in
+    let tells = called_tells (Connects now) r items c.tells in
+    record {
+      tells = tells;
+      mark = m;
+      asked = (choose_same (close (clocked now r)) (Opened ∷ At now ∷ items) tells.kept_is m, c.asked);
+      not_reset = λ h. false_true h;
+    }
+called_chooses (Receives now wanting piece) r items c =
+    feed_keeps (λ (m : Receiving). router_stops m.router) router_byte (λ rest m. Chooses m.router (m.items ++ items)) (λ b rest m goes_on h. byte_chooses items m b goes_on h)
+    (record { router = clocked now r; items = At now ∷ []; wanting = wanting }) piece (clocked_chooses now r items c)
+called_chooses (Pulls most) r items c = record { tells = called_tells (Pulls most) r items c.tells; mark = c.mark; asked = c.asked; not_reset = c.not_reset }
+called_chooses (Closes now) r items c =
+    let k = clocked_chooses now r items c in
+    record { tells = called_tells (Closes now) r items c.tells; mark = close_mark (clocked now r) (At now ∷ items) k.mark; asked = c.asked; not_reset = λ h. refl }
+called_chooses AsksNow r items c =
+    asks_choose r items (is_idle r.link) c.not_reset (λ off on. false_true (sym off ∙ on)) c.tells.kept_is c.mark c.asked (called_tells AsksNow r items c.tells)
+called_chooses (Ticks now) r items c =
+    let k = clocked_chooses now r items c in
+    let n : Router = clocked now r in
+    let b : Bool = is_due n.link n.due n.now in
+    let e = append_assoc (asks_if b n).items (At now ∷ []) items in
+    subst (λ x. Chooses (asks_if b n).router x) (sym e)
+    (asks_choose n (At now ∷ items) b (λ h. refl) (λ off on. refl) k.tells.kept_is k.mark k.asked (subst (λ x. Tells (asks_if b n).router x) e (called_tells (Ticks now) r items c.tells)))
+
+played_choose : (calls : List Call) → Chooses (played calls).router (played calls).items
+played_choose [] = record { tells = new_tells; mark = inl refl; asked = tt; not_reset = λ h. false_true h }
+played_choose (call ∷ calls) = called_chooses call (played calls).router (played calls).items (played_choose calls)
+
+-- A router's questions are those that its transcript calls for.
+pub router_asks : RouterAsks
+router_asks calls =
+    let c = played_choose calls in
+    record { next = choose_same (played calls).router (played calls).items c.tells.kept_is c.mark; asked = c.asked }
