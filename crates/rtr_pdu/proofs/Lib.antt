@@ -1,4 +1,5 @@
 pub mod BodyLaws
+pub mod DeviceLaws
 pub mod JudgeLaws
 pub mod JudgingLaws
 pub mod ModeLaws

@@ -106,7 +106,7 @@ module _ (version : ℕ) where
   no_unit u z bytes fits (Some fault) h = not_shown u z bytes fits fault h
 
   -- a beginning of a unit shows no fault
-  not_both : (rest : List ℕ) (fault : UnitFault) → IsPartial version rest → Shows version rest fault → ⊥
+  pub not_both : (rest : List ℕ) (fault : UnitFault) → IsPartial version rest → Shows version rest fault → ⊥
   not_both rest fault part h =
       elim (kinds rest fault h) [
         | inl head ↦ none_some _ fault part.0 head

@@ -1,3 +1,5 @@
+pub mod Counted
+pub mod Device
 pub mod Fault
 pub mod Judging
 pub mod Payloads

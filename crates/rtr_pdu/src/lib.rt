@@ -1,6 +1,8 @@
 //! The units of the RPKI-to-Router protocol, version 1 (RFC 8210 section 5).
 #![tactic(auto)]
 
+mod counted;
+mod device;
 pub mod laws;
 mod reader;
 mod reading;
@@ -10,6 +12,8 @@ mod tests;
 mod unit;
 mod writing;
 
+pub use counted::Counted;
+pub use device::{ReadFault, WriteFailed, read_unit, write_unit};
 pub use reader::UnitReader;
 pub use stream::read_all;
 pub use unit::{ErrorReport, Next, RouterKey, Unit, UnitFault};

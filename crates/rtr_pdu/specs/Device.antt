@@ -1,0 +1,46 @@
+-- One unit from a reader, and one to a writer (RFC 8210 section 5).
+use Rattle.std.specs.Prelude.{◌≡◌, ℕ, ◌+◌, ◌-◌, ◌<◌, ◌≤◌, false, nat_lt, List, [], length, take, Option, Some, None, Result, Ok, Err, if◌then◌else◌}
+use Rattle.std.specs.Io.KnownBytes.{Appends, Consumes, IsAtEnd}
+use Rattle.rtr_pdu.specs.declared.unit.Unit.{Unit}
+use Rattle.rtr_pdu.specs.declared.unit.UnitFault.{UnitFault}
+use Rattle.rtr_pdu.specs.declared.unit.UnitFault.TheVariants as faults
+use Rattle.rtr_pdu.specs.declared.device.ReadFault.{ReadFault}
+use Rattle.rtr_pdu.specs.declared.device.ReadFault.TheVariants as read_faults
+use Rattle.rtr_pdu.specs.declared.counted.Counted.{Counted}
+use Rattle.rtr_pdu.specs.Counted.{calls_of, failures_of, HasFailed}
+use Rattle.rtr_pdu.specs.Stream.{as_read, length_of, IsPartial}
+use Rattle.rtr_pdu.specs.Reader.{IsFaulty, IsRead}
+
+-- What these bytes are, and that they are the last ones where it is told that the input ends: a unit and no more, or nothing,
+-- or the beginning of a unit, or what shows a fault and no more
+abbrev pub Answers : List ℕ → Option (List ℕ) → Result (Option Unit) ReadFault → Type 0
+Answers bytes left (Ok (Some u)) = IsRead false bytes u
+Answers bytes left (Ok None) = (bytes ≡ []) × IsAtEnd left
+Answers bytes left (Err (read_faults.Fault faults.Truncated)) = IsPartial 1 (as_read 1 false bytes) × (0 < length bytes) × IsAtEnd left
+Answers bytes left (Err (read_faults.Fault fault)) = IsFaulty false bytes fault
+Answers bytes left (Err read_faults.ReadFailed) = IsPartial 1 (as_read 1 false bytes)
+
+-- Of what a reader at a cache had left, what this answer tells of was read, in at most one call for each byte and one more.
+pub record ReadsUnit (before left : Option (List ℕ)) (calls now : ℕ) (answer : Result (Option Unit) ReadFault) : Type 0 where
+  pub bytes : List ℕ
+  pub consumed : Consumes before left bytes
+  pub answers : Answers bytes left answer
+  pub calls_most : now ≤ calls + length bytes + 1
+
+-- No failure was counted and some call was; where the answer is that the reader failed, it did.
+abbrev pub CountsRead : {D : Type 0} → Counted D → Counted D → Result (Option Unit) ReadFault → Type 0
+CountsRead old new (Err read_faults.ReadFailed) = HasFailed old new
+CountsRead old new answer = (failures_of new ≡ failures_of old) × (calls_of old < calls_of new)
+
+-- A beginning of these bytes has gone out, and not all of them.
+abbrev pub GoesOutInPart : Option (List ℕ) → Option (List ℕ) → List ℕ → Type 0
+GoesOutInPart before now bytes = (n : ℕ) × (n < length bytes) × Appends before now (take n bytes)
+
+-- How many bytes are wanted behind these of a unit: to the end of its header, or of the whole
+abbrev pub wanted : List ℕ → ℕ
+wanted held = if nat_lt (length held) 8 then 8 - length held else length_of held - length held
+
+-- What is answered where the input ends
+abbrev pub end_answer : Option UnitFault → Result (Option Unit) ReadFault
+end_answer None = Ok None
+end_answer (Some fault) = Err (read_faults.Fault fault)

@@ -1,0 +1,131 @@
+//! Readers and writers whose calls and failures are counted.
+ghost use Rattle.std.specs.Prelude.{◌≡◌, ◌≤◌};
+
+use std::io;
+use std::io::{ErrorKind, Read, Result, Write};
+
+/// A reader or a writer, with how often it was called and how often a call failed. With 2^64 - 1 calls it is spent: it
+/// is called no more, and each further call answers an error and is not counted.
+#[derive(Drop)]
+pub struct Counted<D> {
+    device: D,
+    calls: u64,
+    failures: u64,
+    ghost at_most_calls: { failures ≤ calls },
+}
+
+/// The answer of a device that is spent.
+fn spent() -> io::Error {
+    io::Error::from(ErrorKind::Other)
+}
+
+impl<D> Counted<D> {
+    ghost use Rattle.rtr_pdu.specs.Counted.{device_of, calls_of, failures_of};
+
+    /// Nothing is counted yet.
+    pub fn new(device: D) -> Counted<D>
+        ensures device { device_of result ≡ device }
+        ensures calls { calls_of result ≡ 0 }
+        ensures failures { failures_of result ≡ 0 }
+    {
+        Counted {
+            device,
+            calls: 0,
+            failures: 0,
+        }
+    }
+
+    /// The device, to be looked at.
+    pub fn device(&self) -> &D
+        ensures { result.now ≡ device_of self.now }
+    {
+        &self.device
+    }
+
+    /// How often the device was called.
+    pub fn calls(&self) -> u64
+        ensures { result ≡ calls_of self.now }
+    {
+        self.calls
+    }
+
+    /// How often a call failed.
+    pub fn failures(&self) -> u64
+        ensures value { result ≡ failures_of self.now }
+        ensures most { failures_of self.now ≤ calls_of self.now }
+    {
+        self.failures
+    }
+}
+
+impl<D: Read> Read for Counted<D> {
+    ghost use Rattle.std.specs.Prelude.{IsErr};
+    ghost use Rattle.std.specs.Io.{ReadsAtMost};
+    ghost use Rattle.std.specs.Io.KnownBytes.{ReadConsumes};
+    ghost use Rattle.rtr_pdu.specs.Counted.{device_of, IsSpent, IsCounted, read_fails};
+
+    ghost remaining = { λ c. D.remaining (device_of c) };
+
+    /// Hands the read on. It fails where it answers an error.
+    fn read(&mut self, buf: &mut [u8]) -> Result<usize>
+        ensures bound { ReadsAtMost result buf.new }
+        ensures bytes { ReadConsumes (D.remaining (device_of self.old)) (D.remaining (device_of self.new)) result buf.new }
+        ensures counted { ¬ (IsSpent self.old) → IsCounted self.old self.new (read_fails result) }
+        ensures spent { IsSpent self.old → IsErr result × (self.new ≡ self.old) }
+    {
+        if self.calls == u64::MAX {
+            return Err(spent());
+        }
+        self.calls += 1;
+        match self.device.read(buf) {
+            Ok(n) => Ok(n),
+            Err(e) => {
+                self.failures += 1;
+                Err(e)
+            }
+        }
+    }
+}
+
+impl<D: Write> Write for Counted<D> {
+    ghost use Rattle.std.specs.Prelude.{IsErr};
+    ghost use Rattle.std.specs.Io.{WritesAtMost};
+    ghost use Rattle.std.specs.Io.KnownBytes.{WriteAppends, Keeps};
+    ghost use Rattle.rtr_pdu.specs.Counted.{device_of, calls_of, failures_of, IsSpent, IsCounted, write_fails};
+
+    ghost contents = { λ c. D.contents (device_of c) };
+
+    /// Hands the write on. It fails where it answers an error, or takes no byte where there are some.
+    fn write(&mut self, buf: &[u8]) -> Result<usize>
+        ensures bound { WritesAtMost result buf.now }
+        ensures bytes { WriteAppends (D.contents (device_of self.old)) (D.contents (device_of self.new)) result buf.now }
+        ensures counted { ¬ (IsSpent self.old) → IsCounted self.old self.new (write_fails result buf.now) }
+        ensures spent { IsSpent self.old → IsErr result × (self.new ≡ self.old) }
+    {
+        if self.calls == u64::MAX {
+            return Err(spent());
+        }
+        self.calls += 1;
+        match self.device.write(buf) {
+            Ok(n) => {
+                if n == 0 && !buf.is_empty() {
+                    self.failures += 1;
+                }
+                Ok(n)
+            }
+            Err(e) => {
+                self.failures += 1;
+                Err(e)
+            }
+        }
+    }
+
+    /// Hands the flush on and counts nothing.
+    fn flush(&mut self) -> Result<()>
+        ensures bytes { Keeps (D.contents (device_of self.old)) (D.contents (device_of self.new)) }
+        ensures calls { calls_of self.new ≡ calls_of self.old }
+        ensures failures { failures_of self.new ≡ failures_of self.old }
+    {
+        self.device.flush()
+    }
+}

@@ -1,0 +1,125 @@
+//! One unit from a reader, and one to a writer.
+ghost use Rattle.std.specs.Prelude.{◌≡◌, ◌<◌, ◌≤◌, ◌+◌, false, length, IfOk, IfErr};
+ghost use Rattle.std.specs.Io.KnownBytes.{Appends};
+ghost use Rattle.rtr_pdu.specs.Counted.{device_of, calls_of, failures_of, HasFailed};
+ghost use Rattle.rtr_pdu.specs.Device.{ReadsUnit, CountsRead, GoesOutInPart, wanted, end_answer};
+ghost use Rattle.rtr_pdu.specs.Stream.{as_read, IsPartial};
+ghost use Rattle.rtr_pdu.specs.Unit.{IsUnit, unit_bytes};
+
+use crate::counted::Counted;
+use crate::reader::UnitReader;
+use crate::reading::number_32;
+use crate::unit::{Next, Unit, UnitFault};
+use crate::writing::encode;
+use arrayvec::ArrayVec;
+use std::io::{Read, Write};
+
+/// Why no unit was read. It takes no memory. The numbers are fixed.
+#[derive(Clone, Copy, Debug, PartialEq, Eq)]
+pub enum ReadFault {
+    /// The bytes are no unit, or the input ends within one.
+    Fault(UnitFault),
+    /// The reader failed.
+    ReadFailed,
+}
+
+impl ReadFault {
+    ghost use Rattle.rtr_pdu.specs.Fault.{read_fault_number};
+
+    /// The number by which the fault is printed: 1 to 7 of a `UnitFault`, 8 where the reader failed.
+    pub fn number(self) -> u8
+        ensures { result ≡ read_fault_number self }
+    {
+        match self {
+            ReadFault::Fault(fault) => fault.number(),
+            ReadFault::ReadFailed => 8,
+        }
+    }
+}
+
+/// The writer failed.
+#[derive(Clone, Copy, Debug, PartialEq, Eq)]
+pub struct WriteFailed;
+
+/// Writes all the bytes.
+fn write_bytes<W: Write>(bytes: &[u8], out: &mut Counted<W>) -> Result<(), WriteFailed>
+    ensures ok { IfOk result (λ _. Appends (W.contents (device_of out.old)) (W.contents (device_of out.new)) bytes.now
+        × (failures_of out.new ≡ failures_of out.old)) }
+    ensures err { IfErr result (λ _. GoesOutInPart (W.contents (device_of out.old)) (W.contents (device_of out.new)) bytes.now
+        × HasFailed out.old out.new) }
+    ensures calls { calls_of out.new ≤ calls_of out.old + length bytes.now }
+{
+    let mut at = 0;
+    while at < bytes.len() {
+        match out.write(&bytes[at..]) {
+            Ok(0) => return Err(WriteFailed),
+            Ok(n) => at += n,
+            Err(_) => return Err(WriteFailed),
+        }
+    }
+    Ok(())
+}
+
+/// Writes the bytes of a unit of version 1 (RFC 8210 section 5), all in one call where the writer takes them. Where it
+/// fails, a beginning of them has gone out.
+pub fn write_unit<W: Write>(unit: &Unit, out: &mut Counted<W>) -> Result<(), WriteFailed>
+    ensures ok { IfOk result (λ _. Appends (W.contents (device_of out.old)) (W.contents (device_of out.new)) (unit_bytes 1 unit.now)
+        × (failures_of out.new ≡ failures_of out.old)) }
+    ensures err { IfErr result (λ _. GoesOutInPart (W.contents (device_of out.old)) (W.contents (device_of out.new)) (unit_bytes 1 unit.now)
+        × HasFailed out.old out.new) }
+    ensures calls { calls_of out.new ≤ calls_of out.old + length (unit_bytes 1 unit.now) }
+    ensures unit { IsUnit unit.now }
+{
+    let mut buffer = ArrayVec::new();
+    encode(unit, &mut buffer);
+    write_bytes(buffer.as_slice(), out)
+}
+
+/// The answer where the input ends.
+fn end(fault: Option<UnitFault>) -> Result<Option<Unit>, ReadFault>
+    ensures { result ≡ end_answer fault }
+{
+    match fault {
+        None => Ok(None),
+        Some(fault) => Err(ReadFault::Fault(fault)),
+    }
+}
+
+/// How many bytes are wanted of a unit: to the end of its header, or of the whole.
+fn missing(held: &[u8]) -> usize
+    requires { IsPartial 1 (as_read 1 false held.now) }
+    ensures value { result ≡ wanted held.now }
+    ensures some { 0 < result }
+    ensures most { result ≤ 4096 }
+{
+    if held.len() < 8 {
+        8 - held.len()
+    } else {
+        number_32(held, 4) as usize - held.len()
+    }
+}
+
+/// Reads one unit of version 1 as a cache reads it, and nothing after it: `None` where the input ends before a first
+/// byte.
+pub fn read_unit<R: Read>(input: &mut Counted<R>) -> Result<Option<Unit>, ReadFault>
+    ensures reads { ReadsUnit (R.remaining (device_of input.old)) (R.remaining (device_of input.new)) (calls_of input.old) (calls_of input.new) result }
+    ensures counts { CountsRead input.old input.new result }
+{
+    let mut reader = UnitReader::for_cache();
+    let mut bytes = [0u8; 4096];
+    loop {
+        let size = missing(reader.held());
+        match input.read(&mut bytes[..size]) {
+            Ok(0) => return end(reader.end_of_input()),
+            Ok(n) => {
+                let mut piece = &bytes[..n];
+                match reader.next(&mut piece) {
+                    Next::Unit(unit) => return Ok(Some(unit)),
+                    Next::NeedMore => {}
+                    Next::Fault(fault) => return Err(ReadFault::Fault(fault)),
+                }
+            }
+            Err(_) => return Err(ReadFault::ReadFailed),
+        }
+    }
+}
