@@ -1,5 +1,6 @@
 pub mod BodyLaws
 pub mod DeviceLaws
+pub mod FirstLaws
 pub mod JudgeLaws
 pub mod JudgingLaws
 pub mod ModeLaws

@@ -105,7 +105,7 @@ shows_long bytes faults.ErrorReport h = h.0.1
 shows_long bytes faults.Truncated h = absurd h
 
 -- a fault shows in all that begins with it
-later_shows : (any : Bool) (front more : List ℕ) (fault : UnitFault) → Shows 1 (as_read 1 any front) fault → Shows 1 (as_read 1 any (front ++ more)) fault
+pub later_shows : (any : Bool) (front more : List ℕ) (fault : UnitFault) → Shows 1 (as_read 1 any front) fault → Shows 1 (as_read 1 any (front ++ more)) fault
 later_shows any front more fault h =
     let eight = shows_long (as_read 1 any front) fault h in
     subst (λ x. Shows 1 x fault) (sym (as_read-append 1 any front more (omega (arith, eight, length-as_read 1 any front)))) (Shows-append 1 (as_read 1 any front) more fault h)

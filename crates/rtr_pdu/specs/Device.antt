@@ -1,5 +1,5 @@
 -- One unit from a reader, and one to a writer (RFC 8210 section 5).
-use Rattle.std.specs.Prelude.{◌≡◌, ℕ, ◌+◌, ◌-◌, ◌<◌, ◌≤◌, false, nat_lt, List, [], length, take, Option, Some, None, Result, Ok, Err, if◌then◌else◌}
+use Rattle.std.specs.Prelude.{◌≡◌, ℕ, ◌+◌, ◌-◌, ◌<◌, ◌≤◌, false, nat_lt, List, [], ◌∷◌, ◌++◌, length, take, Option, Some, None, Result, Ok, Err, if◌then◌else◌, ⊤}
 use Rattle.std.specs.Io.KnownBytes.{Appends, Consumes, IsAtEnd}
 use Rattle.rtr_pdu.specs.declared.unit.Unit.{Unit}
 use Rattle.rtr_pdu.specs.declared.unit.UnitFault.{UnitFault}
@@ -8,7 +8,7 @@ use Rattle.rtr_pdu.specs.declared.device.ReadFault.{ReadFault}
 use Rattle.rtr_pdu.specs.declared.device.ReadFault.TheVariants as read_faults
 use Rattle.rtr_pdu.specs.declared.counted.Counted.{Counted}
 use Rattle.rtr_pdu.specs.Counted.{calls_of, failures_of, HasFailed}
-use Rattle.rtr_pdu.specs.Stream.{as_read, length_of, IsPartial}
+use Rattle.rtr_pdu.specs.Stream.{as_read, length_of, IsPartial, Splits, end_fault}
 use Rattle.rtr_pdu.specs.Reader.{IsFaulty, IsRead}
 
 -- What these bytes are, and that they are the last ones where it is told that the input ends: a unit and no more, or nothing,
@@ -31,6 +31,20 @@ pub record ReadsUnit (before left : Option (List ℕ)) (calls now : ℕ) (answer
 abbrev pub CountsRead : {D : Type 0} → Counted D → Counted D → Result (Option Unit) ReadFault → Type 0
 CountsRead old new (Err read_faults.ReadFailed) = HasFailed old new
 CountsRead old new answer = (failures_of new ≡ failures_of old) × (calls_of old < calls_of new)
+
+-- What this answer, after these bytes were read, says of the split of what there was, where this is left: its first unit, and then
+-- the units of what is left; or no unit, and this fault at its end; or nothing at all
+abbrev pub SaysOfSplit : List ℕ → List ℕ → Result (Option Unit) ReadFault → Type 0
+SaysOfSplit bytes left (Ok (Some u)) =
+    (units : List Unit) (rest : List ℕ) (fault : Option UnitFault) → Splits 1 false left units rest fault → Splits 1 false (bytes ++ left) (u ∷ units) rest fault
+SaysOfSplit bytes left (Ok None) = bytes ++ left ≡ []
+SaysOfSplit bytes left (Err (read_faults.Fault fault)) =
+    (shown : Option UnitFault) × Splits 1 false (bytes ++ left) [] (bytes ++ left) shown × (end_fault (bytes ++ left) shown ≡ Some fault)
+SaysOfSplit bytes left (Err read_faults.ReadFailed) = ⊤
+
+-- An answer tells the first unit or fault of the split, where the reader's bytes are known.
+abbrev pub TellsFirst : Type 0
+TellsFirst = (bytes left : List ℕ) (answer : Result (Option Unit) ReadFault) → Answers bytes (Some left) answer → SaysOfSplit bytes left answer
 
 -- A beginning of these bytes has gone out, and not all of them.
 abbrev pub GoesOutInPart : Option (List ℕ) → Option (List ℕ) → List ℕ → Type 0

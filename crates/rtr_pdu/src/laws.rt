@@ -1,4 +1,5 @@
 //! Laws of the definitions. These functions do nothing: their contracts are the laws.
+ghost use Rattle.rtr_pdu.specs.Device.{TellsFirst};
 ghost use Rattle.rtr_pdu.specs.Judging.{BeginsExactly, FaultyExactly, WholeExactly};
 ghost use Rattle.rtr_pdu.specs.Stream.{EachSplits, NoBeginning, OneSplit, WrittenIsRead};
 
@@ -28,4 +29,9 @@ pub fn judges_exactly()
     ensures begins { BeginsExactly }
     ensures faulty { FaultyExactly }
     ensures whole { WholeExactly }
+{}
+
+/// What `read_unit` answers is the first unit or fault of the split of what the reader had left.
+pub fn tells_first()
+    ensures { TellsFirst }
 {}
