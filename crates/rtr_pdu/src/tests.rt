@@ -1,6 +1,10 @@
-use crate::{Next, Unit, UnitFault, UnitReader, encode, read_all};
+use crate::{
+    Counted, Next, ReadFault, Unit, UnitFault, UnitReader, encode, read_all, read_unit, write_unit,
+};
 use arrayvec::ArrayVec;
 use std::alloc::{AllocError, Global};
+use std::io;
+use std::io::{Read, Write};
 use std::test::Fail;
 
 const SERIAL_NOTIFY: [u8; 12] = [
@@ -217,4 +221,142 @@ fn agreement_within_a_unit(rt: HostRuntime) {
     assert!(rt; is_notify);
     let mut again = notify.as_slice();
     assert!(rt; matches!(reader.next(&mut again), Next::Fault(UnitFault::Version)));
+}
+
+/// A writer that takes one byte a call, and as many calls as it may; then it fails.
+#[derive(Drop)]
+struct Narrow {
+    taken: Vec<u8>,
+    calls: u8,
+}
+
+impl Write for Narrow {
+    fn write(&mut self, buf: &[u8]) -> io::Result<usize> {
+        if self.calls == 0 {
+            return Err(io::Error::from(io::ErrorKind::BrokenPipe));
+        }
+        self.calls -= 1;
+        let Some(byte) = buf.first() else {
+            return Ok(0);
+        };
+        if self.taken.push(*byte).is_err() {
+            return Err(io::Error::from(io::ErrorKind::OutOfMemory));
+        }
+        Ok(1)
+    }
+
+    fn flush(&mut self) -> io::Result<()> {
+        Ok(())
+    }
+}
+
+/// A reader that fails.
+#[derive(Drop)]
+struct Broken {}
+
+impl Read for Broken {
+    fn read(&mut self, _buf: &mut [u8]) -> io::Result<usize> {
+        Err(io::Error::from(io::ErrorKind::BrokenPipe))
+    }
+}
+
+/// The units of a reader in memory, as bytes, to its end or to a fault.
+fn read_apart(alloc: Global, bytes: &[u8]) -> Result<(Vec<u8>, Option<ReadFault>), AllocError> {
+    let mut input = Counted::new(bytes);
+    let mut again = Vec::new(alloc);
+    let mut buffer = ArrayVec::new();
+    for _ in 0..9 {
+        match read_unit(&mut input) {
+            Ok(Some(unit)) => {
+                encode(&unit, &mut buffer);
+                again.extend_from_slice(buffer.as_slice())?;
+            }
+            Ok(None) => return Ok((again, None)),
+            Err(fault) => return Ok((again, Some(fault))),
+        }
+    }
+    Ok((again, None))
+}
+
+#[test]
+fn units_from_a_reader(rt: HostRuntime) -> Result<(), Fail> {
+    let (again, fault) = read_apart(rt.alloc(), &ANSWER)?;
+    assert_eq!(rt; again.as_slice(), ANSWER.as_slice());
+    assert_eq!(rt; fault, None);
+    let (front, fault) = read_apart(rt.alloc(), &ANSWER[..51])?;
+    assert_eq!(rt; front.as_slice(), &ANSWER[..28]);
+    assert_eq!(rt; fault, Some(ReadFault::Fault(UnitFault::Truncated)));
+    assert_eq!(rt; ReadFault::Fault(UnitFault::Truncated).number(), 7);
+    Ok(())
+}
+
+#[test]
+fn one_unit_and_no_more(rt: HostRuntime) {
+    let mut input = Counted::new(ANSWER.as_slice());
+    let first = read_unit(&mut input);
+    assert!(rt; matches!(first, Ok(Some(Unit::CacheResponse { session: 0x1234 }))));
+    assert_eq!(rt; *input.device(), &ANSWER[8..]);
+    assert_eq!(rt; (input.calls(), input.failures()), (1, 0));
+    let second = read_unit(&mut input);
+    assert!(rt; matches!(second, Ok(Some(Unit::Prefix { .. }))));
+    assert_eq!(rt; *input.device(), &ANSWER[28..]);
+    assert_eq!(rt; (input.calls(), input.failures()), (3, 0));
+}
+
+#[test]
+fn a_fault_of_the_header_leaves_the_rest(rt: HostRuntime) {
+    let bytes = [0x00, 0x02, 0x00, 0x00, 0x00, 0x00, 0x00, 0x08, 0x01];
+    let mut input = Counted::new(bytes.as_slice());
+    assert!(rt;
+        matches!(
+            read_unit(&mut input),
+            Err(ReadFault::Fault(UnitFault::Version))
+        )
+    );
+    assert_eq!(rt; *input.device(), &bytes[8..]);
+    assert_eq!(rt; (input.calls(), input.failures()), (1, 0));
+}
+
+#[test]
+fn end_and_failure_of_a_reader(rt: HostRuntime) {
+    let mut input = Counted::new([].as_slice());
+    assert!(rt; matches!(read_unit(&mut input), Ok(None)));
+    assert_eq!(rt; (input.calls(), input.failures()), (1, 0));
+    let mut broken = Counted::new(Broken {});
+    assert!(rt; matches!(read_unit(&mut broken), Err(ReadFault::ReadFailed)));
+    assert_eq!(rt; (broken.calls(), broken.failures()), (1, 1));
+    assert_eq!(rt; ReadFault::ReadFailed.number(), 8);
+}
+
+#[test]
+fn units_to_a_writer(rt: HostRuntime) -> Result<(), Fail> {
+    let query = Unit::SerialQuery {
+        session: 0x1234,
+        serial: 5,
+    };
+    let mut whole = Counted::new(Vec::new(rt.alloc()));
+    assert!(rt; write_unit(&query, &mut whole).is_ok());
+    assert_eq!(rt; whole.device().as_slice(), SERIAL_QUERY.as_slice());
+    assert_eq!(rt; (whole.calls(), whole.failures()), (1, 0));
+    for calls in [12u8, 5, 0] {
+        let mut out = Counted::new(Narrow {
+            taken: Vec::new(rt.alloc()),
+            calls,
+        });
+        let written = write_unit(&query, &mut out);
+        assert_eq!(rt; written.is_ok(), calls == 12);
+        assert_eq!(rt;
+            out.device().taken.as_slice(),
+            &SERIAL_QUERY[..usize::from(calls)]
+        );
+        assert_eq!(rt; out.failures(), if calls == 12 { 0 } else { 1 });
+    }
+    Ok(())
+}
+
+#[test]
+fn a_writer_that_takes_nothing(rt: HostRuntime) {
+    let mut full = Counted::new(ArrayVec::<u8, 0>::new());
+    assert!(rt; write_unit(&Unit::ResetQuery, &mut full).is_err());
+    assert_eq!(rt; (full.calls(), full.failures()), (1, 1));
 }
