@@ -1,5 +1,5 @@
 //! Readers and writers whose calls and failures are counted.
-ghost use Rattle.std.specs.Prelude.{◌≡◌, ◌≤◌};
+ghost use Rattle.std.specs.Prelude.{◌≡◌, ◌≤◌, ◌↔◌, IsTrue};
 
 use std::io;
 use std::io::{ErrorKind, Read, Result, Write};
@@ -20,7 +20,7 @@ fn spent() -> io::Error {
 }
 
 impl<D> Counted<D> {
-    ghost use Rattle.rtr_pdu.specs.Counted.{device_of, calls_of, failures_of};
+    ghost use Rattle.rtr_pdu.specs.Counted.{device_of, calls_of, failures_of, IsSpent};
 
     /// Nothing is counted yet.
     pub fn new(device: D) -> Counted<D>
@@ -56,6 +56,13 @@ impl<D> Counted<D> {
     {
         self.failures
     }
+
+    /// Whether no call is left to count.
+    fn is_spent(&self) -> bool
+        ensures { IsTrue result ↔ IsSpent self.now }
+    {
+        self.calls == u64::MAX
+    }
 }
 
 impl<D: Read> Read for Counted<D> {
@@ -73,7 +80,7 @@ impl<D: Read> Read for Counted<D> {
         ensures counted { ¬ (IsSpent self.old) → IsCounted self.old self.new (read_fails result) }
         ensures spent { IsSpent self.old → IsErr result × (self.new ≡ self.old) }
     {
-        if self.calls == u64::MAX {
+        if self.is_spent() {
             return Err(spent());
         }
         self.calls += 1;
@@ -102,7 +109,7 @@ impl<D: Write> Write for Counted<D> {
         ensures counted { ¬ (IsSpent self.old) → IsCounted self.old self.new (write_fails result buf.now) }
         ensures spent { IsSpent self.old → IsErr result × (self.new ≡ self.old) }
     {
-        if self.calls == u64::MAX {
+        if self.is_spent() {
             return Err(spent());
         }
         self.calls += 1;
