@@ -30,7 +30,7 @@ abbrev pub consumed : Call → Router → List ℕ
 consumed (Receives now wanting piece) r = take (length piece - length (receives now wanting piece r).rest) piece
 consumed call r = []
 
--- The bytes consumed on the latest connection, by these calls, the last first
+-- The bytes consumed on the latest connection by these calls, which stand with the last first
 abbrev pub came : List Call → List ℕ
 came [] = []
 came (Connects now ∷ calls) = []
@@ -41,8 +41,8 @@ abbrev pub IsCall : Call → Type 0
 IsCall (Receives now wanting piece) = AreBytes piece
 IsCall call = ⊤
 
--- The transcript has the split of these bytes: all units, in their order, and the fault that shows. What follows the units is
--- held as long as the router reads. A closed link holds nothing, and nothing is to be pulled from it.
+-- The transcript has the split of these bytes: all units, in their order, and the fault that shows. As long as the router reads
+-- none shows, and what follows the units is held. A closed link holds nothing, and nothing is to be pulled from it.
 pub record IsSplit (r : Router) (items : List Item) (bytes : List ℕ) : Type 0 where
   pub rest : List ℕ
   pub split : Splits 1 true bytes (units_in items) rest (fault_in items)

@@ -312,8 +312,8 @@ RouterStops =
     router_stops (router_byte m b).router ≡ router_stops m.router
 
 -- What the transcript says of a link with this agreement and session of its connection, over this table: a closed link has no
--- connection; an idle one has no question outstanding; one that is asked has that question waiting; and an answer has come as far as
--- is staged, each record of it acting once.
+-- connection; one that has ended has one, and no more is said of it; an idle one has no question outstanding; one that is asked has
+-- that question waiting; and an answer has come as far as is staged, each record of it acting once.
 abbrev pub LinkTells : Link → Bool → Option ℕ → VrpSet → List Item → Type 0
 LinkTells Closed agreed session table items = (is_connected items ≡ false) × (agreed ≡ false) × (session ≡ None)
 LinkTells (Ended end) agreed session table items = is_connected items ≡ true
@@ -325,7 +325,7 @@ LinkTells (Answering a) agreed session table items =
     (is_connected items ≡ true) × (waiting items ≡ None) × (under_way items ≡ Some a) × (has_agreed items ≡ agreed) × (responded items ≡ session) × (agreed ≡ true)
     × (acts_once (base_of a.question table) a.withdrawn a.announced ≡ true)
 
--- What a router holds, when it asks, the greatest moment it was told, and its link are those of its transcript.
+-- What a router holds, when it asks, and the greatest moment it was told are those of its transcript, and its link is as that says.
 pub record IsKept (r : Router) (items : List Item) : Type 0 where
   pub table : r.table ≡ (kept items).table
   pub version : r.version ≡ (kept items).version
@@ -336,7 +336,7 @@ pub record IsKept (r : Router) (items : List Item) : Type 0 where
 abbrev pub RouterKeeps : Type 0
 RouterKeeps = (calls : List Call) → IsKept (played calls).router (played calls).items
 
--- A router's questions are those that its transcript calls for, and so is the next one.
+-- A router's questions are those that its transcript calls for, and so is the one that it would choose now.
 pub record IsAsking (r : Router) (items : List Item) : Type 0 where
   pub next : choose r.version r.mark ≡ choose (kept items).version (marked items)
   pub asked : AsksRightly items

@@ -58,13 +58,13 @@ pub fn router_splits()
 {}
 
 /// After any calls a router holds what its transcript keeps, asks again when the transcript says, knows the greatest moment that it was
-/// told, and its link is the one of the transcript.
+/// told, and its link is as the transcript says: of one that has ended only that there is a connection.
 pub fn router_keeps()
     ensures { RouterKeeps }
 {}
 
-/// After any calls each question that a router put is the one that its transcript called for, and so is the next: since what was
-/// committed last, or for all where nothing is, where a record acted wrongly since, or after a Cache Reset.
+/// After any calls each question that a router put is the one that its transcript called for: since what was committed last, or for
+/// all where nothing is, where a record acted wrongly since, or after a Cache Reset; and so is the one that it would choose now.
 pub fn router_asks()
     ensures { RouterAsks }
 {}

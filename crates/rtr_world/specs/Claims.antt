@@ -19,11 +19,12 @@ use Rattle.rtr_world.specs.OneAnswer.{Between}
 abbrev pub Always : (World → Side → Type 0) → Type 0
 Always Holds = (made : Made) (history : List Entry) (w : World) → Leads made history w → AllByRecursion (Holds w) w.sides
 
--- The tables: what a router holds, when it asks, and the greatest moment it was told are those of its transcript.
+-- The tables: what a router holds, when it asks, and the greatest moment it was told are those of its transcript, and its link is as
+-- that says.
 abbrev pub Tables : Type 0
 Tables = Always (λ w s. IsKept s.router s.items)
 
--- One answer
+-- One answer at most, nothing on the wire to a closed link, and no link that has ended
 abbrev pub OneAnswerAlways : Type 0
 OneAnswerAlways = Always (λ w s. Between w s s.router.link)
 

@@ -98,6 +98,7 @@ most_of (CacheSends most) = most
 most_of (RouterGets most) = most
 most_of event = 0
 
+-- memory was wanting at this moment of a connection, or at this item of a transcript
 abbrev pub is_wanting : Moment → Bool
 is_wanting (Wanting cache unit bytes) = true
 is_wanting m = false
@@ -106,6 +107,7 @@ abbrev pub is_lacking : Item → Bool
 is_lacking (Lacks unit) = true
 is_lacking item = false
 
+-- memory is wanting at this unit of so many bytes that arrive at the cache
 abbrev pub conn_wants : World → ℕ → ℕ → Side → Option Conn → Bool
 conn_wants w bytes unit s None = false
 conn_wants w bytes unit s (Some o) = list_any is_wanting (conn_takes w.keep timing w.present (Some unit) (take bytes s.up) o).machine.moments

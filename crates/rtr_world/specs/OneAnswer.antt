@@ -54,7 +54,7 @@ pub record IsAnswer (w : World) (home : Instance) (question : Question) (units :
   pub was : WasSo w home cache
   pub are : units ≡ (answer cache w.keep timing (query question)).units
 
--- or Error Report 1 in the place of one that takes memory.
+-- or Error Report 1 in the place of one that may take memory.
 pub record IsWanting (w : World) (home : Instance) (question : Question) (units : List Unit) : Type 0 where
   pub cache : Instance
   pub was : WasSo w home cache
@@ -124,7 +124,7 @@ pub record OneAnswer (w : World) (s : Side) : Type 0 where
   pub notifies : NotifiesOf home.session coming
   pub rest : ComesOn w home s s.router.link (without_notifies coming)
 
--- Between events a closed link holds nothing, nothing is to be pulled from it, and nothing is on the way to it; no link has ended;
+-- Between events a closed link holds nothing, nothing is to be pulled from it, and nothing is on the wire to it; no link has ended;
 -- and on any other there is one answer.
 abbrev pub Between : World → Side → Link → Type 0
 Between w s Closed = (s.router.held ≡ []) × (s.router.out ≡ []) × (s.down ≡ [])

@@ -10,7 +10,7 @@ pub fn steps()
 {}
 
 /// After every list of events each router holds what its transcript keeps, asks again when the transcript says, and knows the
-/// greatest moment that it was told.
+/// greatest moment that it was told; and its link is as the transcript says.
 pub fn tables()
     ensures { Tables }
 {}
@@ -38,7 +38,7 @@ pub fn no_way_back()
 /// After every list of events what is on its way to a router on a live link is at most one answer, and what a cut took of it: the
 /// answer of its cache to its question, as the cache was at some time after the connection was made. Its records lead from what the
 /// router holds to the set that was published under its End of Data. Notifies may stand between its units. Between events no link has
-/// ended, and a closed one holds nothing, has nothing to be pulled, and nothing is on the way to it.
+/// ended, and a closed one holds nothing, has nothing to be pulled, and nothing is on the wire to it.
 pub fn one_answer()
     ensures { OneAnswerAlways }
 {}

@@ -3,15 +3,15 @@ use Rattle.std.specs.Prelude.{◌≡◌, ℕ, ◌+◌, ◌%◌, ◌^◌, ◌<◌
 use Rattle.std.proofs.Common.{sym, ap, ◌∙◌, subst, arith, zero, suc}
 use Rattle.std.specs.Option.{option_map}
 use Rattle.std.proofs.lemmas.Bool.Decides.{nat_tests}
-use Rattle.std.proofs.lemmas.List.{length-append, take_all}
+use Rattle.std.proofs.lemmas.List.{length-append}
 use Rattle.std.proofs.Math.Seq.{take-append_seam}
 use Rattle.vrps.specs.Change.{between}
 use Rattle.vrps.specs.Instance.{Instance, Version, versions_from, with_serial}
 use Rattle.vrps.specs.Log.{HoldsSets, IsBehind}
 use Rattle.vrps.specs.Serial.{serial_at}
-use Rattle.vrps.specs.Store.{Since, Known, Unknown, is_current, published, since, step_from}
+use Rattle.vrps.specs.Store.{Known, Unknown, is_current, published, since, step_from}
 use Rattle.vrps.specs.VrpSet.{VrpSet}
-use Rattle.vrps.proofs.VersionLaws.{serial_differs, same_serial}
+use Rattle.vrps.proofs.VersionLaws.{same_serial}
 
 -- how far behind a version stands
 abbrev Behind : ℕ → ℕ → ℕ → ℕ → Type 0

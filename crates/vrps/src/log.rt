@@ -24,11 +24,8 @@ pub struct VersionLog {
 impl VersionLog {
     ghost use Rattle.vrps.specs.Logs.{HasRoom, IsLogOf, sets_of};
 
-    /// The most versions before the current one that a log may keep.
-    pub const LIMIT: u16 = 1024;
-
     /// A log of a session without versions, whose first one has the serial `start`, and which keeps `keep` versions before the
-    /// current one.
+    /// current one, from 1 to 1,024.
     pub fn new(alloc: Global, session: u16, start: u32, keep: u16) -> Result<VersionLog, AllocError>
         requires some { 1 ≤ keep }
         requires limit { keep ≤ 1024 }

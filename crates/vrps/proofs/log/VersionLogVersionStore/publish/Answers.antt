@@ -1,6 +1,6 @@
-use Rattle.std.proofs.Common.{◌≡◌, ◌<◌, ◌≤◌, ◌%◌, ◌+◌, ◌∷◌, false, length, map, take, ap, sym, subst, subst₂, ◌∙◌, arith, refl}
+use Rattle.std.proofs.Common.{◌≡◌, ◌≤◌, ◌%◌, ◌+◌, false, length, map, ap, sym, subst₂, ◌∙◌, arith}
 use Rattle.std.proofs.lemmas.List.{length-map, length-take}
-use Rattle.std.specs.VecDeque.{deque_len, deque_capacity}
+use Rattle.std.specs.VecDeque.{deque_len}
 use Rattle.vrps.specs.Log.{HoldsSets}
 use Rattle.vrps.specs.Logs.{sets_of}
 use Rattle.vrps.specs.Store.{is_current, published}
