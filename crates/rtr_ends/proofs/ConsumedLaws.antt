@@ -1,6 +1,7 @@
 -- The transcript of a router has the split of what it consumed.
 use Rattle.std.specs.Prelude.{◌≡◌, ℕ, suc, ◌-◌, ◌<◌, Bool, true, false, not, ◌&&◌, ◌==◌, List, [], ◌∷◌, ◌++◌, length, take, drop, Option, Some, None, if◌then◌else◌, refl}
 use Rattle.std.proofs.Common.{sym, ap, ◌∙◌, subst, subst₂, arith, append_assoc}
+use Rattle.std.proofs.Math.Bool.{and-false, and-true}
 use Rattle.std.proofs.lemmas.Bool.{and_parts}
 use Rattle.std.proofs.lemmas.List.{append-nil}
 use Rattle.std.specs.List.{AllByRecursion}
@@ -26,7 +27,7 @@ use Rattle.rtr_ends.specs.Router.{Link, LinkTells, Closed, Idle, Asked, Answerin
 use Rattle.rtr_ends.specs.Transcript.{choose, Question, AskReset, AskSerial, Item, At, Opened, Asks, Reads, Lacks, Shut, base_of, bounded, has_agreed, is_connected, is_over, is_serial, is_wrong, later, retry_of, sum_of}
 use Rattle.rtr_ends.proofs.Bytes.{none_bytes, more_bytes, bytes_front, drop_none, front_of}
 use Rattle.rtr_ends.proofs.FeedingLaws.{feed_takes}
-use Rattle.rtr_ends.proofs.KeptLaws.{Tells, bytes_add, called_tells, clocked_tells, and_false, and_true, connected, new_tells, none_is, not_true}
+use Rattle.rtr_ends.proofs.KeptLaws.{Tells, bytes_add, called_tells, clocked_tells, connected, new_tells, none_is, not_true}
 use Rattle.rtr_ends.proofs.TableLaws.{false_true}
 
 -- What a router that reads has consumed
@@ -92,15 +93,15 @@ asked_leaves f (Ended end) out items leaves = refl
 
 -- A unit agrees where it is no notify.
 agreed_more : (u : Unit) (items : List Item) → (not (has_agreed items) && is_notify u) ≡ not (has_agreed (Reads u ∷ items))
-agreed_more (SerialNotify session serial) items = and_true (not (has_agreed items))
-agreed_more (SerialQuery session serial) items = and_false (not (has_agreed items))
-agreed_more ResetQuery items = and_false (not (has_agreed items))
-agreed_more (CacheResponse session) items = and_false (not (has_agreed items))
-agreed_more (Prefix announce v) items = and_false (not (has_agreed items))
-agreed_more (EndOfData session serial refresh retry expire) items = and_false (not (has_agreed items))
-agreed_more CacheReset items = and_false (not (has_agreed items))
-agreed_more (RouterKey key) items = and_false (not (has_agreed items))
-agreed_more (ErrorReport e) items = and_false (not (has_agreed items))
+agreed_more (SerialNotify session serial) items = and-true (not (has_agreed items))
+agreed_more (SerialQuery session serial) items = and-false (not (has_agreed items))
+agreed_more ResetQuery items = and-false (not (has_agreed items))
+agreed_more (CacheResponse session) items = and-false (not (has_agreed items))
+agreed_more (Prefix announce v) items = and-false (not (has_agreed items))
+agreed_more (EndOfData session serial refresh retry expire) items = and-false (not (has_agreed items))
+agreed_more CacheReset items = and-false (not (has_agreed items))
+agreed_more (RouterKey key) items = and-false (not (has_agreed items))
+agreed_more (ErrorReport e) items = and-false (not (has_agreed items))
 
 -- No unit changes what is held.
 if_held : (b : Bool) (r : Router) (x y : Router) → x.held ≡ r.held → y.held ≡ r.held → (if b then x else y).held ≡ r.held

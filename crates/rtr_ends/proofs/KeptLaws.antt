@@ -1,6 +1,7 @@
 -- A router holds what its transcript keeps.
 use Rattle.std.specs.Prelude.{◌≡◌, ℕ, Bool, true, false, not, ◌&&◌, ◌||◌, ◌==◌, nat_lt, List, [], ◌∷◌, ◌++◌, Option, Some, None, is_some, if◌then◌else◌, refl}
 use Rattle.std.proofs.Common.{sym, ap, ◌∙◌, subst, arith, append_assoc}
+use Rattle.std.proofs.Math.Bool.{and-false, and-true}
 use Rattle.std.proofs.lemmas.Bool.{and_parts, or_parts}
 use Rattle.std.proofs.lemmas.Bool.Decides.{nat_tests}
 use Rattle.prefixes.specs.Payload.{Payload}
@@ -26,15 +27,6 @@ pub record Tells (r : Router) (items : List Item) : Type 0 where
   pub due_is : due items ≡ r.due
   pub now_is : moment items ≡ r.now
   pub link : LinkTells r.link r.agreed r.session r.table items
-
--- tests
-pub and_false : (b : Bool) → (b && false) ≡ false
-and_false true = refl
-and_false false = refl
-
-pub and_true : (b : Bool) → (b && true) ≡ b
-and_true true = refl
-and_true false = refl
 
 two_not_zero : (n : ℕ) → (n == 2) ≡ true → (n == 0) ≡ false
 two_not_zero n h = grind (arith, nat_tests)
@@ -123,9 +115,9 @@ idle_report r e items b is el h l = by_code b
 
     leaves : Leaves r (ErrorReport e) items
     leaves = record {
-      kept_is = ap (λ o. emptied_if (e.code == 0 && is_serial o) (kept items)) asked_none ∙ ap (λ x. emptied_if x (kept items)) (and_false (e.code == 0)) ∙ h.kept_is;
+      kept_is = ap (λ o. emptied_if (e.code == 0 && is_serial o) (kept items)) asked_none ∙ ap (λ x. emptied_if x (kept items)) (and-false (e.code == 0)) ∙ h.kept_is;
       due_is = ap (λ o. if e.code == 2 && is_some o then Some (sum_of (moment items) (retry_of (kept items).version)) else due items) asked_none
-          ∙ ap (λ x. if x then Some (sum_of (moment items) (retry_of (kept items).version)) else due items) (and_false (e.code == 2)) ∙ h.due_is;
+          ∙ ap (λ x. if x then Some (sum_of (moment items) (retry_of (kept items).version)) else due items) (and-false (e.code == 2)) ∙ h.due_is;
       now_is = h.now_is;
     }
 
@@ -144,7 +136,7 @@ told_unit r q e items agreed c h asked session = by_two (e.code == 2) refl
     kept_by b is = ap (λ o. emptied_if (e.code == 0 && is_serial o) (kept items)) asked ∙ ap (λ x. emptied_if x (kept items)) is ∙ ap (emptied_if b) h.kept_is
 
     due_by : (b : Bool) → (e.code == 2) ≡ b → due (Reads (ErrorReport e) ∷ items) ≡ retried_then b
-    due_by b is = ap (λ o. retried_then (e.code == 2 && is_some o)) asked ∙ ap retried_then (and_true (e.code == 2) ∙ is)
+    due_by b is = ap (λ o. retried_then (e.code == 2 && is_some o)) asked ∙ ap retried_then (and-true (e.code == 2) ∙ is)
 
     by_zero : (b : Bool) → (e.code == 0 && is_serial (Some q)) ≡ b → (e.code == 2) ≡ false → After (if b then told e.code (emptied r) else told e.code r) (ErrorReport e) items
     by_zero true is two = ended_after (told e.code (emptied r)) (ErrorReport e) items (ends.Told e.code) refl c (record { kept_is = kept_by true is; due_is = due_by false two ∙ h.due_is; now_is = h.now_is })
@@ -482,7 +474,7 @@ asks_tells (Ended end) r items true is idle t h = false_true (sym (idle refl))
 asks_tells (Asked q) r items true is idle t h = false_true (sym (idle refl))
 asks_tells (Answering a) r items true is idle t h = false_true (sym (idle refl))
 
-not_due : (l : Link) (when : Option ℕ) (now : ℕ) → is_idle l ≡ false → is_due l when now ≡ false
+pub not_due : (l : Link) (when : Option ℕ) (now : ℕ) → is_idle l ≡ false → is_due l when now ≡ false
 not_due Closed when now h = refl
 not_due (Ended end) when now h = refl
 not_due Idle when now h = absurd (let e : true ≡ false = h in cc)

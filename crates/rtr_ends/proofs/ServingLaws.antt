@@ -26,14 +26,12 @@ use Rattle.rtr_ends.specs.Timing.{Intervals}
 use Rattle.rtr_ends.proofs.Bytes.{none_bytes, more_bytes, bytes_front, front_of}
 use Rattle.rtr_ends.proofs.FeedingLaws.{feed_takes}
 use Rattle.rtr_ends.proofs.HistoryLaws.{pulled_are_replies}
+use Rattle.rtr_ends.proofs.TableLaws.{false_true}
 
 -- at a cache bytes are read as they stand
 as_they_stand : (bytes : List ℕ) → as_read 1 false bytes ≡ bytes
 unfolding as_read
 as_they_stand bytes = refl
-
-false_true : {P : Type 0} → false ≡ true → P
-false_true h = absurd (let e : false ≡ true = h in cc)
 
 -- from one connection to another by moments, with the bytes of these
 abbrev Runs : ℕ → Intervals → Connection → List Moment → List ℕ → Connection → Type 0

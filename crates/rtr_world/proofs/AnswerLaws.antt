@@ -7,6 +7,7 @@ use Rattle.std.specs.FinMap as map
 use Rattle.std.proofs.lemmas.Bool.{and_parts}
 use Rattle.std.proofs.lemmas.Bool.Decides.{nat_tests}
 use Rattle.std.proofs.lemmas.Map.Keys.{IsDistinct-from_sorted}
+use Rattle.std.proofs.Math.Bool.{and-true}
 use Rattle.prefixes.specs.Payload.{Payload, vrp_cmp}
 use Rattle.prefixes.proofs.PayloadOrder.{vrp_total}
 use Rattle.vrps.specs.Change.{between}
@@ -18,6 +19,7 @@ use Rattle.rtr_pdu.specs.declared.unit.Unit.TheVariants.{SerialNotify, Prefix, E
 use Rattle.rtr_ends.specs.Answer.{announcements, withdrawals}
 use Rattle.rtr_ends.specs.Router.{Stays, Wrong, Over, stage}
 use Rattle.rtr_ends.specs.Transcript.{Begun, is_listed, led_to}
+use Rattle.rtr_ends.proofs.TableLaws.{false_true}
 use Rattle.rtr_world.specs.OneAnswer.{NotifiesOf, without_notifies}
 use Rattle.rtr_world.proofs.Invariant.{after_stage, Leads}
 
@@ -92,9 +94,6 @@ has-led_to base withdrawn announced q =
 -- records that follow, none of which stands twice
 abbrev Fresh : List Payload → Type 0
 Fresh vs = IsDistinct (eq_by_cmp vrp_cmp) vs
-
-false_true : {P : Type 0} → false ≡ true → P
-false_true h = absurd (let e : false ≡ true = h in cc)
 
 not_both : (b : Bool) → b ≡ true → b ≡ false → ⊥
 not_both b h k = false_true (sym k ∙ h)
@@ -249,10 +248,6 @@ pub whole_leads : (set : VrpSet) (a : Begun) (session serial refresh retry expir
     → Leads empty a (announcements set ++ EndOfData session serial refresh retry expire ∷ []) session serial set
 whole_leads set a session serial refresh retry expire fits gone come =
     announced_lead empty set session serial fits a (listing set) refresh retry expire come (once_listed set)
-    (λ q. sym (has-listing set q) ∙ sym (and_true (has set q)) ∙ ap (λ b. has set q && not b) (sym (has-empty q)))
+    (λ q. sym (has-listing set q) ∙ sym (and-true (has set q)) ∙ ap (λ b. has set q && not b) (sym (has-empty q)))
     (all_of_members (λ v. has empty v ≡ false) set (λ q h. has-empty q)) (all_of_members (λ v. has set v ≡ true) set (λ q h. h))
     (λ q. ap (is_listed q) gone ∙ ap (λ b. b && not (has set q)) (sym (has-empty q)))
-  where
-    and_true : (b : Bool) → (b && true) ≡ b
-    and_true true = refl
-    and_true false = refl

@@ -13,6 +13,8 @@ use Rattle.rtr_ends.specs.Feeding.{feed}
 use Rattle.rtr_ends.specs.Router.{Router, Link, Closed, Idle, Asked, Answering, Ended, Noted, Receiving, asked_by, on_unit, may_lack, reads, lacks, with_bytes, is_reading, router_stops, router_byte, expired, clocked, is_closed, close, is_due, is_idle, asks_if, emptied, connects_at, closed_at, ticks_at, asks, receives, router_pulled}
 use Rattle.rtr_ends.specs.Transcript.{AskReset, AskSerial, Item, At, Reads, is_serial, is_over, later, sum_of, retry_of}
 use Rattle.rtr_ends.proofs.FeedingLaws.{feed_keeps}
+use Rattle.rtr_ends.proofs.TableLaws.{false_true}
+use Rattle.rtr_ends.proofs.KeptLaws.{not_true}
 use Rattle.rtr_world.specs.History.{conn_due}
 use Rattle.rtr_world.specs.OneAnswer.{NotifiesOf, answered, without_notifies}
 use Rattle.rtr_world.specs.World.{Side, World, instances, SideEvent, RouterRestart, Connect, RouterSends, CacheGets, CacheSends, RouterGets, Cut, NotifyRouter, Ask, Tick, noted, connects, router_restarts, router_sends, sends_from, cache_sends, gets_at, cache_gets, router_gets, cut, notifies_at, side_step, side_refused, tell_closed, close_ended, settle_conn, settle_link, settle_rest, settle_wire, settle}
@@ -20,12 +22,9 @@ use Rattle.rtr_world.proofs.Histories.{Kept, Known}
 use Rattle.rtr_world.proofs.Invariant.{Flow, GoodRouter, Good, Shape, read_of}
 use Rattle.rtr_world.proofs.RouterSteps.{right_response}
 use Rattle.rtr_world.proofs.Seen.{Seen}
-use Rattle.rtr_world.proofs.SideSteps.{live_of, byte_good, clocked_good, not_true}
+use Rattle.rtr_world.proofs.SideSteps.{live_of, byte_good, clocked_good}
 use Rattle.rtr_world.proofs.Streams.{ByteCase, partly, wholly, byte_case}
 use Rattle.rtr_world.proofs.UnitCases.{Brings, goes_on, ends_other, ends_memory, commits, stays, begins, stages, leaves, is_answering, unit_brings}
-
-false_true : {P : Type 0} → false ≡ true → P
-false_true h = absurd (let e : false ≡ true = h in cc)
 
 -- what was read of the answer that is under way
 abbrev pub ReadsSo : Link → List Item → Type 0

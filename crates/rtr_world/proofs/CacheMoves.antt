@@ -15,6 +15,7 @@ use Rattle.rtr_ends.specs.Connection.{Connection, Read, Wanting, Notify, after, 
 use Rattle.rtr_ends.specs.Feeding.{Fed, feed}
 use Rattle.rtr_ends.specs.Router.{Router, Link, Closed, Idle, Asked, Answering, Ended, is_reading}
 use Rattle.rtr_ends.specs.Transcript.{Question, query, base_of}
+use Rattle.rtr_ends.proofs.TableLaws.{false_true}
 use Rattle.rtr_world.specs.OneAnswer.{NotifiesOf, without_notifies}
 use Rattle.rtr_world.specs.World.{timing}
 use Rattle.rtr_world.proofs.AnswerLaws.{plain_stays, plain_notifies, without-append, notifies-append}
@@ -25,9 +26,6 @@ use Rattle.rtr_world.proofs.SideSteps.{live_of}
 use Rattle.rtr_world.proofs.Streams.{Stream, ByteCase, partly, wholly, byte_case, stream-append, all_bytes}
 use Rattle.rtr_world.proofs.Versions.{TableAt, Present}
 use Rattle.rtr_world.proofs.Seen.{Seen}
-
-false_true : {P : Type 0} → false ≡ true → P
-false_true h = absurd (let e : false ≡ true = h in cc)
 
 none_is : (out : List ℕ) → not (is_none out) ≡ false → out ≡ []
 none_is [] h = refl

@@ -12,7 +12,7 @@ use Rattle.rtr_ends.specs.Feeding.{feed}
 use Rattle.rtr_ends.specs.Router.{Router, Link, Closed, Idle, Asked, Answering, Ended, Noted, Receiving, asked_by, on_unit, may_lack, reads, lacks, with_bytes, is_reading, router_stops, router_byte}
 use Rattle.rtr_ends.specs.Transcript.{Committed, Item, Reads, kept, is_commit}
 use Rattle.rtr_ends.proofs.FeedingLaws.{feed_keeps}
-use Rattle.rtr_ends.proofs.KeptLaws.{Tells, byte_tells, live_unit}
+use Rattle.rtr_ends.proofs.KeptLaws.{Tells, byte_tells, live_unit, none_is, not_true}
 use Rattle.rtr_world.specs.History.{conn_due}
 use Rattle.rtr_world.specs.OneAnswer.{NotifiesOf, without_notifies}
 use Rattle.rtr_world.specs.Place.{Place, place_of}
@@ -20,7 +20,7 @@ use Rattle.rtr_world.specs.World.{places_of}
 use Rattle.rtr_world.proofs.Invariant.{Flow, GoodLink, GoodRouter, IfOpen, Live, Open, Shape}
 use Rattle.rtr_world.proofs.Places.{Found, Ordered, ordered_more, place_at, stands_found, young_enough}
 use Rattle.rtr_world.proofs.RouterSteps.{right_response}
-use Rattle.rtr_world.proofs.SideSteps.{live_of, byte_good, none_is, not_true}
+use Rattle.rtr_world.proofs.SideSteps.{live_of, byte_good}
 use Rattle.rtr_world.proofs.Streams.{ByteCase, partly, wholly, byte_case}
 use Rattle.rtr_world.proofs.UnitCases.{Brings, goes_on, ends_other, ends_memory, commits, unit_brings, is_end}
 use Rattle.rtr_world.proofs.Versions.{Stands, find_session, same_instance, same_number, some_is}

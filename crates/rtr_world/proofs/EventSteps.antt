@@ -18,18 +18,12 @@ use Rattle.rtr_world.proofs.Invariant.{OwnSession, IfOpen, Open, GoodLink, GoodR
 use Rattle.rtr_world.proofs.Places.{Ordered, ordered_connects, ordered_none}
 use Rattle.rtr_world.proofs.RouterSteps.{first_fits, query_unit}
 use Rattle.rtr_ends.proofs.Bytes.{drop_none}
+use Rattle.rtr_ends.proofs.KeptLaws.{not_due}
 use Rattle.rtr_world.proofs.SideSteps.{live_map, clocked_good, close_shut, asks_good}
 use Rattle.rtr_world.proofs.Streams.{Stream}
 use Rattle.rtr_world.proofs.TableLaws.{SideTells}
 use Rattle.rtr_world.proofs.Versions.{Present}
 use Rattle.rtr_world.proofs.Seen.{Seen, IsSeen, seen_at}
-
-not_due : (l : Link) (when : Option ℕ) (now : ℕ) → is_idle l ≡ false → is_due l when now ≡ false
-not_due Closed when now h = refl
-not_due (Ended end) when now h = refl
-not_due Idle when now h = absurd (let e : true ≡ false = h in cc)
-not_due (Asked q) when now h = refl
-not_due (Answering a) when now h = refl
 
 -- what is sent, and what is left of it
 sent_first : (most : ℕ) (held up out : List ℕ) (units : List Unit) → Stream held (up ++ out) units → Stream held ((up ++ take most out) ++ drop most out) units

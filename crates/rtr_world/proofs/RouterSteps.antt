@@ -15,15 +15,13 @@ use Rattle.rtr_ends.specs.Cache.{Conn}
 use Rattle.rtr_ends.specs.Commit.{Commits}
 use Rattle.rtr_ends.specs.Router.{Router, Link, Closed, Idle, Asked, Answering, Ended, Staged, Stays, Wrong, Over, asking, ask, emptied, told, fails, is_strange, is_news, stage, staged, commit, on_unit, is_reading}
 use Rattle.rtr_ends.specs.Transcript.{choose, Begun, Committed, Question, AskReset, AskSerial, query, is_listed, led_to, base_of, session_of, differs, is_serial, is_wrong, bounded, sum_of, retry_of}
+use Rattle.rtr_ends.proofs.TableLaws.{false_true}
 use Rattle.rtr_world.specs.History.{conn_due}
 use Rattle.rtr_world.specs.OneAnswer.{EndsWith, NotifiesOf, announced_in, withdrawn_in, without_notifies}
 use Rattle.rtr_world.proofs.Invariant.{after_stage, FromCache, InOrder, Leads, NoneWithdrawn, WithdrawsFirst, read_of, records_of, Mine, OwnSession, QuestionFits, IsOwn, OfAnswer, nothing_yet, Replies, no_data, not_kept, other_session, no_memory, response, Shape, IfOpen, Open, Live, GoodLink, GoodRouter}
 use Rattle.rtr_world.proofs.Streams.{Stream, stream-append}
 use Rattle.rtr_world.proofs.Versions.{Stands, TableAt, equal_true}
 use Rattle.rtr_world.proofs.Seen.{Seen}
-
-false_true : {P : Type 0} → false ≡ true → P
-false_true h = absurd (let e : false ≡ true = h in cc)
 
 -- a query fits its fields
 pub query_unit : (all : List Instance) (session : ℕ) (q : Question) (version : Option Committed) (table : VrpSet) → QuestionFits session q version → TableAt all version table → IsUnit (query q)

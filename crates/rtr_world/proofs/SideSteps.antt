@@ -12,7 +12,8 @@ use Rattle.rtr_ends.specs.Answer.{sent_all}
 use Rattle.rtr_ends.specs.Cache.{Conn, is_none, finds_memory}
 use Rattle.rtr_ends.specs.Router.{Router, Receiving, Link, Closed, Idle, Asked, Answering, Ended, emptied, on_unit, may_lack, lacks, reads, with_bytes, is_reading, router_stops, router_byte, expired, clocked, is_closed, close, is_idle, asks_if}
 use Rattle.rtr_ends.specs.Transcript.{choose, Question, AskReset, AskSerial, query, is_serial, is_over, later, sum_of, retry_of}
-use Rattle.rtr_ends.proofs.KeptLaws.{same_base}
+use Rattle.rtr_ends.proofs.KeptLaws.{none_is, not_true, same_base}
+use Rattle.rtr_ends.proofs.TableLaws.{false_true}
 use Rattle.rtr_world.specs.History.{conn_due}
 use Rattle.rtr_world.specs.OneAnswer.{NotifiesOf, without_notifies}
 use Rattle.rtr_world.proofs.Invariant.{OfAnswer, Shape, QuestionFits, IfOpen, Open, Flow, Live, GoodLink, GoodRouter}
@@ -20,9 +21,6 @@ use Rattle.rtr_world.proofs.RouterSteps.{Reads, on_notify, on_other, live_link, 
 use Rattle.rtr_world.proofs.Streams.{Stream, ByteCase, partly, wholly, byte_case}
 use Rattle.rtr_world.proofs.Versions.{TableAt}
 use Rattle.rtr_world.proofs.Seen.{Seen}
-
-false_true : {P : Type 0} → false ≡ true → P
-false_true h = absurd (let e : false ≡ true = h in cc)
 
 -- A link keeps its state; what lives goes on to live.
 pub live_map : (l : Link) (all all' : List Instance) (i i' : Instance) (home home' : Option Seen) (r r' : Router) (conn conn' : Option Conn) (up up' down down' : List ℕ)
@@ -52,14 +50,6 @@ head_case u more = another refl
 pub notifies_rest : (session : ℕ) (u : Unit) (units : List Unit) → NotifiesOf session (u ∷ units) → NotifiesOf session units
 notifies_rest session (SerialNotify one serial) units h = h.1
 notifies_rest session u units h = h
-
-pub none_is : (out : List ℕ) → is_none out ≡ true → out ≡ []
-none_is [] h = refl
-none_is (b ∷ out) h = false_true h
-
-pub not_true : (b : Bool) → not b ≡ false → b ≡ true
-not_true true h = refl
-not_true false h = absurd (let e : true ≡ false = h in cc)
 
 nothing_left : {A : Type 0} (xs ys : List A) → xs ++ ys ≡ [] → xs ≡ []
 nothing_left [] ys e = refl

@@ -10,6 +10,7 @@ use Rattle.rtr_ends.specs.declared.link.End.TheVariants as ends
 use Rattle.rtr_ends.specs.Answer.{report}
 use Rattle.rtr_ends.specs.Router.{Router, Link, Closed, Idle, Asked, Answering, Ended, Staged, Stays, Wrong, Over, ask, fails, is_strange, is_news, stage, staged, commit, on_unit, is_reading}
 use Rattle.rtr_ends.specs.Transcript.{Begun, Committed, Question, AskReset, AskSerial, base_of, led_to, session_of, differs, is_wrong, bounded}
+use Rattle.rtr_ends.proofs.TableLaws.{false_true}
 use Rattle.rtr_world.specs.OneAnswer.{NotifiesOf, without_notifies}
 use Rattle.rtr_world.specs.World.{is_ended}
 use Rattle.rtr_world.proofs.Invariant.{after_stage, InOrder, read_of, Leads, Mine, OwnSession, QuestionFits, IsOwn, OfAnswer, Replies, no_data, not_kept, other_session, no_memory, response, Shape, nothing_yet}
@@ -17,9 +18,6 @@ use Rattle.rtr_world.proofs.RouterSteps.{stage_reads, no_difference, first_is, n
 use Rattle.rtr_world.proofs.SideSteps.{HeadCase, a_notify, another, head_case}
 use Rattle.rtr_world.proofs.Versions.{Stands, equal_true, find_session}
 use Rattle.rtr_world.proofs.Seen.{Seen}
-
-false_true : {P : Type 0} → false ≡ true → P
-false_true h = absurd (let e : false ≡ true = h in cc)
 
 abbrev pub is_end : Unit → Bool
 is_end (EndOfData session serial refresh retry expire) = true

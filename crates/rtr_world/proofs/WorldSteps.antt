@@ -31,9 +31,6 @@ use Rattle.rtr_world.proofs.TableLaws.{AllTell, SideTells, after_tells, new_side
 use Rattle.rtr_world.proofs.Versions.{Stands, TableAt, Present, table_named, position_at, of_present, stands_published, stands_restarted, find_session, same_number, equal_of, equal_true, lt_of, lt_true, some_is}
 use Rattle.rtr_world.proofs.Seen.{Seen, IsSeen}
 
-false_true : {P : Type 0} → false ≡ true → P
-false_true h = absurd (let e : false ≡ true = h in cc)
-
 pub record GoodWorld (w : World) : Type 0 where
   pub present : Present (instances w) w.present
   pub sides : AllByRecursion (Good w.keep w.past w.present) w.sides
