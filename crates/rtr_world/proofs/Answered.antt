@@ -19,6 +19,7 @@ use Rattle.rtr_world.specs.History.{conn_due}
 use Rattle.rtr_world.specs.OneAnswer.{NotifiesOf, answered, without_notifies}
 use Rattle.rtr_world.specs.World.{Side, World, instances, SideEvent, RouterRestart, Connect, RouterSends, CacheGets, CacheSends, RouterGets, Cut, NotifyRouter, Ask, Tick, noted, connects, router_restarts, router_sends, sends_from, cache_sends, gets_at, cache_gets, router_gets, cut, notifies_at, side_step, side_refused, tell_closed, close_ended, settle_conn, settle_link, settle_rest, settle_wire, settle}
 use Rattle.rtr_world.proofs.Histories.{Kept, Known}
+use Rattle.rtr_world.proofs.Folding.{Blind, sends_keep, gets_keep, notifies_keep, settle_keeps}
 use Rattle.rtr_world.proofs.Invariant.{Flow, GoodRouter, Good, Shape, read_of}
 use Rattle.rtr_world.proofs.RouterSteps.{right_response}
 use Rattle.rtr_world.proofs.Seen.{Seen}
@@ -176,28 +177,19 @@ gets_so w most wanting s k h =
     }) in
     record { reads_so = fed.reads_so }
 
-sends_so : (keep most : ℕ) (s : Side) (o : Option Conn) → SideReads s → SideReads (sends_from keep most s o)
-sends_so keep most s None h = h
-sends_so keep most s (Some o) h = record { reads_so = h.reads_so }
-
-cache_gets_so : (w : World) (most : ℕ) (wanting : Option ℕ) (s : Side) (o : Option Conn) → SideReads s → SideReads (gets_at w most wanting s o)
-cache_gets_so w most wanting s None h = h
-cache_gets_so w most wanting s (Some o) h = record { reads_so = h.reads_so }
-
-notifies_so : (w : World) (s : Side) (o : Option Conn) → SideReads s → SideReads (notifies_at w s o)
-notifies_so w s None h = h
-notifies_so w s (Some o) h = record { reads_so = h.reads_so }
+blind_reads : Blind SideReads
+blind_reads s conn up down h = record { reads_so = h.reads_so }
 
 step_so : (w : World) (event : SideEvent) (wanting : Option ℕ) (s : Side) → Known w s → SideReads s → SideReads (side_step w event wanting s)
 unfolding side_step connects connects_at router_restarts router_sends router_pulled cache_sends cache_gets cut ticks_at asks
 step_so w RouterRestart wanting s k h = record { reads_so = tt }
 step_so w Connect wanting s k h = record { reads_so = tt }
 step_so w (RouterSends most) wanting s k h = record { reads_so = h.reads_so }
-step_so w (CacheGets most) wanting s k h = cache_gets_so w most wanting s s.conn h
-step_so w (CacheSends most) wanting s k h = sends_so w.keep most s s.conn h
+step_so w (CacheGets most) wanting s k h = gets_keep SideReads blind_reads w most wanting s s.conn h
+step_so w (CacheSends most) wanting s k h = sends_keep SideReads blind_reads w.keep most s s.conn h
 step_so w (RouterGets most) wanting s k h = gets_so w most wanting s k h
 step_so w (Cut left) wanting s k h = record { reads_so = h.reads_so }
-step_so w NotifyRouter wanting s k h = notifies_so w s s.conn h
+step_so w NotifyRouter wanting s k h = notifies_keep SideReads blind_reads w s s.conn h
 step_so w Ask wanting s k h = record { reads_so = asks_so s.router (is_idle s.router.link) s.items h.reads_so }
 step_so w (Tick now) wanting s k h =
     let r : Router = clocked now s.router in
@@ -219,43 +211,8 @@ module _ (all : List Instance) where
   told_so : (s : Side) → SideReads (tell_closed all s)
   told_so s = record { reads_so = closed_reads (tell_closed all s).router.link (tell_closed all s).items (told_closes s) }
 
-  ended_so : (s : Side) (ended : Bool) (due : List ℕ) → SideReads s → SideReads (close_ended s ended due)
-  ended_so s true [] h = record { reads_so = h.reads_so }
-  ended_so s true (b ∷ due) h = h
-  ended_so s false due h = h
-
-  conn_so : (s : Side) (o : Option Conn) → SideReads s → SideReads (settle_conn s o)
-  conn_so s None h = h
-  conn_so s (Some o) h = ended_so s o.state.ended o.state.due h
-
-  link_so : (s : Side) (l : Link) (out : List ℕ) → SideReads s → SideReads (settle_link all s l out)
-  link_so s (Ended end) [] h = told_so s
-  link_so s (Ended end) (b ∷ out) h = h
-  link_so s Closed out h = h
-  link_so s Idle out h = h
-  link_so s (Asked q) out h = h
-  link_so s (Answering a) out h = h
-
-  rest_so : (s : Side) (l : Link) (up : List ℕ) → SideReads s → SideReads (settle_rest s l up)
-  rest_so s Closed [] h = record { reads_so = h.reads_so }
-  rest_so s Closed (b ∷ up) h = record { reads_so = h.reads_so }
-  rest_so s (Ended end) up h = h
-  rest_so s Idle up h = h
-  rest_so s (Asked q) up h = h
-  rest_so s (Answering a) up h = h
-
-  wire_so : (s : Side) (o : Option Conn) (down : List ℕ) → SideReads s → SideReads (settle_wire all s o down)
-  wire_so s None [] h = let c = told_so s in record { reads_so = c.reads_so }
-  wire_so s None (b ∷ down) h = h
-  wire_so s (Some o) down h = h
-
   settle_so : (s : Side) → SideReads s → SideReads (settle all s)
-  unfolding settle
-  settle_so s h =
-      let a : Side = settle_conn s s.conn in
-      let b : Side = settle_link all (settle_conn s s.conn) (settle_conn s s.conn).router.link (settle_conn s s.conn).router.out in
-      let c : Side = settle_rest b b.router.link b.up in
-      wire_so c c.conn c.down (rest_so b b.router.link b.up (link_so a a.router.link a.router.out (conn_so s s.conn h)))
+  settle_so s h = settle_keeps SideReads blind_reads all (λ x k. told_so x) s h
 
   -- a connection with nothing to arrive is closed
   abbrev Still : Side → Type 0

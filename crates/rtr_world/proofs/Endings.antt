@@ -19,6 +19,7 @@ use Rattle.rtr_world.specs.Claims.{IsLawfulEnd, OfAnother}
 use Rattle.rtr_world.specs.History.{conn_due}
 use Rattle.rtr_world.specs.OneAnswer.{NotifiesOf, without_notifies}
 use Rattle.rtr_world.specs.World.{Side, World, Ending, instances, SideEvent, RouterRestart, Connect, RouterSends, CacheGets, CacheSends, RouterGets, Cut, NotifyRouter, Ask, Tick, is_ended, ending_of, noted, connects, router_restarts, router_sends, sends_from, cache_sends, gets_at, cache_gets, router_gets, cut, notifies_at, side_step, side_part, side_refused, tell_closed, close_ended, settle_conn, settle_link, settle_rest, settle_wire, settle}
+use Rattle.rtr_world.proofs.Folding.{Blind, sends_keep, gets_keep, notifies_keep, settle_keeps}
 use Rattle.rtr_world.proofs.Invariant.{Flow, GoodRouter, Good, Shape}
 use Rattle.rtr_world.proofs.RouterSteps.{right_response}
 use Rattle.rtr_world.proofs.SideSteps.{live_of, byte_good, clocked_good}
@@ -199,28 +200,19 @@ gets_lawful w most wanting s g t h =
     })).lawful) h in
     record { endings = n.endings }
 
-sends_keeps : (keep most : ℕ) (s : Side) (o : Option Conn) → SideLawful s → SideLawful (sends_from keep most s o)
-sends_keeps keep most s None h = h
-sends_keeps keep most s (Some o) h = record { endings = h.endings }
-
-cache_gets_keeps : (w : World) (most : ℕ) (wanting : Option ℕ) (s : Side) (o : Option Conn) → SideLawful s → SideLawful (gets_at w most wanting s o)
-cache_gets_keeps w most wanting s None h = h
-cache_gets_keeps w most wanting s (Some o) h = record { endings = h.endings }
-
-notifies_keeps : (w : World) (s : Side) (o : Option Conn) → SideLawful s → SideLawful (notifies_at w s o)
-notifies_keeps w s None h = h
-notifies_keeps w s (Some o) h = record { endings = h.endings }
+blind_lawful : Blind SideLawful
+blind_lawful s conn up down h = record { endings = h.endings }
 
 pub step_lawful : (w : World) (event : SideEvent) (wanting : Option ℕ) (s : Side) → Good w.keep w.past w.present s → SideTells s → SideLawful s → SideLawful (side_step w event wanting s)
 unfolding side_step connects connects_at router_restarts router_sends cache_sends cache_gets cut ticks_at asks
 step_lawful w RouterRestart wanting s g t h = record { endings = h.endings }
 step_lawful w Connect wanting s g t h = let n = noted_lawful (instances w) (connects_at s.router.now s.router) s (λ on. tt) h in record { endings = n.endings }
 step_lawful w (RouterSends most) wanting s g t h = record { endings = h.endings }
-step_lawful w (CacheGets most) wanting s g t h = cache_gets_keeps w most wanting s s.conn h
-step_lawful w (CacheSends most) wanting s g t h = sends_keeps w.keep most s s.conn h
+step_lawful w (CacheGets most) wanting s g t h = gets_keep SideLawful blind_lawful w most wanting s s.conn h
+step_lawful w (CacheSends most) wanting s g t h = sends_keep SideLawful blind_lawful w.keep most s s.conn h
 step_lawful w (RouterGets most) wanting s g t h = gets_lawful w most wanting s g t h
 step_lawful w (Cut left) wanting s g t h = record { endings = h.endings }
-step_lawful w NotifyRouter wanting s g t h = notifies_keeps w s s.conn h
+step_lawful w NotifyRouter wanting s g t h = notifies_keep SideLawful blind_lawful w s s.conn h
 step_lawful w Ask wanting s g t h = noted_lawful (instances w) (asks s.router) s (λ on. asks_lawful s.router.link s.router (is_idle s.router.link) s.items s.home (lawful_on s.router.link s.items s.home on)) h
 step_lawful w (Tick now) wanting s g t h =
     let k : Router = clocked now s.router in
@@ -232,8 +224,8 @@ step_lawful w (Tick now) wanting s g t h =
 part_lawful : (w : World) (event : SideEvent) (bytes : ℕ) (wanting : Option ℕ) (s : Side) → Good w.keep w.past w.present s → SideTells s → SideLawful s → SideLawful (side_part w event bytes wanting s)
 unfolding router_sends cache_sends cache_gets
 part_lawful w (RouterSends most) bytes wanting s g t h = record { endings = h.endings }
-part_lawful w (CacheGets most) bytes wanting s g t h = cache_gets_keeps w bytes wanting s s.conn h
-part_lawful w (CacheSends most) bytes wanting s g t h = sends_keeps w.keep bytes s s.conn h
+part_lawful w (CacheGets most) bytes wanting s g t h = gets_keep SideLawful blind_lawful w bytes wanting s s.conn h
+part_lawful w (CacheSends most) bytes wanting s g t h = sends_keep SideLawful blind_lawful w.keep bytes s s.conn h
 part_lawful w (RouterGets most) bytes wanting s g t h = gets_lawful w bytes wanting s g t h
 part_lawful w RouterRestart bytes wanting s g t h = h
 part_lawful w Connect bytes wanting s g t h = h
@@ -258,40 +250,5 @@ module _ (all : List Instance) where
           let n = noted_lawful all (closed_at s.router.now s.router) s (λ on. lawful_on (close (clocked s.router.now s.router)).link ((closed_at s.router.now s.router).items ++ s.items) s.home (closed_so (clocked s.router.now s.router))) h in
           record { endings = n.endings }
 
-  ended_lawful : (s : Side) (ended : Bool) (due : List ℕ) → SideLawful s → SideLawful (close_ended s ended due)
-  ended_lawful s true [] h = record { endings = h.endings }
-  ended_lawful s true (b ∷ due) h = h
-  ended_lawful s false due h = h
-
-  conn_lawful : (s : Side) (o : Option Conn) → SideLawful s → SideLawful (settle_conn s o)
-  conn_lawful s None h = h
-  conn_lawful s (Some o) h = ended_lawful s o.state.ended o.state.due h
-
-  link_lawful : (s : Side) (l : Link) (out : List ℕ) → SideLawful s → SideLawful (settle_link all s l out)
-  link_lawful s (Ended end) [] h = told_lawful s h
-  link_lawful s (Ended end) (b ∷ out) h = h
-  link_lawful s Closed out h = h
-  link_lawful s Idle out h = h
-  link_lawful s (Asked q) out h = h
-  link_lawful s (Answering a) out h = h
-
-  rest_lawful : (s : Side) (l : Link) (up : List ℕ) → SideLawful s → SideLawful (settle_rest s l up)
-  rest_lawful s Closed [] h = record { endings = h.endings }
-  rest_lawful s Closed (b ∷ up) h = record { endings = h.endings }
-  rest_lawful s (Ended end) up h = h
-  rest_lawful s Idle up h = h
-  rest_lawful s (Asked q) up h = h
-  rest_lawful s (Answering a) up h = h
-
-  wire_lawful : (s : Side) (o : Option Conn) (down : List ℕ) → SideLawful s → SideLawful (settle_wire all s o down)
-  wire_lawful s None [] h = let c = told_lawful s h in record { endings = c.endings }
-  wire_lawful s None (b ∷ down) h = h
-  wire_lawful s (Some o) down h = h
-
   pub settle_lawful : (s : Side) → SideLawful s → SideLawful (settle all s)
-  unfolding settle
-  settle_lawful s h =
-      let a : Side = settle_conn s s.conn in
-      let b : Side = settle_link all (settle_conn s s.conn) (settle_conn s s.conn).router.link (settle_conn s s.conn).router.out in
-      let c : Side = settle_rest b b.router.link b.up in
-      wire_lawful c c.conn c.down (rest_lawful b b.router.link b.up (link_lawful a a.router.link a.router.out (conn_lawful s s.conn h)))
+  settle_lawful s h = settle_keeps SideLawful blind_lawful all told_lawful s h

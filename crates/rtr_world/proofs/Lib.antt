@@ -6,6 +6,7 @@ pub mod Commits
 pub mod EndLaws
 pub mod Endings
 pub mod EventSteps
+pub mod Folding
 pub mod Histories
 pub mod Invariant
 pub mod OneAnswers

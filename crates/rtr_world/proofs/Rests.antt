@@ -10,6 +10,7 @@ use Rattle.rtr_world.specs.Claims.{Settles}
 use Rattle.rtr_world.specs.History.{Entry, IsEvent, Leads, LeadsFrom, Made, MayEnd, Memory, NoSuchRouter, Outcome, Done, SessionUsed, TooManyVersions, after, refusal}
 use Rattle.rtr_world.specs.World.{Event, On, Publish, Restart, Side, World, goes_through, close_ended, instances, is_ended, is_refused, new_world, noted, on_side, settle, settle_conn, settle_link, settle_rest, settle_wire, settled, side_refused, tell_closed}
 use Rattle.rtr_world.proofs.Answered.{told_closes}
+use Rattle.rtr_world.proofs.Folding.{leads_keep}
 use Rattle.rtr_world.proofs.Invariant.{Good, GoodLink}
 use Rattle.rtr_world.proofs.SideLaws.{all_map, all_new}
 use Rattle.rtr_world.proofs.TableLaws.{AllTell, SideTells, after_tells, new_side_tells}
@@ -218,11 +219,9 @@ after_rests event TooManyVersions w fits may g t h = h
 after_rests event NoSuchRouter w fits may g t h = h
 
 from_old : (old : World) (history : List Entry) (w : World) → LeadsFrom old history w → GoodWorld old → AllTell old → AllByRecursion Rests old.sides → AllByRecursion Rests w.sides
-from_old old [] w leads g t h = subst (λ x. AllByRecursion Rests x.sides) (sym leads) h
-from_old old (entry ∷ history) w leads g t h =
-    from_old leads.0 history w leads.2 (subst GoodWorld (sym leads.1.2) (after_good entry.event entry.outcome old leads.1.0 leads.1.1 g t))
-    (subst AllTell (sym leads.1.2) (after_tells entry.event entry.outcome old t))
-    (subst (λ x. AllByRecursion Rests x.sides) (sym leads.1.2) (after_rests entry.event entry.outcome old leads.1.0 leads.1.1 g t h))
+from_old old history w leads g t h =
+    (leads_keep (λ x. GoodWorld x × AllTell x × AllByRecursion Rests x.sides)
+    (λ event outcome x fits may k. (after_good event outcome x fits may k.0 k.1, after_tells event outcome x k.1, after_rests event outcome x fits may k.0 k.1 k.2)) old history w leads (g, t, h)).2
 
 pub history_rests : (made : Made) (history : List Entry) (w : World) → Leads made history w → AllByRecursion Rests w.sides
 history_rests made history w leads =

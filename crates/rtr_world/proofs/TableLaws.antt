@@ -10,6 +10,7 @@ use Rattle.rtr_ends.proofs.KeptLaws.{Tells, called_tells, is_kept, new_tells, re
 use Rattle.rtr_world.specs.World.{Side, World, instances, SideEvent, RouterRestart, Connect, RouterSends, CacheGets, CacheSends, RouterGets, Cut, NotifyRouter, Ask, Tick, Event, Publish, Restart, On, noted, connects, router_restarts, router_sends, sends_from, cache_sends, gets_at, cache_gets, router_gets, cut, notifies_at, side_step, side_part, side_refused, tell_closed, close_ended, settle_conn, settle_link, settle_rest, settle_wire, settle, cache_gone, goes_through, settled, is_refused, on_side, new_side, new_world}
 use Rattle.rtr_world.specs.History.{Outcome, Done, SessionUsed, TooManyVersions, NoSuchRouter, Memory, after, Entry, LeadsFrom}
 use Rattle.rtr_world.specs.Claims.{Tables}
+use Rattle.rtr_world.proofs.Folding.{Blind, gets_keep, leads_keep, notifies_keep, rest_keeps, sends_keep, settle_keeps, wire_keeps}
 use Rattle.rtr_world.proofs.SideLaws.{all_new, all_on_side, all_map}
 
 pub record SideTells (s : Side) : Type 0 where
@@ -19,21 +20,8 @@ pub record SideTells (s : Side) : Type 0 where
 noted_tells : (all : List Instance) (call : Call) (s : Side) → SideTells s → SideTells (noted all (called call s.router) s)
 noted_tells all call s t = record { tells = called_tells call s.router s.items t.tells }
 
--- the cache's side of a connection is another
-same_router : (s t : Side) → t.router ≡ s.router → t.items ≡ s.items → SideTells s → SideTells t
-same_router s t r i h = record { tells = subst (λ x. Tells x t.items) (sym r) (subst (λ x. Tells s.router x) (sym i) h.tells) }
-
-sends_router : (keep most : ℕ) (s : Side) (o : Option Conn) → SideTells s → SideTells (sends_from keep most s o)
-sends_router keep most s None h = h
-sends_router keep most s (Some o) h = record { tells = h.tells }
-
-gets_router : (w : World) (most : ℕ) (wanting : Option ℕ) (s : Side) (o : Option Conn) → SideTells s → SideTells (gets_at w most wanting s o)
-gets_router w most wanting s None h = h
-gets_router w most wanting s (Some o) h = record { tells = h.tells }
-
-notifies_router : (w : World) (s : Side) (o : Option Conn) → SideTells s → SideTells (notifies_at w s o)
-notifies_router w s None h = h
-notifies_router w s (Some o) h = record { tells = h.tells }
+blind_tells : Blind SideTells
+blind_tells s conn up down h = record { tells = h.tells }
 
 sends_tells : (most : ℕ) (s : Side) → SideTells s → SideTells (router_sends most s)
 unfolding router_sends
@@ -41,11 +29,11 @@ sends_tells most s h = record { tells = called_tells (Pulls most) s.router s.ite
 
 cache_sends_tells : (w : World) (most : ℕ) (s : Side) → SideTells s → SideTells (cache_sends w most s)
 unfolding cache_sends
-cache_sends_tells w most s h = sends_router w.keep most s s.conn h
+cache_sends_tells w most s h = sends_keep SideTells blind_tells w.keep most s s.conn h
 
 cache_gets_tells : (w : World) (most : ℕ) (wanting : Option ℕ) (s : Side) → SideTells s → SideTells (cache_gets w most wanting s)
 unfolding cache_gets
-cache_gets_tells w most wanting s h = gets_router w most wanting s s.conn h
+cache_gets_tells w most wanting s h = gets_keep SideTells blind_tells w most wanting s s.conn h
 
 router_gets_tells : (w : World) (most : ℕ) (wanting : Option ℕ) (s : Side) → SideTells s → SideTells (router_gets w most wanting s)
 unfolding router_gets
@@ -64,7 +52,7 @@ step_tells w (CacheGets most) wanting s h = cache_gets_tells w most wanting s h
 step_tells w (CacheSends most) wanting s h = cache_sends_tells w most s h
 step_tells w (RouterGets most) wanting s h = router_gets_tells w most wanting s h
 step_tells w (Cut left) wanting s h = cut_tells left s h
-step_tells w NotifyRouter wanting s h = notifies_router w s s.conn h
+step_tells w NotifyRouter wanting s h = notifies_keep SideTells blind_tells w s s.conn h
 step_tells w Ask wanting s h = noted_tells (instances w) AsksNow s h
 step_tells w (Tick now) wanting s h = noted_tells (instances w) (Ticks now) s h
 
@@ -83,43 +71,14 @@ module _ (all : List Instance) where
       by_link true = record { tells = h.tells }
       by_link false = record { tells = called_tells (Closes s.router.now) s.router s.items h.tells }
 
-  ended_tells : (s : Side) (ended : Bool) (due : List ℕ) → SideTells s → SideTells (close_ended s ended due)
-  ended_tells s true [] h = record { tells = h.tells }
-  ended_tells s true (b ∷ due) h = h
-  ended_tells s false due h = h
-
-  conn_tells : (s : Side) (o : Option Conn) → SideTells s → SideTells (settle_conn s o)
-  conn_tells s None h = h
-  conn_tells s (Some o) h = ended_tells s o.state.ended o.state.due h
-
-  link_tells : (s : Side) (l : Link) (out : List ℕ) → SideTells s → SideTells (settle_link all s l out)
-  link_tells s (Ended end) [] h = closed_tells s h
-  link_tells s (Ended end) (b ∷ out) h = h
-  link_tells s Closed out h = h
-  link_tells s Idle out h = h
-  link_tells s (Asked q) out h = h
-  link_tells s (Answering a) out h = h
-
   rest_tells : (s : Side) (l : Link) (up : List ℕ) → SideTells s → SideTells (settle_rest s l up)
-  rest_tells s Closed [] h = record { tells = h.tells }
-  rest_tells s Closed (b ∷ up) h = record { tells = h.tells }
-  rest_tells s (Ended end) up h = h
-  rest_tells s Idle up h = h
-  rest_tells s (Asked q) up h = h
-  rest_tells s (Answering a) up h = h
+  rest_tells s l up h = rest_keeps SideTells blind_tells all closed_tells s l up h
 
   wire_tells : (s : Side) (o : Option Conn) (down : List ℕ) → SideTells s → SideTells (settle_wire all s o down)
-  wire_tells s None [] h = let c = closed_tells s h in record { tells = c.tells }
-  wire_tells s None (b ∷ down) h = h
-  wire_tells s (Some o) down h = h
+  wire_tells s o down h = wire_keeps SideTells blind_tells all closed_tells s o down h
 
   settle_tells : (s : Side) → SideTells s → SideTells (settle all s)
-  unfolding settle
-  settle_tells s h =
-      let a : Side = settle_conn s s.conn in
-      let b : Side = settle_link all (settle_conn s s.conn) (settle_conn s s.conn).router.link (settle_conn s s.conn).router.out in
-      let c : Side = settle_rest b b.router.link b.up in
-      wire_tells c c.conn c.down (rest_tells b b.router.link b.up (link_tells a a.router.link a.router.out (conn_tells s s.conn h)))
+  settle_tells s h = settle_keeps SideTells blind_tells all closed_tells s h
 
   loose_closed : (s : Side) → s.router.link ≡ Closed → Loose s → SideTells s
   loose_closed s is h = record { tells = subst (λ x. Tells s.router x) (sym h.items_are) (refused_closed s.router h.before is h.tells) }
@@ -231,9 +190,7 @@ after_tells event TooManyVersions w h = h
 after_tells event NoSuchRouter w h = h
 
 pub history_tells : (old : World) (history : List Entry) (w : World) → LeadsFrom old history w → AllTell old → AllTell w
-history_tells old [] w leads h = subst AllTell (sym leads) h
-history_tells old (entry ∷ history) w leads h =
-    history_tells leads.0 history w leads.2 (subst AllTell (sym leads.1.2) (after_tells entry.event entry.outcome old h))
+history_tells = leads_keep AllTell (λ event outcome w fits may h. after_tells event outcome w h)
 
 pub new_side_tells : SideTells new_side
 new_side_tells = record { tells = new_tells }

@@ -22,6 +22,7 @@ use Rattle.rtr_world.specs.OneAnswer.{without_notifies}
 use Rattle.rtr_world.specs.Place.{NeverBack, position_of}
 use Rattle.rtr_world.specs.World.{Side, SideEvent, World, instances, Event, Publish, Restart, On, cache_gone, on_side, goes_through, settled, is_refused, side_step, side_refused, settle, new_world}
 use Rattle.rtr_world.proofs.EventSteps.{step_good, refused_good, settle_good}
+use Rattle.rtr_world.proofs.Folding.{leads_keep}
 use Rattle.rtr_world.proofs.Invariant.{WasCache, OfAnswer, OneReply, Replies, no_data, not_kept, other_session, no_memory, response, Shape, IfOpen, Open, Flow, Good}
 use Rattle.rtr_world.proofs.Places.{ordered_published, ordered_restarted}
 use Rattle.rtr_world.proofs.SideLaws.{all_new, all_on_side, all_map, all_both}
@@ -287,10 +288,8 @@ after_good event TooManyVersions w fits may g t = g
 after_good event NoSuchRouter w fits may g t = g
 
 pub history_good : (old : World) (history : List Entry) (w : World) → LeadsFrom old history w → GoodWorld old → AllTell old → GoodWorld w
-history_good old [] w leads g t = subst GoodWorld (sym leads) g
-history_good old (entry ∷ history) w leads g t =
-    history_good leads.0 history w leads.2 (subst GoodWorld (sym leads.1.2) (after_good entry.event entry.outcome old leads.1.0 leads.1.1 g t))
-    (subst AllTell (sym leads.1.2) (after_tells entry.event entry.outcome old t))
+history_good old history w leads g t =
+    (leads_keep (λ x. GoodWorld x × AllTell x) (λ event outcome x fits may h. (after_good event outcome x fits may h.0 h.1, after_tells event outcome x h.1)) old history w leads (g, t)).0
 
 pub new_good : (made : Made) → IsMade made → GoodWorld (new_world made.routers made.session made.start made.keep)
 new_good made is =
