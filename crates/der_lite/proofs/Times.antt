@@ -103,11 +103,6 @@ reversed Less = refl
 reversed Equal = refl
 reversed Greater = refl
 
--- a moment is not after another exactly where the other is not before it
-pub le_not_before : (m n : CivilMoment) → is_le (moment_cmp n m) ≡ not (moment_before m n)
-unfolding moment_before
-le_not_before m n = ap is_le (total.antisymm (numbers_of n) (numbers_of m)) ∙ reversed (moment_cmp m n)
-
 -- what is less, by the test
 less_is : (o : Ordering) → is_lt o ≡ true → o ≡ Less
 less_is Less h = refl

@@ -138,10 +138,7 @@ one_list (item d ds) (v ∷ vs) (w ∷ ws) g h = λ i. one_payload d v w g.0 h.0
 pub lists : (items : Items) (records : List Payload) (s : VrpSet) → AreEntries items records → s ≡ set_of records → size s ≤ 16777215 → Lists items s
 lists items records s entries is few = record { records = records; entries = entries; set_is = is; within_limit = few }
 
--- An array of entries that are no payloads' is no list, and one of too many different records neither.
-pub no_entries : (items : Items) (s : VrpSet) → ((vs : List Payload) → ¬ (AreEntries items vs)) → ¬ (Lists items s)
-no_entries items s none h = none h.records h.entries
-
+-- An array of the entries of too many different records is no list.
 pub too_many : (items : Items) (records : List Payload) (s : VrpSet) → AreEntries items records → 16777215 < size (set_of records) → ¬ (Lists items s)
 too_many items records s entries many h =
     let same : h.records ≡ records = one_list items h.records records h.entries entries in

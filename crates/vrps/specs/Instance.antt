@@ -45,13 +45,3 @@ with_serial serial vs = find (λ v. v.serial == serial) vs
 abbrev pub named : List Instance → ℕ → ℕ → Option VrpSet
 named instances session serial =
     option_and_then (λ i. option_map (λ v. v.set) (with_serial serial (versions i))) (find (λ i. i.session == session) instances)
-
--- The premise that one session number stands for one instance
-abbrev pub SessionsDiffer : List Instance → Type 0
-SessionsDiffer [] = ⊤
-SessionsDiffer (i ∷ older) = AllByRecursion (λ j. i.session ≢ j.session) older × SessionsDiffer older
-
--- the instances of one cache, under that premise
-pub record AreInstances (instances : List Instance) : Type 0 where
-  pub each : AllByRecursion IsInstance instances
-  pub sessions_differ : SessionsDiffer instances
