@@ -59,31 +59,28 @@ pub fn read_directories<'a, R: Files + AllocGlobal + Clone + Drop>(
     Ok(directories)
 }
 
-/// Reads `manifest.der`, and each file of `objects` with the file of the same name in `contents`, or
-/// with empty content where there is none.
+/// Reads `manifest.der`, and each regular file of `objects` with the file of the same name in `contents`,
+/// or with empty content where there is none. What else stands in `objects` is passed over: nothing but a
+/// regular file is opened, a link being what it leads to.
 fn read_directory<'a, R: Files + AllocGlobal + Clone + Drop>(
     rt: &R,
     name: &'a str,
 ) -> io::Result<Directory<'a>> {
     let alloc = rt.alloc();
-    let manifest = read_file(rt, path_in(alloc, name, "manifest.der")?.as_str())?;
+    let manifest = read_regular(rt, path_in(alloc, name, "manifest.der")?.as_str())?;
     let objects = path_in(alloc, name, "objects")?;
     let contents = path_in(alloc, name, "contents")?;
     let mut files = Vec::new(alloc);
     for file in names_in(rt, objects.as_str())? {
-        let object = read_file(
-            rt,
-            path_in(alloc, objects.as_str(), file.as_str())?.as_str(),
-        )?;
-        let content = read_or_empty(
-            rt,
-            path_in(alloc, contents.as_str(), file.as_str())?.as_str(),
-        )?;
-        files.push(Fetched {
-            name: file,
-            object,
-            content,
-        })?;
+        let object = path_in(alloc, objects.as_str(), file.as_str())?;
+        if is_regular(rt, object.as_str())? {
+            let content = path_in(alloc, contents.as_str(), file.as_str())?;
+            files.push(Fetched {
+                name: file,
+                object: read_file(rt, object.as_str())?,
+                content: read_or_empty(rt, content.as_str())?,
+            })?;
+        }
     }
     Ok(Directory {
         name,
@@ -113,9 +110,27 @@ fn names_in<R: Files + AllocGlobal + Clone + Drop>(
     Ok(names)
 }
 
-/// The bytes of a file, none where there is no such file.
+/// Whether a path leads to a regular file. A link that leads to nothing does not.
+fn is_regular<R: Files>(rt: &R, path: &str) -> io::Result<bool> {
+    match fs::metadata(rt, path) {
+        Ok(found) => Ok(found.is_file()),
+        Err(error) if error.kind() == ErrorKind::NotFound => Ok(false),
+        Err(error) => Err(error),
+    }
+}
+
+/// The bytes of a regular file. What is none fails and is not opened.
+fn read_regular<R: Files + AllocGlobal>(rt: &R, file: &str) -> io::Result<Vec<u8>> {
+    if fs::metadata(rt, file)?.is_file() {
+        read_file(rt, file)
+    } else {
+        Err(io::Error::from(ErrorKind::InvalidInput))
+    }
+}
+
+/// The bytes of a regular file, none where there is no such file.
 fn read_or_empty<R: Files + AllocGlobal>(rt: &R, file: &str) -> io::Result<Vec<u8>> {
-    match read_file(rt, file) {
+    match read_regular(rt, file) {
         Err(error) if error.kind() == ErrorKind::NotFound => Ok(Vec::new(rt.alloc())),
         read => read,
     }
