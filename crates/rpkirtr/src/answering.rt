@@ -7,9 +7,9 @@ ghost use Rattle.rtr_ends.specs.Timing.{default_intervals};
 ghost use Rattle.rpkirtr.specs.Answered.{Answers, Ends};
 ghost use Rattle.rpkirtr.specs.Lines.{cache_of, lines_of};
 
+use crate::hexadecimal::print_hex;
 use rtr_ends::{Timing, WholeAnswer};
 use rtr_pdu::{Next, Unit, UnitBuffer, UnitReader};
-use std::alloc::Global;
 use std::io::{self, Write};
 use vrps::{Serial, VrpSet};
 
@@ -33,31 +33,30 @@ pub enum Answered {
 }
 
 /// Prints the units that are left of an answer.
-fn print_units<W: Write>(alloc: Global, units: WholeAnswer<'_>, out: &mut W) -> io::Result<()>
+fn print_units<W: Write>(units: WholeAnswer<'_>, out: &mut W) -> io::Result<()>
     ensures { OnOk result (Appends (W.contents out.old) (W.contents out.new) (lines_of units.entry)) }
 {
     let mut left = units;
     let mut buffer = UnitBuffer::new();
     while left.next(&mut buffer) {
-        let text = hex::encode(alloc, buffer.as_slice())?;
-        writeln!(out, "{text}")?;
+        print_hex(buffer.as_slice(), out)?;
+        writeln!(out)?;
     }
     Ok(())
 }
 
 /// Prints the answer to a Reset Query.
-fn print_answer<W: Write>(alloc: Global, published: &Published<'_>, out: &mut W) -> io::Result<()>
+fn print_answer<W: Write>(published: &Published<'_>, out: &mut W) -> io::Result<()>
     ensures { OnOk result ((keep : ℕ) → Appends (W.contents out.old) (W.contents out.new)
         (lines_of (answer (cache_of published.now.session published.now.serial published.now.set.now) keep default_intervals ResetQuery).units)) }
 {
     let serial = Serial(published.serial);
     let units = WholeAnswer::new(published.session, serial, Timing::default(), published.set);
-    print_units(alloc, units, out)
+    print_units(units, out)
 }
 
 /// Answers the Reset Queries with which the bytes begin, and tells what follows them.
 pub fn answer_queries<W: Write>(
-    alloc: Global,
     published: &Published<'_>,
     bytes: &[u8],
     out: &mut W,
@@ -70,7 +69,7 @@ pub fn answer_queries<W: Write>(
     loop {
         let offset = bytes.len() - rest.len();
         match reader.next(&mut rest) {
-            Next::Unit(unit) if is_reset_query(&unit) => print_answer(alloc, published, out)?,
+            Next::Unit(unit) if is_reset_query(&unit) => print_answer(published, out)?,
             Next::Unit(_) => return Ok(Answered::Refused(offset)),
             Next::Fault(_) => return Ok(Answered::Refused(offset)),
             Next::NeedMore => return Ok(ended(reader.held(), offset)),

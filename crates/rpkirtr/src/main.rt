@@ -3,6 +3,7 @@
 
 pub mod answering;
 pub mod directories;
+pub mod hexadecimal;
 pub mod listing;
 pub mod manifests;
 pub mod offering;

@@ -154,7 +154,7 @@ fn manifest<R: Files + AllocGlobal, O: Write>(
     match decode_manifest(rt.alloc(), bytes.as_slice()) {
         Ok(manifest) => {
             let mut lines = BufWriter::new(rt.alloc(), out)?;
-            print_manifest(rt.alloc(), &manifest, &mut lines)?;
+            print_manifest(&manifest, &mut lines)?;
             lines.flush()?;
             Ok(0)
         }
@@ -247,7 +247,7 @@ fn answer<R: Files + AllocGlobal, O: Write>(
         set: &set,
     };
     let mut lines = BufWriter::new(rt.alloc(), out)?;
-    let answered = answer_queries(rt.alloc(), &published, bytes.as_slice(), &mut lines)?;
+    let answered = answer_queries(&published, bytes.as_slice(), &mut lines)?;
     let status = tell_rest(answered, &mut lines)?;
     lines.flush()?;
     Ok(status)

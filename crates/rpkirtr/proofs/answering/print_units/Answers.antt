@@ -8,5 +8,5 @@ loop-left-preserved g c =
     let (first, left, spelled) = c.loop-left-test.ensures in (
       done ++ first ∷ [],
       is ∙ ap (λ us. done ++ us) left ∙ sym (append_assoc done (first ∷ []) c.next.new.self),
-      prints_line _ _ _ done first _ _ printed (c.as_slice.ensures.value ∙ spelled) c.in_ok-text.ensures c.in_ok-writeln.ensures.bytes,
+      prints_line _ _ _ _ done first _ printed (c.as_slice.ensures.value ∙ spelled) c.in_ok-print_hex.ensures c.in_ok-writeln.ensures.bytes,
     )
