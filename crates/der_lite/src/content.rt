@@ -69,37 +69,3 @@ pub fn unsigned(content: &[u8]) -> Option<u32>
         None
     }
 }
-
-#[cfg(test)]
-mod tests {
-    use super::{Bits, is_integer};
-
-    #[test]
-    fn compares_the_count_and_the_bytes(rt: HostRuntime) {
-        let bits = Bits {
-            unused: 3,
-            bytes: b"\x08".as_slice(),
-        };
-        let fewer = Bits {
-            unused: 2,
-            bytes: b"\x08".as_slice(),
-        };
-        let others = Bits {
-            unused: 3,
-            bytes: b"\x10".as_slice(),
-        };
-        assert!(rt; bits == bits);
-        assert!(rt; bits != fewer);
-        assert!(rt; bits != others);
-    }
-
-    #[test]
-    fn tells_the_fewest_bytes(rt: HostRuntime) {
-        assert!(rt; is_integer(b"\x00"));
-        assert!(rt; is_integer(b"\x00\x80"));
-        assert!(rt; is_integer(b"\xff\x7f"));
-        assert!(rt; !is_integer(b""));
-        assert!(rt; !is_integer(b"\x00\x7f"));
-        assert!(rt; !is_integer(b"\xff\x80"));
-    }
-}

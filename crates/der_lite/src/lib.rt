@@ -12,10 +12,6 @@ mod head;
 pub mod laws;
 mod length;
 mod moment;
-#[cfg(test)]
-mod moment_tests;
-#[cfg(test)]
-mod tests;
 mod writer;
 
 pub use content::{Bits, is_integer, unsigned};

@@ -13,17 +13,11 @@ mod files;
 pub mod laws;
 mod manifest;
 mod manifest_reading;
-#[cfg(test)]
-mod manifest_tests;
 mod manifest_writing;
 mod names;
 mod reading;
 mod roa;
-#[cfg(test)]
-mod tests;
 mod writing;
-#[cfg(test)]
-mod writing_tests;
 
 pub use entry::RoaEntry;
 pub use fault::{GrammarFault, GrammarFaultKind, ManifestFault, PayloadFault, ValueFault};

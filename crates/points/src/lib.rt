@@ -14,8 +14,6 @@ mod numbers;
 mod objects;
 mod point;
 mod repository;
-#[cfg(test)]
-mod tests;
 
 pub use fault::{Offered, PointFault};
 pub use file::FileIn;

@@ -7,8 +7,6 @@ mod fault;
 pub mod laws;
 mod prefix;
 mod route;
-#[cfg(test)]
-mod tests;
 mod text;
 mod vrp;
 

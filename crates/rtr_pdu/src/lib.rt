@@ -7,8 +7,6 @@ pub mod laws;
 mod reader;
 mod reading;
 mod stream;
-#[cfg(test)]
-mod tests;
 mod unit;
 mod writing;
 

@@ -1,6 +1,6 @@
 //! Moments by hand: their texts, their order, and their elements.
 
-use crate::{Cursor, DerWriter, Moment};
+use der_lite::{Cursor, DerWriter, Moment};
 use std::cmp::Ordering;
 use std::test::Fail;
 

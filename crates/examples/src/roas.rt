@@ -1,7 +1,7 @@
 //! ROAs by hand.
 
-use crate::{PayloadFault, Roa, RoaEntry, decode_roa};
 use der_lite::{Bits, DerWriter};
+use payloads::{PayloadFault, Roa, RoaEntry, decode_roa};
 use prefixes::{Asn, IpPrefix, PrefixFault, Vrp};
 use std::alloc::Global;
 use std::process::Abort;

@@ -1,7 +1,7 @@
-use crate::{
+use arrayvec::ArrayVec;
+use rtr_pdu::{
     Counted, Next, ReadFault, Unit, UnitFault, UnitReader, encode, read_all, read_unit, write_unit,
 };
-use arrayvec::ArrayVec;
 use std::alloc::{AllocError, Global};
 use std::io;
 use std::io::{Read, Write};

@@ -1,7 +1,7 @@
 //! ROAs that are written.
 
-use crate::tests::{NO_BITS, NOTED, ONE_PREFIX, WITH_MAXIMUM, entries_of, long_payload};
-use crate::{Roa, decode_roa, encode_roa};
+use crate::roas::{NO_BITS, NOTED, ONE_PREFIX, WITH_MAXIMUM, entries_of, long_payload};
+use payloads::{Roa, decode_roa, encode_roa};
 use prefixes::Asn;
 use std::test::Fail;
 

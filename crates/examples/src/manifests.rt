@@ -1,7 +1,9 @@
 //! Manifests by hand.
 
-use crate::{ListedFile, Manifest, ManifestFault, PayloadFault, decode_manifest, encode_manifest};
 use der_lite::{Bits, DerWriter, Moment};
+use payloads::{
+    ListedFile, Manifest, ManifestFault, PayloadFault, decode_manifest, encode_manifest,
+};
 use std::alloc::Global;
 use std::process::Abort;
 use std::test::Fail;

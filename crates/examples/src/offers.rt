@@ -1,8 +1,8 @@
 //! Offers by hand.
 
-use crate::{FileIn, Offered, Point, PointFault, Repository};
 use der_lite::Moment;
 use payloads::{ListedFile, Manifest, encode_manifest};
+use points::{FileIn, Offered, Point, PointFault, Repository};
 use prefixes::{Asn, IpPrefix, Vrp};
 use sha2::{Digest, Sha256};
 use std::alloc::Global;

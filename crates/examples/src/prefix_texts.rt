@@ -1,4 +1,4 @@
-use crate::{Asn, IpPrefix, PrefixFault, Vrp};
+use prefixes::{Asn, IpPrefix, PrefixFault, Vrp};
 use std::test::Fail;
 
 #[test]

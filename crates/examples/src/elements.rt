@@ -1,6 +1,6 @@
 //! Elements by hand, and their faults.
 
-use crate::{Bits, Cursor, DerFault, DerWriter, unsigned};
+use der_lite::{Bits, Cursor, DerFault, DerWriter, is_integer, unsigned};
 use std::test::Fail;
 
 /// How long the content is of the element of this tag that stands at the cursor. A SEQUENCE is
@@ -286,4 +286,33 @@ fn tells_faults_inside_the_payload(rt: HostRuntime) {
     let mut past = *ATTESTATION;
     past[18] = 5;
     assert_eq!(rt; walk_fault(&past), Some((1, 19)));
+}
+
+#[test]
+fn compares_the_count_and_the_bytes(rt: HostRuntime) {
+    let bits = Bits {
+        unused: 3,
+        bytes: b"\x08".as_slice(),
+    };
+    let fewer = Bits {
+        unused: 2,
+        bytes: b"\x08".as_slice(),
+    };
+    let others = Bits {
+        unused: 3,
+        bytes: b"\x10".as_slice(),
+    };
+    assert!(rt; bits == bits);
+    assert!(rt; bits != fewer);
+    assert!(rt; bits != others);
+}
+
+#[test]
+fn tells_the_fewest_bytes(rt: HostRuntime) {
+    assert!(rt; is_integer(b"\x00"));
+    assert!(rt; is_integer(b"\x00\x80"));
+    assert!(rt; is_integer(b"\xff\x7f"));
+    assert!(rt; !is_integer(b""));
+    assert!(rt; !is_integer(b"\x00\x7f"));
+    assert!(rt; !is_integer(b"\xff\x80"));
 }
