@@ -1,5 +1,5 @@
 #!/usr/bin/env bash
-# Payloads of ROAs and manifests against another DER decoder: Python's pyasn1, which is installed from Debian where it is missing.
+# Payloads of ROAs and manifests against another DER decoder, Python's pyasn1. Where it is missing, the comparison is skipped, but not in CI.
 set -u
 top=$(cd "$(dirname "${BASH_SOURCE[0]}")/.." && pwd) || exit 1
 python=
@@ -7,8 +7,9 @@ for candidate in python3 /usr/bin/python3; do
     "$candidate" -c 'import pyasn1' 2>/dev/null && python=$candidate && break
 done
 if [ -z "$python" ]; then
-    apt-get install -y python3-pyasn1 >/dev/null 2>&1 || { apt-get update && apt-get install -y python3-pyasn1; } >/dev/null 2>&1 || exit 1
-    python=/usr/bin/python3
+    echo 'payloads: python3-pyasn1 is not installed, so payloads are not compared with another decoder' >&2
+    [ -z "${CI:-}" ] && exit 77
+    exit 1
 fi
 "$top/run" roa /dev/null >/dev/null 2>&1
 [ $? -eq 1 ] || exit 1

@@ -32,22 +32,26 @@ expect 0 'valid' route --vrps vrps.json 192.0.2.0/24 64496
 expect 0 'invalid' route 192.0.2.0/24 none --vrps=vrps.json
 expect 0 'not-found' route --vrps vrps.json 198.51.100.0/24 64496
 expect 1 'refused word' route --vrps nothing.json 192.0.2.1/24 64496
-printf '\x30\x17\x02\x03\x00\xfb\xf0\x30\x10\x30\x0e\x04\x02\x00\x01\x30\x08\x30\x06\x03\x04\x00\xc0\x00\x02' >payload.der
-expect 0 '192.0.2.0/24 24 64496
-notes 0' roa payload.der
-expect 1 'refused 1 at 0' roa /dev/null
-printf '\x30\x5e\x02\x01\x01\x18\x0f20250101000000Z\x18\x0f20250102000000Z\x06\x09\x60\x86\x48\x01\x65\x03\x04\x02\x01' >manifest.der
-printf '\x30\x2c\x30\x2a\x16\x05a.roa\x03\x21\x00\xda\x32\xbf\xbe\x0d\x8e\xea\x0f\x5d\x3b\x56\x02\x3c\x55\xd1\xc2' >>manifest.der
-printf '\x3a\xa9\x1d\xf5\x02\x33\xf8\x9c\x32\x50\x86\xb2\xb2\x06\xd5\xa2' >>manifest.der
-expect 0 'number 01
+
+# The blocks of README's commands, as a shell runs them that is no bash.
+sed -n '/^### The commands/,/^Status 0/p' "$top/README.md" | awk '/^```sh$/ { on = 1; next } /^```$/ { on = 0 } on' >commands.sh
+ln -s "$top/run" run
+sh -e commands.sh >told 2>errors || exit 1
+cat >wanted <<'END'
+192.0.2.0/24 24 64496
+notes 0
+number 01
 this 20250101000000Z
 next 20250102000000Z
-da32bfbe0d8eea0f5d3b56023c55d1c23aa91df50233f89c325086b2b206d5a2 a.roa' manifest manifest.der
-mkdir -p point/objects point/contents
-cp manifest.der point
-cp payload.der point/objects/a.roa
-cp payload.der point/contents/a.roa
-expect 0 '[{"asn":64496,"maxLength":24,"prefix":"192.0.2.0/24"}]' payloads --now 20250101000000Z point
+da32bfbe0d8eea0f5d3b56023c55d1c23aa91df50233f89c325086b2b206d5a2 a.roa
+[{"asn":64496,"maxLength":24,"prefix":"192.0.2.0/24"}]
+valid
+invalid
+END
+cmp -s told wanted || { diff told wanted >&2; exit 1; }
 grep -q '^point new$' errors || exit 1
+expect 1 'refused 1 at 0' roa /dev/null
 expect 1 '[]' payloads --now 20250102000001Z point
 grep -q '^point refused 3$' errors || exit 1
+expect 1 'refused 7 at 0' answer --session 4660 --serial 5 --vrps vrps.json 01020000000000
+expect 1 'refused hex' answer --session 4660 --serial 5 --vrps vrps.json 010
