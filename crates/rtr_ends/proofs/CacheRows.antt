@@ -70,16 +70,21 @@ unfolding conn_takes conn_byte conn_notified judge as_read
 notified_meanwhile = refl
 
 -- Want of memory where an answer takes memory, and where none does
-wants_memory : taken with_v (Some 0) reset_bytes ≡ record {
+wants_memory : taken with_v (Some 0) (sent (SerialQuery 0x1234 5)) ≡ record {
   machine = record {
     conn = record { state = record { cache = with_v; agreed = true; ended = true; due = sent (report 1 []); notified = false }; held = [] };
-    moments = Wanting with_v ResetQuery reset_bytes ∷ [];
+    moments = Wanting with_v (SerialQuery 0x1234 5) (sent (SerialQuery 0x1234 5)) ∷ [];
     wanting = None;
   };
   rest = [];
 }
 unfolding conn_takes conn_byte judge as_read
 wants_memory = refl
+
+-- A Reset Query takes none.
+reset_takes_none : (taken with_v (Some 0) reset_bytes).machine.conn ≡ answering (response_bytes ++ v_bytes ++ end_bytes 5)
+unfolding conn_takes conn_byte judge as_read
+reset_takes_none = ap (λ vs. answering (sent_all (with_all_of 5 (set_of (v ∷ [])) vs))) (listing-set_of (v ∷ []) v_ascends)
 
 takes_none : (taken with_v (Some 0) (sent (SerialQuery 0x2222 5))).machine.conn ≡ record {
   state = record { cache = with_v; agreed = true; ended = true; due = sent (report 0 (sent (SerialQuery 0x2222 5))); notified = false };

@@ -25,10 +25,10 @@ module _ {M : Type 0} (stops : M → Bool) (step : M → ℕ → M) where
   by_stop m b bytes s = elim s [ true ↦ record { machine = m; rest = b ∷ bytes } | false ↦ feed stops step (step m b) bytes ]
 
   -- it is left where the machine stops
-  stopped : (m : M) (b : ℕ) (bytes : List ℕ) → stops m ≡ true → feed stops step m (b ∷ bytes) ≡ record { machine = m; rest = b ∷ bytes }
+  pub stopped : (m : M) (b : ℕ) (bytes : List ℕ) → stops m ≡ true → feed stops step m (b ∷ bytes) ≡ record { machine = m; rest = b ∷ bytes }
   stopped m b bytes h = ap (by_stop m b bytes) h
 
-  goes_on : (m : M) (b : ℕ) (bytes : List ℕ) → stops m ≡ false → feed stops step m (b ∷ bytes) ≡ feed stops step (step m b) bytes
+  pub goes_on : (m : M) (b : ℕ) (bytes : List ℕ) → stops m ≡ false → feed stops step m (b ∷ bytes) ≡ feed stops step (step m b) bytes
   goes_on m b bytes h = ap (by_stop m b bytes) h
 
   takes_none : (m : M) (piece : List ℕ) → (0 < length piece → stops m ≡ true) → IsTaken stops step m piece [] (record { machine = m; rest = piece })

@@ -20,6 +20,11 @@ pub data Moment : Type 0 where
   Notify : (cache : Instance) → Moment
   Pull : (count : ℕ) → Moment
 
+-- memory was wanting at it
+abbrev pub is_wanting : Moment → Bool
+is_wanting (Wanting cache unit bytes) = true
+is_wanting m = false
+
 -- The bytes that came by it
 abbrev pub bytes_of : Moment → List ℕ
 bytes_of (Read cache unit bytes) = bytes
@@ -76,9 +81,9 @@ replies keep t moments = sent_all (replies_from keep t false moments)
 abbrev pub is_published : Instance → Bool
 is_published i = not (length i.sets == 0)
 
--- The units whose answers may take memory: queries that are answered from what is published. Reports and notifies take none.
+-- The units whose answers may take memory: Serial Queries that are answered from what is published, where two sets are
+-- compared. All else is ready.
 abbrev pub takes_memory : Instance → Unit → Bool
-takes_memory i ResetQuery = is_published i
 takes_memory i (SerialQuery session serial) = session == i.session && is_published i
 takes_memory i u = false
 

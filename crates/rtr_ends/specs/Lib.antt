@@ -1,10 +1,13 @@
 pub mod Answer
 pub mod Cache
+pub mod CacheState
 pub mod Commit
 pub mod Connection
 pub mod Consumed
 pub mod Cursor
 pub mod Feeding
+pub mod Peer
 pub mod Router
+pub mod Sender
 pub mod Timing
 pub mod Transcript

@@ -1,10 +1,14 @@
 //! Laws of the definitions. These functions do nothing: their contracts are the laws.
 ghost use Rattle.rtr_ends.specs.Cache.{ConnStops, ConnTakes, ServesHistory};
+ghost use Rattle.rtr_ends.specs.CacheState.{AllHaveRoom, CacheState, EachIsServed, ShowsCache};
 ghost use Rattle.rtr_ends.specs.Commit.{ChangeCommits, OneCommit};
 ghost use Rattle.rtr_ends.specs.Connection.{HistorySplits, PulledAreReplies};
 ghost use Rattle.rtr_ends.specs.Consumed.{RouterSplits};
 ghost use Rattle.rtr_ends.specs.Router.{RouterAsks, RouterKeeps, RouterStops, RouterTakes};
 ghost use Rattle.rtr_ends.specs.Transcript.{ActsExactly};
+
+use crate::cache::Cache;
+use vrps::VersionStore;
 
 /// The change between two sets, listed, commits from the first to the second.
 pub fn change_commits()
@@ -67,4 +71,15 @@ pub fn router_keeps()
 /// all where nothing is, where a record acted wrongly since, or after a Cache Reset; and so is the one that it would choose now.
 pub fn router_asks()
     ensures { RouterAsks }
+{}
+
+/// What is called on a cache, in any order and on any number of connections, makes the history of each of them, since it was opened.
+pub fn each_is_served()
+    ensures { EachIsServed }
+{}
+
+/// After every call on a cache each of its connections holds at most 4,096 bytes that came and are not yet a whole unit, and at most
+/// 4,096 that are ready to be pulled: so it is with each cache that shows a state of the machine, as each call leaves it.
+pub fn each_has_room<S: VersionStore>(cache: &Cache<S>)
+    ensures { (m : CacheState) → ShowsCache S.holds m cache.now → AllHaveRoom cache.now }
 {}

@@ -54,6 +54,14 @@ module _ (version : ℕ) where
   pub some_sent : (u : Unit) → unit_bytes version u ≡ [] → ⊥
   some_sent u e = let h : [] ≡ version ∷ drop 1 (unit_bytes version u) = sym e ∙ begins_with u zeros in cc
 
+  -- A unit has at most 4,096 bytes.
+  pub sent_most : (u : Unit) → IsUnit u → length (unit_bytes version u) ≤ 4096
+  sent_most u fits =
+      let o = opens version u zeros [] fits in
+      let whole : spelled version u zeros ++ [] ≡ spelled version u zeros = append-nil (spelled version u zeros) in
+      let sized = header_sized version (spelled version u zeros ++ []) (omega (arith, ap length whole, o.eight)) o.fault in
+      omega (arith, sized.most, o.len)
+
   -- what stands before a byte of a unit is the beginning of one
   part_of : (u : Unit) (part rest : List ℕ) (b : ℕ) → IsUnit u → part ++ b ∷ rest ≡ unit_bytes version u → IsPartial version part
   part_of u part rest b fits e =

@@ -15,4 +15,4 @@ pub use device::{ReadFault, WriteFailed, read_unit, write_unit};
 pub use reader::UnitReader;
 pub use stream::read_all;
 pub use unit::{ErrorReport, Next, RouterKey, Unit, UnitFault};
-pub use writing::{UnitBuffer, encode};
+pub use writing::{UnitBuffer, encode, encode_prefix};

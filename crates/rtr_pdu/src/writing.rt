@@ -78,7 +78,8 @@ fn put_record(
     put_number(buffer, asn);
 }
 
-fn put_prefix(announce: bool, vrp: &Vrp, buffer: &mut ArrayVec<u8, 4096>)
+/// Writes a Prefix of version 1 (RFC 8210 sections 5.6 and 5.7), as `encode` does, and makes no `Unit` of it.
+pub fn encode_prefix(announce: bool, vrp: &Vrp, buffer: &mut ArrayVec<u8, 4096>)
     ensures bytes { buffer.new.items ≡ unit_bytes 1 (Unit.Prefix announce vrp.now) }
     ensures unit { IsUnit (Unit.Prefix announce vrp.now) }
 {
@@ -147,7 +148,7 @@ pub fn encode(unit: &Unit, buffer: &mut ArrayVec<u8, 4096>)
         Unit::SerialQuery { session, serial } => put_serial(1, *session, *serial, buffer),
         Unit::ResetQuery => put_header(buffer, 2, 0, 8),
         Unit::CacheResponse { session } => put_header(buffer, 3, *session, 8),
-        Unit::Prefix { announce, vrp } => put_prefix(*announce, vrp, buffer),
+        Unit::Prefix { announce, vrp } => encode_prefix(*announce, vrp, buffer),
         Unit::EndOfData {
             session,
             serial,

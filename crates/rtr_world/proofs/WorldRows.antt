@@ -261,19 +261,19 @@ publishes_nothing = refl
 names_nothing : named (later (empty ∷ []) ∷ with_v ∷ []) 0x2222 9 ≡ Some empty
 names_nothing = refl
 
--- Memory can be wanting at the query, when its last byte is there, and at no unit after it.
+-- Memory can be wanting at a Serial Query, when its last byte is there, and at no unit after it.
 abbrev query_side : Side
-query_side = open_side asking (new_conn with_v) reset_bytes []
+query_side = open_side asking (new_conn with_v) (0x01 ∷ 0x01 ∷ 0x12 ∷ 0x34 ∷ 0 ∷ 0 ∷ 0 ∷ 0x0c ∷ 0 ∷ 0 ∷ 0 ∷ 0x05 ∷ []) []
 
-wants_memory : wants_at (world query_side) (CacheGets 8) 8 0 (Some query_side) ≡ true
+wants_memory : wants_at (world query_side) (CacheGets 12) 12 0 (Some query_side) ≡ true
 unfolding conn_takes conn_byte judge as_read
 wants_memory = refl
 
-too_early : wants_at (world query_side) (CacheGets 7) 7 0 (Some query_side) ≡ false
+too_early : wants_at (world query_side) (CacheGets 11) 11 0 (Some query_side) ≡ false
 unfolding conn_takes conn_byte judge as_read
 too_early = refl
 
-no_such_unit : wants_at (world query_side) (CacheGets 8) 8 1 (Some query_side) ≡ false
+no_such_unit : wants_at (world query_side) (CacheGets 12) 12 1 (Some query_side) ≡ false
 unfolding conn_takes conn_byte judge as_read
 no_such_unit = refl
 
@@ -281,7 +281,7 @@ no_such_unit = refl
 abbrev internal_error : List ℕ
 internal_error = 0x01 ∷ 0x0a ∷ 0x00 ∷ 0x01 ∷ 0 ∷ 0 ∷ 0 ∷ 0x10 ∷ 0 ∷ 0 ∷ 0 ∷ 0 ∷ 0 ∷ 0 ∷ 0 ∷ 0 ∷ []
 
-memory_wanted : after (On 0 (CacheGets 8)) (Done (Some 0)) (world query_side)
+memory_wanted : after (On 0 (CacheGets 12)) (Done (Some 0)) (world query_side)
     ≡ world (open_side asking (record { state = record { cache = with_v; agreed = true; ended = true; due = internal_error; notified = false }; held = [] }) [] [])
 unfolding goes_through settled settle side_step cache_gets conn_takes conn_byte judge as_read
 memory_wanted = refl

@@ -5,7 +5,7 @@ use Rattle.vrps.specs.Instance.{Instance, versions}
 use Rattle.vrps.specs.Store.{is_current}
 use Rattle.vrps.specs.VrpSet.{IsVrpSet}
 use Rattle.rtr_ends.specs.Cache.{Conn, conn_takes}
-use Rattle.rtr_ends.specs.Connection.{Moment, Wanting}
+use Rattle.rtr_ends.specs.Connection.{is_wanting}
 use Rattle.rtr_ends.specs.Router.{is_closed, receives}
 use Rattle.rtr_ends.specs.Transcript.{Committed, Item, Lacks}
 use Rattle.rtr_world.specs.Place.{position_of}
@@ -98,11 +98,7 @@ most_of (CacheSends most) = most
 most_of (RouterGets most) = most
 most_of event = 0
 
--- memory was wanting at this moment of a connection, or at this item of a transcript
-abbrev pub is_wanting : Moment → Bool
-is_wanting (Wanting cache unit bytes) = true
-is_wanting m = false
-
+-- memory was wanting at this item of a transcript
 abbrev pub is_lacking : Item → Bool
 is_lacking (Lacks unit) = true
 is_lacking item = false

@@ -1,0 +1,119 @@
+-- Each connection of a cache makes its history.
+use Rattle.std.specs.Prelude.{◌≡◌, ℕ, ◌==◌, Bool, true, false, List, [], ◌∷◌, Option, Some, None, IfSome, option_map, if◌then◌else◌, refl}
+use Rattle.std.proofs.Common.{sym, ap, ◌∙◌, subst}
+use Rattle.std.specs.List.{AllByRecursion}
+use Rattle.vrps.specs.Instance.{Instance, IsInstance}
+use Rattle.vrps.specs.Store.{published}
+use Rattle.vrps.proofs.VersionLaws.{published_is_instance}
+use Rattle.rtr_ends.specs.Cache.{CacheCall, Conn, Gives, IsCacheCall, IsServed, Notifies, Publishes, Takes, conn_notified, conn_pulled, conn_takes, new_conn, serve, serving}
+use Rattle.rtr_ends.specs.CacheState.{Call, CacheState, Close, EachIsServed, Pull, IsCall, IsLife, Life, Open, Publish, Receive, Notify, called, life, life_after, ran, serves, without_conns}
+use Rattle.rtr_ends.specs.Timing.{Intervals}
+use Rattle.rtr_ends.proofs.CacheStateLaws.{eq_of}
+use Rattle.rtr_ends.proofs.ServingLaws.{serves_history}
+
+-- what a connection is, by its own calls
+record Stands (keep : ℕ) (t : Intervals) (i : Instance) (x : Life) : Type 0 where
+  pub calls : List CacheCall
+  pub is : x.serving ≡ serving keep t x.opened calls
+  pub opened : IsInstance x.opened
+  pub each : AllByRecursion IsCacheCall calls
+  pub now : x.serving.cache ≡ i
+
+abbrev AllStand : ℕ → Intervals → Instance → Option Life → Type 0
+AllStand keep t i l = IfSome l (Stands keep t i)
+
+-- the state and the life under a number
+record Agrees (keep : ℕ) (t : Intervals) (i : Instance) (a : Option Conn) (l : Option Life) : Type 0 where
+  pub same : a ≡ option_map (λ (x : Life). x.serving.conn) l
+  pub stands : AllStand keep t i l
+
+module _ (keep : ℕ) (t : Intervals) (i : Instance) where
+  -- one call more of a connection's own
+  more : (call : CacheCall) (j : Instance) (x : Life) → IsCacheCall call → (serve keep t call x.serving).cache ≡ j → Stands keep t i x → Stands keep t j (serves keep t call x)
+  more call j x fits now s = record { calls = call ∷ s.calls; is = ap (serve keep t call) s.is; opened = s.opened; each = (fits, s.each); now = now }
+
+  -- one call on the connection
+  own : (call : CacheCall) (F : Conn → Conn) (a : Option Conn) (l : Option Life) → IsCacheCall call → ((x : Life) → x.serving.cache ≡ i → ((serve keep t call x.serving).conn ≡ F x.serving.conn) × ((serve keep t call x.serving).cache ≡ i))
+      → a ≡ option_map (λ (x : Life). x.serving.conn) l → AllStand keep t i l → (option_map F a ≡ option_map (λ (x : Life). x.serving.conn) (option_map (serves keep t call) l)) × AllStand keep t i (option_map (serves keep t call) l)
+  own call F a None fits acts same stands = (ap (option_map F) same, stands)
+  own call F a (Some x) fits acts same stands = (ap (option_map F) same ∙ ap Some (sym (acts x stands.now).0), more call i x fits (acts x stands.now).1 stands)
+
+-- A call keeps that.
+keeps : (call : Call) (m : CacheState) (c : ℕ) (l : Option Life) → IsInstance m.cache → IsCall call → Agrees m.keep m.timing m.cache (m.at c) l → Agrees m.keep m.timing (called call m).cache ((called call m).at c) (life_after call m c l)
+keeps (Publish set) m c None is fits h = record { same = h.same; stands = h.stands }
+keeps (Publish set) m c (Some x) is fits h =
+    record { same = h.same; stands = more m.keep m.timing m.cache (Publishes set) (published set m.cache) x fits (ap (published set) h.stands.now) h.stands }
+keeps (Open d) m c l is fits h = by_test (c == d)
+  where
+    by_test : (b : Bool) → Agrees m.keep m.timing m.cache (if b then Some (new_conn m.cache) else m.at c) (if b then Some (record { opened = m.cache; serving = serving m.keep m.timing m.cache [] }) else l)
+    by_test true = record { same = refl; stands = record { calls = []; is = refl; opened = is; each = tt; now = refl } }
+    by_test false = record { same = h.same; stands = h.stands }
+keeps (Close d) m c l is fits h = by_test (c == d)
+  where
+    by_test : (b : Bool) → Agrees m.keep m.timing m.cache (if b then None else m.at c) (if b then None else l)
+    by_test true = record { same = refl; stands = tt }
+    by_test false = record { same = h.same; stands = h.stands }
+keeps (Receive d wanting piece) m c l is fits h = by_test (c == d) refl
+  where
+    by_test : (b : Bool) → (c == d) ≡ b
+        → Agrees m.keep m.timing m.cache (if b then option_map (λ o. (conn_takes m.keep m.timing m.cache wanting piece o).machine.conn) (m.at d) else m.at c) (if b then option_map (serves m.keep m.timing (Takes wanting piece)) l else l)
+    by_test true e =
+        let k = own m.keep m.timing m.cache (Takes wanting piece) (λ o. (conn_takes m.keep m.timing m.cache wanting piece o).machine.conn) (m.at d) l fits
+        (λ x now. (ap (λ j. (conn_takes m.keep m.timing j wanting piece x.serving.conn).machine.conn) now, now)) (ap m.at (sym (eq_of c d e)) ∙ h.same) h.stands in
+        record { same = k.0; stands = k.1 }
+    by_test false e = record { same = h.same; stands = h.stands }
+keeps (Pull d most) m c l is fits h = by_test (c == d) refl
+  where
+    by_test : (b : Bool) → (c == d) ≡ b → Agrees m.keep m.timing m.cache (if b then option_map (conn_pulled m.keep m.timing most) (m.at d) else m.at c) (if b then option_map (serves m.keep m.timing (Gives most)) l else l)
+    by_test true e =
+        let k = own m.keep m.timing m.cache (Gives most) (conn_pulled m.keep m.timing most) (m.at d) l tt (λ x now. (refl, now)) (ap m.at (sym (eq_of c d e)) ∙ h.same) h.stands in
+        record { same = k.0; stands = k.1 }
+    by_test false e = record { same = h.same; stands = h.stands }
+keeps (Notify d) m c l is fits h = by_test (c == d) refl
+  where
+    by_test : (b : Bool) → (c == d) ≡ b → Agrees m.keep m.timing m.cache (if b then option_map (conn_notified m.keep m.timing m.cache) (m.at d) else m.at c) (if b then option_map (serves m.keep m.timing Notifies) l else l)
+    by_test true e =
+        let k = own m.keep m.timing m.cache Notifies (conn_notified m.keep m.timing m.cache) (m.at d) l tt (λ x now. (ap (λ j. conn_notified m.keep m.timing j x.serving.conn) now, now)) (ap m.at (sym (eq_of c d e)) ∙ h.same) h.stands in
+        record { same = k.0; stands = k.1 }
+    by_test false e = record { same = h.same; stands = h.stands }
+
+instance_kept : (call : Call) (m : CacheState) → IsInstance m.cache → IsCall call → IsInstance (called call m).cache
+instance_kept (Publish set) m is fits = published_is_instance set m.cache fits is
+instance_kept (Open c) m is fits = is
+instance_kept (Close c) m is fits = is
+instance_kept (Receive c wanting piece) m is fits = is
+instance_kept (Pull c most) m is fits = is
+instance_kept (Notify c) m is fits = is
+
+-- no call changes how many versions are kept, and the intervals
+same_rest : (call : Call) (m : CacheState) → ((called call m).keep ≡ m.keep) × ((called call m).timing ≡ m.timing)
+same_rest (Publish set) m = (refl, refl)
+same_rest (Open c) m = (refl, refl)
+same_rest (Close c) m = (refl, refl)
+same_rest (Receive c wanting piece) m = (refl, refl)
+same_rest (Pull c most) m = (refl, refl)
+same_rest (Notify c) m = (refl, refl)
+
+all_agree : (calls : List Call) (m : CacheState) → IsInstance m.cache → ((c : ℕ) → m.at c ≡ None) → AllByRecursion IsCall calls
+    → IsInstance (ran calls m).cache × ((c : ℕ) → Agrees (ran calls m).keep (ran calls m).timing (ran calls m).cache ((ran calls m).at c) (life calls m c))
+all_agree [] m is none all = (is, λ c. record { same = none c; stands = tt })
+all_agree (call ∷ calls) m is none all =
+    let before = all_agree calls m is none all.1 in
+    let rest = same_rest call (ran calls m) in (
+      instance_kept call (ran calls m) before.0 all.0,
+      λ c. subst (λ k. Agrees k (called call (ran calls m)).timing (called call (ran calls m)).cache ((called call (ran calls m)).at c) (life (call ∷ calls) m c)) (sym rest.0)
+          (subst (λ t. Agrees (ran calls m).keep t (called call (ran calls m)).cache ((called call (ran calls m)).at c) (life (call ∷ calls) m c)) (sym rest.1) (keeps call (ran calls m) c (life calls m c) before.0 all.0 (before.1 c))),
+    )
+
+is_line : (keep : ℕ) (t : Intervals) (i : Instance) (a : Option Conn) (l : Option Life) → Agrees keep t i a l → IsLife keep t i a l
+is_line keep t i a None h = record { same = h.same; now = tt; served = tt }
+is_line keep t i a (Some x) h = record {
+  same = h.same;
+  now = h.stands.now;
+  served = subst (λ s. IsServed keep t x.opened s) (sym h.stands.is) (serves_history keep t x.opened h.stands.calls h.stands.opened h.stands.each);
+}
+
+-- Each connection makes its history.
+pub each_is_served : EachIsServed
+each_is_served keep t i calls is all c =
+    is_line _ _ _ _ _ ((all_agree calls (without_conns keep t i) is (λ d. refl) all).1 c)

@@ -1,0 +1,60 @@
+-- What a connection takes of a piece, unit by unit.
+use Rattle.std.specs.Prelude.{◌≡◌, ℕ, true, false, List, [], ◌++◌, Option, refl}
+use Rattle.std.proofs.Common.{sym, ap, ◌∙◌}
+use Rattle.std.proofs.lemmas.List.{append-nil}
+use Rattle.vrps.specs.Instance.{Instance}
+use Rattle.rtr_pdu.specs.Judging.{Faulty, Whole}
+use Rattle.rtr_pdu.specs.Reader.{IsFaulty, IsRead}
+use Rattle.rtr_pdu.specs.Stream.{as_read, IsPartial}
+use Rattle.rtr_pdu.specs.declared.unit.Unit.{Unit}
+use Rattle.rtr_pdu.specs.declared.unit.UnitFault.{UnitFault}
+use Rattle.rtr_ends.specs.Cache.{Conn, Taking, conn_byte, conn_stops, conn_takes, with_judged}
+use Rattle.rtr_ends.specs.Timing.{Intervals}
+use Rattle.rtr_ends.proofs.UnitByUnit.{ByteMachine, but_last, fault_taken, fed, more_taken, none_taken, unit_taken}
+
+module _ (keep : ℕ) (t : Intervals) (i : Instance) where
+  conn_machine : ByteMachine Taking
+  unfolding conn_byte
+  conn_machine = record {
+    stops = λ m. conn_stops m.conn;
+    step = conn_byte keep t i;
+    held = λ m. m.conn.held;
+    any = λ m. false;
+    holding = λ m bytes. record m { conn = record m.conn { held = bytes } };
+    judged = with_judged keep t i;
+    own = λ m. refl;
+    same_stop = λ m bytes. refl;
+    begun = λ m bytes more. refl;
+    byte = λ m bytes b. refl;
+  }
+
+  abbrev pub start : Conn → Option ℕ → Taking
+  start o wanting = record { conn = o; moments = []; wanting = wanting }
+
+  -- All of the beginning of a unit is held,
+  pub takes_more : (o : Conn) (wanting : Option ℕ) (piece : List ℕ) → conn_stops o ≡ false → IsPartial 1 (as_read 1 false (o.held ++ piece))
+      → conn_takes keep t i wanting piece o ≡ record { machine = start (record o { held = o.held ++ piece }) wanting; rest = [] }
+  unfolding conn_takes conn_machine
+  takes_more o wanting piece runs part =
+      ap (fed conn_machine (start o wanting)) (sym (append-nil piece)) ∙ more_taken conn_machine (start o wanting) runs piece [] part
+
+  -- or a unit is taken, and the connection stops behind it,
+  pub takes_unit : (o : Conn) (wanting : Option ℕ) (next : Taking) (taken rest : List ℕ) (u : Unit) → conn_stops o ≡ false → IsPartial 1 (as_read 1 false o.held) → IsRead false (o.held ++ taken) u
+      → ((held : List ℕ) → with_judged keep t i (start (record o { held = held }) wanting) (o.held ++ taken) (Whole u) ≡ next) → conn_stops next.conn ≡ true → conn_takes keep t i wanting (taken ++ rest) o ≡ record { machine = next; rest = rest }
+  unfolding conn_takes conn_machine
+  takes_unit o wanting next taken rest u runs part read after stop =
+      unit_taken conn_machine (start o wanting) runs taken rest u part read
+      ∙ ap (λ m. fed conn_machine m rest) (after (o.held ++ but_last taken)) ∙ none_taken conn_machine next rest stop
+
+  -- or bytes that show a fault are,
+  pub takes_fault : (o : Conn) (wanting : Option ℕ) (next : Taking) (taken rest : List ℕ) (fault : UnitFault) → conn_stops o ≡ false → IsPartial 1 (as_read 1 false o.held) → IsFaulty false (o.held ++ taken) fault
+      → ((held : List ℕ) → with_judged keep t i (start (record o { held = held }) wanting) (o.held ++ taken) (Faulty fault) ≡ next) → conn_stops next.conn ≡ true → conn_takes keep t i wanting (taken ++ rest) o ≡ record { machine = next; rest = rest }
+  unfolding conn_takes conn_machine
+  takes_fault o wanting next taken rest fault runs part faulty after stop =
+      fault_taken conn_machine (start o wanting) runs taken rest fault part faulty
+      ∙ ap (λ m. fed conn_machine m rest) (after (o.held ++ but_last taken)) ∙ none_taken conn_machine next rest stop
+
+  -- or nothing is.
+  pub takes_none : (o : Conn) (wanting : Option ℕ) (piece : List ℕ) → conn_stops o ≡ true → conn_takes keep t i wanting piece o ≡ record { machine = start o wanting; rest = piece }
+  unfolding conn_takes conn_machine
+  takes_none o wanting piece stop = none_taken conn_machine (start o wanting) piece stop

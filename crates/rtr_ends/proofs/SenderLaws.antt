@@ -1,0 +1,347 @@
+-- What is due of an answer under way.
+use Rattle.std.specs.Prelude.{◌≡◌, Bool, true, false, ℕ, ◌+◌, ◌-◌, ◌<◌, ◌≤◌, not, List, [], ◌∷◌, ◌++◌, length, take, drop, min, Option, Some, None, option_map, slice_get, get_or, refl}
+use Rattle.std.proofs.Common.{sym, ap, ◌∙◌, subst, arith, add-one, inl, inr, suc, zero}
+use Rattle.std.proofs.Math.Seq.{drop-cons, drop-append-add, take-add}
+use Rattle.std.specs.Option.{is_some}
+use Rattle.std.proofs.lemmas.List.{length-append, length-drop, length-take, drop_all, drop_min, drop-drop, length-map, take-append-drop, take-append-le, drop-append-le, take_at}
+use Rattle.std.proofs.lemmas.Slice.{take-put_mid, drop-put_mid}
+use borrow.Rule.Slice.PartMut.{put_mid}
+use Rattle.std.proofs.lemmas.Option.{slice_get-map, slice_get_within, slice_get_cases, get_or_from_slice_get, slice_get_read}
+use Rattle.prefixes.specs.Payload.{Payload}
+use Rattle.vrps.specs.Instance.{Version}
+use Rattle.vrps.specs.VrpSet.{VrpSet, listing}
+use Rattle.vrps.specs.declared.change.Change.{Change}
+use Rattle.vrps.specs.declared.serial.Serial.{Serial}
+use Rattle.rtr_pdu.specs.declared.unit.Unit.{Unit}
+use Rattle.rtr_pdu.specs.declared.unit.Unit.TheVariants.{CacheResponse, EndOfData, Prefix, ResetQuery}
+use Rattle.rtr_pdu.specs.Unit.{IsUnit}
+use Rattle.rtr_pdu.proofs.NextLaws.{sent_most, some_sent}
+use Rattle.rtr_ends.specs.Answer.{announcements, report, response, sent, sent_all, whole_answer, withdrawals}
+use Rattle.rtr_ends.specs.Cache.{is_none}
+use Rattle.rtr_ends.specs.Sender.{Begins, Gives, GivesFrom, Hands, Keeps, Sends, Stays, Writes, as_list, left_in, left, due_of, newest_in, newest_of, ready_in, serial_in, units_in, version_of}
+use Rattle.rtr_ends.specs.Timing.{Intervals}
+use Rattle.rtr_ends.specs.declared.sender.Records.{Records}
+use Rattle.rtr_ends.specs.declared.sender.Records.TheVariants.{Step, Whole}
+use Rattle.rtr_ends.specs.declared.sender.Sender.{Sender}
+use Rattle.rtr_ends.specs.declared.sender.Share.{Share}
+use Rattle.rtr_ends.specs.declared.sender.Cursor.{Cursor}
+
+-- nothing in front and nothing behind
+both_none : {X : Type 0} (xs ys : List X) → xs ++ ys ≡ [] → (xs ≡ []) × (ys ≡ [])
+both_none [] ys e = (refl, e)
+both_none (x ∷ xs) ys e = absurd (let h : x ∷ (xs ++ ys) ≡ [] = e in cc)
+
+-- units have bytes
+none_sent : (units : List Unit) → sent_all units ≡ [] → units ≡ []
+none_sent [] e = refl
+none_sent (u ∷ units) e = absurd (some_sent 1 u (both_none (sent u) (sent_all units) e).0)
+
+-- Of a unit at most 4,096 bytes are ready.
+pub unit_ready : (s : Sender) (u : Unit) → IsUnit u → s.pulled ≡ 0 → s.buffer.items ≡ sent u → ready_in s ≤ 4096
+unfolding ready_in
+unit_ready s u fits start bytes = let is : drop s.pulled s.buffer.items ≡ sent u = λ i. drop (start i) (bytes i) in omega (arith, ap length is, sent_most 1 u fits)
+
+-- an answer under way has bytes
+some_left : (units : List Unit) (session serial : ℕ) (t : Intervals) → is_none (sent_all (units ++ EndOfData session serial t.refresh t.retry t.expire ∷ [])) ≡ false
+some_left [] session serial t = refl
+some_left (u ∷ units) session serial t = over (sent u) (sent_all (units ++ EndOfData session serial t.refresh t.retry t.expire ∷ [])) (some_left units session serial t)
+  where
+    over : (xs ys : List ℕ) → is_none ys ≡ false → is_none (xs ++ ys) ≡ false
+    over [] ys e = e
+    over (x ∷ xs) ys e = refl
+
+-- bytes are due of an answer under way
+due_left : (session : ℕ) (t : Intervals) (a : Option Cursor) → is_some a ≡ not (is_none (sent_all (left_in session t a)))
+due_left session t None = refl
+due_left session t (Some a) = ap not (sym (some_left (drop a.place (units_in a.records)) session (serial_in a.records) t))
+
+is_none-append : (xs ys : List ℕ) → 0 < length xs → is_none (xs ++ ys) ≡ false
+is_none-append [] ys h = absurd (omega (arith, h))
+is_none-append (x ∷ xs) ys h = refl
+
+pub due_some : (s : Sender) → s.pulled < length s.buffer.items → true ≡ not (is_none (due_of s))
+unfolding due_of
+due_some s h = ap not (sym (is_none-append (drop s.pulled s.buffer.items) (sent_all (left s)) (omega (arith, length-drop s.pulled s.buffer.items, h))))
+
+pub due_answer : (s : Sender) → length s.buffer.items ≤ s.pulled → is_some s.answer ≡ not (is_none (due_of s))
+unfolding due_of left
+due_answer s h = due_left s.session s.timing s.answer ∙ ap (λ x. not (is_none (x ++ sent_all (left_in s.session s.timing s.answer)))) (sym (drop_all s.pulled s.buffer.items h))
+
+-- nothing is due where no answer is under way
+pub none_due : (s : Sender) → due_of s ≡ [] → left_in s.session s.timing s.answer ≡ []
+unfolding due_of left
+none_due s e = none_sent (left s) (both_none (drop s.pulled s.buffer.items) (sent_all (left s)) e).1
+
+at_place : {X : Type 0} (xs : List X) (i : ℕ) (x : X) → slice_get xs i ≡ Some x → drop i xs ≡ x ∷ drop (i + 1) xs
+at_place xs i x e =
+    let is : get_or xs i x ≡ x = get_or_from_slice_get xs i x x e in
+    rw add-one (drop-cons xs i x (slice_get_within xs i x e) ∙ ap (λ y. y ∷ drop (suc i) xs) is)
+
+past_place : {X : Type 0} (xs : List X) (i : ℕ) → slice_get xs i ≡ None → drop i xs ≡ []
+past_place xs i e = elim (slice_get_cases xs i).1 [ inl found ↦ absurd (some_none (slice_get xs i) found.0 found.2 e) | inr past ↦ drop_all i xs past.0 ]
+  where
+    some_none : {X : Type 0} (o : Option X) (x : X) → o ≡ Some x → o ≡ None → ⊥
+    some_none o x a b = let h : ◌≡◌ {A = Option _} (Some x) None = sym a ∙ b in cc
+
+get_before : {X : Type 0} (xs ys : List X) (i : ℕ) → i < length xs → slice_get (xs ++ ys) i ≡ slice_get xs i
+get_before [] ys i h = absurd (omega (arith, h))
+get_before (x ∷ xs) ys zero h = refl
+get_before (x ∷ xs) ys (suc i) h = get_before xs ys i (omega (arith, h))
+
+-- the record at a place among the withdrawn
+pub withdrawn_at : (w a : VrpSet) (place : ℕ) (v : Payload) → place < length (listing w) → v ≡ get_or (listing w) place v → Some (Prefix false v) ≡ slice_get (withdrawals w ++ announcements a) place
+withdrawn_at w a place v h e =
+    let f : Payload → Unit = λ v. Prefix false v in
+    sym (get_before (withdrawals w) (announcements a) place (omega (arith, length-map (listing w) f, h)) ∙ slice_get-map f (listing w) place ∙ ap (option_map f) (slice_get_read (listing w) (length (listing w)) place v refl h e))
+
+pub ready_newest : (o : Option Share) → newest_in o None ≡ option_map version_of o
+ready_newest None = refl
+ready_newest (Some share) = refl
+
+newest_same : (ready : Option Share) (a b : Option Cursor) → newest_in None a ≡ newest_in None b → newest_in ready a ≡ newest_in ready b
+newest_same None a b e = e
+newest_same (Some share) a b e = refl
+
+pub hands_record : (s : Sender) (w : Cursor) (u : Unit) (new : Sender) → Some u ≡ slice_get (units_in w.records) w.place
+    → new.session ≡ s.session → new.timing ≡ s.timing → new.ready ≡ s.ready → new.pulled ≡ 0 → new.answer ≡ Some (record { records = w.records; place = w.place + 1 }) → new.buffer.items ≡ sent u → IsUnit u
+    → Hands (record s { answer = Some w }) new
+unfolding left newest_of
+hands_record s w u new at session timing ready pulled answer bytes fits =
+    let now : left_in new.session new.timing new.answer ≡ left_in s.session s.timing (Some (record { records = w.records; place = w.place + 1 })) =
+    λ i. left_in (session i) (timing i) (answer i) in
+    record {
+      first = u;
+      was = ap (λ x. x ++ EndOfData s.session (serial_in w.records) s.timing.refresh s.timing.retry s.timing.expire ∷ []) (at_place (units_in w.records) w.place u (sym at))
+          ∙ ap (λ x. u ∷ x) (sym now);
+      bytes = bytes;
+      pulled = pulled;
+      stays = record { session = session; timing = timing; newest = (λ i. newest_in (ready i) (answer i)) ∙ newest_same s.ready _ _ refl; room = λ before. unit_ready new u fits pulled bytes };
+    }
+
+-- what was written
+pub written : {B : Type 0} (o : Option Unit) (w : Bool) (old : B) (bytes : List ℕ) (new : B) → w ≡ true → Writes o w old bytes new → (u : Unit) × (Some u ≡ o) × (bytes ≡ sent u) × IsUnit u
+written None w old bytes new e h = absurd (let k : false ≡ true = sym h.0 ∙ e in cc)
+written (Some u) w old bytes new e h = (u, refl, h.1, h.2)
+
+pub hands_end : (s : Sender) (w : Cursor) (mid new : Sender) → None ≡ slice_get (units_in w.records) w.place
+    → mid.buffer.items ≡ sent (EndOfData s.session (serial_in w.records) s.timing.refresh s.timing.retry s.timing.expire)
+    → mid.session ≡ s.session → mid.timing ≡ s.timing → mid.ready ≡ s.ready → mid.pulled ≡ 0 → IsUnit (EndOfData s.session (serial_in w.records) s.timing.refresh s.timing.retry s.timing.expire) → Keeps mid w.records new → Hands (record s { answer = Some w }) new
+unfolding left newest_of
+hands_end s w mid new at bytes same_session same_timing same_ready pulled fits k =
+    let end : Unit = EndOfData s.session (serial_in w.records) s.timing.refresh s.timing.retry s.timing.expire in
+    let none : left_in new.session new.timing new.answer ≡ [] = ap (left_in new.session new.timing) k.answer in
+    record {
+      first = end;
+      was = ap (λ x. x ++ end ∷ []) (past_place (units_in w.records) w.place (sym at)) ∙ ap (λ x. end ∷ x) (sym none);
+      bytes = ap (λ b. b.items) k.buffer ∙ bytes;
+      pulled = k.pulled ∙ pulled;
+      stays = record {
+        session = k.session ∙ same_session;
+        timing = k.timing ∙ same_timing;
+        newest = ap (newest_in new.ready) k.answer ∙ k.ready ∙ ap (λ x. newest_in x (Some (record { records = w.records; place = 0 }))) same_ready ∙ newest_same s.ready _ _ refl;
+        room = λ before. unit_ready new end fits (k.pulled ∙ pulled) (ap (λ b. b.items) k.buffer ∙ bytes);
+      };
+    }
+
+pub gives_from : (s : Sender) (out back mid : List ℕ) (filled count len : ℕ) → filled ≤ length out → len ≡ length s.buffer.items → back ≡ drop (min s.pulled len) s.buffer.items → count ≡ min (length back) (length out - filled)
+    → mid ≡ take count back → GivesFrom s out filled (filled + count) (put_mid filled (filled + count - filled) out mid) (record s { pulled = len - (length back - count) })
+gives_from s out back mid filled count len low size is count_is mid_is =
+    let same : back ≡ drop s.pulled s.buffer.items = is ∙ ap (λ n. drop (min s.pulled n) s.buffer.items) size ∙ drop_min s.pulled s.buffer.items in
+    let given : length mid ≡ count = omega (arith, ap length mid_is, length-take count back, count_is) in
+    let place : len - (length back - count) ≡ min s.pulled len + count = omega (arith, ap length is, length-drop (min s.pulled len) s.buffer.items, size, count_is) in
+    record {
+      count = count;
+      count_is = count_is ∙ ap (λ x. min (length x) (length out - filled)) same;
+      result_is = refl;
+      now_is = sym (take-append-drop (filled + count) (put_mid filled (filled + count - filled) out mid))
+          ∙ (λ i. take-put_mid filled (filled + count - filled) out mid (filled + count) (omega (arith, given)) low i ++ drop-put_mid filled (filled + count - filled) out mid (filled + count) (omega arith) low (omega (arith, given)) i)
+          ∙ ap (λ x. take filled out ++ x ++ drop (filled + count) out) (mid_is ∙ ap (take count) same);
+      left = ap (λ n. drop n s.buffer.items) place ∙ sym (drop-drop count (min s.pulled len) s.buffer.items) ∙ ap (drop count) (sym is ∙ same);
+      session = refl;
+      timing = refl;
+      ready = refl;
+      answer = refl;
+    }
+
+-- Of an answer that is pulled, so many bytes are filled.
+pub record IsFilled (start : Sender) (given : List ℕ) (s : Sender) (out : List ℕ) (filled : ℕ) : Type 0 where
+  pub low : filled ≤ length out
+  pub within : filled ≤ length (due_of start)
+  pub now : out ≡ take filled (due_of start) ++ drop filled given
+  pub due : due_of s ≡ drop filled (due_of start)
+  pub stays : Stays start s
+
+pub none_filled : (s : Sender) (out : List ℕ) → IsFilled s out s out 0
+none_filled s out = record { low = omega arith; within = omega arith; now = refl; due = refl; stays = record { session = refl; timing = refl; newest = refl; room = λ before. before } }
+
+module _ (start : Sender) (given : List ℕ) (s : Sender) (out : List ℕ) (filled result : ℕ) (now : List ℕ) (new : Sender) (f : IsFilled start given s out filled) (g : GivesFrom s out filled result now new) where
+  -- what is left of the answer stays
+  pub left_stays : left new ≡ left s
+  unfolding left
+  left_stays = λ i. left_in (g.session i) (g.timing i) (g.answer i)
+
+  due_is : due_of s ≡ drop s.pulled s.buffer.items ++ sent_all (left s)
+  unfolding due_of
+  due_is = refl
+
+  due_now : due_of new ≡ drop new.pulled new.buffer.items ++ sent_all (left new)
+  unfolding due_of
+  due_now = refl
+
+  newest_stays : newest_of new ≡ newest_of s
+  unfolding newest_of
+  newest_stays = λ i. newest_in (g.ready i) (g.answer i)
+
+  room_stays : ready_in s ≤ 4096 → ready_in new ≤ 4096
+  unfolding ready_in
+  room_stays before = omega (arith, ap length g.left, length-drop g.count (drop s.pulled s.buffer.items), before)
+
+  abbrev back : List ℕ
+  back = drop s.pulled s.buffer.items
+
+  front : take g.count back ≡ take g.count (drop filled (due_of start))
+  front = sym (take-append-le g.count back (sent_all (left s)) (omega (arith, g.count_is))) ∙ ap (take g.count) (sym due_is ∙ f.due)
+
+  sizes : length (due_of s) ≡ length (due_of start) - filled
+  sizes = ap length f.due ∙ length-drop filled (due_of start)
+
+  pub gives_more : IsFilled start given new now result
+  gives_more =
+      let size : length (take filled (due_of start)) ≡ filled = omega (arith, length-take filled (due_of start), f.within) in
+      let first : take filled out ≡ take filled (due_of start) = ap (take filled) f.now ∙ take_at (take filled (due_of start)) (drop filled given) filled size in
+      let last : drop (filled + g.count) out ≡ drop (filled + g.count) given =
+      ap (drop (filled + g.count)) f.now ∙ ap (λ n. drop (n + g.count) (take filled (due_of start) ++ drop filled given)) (sym size)
+      ∙ drop-append-add (take filled (due_of start)) (drop filled given) g.count ∙ drop-drop g.count filled given in
+      let all : length (due_of s) ≡ length back + length (sent_all (left s)) = ap length due_is ∙ length-append back (sent_all (left s)) in
+      let is : now ≡ take (filled + g.count) (due_of start) ++ drop (filled + g.count) given =
+      g.now_is ∙ (λ i. first i ++ front i ++ last i) ∙ ap (λ x. x ++ drop (filled + g.count) given) (sym (take-add filled g.count (due_of start))) in
+      let back_due : due_of new ≡ drop g.count (due_of s) =
+      due_now ∙ (λ i. g.left i ++ sent_all (left_stays i)) ∙ sym (drop-append-le g.count back (sent_all (left s)) (omega (arith, g.count_is))) ∙ ap (drop g.count) (sym due_is) in
+      record {
+        low = omega (arith, g.result_is, g.count_is, f.low, ap length is, length-append (take (filled + g.count) (due_of start)) (drop (filled + g.count) given), length-take (filled + g.count) (due_of start), sizes, all, f.within);
+        within = omega (arith, g.result_is, g.count_is, f.within, sizes, all);
+        now = is ∙ ap (λ n. take n (due_of start) ++ drop n given) (sym g.result_is);
+        due = back_due ∙ ap (drop g.count) f.due ∙ drop-drop g.count filled (due_of start) ∙ ap (λ n. drop n (due_of start)) (sym g.result_is);
+        stays = record { session = g.session ∙ f.stays.session; timing = g.timing ∙ f.stays.timing; newest = newest_stays ∙ f.stays.newest; room = λ before. room_stays (f.stays.room before) };
+      }
+
+  -- where not all is filled, the buffer is empty
+  pub all_given : result < length out → drop new.pulled new.buffer.items ≡ []
+  all_given less = g.left ∙ drop_all g.count back (omega (arith, less, g.result_is, g.count_is))
+
+-- all is filled
+pub gives_all : (start : Sender) (given : List ℕ) (s : Sender) (out : List ℕ) (filled : ℕ) → length out ≡ length given → filled ≡ length out → IsFilled start given s out filled → Gives (due_of start) given filled out (due_of s)
+gives_all start given s out filled same full f = record { count_is = omega (arith, same, full, f.within); now_is = f.now; rest_is = f.due }
+
+-- nothing is left
+pub gives_rest : (start : Sender) (given : List ℕ) (s : Sender) (out : List ℕ) (filled : ℕ) → length out ≡ length given → due_of s ≡ [] → IsFilled start given s out filled → Gives (due_of start) given filled out (due_of s)
+gives_rest start given s out filled same none f = record {
+  count_is = omega (arith, same, f.within, f.low, ap length f.due, ap length none, length-drop filled (due_of start));
+  now_is = f.now;
+  rest_is = f.due;
+}
+
+-- no answer is under way
+pub without_answer : (s : Sender) (a : Option Cursor) → s.answer ≡ None → a ≡ None → record s { answer = a } ≡ s
+without_answer s a e f = λ i. record s { answer = (f ∙ sym e) i }
+
+pub rests : (s : Sender) → drop s.pulled s.buffer.items ≡ [] → s.answer ≡ None → due_of s ≡ []
+unfolding due_of left
+rests s none e = λ i. none i ++ sent_all (left_in s.session s.timing (e i))
+
+hands_due : (s new : Sender) → drop s.pulled s.buffer.items ≡ [] → Hands s new → due_of new ≡ due_of s
+unfolding due_of
+hands_due s new none h =
+    (λ i. drop (h.pulled i) (h.bytes i) ++ sent_all (left new)) ∙ ap sent_all (sym h.was) ∙ ap (λ x. x ++ sent_all (left s)) (sym none)
+
+-- the next unit
+pub hands_more : (start : Sender) (given : List ℕ) (s : Sender) (out : List ℕ) (filled : ℕ) (w : Cursor) (new : Sender) → s.answer ≡ Some w → drop s.pulled s.buffer.items ≡ [] → Hands (record s { answer = Some w }) new
+    → IsFilled start given s out filled → IsFilled start given new out filled
+hands_more start given s out filled w new e none h f =
+    let same : record s { answer = Some w } ≡ s = λ i. record s { answer = sym e i } in
+    record {
+      low = f.low;
+      within = f.within;
+      now = f.now;
+      due = hands_due (record s { answer = Some w }) new none h ∙ ap due_of same ∙ f.due;
+      stays = record {
+        session = h.stays.session ∙ f.stays.session;
+        timing = h.stays.timing ∙ f.stays.timing;
+        newest = h.stays.newest ∙ ap newest_of same ∙ f.stays.newest;
+        room = λ before. h.stays.room (subst (λ x. ready_in x ≤ 4096) (sym same) (f.stays.room before));
+      };
+    }
+
+pub hands_less : (s : Sender) (w : Cursor) (new : Sender) → s.answer ≡ Some w → Hands (record s { answer = Some w }) new → length (left new) < length (left s)
+hands_less s w new e h =
+    let same : record s { answer = Some w } ≡ s = λ i. record s { answer = sym e i } in
+    omega (arith, ap length (sym (ap left same) ∙ h.was))
+
+-- where nothing is due no answer is under way
+no_answer : (s : Sender) → due_of s ≡ [] → s.answer ≡ None
+no_answer s e = by_case s.answer (none_due s e)
+  where
+    some : (units : List Unit) (u : Unit) → units ++ u ∷ [] ≡ [] → ⊥
+    some units u e = let h : u ∷ [] ≡ [] = (both_none units (u ∷ []) e).1 in cc
+
+    by_case : (a : Option Cursor) → left_in s.session s.timing a ≡ [] → a ≡ None
+    by_case None h = refl
+    by_case (Some a) h = absurd (some (drop a.place (units_in a.records)) (EndOfData s.session (serial_in a.records) s.timing.refresh s.timing.retry s.timing.expire) h)
+
+pub newest_none : (s : Sender) → due_of s ≡ [] → s.ready ≡ None → newest_of s ≡ None
+unfolding newest_of
+newest_none s e h = λ i. newest_in (h i) (no_answer s e i)
+
+pub newest_ready : (s : Sender) (share : Share) → s.ready ≡ Some share → newest_of s ≡ Some (version_of share)
+unfolding newest_of
+newest_ready s share h = ap (λ r. newest_in r s.answer) h
+
+pub due_begins : (s : Sender) (session : ℕ) (t : Intervals) (records : Records) → s.session ≡ session → s.timing ≡ t → s.pulled ≡ 0 → s.buffer.items ≡ sent (CacheResponse session) → s.answer ≡ Some (record { records = records; place = 0 })
+    → due_of s ≡ sent_all (CacheResponse session ∷ units_in records ++ EndOfData session (serial_in records) t.refresh t.retry t.expire ∷ [])
+unfolding due_of left
+due_begins s session t records a b c d e = λ i. drop (c i) (d i) ++ sent_all (left_in (a i) (b i) (e i))
+
+-- another share that is ready, and the same bytes
+pub same_due : (s : Sender) (ready : Option Share) → due_of (record s { ready = ready }) ≡ due_of s
+unfolding due_of left
+same_due s ready = refl
+
+pub offers : (s : Sender) (ready : Option Share) (share : Share) → ready ≡ Some share → newest_of (record s { ready = ready }) ≡ Some (version_of share)
+unfolding newest_of
+offers s ready share e = ap (λ r. newest_in r s.answer) e
+
+-- an answer to a Reset Query, where nothing is published
+pub resets_none : (s new : Sender) (ready : Option Share) → due_of s ≡ [] → s.ready ≡ None → ready ≡ None → Sends (record s { ready = ready }) (report 2 (sent ResetQuery) ∷ []) new
+    → Sends s (whole_answer s.session s.timing (as_list (newest_of s))) new
+unfolding newest_of ready_in
+resets_none s new ready e h k sends = record {
+  due = sends.due ∙ ap (λ v. sent_all (whole_answer s.session s.timing (as_list v))) (sym (newest_none s e h));
+  stays = record { session = sends.stays.session; timing = sends.stays.timing; newest = sends.stays.newest ∙ ap (λ r. newest_in r s.answer) (k ∙ sym h); room = sends.stays.room };
+}
+
+-- and of a version
+pub resets_some : (s new : Sender) (share : Share) (ready : Option Share) → s.ready ≡ Some share → ready ≡ None → Begins (record s { ready = ready }) (Whole share) new
+    → Sends s (whole_answer s.session s.timing (as_list (newest_of s))) new
+unfolding newest_of
+resets_some s new share ready h k b = record {
+  due = b.due ∙ ap (λ v. sent_all (whole_answer s.session s.timing (as_list v))) (sym (newest_ready s share h));
+  stays = record { session = b.session; timing = b.timing; newest = (λ i. newest_in ((b.ready ∙ k) i) (b.answer i)) ∙ sym (newest_ready s share h); room = λ before. b.room };
+}
+
+pub steps : (s new : Sender) (serial : Serial) (change : Change) (v : Version) → due_of s ≡ [] → Some serial.0 ≡ option_map (λ (v : Version). v.serial) (newest_of s) → newest_of s ≡ Some v → Begins s (Step serial change) new
+    → Sends s (response s.session s.timing v (withdrawals change.withdraw ++ announcements change.announce)) new
+unfolding newest_of
+steps s new serial change v e same is b =
+    let serial_is : serial.0 ≡ v.serial = inside (same ∙ ap (option_map (λ (v : Version). v.serial)) is) in
+    record {
+      due = b.due ∙ ap (λ n. sent_all (CacheResponse s.session ∷ (withdrawals change.withdraw ++ announcements change.announce) ++ EndOfData s.session n s.timing.refresh s.timing.retry s.timing.expire ∷ [])) serial_is;
+      stays = record {
+        session = b.session;
+        timing = b.timing;
+        newest = (λ i. newest_in (b.ready i) (b.answer i)) ∙ newest_same s.ready (Some (record { records = Step serial change; place = 0 })) None refl ∙ ap (newest_in s.ready) (sym (no_answer s e));
+        room = λ before. b.room;
+      };
+    }
+  where
+    inside : {a b : ℕ} → Some a ≡ Some b → a ≡ b
+    inside h = cc

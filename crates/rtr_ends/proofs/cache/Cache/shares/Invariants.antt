@@ -1,0 +1,10 @@
+use Rattle.std.proofs.Common.{◌≡◌, length}
+use Rattle.std.specs.Prelude.{map}
+use Rattle.std.specs.List.{AllByRecursion}
+use Rattle.rtr_ends.proofs.cache.Cache.shares.Given as goal
+
+abbrev pub invariant-loop-number : goal.invariant-loop-number
+invariant-loop-number g l = record {
+  len : length l.shares.items ≡ l._number;
+  sets : AllByRecursion (λ s. s ≡ l.set.value) (map (λ share. share.value) l.shares.items);
+}

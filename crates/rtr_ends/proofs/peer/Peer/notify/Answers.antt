@@ -1,0 +1,18 @@
+use Rattle.std.proofs.Common.{◌∙◌, ap, sym, refl}
+use Rattle.std.specs.Prelude.{option_map}
+use Rattle.vrps.specs.declared.serial.Serial.{Serial}
+use Rattle.rtr_ends.proofs.PeerLaws.{stops_as, notified_stops, notified_none, notified_some}
+use Rattle.rtr_ends.proofs.peer.Peer.notify.Goals as goal
+
+pub returns-then-stops : goal.returns-then-stops
+returns-then-stops c = λ keep t i o shows.
+    notified_stops keep t i o c.args.self.now (sym (stops_as keep t i o c.args.self.now shows) ∙ sym c.stops.ensures ∙ c.if-stops.true) shows
+
+pub returns-in-None : goal.returns-in-None
+returns-in-None c = λ keep t i o shows.
+    notified_none keep t i o c.args.self.now (sym (ap (option_map (λ (s : Serial). s.0)) c.in-None.is) ∙ c.current.ensures) shows
+
+pub returns-in-Some : goal.returns-in-Some
+returns-in-Some c = λ keep t i o shows.
+    notified_some keep t i o c.args.self.now c.args.self.now.sender.session c.in-Some.serial.0 c.send.new.self (sym (stops_as keep t i o c.args.self.now shows) ∙ sym c.stops.ensures ∙ c.if-stops.false) refl
+    (sym (ap (option_map (λ (s : Serial). s.0)) c.in-Some.is) ∙ c.current.ensures) shows c.send.ensures

@@ -1,0 +1,11 @@
+use Rattle.std.proofs.Common.{◌≡◌, ◌∙◌, ap, arith, [], length, take}
+use Rattle.std.specs.Prelude.{min}
+use Rattle.std.proofs.lemmas.List.{take_min}
+use Rattle.rtr_pdu.specs.declared.unit.Unit.TheVariants.{ErrorReport}
+use Rattle.rtr_ends.proofs.sender.report.Goals as goal
+
+pub returns : goal.returns
+returns c =
+    let room : c.min-room.result ≡ min 4080 (length c.args.copy.now) = omega (arith, c.min-room.ensures) in
+    let copy : take c.min-room.result c.args.copy.now ≡ take 4080 c.args.copy.now = ap (λ n. take n c.args.copy.now) room ∙ take_min 4080 c.args.copy.now in
+    ap ErrorReport (c.new.ensures ∙ (λ i. record { code = c.args.code; copy = copy i; text = [] }))

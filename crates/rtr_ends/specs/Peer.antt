@@ -1,0 +1,97 @@
+-- A connection at the cache, as the machine of connections sees it.
+use Rattle.std.specs.Prelude.{◌≡◌, ℕ, ◌-◌, ◌≤◌, Bool, true, false, not, ◌&&◌, List, [], ◌∷◌, length, Option, Some, None, IfSome, if◌then◌else◌}
+use Rattle.std.specs.List.{list_any}
+use Rattle.vrps.specs.Instance.{Instance, versions}
+use Rattle.vrps.specs.Stores.{newest}
+use Rattle.rtr_pdu.specs.Reader.{fresh}
+use Rattle.rtr_pdu.specs.declared.unit.Unit.{Unit}
+use Rattle.rtr_pdu.specs.declared.unit.UnitFault.{UnitFault}
+use Rattle.rtr_ends.specs.Answer.{Reply, and_on, and_end, answer, report, sent_all, serial_answer}
+use Rattle.rtr_ends.specs.Cache.{Conn, conn_pulled, conn_takes}
+use Rattle.rtr_ends.specs.Connection.{fault_report, is_wanting, takes_memory}
+use Rattle.rtr_ends.specs.Sender.{Gives, KeepsRoom, Sends, Stays, due_of, newest_of, ready_in}
+use Rattle.rtr_ends.specs.Timing.{Intervals}
+use Rattle.rtr_ends.specs.declared.peer.Peer.{Peer}
+use Rattle.rtr_ends.specs.declared.sender.Sender.{Sender}
+
+-- What is sent is of this instance, and a share of its current version is ready.
+pub record Knows (t : Intervals) (i : Instance) (s : Sender) : Type 0 where
+  pub session : s.session ≡ i.session
+  pub timing : s.timing ≡ t
+  pub newest : newest_of s ≡ newest (versions i)
+
+-- The bytes that a connection holds: those received that are not yet a whole unit, and those ready to be pulled
+pub record Held : Type 0 where
+  pub received : ℕ
+  pub ready : ℕ
+
+abbrev pub held_by : Peer → Held
+held_by p = record { received = length p.reader.held; ready = ready_in p.sender }
+
+-- They are at most 4,096 each.
+pub record HasRoom (h : Held) : Type 0 where
+  pub received : h.received ≤ 4096
+  pub ready : h.ready ≤ 4096
+
+-- The machine's connection is shown by this one, at a cache with these intervals and this instance.
+pub record ShowsPeer (t : Intervals) (i : Instance) (o : Conn) (p : Peer) : Type 0 where
+  pub reader : p.reader ≡ record { held = o.held; any = false; later = false; fault = None }
+  pub agreed : p.agreed ≡ o.state.agreed
+  pub ended : p.ended ≡ o.state.ended
+  pub due : due_of p.sender ≡ o.state.due
+  pub knows : Knows t i p.sender
+  pub room : HasRoom (held_by p)
+
+-- These units are sent, and the connection ends.
+pub record Ends (old : Peer) (units : List Unit) (new : Peer) : Type 0 where
+  pub reader : new.reader ≡ old.reader
+  pub agreed : new.agreed ≡ old.agreed
+  pub ended : new.ended ≡ true
+  pub sends : Sends old.sender units new.sender
+
+-- This reply is sent.
+pub record Answers (t : Intervals) (i : Instance) (r : Reply) (agree : Bool) (old new : Peer) : Type 0 where
+  pub reader : new.reader ≡ old.reader
+  pub agreed : new.agreed ≡ agree
+  pub ended : new.ended ≡ not r.goes_on
+  pub due : due_of new.sender ≡ sent_all r.units
+  pub knows : Knows t i new.sender
+  pub room : KeepsRoom old.sender new.sender
+
+-- Want of memory is an Internal Error, and ends the connection.
+abbrev pub no_memory : Reply
+no_memory = and_end (report 1 [] ∷ [])
+
+abbrev pub since_reply : ℕ → Intervals → Instance → Bool → ℕ → Reply
+since_reply keep t i memory serial = if memory then and_on (serial_answer i.session keep t serial (versions i)) else no_memory
+
+abbrev pub read_reply : ℕ → Intervals → Instance → Bool → Unit → Reply
+read_reply keep t i memory u = if takes_memory i u && not memory then no_memory else answer i keep t u
+
+-- A fault is reported, where it is.
+pub record Fails (old : Peer) (fault : UnitFault) (new : Peer) : Type 0 where
+  pub reader : new.reader ≡ fresh false
+  pub agreed : new.agreed ≡ old.agreed
+  pub ended : new.ended ≡ true
+  pub due : due_of new.sender ≡ sent_all (fault_report old.agreed fault old.reader.held)
+  pub stays : Stays old.sender new.sender
+
+abbrev pub maybe : Option Unit → List Unit
+maybe None = []
+maybe (Some u) = u ∷ []
+
+-- Memory is wanting at this unit of a piece: the unit is read, and its answer takes memory.
+abbrev pub is_wanted : ℕ → Intervals → Instance → Conn → List ℕ → ℕ → Bool
+is_wanted keep t i o piece unit = list_any is_wanting (conn_takes keep t i (Some unit) piece o).machine.moments
+
+-- A piece is handed in. At one unit of it, if at any, memory is wanting.
+pub record Receives (keep : ℕ) (t : Intervals) (i : Instance) (o : Conn) (piece : List ℕ) (consumed : ℕ) (new : Peer) : Type 0 where
+  pub wanting : Option ℕ
+  pub wanted : IfSome wanting (λ unit. is_wanted keep t i o piece unit ≡ true)
+  pub shows : ShowsPeer t i (conn_takes keep t i wanting piece o).machine.conn new
+  pub consumed_is : consumed ≡ length piece - length (conn_takes keep t i wanting piece o).rest
+
+-- Bytes due are pulled.
+pub record Pulls (keep : ℕ) (t : Intervals) (i : Instance) (o : Conn) (out : List ℕ) (count : ℕ) (now : List ℕ) (new : Peer) : Type 0 where
+  pub gives : Gives o.state.due out count now (conn_pulled keep t (length out) o).state.due
+  pub shows : ShowsPeer t i (conn_pulled keep t (length out) o) new

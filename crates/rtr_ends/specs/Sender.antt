@@ -1,0 +1,122 @@
+-- What a connection at the cache has to send: the unit in its buffer, and what is left of an answer under way.
+use Rattle.std.specs.Prelude.{◌≡◌, Bool, true, false, ℕ, ◌+◌, ◌-◌, ◌≤◌, List, [], ◌∷◌, ◌++◌, length, take, drop, min, Option, Some, None}
+use Rattle.vrps.specs.Instance.{Version}
+use Rattle.rtr_pdu.specs.Unit.{IsUnit}
+use Rattle.rtr_pdu.specs.declared.unit.Unit.{Unit}
+use Rattle.rtr_pdu.specs.declared.unit.Unit.TheVariants.{CacheResponse, EndOfData}
+use Rattle.rtr_ends.specs.declared.sender.Records.{Records}
+use Rattle.rtr_ends.specs.declared.sender.Records.TheVariants.{Whole, Step}
+use Rattle.rtr_ends.specs.declared.sender.Sender.{Sender}
+use Rattle.rtr_ends.specs.declared.sender.Share.{Share}
+use Rattle.rtr_ends.specs.declared.sender.Cursor.{Cursor}
+use Rattle.rtr_ends.specs.Answer.{announcements, withdrawals, sent, sent_all}
+use Rattle.rtr_ends.specs.Timing.{Intervals}
+
+abbrev pub version_of : Share → Version
+version_of s = record { serial = s.serial.0; set = s.set.value }
+
+abbrev pub units_in : Records → List Unit
+units_in (Whole share) = announcements share.set.value
+units_in (Step serial change) = withdrawals change.withdraw ++ announcements change.announce
+
+abbrev pub serial_in : Records → ℕ
+serial_in (Whole share) = share.serial.0
+serial_in (Step serial change) = serial.0
+
+-- the units that are left of an answer
+abbrev pub left_in : ℕ → Intervals → Option Cursor → List Unit
+left_in session t None = []
+left_in session t (Some a) = drop a.place (units_in a.records) ++ EndOfData session (serial_in a.records) t.refresh t.retry t.expire ∷ []
+
+unfoldable pub left : Sender → List Unit
+left s = left_in s.session s.timing s.answer
+
+-- the bytes due
+unfoldable pub due_of : Sender → List ℕ
+due_of s = drop s.pulled s.buffer.items ++ sent_all (left s)
+
+-- how many bytes in the buffer are ready to be pulled
+unfoldable pub ready_in : Sender → ℕ
+ready_in s = length (drop s.pulled s.buffer.items)
+
+-- the version of which there is a share
+abbrev pub shared_in : Records → Option Version
+shared_in (Whole share) = Some (version_of share)
+shared_in (Step serial change) = None
+
+abbrev pub newest_in : Option Share → Option Cursor → Option Version
+newest_in (Some share) answer = Some (version_of share)
+newest_in None None = None
+newest_in None (Some a) = shared_in a.records
+
+unfoldable pub newest_of : Sender → Option Version
+newest_of s = newest_in s.ready s.answer
+
+-- Where no more was ready than a unit has, no more is.
+abbrev pub KeepsRoom : Sender → Sender → Type 0
+KeepsRoom old new = ready_in old ≤ 4096 → ready_in new ≤ 4096
+
+-- the rest stays
+pub record Stays (old new : Sender) : Type 0 where
+  pub session : new.session ≡ old.session
+  pub timing : new.timing ≡ old.timing
+  pub newest : newest_of new ≡ newest_of old
+  pub room : KeepsRoom old new
+
+-- these units are due
+pub record Sends (old : Sender) (units : List Unit) (new : Sender) : Type 0 where
+  pub due : due_of new ≡ sent_all units
+  pub stays : Stays old new
+
+-- Its Cache Response is due, and then the rest of the answer.
+pub record Begins (old : Sender) (records : Records) (new : Sender) : Type 0 where
+  pub session : new.session ≡ old.session
+  pub timing : new.timing ≡ old.timing
+  pub ready : new.ready ≡ old.ready
+  pub answer : new.answer ≡ Some (record { records = records; place = 0 })
+  pub due : due_of new ≡ sent_all (CacheResponse old.session ∷ units_in records ++ EndOfData old.session (serial_in records) old.timing.refresh old.timing.retry old.timing.expire ∷ [])
+  pub room : ready_in new ≤ 4096
+
+-- the records of an answer that has ended
+pub record Keeps (old : Sender) (records : Records) (new : Sender) : Type 0 where
+  pub session : new.session ≡ old.session
+  pub timing : new.timing ≡ old.timing
+  pub buffer : new.buffer ≡ old.buffer
+  pub pulled : new.pulled ≡ old.pulled
+  pub answer : new.answer ≡ None
+  pub ready : newest_in new.ready None ≡ newest_in old.ready (Some (record { records = records; place = 0 }))
+
+-- A unit is written into a buffer, which has these bytes then, where there is a unit.
+abbrev pub Writes : {B : Type 0} → Option Unit → Bool → B → List ℕ → B → Type 0
+Writes None written old bytes new = (written ≡ false) × (new ≡ old)
+Writes (Some u) written old bytes new = (written ≡ true) × (bytes ≡ sent u) × IsUnit u
+
+-- The first unit that was left stands in the buffer, and the others are left.
+pub record Hands (old new : Sender) : Type 0 where
+  pub first : Unit
+  pub was : left old ≡ first ∷ left new
+  pub bytes : new.buffer.items ≡ sent first
+  pub pulled : new.pulled ≡ 0
+  pub stays : Stays old new
+
+abbrev pub as_list : Option Version → List Version
+as_list None = []
+as_list (Some v) = v ∷ []
+
+-- bytes are pulled
+pub record Gives (due out : List ℕ) (count : ℕ) (now rest : List ℕ) : Type 0 where
+  pub count_is : count ≡ min (length out) (length due)
+  pub now_is : now ≡ take count due ++ drop count out
+  pub rest_is : rest ≡ drop count due
+
+-- bytes of the buffer are moved behind those that are filled
+pub record GivesFrom (old : Sender) (out : List ℕ) (filled result : ℕ) (now : List ℕ) (new : Sender) : Type 0 where
+  pub count : ℕ
+  pub count_is : count ≡ min (length (drop old.pulled old.buffer.items)) (length out - filled)
+  pub result_is : result ≡ filled + count
+  pub now_is : now ≡ take filled out ++ take count (drop old.pulled old.buffer.items) ++ drop (filled + count) out
+  pub left : drop new.pulled new.buffer.items ≡ drop count (drop old.pulled old.buffer.items)
+  pub session : new.session ≡ old.session
+  pub timing : new.timing ≡ old.timing
+  pub ready : new.ready ≡ old.ready
+  pub answer : new.answer ≡ old.answer

@@ -1,0 +1,243 @@
+//! The cache: many connections over one store of versions.
+ghost use Rattle.std.specs.Prelude.{◌≡◌, ℕ, ◌<◌, ◌≤◌, length, Option, IfOk, IsSome, map, option_map};
+ghost use Rattle.std.specs.List.{AllByRecursion};
+ghost use Rattle.vrps.specs.Instance.{Instance, versions};
+ghost use Rattle.vrps.specs.Store.{is_current};
+ghost use Rattle.vrps.specs.Stores.{Publishes, newest};
+ghost use Rattle.rtr_ends.specs.CacheState.{CacheState, GivesBytes, HandsOut, OffersAt, Opens, ShowsCache, TakesPiece, has_bytes_at, is_open_at, notified, notifies_at, peer_at, with_conn, without_conns};
+ghost use Rattle.rtr_ends.specs.Sender.{version_of};
+
+use crate::peer::Peer;
+use crate::sender::Share;
+use crate::timing::Timing;
+use std::alloc::{AllocError, Global};
+use std::rc::Rc;
+use vrps::{Published, Serial, VersionStore, VrpSet};
+
+/// The number of a connection at a cache. It has it until it is closed.
+#[derive(Clone, Copy, Debug, PartialEq, Eq)]
+pub struct Conn(usize);
+
+/// A cache (RFC 8210): it answers the queries of its routers from a store of versions. Each of its connections is a machine over
+/// bytes, and keeps a share of the current version ready. A call on a number that no connection has changes nothing.
+#[derive(Drop)]
+pub struct Cache<S> {
+    alloc: Global,
+    store: S,
+    timing: Timing,
+    /// The connections by their numbers.
+    peers: Vec<Option<Box<Peer>>>,
+}
+
+impl<S: VersionStore> Cache<S> {
+    /// A cache over this store, which tells its routers these intervals, without a connection. It takes no memory.
+    pub fn new(alloc: Global, store: S, timing: Timing) -> Cache<S>
+        ensures { (keep : ℕ) (i : Instance) → S.holds keep i store → ShowsCache S.holds (without_conns keep timing i) result }
+    {
+        Cache {
+            alloc,
+            store,
+            timing,
+            peers: Vec::new(alloc),
+        }
+    }
+
+    /// Bytes of a router are handed in. It answers how many were consumed: none where bytes are due to the router, or the connection
+    /// has ended; else up to the end of the first unit, or to where a fault shows, or all. Memory is taken at a Serial Query alone,
+    /// for the change; where it is wanting, Error Report 1 is due, and the connection ends (RFC 8210 section 12).
+    pub fn receive(&mut self, conn: Conn, piece: &[u8]) -> usize
+        ensures { (m : CacheState) → ShowsCache S.holds m self.old → TakesPiece S.holds m conn.0 piece.now result self.new }
+    {
+        if conn.0 >= self.peers.len() {
+            return 0;
+        }
+        match &mut self.peers[conn.0] {
+            None => 0,
+            Some(peer) => peer.receive(&self.store, piece),
+        }
+    }
+
+    /// Fills `out` with bytes that are due to a router, as far as there are any, and answers how many. They are of the version that was
+    /// current when its query was read. It takes no memory.
+    pub fn pull(&mut self, conn: Conn, out: &mut [u8]) -> usize
+        ensures { (m : CacheState) → ShowsCache S.holds m self.old → GivesBytes S.holds m conn.0 out.old result out.new self.new }
+    {
+        if conn.0 >= self.peers.len() {
+            return 0;
+        }
+        match &mut self.peers[conn.0] {
+            None => 0,
+            Some(peer) => peer.pull(out),
+        }
+    }
+
+    /// Sends a Serial Notify of the current version to a router (RFC 8210 section 5.2), and says whether it did: where the connection
+    /// goes on, nothing is due, and something is published. It takes no memory.
+    pub fn notify(&mut self, conn: Conn) -> bool
+        ensures { (m : CacheState) → ShowsCache S.holds m self.old → (result ≡ notifies_at m.cache (m.at conn.0)) × ShowsCache S.holds (notified conn.0 m) self.new }
+    {
+        if conn.0 >= self.peers.len() {
+            return false;
+        }
+        match &mut self.peers[conn.0] {
+            None => false,
+            Some(peer) => peer.notify(),
+        }
+    }
+
+    /// The connection under a number.
+    fn peer(&self, conn: Conn) -> Option<&Peer>
+        ensures { option_map (λ p. p.now) result ≡ peer_at self.now.peers.items conn.0 }
+    {
+        match self.peers.get(conn.0)? {
+            None => None,
+            Some(peer) => Some(peer.as_ref()),
+        }
+    }
+
+    /// Whether the connection goes on. What is due can be pulled after its end too.
+    pub fn is_open(&self, conn: Conn) -> bool
+        ensures { (m : CacheState) → ShowsCache S.holds m self.now → result ≡ is_open_at (m.at conn.0) }
+    {
+        match self.peer(conn) {
+            None => false,
+            Some(peer) => peer.is_open(),
+        }
+    }
+
+    /// Whether bytes are due to the router.
+    pub fn has_bytes(&self, conn: Conn) -> bool
+        ensures { (m : CacheState) → ShowsCache S.holds m self.now → result ≡ has_bytes_at (m.at conn.0) }
+    {
+        match self.peer(conn) {
+            None => false,
+            Some(peer) => peer.has_bytes(),
+        }
+    }
+
+    /// The current version: its serial and its set.
+    pub fn current(&self) -> Option<(Serial, &VrpSet)>
+        ensures { (m : CacheState) → ShowsCache S.holds m self.now → option_map (λ found. record { serial = found.0.0; set = found.1.now }) result ≡ newest (versions m.cache) }
+    {
+        let (serial, set) = self.store.current()?;
+        Some((serial, set.as_ref()))
+    }
+
+    /// Closes a connection, and drops what was due. Its number is free then. It takes no memory.
+    pub fn close(&mut self, conn: Conn)
+        ensures { (m : CacheState) → ShowsCache S.holds m self.old → ShowsCache S.holds (with_conn conn.0 Option.None m) self.new }
+    {
+        if conn.0 < self.peers.len() {
+            self.peers[conn.0] = None;
+        }
+    }
+
+    /// The least number that no connection has.
+    fn least_free(&self) -> usize
+        ensures low { result ≤ length self.now.peers.items }
+        ensures free { peer_at self.now.peers.items result ≡ Option.None }
+        ensures least { (k : ℕ) → k < result → IsSome (peer_at self.now.peers.items k) }
+    {
+        for (number, slot) in self.peers.iter().enumerate() {
+            if slot.is_none() {
+                return number;
+            }
+        }
+        self.peers.len()
+    }
+
+    /// A share of the current version.
+    fn share(&self) -> Result<Option<Share>, AllocError>
+        ensures { (keep : ℕ) (i : Instance) → S.holds keep i self.now.store → IfOk result (λ share. option_map version_of share ≡ newest (versions i)) }
+    {
+        match self.store.current() {
+            None => Ok(None),
+            Some((serial, set)) => {
+                let set = set.clone()?;
+                Ok(Some(Share { serial, set }))
+            }
+        }
+    }
+
+    /// Opens a connection. Its number is the least that no connection has. Without memory nothing is changed.
+    pub fn open(&mut self) -> Result<Conn, AllocError>
+        ensures { (m : CacheState) → ShowsCache S.holds m self.old → Opens S.holds m result self.new }
+    {
+        let ready = self.share()?;
+        let peer = Box::new(
+            self.alloc,
+            Peer::new(self.store.session(), self.timing, ready),
+        )?;
+        let number = self.least_free();
+        if number < self.peers.len() {
+            self.peers[number] = Some(peer);
+        } else {
+            self.peers.push(Some(peer))?;
+        }
+        Ok(Conn(number))
+    }
+
+    /// A share of this set for each number.
+    fn shares(&self, set: &Rc<VrpSet>) -> Result<Vec<Rc<VrpSet>>, AllocError>
+        ensures { IfOk result (λ shares. (length shares.items ≡ length self.now.peers.items) × AllByRecursion (λ s. s ≡ set.now.value) (map (λ share. share.value) shares.items)) }
+    {
+        let mut shares = Vec::new(self.alloc);
+        for _number in 0..self.peers.len() {
+            shares.push(set.clone()?)?;
+        }
+        Ok(shares)
+    }
+
+    /// Whether the set is that of the current version.
+    fn is_current(&self, set: &VrpSet) -> bool
+        ensures { (keep : ℕ) (i : Instance) → S.holds keep i self.now.store → result ≡ is_current i.sets set.now }
+    {
+        match self.store.current() {
+            None => false,
+            Some((_, current)) => current.is_same(set),
+        }
+    }
+
+    /// Publishes a set: a new version, or nothing where it is the current one. It takes a share for each connection, and what the
+    /// store takes. An answer that is under way is not changed by it. Without memory nothing is published.
+    pub fn publish(&mut self, set: VrpSet) -> Result<Published, AllocError>
+        ensures { (m : CacheState) → ShowsCache S.holds m self.old → Publishes (λ i cache. ShowsCache S.holds (record m { cache = i }) cache) result set m.cache self.new }
+    {
+        if self.is_current(&set) {
+            return Ok(Published::Unchanged);
+        }
+        let set = Rc::new(self.alloc, set)?;
+        let shares = self.shares(&set)?;
+        match self.store.publish(set)? {
+            Published::Unchanged => Ok(Published::Unchanged),
+            Published::New(serial) => {
+                hand_out(&mut self.peers, serial, shares);
+                Ok(Published::New(serial))
+            }
+        }
+    }
+}
+
+/// Hands a share of a newer version to the connection under a number, if there is one.
+fn offer_at(peers: &mut Vec<Option<Box<Peer>>>, number: usize, share: Share)
+    requires { number < length peers.old.items }
+    ensures { OffersAt peers.old.items number share peers.new.items }
+{
+    match &mut peers[number] {
+        None => {}
+        Some(peer) => peer.offer(share),
+    }
+}
+
+/// Hands a share of a newer version to each connection.
+fn hand_out(peers: &mut Vec<Option<Box<Peer>>>, serial: Serial, shares: Vec<Rc<VrpSet>>)
+    requires { length shares.items ≡ length peers.old.items }
+    ensures { HandsOut peers.old.items serial.0 (map (λ share. share.value) shares.items) peers.new.items }
+{
+    let mut shares = shares;
+    for number in 0..peers.len() {
+        if let Some(set) = shares.pop() {
+            offer_at(peers, number, Share { serial, set });
+        }
+    }
+}

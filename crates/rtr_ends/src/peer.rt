@@ -1,0 +1,226 @@
+//! A router on its connection, as the cache sees it.
+ghost use Rattle.std.specs.Prelude.{◌≡◌, ℕ, Bool, true, false, not, ◌||◌, List, [], ◌∷◌, Some, option_map};
+ghost use Rattle.rtr_pdu.specs.Stream.{type_of};
+ghost use Rattle.vrps.specs.Instance.{Instance, versions};
+ghost use Rattle.vrps.specs.Stores.{newest};
+ghost use Rattle.rtr_ends.specs.Cache.{Conn, can_notify, conn_notified, is_none, new_conn};
+ghost use Rattle.rtr_ends.specs.Connection.{fault_code, fault_report, is_query};
+ghost use Rattle.rtr_ends.specs.Peer.{Answers, Ends, Fails, Knows, Pulls, Receives, ShowsPeer, maybe, read_reply, since_reply};
+ghost use Rattle.rtr_ends.specs.Sender.{due_of, newest_of, version_of};
+ghost use Rattle.rtr_ends.specs.Timing.{Intervals};
+
+use crate::sender::{Sender, Share, report, report_on};
+use crate::timing::Timing;
+use rtr_pdu::{Next, Unit, UnitFault, UnitReader};
+use vrps::{Serial, Since, VersionStore};
+
+/// The type byte of bytes, or 0 where they have none.
+fn type_byte(bytes: &[u8]) -> u8
+    ensures { result ≡ type_of bytes.now }
+{
+    if bytes.len() > 1 { bytes[1] } else { 0 }
+}
+
+/// The code of a fault.
+fn code_of(agreed: bool, fault: UnitFault) -> u16
+    ensures { result ≡ fault_code agreed fault }
+{
+    match fault {
+        UnitFault::Version => { if agreed { 8 } else { 4 } }
+        UnitFault::Type => 5,
+        _ => 0,
+    }
+}
+
+/// One connection at the cache (RFC 8210 sections 5 to 8). It holds at most 4,096 bytes that came and 4,096 to be sent.
+#[derive(Drop)]
+pub struct Peer {
+    pub reader: UnitReader,
+    pub agreed: bool,
+    pub ended: bool,
+    pub sender: Sender,
+}
+
+impl Peer {
+    /// A connection on which nothing came yet.
+    pub fn new(session: u16, timing: Timing, ready: Option<Share>) -> Self
+        ensures { (i : Instance) → session ≡ i.session → option_map version_of ready ≡ newest (versions i) → ShowsPeer timing i (new_conn i) result }
+    {
+        Peer {
+            reader: UnitReader::for_cache(),
+            agreed: false,
+            ended: false,
+            sender: Sender::new(session, timing, ready),
+        }
+    }
+
+    /// Whether it takes no bytes: bytes are due, or it has ended.
+    fn stops(&self) -> bool
+        ensures { result ≡ (self.now.ended || not (is_none (due_of self.now.sender))) }
+    {
+        self.ended || self.sender.is_due()
+    }
+
+    /// Sends a report, and ends.
+    fn end(&mut self, unit: &Unit)
+        requires { due_of self.old.sender ≡ [] }
+        ensures { Ends self.old (unit.now ∷ []) self.new }
+    {
+        self.sender.send(unit);
+        self.ended = true;
+    }
+
+    /// Answers a Serial Query of this session, where this is the serial of the current version.
+    fn answer_since<S: VersionStore>(&mut self, store: &S, asked: Serial, current: Serial)
+        requires due { due_of self.old.sender ≡ [] }
+        requires goes_on { self.old.ended ≡ false }
+        requires current { Some current.0 ≡ option_map (λ v. v.serial) (newest_of self.old.sender) }
+        ensures { (keep : ℕ) (t : Intervals) (i : Instance) → S.holds keep i store.now → Knows t i self.old.sender →
+            (memory : Bool) × Answers t i (since_reply keep t i memory asked.0) self.old.agreed self.old self.new }
+    {
+        match store.since(asked) {
+            Err(_) => self.end(&report(1, &[])),
+            Ok(Since::Change(change)) => self.sender.answer_step(current, change),
+            Ok(Since::Unknown) => self.sender.send(&Unit::CacheReset),
+            Ok(Since::NoData) => self.sender.send(&Unit::CacheReset),
+        }
+    }
+
+    /// Answers a Serial Query.
+    fn answer_serial<S: VersionStore>(&mut self, store: &S, session: u16, serial: u32)
+        requires due { due_of self.old.sender ≡ [] }
+        requires goes_on { self.old.ended ≡ false }
+        ensures { (keep : ℕ) (t : Intervals) (i : Instance) → S.holds keep i store.now → Knows t i self.old.sender →
+            (memory : Bool) × Answers t i (read_reply keep t i memory (Unit.SerialQuery session serial)) self.old.agreed self.old self.new }
+    {
+        if session != self.sender.session {
+            self.end(&report_on(0, &Unit::SerialQuery { session, serial }));
+            return;
+        }
+        match self.sender.current() {
+            None => self
+                .sender
+                .send(&report_on(2, &Unit::SerialQuery { session, serial })),
+            Some(current) => self.answer_since(store, Serial(serial), current),
+        }
+    }
+
+    /// Answers a unit.
+    fn answer<S: VersionStore>(&mut self, store: &S, unit: &Unit)
+        requires due { due_of self.old.sender ≡ [] }
+        requires goes_on { self.old.ended ≡ false }
+        ensures { (keep : ℕ) (t : Intervals) (i : Instance) → S.holds keep i store.now → Knows t i self.old.sender →
+            (memory : Bool) × Answers t i (read_reply keep t i memory unit.now) (self.old.agreed || is_query unit.now) self.old self.new }
+    {
+        match unit {
+            Unit::ResetQuery => {
+                self.agreed = true;
+                self.sender.answer_reset();
+            }
+            Unit::SerialQuery { session, serial } => {
+                self.agreed = true;
+                self.answer_serial(store, *session, *serial);
+            }
+            Unit::ErrorReport(_) => self.ended = true,
+            _ => self.end(&report_on(3, unit)),
+        }
+    }
+
+    /// The report on a fault, where there is one.
+    fn fault_unit(&self, fault: UnitFault) -> Option<Unit>
+        ensures { maybe result ≡ fault_report self.now.agreed fault self.now.reader.held }
+    {
+        let held = self.reader.held();
+        if type_byte(held) == 10 {
+            return None;
+        }
+        match fault {
+            UnitFault::Truncated => None,
+            _ => Some(report(code_of(self.agreed, fault), held)),
+        }
+    }
+
+    /// Ends at a fault.
+    fn fail(&mut self, fault: UnitFault)
+        requires { due_of self.old.sender ≡ [] }
+        ensures { Fails self.old fault self.new }
+    {
+        let unit = self.fault_unit(fault);
+        self.reader = UnitReader::for_cache();
+        match unit {
+            None => self.ended = true,
+            Some(unit) => self.end(&unit),
+        }
+    }
+
+    /// Takes bytes from the front of the piece: to the end of the first unit, or to a fault, or else all; none where bytes are
+    /// due, or the connection has ended. It answers how many.
+    pub fn receive<S: VersionStore>(&mut self, store: &S, piece: &[u8]) -> usize
+        ensures { (keep : ℕ) (t : Intervals) (i : Instance) (o : Conn) → S.holds keep i store.now → ShowsPeer t i o self.old →
+            Receives keep t i o piece.now result self.new }
+    {
+        if self.stops() {
+            return 0;
+        }
+        let mut rest = piece;
+        match self.reader.next(&mut rest) {
+            Next::NeedMore => piece.len(),
+            Next::Unit(unit) => {
+                self.answer(store, &unit);
+                piece.len() - rest.len()
+            }
+            Next::Fault(fault) => {
+                self.fail(fault);
+                piece.len() - rest.len()
+            }
+        }
+    }
+
+    /// Fills `out` with bytes that are due, as far as there are any.
+    pub fn pull(&mut self, out: &mut [u8]) -> usize
+        ensures { (keep : ℕ) (t : Intervals) (i : Instance) (o : Conn) → ShowsPeer t i o self.old → Pulls keep t i o out.old result out.new self.new }
+    {
+        self.sender.pull(out)
+    }
+
+    /// Sends a Serial Notify of the current version, where it can.
+    pub fn notify(&mut self) -> bool
+        ensures { (keep : ℕ) (t : Intervals) (i : Instance) (o : Conn) → ShowsPeer t i o self.old →
+            (result ≡ can_notify i o) × ShowsPeer t i (conn_notified keep t i o) self.new }
+    {
+        if self.stops() {
+            return false;
+        }
+        match self.sender.current() {
+            None => false,
+            Some(serial) => {
+                let session = self.sender.session;
+                let serial = serial.0;
+                self.sender.send(&Unit::SerialNotify { session, serial });
+                true
+            }
+        }
+    }
+
+    /// A share of a newer version is ready from now on.
+    pub fn offer(&mut self, share: Share)
+        ensures { (t : Intervals) (i j : Instance) (o : Conn) → i.session ≡ j.session → Some (version_of share) ≡ newest (versions j) →
+            ShowsPeer t i o self.old → ShowsPeer t j o self.new }
+    {
+        self.sender.offer(share);
+    }
+
+    /// Whether bytes are due.
+    pub fn has_bytes(&self) -> bool
+        ensures { (t : Intervals) (i : Instance) (o : Conn) → ShowsPeer t i o self.now → result ≡ not (is_none o.state.due) }
+    {
+        self.sender.is_due()
+    }
+
+    /// Whether the connection goes on.
+    pub fn is_open(&self) -> bool
+        ensures { (t : Intervals) (i : Instance) (o : Conn) → ShowsPeer t i o self.now → result ≡ not o.state.ended }
+    {
+        !self.ended
+    }
+}

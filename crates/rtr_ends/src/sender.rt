@@ -1,0 +1,294 @@
+//! What a connection at the cache has to send.
+ghost use Rattle.std.specs.Prelude.{◌≡◌, ℕ, ◌<◌, ◌≤◌, length, Bool, true, false, not, [], ◌∷◌, ◌++◌, ◌+◌, Some, None, option_map, slice_get};
+ghost use Rattle.vrps.specs.Instance.{Version};
+ghost use Rattle.rtr_ends.specs.Answer.{announcements, report, response, sent, whole_answer, withdrawals};
+ghost use Rattle.rtr_ends.specs.Cache.{is_none};
+ghost use Rattle.rtr_ends.specs.Sender.{Begins, Gives, GivesFrom, Hands, Keeps, KeepsRoom, Sends, Stays, Writes, as_list, due_of, left, newest_of, ready_in, serial_in, units_in, version_of};
+
+use crate::timing::Timing;
+use arrayvec::ArrayVec;
+use rtr_pdu::{ErrorReport, Unit, UnitBuffer, encode, encode_prefix};
+use std::rc::Rc;
+use vrps::{Change, Serial, VrpSet};
+
+/// A version: its serial, and a share of its set.
+#[derive(Drop)]
+pub struct Share {
+    pub serial: Serial,
+    pub set: Rc<VrpSet>,
+}
+
+/// The records of an answer.
+#[derive(Drop)]
+pub enum Records {
+    /// All of a version.
+    Whole(Share),
+    /// What leads to the version of this serial.
+    Step(Serial, Change),
+}
+
+/// An answer under way: its Cache Response was sent, and the records before this place.
+#[derive(Drop)]
+pub struct Cursor {
+    pub records: Records,
+    pub place: usize,
+}
+
+/// Writes the record of this set at this place, announced, and says whether there is one.
+fn write_announced(set: &VrpSet, place: usize, buffer: &mut UnitBuffer) -> bool
+    ensures writes { Writes (slice_get (announcements set.now) place) result buffer.old buffer.new.items buffer.new }
+    ensures low { result ≡ true → place < 16777215 }
+{
+    match set.as_slice().get(place) {
+        None => false,
+        Some(vrp) => {
+            encode_prefix(true, vrp, buffer);
+            true
+        }
+    }
+}
+
+impl Cursor {
+    /// Writes the record at the place, and says whether there is one.
+    fn write(&self, buffer: &mut UnitBuffer) -> bool
+        ensures writes { Writes (slice_get (units_in self.now.records) self.now.place) result buffer.old buffer.new.items buffer.new }
+        ensures low { result ≡ true → self.now.place < 33554430 }
+    {
+        match &self.records {
+            Records::Whole(share) => write_announced(share.set.as_ref(), self.place, buffer),
+            Records::Step(_, change) => {
+                let withdrawn = change.withdraw.as_slice();
+                if self.place >= withdrawn.len() {
+                    let place = self.place - withdrawn.len();
+                    return write_announced(&change.announce, place, buffer);
+                }
+                encode_prefix(false, &withdrawn[self.place], buffer);
+                true
+            }
+        }
+    }
+
+    /// The serial of the version to which it leads.
+    fn serial(&self) -> u32
+        ensures { result ≡ serial_in self.now.records }
+    {
+        match &self.records {
+            Records::Whole(share) => share.serial.0,
+            Records::Step(serial, _) => serial.0,
+        }
+    }
+}
+
+/// An Error Report with this copy, as far as there is room for it, and no text.
+pub fn report(code: u16, copy: &[u8]) -> Unit
+    ensures { result ≡ report code copy.now }
+{
+    let room = copy.len().min(4080);
+    Unit::ErrorReport(ErrorReport::new(code, &copy[..room], ""))
+}
+
+/// An Error Report on a unit.
+pub fn report_on(code: u16, unit: &Unit) -> Unit
+    ensures { result ≡ report code (sent unit.now) }
+{
+    let mut buffer = ArrayVec::new();
+    encode(unit, &mut buffer);
+    report(code, buffer.as_slice())
+}
+
+/// What a connection has to send. Its bytes lie in one buffer, a unit at a time; the records of the answer under way lie where
+/// they are kept.
+#[derive(Drop)]
+pub struct Sender {
+    pub session: u16,
+    pub timing: Timing,
+    /// The share of the current version that is kept ready for a Reset Query.
+    pub ready: Option<Share>,
+    pub answer: Option<Cursor>,
+    /// The unit that goes out, of which so many bytes were pulled.
+    pub buffer: UnitBuffer,
+    pub pulled: usize,
+}
+
+impl Sender {
+    /// Nothing is due.
+    pub fn new(session: u16, timing: Timing, ready: Option<Share>) -> Self
+        ensures due { due_of result ≡ [] }
+        ensures session { result.session ≡ session }
+        ensures timing { result.timing ≡ timing }
+        ensures newest { newest_of result ≡ option_map version_of ready }
+        ensures room { ready_in result ≤ 4096 }
+    {
+        Sender {
+            session,
+            timing,
+            ready,
+            answer: None,
+            buffer: ArrayVec::new(),
+            pulled: 0,
+        }
+    }
+
+    /// Whether bytes are due.
+    pub fn is_due(&self) -> bool
+        ensures { result ≡ not (is_none (due_of self.now)) }
+    {
+        self.pulled < self.buffer.len() || self.answer.is_some()
+    }
+
+    /// Sends a unit.
+    pub fn send(&mut self, unit: &Unit)
+        requires { due_of self.old ≡ [] }
+        ensures { Sends self.old (unit.now ∷ []) self.new }
+    {
+        encode(unit, &mut self.buffer);
+        self.pulled = 0;
+    }
+
+    /// Keeps the share that the answer used, where no newer one is there.
+    fn keep(&mut self, records: Records)
+        requires { self.old.answer ≡ None }
+        ensures { Keeps self.old records self.new }
+    {
+        if self.ready.is_none() {
+            if let Records::Whole(share) = records {
+                self.ready = Some(share);
+            }
+        }
+    }
+
+    /// The record at the place was written into the buffer. The answer goes on behind it.
+    fn next_record(&mut self, cursor: Cursor)
+        requires none { self.old.answer ≡ None }
+        requires low { cursor.place < 33554430 }
+        ensures { self.new ≡ record self.old { answer = Some (record { records = cursor.records; place = cursor.place + 1 }); pulled = 0 } }
+    {
+        self.pulled = 0;
+        let Cursor { records, place } = cursor;
+        let place = place + 1;
+        let _none = self.answer.replace(Cursor { records, place });
+    }
+
+    /// Writes the End of Data of the answer under way into the buffer.
+    fn next_end(&mut self, cursor: Cursor)
+        requires none { self.old.answer ≡ None }
+        requires at { None ≡ slice_get (units_in cursor.records) cursor.place }
+        ensures { Hands (record self.old { answer = Some cursor }) self.new }
+    {
+        encode(
+            &Unit::EndOfData {
+                session: self.session,
+                serial: cursor.serial(),
+                refresh: self.timing.refresh(),
+                retry: self.timing.retry(),
+                expire: self.timing.expire(),
+            },
+            &mut self.buffer,
+        );
+        self.pulled = 0;
+        self.keep(cursor.records);
+    }
+
+    /// Writes the next unit of the answer under way into the buffer.
+    fn next(&mut self, cursor: Cursor)
+        requires { self.old.answer ≡ None }
+        ensures { Hands (record self.old { answer = Some cursor }) self.new }
+    {
+        if cursor.write(&mut self.buffer) {
+            self.next_record(cursor);
+        } else {
+            self.next_end(cursor);
+        }
+    }
+
+    /// The serial of the current version.
+    pub fn current(&self) -> Option<Serial>
+        requires { due_of self.now ≡ [] }
+        ensures { option_map (λ s. s.0) result ≡ option_map (λ v. v.serial) (newest_of self.now) }
+    {
+        match &self.ready {
+            None => None,
+            Some(share) => Some(share.serial),
+        }
+    }
+
+    /// Begins an answer with these records.
+    fn begin(&mut self, records: Records)
+        requires { due_of self.old ≡ [] }
+        ensures { Begins self.old records self.new }
+    {
+        encode(
+            &Unit::CacheResponse {
+                session: self.session,
+            },
+            &mut self.buffer,
+        );
+        self.pulled = 0;
+        let _none = self.answer.replace(Cursor { records, place: 0 });
+    }
+
+    /// Answers a Reset Query.
+    pub fn answer_reset(&mut self)
+        requires { due_of self.old ≡ [] }
+        ensures { Sends self.old (whole_answer self.old.session self.old.timing (as_list (newest_of self.old))) self.new }
+    {
+        match self.ready.take() {
+            None => self.send(&report_on(2, &Unit::ResetQuery)),
+            Some(share) => self.begin(Records::Whole(share)),
+        }
+    }
+
+    /// Answers a Serial Query with the change to the version of which a share is ready.
+    pub fn answer_step(&mut self, serial: Serial, change: Change)
+        requires due { due_of self.old ≡ [] }
+        requires serial { Some serial.0 ≡ option_map (λ v. v.serial) (newest_of self.old) }
+        ensures { (v : Version) → newest_of self.old ≡ Some v →
+            Sends self.old (response self.old.session self.old.timing v (withdrawals change.withdraw ++ announcements change.announce)) self.new }
+    {
+        self.begin(Records::Step(serial, change));
+    }
+
+    /// A share of a newer version is ready from now on.
+    pub fn offer(&mut self, share: Share)
+        ensures session { self.new.session ≡ self.old.session }
+        ensures timing { self.new.timing ≡ self.old.timing }
+        ensures due { due_of self.new ≡ due_of self.old }
+        ensures newest { newest_of self.new ≡ Some (version_of share) }
+        ensures room { KeepsRoom self.old self.new }
+    {
+        let _older = self.ready.replace(share);
+    }
+
+    /// Moves bytes of the buffer to `out`, behind those that are filled, and answers how many are filled then.
+    fn give(&mut self, out: &mut [u8], filled: usize) -> usize
+        requires { filled ≤ length out.old }
+        ensures { GivesFrom self.old out.old filled result out.new self.new }
+    {
+        let (_, left) = self
+            .buffer
+            .as_slice()
+            .split_at(self.pulled.min(self.buffer.len()));
+        let count = left.len().min(out.len() - filled);
+        out[filled..filled + count].copy_from_slice(&left[..count]);
+        self.pulled = self.buffer.len() - (left.len() - count);
+        filled + count
+    }
+
+    /// Fills `out` with bytes that are due, as far as there are any.
+    pub fn pull(&mut self, out: &mut [u8]) -> usize
+        ensures gives { Gives (due_of self.old) out.old result out.new (due_of self.new) }
+        ensures stays { Stays self.old self.new }
+    {
+        let mut filled = 0;
+        loop {
+            filled = self.give(out, filled);
+            if filled == out.len() {
+                return filled;
+            }
+            let Some(cursor) = self.answer.take() else {
+                return filled;
+            };
+            self.next(cursor);
+        }
+    }
+}
