@@ -16,7 +16,7 @@ use Rattle.prefixes.specs.declared.prefix.IpPrefix.TheVariants.{V4, V6}
 block_total : IsTotalOrder block_cmp
 block_total = then_total (on_total (λ p. p.addr) nat_cmp_total) (on_total (λ p. p.len) nat_cmp_total)
 
-prefix_total : IsTotalOrder prefix_cmp
+pub prefix_total : IsTotalOrder prefix_cmp
 prefix_total = record { antisymm = flips; trans = joins; congr = ties }
   where
     flips : (x y : IpPrefix) → prefix_cmp x y ≡ ordering_reverse (prefix_cmp y x)
@@ -58,17 +58,17 @@ same_block p q h =
     let len = exact_unsigned p.len q.len parts.1 in
     λ i. record { addr = addr i; len = len i }
 
-same_prefix : (x y : IpPrefix) → prefix_cmp x y ≡ Equal → x ≡ y
-same_prefix (V4 p) (V4 q) h = ap V4 (same_block p q h)
-same_prefix (V6 p) (V6 q) h = ap V6 (same_block p q h)
-same_prefix (V4 p) (V6 q) h = cc
-same_prefix (V6 p) (V4 q) h = cc
+pub prefix_exact : (x y : IpPrefix) → prefix_cmp x y ≡ Equal → x ≡ y
+prefix_exact (V4 p) (V4 q) h = ap V4 (same_block p q h)
+prefix_exact (V6 p) (V6 q) h = ap V6 (same_block p q h)
+prefix_exact (V4 p) (V6 q) h = cc
+prefix_exact (V6 p) (V4 q) h = cc
 
 pub vrp_exact : IsAntisymmetric vrp_cmp
 vrp_exact v w h =
     let parts = both_equal _ _ h in
     let rest = both_equal _ _ parts.1 in
-    let prefix = same_prefix v.prefix w.prefix parts.0 in
+    let prefix = prefix_exact v.prefix w.prefix parts.0 in
     let max_len = exact_unsigned v.max_len w.max_len rest.0 in
     let asn = exact_unsigned v.asn w.asn rest.1 in
     λ i. record { prefix = prefix i; max_len = max_len i; asn = asn i }

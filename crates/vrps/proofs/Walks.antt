@@ -48,7 +48,7 @@ unfolding IsStrictlySortedBy
 ascends_before [] ws h = tt
 ascends_before (v ∷ vs) ws h = (left_part (λ w. vrp_cmp v w ≡ Less) vs ws h.0, ascends_before vs ws h.1)
 
-no_records : Ascends []
+pub no_records : Ascends []
 unfolding IsStrictlySortedBy
 no_records = tt
 
@@ -176,7 +176,7 @@ any-led q vs ws zs =
     ∙ (λ i. has-without (set_of vs) (set_of ws) q i || has-set_of zs q i)
     ∙ (λ i. (has-set_of vs q i && not (has-set_of ws q i)) || list_any (same_vrp q) zs)
 
-led_ascends : (vs ws zs : List Payload) → Ascends (led vs ws zs)
+pub led_ascends : (vs ws zs : List Payload) → Ascends (led vs ws zs)
 led_ascends vs ws zs = listing_ascends (union (without (set_of vs) (set_of ws)) (set_of zs))
 
 led_above : (x : Payload) (vs ws zs : List Payload) → Above x vs → Above x zs → Above x (led vs ws zs)
@@ -228,7 +228,7 @@ led_cut x vs ws zs gone is_gone left new is_new more h k withdrawn announced =
 pub led_end : (ws zs : List Payload) → Ascends zs → led [] ws zs ≡ zs
 led_end ws zs h = same_listing _ _ (led_ascends [] ws zs) h (λ q. any-led q [] ws zs)
 
-left_out_ascends : (vs ws : List Payload) → Ascends (left_out vs ws)
+pub left_out_ascends : (vs ws : List Payload) → Ascends (left_out vs ws)
 left_out_ascends vs ws = listing_ascends (without (set_of vs) (set_of ws))
 
 -- Together with none, the same is what is left out.
@@ -238,14 +238,15 @@ led_none vs ws = same_listing _ _ (led_ascends vs ws []) (left_out_ascends vs ws
 left_out_above : (x : Payload) (vs ws : List Payload) → Above x vs → Above x (left_out vs ws)
 left_out_above x vs ws h = subst (λ l. Above x l) (led_none vs ws) (led_above x vs ws [] h tt)
 
+-- no record, cut at any
+pub nothing_cut : (x : Payload) → IsCut [] x [] false []
+nothing_cut x = record { parts = refl; below_it = tt; above_it = tt }
+
 -- A record and those above it, without a list that is cut at the record
 pub left_out_cut : (x : Payload) (vs ws below : List Payload) (found : Bool) (above : List Payload) → Ascends (x ∷ vs) → IsCut ws x below found above
     → left_out (x ∷ vs) ws ≡ cond (not found) (x ∷ left_out vs above) (left_out vs above)
 left_out_cut x vs ws below found above h cut =
-    sym (led_none (x ∷ vs) ws) ∙ led_cut x vs ws [] below found above [] false [] h no_records cut nothing ∙ ap (λ l. cond (not found) (x ∷ l) l) (led_none vs above)
-  where
-    nothing : IsCut [] x [] false []
-    nothing = record { parts = refl; below_it = tt; above_it = tt }
+    sym (led_none (x ∷ vs) ws) ∙ led_cut x vs ws [] below found above [] false [] h no_records cut (nothing_cut x) ∙ ap (λ l. cond (not found) (x ∷ l) l) (led_none vs above)
 
 -- A list that is cut at a record, without the record and those above it
 pub cut_left_out : (x : Payload) (vs ws below : List Payload) (found : Bool) (above : List Payload) → Ascends (x ∷ vs) → Ascends ws → IsCut ws x below found above

@@ -50,15 +50,16 @@ impl Change {
 
 /// An ascending list, cut at a record.
 #[derive(Clone, Copy)]
-struct Cut<'a> {
-    below: &'a [Vrp],
+pub(crate) struct Cut<'a> {
+    pub(crate) below: &'a [Vrp],
     /// Whether the record stands in the list.
-    found: bool,
-    above: &'a [Vrp],
+    pub(crate) found: bool,
+    pub(crate) above: &'a [Vrp],
 }
 
 /// Cuts the ascending list at the record. The time is linear in the number of records below it.
-fn cut_at<'a>(records: &'a [Vrp], at: &Vrp) -> Cut<'a>
+#[inline(always)]
+pub(crate) fn cut_at<'a>(records: &'a [Vrp], at: &Vrp) -> Cut<'a>
     requires { IsStrictlySortedBy vrp_cmp records.now }
     ensures { IsCut records.now at.now result.below.now result.found result.above.now }
 {
@@ -89,7 +90,11 @@ fn cut_at<'a>(records: &'a [Vrp], at: &Vrp) -> Cut<'a>
 }
 
 /// The records of `s` that are none of `t`, and those of `t` that are none of `s`; all lists ascend.
-fn differences(alloc: Global, s: &[Vrp], t: &[Vrp]) -> Result<(Vec<Vrp>, Vec<Vrp>), AllocError>
+pub(crate) fn differences(
+    alloc: Global,
+    s: &[Vrp],
+    t: &[Vrp],
+) -> Result<(Vec<Vrp>, Vec<Vrp>), AllocError>
     requires s_ascends { IsStrictlySortedBy vrp_cmp s.now }
     requires t_ascends { IsStrictlySortedBy vrp_cmp t.now }
     ensures { IfOk result (λ lists. (lists.0.items ≡ left_out s.now t.now) × (lists.1.items ≡ left_out t.now s.now)) }

@@ -1,105 +1,155 @@
-//! A log of versions that keeps whole sets.
-ghost use Rattle.std.specs.Prelude.{◌≡◌, ◌≤◌, [], IfOk};
-ghost use Rattle.vrps.specs.Log.{IsBehind};
-ghost use Rattle.vrps.specs.Store.{is_current};
+//! A log of versions that keeps the current set and the steps to it.
+ghost use Rattle.std.specs.Prelude.{◌≡◌, ◌≤◌, ◌↔◌, ◌+◌, ◌%◌, ◌^◌, IsTrue, ℕ, [], ◌∷◌, take, IfOk, option_map};
+ghost use Rattle.vrps.specs.Instance.{Instance};
+ghost use Rattle.vrps.specs.Steps.{HoldsSteps, kept_step};
+ghost use Rattle.vrps.specs.VrpSet.{IsListing, set_of, size};
+ghost use Rattle.vrps.specs.Wholes.{IsBehind};
 
+use crate::merge::{Lists, merged};
 use crate::store::{Published, Since, VersionStore};
 use crate::{Change, Serial, VrpSet};
+use circular_buffer::HeapCircularBuffer;
 use std::alloc::{AllocError, Global};
-use std::collections::VecDeque;
+use std::marker::Model;
 use std::rc::Rc;
 
-/// The versions of one session, each kept as a whole set: the current one and some before it. Room for
-/// them is taken when the log is made, so a publication takes no memory.
+/// The versions of one session: the current set, and the steps to it from the versions that are kept. A publication walks both sets
+/// once, and takes memory for its step before it changes anything. What changed since a version is merged from the steps when it is
+/// asked for, so the memory is that of one set and of the changes.
 #[derive(Drop)]
 pub struct VersionLog {
     alloc: Global,
     session: u16,
     /// The serial of the next version.
     next: Serial,
+    newest: Option<Rc<VrpSet>>,
     /// The newest first.
-    sets: VecDeque<Rc<VrpSet>>,
+    steps: HeapCircularBuffer<Change>,
+}
+
+impl Model for VersionLog {
+    ghost use Rattle.std.specs.Prelude.{option_map};
+    ghost use Rattle.vrps.specs.Steps.{LeadsToNow, Steps, coded_steps, steps_log};
+
+    ghost Value = { Steps };
+
+    ghost coded = { coded_steps };
+
+    ghost view = { λ log. steps_log log.session log.next.0 (option_map (λ set. set.value) log.newest) log.steps.items log.steps.capacity };
+
+    ghost invariant = { λ log. LeadsToNow (option_map (λ set. set.value) log.newest) log.steps.items };
 }
 
 impl VersionLog {
-    ghost use Rattle.vrps.specs.Logs.{HasRoom, IsLogOf, sets_of};
-
     /// A log of a session without versions, whose first one has the serial `start`, and which keeps `keep` versions before the
     /// current one, from 1 to 1,024.
     pub fn new(alloc: Global, session: u16, start: u32, keep: u16) -> Result<VersionLog, AllocError>
         requires some { 1 ≤ keep }
         requires limit { keep ≤ 1024 }
-        ensures { IfOk result (λ log. IsLogOf keep (record { session = session; start = start; sets = [] }) log) }
+        ensures { IfOk result (λ log. HoldsSteps keep (record { session = session; start = start; sets = [] }) log) }
     {
-        let sets = VecDeque::with_capacity(alloc, usize::from(keep) + 1)?;
+        let steps = HeapCircularBuffer::with_capacity(alloc, usize::from(keep))?;
         Ok(VersionLog {
             alloc,
             session,
             next: Serial(start),
-            sets,
+            newest: None,
+            steps,
         })
     }
 
-    /// Lets the oldest set go where there is no room for one more.
-    fn make_room(&mut self)
-        ensures { HasRoom self.old self.new }
+    /// The kept step at a place, counted from the oldest one: with n the last position and m the lesser of n and the versions that
+    /// are kept, the change from the set of position n - m + i to the next one, for i below m, and else nothing.
+    pub fn kept(&self, i: usize) -> Option<&Change>
+        ensures { (keep : ℕ) (instance : Instance) → HoldsSteps keep instance self.now → option_map (λ step. step.now) result ≡ kept_step keep instance.sets i }
     {
-        if self.sets.len() == self.sets.capacity() {
-            let _oldest = self.sets.pop_back();
-        }
+        self.steps.nth_back(i)
     }
 
     /// How many versions before the current one that of this serial stands.
     fn behind(&self, serial: Serial) -> usize
-        ensures { IsBehind self.now.next.0 serial.0 result }
+        ensures { IsBehind self.now.next serial.0 result }
     {
         self.next.0.wrapping_sub(1).wrapping_sub(serial.0) as usize
     }
+}
 
-    /// Whether the current version is this set.
-    fn is_current(&self, set: &VrpSet) -> bool
-        ensures { result ≡ is_current (sets_of self.now) set.now }
-    {
-        match self.sets.front() {
-            None => false,
-            Some(now) => now.as_ref().is_same(set),
-        }
+/// The change of two listings.
+fn change_of(lists: Lists) -> Change
+    requires withdraw { IsListing lists.withdraw.items }
+    requires announce { IsListing lists.announce.items }
+    ensures { result ≡ record { withdraw = set_of lists.withdraw.items; announce = set_of lists.announce.items } }
+{
+    let Lists { withdraw, announce } = lists;
+    Change {
+        withdraw: VrpSet::from_listing(withdraw),
+        announce: VrpSet::from_listing(announce),
     }
 }
 
-impl VersionStore for VersionLog {
-    ghost use Rattle.vrps.specs.Logs.{IsLogOf};
+/// Whether nothing is withdrawn and nothing announced.
+fn is_nothing(step: &Change) -> bool
+    ensures { IsTrue result ↔ ((size step.now.withdraw ≡ 0) × (size step.now.announce ≡ 0)) }
+{
+    step.withdraw.is_empty() && step.announce.is_empty()
+}
 
-    ghost holds = { IsLogOf };
+/// Adds the newest step. Where there is no room the oldest one goes.
+fn keep(steps: &mut HeapCircularBuffer<Change>, step: Change)
+    ensures items { steps.new.items ≡ take steps.old.capacity (step ∷ steps.old.items) }
+    ensures capacity { steps.new.capacity ≡ steps.old.capacity }
+{
+    let _oldest = steps.push_front(step);
+}
+
+/// The serial, which goes on to the next one.
+fn take_serial(next: &mut Serial) -> Serial
+    ensures serial { result.0 ≡ next.old.0 }
+    ensures next { next.new.0 ≡ (next.old.0 + 1) % 2 ^ 32 }
+{
+    let serial = *next;
+    next.0 = serial.0.wrapping_add(1);
+    serial
+}
+
+impl VersionStore for VersionLog {
+    ghost use Rattle.vrps.specs.Steps.{HoldsSteps};
+
+    ghost holds = { HoldsSteps };
 
     fn session(&self) -> u16 {
         self.session
     }
 
     fn publish(&mut self, set: Rc<VrpSet>) -> Result<Published, AllocError> {
-        if self.is_current(set.as_ref()) {
+        let _size = set.as_ref().len();
+        let Some(now) = self.newest.as_ref() else {
+            self.newest = Some(set);
+            return Ok(Published::New(take_serial(&mut self.next)));
+        };
+        let step = Change::between(self.alloc, now.as_ref(), set.as_ref())?;
+        if is_nothing(&step) {
             return Ok(Published::Unchanged);
         }
-        let serial = self.next;
-        self.make_room();
-        self.sets.push_front(set)?;
-        self.next = Serial(serial.0.wrapping_add(1));
-        Ok(Published::New(serial))
+        keep(&mut self.steps, step);
+        self.newest = Some(set);
+        Ok(Published::New(take_serial(&mut self.next)))
     }
 
     fn current(&self) -> Option<(Serial, &Rc<VrpSet>)> {
-        let now = self.sets.front()?;
+        let now = self.newest.as_ref()?;
         Some((Serial(self.next.0.wrapping_sub(1)), now))
     }
 
     fn since(&self, serial: Serial) -> Result<Since, AllocError> {
-        let Some(now) = self.sets.front() else {
+        let Some(_now) = self.newest.as_ref() else {
             return Ok(Since::NoData);
         };
-        let Some(before) = self.sets.get(self.behind(serial)) else {
+        let behind = self.behind(serial);
+        if self.steps.len() < behind {
             return Ok(Since::Unknown);
-        };
-        let change = Change::between(self.alloc, before.as_ref(), now.as_ref())?;
-        Ok(Since::Change(change))
+        }
+        let lists = merged(self.alloc, &self.steps, 0, behind)?;
+        Ok(Since::Change(change_of(lists)))
     }
 }

@@ -1,8 +1,15 @@
 //! The states of routes.
-ghost use Rattle.std.specs.Prelude.{◌≡◌, ℕ, IfOk, filter};
+ghost use Rattle.std.specs.Prelude.{◌≡◌, ◌+◌, ◌*◌, ◌≤◌, ◌++◌, reverse, IfOk, OnOk};
 ghost use Rattle.std.specs.List.{list_any};
-ghost use Rattle.vrps.specs.Origin.{covering, covers_route, is_origin, matches, state};
+ghost use Rattle.prefixes.specs.Payload.{block_of};
+ghost use Rattle.vrps.specs.Groups.{group_count};
+ghost use Rattle.vrps.specs.Origin.{covering, is_origin, matches, state};
+ghost use Rattle.vrps.specs.Search.{digit_count};
+ghost use Rattle.vrps.specs.VrpSet.{empty};
 
+use crate::grouping::{grouped, no_groups};
+use crate::groups::Groups;
+use crate::search::{Rest, next_covering};
 use crate::set::VrpSet;
 use prefixes::{Asn, Route, Vrp};
 use std::alloc::{AllocError, Global};
@@ -19,10 +26,11 @@ pub enum OriginState {
     NotFound,
 }
 
-/// Judges routes over one set.
+/// Judges routes over one set. The records of one prefix are a group. The groups that cover a route are found the longest first, by a
+/// binary search for each length that is tried.
 #[derive(Drop)]
 pub struct OriginIndex {
-    records: Vec<Vrp>,
+    groups: Groups,
 }
 
 impl Model for OriginIndex {
@@ -35,50 +43,84 @@ impl Model for OriginIndex {
 
     ghost coded = { map.code coded_payload coded_unit };
 
-    ghost view = { λ i. set_of i.records.items };
+    ghost view = { λ i. set_of i.groups.records.items };
 
-    ghost invariant = { λ i. IsListing i.records.items };
+    ghost invariant = { λ i. IsListing i.groups.records.items };
 }
 
 impl OriginIndex {
-    /// The index over a set.
+    /// The index over a set. It has a copy of the records, and 12 bytes more for each IPv4 group and 36 for each IPv6 group.
     pub fn over(alloc: Global, set: &VrpSet) -> Result<OriginIndex, AllocError>
         ensures { IfOk result (λ index. index ≡ set.now) }
     {
         let records = set.as_slice().to_vec(alloc)?;
-        Ok(OriginIndex { records })
+        let groups = grouped(alloc, records)?;
+        Ok(OriginIndex { groups })
+    }
+
+    /// The index over the empty set. It takes no memory.
+    pub fn empty(alloc: Global) -> OriginIndex
+        ensures { result ≡ empty }
+    {
+        OriginIndex {
+            groups: no_groups(alloc),
+        }
     }
 
     /// The state of a route. It takes no memory.
     pub fn state(&self, route: &Route) -> OriginState
         ensures { result ≡ state self.now route.now }
     {
-        if is_matched(route, &self.records) {
-            OriginState::Valid
-        } else if is_covered(route, &self.records) {
-            OriginState::Invalid
-        } else {
-            OriginState::NotFound
+        self.state_counted(route).0
+    }
+
+    /// The state of a route, and how many groups were read for it: no more than the route's length plus 1, times the binary digits of
+    /// the number of groups. It takes no memory.
+    pub fn state_counted(&self, route: &Route) -> (OriginState, u32)
+        ensures state { result.0 ≡ state self.now route.now }
+        ensures probes { result.1 ≤ ((block_of route.now.prefix).len + 1) * digit_count (group_count self.now) }
+    {
+        let mut probes = 0;
+        let mut rest = Rest {
+            places: self.groups.len(),
+            lengths: route.prefix.len() + 1,
+        };
+        let mut state = OriginState::NotFound;
+        while let Some(group) = next_covering(&self.groups, &route.prefix, &mut rest, &mut probes) {
+            if is_matched(route, group) {
+                return (OriginState::Valid, probes);
+            }
+            state = OriginState::Invalid;
         }
+        (state, probes)
     }
 
     /// The records that cover the route, in ascending order.
     pub fn covering(&self, alloc: Global, route: &Route) -> Result<Vec<Vrp>, AllocError>
         ensures { IfOk result (λ records. records.items ≡ covering self.now route.now) }
     {
-        covering_among(alloc, route, &self.records)
+        let mut probes = 0;
+        let mut rest = Rest {
+            places: self.groups.len(),
+            lengths: route.prefix.len() + 1,
+        };
+        let mut found = Vec::new(alloc);
+        while let Some(group) = next_covering(&self.groups, &route.prefix, &mut rest, &mut probes) {
+            push_back_to_front(&mut found, group)?;
+        }
+        found.reverse();
+        Ok(found)
     }
 }
 
-/// Those of the records that cover the route, in their order.
-fn covering_among(alloc: Global, route: &Route, records: &[Vrp]) -> Result<Vec<Vrp>, AllocError>
-    ensures { IfOk result (λ found. found.items ≡ filter (covers_route route.now) records.now) }
+/// Appends the records of a group, the last one first.
+fn push_back_to_front(found: &mut Vec<Vrp>, group: &[Vrp]) -> Result<(), AllocError>
+    ensures { OnOk result (found.new.items ≡ found.old.items ++ reverse group.now) }
 {
-    records
-        .iter()
-        .filter(|vrp| vrp.prefix().covers(&route.prefix))
-        .copied()
-        .collect(alloc)
+    for index in 0..group.len() {
+        found.push(group[group.len() - 1 - index])?;
+    }
+    Ok(())
 }
 
 /// Whether some record matches the route.
@@ -86,13 +128,6 @@ fn is_matched(route: &Route, records: &[Vrp]) -> bool
     ensures { result ≡ list_any (matches route.now) records.now }
 {
     records.iter().any(|vrp| is_match(route, vrp))
-}
-
-/// Whether some record covers the route.
-fn is_covered(route: &Route, records: &[Vrp]) -> bool
-    ensures { result ≡ list_any (covers_route route.now) records.now }
-{
-    records.iter().any(|vrp| vrp.prefix().covers(&route.prefix))
 }
 
 /// Whether the record covers the route, up to its maximum length, for the route's origin.

@@ -174,7 +174,7 @@ fn ascending(list: Vec<Vrp>) -> Vec<Vrp>
 }
 
 /// Looks at each record once. That it is a payload is known of a value that is looked at.
-fn know_payloads(records: &[Vrp])
+pub(crate) fn know_payloads(records: &[Vrp])
     ensures { All IsPayload records.now }
 {
     for vrp in records {

@@ -1,6 +1,6 @@
 use crate::{
-    Change, OriginIndex, OriginState, PathFault, Published, Segment, SegmentKind, Serial, SetFault,
-    Since, VersionLog, VersionStore, VrpSet, origin_of_path,
+    Change, Gathered, OriginIndex, OriginState, PathFault, Published, Segment, SegmentKind, Serial,
+    SetFault, Since, VersionLog, VersionStore, VrpSet, WholeLog, origin_of_path,
 };
 use prefixes::{Asn, IpPrefix, Route, Vrp};
 use std::alloc::Global;
@@ -427,10 +427,12 @@ fn publish<S: VersionStore>(store: &mut S, alloc: Global, rows: Rows) -> Result<
     Ok(store.publish(set)?)
 }
 
-#[test]
-fn a_log_knows_what_changed_since_a_version(rt: HostRuntime) -> Result<(), Fail> {
+/// A log that keeps two versions, from serial 4 on, whichever way it keeps them.
+fn expect_changes<R: AllocGlobal + Abort, S: VersionStore>(
+    rt: &R,
+    log: &mut S,
+) -> Result<(), Fail> {
     let alloc = rt.alloc();
-    let mut log = VersionLog::new(alloc, 0x1234, 4, 2)?;
     assert_eq!(rt; log.session(), 0x1234);
     assert!(rt; log.current().is_none());
     assert!(rt; matches!(log.since(Serial(4))?, Since::NoData));
@@ -442,7 +444,7 @@ fn a_log_knows_what_changed_since_a_version(rt: HostRuntime) -> Result<(), Fail>
         (&[V], Published::New(Serial(7))),
     ];
     for (rows, answer) in published {
-        assert!(rt; publish(&mut log, alloc, rows)? == answer);
+        assert!(rt; publish(log, alloc, rows)? == answer);
     }
     let Some((serial, now)) = log.current() else {
         return Err(Fail::from("no version"));
@@ -469,6 +471,137 @@ fn a_log_knows_what_changed_since_a_version(rt: HostRuntime) -> Result<(), Fail>
             "{serial}"
         );
     }
+    Ok(())
+}
+
+#[test]
+fn a_log_knows_what_changed_since_a_version(rt: HostRuntime) -> Result<(), Fail> {
+    expect_changes(&rt, &mut VersionLog::new(rt.alloc(), 0x1234, 4, 2)?)?;
+    expect_changes(&rt, &mut WholeLog::new(rt.alloc(), 0x1234, 4, 2)?)
+}
+
+/// Publishes sets from serial 10 on, and asks for what changed since versions.
+fn expect_since<R: AllocGlobal + Abort, S: VersionStore>(
+    rt: &R,
+    log: &mut S,
+    sets: &[Rows],
+    table: &[(u32, Option<(Rows, Rows)>)],
+) -> Result<(), Fail> {
+    let alloc = rt.alloc();
+    for rows in sets {
+        let _published = publish(log, alloc, rows)?;
+    }
+    for &(serial, want) in table {
+        match (log.since(Serial(serial))?, want) {
+            (Since::Unknown, None) => {}
+            (Since::Change(change), Some((withdraw, announce))) => {
+                assert!(rt;
+                    change.withdraw.is_same(&set_of(alloc, withdraw)?),
+                    "{serial}"
+                );
+                assert!(rt;
+                    change.announce.is_same(&set_of(alloc, announce)?),
+                    "{serial}"
+                );
+            }
+            _ => return Err(Fail::from("another answer")),
+        }
+    }
+    Ok(())
+}
+
+#[test]
+fn what_comes_and_goes_is_in_neither_list(rt: HostRuntime) -> Result<(), Fail> {
+    let alloc = rt.alloc();
+    let on: [Rows; 4] = [&[], &[V], &[V, W], &[W]];
+    let on_table: [(u32, Option<(Rows, Rows)>); 2] = [
+        (10, Some((&[], &[W]))),
+        (11, Some((&[V], &[W]))),
+    ];
+    let back: [Rows; 3] = [&[V], &[], &[V]];
+    let back_table: [(u32, Option<(Rows, Rows)>); 3] = [
+        (10, Some((&[], &[]))),
+        (11, Some((&[], &[V]))),
+        (13, None),
+    ];
+    for (sets, table) in [
+        (on.as_slice(), on_table.as_slice()),
+        (back.as_slice(), back_table.as_slice()),
+    ] {
+        expect_since(&rt, &mut VersionLog::new(alloc, 1, 10, 8)?, sets, table)?;
+        expect_since(&rt, &mut WholeLog::new(alloc, 1, 10, 8)?, sets, table)?;
+    }
+    Ok(())
+}
+
+#[test]
+fn kept_steps_are_lent(rt: HostRuntime) -> Result<(), Fail> {
+    let alloc = rt.alloc();
+    let mut log = VersionLog::new(alloc, 1, 10, 2)?;
+    assert!(rt; log.kept(0).is_none());
+    let sets: [Rows; 4] = [&[], &[V], &[V, W], &[W]];
+    for rows in sets {
+        let _published = publish(&mut log, alloc, rows)?;
+    }
+    let steps: [(Rows, Rows); 2] = [(&[], &[W]), (&[V], &[])];
+    for (place, (withdraw, announce)) in steps.iter().enumerate() {
+        let Some(step) = log.kept(place) else {
+            return Err(Fail::from("no step"));
+        };
+        assert!(rt; step.withdraw.is_same(&set_of(alloc, withdraw)?), "{place}");
+        assert!(rt; step.announce.is_same(&set_of(alloc, announce)?), "{place}");
+    }
+    assert!(rt; log.kept(2).is_none());
+    Ok(())
+}
+
+#[test]
+fn few_groups_are_read(rt: HostRuntime) -> Result<(), Fail> {
+    let nested = [("10.0.0.0/8", 24, 1), ("10.1.0.0/16", 16, 2)];
+    let index = OriginIndex::over(rt.alloc(), &set_of(rt.alloc(), &nested)?)?;
+    let table = [
+        ("10.1.2.0/24", OriginState::Valid, 50),
+        ("0.0.0.0/0", OriginState::NotFound, 2),
+    ];
+    for (text, want, most) in table {
+        let prefix = IpPrefix::parse(text)?;
+        let origin = Some(1);
+        let (state, probes) = index.state_counted(&Route { prefix, origin });
+        assert_eq!(rt; state, want, "{text}");
+        assert!(rt; probes <= most, "{text}: {probes}");
+    }
+    Ok(())
+}
+
+fn expect_no_reading<R: AllocGlobal + Abort>(rt: &R, index: &OriginIndex) -> Result<(), Fail> {
+    let prefix = IpPrefix::parse("10.0.0.0/8")?;
+    let origin = Some(1);
+    let (state, probes) = index.state_counted(&Route { prefix, origin });
+    assert_eq!(rt; state, OriginState::NotFound);
+    assert_eq!(rt; probes, 0);
+    Ok(())
+}
+
+#[test]
+fn an_index_of_no_record_reads_no_group(rt: HostRuntime) -> Result<(), Fail> {
+    let alloc = rt.alloc();
+    expect_no_reading(&rt, &OriginIndex::over(alloc, &VrpSet::empty(alloc))?)?;
+    expect_no_reading(&rt, &OriginIndex::empty(alloc))
+}
+
+#[test]
+fn gathered_records_make_a_set(rt: HostRuntime) -> Result<(), Fail> {
+    let alloc = rt.alloc();
+    let mut gathered = Gathered::new(alloc);
+    let v = payload("192.0.2.0/24", 24, 64496)?;
+    let w = payload("198.51.100.0/24", 24, 64497)?;
+    assert!(rt; gathered.insert(w)?);
+    assert!(rt; gathered.insert(v)?);
+    assert!(rt; !gathered.insert(w)?);
+    assert!(rt; gathered.contains(&v));
+    assert_eq!(rt; gathered.len(), 2);
+    let set = gathered.into_set(alloc)?;
+    assert!(rt; set.is_same(&set_of(alloc, &[V, W])?));
     Ok(())
 }
 

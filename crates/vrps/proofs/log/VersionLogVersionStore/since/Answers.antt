@@ -1,27 +1,48 @@
-use Rattle.std.proofs.Common.{◌<◌, ◌≤◌, ap, sym, ◌∙◌, arith, refl}
-use Rattle.std.proofs.Math.ListN.{get_or-map}
-use Rattle.std.proofs.lemmas.List.{length-map}
-use Rattle.std.specs.VecDeque.{deque_len}
-use Rattle.vrps.specs.Change.{between}
-use Rattle.vrps.specs.Logs.{sets_of}
+use Rattle.std.proofs.Common.{◌≡◌, ◌∙◌, Option, Some, None, take, ap, sym, subst, arith}
+use Rattle.std.specs.Option.{option_map}
+use Rattle.vrps.specs.VrpSet.{VrpSet}
+use Rattle.vrps.specs.Steps.{HoldsSteps, back_to}
 use Rattle.vrps.specs.Store.{Known}
-use Rattle.vrps.proofs.LogLaws.{knows, knows_not, past_by}
+use Rattle.vrps.specs.Wholes.{IsBehind}
+use Rattle.vrps.proofs.StepLaws.{change_is, fit_listings, knows_no_step, knows_steps, steps_fit}
 use Rattle.vrps.proofs.log.VersionLogVersionStore.since.Goals as goal
 
-pub returns-in_default-get : goal.returns-in_default-get
-returns-in_default-get c = λ keep i h.
-    let past : deque_len c.args.self.now.sets ≤ c.behind.result = past_by c.behind.result (deque_len c.args.self.now.sets) c.in_default-get.ensures.variant.1 in
-    let some : 0 < deque_len c.args.self.now.sets = c.in-Some.ensures.variant.0 refl in
-    let size = length-map c.args.self.now.sets.items (λ set. set.value) in
-    knows_not keep i c.args.self.now.session c.args.self.now.next.0 c.args.serial.0 c.behind.result (sets_of c.args.self.now) h.holds c.behind.ensures
-    (omega (arith, some, size, c.args.self.now.sets.ok.0)) (omega (arith, past, size, c.args.self.now.sets.ok.0))
+pub returns-then-len-behind : goal.returns-then-len-behind
+returns-then-len-behind c = λ keep i h.
+    let held = subst (λ v. HoldsSteps keep i v) (sym c.self.view_is) h in
+    let behind = subst (λ v. IsBehind v.next c.args.serial.0 c.behind-behind.result) (sym c.self.view_is) c.behind-behind.ensures in
+    let current = ap (option_map (λ s. s.value)) (sym c.in-Some.ensures.value) in
+    let past = c.if-len-behind.true in
+    let size = c.len.ensures.len in
+    knows_no_step keep i _ c.args.serial.0 c.behind-behind.result held behind (λ e. let k : ◌≡◌ {A = Option VrpSet} (Some c.in-Some._now.now.value) None = sym current ∙ e in cc) (omega (arith, past, size))
+
+pub change_of-requires-clause-withdraw : goal.change_of-requires-clause-withdraw
+change_of-requires-clause-withdraw c =
+    let now = c.in-Some._now.now.value in
+    let items = c.self.inside.steps.items in
+    let current = ap (option_map (λ s. s.value)) (sym c.in-Some.ensures.value) in
+    let fits = c.self.invariant.set now current in
+    let steps = c.self.invariant.steps_to now current in
+    (fit_listings (back_to (take c.behind-behind.result items) now) now c.in_ok-lists.lists (steps_fit c.behind-behind.result now items fits steps) fits (c.in_ok-lists.ensures.lists now steps)).0
+
+pub change_of-requires-clause-announce : goal.change_of-requires-clause-announce
+change_of-requires-clause-announce c =
+    let now = c.in-Some._now.now.value in
+    let items = c.self.inside.steps.items in
+    let current = ap (option_map (λ s. s.value)) (sym c.in-Some.ensures.value) in
+    let fits = c.self.invariant.set now current in
+    let steps = c.self.invariant.steps_to now current in
+    (fit_listings (back_to (take c.behind-behind.result items) now) now c.in_ok-lists.lists (steps_fit c.behind-behind.result now items fits steps) fits (c.in_ok-lists.ensures.lists now steps)).1
 
 pub returns : goal.returns
 returns c = λ keep i h.
-    let some : c.behind.result < deque_len c.args.self.now.sets = c.in-Some-get.ensures.variant.0 refl in
-    let size = length-map c.args.self.now.sets.items (λ set. set.value) in
-    (λ j. Known (c.in_ok-change.ensures j)) ∙ (λ j. Known (between (c.as_ref.ensures j) (c.as_ref-2.ensures j)))
-    ∙ knows keep i c.args.self.now.session c.args.self.now.next.0 c.args.serial.0 c.behind.result (sets_of c.args.self.now) c.in-Some.now.now.value c.in-Some-get.before.now.value h.holds c.behind.ensures
-    (ap (λ set. set.value) c.in-Some.ensures.lookup ∙ sym (get_or-map (λ set. set.value) c.args.self.now.sets.items 0 c.in-Some.now.now))
-    (omega (arith, some, size, c.args.self.now.sets.ok.0))
-    (ap (λ set. set.value) c.in-Some-get.ensures.lookup ∙ sym (get_or-map (λ set. set.value) c.args.self.now.sets.items c.behind.result c.in-Some-get.before.now))
+    let now = c.in-Some._now.now.value in
+    let items = c.self.inside.steps.items in
+    let held = subst (λ v. HoldsSteps keep i v) (sym c.self.view_is) h in
+    let behind = subst (λ v. IsBehind v.next c.args.serial.0 c.behind-behind.result) (sym c.self.view_is) c.behind-behind.ensures in
+    let current = ap (option_map (λ s. s.value)) (sym c.in-Some.ensures.value) in
+    let steps = c.self.invariant.steps_to now current in
+    let few = c.if-len-behind.false in
+    let size = c.len.ensures.len in
+    ap Known (c.change_of.ensures ∙ change_is (back_to (take c.behind-behind.result items) now) now c.in_ok-lists.lists (c.in_ok-lists.ensures.lists now steps))
+    ∙ knows_steps keep i _ c.args.serial.0 c.behind-behind.result now held behind current (omega (arith, few, size))

@@ -7,7 +7,7 @@ use Rattle.std.proofs.lemmas.List.{length-append}
 use Rattle.std.proofs.Math.Seq.{take-append_seam}
 use Rattle.vrps.specs.Change.{between}
 use Rattle.vrps.specs.Instance.{Instance, Version, versions_from, with_serial}
-use Rattle.vrps.specs.Log.{HoldsSets, IsBehind}
+use Rattle.vrps.specs.Wholes.{HoldsSets, IsBehind}
 use Rattle.vrps.specs.Serial.{serial_at}
 use Rattle.vrps.specs.Store.{Known, Unknown, is_current, published, since, step_from}
 use Rattle.vrps.specs.VrpSet.{VrpSet}

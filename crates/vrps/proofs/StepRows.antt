@@ -1,0 +1,29 @@
+-- Steps of a log and the groups of records, worked out.
+use Rattle.std.proofs.Common.{◌≡◌, ℕ, List, [], ◌∷◌, Option, Some, None, refl}
+use Rattle.vrps.specs.Change.{between}
+use Rattle.vrps.specs.Steps.{kept_step}
+use Rattle.vrps.specs.VrpSet.{VrpSet}
+use Rattle.vrps.specs.declared.change.Change.{Change}
+
+abbrev KeptIs : ℕ → List VrpSet → ℕ → Option Change → Type 0
+KeptIs keep sets place step = kept_step keep sets place ≡ step
+
+-- four sets were published, and two steps are kept
+oldest_kept : (a b c d : VrpSet) → KeptIs 2 (d ∷ c ∷ b ∷ a ∷ []) 0 (Some (between b c))
+oldest_kept a b c d = refl
+
+newest_kept : (a b c d : VrpSet) → KeptIs 2 (d ∷ c ∷ b ∷ a ∷ []) 1 (Some (between c d))
+newest_kept a b c d = refl
+
+past_the_kept : (a b c d : VrpSet) → KeptIs 2 (d ∷ c ∷ b ∷ a ∷ []) 2 None
+past_the_kept a b c d = refl
+
+-- all steps are kept where they are no more
+all_kept : (a b : VrpSet) → KeptIs 8 (b ∷ a ∷ []) 0 (Some (between a b))
+all_kept a b = refl
+
+none_before_the_first : (a : VrpSet) → KeptIs 8 (a ∷ []) 0 None
+none_before_the_first a = refl
+
+none_published : KeptIs 8 [] 0 None
+none_published = refl
