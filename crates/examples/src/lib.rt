@@ -3,6 +3,8 @@
 #![tactic(auto)]
 
 #[cfg(test)]
+mod caches;
+#[cfg(test)]
 mod elements;
 #[cfg(test)]
 mod manifests;
@@ -14,6 +16,8 @@ mod offers;
 mod prefix_texts;
 #[cfg(test)]
 mod roas;
+#[cfg(test)]
+mod sets;
 #[cfg(test)]
 mod units;
 #[cfg(test)]

@@ -7,3 +7,4 @@ pub mod RouteWords
 pub mod RoaLines
 pub mod ManifestLines
 pub mod OfferLines
+pub mod UnitLines

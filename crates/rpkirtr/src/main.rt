@@ -12,6 +12,7 @@ pub mod routing;
 pub mod runner;
 #[cfg(test)]
 mod tests;
+pub mod units;
 pub mod words;
 
 use std::process::ExitCode;

@@ -9,6 +9,7 @@ use crate::manifests::print_manifest;
 use crate::offering::{offer_directory, tell_answer};
 use crate::roas::print_roa;
 use crate::routing::{print_state, read_route};
+use crate::units::{UnitsEnd, print_units};
 use crate::words::{Order, read_words};
 use der_lite::Moment;
 use hex::FromHexError;
@@ -108,6 +109,7 @@ fn run<R: Files + Net + AllocGlobal + Clone + Drop, O: Write, E: Write>(
         Order::Payloads { now, directories } => {
             payloads(rt, now, directories.as_slice(), out, err)
         }
+        Order::Units { file } => units(rt, file, out),
         Order::Answer {
             session,
             serial,
@@ -219,6 +221,35 @@ fn refuse_payload<O: Write>(fault: PayloadFault, out: &mut O) -> Result<u8, Prog
             Ok(1)
         }
         PayloadFault::Memory => Err(ProgramFault::Memory),
+    }
+}
+
+/// The command `units`: the units with which the bytes of a file begin, as a cache reads them.
+fn units<R: Files + AllocGlobal, O: Write>(
+    rt: &R,
+    file: &str,
+    out: &mut O,
+) -> Result<u8, ProgramFault>
+    ensures { IfOk result (λ s. s ≤ 1) }
+{
+    let bytes = read_file(rt, file)?;
+    let mut lines = BufWriter::new(rt.alloc(), out)?;
+    let end = print_units(bytes.as_slice(), &mut lines)?;
+    let status = tell_end(end, &mut lines)?;
+    lines.flush()?;
+    Ok(status)
+}
+
+/// Tells what follows units, with the status.
+fn tell_end<O: Write>(end: UnitsEnd, out: &mut O) -> Result<u8, ProgramFault>
+    ensures { IfOk result (λ s. s ≤ 1) }
+{
+    match end {
+        UnitsEnd::Whole => Ok(0),
+        UnitsEnd::Refused { number, offset } => {
+            writeln!(out, "refused {number} at {offset}")?;
+            Ok(1)
+        }
     }
 }
 

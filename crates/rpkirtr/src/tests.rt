@@ -446,3 +446,81 @@ fn writes_lists(rt: HostRuntime) -> Result<(), Fail> {
     assert!(rt; none.as_str() == "[]");
     Ok(())
 }
+
+/// One unit of each type, and what is printed of it.
+const UNITS: [(&str, &str); 11] = [
+    ("010012340000000c00000005", "serial-notify 4660 5\n"),
+    ("010112340000000c00000005", "serial-query 4660 5\n"),
+    ("0102000000000008", "reset-query\n"),
+    ("0103123400000008", "cache-response 4660\n"),
+    (
+        "010400000000001401181800c00002000000fbf0",
+        "announce 192.0.2.0/24 24 64496\n",
+    ),
+    (
+        "01060000000000200020300020010db80000000000000000000000000000fbf0",
+        "withdraw 2001:db8::/32 48 64496\n",
+    ),
+    (
+        "01071234000000180000000500000e100000025800001c20",
+        "end-of-data 4660 5 3600 600 7200\n",
+    ),
+    ("0108000000000008", "cache-reset\n"),
+    (
+        "010901000000002001010101010101010101010101010101010101010000fbf0",
+        "router-key\n",
+    ),
+    (
+        "010a00000000001c0000000c010112340000000c0000000500000000",
+        "error-report 0 010112340000000c00000005\n",
+    ),
+    ("010a0001000000100000000000000000", "error-report 1 -\n"),
+];
+
+#[test]
+fn tells_units(rt: HostRuntime) -> Result<(), Fail> {
+    let mut all = String::new(rt.alloc());
+    let mut lines = String::new(rt.alloc());
+    for (unit, line) in UNITS {
+        all.push_str(unit)?;
+        lines.push_str(line)?;
+    }
+    fs::write(
+        &rt,
+        "all.bin",
+        hex::decode(rt.alloc(), all.as_str())?.as_slice(),
+    )?;
+    expect(&rt, "units all.bin", 0, lines.as_str(), "")
+}
+
+#[test]
+fn refuses_units(rt: HostRuntime) -> Result<(), Fail> {
+    let cases = [
+        ("", 0u8, ""),
+        ("01", 1, "refused 7 at 0\n"),
+        (
+            "0103123400000008010200",
+            1,
+            "cache-response 4660\nrefused 7 at 8\n",
+        ),
+        ("01040000ffffffff", 1, "refused 3 at 0\n"),
+        (
+            "01031234000000080105000000000008",
+            1,
+            "cache-response 4660\nrefused 2 at 8\n",
+        ),
+        ("0002000000000008", 1, "refused 1 at 0\n"),
+        ("0109000000001001", 1, "refused 4 at 0\n"),
+        (
+            "010400000000001401181700c00002000000fbf0",
+            1,
+            "refused 5 at 0\n",
+        ),
+        ("010a0002000000110000000000000001ff", 1, "refused 6 at 0\n"),
+    ];
+    for (bytes, status, output) in cases {
+        fs::write(&rt, "some.bin", hex::decode(rt.alloc(), bytes)?.as_slice())?;
+        expect(&rt, "units some.bin", status, output, "")?;
+    }
+    expect(&rt, "units gone.bin", 3, "", "rpkirtr: device failed\n")
+}

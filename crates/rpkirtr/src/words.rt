@@ -13,7 +13,7 @@ struct Form {
     lists: &'static [&'static str],
 }
 
-static FORMS: [Form; 5] = [
+static FORMS: [Form; 6] = [
     Form {
         name: "roa",
         options: &[],
@@ -31,6 +31,12 @@ static FORMS: [Form; 5] = [
         options: &["now"],
         words: &[],
         lists: &["DIR"],
+    },
+    Form {
+        name: "units",
+        options: &[],
+        words: &["FILE"],
+        lists: &[],
     },
     Form {
         name: "answer",
@@ -94,6 +100,10 @@ pub enum Order<'a> {
     Payloads {
         now: &'a str,
         directories: Vec<&'a str>,
+    },
+    /// The units with which the bytes of FILE begin.
+    Units {
+        file: &'a str,
     },
     /// The answers of a cache to the bytes that HEX spells.
     Answer {
@@ -169,6 +179,12 @@ fn payloads_order<'a>(alloc: Global, found: &ArgMatches<'a>) -> Result<Order<'a>
     })
 }
 
+fn units_order<'a>(found: &ArgMatches<'a>) -> Result<Order<'a>, ProgramFault> {
+    Ok(Order::Units {
+        file: value(found, "FILE")?,
+    })
+}
+
 fn answer_order<'a>(found: &ArgMatches<'a>) -> Result<Order<'a>, ProgramFault> {
     Ok(Order::Answer {
         session: number_16(found, "session")?,
@@ -194,6 +210,7 @@ pub fn read_words(alloc: Global, words: &[String]) -> Result<Order<'_>, ProgramF
         Some(("roa", found)) => roa_order(found),
         Some(("manifest", found)) => manifest_order(found),
         Some(("payloads", found)) => payloads_order(alloc, found),
+        Some(("units", found)) => units_order(found),
         Some(("answer", found)) => answer_order(found),
         Some(("route", found)) => route_order(found),
         _ => Err(ProgramFault::Words),

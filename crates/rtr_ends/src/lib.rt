@@ -2,8 +2,6 @@
 #![tactic(auto)]
 
 mod cache;
-#[cfg(test)]
-mod cache_tests;
 mod cursor;
 pub mod laws;
 mod link;

@@ -151,7 +151,7 @@ module _ (version : ℕ) where
       )
 
   -- the same, as a router reads them
-  long_front : (any : Bool) (u : Unit) (f : List ℕ) → Reads version u (as_read version any f) → 8 ≤ length f
+  pub long_front : (any : Bool) (u : Unit) (f : List ℕ) → Reads version u (as_read version any f) → 8 ≤ length f
   long_front any u f a =
       let eight : 8 ≤ length (as_read version any f) = subst (λ x. 8 ≤ length x) (sym a.bytes_are) (opens version u a.ignored [] a.fits).eight in
       omega (arith, length-as_read version any f, eight)

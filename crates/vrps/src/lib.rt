@@ -15,8 +15,6 @@ mod search;
 mod serial;
 mod set;
 mod store;
-#[cfg(test)]
-mod tests;
 mod whole;
 
 pub use change::Change;

@@ -1,12 +1,12 @@
-use crate::{
-    Change, Gathered, OriginIndex, OriginState, PathFault, Published, Segment, SegmentKind, Serial,
-    SetFault, Since, VersionLog, VersionStore, VrpSet, WholeLog, origin_of_path,
-};
 use prefixes::{Asn, IpPrefix, Route, Vrp};
 use std::alloc::Global;
 use std::process::Abort;
 use std::rc::Rc;
 use std::test::Fail;
+use vrps::{
+    Change, Gathered, OriginIndex, OriginState, PathFault, Published, Segment, SegmentKind, Serial,
+    SetFault, Since, VersionLog, VersionStore, VrpSet, WholeLog, origin_of_path,
+};
 
 fn payload(text: &str, max_len: u8, asn: u32) -> Result<Vrp, Fail> {
     Ok(Vrp::new(IpPrefix::parse(text)?, max_len, Asn(asn))?)

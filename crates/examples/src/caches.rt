@@ -1,6 +1,6 @@
-use crate::laws::each_has_room;
-use crate::{Cache, Conn, Timing};
 use prefixes::{Asn, IpPrefix, Prefix, V4, Vrp};
+use rtr_ends::laws::each_has_room;
+use rtr_ends::{Cache, Conn, Timing};
 use std::alloc::Global;
 use std::process::Abort;
 use std::test::Fail;
