@@ -47,6 +47,9 @@ da32bfbe0d8eea0f5d3b56023c55d1c23aa91df50233f89c325086b2b206d5a2 a.roa
 [{"asn":64496,"maxLength":24,"prefix":"192.0.2.0/24"}]
 valid
 invalid
+cache-response 4660
+cache-reset
+refused 7 at 16
 END
 cmp -s told wanted || { diff told wanted >&2; exit 1; }
 grep -q '^point new$' errors || exit 1

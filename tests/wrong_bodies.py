@@ -5,8 +5,8 @@ usage: tests/wrong_bodies.py [--after-gate] [NAME | NAME/EDIT]..
 
 Without words all crates are tried, else these crates or single edits (with or without the ending .edit). An edit has the form of
 those in must-fail. Proofs are modular, so edits of different functions are tried in one check: each edited function must be refused
-of its own, and no other. An edit that changes no function, but a constant or a layout, goes alone, as does each edit of a check that
-gave something else. The last line is 'N passed, M failed'.
+of its own, and no other; one that waits for a refused callee is tried again without it. An edit that changes no function, but a
+constant or a layout, goes alone. The last line is 'N passed, M failed'.
 
 --after-gate takes the libraries that a run of the gate has just built in this tree."""
 import importlib.machinery
@@ -166,18 +166,19 @@ def shared(own, places):
 
 
 def judged(crate, edits, kept):
-    """Tries a pack of edits in one check, and again alone what was not refused as it must be."""
-    if len(edits) > 1:
-        own, _ = refused_of_own(crate, texts_of(crate, edits), kept)
-        if own is not None:
-            places = {place for edit in edits for place in edit.places}
-            others = shared(own, places)[1]
-            by = {edit.name: shared(own, edit.places)[0] for edit in edits}
-            if not others:
-                again = [edit for edit in edits if not by[edit.name]]
-                found = [(edit, True, f"refused by {', '.join(by[edit.name])}") for edit in edits if by[edit.name]]
-                return found + [(edit, *judged_alone(crate, edit, kept)) for edit in again]
-    return [(edit, *judged_alone(crate, edit, kept)) for edit in edits]
+    """Tries a pack of edits in one check, what waits there for a refused callee in the next, and alone what no check of several refused as it must be."""
+    found, left = [], edits
+    while len(left) > 1:
+        own, _ = refused_of_own(crate, texts_of(crate, left), kept)
+        if own is None or shared(own, {place for edit in left for place in edit.places})[1]:
+            break
+        by = {edit.name: shared(own, edit.places)[0] for edit in left}
+        well = [edit for edit in left if by[edit.name]]
+        if not well:
+            break
+        found += [(edit, True, f"refused by {', '.join(by[edit.name])}") for edit in well]
+        left = [edit for edit in left if not by[edit.name]]
+    return found + [(edit, *judged_alone(crate, edit, kept)) for edit in left]
 
 
 def tried(crate, edits):
