@@ -91,7 +91,8 @@ def owner_of(head):
         plain = re.sub(r"<[^<>]*>", "", plain)
     words = plain.replace("impl", "", 1).replace("&", "").split()
     names = [it.split("::")[-1] for it in words if it not in ("for", "mut")]
-    return (names[1] + names[0] if "for" in words else names[0]) + "::"
+    # (a check adds the arguments of the trait, as in SetFaultFromAllocError)
+    return (f"{names[1]}{names[0]}*" if "for" in words else names[0]) + "::"
 
 
 def packed(edits):
@@ -121,7 +122,8 @@ def belongs(name, place):
     """Whether a function that a check names is this one, or a closure in it."""
     crate, _, rest = place.partition("::..::")
     if rest:
-        return name.startswith(f"{crate}::") and (name.endswith(f"::{rest}") or f"::fn::{rest}::" in name)
+        method = re.escape(rest).replace(re.escape("*"), r"\w*")
+        return bool(re.match(rf"{crate}::(?:.*::)?(?:fn::)?{method}(?:$|::)", name))
     module, _, function = place.rpartition("::")
     return name == place or name.startswith(f"{module}::fn::{function}::")
 
