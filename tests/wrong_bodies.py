@@ -92,7 +92,8 @@ def owner_of(head):
     words = plain.replace("impl", "", 1).replace("&", "").split()
     names = [it.split("::")[-1] for it in words if it not in ("for", "mut")]
     # (a check adds the arguments of the trait, as in SetFaultFromAllocError)
-    return (f"{names[1]}{names[0]}*" if "for" in words else names[0]) + "::"
+    given = re.match(r"impl(?:<[^>]*>)?\s+[\w:]+<(\w+)>\s+for", head)
+    return (f"{names[1]}{names[0]}{given[1] if given else ''}" if "for" in words else names[0]) + "::"
 
 
 def packed(edits):
@@ -122,22 +123,25 @@ def belongs(name, place):
     """Whether a function that a check names is this one, or a closure in it."""
     crate, _, rest = place.partition("::..::")
     if rest:
-        method = re.escape(rest).replace(re.escape("*"), r"\w*")
-        return bool(re.match(rf"{crate}::(?:.*::)?(?:fn::)?{method}(?:$|::)", name))
+        return bool(re.match(rf"{crate}::(?:.*::)?(?:fn::)?{re.escape(rest)}(?:$|::)", name))
     module, _, function = place.rpartition("::")
     return name == place or name.startswith(f"{module}::fn::{function}::")
 
 
-def refused_of_own(crate, texts, kept):
-    """Checks the crate with these texts, and returns the functions that are refused of their own, or None and why the prover was not reached."""
-    ran = RT.checked(crate, texts, ["--jobs", "1"], kept)
+def refused_of_own(crate, texts, places, kept):
+    """Checks the crate with these texts, or only what stands in these places and what that calls, and returns the functions that are refused of
+    their own, or None and why the prover was not reached."""
+    only = [word for it in sorted(places) for word in ("--only", it.replace("::..::", "::").partition("::")[2])]
+    ran = RT.checked(crate, texts, ["--jobs", "1", *only], kept)
+    if only and ran.returncode == 2:
+        return refused_of_own(crate, texts, set(), kept)
     lines = ran.stdout.rstrip("\n").split("\n")
     unread = next((it for it in lines if RT.unread(it, texts)), "")
     if unread:
         return None, f"the prover cannot read the edited text: {unread[:200]}"
     if ran.returncode == 0:
         return set(), ""
-    if ran.returncode != 1 or not lines[-1].startswith("logic=not-proved"):
+    if ran.returncode != 1 or not lines[-1].startswith(("logic=not-proved", "only=")):
         return None, "it did not reach the prover: " + " | ".join(lines[-4:])[:400]
     said = dict(re.findall(r"(?m)^fn (\S+): (.*)$", ran.stdout))
     own = {name for name, what in said.items() if not what.startswith("proved") and not MASKED.search(what)}
@@ -146,7 +150,7 @@ def refused_of_own(crate, texts, kept):
 
 def judged_alone(crate, edit, kept):
     """Whether the edit, tried alone, is refused by what it changes, and what to say."""
-    own, why = refused_of_own(crate, edit.texts, kept)
+    own, why = refused_of_own(crate, edit.texts, set() if edit.goes_alone() else edit.places, kept)
     if own is None:
         return False, f"BAD EDIT: {why}"
     if not own:
@@ -171,8 +175,9 @@ def judged(crate, edits, kept):
     """Tries a pack of edits in one check, what waits there for a refused callee in the next, and alone what no check of several refused as it must be."""
     found, left = [], edits
     while len(left) > 1:
-        own, _ = refused_of_own(crate, texts_of(crate, left), kept)
-        if own is None or shared(own, {place for edit in left for place in edit.places})[1]:
+        places = {place for edit in left for place in edit.places}
+        own, _ = refused_of_own(crate, texts_of(crate, left), places, kept)
+        if own is None or shared(own, places)[1]:
             break
         by = {edit.name: shared(own, edit.places)[0] for edit in left}
         well = [edit for edit in left if by[edit.name]]
