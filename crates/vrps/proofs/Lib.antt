@@ -1,5 +1,6 @@
 pub mod Blocks
 pub mod Cuts
+pub mod Fronts
 pub mod Gathers
 pub mod Grouped
 pub mod Headed

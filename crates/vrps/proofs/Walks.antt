@@ -170,7 +170,7 @@ any-left_out q vs ws =
     ∙ (λ i. has-set_of vs q i && not (has-set_of ws q i))
 
 -- the members of one list without those of a second, together with those of a third
-any-led : (q : Payload) (vs ws zs : List Payload) → list_any (same_vrp q) (led vs ws zs) ≡ ((list_any (same_vrp q) vs && not (list_any (same_vrp q) ws)) || list_any (same_vrp q) zs)
+pub any-led : (q : Payload) (vs ws zs : List Payload) → list_any (same_vrp q) (led vs ws zs) ≡ ((list_any (same_vrp q) vs && not (list_any (same_vrp q) ws)) || list_any (same_vrp q) zs)
 any-led q vs ws zs =
     sym (has-listing (union (without (set_of vs) (set_of ws)) (set_of zs)) q) ∙ has-union (without (set_of vs) (set_of ws)) (set_of zs) q
     ∙ (λ i. has-without (set_of vs) (set_of ws) q i || has-set_of zs q i)
@@ -235,7 +235,7 @@ left_out_ascends vs ws = listing_ascends (without (set_of vs) (set_of ws))
 led_none : (vs ws : List Payload) → led vs ws [] ≡ left_out vs ws
 led_none vs ws = same_listing _ _ (led_ascends vs ws []) (left_out_ascends vs ws) (λ q. any-led q vs ws [] ∙ or-false _ ∙ sym (any-left_out q vs ws))
 
-left_out_above : (x : Payload) (vs ws : List Payload) → Above x vs → Above x (left_out vs ws)
+pub left_out_above : (x : Payload) (vs ws : List Payload) → Above x vs → Above x (left_out vs ws)
 left_out_above x vs ws h = subst (λ l. Above x l) (led_none vs ws) (led_above x vs ws [] h tt)
 
 -- no record, cut at any

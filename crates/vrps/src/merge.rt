@@ -1,17 +1,18 @@
 //! Steps from version to version, merged into one change.
-ghost use Rattle.std.specs.Prelude.{◌≡◌, ◌≤◌, [], take, length, IfOk};
+ghost use Rattle.std.specs.Prelude.{◌≡◌, ◌≤◌, [], ◌∷◌, ◌++◌, not, ◌&&◌, if◌then◌else◌, take, length, option_map, IfOk};
 ghost use Rattle.std.specs.List.Sorted.{IsStrictlySortedBy};
 ghost use Rattle.prefixes.specs.Payload.{vrp_cmp};
 ghost use Rattle.vrps.specs.Change.{between};
-ghost use Rattle.vrps.specs.Merging.{AreLists, AreMerged, Ascend};
+ghost use Rattle.vrps.specs.Merging.{AreLists, AreMerged, Ascend, IsFront, first_and};
 ghost use Rattle.vrps.specs.Steps.{AreSteps, back_to};
 ghost use Rattle.vrps.specs.VrpSet.{VrpSet as Vrps};
-ghost use Rattle.vrps.specs.Walk.{led};
+ghost use Rattle.vrps.specs.Walk.{left_out};
 
-use crate::change::{Change, cut_at, differences};
+use crate::change::{Change, differences};
 use circular_buffer::HeapCircularBuffer;
-use prefixes::Vrp;
+use prefixes::{Vrp, order};
 use std::alloc::{AllocError, Global};
+use std::cmp::Ordering;
 
 /// A change as two ascending lists.
 #[derive(Drop)]
@@ -58,34 +59,151 @@ fn copied(alloc: Global, change: &Change) -> Result<Lists, AllocError>
     Ok(Lists { withdraw, announce })
 }
 
-/// One change and then another, as one change. What comes and goes is in neither list.
+/// One change and then another, as one change. What comes and goes is in neither list. The four lists are walked once, side by side.
 fn joined(alloc: Global, older: &Lists, newer: &Lists) -> Result<Lists, AllocError>
     requires older { Ascend older.now }
     requires newer { Ascend newer.now }
     ensures ascend { IfOk result Ascend }
     ensures merged { IfOk result (AreMerged older.now newer.now) }
 {
-    let (gone, came) = differences(alloc, &older.withdraw, &newer.announce)?;
-    let (kept, left) = differences(alloc, &older.announce, &newer.withdraw)?;
-    let withdraw = united(alloc, &gone, &left)?;
-    let announce = united(alloc, &kept, &came)?;
-    Ok(Lists { withdraw, announce })
+    let gone = older.withdraw.as_slice();
+    let came = older.announce.as_slice();
+    let lost = newer.withdraw.as_slice();
+    let new = newer.announce.as_slice();
+    let mut lists = Lists {
+        withdraw: Vec::with_capacity(alloc, gone.len() + lost.len())?,
+        announce: Vec::with_capacity(alloc, came.len() + new.len())?,
+    };
+    let mut p = front_of(gone, new);
+    let mut q = front_of(lost, came);
+    while let (Some(x), Some(y)) = (p.first, q.first) {
+        match order(x, y) {
+            Ordering::Less => {
+                put(&mut lists, x, p.of_s)?;
+                p = front_of(p.s, p.t);
+            }
+            Ordering::Greater => {
+                put(&mut lists, y, q.of_s)?;
+                q = front_of(q.s, q.t);
+            }
+            Ordering::Equal => {
+                put_other(&mut lists, y, p.of_s, q.of_s)?;
+                q = front_of(q.s, q.t);
+            }
+        }
+    }
+    put_all(alloc, &mut lists, p)?;
+    put_all(alloc, &mut lists, q)?;
+    Ok(lists)
 }
 
-/// The records of both ascending lists, in ascending order.
-fn united(alloc: Global, s: &[Vrp], t: &[Vrp]) -> Result<Vec<Vrp>, AllocError>
+/// The first of the records that stand in just one of two ascending lists, and the lists from there on.
+#[derive(Clone, Copy)]
+struct Front<'a> {
+    first: Option<&'a Vrp>,
+    /// Whether the first record is one of `s`.
+    of_s: bool,
+    s: &'a [Vrp],
+    t: &'a [Vrp],
+}
+
+/// The front of two ascending lists. The time is linear in the number of records that stand in both and are passed over.
+#[inline(always)]
+fn front_of<'a>(s: &'a [Vrp], t: &'a [Vrp]) -> Front<'a>
     requires s_ascends { IsStrictlySortedBy vrp_cmp s.now }
     requires t_ascends { IsStrictlySortedBy vrp_cmp t.now }
-    ensures { IfOk result (λ items. items.items ≡ led s.now [] t.now) }
+    ensures front { IsFront s.now t.now (option_map (λ v. v.now) result.first) result.of_s result.s.now result.t.now }
 {
-    let mut items = Vec::with_capacity(alloc, s.len() + t.len())?;
-    let mut rest = t;
-    for vrp in s {
-        let parts = cut_at(rest, vrp);
-        items.extend_from_slice(parts.below)?;
-        items.push(*vrp)?;
-        rest = parts.above;
+    let mut rest_s = s;
+    let mut rest_t = t;
+    while let [x, more_s @ ..] = rest_s {
+        let [y, more_t @ ..] = rest_t else {
+            return Front {
+                first: Some(x),
+                of_s: true,
+                s: more_s,
+                t: rest_t,
+            };
+        };
+        match order(x, y) {
+            Ordering::Less => {
+                return Front {
+                    first: Some(x),
+                    of_s: true,
+                    s: more_s,
+                    t: rest_t,
+                };
+            }
+            Ordering::Greater => {
+                return Front {
+                    first: Some(y),
+                    of_s: false,
+                    s: rest_s,
+                    t: more_t,
+                };
+            }
+            Ordering::Equal => {
+                rest_s = more_s;
+                rest_t = more_t;
+            }
+        }
     }
-    items.extend_from_slice(rest)?;
-    Ok(items)
+    match rest_t {
+        [y, more_t @ ..] => Front {
+            first: Some(y),
+            of_s: false,
+            s: rest_s,
+            t: more_t,
+        },
+        [] => Front {
+            first: None,
+            of_s: false,
+            s: rest_s,
+            t: rest_t,
+        },
+    }
+}
+
+/// Adds a record to the one list or to the other.
+#[inline(always)]
+fn put(lists: &mut Lists, vrp: &Vrp, withdrawn: bool) -> Result<(), AllocError>
+    ensures withdraw { IfOk result (λ _. lists.new.withdraw.items ≡ lists.old.withdraw.items ++ (if withdrawn then vrp.now ∷ [] else [])) }
+    ensures announce { IfOk result (λ _. lists.new.announce.items ≡ lists.old.announce.items ++ (if not withdrawn then vrp.now ∷ [] else [])) }
+{
+    if withdrawn {
+        lists.withdraw.push(*vrp)?;
+    } else {
+        lists.announce.push(*vrp)?;
+    }
+    Ok(())
+}
+
+/// Adds a record that is to be added to the one list or to the other already, where this is not the same list.
+#[inline(always)]
+fn put_other(lists: &mut Lists, vrp: &Vrp, is_put: bool, withdrawn: bool) -> Result<(), AllocError>
+    ensures withdraw { IfOk result (λ _. lists.new.withdraw.items ≡ lists.old.withdraw.items ++ (if not is_put && withdrawn then vrp.now ∷ [] else [])) }
+    ensures announce { IfOk result (λ _. lists.new.announce.items ≡ lists.old.announce.items ++ (if is_put && not withdrawn then vrp.now ∷ [] else [])) }
+{
+    if is_put && !withdrawn {
+        lists.announce.push(*vrp)?;
+    } else if !is_put && withdrawn {
+        lists.withdraw.push(*vrp)?;
+    }
+    Ok(())
+}
+
+/// Adds what stands in just one of the two lists, from their front on.
+fn put_all(alloc: Global, lists: &mut Lists, front: Front) -> Result<(), AllocError>
+    requires s_ascends { IsStrictlySortedBy vrp_cmp front.s.now }
+    requires t_ascends { IsStrictlySortedBy vrp_cmp front.t.now }
+    ensures withdraw { IfOk result (λ _. lists.new.withdraw.items ≡ lists.old.withdraw.items ++ first_and (option_map (λ v. v.now) front.entry.first) front.entry.of_s (left_out front.entry.s.now front.entry.t.now)) }
+    ensures announce { IfOk result (λ _. lists.new.announce.items ≡ lists.old.announce.items ++ first_and (option_map (λ v. v.now) front.entry.first) (not front.entry.of_s) (left_out front.entry.t.now front.entry.s.now)) }
+{
+    if let Some(vrp) = front.first {
+        put(lists, vrp, front.of_s)?;
+    }
+    let (only_s, only_t) = differences(alloc, front.s, front.t)?;
+    lists.withdraw.extend_from_slice(only_s.as_slice())?;
+    lists.announce.extend_from_slice(only_t.as_slice())?;
+    Ok(())
 }
