@@ -6,21 +6,6 @@ use Rattle.std.specs.Io.KnownBytes.{Appends}
 use Rattle.std.proofs.KnownBytes.{Appends-trans}
 use Rattle.std.proofs.lemmas.List.Concat.{flat_map-append}
 use Rattle.hex.specs.Hex.{encode_lower, encode_with, lower_digits}
-use Rattle.rtr_pdu.specs.declared.unit.Unit.{Unit}
-use Rattle.rtr_ends.specs.Answer.{sent}
-use Rattle.rpkirtr.specs.Lines.{line_of, lines_of}
-
--- the lines of units in a row
-pub lines-append : (us vs : List Unit) → lines_of (us ++ vs) ≡ lines_of us ++ lines_of vs
-lines-append us vs = flat_map-append line_of us vs
-
--- one line more
-pub prints_line : (a b c d : Option (List ℕ)) (done : List Unit) (u : Unit) (bytes : List ℕ) → Appends a b (lines_of done) → bytes ≡ sent u → Appends b c (encode_lower bytes)
-    → Appends c d (codes "\n") → Appends a d (lines_of (done ++ u ∷ []))
-prints_line a b c d done u bytes before is digits ended =
-    let line : encode_lower bytes ++ codes "\n" ≡ lines_of (u ∷ []) = ap (λ x. encode_lower x ++ codes "\n") is ∙ sym (append-nil (line_of u)) in
-    let after : Appends b d (encode_lower bytes ++ codes "\n") = Appends-trans b c d (encode_lower bytes) (codes "\n") digits ended in
-    subst (λ x. Appends a d x) (ap (λ x. lines_of done ++ x) line ∙ sym (lines-append done (u ∷ []))) (Appends-trans a b d (lines_of done) (encode_lower bytes ++ codes "\n") before after)
 
 -- one element more of a list whose elements are printed in their order
 pub prints_next : {X : Type 0} (f : X → List ℕ) (a b c : Option (List ℕ)) (xs : List X) (i : ℕ) (x : X) → i < length xs → x ≡ get_or xs i x → Appends a b (flat_map f (take i xs)) → Appends b c (f x)

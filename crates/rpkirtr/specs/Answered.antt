@@ -1,52 +1,56 @@
--- What the program makes of bytes of Reset Queries.
-use Rattle.std.specs.Prelude.{◌≡◌, ◌≢◌, ◌⊎◌, ℕ, ◌<◌, false, List, [], ◌∷◌, ◌++◌, length, map, Option}
-use Rattle.std.specs.Io.KnownBytes.{Appends}
+-- What the cache answers to bytes, line by line.
+use Rattle.std.specs.Prelude.{◌≡◌, ℕ, ◌-◌, Bool, true, false, List, [], ◌∷◌, ◌++◌, length, string_bytes, Option, Some, None, MatchBool, ⊤}
+use Rattle.std.specs.List.{AllByRecursion}
 use Rattle.vrps.specs.Instance.{Instance}
-use Rattle.rtr_pdu.specs.Stream.{IsPartial, Shows}
-use Rattle.rtr_pdu.specs.Unit.{Reads}
+use Rattle.rtr_pdu.specs.Stream.{Splits}
 use Rattle.rtr_pdu.specs.declared.unit.Unit.{Unit}
-use Rattle.rtr_pdu.specs.declared.unit.Unit.TheVariants.{ResetQuery}
 use Rattle.rtr_pdu.specs.declared.unit.UnitFault.{UnitFault}
-use Rattle.rtr_ends.specs.Connection.{Moment, Read, replies_from}
+use Rattle.rtr_ends.specs.Connection.{Connection, Moment, Read, Wanting, Fault, Notify, Pull, IsHistory, after_all, opened, replies_from}
 use Rattle.rtr_ends.specs.Timing.{default_intervals}
 use Rattle.rpkirtr.specs.declared.answering.Answered.{Answered}
-use Rattle.rpkirtr.specs.declared.answering.Answered.TheVariants.{Whole, Left, Refused}
 use Rattle.rpkirtr.specs.Lines.{lines_of}
 
--- These are Reset Queries that make up these bytes, one after the other.
-abbrev pub AreResetQueries : List (List ℕ) → List ℕ → Type 0
-AreResetQueries [] bytes = bytes ≡ []
-AreResetQueries (query ∷ queries) bytes =
-    Reads 1 ResetQuery query × ((rest : List ℕ) × (bytes ≡ query ++ rest) × AreResetQueries queries rest)
+-- Units are read and answered as the cache is, bytes show a fault, or bytes are pulled. Nothing else happens: no memory is wanting.
+abbrev pub IsOf : Instance → Moment → Type 0
+IsOf i (Read cache unit bytes) = cache ≡ i
+IsOf i (Wanting cache unit bytes) = ⊥
+IsOf i (Fault fault bytes) = ⊤
+IsOf i (Notify cache) = ⊥
+IsOf i (Pull count) = ⊤
 
--- what happens by them on a connection of this cache
-abbrev pub moments_of : Instance → List (List ℕ) → List Moment
-moments_of i queries = map (λ query. Read i ResetQuery query) queries
+abbrev pub at_end : Instance → List Moment → Connection
+at_end i moments = after_all 1 default_intervals (opened i) moments
 
--- What follows the queries: nothing; a unit of another kind, or bytes that show a fault; or the beginning of a unit
-pub record IsOther (bytes : List ℕ) : Type 0 where
-  pub front : List ℕ
-  pub back : List ℕ
-  pub whole : bytes ≡ front ++ back
-  pub unit_or_fault : ((u : Unit) × (u ≢ ResetQuery) × Reads 1 u front) ⊎ ((fault : UnitFault) × Shows 1 front fault)
-
-abbrev pub Follows : ℕ → List ℕ → Answered → Type 0
-Follows at rest Whole = rest ≡ []
-Follows at rest (Left offset) = (offset ≡ at) × (0 < length rest) × IsPartial 1 rest
-Follows at rest (Refused offset) = (offset ≡ at) × IsOther rest
-
--- The bytes begin with Reset Queries; the units of the replies to them are printed, a line each; and this is what follows them.
-pub record Answers (i : Instance) (keep : ℕ) (bytes : List ℕ) (old new : Option (List ℕ)) (answered : Answered) : Type 0 where
-  pub queries : List (List ℕ)
-  pub front : List ℕ
+-- Bytes are handed in on a connection of this cache to the last, or to its end, and all that is due is pulled: these units are its
+-- replies, and this tells whether it has ended.
+pub record Replies (i : Instance) (bytes : List ℕ) (units : List Unit) (ended : Bool) : Type 0 where
+  pub moments : List Moment
+  pub came : List ℕ
   pub rest : List ℕ
-  pub whole : bytes ≡ front ++ rest
-  pub resets : AreResetQueries queries front
-  pub printed : Appends old new (lines_of (replies_from keep default_intervals false (moments_of i queries)))
-  pub follows : Follows (length front) rest answered
+  pub whole : bytes ≡ came ++ rest
+  pub history : IsHistory 1 default_intervals (opened i) moments came
+  pub own : AllByRecursion (IsOf i) moments
+  pub pulled : (at_end i moments).due ≡ []
+  pub ended_is : (at_end i moments).ended ≡ ended
+  pub all : ended ≡ false → rest ≡ []
+  pub units_are : units ≡ replies_from 1 default_intervals false moments
 
--- The bytes end with these of a unit, if any.
-abbrev pub Ends : List ℕ → ℕ → Answered → Type 0
-Ends held at Whole = held ≡ []
-Ends held at (Left offset) = (offset ≡ at) × (0 < length held)
-Ends held at (Refused offset) = ⊥
+-- where the beginning of a unit stands that follows the units of a stream
+abbrev pub offset_of : ℕ → List ℕ → Option UnitFault → Option ℕ
+offset_of size (b ∷ rest) None = Some (size - length (b ∷ rest))
+offset_of size rest fault = None
+
+pub record LeavesOff (bytes : List ℕ) (left : Option ℕ) : Type 0 where
+  pub units : List Unit
+  pub rest : List ℕ
+  pub fault : Option UnitFault
+  pub splits : Splits 1 false bytes units rest fault
+  pub left_is : left ≡ offset_of (length bytes) rest fault
+
+-- A line tells each unit of the replies. What is left is nothing where the connection has ended.
+pub record AnswersBytes (i : Instance) (bytes : List ℕ) (answered : Answered) : Type 0 where
+  pub units : List Unit
+  pub ended : Bool
+  pub replies : Replies i bytes units ended
+  pub lines : string_bytes answered.lines ≡ lines_of units
+  pub left : MatchBool ended (answered.left ≡ None) (LeavesOff bytes answered.left)

@@ -8,3 +8,4 @@ pub mod RoaLines
 pub mod ManifestLines
 pub mod OfferLines
 pub mod UnitLines
+pub mod Serves

@@ -1,99 +1,201 @@
-//! The answers of a cache, printed a unit a line.
-ghost use Rattle.std.specs.Prelude.{◌≡◌, ◌↔◌, ℕ, IfOk, IsTrue, OnOk};
-ghost use Rattle.std.specs.Io.KnownBytes.{Appends};
-ghost use Rattle.rtr_pdu.specs.declared.unit.Unit.TheVariants.{ResetQuery};
-ghost use Rattle.rtr_ends.specs.Answer.{answer};
-ghost use Rattle.rtr_ends.specs.Timing.{default_intervals};
-ghost use Rattle.rpkirtr.specs.Answered.{Answers, Ends};
-ghost use Rattle.rpkirtr.specs.Lines.{cache_of, lines_of};
+//! The answers of a cache, a unit a line.
+ghost use Rattle.std.specs.Prelude.{◌≡◌, ℕ, [], ◌++◌, List, string_bytes, IfOk, OnOk, IsErrOf, Ok};
+ghost use Rattle.hex.specs.Hex.{decode_of};
+ghost use Rattle.vrps.specs.Instance.{Instance};
+ghost use Rattle.rpkirtr.specs.Answered.{AnswersBytes, LeavesOff};
+ghost use Rattle.rpkirtr.specs.Lines.{cache_of, line_of};
+ghost use Rattle.rpkirtr.specs.Serves.{HasExchanged, HasLines, HasServed, Serves, Starts, is_internal_error};
 
-use crate::hexadecimal::print_hex;
-use rtr_ends::{Timing, WholeAnswer};
-use rtr_pdu::{Next, Unit, UnitBuffer, UnitReader};
-use std::io::{self, Write};
-use vrps::{Serial, VrpSet};
+use hex::FromHexError;
+use rtr_ends::{Cache, Conn, Timing};
+use rtr_pdu::{Next, Unit, UnitBuffer, UnitReader, encode};
+use std::alloc::{AllocError, Global};
+use vrps::{Serial, VersionLog, VrpSet};
 
-/// The one version that a cache has published.
-#[derive(Clone, Copy)]
-pub struct Published<'a> {
-    pub session: u16,
-    pub serial: u32,
-    pub set: &'a VrpSet,
+/// The answers of a cache to the bytes that came on a connection.
+#[derive(Drop)]
+pub struct Answered {
+    /// A line for each unit of the replies: its bytes in lower-case hexadecimal.
+    pub lines: String,
+    /// The offset in bytes of the beginning of a unit that remains on a connection that has not ended.
+    pub left: Option<usize>,
 }
 
-/// What follows the Reset Queries that were answered. Offsets are in bytes.
+/// Why nothing is answered. The numbers are fixed.
 #[derive(Clone, Copy, Debug, PartialEq, Eq)]
-pub enum Answered {
-    /// Nothing.
-    Whole,
-    /// The beginning of a unit, at this offset.
-    Left(usize),
-    /// Another unit, or a fault, at this offset.
-    Refused(usize),
+pub enum AnswerFault {
+    /// The text is no hexadecimal.
+    BadHex = 1,
+    /// Want of memory.
+    Memory = 2,
 }
 
-/// Prints the units that are left of an answer.
-fn print_units<W: Write>(units: WholeAnswer<'_>, out: &mut W) -> io::Result<()>
-    ensures { OnOk result (Appends (W.contents out.old) (W.contents out.new) (lines_of units.entry)) }
+impl AnswerFault {
+    ghost use Rattle.rpkirtr.specs.Fault.{answer_fault_number};
+
+    /// The number by which the fault is printed.
+    pub fn number(self) -> u8
+        ensures { result ≡ answer_fault_number self }
+    {
+        self as u8
+    }
+}
+
+impl From<AllocError> for AnswerFault {
+    ghost use Rattle.rpkirtr.specs.declared.answering.AnswerFault.TheVariants.{Memory};
+
+    ghost from_gives = { λ _ e. e ≡ Memory };
+
+    fn from(_error: AllocError) -> AnswerFault {
+        AnswerFault::Memory
+    }
+}
+
+/// A cache that has published this set alone, under this serial.
+fn cache_with(
+    alloc: Global,
+    session: u16,
+    serial: u32,
+    set: VrpSet,
+) -> Result<Cache<VersionLog>, AllocError>
+    ensures { IfOk result (λ cache. Starts (cache_of session serial set) cache) }
 {
-    let mut left = units;
-    let mut buffer = UnitBuffer::new();
-    while left.next(&mut buffer) {
-        print_hex(buffer.as_slice(), out)?;
-        writeln!(out)?;
+    let _within_limit = set.len();
+    let log = VersionLog::new(alloc, session, serial, 1)?;
+    let mut cache = Cache::new(alloc, log, Timing::default());
+    let _published = cache.publish(set)?;
+    Ok(cache)
+}
+
+/// Pulls all that is due on a connection, behind what was pulled before.
+fn pull_all(
+    cache: &mut Cache<VersionLog>,
+    conn: Conn,
+    replies: &mut Vec<u8>,
+) -> Result<(), AllocError>
+    requires { (i : Instance) × ((came : List ℕ) × Serves i conn.0 came replies.old.items cache.old) }
+    ensures { (i : Instance) (came : List ℕ) → Serves i conn.0 came replies.old.items cache.old → OnOk result (HasServed i conn.0 came replies.new.items cache.new) }
+{
+    let mut buffer = [0u8; 4096];
+    while cache.has_bytes(conn) {
+        let count = cache.pull(conn, &mut buffer);
+        replies.extend_from_slice(&buffer[..count])?;
     }
     Ok(())
 }
 
-/// Prints the answer to a Reset Query.
-fn print_answer<W: Write>(published: &Published<'_>, out: &mut W) -> io::Result<()>
-    ensures { OnOk result ((keep : ℕ) → Appends (W.contents out.old) (W.contents out.new)
-        (lines_of (answer (cache_of published.now.session published.now.serial published.now.set.now) keep default_intervals ResetQuery).units)) }
+/// Hands in bytes on a connection, piece by piece, and pulls all replies.
+fn exchange(
+    cache: &mut Cache<VersionLog>,
+    conn: Conn,
+    bytes: &[u8],
+    replies: &mut Vec<u8>,
+) -> Result<(), AllocError>
+    requires { (i : Instance) × HasServed i conn.0 [] replies.old.items cache.old }
+    ensures { (i : Instance) → HasServed i conn.0 [] replies.old.items cache.old → OnOk result (HasExchanged i conn.0 bytes.now replies.new.items cache.new) }
 {
-    let serial = Serial(published.serial);
-    let units = WholeAnswer::new(published.session, serial, Timing::default(), published.set);
-    print_units(units, out)
+    let mut rest = bytes;
+    while cache.is_open(conn) && !rest.is_empty() {
+        let count = cache.receive(conn, rest);
+        let (_, behind) = rest.split_at(count);
+        pull_all(cache, conn, replies)?;
+        rest = behind;
+    }
+    Ok(())
 }
 
-/// Answers the Reset Queries with which the bytes begin, and tells what follows them.
-pub fn answer_queries<W: Write>(
-    published: &Published<'_>,
-    bytes: &[u8],
-    out: &mut W,
-) -> io::Result<Answered>
-    ensures { IfOk result (λ answered. (keep : ℕ) → Answers (cache_of published.now.session published.now.serial published.now.set.now)
-        keep bytes.now (W.contents out.old) (W.contents out.new) answered) }
+/// Whether the unit is an Error Report of code 1.
+fn is_internal_error(unit: &Unit) -> bool
+    ensures { result ≡ is_internal_error unit.now }
+{
+    match unit {
+        Unit::ErrorReport(report) => report.code() == 1,
+        _ => false,
+    }
+}
+
+/// Appends the line of a unit.
+fn push_line(alloc: Global, lines: &mut String, unit: &Unit) -> Result<(), AllocError>
+    ensures { OnOk result (string_bytes lines.new ≡ string_bytes lines.old ++ line_of unit.now) }
+{
+    let mut buffer = UnitBuffer::new();
+    encode(unit, &mut buffer);
+    let digits = hex::encode(alloc, buffer.as_slice())?;
+    lines.push_str(digits.as_str())?;
+    lines.push('\n')
+}
+
+/// The lines of the units with which the bytes begin. An Internal Error among them is want of memory at the cache.
+fn unit_lines(alloc: Global, bytes: &[u8]) -> Result<String, AllocError>
+    ensures { IfOk result (λ lines. HasLines bytes.now (string_bytes lines)) }
+{
+    let mut lines = String::new(alloc);
+    let mut reader = UnitReader::for_cache();
+    let mut rest = bytes;
+    while let Next::Unit(unit) = reader.next(&mut rest) {
+        if is_internal_error(&unit) {
+            return Err(AllocError);
+        }
+        push_line(alloc, &mut lines, &unit)?;
+    }
+    Ok(lines)
+}
+
+/// Where the beginning of a unit stands with which the bytes end.
+fn cut_off(bytes: &[u8]) -> Option<usize>
+    ensures { LeavesOff bytes.now result }
 {
     let mut reader = UnitReader::for_cache();
     let mut rest = bytes;
     loop {
         let offset = bytes.len() - rest.len();
         match reader.next(&mut rest) {
-            Next::Unit(unit) if is_reset_query(&unit) => print_answer(published, out)?,
-            Next::Unit(_) => return Ok(Answered::Refused(offset)),
-            Next::Fault(_) => return Ok(Answered::Refused(offset)),
-            Next::NeedMore => return Ok(ended(reader.held(), offset)),
+            Next::Unit(_) => {}
+            Next::Fault(_) => return None,
+            Next::NeedMore if reader.held().is_empty() => return None,
+            Next::NeedMore => return Some(offset),
         }
     }
 }
 
-/// What follows the queries where the bytes end with these of a unit, at this offset.
-fn ended(held: &[u8], offset: usize) -> Answered
-    ensures { Ends held.now offset result }
+/// The answers of a cache without a connection to the bytes that come on a new one.
+fn answers_of(
+    alloc: Global,
+    cache: &mut Cache<VersionLog>,
+    bytes: &[u8],
+) -> Result<Answered, AllocError>
+    requires { (i : Instance) × Starts i cache.old }
+    ensures { (i : Instance) → Starts i cache.old → IfOk result (λ answered. AnswersBytes i bytes.now answered) }
 {
-    if held.is_empty() {
-        Answered::Whole
+    let conn = cache.open()?;
+    let mut replies = Vec::new(alloc);
+    exchange(cache, conn, bytes, &mut replies)?;
+    let lines = unit_lines(alloc, replies.as_slice())?;
+    let left = if cache.is_open(conn) {
+        cut_off(bytes)
     } else {
-        Answered::Left(offset)
-    }
+        None
+    };
+    Ok(Answered { lines, left })
 }
 
-/// Whether the unit is a Reset Query.
-fn is_reset_query(unit: &Unit) -> bool
-    ensures { IsTrue result ↔ (unit.now ≡ Unit.ResetQuery) }
+/// The answers, a unit a line, of a cache that has published this set alone, under this session and serial, to the bytes that come on a
+/// connection. They are given in hexadecimal.
+pub fn answer_lines(
+    alloc: Global,
+    session: u16,
+    serial: u32,
+    set: VrpSet,
+    hex: &str,
+) -> Result<Answered, AnswerFault>
+    ensures ok { IfOk result (λ answered. (bytes : List ℕ) × (decode_of hex.now ≡ Ok bytes) × AnswersBytes (cache_of session serial set) bytes answered) }
+    ensures bad_hex { IsErrOf result AnswerFault.BadHex → (bytes : List ℕ) → ¬ (decode_of hex.now ≡ Ok bytes) }
 {
-    match unit {
-        Unit::ResetQuery => true,
-        _ => false,
-    }
+    let bytes = match hex::decode(alloc, hex) {
+        Ok(bytes) => bytes,
+        Err(FromHexError::OutOfMemory) => return Err(AnswerFault::Memory),
+        Err(_) => return Err(AnswerFault::BadHex),
+    };
+    let mut cache = cache_with(alloc, session, serial, set)?;
+    Ok(answers_of(alloc, &mut cache, bytes.as_slice())?)
 }

@@ -2,7 +2,7 @@
 ghost use Rattle.std.specs.Prelude.{◌≡◌, ◌≤◌, ◌⊎◌, codes, IfOk};
 ghost use Rattle.std.specs.Io.KnownBytes.{Appends};
 
-use crate::answering::{Answered, Published, answer_queries};
+use crate::answering::{AnswerFault, Answered, answer_lines};
 use crate::directories::{Directory, read_directories};
 use crate::listing::{ListFault, read_list, write_list};
 use crate::manifests::print_manifest;
@@ -12,7 +12,6 @@ use crate::routing::{print_state, read_route};
 use crate::units::{UnitsEnd, print_units};
 use crate::words::{Order, read_words};
 use der_lite::Moment;
-use hex::FromHexError;
 use payloads::{PayloadFault, decode_manifest, decode_roa};
 use points::Repository;
 use std::alloc::{AllocError, Global};
@@ -253,7 +252,7 @@ fn tell_end<O: Write>(end: UnitsEnd, out: &mut O) -> Result<u8, ProgramFault>
     }
 }
 
-/// The command `answer`: the answers of a cache that published the list of the file `vrps` alone, to the bytes that `hex` spells.
+/// The command `answer`: the answers of a cache whose one version is the list of the file `vrps`, to the bytes that `hex` spells.
 fn answer<R: Files + AllocGlobal, O: Write>(
     rt: &R,
     session: u16,
@@ -267,21 +266,11 @@ fn answer<R: Files + AllocGlobal, O: Write>(
     let Some(set) = read_set(rt, vrps)? else {
         return refuse("list", out);
     };
-    let bytes = match hex::decode(rt.alloc(), hex) {
-        Ok(bytes) => bytes,
-        Err(FromHexError::OutOfMemory) => return Err(ProgramFault::Memory),
-        Err(_) => return refuse("hex", out),
-    };
-    let published = Published {
-        session,
-        serial,
-        set: &set,
-    };
-    let mut lines = BufWriter::new(rt.alloc(), out)?;
-    let answered = answer_queries(&published, bytes.as_slice(), &mut lines)?;
-    let status = tell_rest(answered, &mut lines)?;
-    lines.flush()?;
-    Ok(status)
+    match answer_lines(rt.alloc(), session, serial, set, hex) {
+        Ok(answered) => tell_answers(&answered, out),
+        Err(AnswerFault::BadHex) => refuse("hex", out),
+        Err(AnswerFault::Memory) => Err(ProgramFault::Memory),
+    }
 }
 
 /// The command `route`: the state of the route that the words name, over the list of the file `vrps`.
@@ -304,18 +293,15 @@ fn route<R: Files + AllocGlobal, O: Write>(
     Ok(0)
 }
 
-/// Tells what follows the queries that were answered, with the status.
-fn tell_rest<O: Write>(answered: Answered, out: &mut O) -> Result<u8, ProgramFault>
+/// Tells the answers of a cache, and where the beginning of a unit remains, with the status.
+fn tell_answers<O: Write>(answered: &Answered, out: &mut O) -> Result<u8, ProgramFault>
     ensures { IfOk result (λ s. s ≤ 1) }
 {
-    match answered {
-        Answered::Whole => Ok(0),
-        Answered::Left(offset) => {
+    out.write_all(answered.lines.as_bytes())?;
+    match answered.left {
+        None => Ok(0),
+        Some(offset) => {
             writeln!(out, "refused 7 at {offset}")?;
-            Ok(1)
-        }
-        Answered::Refused(offset) => {
-            writeln!(out, "refused unit at {offset}")?;
             Ok(1)
         }
     }

@@ -70,8 +70,6 @@ fn refuses(rt: HostRuntime) -> Result<(), Fail> {
         ("w.json 010", "refused hex\n"),
         ("w.json 0x", "refused hex\n"),
         ("bad.json 010", "refused list\n"),
-        ("w.json 010112340000000c00000005", "refused unit at 0\n"),
-        ("w.json 0105000000000008", "refused unit at 0\n"),
     ];
     for (rest, output) in cases {
         let text = format!(in rt.alloc(); "answer --session 4660 --serial 5 --vrps {rest}")?;
@@ -80,6 +78,122 @@ fn refuses(rt: HostRuntime) -> Result<(), Fail> {
     let later = "answer --session 4660 --serial 5 --vrps w.json 01020000000000080102";
     let lines = format!(in rt.alloc(); "{ANSWER}refused 7 at 8\n")?;
     expect(&rt, later, 1, lines.as_str(), "")
+}
+
+/// A Cache Response and an End of Data, of the session 4660.
+const NO_CHANGE: &str = "0103123400000008\n01071234000000180000000500000e100000025800001c20\n";
+
+/// The cache's answers to these bytes, with the status 0.
+fn expect_answers<R: Files + Net + AllocGlobal + Clone + Drop + Abort>(
+    rt: &R,
+    hex: &str,
+    lines: &str,
+) -> Result<(), Fail> {
+    let text = format!(in rt.alloc(); "answer --session 4660 --serial 5 --vrps all.json {hex}")?;
+    expect(rt, text.as_str(), 0, lines, "")
+}
+
+#[test]
+fn answers_each_unit(rt: HostRuntime) -> Result<(), Fail> {
+    fs::write(&rt, "all.json", V)?;
+    let twice = format!(in rt.alloc(); "{NO_CHANGE}{NO_CHANGE}")?;
+    let query = "010112340000000c00000005";
+    expect_answers(&rt, query, NO_CHANGE)?;
+    let repeated = format!(in rt.alloc(); "{query}{query}")?;
+    expect_answers(&rt, repeated.as_str(), twice.as_str())?;
+    let reset_then_query = format!(in rt.alloc(); "0102000000000008{query}")?;
+    let both = format!(in rt.alloc(); "{ANSWER}{NO_CHANGE}")?;
+    expect_answers(&rt, reset_then_query.as_str(), both.as_str())?;
+    // A serial that is not kept, and another session.
+    expect_answers(&rt, "010112340000000c00000009", "0108000000000008\n")?;
+    expect_answers(
+        &rt,
+        "010143210000000c00000005",
+        "010a00000000001c0000000c010143210000000c0000000500000000\n",
+    )?;
+    // Units that no router sends to a cache.
+    expect_answers(
+        &rt,
+        "0108000000000008",
+        "010a00030000001800000008010800000000000800000000\n",
+    )
+}
+
+#[test]
+fn looks_at_nothing_after_an_end(rt: HostRuntime) -> Result<(), Fail> {
+    fs::write(&rt, "all.json", V)?;
+    let report = "010a00030000001800000008010800000000000800000000\n";
+    expect_answers(&rt, "01080000000000080102000000000008", report)?;
+    expect_answers(&rt, "01080000000000080102", report)?;
+    // An Error Report is not answered.
+    expect_answers(&rt, "010a00000000001000000000000000000102", "")
+}
+
+#[test]
+fn answers_a_fault(rt: HostRuntime) -> Result<(), Fail> {
+    fs::write(&rt, "all.json", V)?;
+    let cases = [
+        (
+            "01040000ffffffff",
+            "010a0000000000180000000801040000ffffffff00000000\n",
+        ),
+        (
+            "0105000000000008",
+            "010a00050000001800000008010500000000000800000000\n",
+        ),
+        (
+            "0002000000000008",
+            "010a00040000001800000008000200000000000800000000\n",
+        ),
+    ];
+    for (hex, lines) in cases {
+        expect_answers(&rt, hex, lines)?;
+    }
+    // After a query that was answered the version is agreed on.
+    let lines = format!(in rt.alloc();
+        "{ANSWER}010a00080000001800000008000200000000000800000000\n"
+    )?;
+    expect_answers(&rt, "01020000000000080002000000000008", lines.as_str())
+}
+
+/// So many zeros behind a text.
+fn with_zeros(alloc: Global, text: &str, count: usize) -> Result<String, AllocError> {
+    let mut all = String::from_str(alloc, text)?;
+    for _ in 0..count {
+        all.push('0')?;
+    }
+    Ok(all)
+}
+
+#[test]
+fn reports_as_much_as_fits(rt: HostRuntime) -> Result<(), Fail> {
+    fs::write(&rt, "all.json", V)?;
+    let key = with_zeros(rt.alloc(), "0109010000001000", 8176)?;
+    let report = with_zeros(
+        rt.alloc(),
+        "010a00030000100000000ff00109010000001000",
+        8144 + 8,
+    )?;
+    let line = format!(in rt.alloc(); "{report}\n")?;
+    expect_answers(&rt, key.as_str(), line.as_str())
+}
+
+#[test]
+fn answers_another_session(rt: HostRuntime) -> Result<(), Fail> {
+    fs::write(&rt, "all.json", V)?;
+    let other = "answer --session 8738 --serial 5 --vrps all.json 010112340000000c00000005";
+    let report = "010a00000000001c0000000c010112340000000c0000000500000000\n";
+    expect(&rt, other, 0, report, "")?;
+    // Without a byte there is no line.
+    let none = words_of(
+        rt.alloc(),
+        "answer --session 4660 --serial 5 --vrps all.json ",
+    )?;
+    let mut out: Vec<u8> = Vec::new(rt.alloc());
+    let mut err: Vec<u8> = Vec::new(rt.alloc());
+    assert_eq!(rt; run_words(&rt, none.as_slice(), &mut out, &mut err), 0);
+    assert!(rt; out.is_empty() && err.is_empty());
+    Ok(())
 }
 
 #[test]

@@ -1,3 +1,4 @@
+pub mod AnswerUnits
 pub mod AnsweringLaws
 pub mod Bytes
 pub mod CacheRows

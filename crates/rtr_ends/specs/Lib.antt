@@ -4,7 +4,6 @@ pub mod CacheState
 pub mod Commit
 pub mod Connection
 pub mod Consumed
-pub mod Cursor
 pub mod Feeding
 pub mod Peer
 pub mod Router

@@ -2,7 +2,6 @@
 #![tactic(auto)]
 
 mod cache;
-mod cursor;
 pub mod laws;
 mod link;
 mod peer;
@@ -10,6 +9,5 @@ mod sender;
 mod timing;
 
 pub use cache::{Cache, Conn};
-pub use cursor::WholeAnswer;
 pub use link::End;
 pub use timing::{Timing, TimingFault};

@@ -1,0 +1,225 @@
+-- What a cache sends are units that can be sent.
+use Rattle.std.specs.Prelude.{◌≡◌, ◌⊎◌, ℕ, suc, zero, ◌+◌, ◌*◌, ◌/◌, ◌%◌, ◌<◌, ◌≤◌, ◌^◌, ◌==◌, Bool, true, false, List, [], ◌∷◌, ◌++◌, map, length, take, min, Option, Some, None, if◌then◌else◌, refl}
+use Rattle.std.proofs.Common.{sym, ap, ◌∙◌, subst, arith, inl, inr}
+use Rattle.std.specs.Int.{byte_at}
+use Rattle.std.specs.List.{AllByRecursion, All}
+use Rattle.std.proofs.lemmas.List.{length-take}
+use Rattle.std.proofs.lemmas.List.Elements.{All-head, All-tail}
+use Rattle.std.proofs.lemmas.Str.{IsUtf8-nil}
+use Rattle.std.proofs.Math.Nat.{min-le_left}
+use Rattle.prefixes.specs.Payload.{Payload, IsPayload}
+use Rattle.prefixes.specs.declared.prefix.IpPrefix.{IpPrefix}
+use Rattle.prefixes.specs.declared.prefix.IpPrefix.TheVariants.{V4, V6}
+use Rattle.vrps.specs.Change.{between}
+use Rattle.vrps.specs.Instance.{Instance, IsInstance, Version, versions, versions_from, with_serial}
+use Rattle.vrps.specs.Serial.{serial_at}
+use Rattle.vrps.specs.VrpSet.{VrpSet, IsVrpSet, listing, without}
+use Rattle.vrps.proofs.Listed.{part_is_set}
+use Rattle.byteorder.specs.Endian.{big_bytes}
+use Rattle.rtr_pdu.specs.Payloads.{AreBytes}
+use Rattle.rtr_pdu.specs.Stream.{type_of}
+use Rattle.rtr_pdu.specs.Unit.{IsUnit}
+use Rattle.rtr_pdu.specs.declared.unit.Unit.{Unit}
+use Rattle.rtr_pdu.specs.declared.unit.Unit.TheVariants.{SerialNotify, SerialQuery, ResetQuery, CacheResponse, Prefix, EndOfData, CacheReset, RouterKey, ErrorReport}
+use Rattle.rtr_pdu.specs.declared.unit.UnitFault.{UnitFault}
+use Rattle.rtr_pdu.specs.declared.unit.UnitFault.TheVariants as faults
+use Rattle.rtr_pdu.proofs.ReadLaws.{AreBytes-take}
+use Rattle.rtr_ends.specs.Answer.{and_end, and_on, announcements, answer, report, response, sent, serial_answer, step_answer, whole_answer, withdrawals}
+use Rattle.rtr_ends.specs.Connection.{Connection, IsHistory, MayCome, Moment, Read, Wanting, Fault, Notify, Pull, after, agreed_after, bytes_of, cache_after, fault_code, fault_report, notice, replies_from, reply}
+use Rattle.rtr_ends.specs.Timing.{default_intervals}
+use Rattle.rtr_ends.proofs.Bytes.{bytes_front}
+
+-- bytes, one behind the other
+abbrev Bytes : List ℕ → Type 0
+Bytes bytes = AllByRecursion (λ b. b < 256) bytes
+
+bytes-append : (xs ys : List ℕ) → Bytes xs → Bytes ys → Bytes (xs ++ ys)
+bytes-append [] ys h k = k
+bytes-append (x ∷ xs) ys h k = (h.0, bytes-append xs ys h.1 k)
+
+low_rest : (x : ℕ) → x % 256 < 256
+low_rest x = omega arith
+
+low_byte : (n x : ℕ) → byte_at n x < 256
+low_byte zero x = omega arith
+low_byte (suc n) x = low_rest (x / 256 ^ suc n)
+
+number : (n x : ℕ) → Bytes (big_bytes n x)
+number zero x = tt
+number (suc n) x = (low_byte n x, number n x)
+
+as_bytes : (bytes : List ℕ) → Bytes bytes → AreBytes bytes
+as_bytes [] h i = omega arith
+as_bytes (b ∷ bytes) h zero = h.0
+as_bytes (b ∷ bytes) h (suc i) = as_bytes bytes h.1 i
+
+from_bytes : (bytes : List ℕ) → AreBytes bytes → Bytes bytes
+from_bytes [] h = tt
+from_bytes (b ∷ bytes) h = (h 0, from_bytes bytes (λ i. h (suc i)))
+
+header_bytes : (kind field size : ℕ) → kind < 256 → Bytes (1 ∷ kind ∷ big_bytes 2 field ++ big_bytes 4 size)
+header_bytes kind field size h = (omega arith, (h, bytes-append (big_bytes 2 field) (big_bytes 4 size) (number 2 field) (number 4 size)))
+
+headed : (kind field size : ℕ) (more : List ℕ) → kind < 256 → Bytes more → Bytes ((1 ∷ kind ∷ big_bytes 2 field ++ big_bytes 4 size) ++ more)
+headed kind field size more h k = bytes-append (1 ∷ kind ∷ big_bytes 2 field ++ big_bytes 4 size) more (header_bytes kind field size h) k
+
+flag_low : (b : Bool) → (if b then 1 else 0) + 2 * 0 < 256
+flag_low true = omega arith
+flag_low false = omega arith
+
+prefix_bytes : (announce : Bool) (p : IpPrefix) (max_len asn : ℕ) → IsPayload (record { prefix = p; max_len = max_len; asn = asn }) → Bytes (sent (Prefix announce (record { prefix = p; max_len = max_len; asn = asn })))
+prefix_bytes announce (V4 p) max_len asn h =
+    headed 4 0 20 (((if announce then 1 else 0) + 2 * 0) ∷ p.len ∷ max_len ∷ 0 ∷ big_bytes 4 p.addr ++ big_bytes 4 asn) (omega arith)
+    (flag_low announce, (omega (arith, h.not_shorter, h.in_family), (omega (arith, h.in_family), (omega arith, bytes-append (big_bytes 4 p.addr) (big_bytes 4 asn) (number 4 p.addr) (number 4 asn)))))
+prefix_bytes announce (V6 p) max_len asn h =
+    headed 6 0 32 (((if announce then 1 else 0) + 2 * 0) ∷ p.len ∷ max_len ∷ 0 ∷ big_bytes 16 p.addr ++ big_bytes 4 asn) (omega arith)
+    (flag_low announce, (omega (arith, h.not_shorter, h.in_family), (omega (arith, h.in_family), (omega arith, bytes-append (big_bytes 16 p.addr) (big_bytes 4 asn) (number 16 p.addr) (number 4 asn)))))
+
+-- an Error Report of these bytes
+report_fit : (code : ℕ) (copy : List ℕ) → code < 2 ^ 16 → AreBytes copy → IsUnit (report code copy)
+report_fit code copy low each = (low, short (length (take 4080 copy)) (length-take 4080 copy), IsUtf8-nil, AreBytes-take 4080 copy each)
+  where
+    short : (n : ℕ) → n ≡ min 4080 (length copy) → n + 0 ≤ 4080
+    short n e = let m = min-le_left 4080 (length copy) in omega (arith, e, m)
+
+report_of : (code : ℕ) (u : Unit) → code < 2 ^ 16 → Bytes (sent u) → AllByRecursion IsUnit (report code (sent u) ∷ [])
+report_of code u low h = (report_fit code (sent u) low (as_bytes (sent u) h), tt)
+
+all_units : (us vs : List Unit) → AllByRecursion IsUnit us → AllByRecursion IsUnit vs → AllByRecursion IsUnit (us ++ vs)
+all_units [] vs h k = k
+all_units (u ∷ us) vs h k = (h.0, all_units us vs h.1 k)
+
+serial_bytes : (kind session serial : ℕ) → kind < 256 → Bytes ((1 ∷ kind ∷ big_bytes 2 session ++ big_bytes 4 12) ++ big_bytes 4 serial)
+serial_bytes kind session serial h = headed kind session 12 (big_bytes 4 serial) h (number 4 serial)
+
+-- records of a set
+records_fit : (announce : Bool) (vs : List Payload) → All IsPayload vs → AllByRecursion IsUnit (map (λ v. Prefix announce v) vs)
+records_fit announce [] h = tt
+records_fit announce (v ∷ vs) h = (All-head IsPayload v vs h, records_fit announce vs (All-tail IsPayload v vs h))
+
+response_fit : (session : ℕ) (now : Version) (records : List Unit) → session < 2 ^ 16 → now.serial < 2 ^ 32 → AllByRecursion IsUnit records → AllByRecursion IsUnit (response session default_intervals now records)
+response_fit session now records low serial h = (low, all_units records _ h ((low, serial, omega arith, omega arith, omega arith), tt))
+
+serial_low : (start position : ℕ) → serial_at start position < 2 ^ 32
+serial_low start position = omega arith
+
+-- versions of sets that can be published
+abbrev AreVersions : List Version → Type 0
+AreVersions vs = AllByRecursion (λ (v : Version). (v.serial < 2 ^ 32) × IsVrpSet v.set) vs
+
+module _ (session : ℕ) (low : session < 2 ^ 16) where
+  whole_fit : (vs : List Version) → AreVersions vs → AllByRecursion IsUnit (whole_answer session default_intervals vs)
+  whole_fit [] h = report_of 2 ResetQuery (omega arith) (header_bytes 2 0 8 (omega arith))
+  whole_fit (now ∷ older) h = response_fit session now (announcements now.set) low h.0.0 (records_fit true (listing now.set) h.0.1.payloads)
+
+  step_fit : (now : Version) (before : Option Version) → now.serial < 2 ^ 32 → IsVrpSet now.set → ((v : Version) → before ≡ Some v → IsVrpSet v.set) → AllByRecursion IsUnit (step_answer session default_intervals now before)
+  step_fit now None serial fits older = (tt, tt)
+  step_fit now (Some before) serial fits older =
+      response_fit session now (withdrawals (without before.set now.set) ++ announcements (without now.set before.set)) low serial
+      (all_units (withdrawals (without before.set now.set)) (announcements (without now.set before.set)) (records_fit false (listing (without before.set now.set)) (part_is_set before.set now.set (older before refl)).payloads)
+      (records_fit true (listing (without now.set before.set)) (part_is_set now.set before.set fits).payloads))
+
+  found_fits : (serial : ℕ) (vs : List Version) → AreVersions vs → (v : Version) → with_serial serial vs ≡ Some v → IsVrpSet v.set
+  found_fits serial [] h v e = absurd (let k : ◌≡◌ {A = Option Version} None (Some v) = e in cc)
+  found_fits serial (x ∷ vs) h v e = by_test (x.serial == serial) e (found_fits serial vs h.1 v)
+    where
+      by_test : (b : Bool) → (if b then Some x else with_serial serial vs) ≡ Some v → (with_serial serial vs ≡ Some v → IsVrpSet v.set) → IsVrpSet v.set
+      by_test true e later = let k : x ≡ v = cc in subst (λ (y : Version). IsVrpSet y.set) k h.0.1
+      by_test false e later = later e
+
+  taken_fits : (n : ℕ) (vs : List Version) → AreVersions vs → AreVersions (take n vs)
+  taken_fits zero vs h = tt
+  taken_fits (suc n) [] h = tt
+  taken_fits (suc n) (v ∷ vs) h = (h.0, taken_fits n vs h.1)
+
+  serial_fit : (keep serial : ℕ) (vs : List Version) → AreVersions vs → AllByRecursion IsUnit (serial_answer session keep default_intervals serial vs)
+  serial_fit keep serial [] h = report_of 2 (SerialQuery session serial) (omega arith) (serial_bytes 1 session serial (omega arith))
+  serial_fit keep serial (now ∷ older) h = step_fit now (with_serial serial (now ∷ take keep older)) h.0.0 h.0.1 (found_fits serial (now ∷ take keep older) (h.0, taken_fits keep older h.1))
+
+versions_fit : (start : ℕ) (sets : List VrpSet) → AllByRecursion IsVrpSet sets → AreVersions (versions_from start sets)
+versions_fit start [] h = tt
+versions_fit start (set ∷ older) h = ((serial_low start (length older), h.0), versions_fit start older h.1)
+
+-- The answer to a unit that was read
+answer_fit : (i : Instance) (keep : ℕ) (u : Unit) → IsInstance i → IsUnit u → AllByRecursion IsUnit (answer i keep default_intervals u).units
+answer_fit i keep ResetQuery is h = whole_fit i.session is.session (versions i) (versions_fit i.start i.sets is.sets)
+answer_fit i keep (SerialQuery session serial) is h = by_test (session == i.session)
+  where
+    by_test : (b : Bool) → AllByRecursion IsUnit (if b then and_on (serial_answer i.session keep default_intervals serial (versions i)) else and_end (report 0 (sent (SerialQuery session serial)) ∷ [])).units
+    by_test true = serial_fit i.session is.session keep serial (versions i) (versions_fit i.start i.sets is.sets)
+    by_test false = report_of 0 (SerialQuery session serial) (omega arith) (serial_bytes 1 session serial (omega arith))
+answer_fit i keep (ErrorReport r) is h = tt
+answer_fit i keep (SerialNotify session serial) is h = report_of 3 (SerialNotify session serial) (omega arith) (serial_bytes 0 session serial (omega arith))
+answer_fit i keep (CacheResponse session) is h = report_of 3 (CacheResponse session) (omega arith) (header_bytes 3 session 8 (omega arith))
+answer_fit i keep (Prefix announce v) is h = report_of 3 (Prefix announce v) (omega arith) (prefix_bytes announce v.prefix v.max_len v.asn h)
+answer_fit i keep (EndOfData session serial refresh retry expire) is h =
+    report_of 3 (EndOfData session serial refresh retry expire) (omega arith)
+    (headed 7 session 24 (big_bytes 4 serial ++ big_bytes 4 refresh ++ big_bytes 4 retry ++ big_bytes 4 expire) (omega arith)
+    (bytes-append (big_bytes 4 serial) (big_bytes 4 refresh ++ big_bytes 4 retry ++ big_bytes 4 expire) (number 4 serial)
+    (bytes-append (big_bytes 4 refresh) (big_bytes 4 retry ++ big_bytes 4 expire) (number 4 refresh) (bytes-append (big_bytes 4 retry) (big_bytes 4 expire) (number 4 retry) (number 4 expire)))))
+answer_fit i keep CacheReset is h = report_of 3 CacheReset (omega arith) (header_bytes 8 0 8 (omega arith))
+answer_fit i keep (RouterKey k) is h =
+    report_of 3 (RouterKey k) (omega arith)
+    (omega arith, (omega arith, (flag_low k.announce, (omega arith, bytes-append (big_bytes 4 (32 + length k.info)) (k.identifier ++ big_bytes 4 k.asn ++ k.info) (number 4 (32 + length k.info)) (bytes-append (k.identifier ++ big_bytes 4 k.asn) k.info (bytes-append k.identifier (big_bytes 4 k.asn) (from_bytes k.identifier h.3) (number 4 k.asn)) (from_bytes k.info h.4))))))
+
+-- The report on a fault
+code_low : (agreed : Bool) (fault : UnitFault) → fault_code agreed fault < 2 ^ 16
+code_low true faults.Version = omega arith
+code_low false faults.Version = omega arith
+code_low agreed faults.«Type» = omega arith
+code_low agreed faults.Length = omega arith
+code_low agreed faults.TooLong = omega arith
+code_low agreed faults.Record = omega arith
+code_low agreed faults.ErrorReport = omega arith
+code_low agreed faults.Truncated = omega arith
+
+maybe_fit : (b : Bool) (code : ℕ) (copy : List ℕ) → code < 2 ^ 16 → AreBytes copy → AllByRecursion IsUnit (if b then [] else report code copy ∷ [])
+maybe_fit true code copy low each = tt
+maybe_fit false code copy low each = (report_fit code copy low each, tt)
+
+fault_fit : (agreed : Bool) (fault : UnitFault) (bytes : List ℕ) → AreBytes bytes → AllByRecursion IsUnit (fault_report agreed fault bytes)
+fault_fit agreed faults.Truncated bytes each = tt
+fault_fit agreed faults.Version bytes each = maybe_fit (type_of bytes == 10) _ bytes (code_low agreed faults.Version) each
+fault_fit agreed faults.«Type» bytes each = maybe_fit (type_of bytes == 10) _ bytes (code_low agreed faults.«Type») each
+fault_fit agreed faults.Length bytes each = maybe_fit (type_of bytes == 10) _ bytes (code_low agreed faults.Length) each
+fault_fit agreed faults.TooLong bytes each = maybe_fit (type_of bytes == 10) _ bytes (code_low agreed faults.TooLong) each
+fault_fit agreed faults.Record bytes each = maybe_fit (type_of bytes == 10) _ bytes (code_low agreed faults.Record) each
+fault_fit agreed faults.ErrorReport bytes each = maybe_fit (type_of bytes == 10) _ bytes (code_low agreed faults.ErrorReport) each
+
+notice_fit : (i : Instance) (sets : List VrpSet) → i.session < 2 ^ 16 → AllByRecursion IsUnit (notice i.session (versions_from i.start sets))
+notice_fit i [] low = tt
+notice_fit i (set ∷ older) low = ((low, serial_low i.start (length older)), tt)
+
+none_bytes : AreBytes []
+none_bytes i = omega arith
+
+reply_fit : (keep : ℕ) (c : Connection) (m : Moment) → MayCome c m → AreBytes (bytes_of m) → AllByRecursion IsUnit (reply keep default_intervals c.agreed m).units
+reply_fit keep c (Read cache unit bytes) h each = answer_fit cache keep unit h.2 h.4.fits
+reply_fit keep c (Wanting cache unit bytes) h each = (report_fit 1 [] (omega arith) none_bytes, tt)
+reply_fit keep c (Fault fault bytes) h each = fault_fit c.agreed fault bytes each
+reply_fit keep c (Notify cache) h each = notice_fit cache cache.sets h.2.session
+reply_fit keep c (Pull count) h each = tt
+
+behind : (front rest : List ℕ) → AreBytes (front ++ rest) → AreBytes rest
+behind [] rest h = h
+behind (b ∷ front) rest h = behind front rest (λ k. h (suc k))
+
+pub agreed_on : (keep : ℕ) (c : Connection) (m : Moment) → (after keep default_intervals c m).agreed ≡ agreed_after c.agreed m
+agreed_on keep c (Read cache unit bytes) = refl
+agreed_on keep c (Wanting cache unit bytes) = refl
+agreed_on keep c (Fault fault bytes) = refl
+agreed_on keep c (Notify cache) = refl
+agreed_on keep c (Pull count) = refl
+
+going_fit : (b : Bool) (us : List Unit) → AllByRecursion IsUnit us → AllByRecursion IsUnit (if b then us else [])
+going_fit true us h = h
+going_fit false us h = tt
+
+-- The replies of a history are units that can be sent.
+pub replies_fit : (keep : ℕ) (c : Connection) (moments : List Moment) (bytes : List ℕ) → IsHistory keep default_intervals c moments bytes → AreBytes bytes → AllByRecursion IsUnit (replies_from keep default_intervals c.agreed moments)
+replies_fit keep c [] bytes h each = tt
+replies_fit keep c (m ∷ later) bytes h each =
+    let all : AreBytes (bytes_of m ++ h.1.0) = subst AreBytes h.1.1 each in
+    let more : AllByRecursion IsUnit (replies_from keep default_intervals (agreed_after c.agreed m) later) =
+    subst (λ b. AllByRecursion IsUnit (replies_from keep default_intervals b later)) (agreed_on keep c m) (replies_fit keep (after keep default_intervals c m) later h.1.0 h.1.2 (behind (bytes_of m) h.1.0 all)) in
+    all_units (reply keep default_intervals c.agreed m).units _ (reply_fit keep c m h.0 (bytes_front (bytes_of m ++ h.1.0) (bytes_of m) h.1.0 refl all)) (going_fit (reply keep default_intervals c.agreed m).goes_on _ more)
