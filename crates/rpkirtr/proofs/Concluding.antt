@@ -1,5 +1,5 @@
 -- The lines of a connection to which all bytes were handed in.
-use Rattle.std.specs.Prelude.{◌≡◌, ℕ, ◌==◌, Bool, true, false, not, ◌||◌, List, [], ◌∷◌, ◌++◌, String, string_bytes, Option, Some, None, if◌then◌else◌, MatchBool, refl}
+use Rattle.std.specs.Prelude.{◌≡◌, ℕ, Bool, true, false, not, List, [], ◌∷◌, ◌++◌, String, string_bytes, Option, None, if◌then◌else◌, MatchBool, refl}
 use Rattle.std.proofs.Common.{Global, sym, ap, ◌∙◌, subst, append-nil}
 use Rattle.std.specs.List.{AllByRecursion}
 use Rattle.vrps.specs.Instance.{Instance}
@@ -8,18 +8,17 @@ use Rattle.rtr_pdu.specs.Payloads.{AreBytes}
 use Rattle.rtr_pdu.specs.Stream.{AreRead, IsPartial, Splits, any_after, as_read}
 use Rattle.rtr_pdu.specs.Unit.{IsUnit}
 use Rattle.rtr_pdu.specs.declared.unit.Unit.{Unit}
-use Rattle.rtr_pdu.specs.declared.unit.UnitFault.{UnitFault}
 use Rattle.rtr_pdu.proofs.ReaderLaws.{partial_empty}
 use Rattle.rtr_pdu.proofs.StreamLaws.{one_split, written_is_read}
 use Rattle.rtr_ends.specs.Answer.{sent, sent_all}
 use Rattle.rtr_ends.specs.Cache.{IsServed}
 use Rattle.rtr_ends.specs.CacheState.{CacheState, ShowsCache, due_at, is_open_at}
-use Rattle.rtr_ends.specs.Connection.{Connection, IsHistory, Moment, Read, Wanting, Fault, Notify, Pull, after, after_all, agreed_after, opened, replies, replies_from, reply}
+use Rattle.rtr_ends.specs.Connection.{Connection, IsHistory, Moment, Read, Wanting, Fault, Notify, Pull, after, agreed_after, opened, replies_from, reply}
 use Rattle.rtr_ends.specs.Timing.{default_intervals}
 use Rattle.rtr_ends.specs.declared.cache.Cache.{Cache}
 use Rattle.rtr_ends.proofs.Bytes.{bytes_front}
 use Rattle.rtr_ends.proofs.ServingLaws.{serves_history}
-use Rattle.rpkirtr.specs.Answered.{AnswersBytes, IsOf, LeavesOff, Replies, at_end}
+use Rattle.rpkirtr.specs.Answered.{AnswersBytes, IsOf, LeavesOff}
 use Rattle.rpkirtr.specs.Lines.{lines_of}
 use Rattle.rpkirtr.specs.Serves.{HasExchanged, HasLines, IsOwn, by_calls, is_internal_error}
 use Rattle.rpkirtr.specs.declared.answering.Answered.{Answered}

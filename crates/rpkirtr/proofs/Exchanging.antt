@@ -5,23 +5,22 @@ use Rattle.std.proofs.lemmas.Bool.Decides.{nat_tests}
 use Rattle.std.specs.List.{AllByRecursion}
 use Rattle.std.proofs.Math.Nat.{min-le_left, min-le_right}
 use Rattle.std.proofs.Math.Seq.{take-append_seam}
-use Rattle.std.proofs.lemmas.List.{append-nil, length-append, length-drop, length-take-le, take-append-drop, take_min}
-use Rattle.vrps.specs.Instance.{Instance, IsInstance}
+use Rattle.std.proofs.lemmas.List.{length-append, length-drop, length-take-le, take-append-drop, take_min}
+use Rattle.vrps.specs.Instance.{Instance}
 use Rattle.vrps.specs.Steps.{HoldsSteps, Steps}
 use Rattle.rtr_pdu.specs.Judging.{Judgement, Begins, Whole, Faulty, judge}
 use Rattle.rtr_pdu.specs.Payloads.{AreBytes}
-use Rattle.rtr_ends.specs.Cache.{CacheCall, Conn, Gives, IsCacheCall, Serving, Taking, Takes, conn_byte, conn_pulled, conn_stops, conn_takes, finds_memory, is_none, moment_of, new_conn, and_moment}
-use Rattle.rtr_ends.specs.CacheState.{CacheState, GivesBytes, ShowsCache, ShowsSlot, TakesPiece, consumed, due_at, given, has_bytes_at, is_open_at, peer_at, taken, with_conn, without_conns}
-use Rattle.rtr_ends.specs.Connection.{Connection, Moment, Read, Wanting, Fault, Notify, Pull, takes_memory}
-use Rattle.rtr_ends.specs.Feeding.{Fed, feed, IsTaken}
-use Rattle.rtr_ends.specs.Sender as sends
+use Rattle.rtr_ends.specs.Cache.{Conn, Gives, Taking, Takes, conn_byte, conn_pulled, conn_stops, conn_takes, finds_memory, is_none, moment_of, and_moment}
+use Rattle.rtr_ends.specs.CacheState.{CacheState, GivesBytes, ShowsCache, ShowsSlot, TakesPiece, consumed, due_at, given, has_bytes_at, is_open_at, peer_at, taken, with_conn}
+use Rattle.rtr_ends.specs.Connection.{Moment, Read, Wanting, takes_memory}
+use Rattle.rtr_ends.specs.Feeding.{Fed, feed}
 use Rattle.rtr_ends.specs.Sender.{due_of}
 use Rattle.rtr_ends.specs.Timing.{Intervals, default_intervals}
 use Rattle.rtr_ends.specs.declared.cache.Cache.{Cache}
 use Rattle.rtr_ends.specs.declared.peer.Peer.{Peer}
 use Rattle.rtr_ends.proofs.FeedingLaws.{feed_keeps, feed_takes, goes_on}
 use Rattle.rpkirtr.proofs.SplitLines.{tests_empty, tests_some}
-use Rattle.rpkirtr.specs.Serves.{HasExchanged, HasServed, IsOwn, Serves, Starts, by_calls}
+use Rattle.rpkirtr.specs.Serves.{HasExchanged, HasServed, IsOwn, Serves, by_calls}
 
 eq_self : (a : ℕ) → (a == a) ≡ true
 eq_self a = grind (arith, nat_tests)

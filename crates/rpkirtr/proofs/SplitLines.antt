@@ -1,10 +1,9 @@
 -- Units that are read one after the other.
-use Rattle.std.proofs.Common.{◌≡◌, ◌⊎◌, ℕ, ◌-◌, ◌+◌, ◌<◌, ◌≤◌, ◌==◌, ◌++◌, Bool, true, false, List, [], ◌∷◌, length, codes, Option, Some, None, arith, length-append, refl, ap, sym, subst, ◌∙◌, append_assoc, append-nil, inl, inr}
+use Rattle.std.proofs.Common.{◌≡◌, ℕ, ◌-◌, ◌<◌, ◌≤◌, ◌==◌, ◌++◌, Bool, true, false, List, [], ◌∷◌, length, Option, Some, None, arith, length-append, refl, ap, sym, subst, ◌∙◌, append_assoc, append-nil, inl, inr}
 use Rattle.std.proofs.lemmas.Bool.Decides.{nat_tests}
 use Rattle.std.specs.Bool.{⊤}
-use Rattle.std.specs.List.{AllByRecursion, flat_map}
+use Rattle.std.specs.List.{AllByRecursion}
 use Rattle.std.proofs.lemmas.List.Concat.{flat_map-append}
-use Rattle.hex.specs.Hex.{encode_lower}
 use Rattle.rtr_pdu.specs.Reader.{Reader, Takes, fresh}
 use Rattle.rtr_pdu.specs.Stream.{IsPartial, Shows, Splits, as_read}
 use Rattle.rtr_pdu.specs.declared.unit.Next.{Next}
@@ -13,7 +12,6 @@ use Rattle.rtr_pdu.specs.declared.unit.Unit.{Unit}
 use Rattle.rtr_pdu.specs.declared.unit.UnitFault.{UnitFault}
 use Rattle.rtr_pdu.proofs.RunLaws.{later_shows}
 use Rattle.rtr_pdu.proofs.StreamLaws.{long_front}
-use Rattle.rtr_ends.specs.Answer.{sent}
 use Rattle.rpkirtr.specs.Answered.{LeavesOff, offset_of}
 use Rattle.rpkirtr.specs.Lines.{line_of, lines_of}
 use Rattle.rpkirtr.specs.Serves.{HasLines, is_internal_error}

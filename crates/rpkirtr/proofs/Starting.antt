@@ -1,6 +1,6 @@
 -- A cache with one version, and a connection on it.
-use Rattle.std.specs.Prelude.{◌≡◌, ℕ, ◌<◌, ◌^◌, ◌==◌, Bool, true, false, List, [], ◌∷◌, Option, Some, None, Ok, if◌then◌else◌, refl}
-use Rattle.std.proofs.Common.{sym, ap, ◌∙◌, subst, arith}
+use Rattle.std.specs.Prelude.{◌≡◌, ℕ, ◌<◌, ◌^◌, true, false, [], Some, Ok, refl}
+use Rattle.std.proofs.Common.{ap}
 use Rattle.vrps.specs.Instance.{Instance, IsInstance}
 use Rattle.vrps.specs.Steps.{HoldsSteps, Steps}
 use Rattle.vrps.specs.Stores.{Publishes}
@@ -8,11 +8,11 @@ use Rattle.vrps.specs.VrpSet.{IsVrpSet, VrpSet}
 use Rattle.vrps.specs.declared.store.Published.{Published}
 use Rattle.vrps.specs.declared.store.Published.TheVariants.{New, Unchanged}
 use Rattle.rtr_ends.specs.Cache.{new_conn}
-use Rattle.rtr_ends.specs.CacheState.{CacheState, ShowsCache, due_at, with_conn, without_conns}
+use Rattle.rtr_ends.specs.CacheState.{ShowsCache, due_at, with_conn, without_conns}
 use Rattle.rtr_ends.specs.Timing.{default_intervals}
 use Rattle.rtr_ends.specs.declared.cache.Cache.{Cache}
 use Rattle.rpkirtr.specs.Lines.{cache_of}
-use Rattle.rpkirtr.specs.Serves.{HasServed, Serves, Starts}
+use Rattle.rpkirtr.specs.Serves.{HasServed, Starts}
 use Rattle.rpkirtr.proofs.Exchanging.{set_at}
 
 abbrev empty_cache : ℕ → ℕ → Instance

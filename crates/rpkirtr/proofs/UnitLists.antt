@@ -1,10 +1,10 @@
 -- Units that are told one after the other.
-use Rattle.std.proofs.Common.{◌≡◌, ℕ, ◌-◌, ◌++◌, true, false, List, [], ◌∷◌, length, Option, Some, None, Result, Ok, Err, ◌+◌, ◌<◌, ◌≤◌, arith, length-append, refl, ap, sym, subst, ◌∙◌, append_assoc, append-nil, inl}
+use Rattle.std.proofs.Common.{◌≡◌, ℕ, ◌-◌, ◌++◌, false, List, [], ◌∷◌, length, Option, Some, None, Ok, Err, ◌<◌, ◌≤◌, arith, length-append, refl, ap, sym, subst, ◌∙◌, append_assoc, append-nil}
 use Rattle.std.specs.List.{flat_map}
 use Rattle.std.specs.Io.KnownBytes.{Appends}
 use Rattle.std.proofs.KnownBytes.{Appends-nil, Appends-trans}
 use Rattle.std.proofs.lemmas.List.Concat.{flat_map-append}
-use Rattle.rtr_pdu.specs.Device.{Answers, SaysOfSplit}
+use Rattle.rtr_pdu.specs.Device.{Answers}
 use Rattle.rtr_pdu.specs.declared.device.ReadFault.{ReadFault}
 use Rattle.rtr_pdu.specs.declared.device.ReadFault.TheVariants as read_faults
 use Rattle.rtr_pdu.specs.Fault.{fault_number}

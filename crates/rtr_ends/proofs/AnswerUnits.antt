@@ -1,6 +1,6 @@
 -- What a cache sends are units that can be sent.
-use Rattle.std.specs.Prelude.{◌≡◌, ◌⊎◌, ℕ, suc, zero, ◌+◌, ◌*◌, ◌/◌, ◌%◌, ◌<◌, ◌≤◌, ◌^◌, ◌==◌, Bool, true, false, List, [], ◌∷◌, ◌++◌, map, length, take, min, Option, Some, None, if◌then◌else◌, refl}
-use Rattle.std.proofs.Common.{sym, ap, ◌∙◌, subst, arith, inl, inr}
+use Rattle.std.specs.Prelude.{◌≡◌, ℕ, suc, zero, ◌+◌, ◌*◌, ◌/◌, ◌%◌, ◌<◌, ◌≤◌, ◌^◌, ◌==◌, Bool, true, false, List, [], ◌∷◌, ◌++◌, map, length, take, min, Option, Some, None, if◌then◌else◌, refl}
+use Rattle.std.proofs.Common.{subst, arith}
 use Rattle.std.specs.Int.{byte_at}
 use Rattle.std.specs.List.{AllByRecursion, All}
 use Rattle.std.proofs.lemmas.List.{length-take}
@@ -10,7 +10,6 @@ use Rattle.std.proofs.Math.Nat.{min-le_left}
 use Rattle.prefixes.specs.Payload.{Payload, IsPayload}
 use Rattle.prefixes.specs.declared.prefix.IpPrefix.{IpPrefix}
 use Rattle.prefixes.specs.declared.prefix.IpPrefix.TheVariants.{V4, V6}
-use Rattle.vrps.specs.Change.{between}
 use Rattle.vrps.specs.Instance.{Instance, IsInstance, Version, versions, versions_from, with_serial}
 use Rattle.vrps.specs.Serial.{serial_at}
 use Rattle.vrps.specs.VrpSet.{VrpSet, IsVrpSet, listing, without}
@@ -25,7 +24,7 @@ use Rattle.rtr_pdu.specs.declared.unit.UnitFault.{UnitFault}
 use Rattle.rtr_pdu.specs.declared.unit.UnitFault.TheVariants as faults
 use Rattle.rtr_pdu.proofs.ReadLaws.{AreBytes-take}
 use Rattle.rtr_ends.specs.Answer.{and_end, and_on, announcements, answer, report, response, sent, serial_answer, step_answer, whole_answer, withdrawals}
-use Rattle.rtr_ends.specs.Connection.{Connection, IsHistory, MayCome, Moment, Read, Wanting, Fault, Notify, Pull, after, agreed_after, bytes_of, cache_after, fault_code, fault_report, notice, replies_from, reply}
+use Rattle.rtr_ends.specs.Connection.{Connection, IsHistory, MayCome, Moment, Read, Wanting, Fault, Notify, Pull, after, agreed_after, bytes_of, fault_code, fault_report, notice, replies_from, reply}
 use Rattle.rtr_ends.specs.Timing.{default_intervals}
 use Rattle.rtr_ends.proofs.Bytes.{bytes_front}
 

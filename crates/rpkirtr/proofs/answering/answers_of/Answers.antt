@@ -1,10 +1,8 @@
-use Rattle.std.proofs.Common.{arith, ap, refl, subst, sym, ◌∙◌, [], List, ℕ}
+use Rattle.std.proofs.Common.{arith, subst, sym, [], List, ℕ}
 use Rattle.rtr_ends.specs.CacheState.{without_conns}
 use Rattle.rtr_ends.specs.Timing.{default_intervals}
-use Rattle.vrps.specs.Instance.{Instance}
-use Rattle.rpkirtr.specs.Answered.{LeavesOff}
-use Rattle.rpkirtr.specs.Serves.{HasLines, HasServed, Starts}
-use Rattle.rpkirtr.proofs.Concluding.{answers_all, answers_ended, answers_open}
+use Rattle.rpkirtr.specs.Serves.{HasServed}
+use Rattle.rpkirtr.proofs.Concluding.{answers_ended, answers_open}
 use Rattle.rpkirtr.proofs.Starting.{opens}
 use Rattle.rpkirtr.proofs.answering.answers_of.Goals as goal
 use Rattle.rpkirtr.proofs.answering.answers_of.Goals.{then-is_open, else-is_open}

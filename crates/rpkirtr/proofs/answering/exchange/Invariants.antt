@@ -1,4 +1,4 @@
-use Rattle.std.proofs.Common.{◌≡◌, [], length}
+use Rattle.std.proofs.Common.{[], length}
 use Rattle.vrps.specs.Instance.{Instance}
 use Rattle.rpkirtr.specs.Serves.{HasServed}
 use Rattle.rpkirtr.proofs.Exchanging.{Exchanging}

@@ -1,4 +1,4 @@
-use Rattle.std.proofs.Common.{ap, arith, subst, sym, ◌∙◌, ◌++◌, List, ℕ, take}
+use Rattle.std.proofs.Common.{arith, subst, sym, ◌∙◌, List, ℕ}
 use Rattle.std.proofs.lemmas.List.{length-take-le}
 use Rattle.rpkirtr.specs.Serves.{Serves}
 use Rattle.rpkirtr.proofs.Exchanging.{pulled_all, pulled_fits, pulled_size, pulls_less, serves_pull}
