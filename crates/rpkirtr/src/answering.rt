@@ -6,6 +6,7 @@ ghost use Rattle.rpkirtr.specs.Answered.{AnswersBytes, LeavesOff};
 ghost use Rattle.rpkirtr.specs.Lines.{cache_of, line_of};
 ghost use Rattle.rpkirtr.specs.Serves.{HasExchanged, HasLines, HasServed, Serves, Starts, is_internal_error};
 
+use crate::hexadecimal::push_hex;
 use hex::FromHexError;
 use rtr_ends::{Cache, Conn, Timing};
 use rtr_pdu::{Next, Unit, UnitBuffer, UnitReader, encode};
@@ -115,13 +116,12 @@ fn is_internal_error(unit: &Unit) -> bool
 }
 
 /// Appends the line of a unit.
-fn push_line(alloc: Global, lines: &mut String, unit: &Unit) -> Result<(), AllocError>
+fn push_line(lines: &mut String, unit: &Unit) -> Result<(), AllocError>
     ensures { OnOk result (string_bytes lines.new ≡ string_bytes lines.old ++ line_of unit.now) }
 {
     let mut buffer = UnitBuffer::new();
     encode(unit, &mut buffer);
-    let digits = hex::encode(alloc, buffer.as_slice())?;
-    lines.push_str(digits.as_str())?;
+    push_hex(lines, buffer.as_slice())?;
     lines.push('\n')
 }
 
@@ -136,7 +136,7 @@ fn unit_lines(alloc: Global, bytes: &[u8]) -> Result<String, AllocError>
         if is_internal_error(&unit) {
             return Err(AllocError);
         }
-        push_line(alloc, &mut lines, &unit)?;
+        push_line(&mut lines, &unit)?;
     }
     Ok(lines)
 }

@@ -1,14 +1,16 @@
-//! Bytes, printed in hexadecimal.
-ghost use Rattle.std.specs.Prelude.{◌≡◌, ◌≤◌, length, OnOk};
+//! Bytes in hexadecimal, two lower-case digits each.
+ghost use Rattle.std.specs.Prelude.{◌≡◌, ◌++◌, ◌≤◌, length, string_bytes, OnOk};
 ghost use Rattle.std.specs.Io.KnownBytes.{Appends};
 ghost use Rattle.hex.specs.Hex.{encode_lower};
 
+use std::alloc::AllocError;
 use std::io::{self, Write};
+use std::str;
 
 /// So many bytes at most are turned into digits at a time.
 const PIECE: usize = 32;
 
-/// Prints at most 32 bytes, two lower-case digits each.
+/// Prints at most 32 bytes.
 fn print_piece<W: Write>(piece: &[u8], out: &mut W) -> io::Result<()>
     requires { length piece.now ≤ 32 }
     ensures { OnOk result (Appends (W.contents out.old) (W.contents out.new) (encode_lower piece.now)) }
@@ -19,7 +21,7 @@ fn print_piece<W: Write>(piece: &[u8], out: &mut W) -> io::Result<()>
     out.write_all(written)
 }
 
-/// Prints bytes, two lower-case digits each. It takes no memory.
+/// Prints bytes. It takes no memory.
 pub fn print_hex<W: Write>(bytes: &[u8], out: &mut W) -> io::Result<()>
     ensures { OnOk result (Appends (W.contents out.old) (W.contents out.new) (encode_lower bytes.now)) }
 {
@@ -27,6 +29,33 @@ pub fn print_hex<W: Write>(bytes: &[u8], out: &mut W) -> io::Result<()>
     while !rest.is_empty() {
         let (piece, behind) = rest.split_at(rest.len().min(PIECE));
         print_piece(piece, out)?;
+        rest = behind;
+    }
+    Ok(())
+}
+
+/// Appends at most 32 bytes to a text.
+fn push_piece(text: &mut String, piece: &[u8]) -> Result<(), AllocError>
+    requires { length piece.now ≤ 32 }
+    ensures { OnOk result (string_bytes text.new ≡ string_bytes text.old ++ encode_lower piece.now) }
+{
+    let mut digits = [0; 2 * PIECE];
+    let (written, _) = digits.split_at_mut(2 * piece.len());
+    let _ = hex::encode_to_slice(piece, written);
+    let Ok(more) = str::from_utf8(written) else {
+        unreachable!();
+    };
+    text.push_str(more)
+}
+
+/// Appends bytes to a text. It takes no memory but the text's own.
+pub fn push_hex(text: &mut String, bytes: &[u8]) -> Result<(), AllocError>
+    ensures { OnOk result (string_bytes text.new ≡ string_bytes text.old ++ encode_lower bytes.now) }
+{
+    let mut rest = bytes;
+    while !rest.is_empty() {
+        let (piece, behind) = rest.split_at(rest.len().min(PIECE));
+        push_piece(text, piece)?;
         rest = behind;
     }
     Ok(())
