@@ -35,7 +35,8 @@ expect 1 'refused word' route --vrps nothing.json 192.0.2.1/24 64496
 
 # The blocks of README's commands, as a shell runs them that is no bash.
 sed -n '/^### The commands/,/^Status 0/p' "$top/README.md" | awk '/^```sh$/ { on = 1; next } /^```$/ { on = 0 } on' >commands.sh
-ln -s "$top/run" run
+printf '#!/bin/sh\nexec "%s/run" "$@"\n' "$top" >run
+chmod +x run
 sh -e commands.sh >told 2>errors || exit 1
 cat >wanted <<'END'
 192.0.2.0/24 24 64496
