@@ -107,6 +107,17 @@ struct Front<'a> {
     t: &'a [Vrp],
 }
 
+/// A front of these parts.
+#[inline(always)]
+fn made_front<'a>(first: Option<&'a Vrp>, of_s: bool, s: &'a [Vrp], t: &'a [Vrp]) -> Front<'a>
+    ensures first { option_map (λ v. v.now) result.first ≡ option_map (λ v. v.now) first.entry }
+    ensures of_s { result.of_s ≡ of_s }
+    ensures s { result.s.now ≡ s.now }
+    ensures t { result.t.now ≡ t.now }
+{
+    Front { first, of_s, s, t }
+}
+
 /// The front of two ascending lists. The time is linear in the number of records that stand in both and are passed over.
 #[inline(always)]
 fn front_of<'a>(s: &'a [Vrp], t: &'a [Vrp]) -> Front<'a>
@@ -118,30 +129,11 @@ fn front_of<'a>(s: &'a [Vrp], t: &'a [Vrp]) -> Front<'a>
     let mut rest_t = t;
     while let [x, more_s @ ..] = rest_s {
         let [y, more_t @ ..] = rest_t else {
-            return Front {
-                first: Some(x),
-                of_s: true,
-                s: more_s,
-                t: rest_t,
-            };
+            return made_front(Some(x), true, more_s, rest_t);
         };
         match order(x, y) {
-            Ordering::Less => {
-                return Front {
-                    first: Some(x),
-                    of_s: true,
-                    s: more_s,
-                    t: rest_t,
-                };
-            }
-            Ordering::Greater => {
-                return Front {
-                    first: Some(y),
-                    of_s: false,
-                    s: rest_s,
-                    t: more_t,
-                };
-            }
+            Ordering::Less => return made_front(Some(x), true, more_s, rest_t),
+            Ordering::Greater => return made_front(Some(y), false, rest_s, more_t),
             Ordering::Equal => {
                 rest_s = more_s;
                 rest_t = more_t;
@@ -149,18 +141,8 @@ fn front_of<'a>(s: &'a [Vrp], t: &'a [Vrp]) -> Front<'a>
         }
     }
     match rest_t {
-        [y, more_t @ ..] => Front {
-            first: Some(y),
-            of_s: false,
-            s: rest_s,
-            t: more_t,
-        },
-        [] => Front {
-            first: None,
-            of_s: false,
-            s: rest_s,
-            t: rest_t,
-        },
+        [y, more_t @ ..] => made_front(Some(y), false, rest_s, more_t),
+        [] => made_front(None, false, rest_s, rest_t),
     }
 }
 
