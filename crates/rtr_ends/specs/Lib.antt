@@ -5,8 +5,12 @@ pub mod Commit
 pub mod Connection
 pub mod Consumed
 pub mod Feeding
+pub mod Links
 pub mod Peer
 pub mod Router
+pub mod Seen
 pub mod Sender
+pub mod Shown
+pub mod Staging
 pub mod Timing
 pub mod Transcript

@@ -4,10 +4,13 @@ ghost use Rattle.rtr_ends.specs.CacheState.{AllHaveRoom, CacheState, EachIsServe
 ghost use Rattle.rtr_ends.specs.Commit.{ChangeCommits, OneCommit};
 ghost use Rattle.rtr_ends.specs.Connection.{HistorySplits, PulledAreReplies};
 ghost use Rattle.rtr_ends.specs.Consumed.{RouterSplits};
+ghost use Rattle.rtr_ends.specs.Peer.{HasRoom};
 ghost use Rattle.rtr_ends.specs.Router.{RouterAsks, RouterKeeps, RouterStops, RouterTakes};
+ghost use Rattle.rtr_ends.specs.Shown.{held_by};
 ghost use Rattle.rtr_ends.specs.Transcript.{ActsExactly};
 
 use crate::cache::Cache;
+use crate::router::Router;
 use vrps::VersionStore;
 
 /// The change between two sets, listed, commits from the first to the second.
@@ -83,3 +86,10 @@ pub fn each_is_served()
 pub fn each_has_room<S: VersionStore>(cache: &Cache<S>)
     ensures { (m : CacheState) → ShowsCache S.holds m cache.now → AllHaveRoom cache.now }
 {}
+
+/// After every call a router holds at most 4,096 bytes that came and are not yet a whole unit, and at most 4,096 that are to be pulled.
+pub fn router_has_room(router: &Router)
+    ensures { HasRoom (held_by router.now) }
+{
+    router.room();
+}

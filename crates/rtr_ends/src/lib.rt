@@ -4,10 +4,20 @@
 mod cache;
 pub mod laws;
 mod link;
+mod machine;
+mod machine_clock;
+mod machine_units;
+mod outbox;
 mod peer;
+mod question;
+mod reports;
+mod router;
 mod sender;
+mod staging;
+mod table;
 mod timing;
 
 pub use cache::{Cache, Conn};
-pub use link::End;
+pub use link::{AskFault, End, Link};
+pub use router::Router;
 pub use timing::{Timing, TimingFault};

@@ -1,4 +1,5 @@
-//! How a router's link ends.
+//! A router's link, and how it ends.
+ghost use Rattle.std.specs.Prelude.{◌≡◌};
 
 /// Why a router's link ended.
 #[derive(Clone, Copy, Debug, PartialEq, Eq)]
@@ -15,4 +16,39 @@ pub enum End {
     Expired,
     /// An answer with over 16,777,215 records.
     TooMany,
+}
+
+/// The link of a router to its cache.
+#[derive(Clone, Copy, Debug, PartialEq, Eq)]
+pub enum Link {
+    /// There is no connection.
+    Closed,
+    /// No question is outstanding.
+    Idle,
+    /// The question is not answered yet.
+    Asked,
+    /// An answer has begun.
+    Answering,
+    /// It has ended, and the connection is still to be closed.
+    Ended(End),
+}
+
+/// Why nothing is asked. The numbers are fixed.
+#[derive(Clone, Copy, Debug, PartialEq, Eq)]
+pub enum AskFault {
+    /// A question is outstanding.
+    Busy = 1,
+    /// There is no connection, or it has ended.
+    NotConnected = 2,
+}
+
+impl AskFault {
+    ghost use Rattle.rtr_ends.specs.Links.{ask_fault_number};
+
+    /// The number by which the fault is printed.
+    pub fn number(self) -> u8
+        ensures { result ≡ ask_fault_number self }
+    {
+        self as u8
+    }
 }

@@ -1,36 +1,18 @@
 //! A router on its connection, as the cache sees it.
 ghost use Rattle.std.specs.Prelude.{◌≡◌, ℕ, Bool, true, false, not, ◌||◌, List, [], ◌∷◌, Some, option_map};
-ghost use Rattle.rtr_pdu.specs.Stream.{type_of};
 ghost use Rattle.vrps.specs.Instance.{Instance, versions};
 ghost use Rattle.vrps.specs.Stores.{newest};
 ghost use Rattle.rtr_ends.specs.Cache.{Conn, can_notify, conn_notified, is_none, new_conn};
-ghost use Rattle.rtr_ends.specs.Connection.{fault_code, fault_report, is_query};
+ghost use Rattle.rtr_ends.specs.Connection.{fault_report, is_query};
 ghost use Rattle.rtr_ends.specs.Peer.{Answers, Ends, Fails, Knows, Pulls, Receives, ShowsPeer, maybe, read_reply, since_reply};
 ghost use Rattle.rtr_ends.specs.Sender.{due_of, newest_of, version_of};
 ghost use Rattle.rtr_ends.specs.Timing.{Intervals};
 
-use crate::sender::{Sender, Share, report, report_on};
+use crate::reports::{fault_unit, report, report_on};
+use crate::sender::{Sender, Share};
 use crate::timing::Timing;
 use rtr_pdu::{Next, Unit, UnitFault, UnitReader};
 use vrps::{Serial, Since, VersionStore};
-
-/// The type byte of bytes, or 0 where they have none.
-fn type_byte(bytes: &[u8]) -> u8
-    ensures { result ≡ type_of bytes.now }
-{
-    if bytes.len() > 1 { bytes[1] } else { 0 }
-}
-
-/// The code of a fault.
-fn code_of(agreed: bool, fault: UnitFault) -> u16
-    ensures { result ≡ fault_code agreed fault }
-{
-    match fault {
-        UnitFault::Version => { if agreed { 8 } else { 4 } }
-        UnitFault::Type => 5,
-        _ => 0,
-    }
-}
 
 /// One connection at the cache (RFC 8210 sections 5 to 8). It holds at most 4,096 bytes that came and 4,096 to be sent.
 #[derive(Drop)]
@@ -126,26 +108,12 @@ impl Peer {
         }
     }
 
-    /// The report on a fault, where there is one.
-    fn fault_unit(&self, fault: UnitFault) -> Option<Unit>
-        ensures { maybe result ≡ fault_report self.now.agreed fault self.now.reader.held }
-    {
-        let held = self.reader.held();
-        if type_byte(held) == 10 {
-            return None;
-        }
-        match fault {
-            UnitFault::Truncated => None,
-            _ => Some(report(code_of(self.agreed, fault), held)),
-        }
-    }
-
     /// Ends at a fault.
     fn fail(&mut self, fault: UnitFault)
         requires { due_of self.old.sender ≡ [] }
         ensures { Fails self.old fault self.new }
     {
-        let unit = self.fault_unit(fault);
+        let unit = fault_unit(self.agreed, fault, self.reader.held());
         self.reader = UnitReader::for_cache();
         match unit {
             None => self.ended = true,

@@ -1,13 +1,14 @@
 //! What a connection at the cache has to send.
 ghost use Rattle.std.specs.Prelude.{◌≡◌, ℕ, ◌<◌, ◌≤◌, length, Bool, true, false, not, [], ◌∷◌, ◌++◌, ◌+◌, Some, None, option_map, slice_get};
 ghost use Rattle.vrps.specs.Instance.{Version};
-ghost use Rattle.rtr_ends.specs.Answer.{announcements, report, response, sent, whole_answer, withdrawals};
+ghost use Rattle.rtr_ends.specs.Answer.{announcements, response, sent, whole_answer, withdrawals};
 ghost use Rattle.rtr_ends.specs.Cache.{is_none};
 ghost use Rattle.rtr_ends.specs.Sender.{Begins, Gives, GivesFrom, Hands, Keeps, KeepsRoom, Sends, Stays, Writes, as_list, due_of, left, newest_of, ready_in, serial_in, units_in, version_of};
 
+use crate::reports::report_on;
 use crate::timing::Timing;
 use arrayvec::ArrayVec;
-use rtr_pdu::{ErrorReport, Unit, UnitBuffer, encode, encode_prefix};
+use rtr_pdu::{Unit, UnitBuffer, encode, encode_prefix};
 use std::rc::Rc;
 use vrps::{Change, Serial, VrpSet};
 
@@ -77,23 +78,6 @@ impl Cursor {
             Records::Step(serial, _) => serial.0,
         }
     }
-}
-
-/// An Error Report with this copy, as far as there is room for it, and no text.
-pub fn report(code: u16, copy: &[u8]) -> Unit
-    ensures { result ≡ report code copy.now }
-{
-    let room = copy.len().min(4080);
-    Unit::ErrorReport(ErrorReport::new(code, &copy[..room], ""))
-}
-
-/// An Error Report on a unit.
-pub fn report_on(code: u16, unit: &Unit) -> Unit
-    ensures { result ≡ report code (sent unit.now) }
-{
-    let mut buffer = ArrayVec::new();
-    encode(unit, &mut buffer);
-    report(code, buffer.as_slice())
 }
 
 /// What a connection has to send. Its bytes lie in one buffer, a unit at a time; the records of the answer under way lie where

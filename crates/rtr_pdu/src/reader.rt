@@ -156,6 +156,7 @@ impl UnitReader {
     pub fn held(&self) -> &[u8]
         ensures held { result.now ≡ self.now.held }
         ensures reader { IsReader self.now }
+        ensures fits { length result.now ≤ 4096 }
     {
         self.buffer.as_slice()
     }

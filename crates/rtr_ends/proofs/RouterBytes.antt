@@ -1,0 +1,68 @@
+-- What a router takes byte by byte is what its reader takes unit by unit.
+use Rattle.std.specs.Prelude.{◌≡◌, ℕ, suc, Bool, true, false, not, List, [], ◌++◌, Option, Some, None, refl}
+use Rattle.rtr_pdu.specs.Judging.{Whole, Faulty}
+use Rattle.rtr_pdu.specs.Reader.{IsFaulty, IsRead}
+use Rattle.rtr_pdu.specs.Stream.{IsPartial, as_read}
+use Rattle.rtr_pdu.specs.declared.unit.Unit.{Unit}
+use Rattle.rtr_pdu.specs.declared.unit.UnitFault.{UnitFault}
+use Rattle.rtr_ends.specs.Cache.{counted, finds_memory}
+use Rattle.rtr_ends.specs.Feeding.{feed}
+use Rattle.rtr_ends.specs.Router.{Router, Receiving, router_byte, router_stops, with_judged}
+use Rattle.rtr_ends.specs.Shown.{fed, taking}
+use Rattle.rtr_ends.specs.Transcript.{Item}
+use Rattle.rtr_ends.proofs.UnitByUnit as units
+use Rattle.rtr_ends.proofs.UnitByUnit.{ByteMachine, but_last}
+
+router_machine : ByteMachine Receiving
+unfolding router_byte
+router_machine = record {
+  stops = λ m. router_stops m.router;
+  step = router_byte;
+  held = λ m. m.router.held;
+  any = λ m. not m.router.agreed;
+  holding = λ m bytes. record m { router = record m.router { held = bytes } };
+  judged = with_judged;
+  own = λ m. refl;
+  same_stop = λ m bytes. refl;
+  begun = λ m bytes more. refl;
+  byte = λ m bytes b. refl;
+}
+
+abbrev pub stops : Receiving → Bool
+stops m = router_stops m.router
+
+-- A router that has stopped takes nothing.
+pub stopped : (r : Router) (items : List Item) (wanting : Option ℕ) (piece : List ℕ) → router_stops r ≡ true → fed r items wanting piece ≡ record { machine = taking r items wanting; rest = piece }
+unfolding router_machine
+stopped r items wanting piece stop = units.none_taken router_machine (taking r items wanting) piece stop
+
+module _ (r : Router) (taken rest : List ℕ) (on : router_stops r ≡ false) (items : List Item) (wanting : Option ℕ) where
+  -- A reader asks for more.
+  pub more_taken : IsPartial 1 (as_read 1 (not r.agreed) (r.held ++ taken)) → fed r items wanting (taken ++ []) ≡ fed (record r { held = r.held ++ taken }) items wanting []
+  unfolding router_machine
+  more_taken part = units.more_taken router_machine (taking r items wanting) on taken [] part
+
+  -- It gives a unit.
+  pub unit_taken : IsPartial 1 (as_read 1 (not r.agreed) r.held) → (u : Unit) → IsRead (not r.agreed) (r.held ++ taken) u
+      → fed r items wanting (taken ++ rest) ≡ feed stops router_byte (with_judged (taking (record r { held = r.held ++ but_last taken }) items wanting) (r.held ++ taken) (Whole u)) rest
+  unfolding router_machine
+  unit_taken part u read = units.unit_taken router_machine (taking r items wanting) on taken rest u part read
+
+  -- It shows a fault.
+  pub fault_taken : IsPartial 1 (as_read 1 (not r.agreed) r.held) → (fault : UnitFault) → IsFaulty (not r.agreed) (r.held ++ taken) fault
+      → fed r items wanting (taken ++ rest) ≡ feed stops router_byte (with_judged (taking r items wanting) (r.held ++ taken) (Faulty fault)) rest
+  unfolding router_machine
+  fault_taken part fault faulty = units.fault_taken router_machine (taking r items wanting) on taken rest fault part faulty
+
+-- What comes of a unit: it is read, or memory for it is wanting.
+abbrev pub shifted : Option ℕ → Option ℕ
+shifted None = None
+shifted (Some n) = Some (suc n)
+
+pub has_memory : (w : Option ℕ) → finds_memory (shifted w) ≡ true
+has_memory None = refl
+has_memory (Some n) = refl
+
+pub counts_back : (u : Unit) (w : Option ℕ) → counted (Whole u) (shifted w) ≡ w
+counts_back u None = refl
+counts_back u (Some n) = refl

@@ -1,0 +1,465 @@
+-- What a router's value does at what its reader answers.
+use Rattle.std.specs.List.{list_any}
+use Rattle.std.specs.Prelude.{◌≡◌, ℕ, zero, ◌-◌, drop, Bool, true, false, not, ◌&&◌, ◌==◌, List, [], ◌∷◌, ◌++◌, length, Option, Some, None, IfSome, if◌then◌else◌, refl}
+use Rattle.std.proofs.Common.{sym, ap, ◌∙◌, subst, inl, inr}
+use Rattle.std.proofs.Math.Bool.{and-false}
+use Rattle.std.proofs.lemmas.Bool.{and_parts}
+use Rattle.vrps.specs.VrpSet.{VrpSet}
+use Rattle.rtr_pdu.specs.Judging.{Whole, Faulty}
+use Rattle.rtr_pdu.specs.Reader as reader
+use Rattle.rtr_pdu.specs.Reader.{Reader, IsReader, after_agreed, fresh}
+use Rattle.rtr_pdu.specs.Stream.{IsPartial, as_read}
+use Rattle.rtr_pdu.specs.declared.unit.Next.{Next}
+use Rattle.rtr_pdu.specs.declared.unit.Next.TheVariants as next
+use Rattle.rtr_pdu.specs.declared.unit.Unit.{Unit}
+use Rattle.rtr_pdu.specs.declared.unit.Unit.TheVariants.{SerialNotify, SerialQuery, ResetQuery, CacheResponse, Prefix, EndOfData, CacheReset, RouterKey, ErrorReport}
+use Rattle.rtr_pdu.specs.declared.unit.UnitFault.{UnitFault}
+use Rattle.rtr_ends.specs.declared.link.End.{End}
+use Rattle.rtr_ends.specs.declared.link.End.TheVariants as ends
+use Rattle.rtr_ends.specs.Cache.{finds_memory, is_none}
+use Rattle.rtr_ends.specs.Feeding.{Fed, feed}
+use Rattle.rtr_ends.specs.Router as model
+use Rattle.rtr_ends.specs.Router.{Router, Call, Link, Noted, Receiving, Closed, Idle, Asked, Answering, Ended, ask, asks, asks_if, breaks, called, clocked, close, closed_at, commit, connects_at, emptied, expired, fails, is_closed, is_due, is_idle, is_news, is_reading, is_strange, lacks, may_lack, on_unit, played, reads, receives, reports, router_byte, router_pulled, router_stops, stage, staged, ticks_at, told, told_off, with_bytes, with_judged}
+use Rattle.rtr_ends.specs.Seen.{Does, ReadsOrLacks, Shows, seen_link}
+use Rattle.rtr_ends.specs.Shown.{Arrives, Calls, GoesOn, IsShown, Leads, LeadsOn, Led, IsWanting, ReceivesSo, Takes, fed, is_lacking, is_wanted, reading, taking}
+use Rattle.rtr_ends.specs.Transcript.{Item, At, Question, AskReset, AskSerial, bounded, is_over, is_serial, is_wrong, later, retry_of, sum_of}
+use Rattle.rtr_ends.specs.declared.machine.Machine.{Machine}
+use Rattle.rtr_ends.specs.declared.machine.State.{State}
+use Rattle.rtr_ends.specs.declared.machine.State.TheVariants as states
+use Rattle.rtr_ends.specs.declared.router.Router as code
+use Rattle.rtr_ends.proofs.ConsumedLaws.{router_splits}
+use Rattle.rtr_ends.proofs.KeptLaws.{router_keeps}
+use Rattle.rtr_ends.proofs.QuestionLaws.{router_asks}
+use Rattle.rtr_ends.proofs.RouterBytes.{counts_back, fault_taken, has_memory, more_taken, shifted, stopped, stops, unit_taken}
+use Rattle.rtr_ends.proofs.UnitByUnit.{but_last}
+use Rattle.rtr_ends.proofs.TableLaws.{false_true}
+
+-- What a unit leaves: what is held; agreement; and a connection
+record Keeps (r n : Router) : Type 0 where
+  pub held : n.held ≡ r.held
+  pub agreed : r.agreed ≡ true → n.agreed ≡ true
+  pub connected : is_closed n.link ≡ false
+
+keeps_if : (b : Bool) (r x y : Router) → Keeps r x → Keeps r y → Keeps r (if b then x else y)
+keeps_if true r x y h k = h
+keeps_if false r x y h k = k
+
+ends_keeps : (r : Router) (end : End) (table : VrpSet) (version : Option _) (mark : Bool) (out : List ℕ) → Keeps r (record r { link = Ended end; table = table; version = version; mark = mark; out = out })
+ends_keeps r end table version mark out = record { held = refl; agreed = λ h. h; connected = refl }
+
+told_keeps : (q : Question) (code : ℕ) (r s : Router) → Keeps r s → Keeps r (told_off q code s)
+told_keeps q code r s k =
+    keeps_if (code == 2) r (record s { link = Idle; due = Some (sum_of s.now (retry_of s.version)) }) (if code == 0 && is_serial (Some q) then told code (emptied s) else told code s)
+    (record { held = k.held; agreed = k.agreed; connected = refl })
+    (keeps_if (code == 0 && is_serial (Some q)) r (told code (emptied s)) (told code s) (record { held = k.held; agreed = k.agreed; connected = refl }) (record { held = k.held; agreed = k.agreed; connected = refl }))
+
+staged_keeps : (u : Unit) (st : model.Staged) (r : Router) → Keeps r (staged u st r)
+staged_keeps u (model.Stays a) r = record { held = refl; agreed = λ h. h; connected = refl }
+staged_keeps u (model.Wrong code) r = record { held = refl; agreed = λ h. h; connected = refl }
+staged_keeps u model.Over r = record { held = refl; agreed = λ h. h; connected = refl }
+
+abbrev same_router : (r : Router) → is_closed r.link ≡ false → Keeps r r
+same_router r open_so = record { held = refl; agreed = λ h. h; connected = open_so }
+
+fails_keep : (u : Unit) (r : Router) → Keeps r (fails u r)
+fails_keep u r = record { held = refl; agreed = λ h. h; connected = refl }
+
+reports_keep : (u : Unit) (r : Router) → Keeps r (reports 0 u r)
+reports_keep u r = record { held = refl; agreed = λ h. h; connected = refl }
+
+unit_keeps : (l : Link) (u : Unit) (r : Router) → r.link ≡ l → is_reading l ≡ true → Keeps r (on_unit l u r)
+unfolding on_unit
+unit_keeps Closed u r is h = false_true h
+unit_keeps (Ended end) u r is h = false_true h
+unit_keeps Idle (SerialNotify session serial) r is h =
+    keeps_if (is_strange r session) r (fails (SerialNotify session serial) r) (if is_news r.version serial then ask r else r) (fails_keep (SerialNotify session serial) r)
+    (keeps_if (is_news r.version serial) r (ask r) r (record { held = refl; agreed = λ h. h; connected = refl }) (same_router r (ap is_closed is)))
+unit_keeps Idle (ErrorReport e) r is h = keeps_if (e.code == 2) r r (told e.code r) (same_router r (ap is_closed is)) (record { held = refl; agreed = λ h. h; connected = refl })
+unit_keeps Idle (SerialQuery session serial) r is h = reports_keep (SerialQuery session serial) r
+unit_keeps Idle ResetQuery r is h = reports_keep ResetQuery r
+unit_keeps Idle (CacheResponse session) r is h = reports_keep (CacheResponse session) r
+unit_keeps Idle (Prefix announce v) r is h = reports_keep (Prefix announce v) r
+unit_keeps Idle (EndOfData session serial refresh retry expire) r is h = reports_keep (EndOfData session serial refresh retry expire) r
+unit_keeps Idle CacheReset r is h = reports_keep CacheReset r
+unit_keeps Idle (RouterKey key) r is h = reports_keep (RouterKey key) r
+unit_keeps (Asked q) (SerialNotify session serial) r is h =
+    keeps_if (is_strange r session) r (fails (SerialNotify session serial) r) r (fails_keep (SerialNotify session serial) r) (same_router r (ap is_closed is))
+unit_keeps (Asked q) (CacheResponse session) r is h =
+    keeps_if (is_wrong (Some q) r.version session) r (fails (CacheResponse session) r) (record r { agreed = true; session = Some session; link = Answering (record { question = q; session = session; withdrawn = []; announced = [] }) })
+    (fails_keep (CacheResponse session) r) (record { held = refl; agreed = λ h. refl; connected = refl })
+unit_keeps (Asked (AskSerial session serial)) CacheReset r is h = record { held = refl; agreed = λ h. refl; connected = refl }
+unit_keeps (Asked AskReset) CacheReset r is h = reports_keep CacheReset r
+unit_keeps (Asked AskReset) (ErrorReport e) r is h = told_keeps AskReset e.code r (record r { agreed = true }) (record { held = refl; agreed = λ h. refl; connected = ap is_closed is })
+unit_keeps (Asked (AskSerial session serial)) (ErrorReport e) r is h = told_keeps (AskSerial session serial) e.code r (record r { agreed = true }) (record { held = refl; agreed = λ h. refl; connected = ap is_closed is })
+unit_keeps (Asked q) (SerialQuery session serial) r is h = reports_keep (SerialQuery session serial) r
+unit_keeps (Asked q) ResetQuery r is h = reports_keep ResetQuery r
+unit_keeps (Asked q) (Prefix announce v) r is h = reports_keep (Prefix announce v) r
+unit_keeps (Asked q) (EndOfData session serial refresh retry expire) r is h = reports_keep (EndOfData session serial refresh retry expire) r
+unit_keeps (Asked q) (RouterKey key) r is h = reports_keep (RouterKey key) r
+unit_keeps (Answering a) (SerialNotify session serial) r is h =
+    keeps_if (is_strange r session) r (fails (SerialNotify session serial) r) r (fails_keep (SerialNotify session serial) r) (same_router r (ap is_closed is))
+unit_keeps (Answering a) (Prefix announce v) r is h = staged_keeps (Prefix announce v) (stage _ a announce v) r
+unit_keeps (Answering a) (RouterKey key) r is h = same_router r (ap is_closed is)
+unit_keeps (Answering a) (EndOfData session serial refresh retry expire) r is h =
+    keeps_if (session == a.session) r (commit a (record { session = session; serial = serial; moment = r.now; intervals = bounded refresh retry expire }) r) (fails (EndOfData session serial refresh retry expire) r)
+    (record { held = refl; agreed = λ h. h; connected = refl }) (fails_keep (EndOfData session serial refresh retry expire) r)
+unit_keeps (Answering a) (ErrorReport e) r is h = told_keeps a.question e.code r r (same_router r (ap is_closed is))
+unit_keeps (Answering a) (SerialQuery session serial) r is h = reports_keep (SerialQuery session serial) r
+unit_keeps (Answering a) ResetQuery r is h = reports_keep ResetQuery r
+unit_keeps (Answering a) (CacheResponse session) r is h = reports_keep (CacheResponse session) r
+unit_keeps (Answering a) CacheReset r is h = reports_keep CacheReset r
+
+-- What is held is not looked at.
+pub rehold : (r : Router) (m : Machine) (held : List ℕ) → Shows r m → Shows (record r { held = held }) m
+rehold r m held s = record { withdrawn = s.withdrawn; announced = s.announced; staged = s.staged; is = ap (λ (x : Router). record x { held = held }) s.is }
+
+-- whether it reads
+pub stops_of : (m : Machine) (r : Router) → Shows r m → router_stops r ≡ not (is_reading (seen_link m.state [] []) && is_none m.out)
+stops_of m r s = ap (λ (x : Router). router_stops x) s.is ∙ ap (λ b. not (b && is_none m.out)) (by_state m.state)
+  where
+    by_state : (x : State) → is_reading (seen_link x s.withdrawn s.announced) ≡ is_reading (seen_link x [] [])
+    by_state states.Closed = refl
+    by_state states.Idle = refl
+    by_state (states.Asked q) = refl
+    by_state (states.Answering q session) = refl
+    by_state (states.Ended end) = refl
+
+reads_of : (r : Router) → router_stops r ≡ false → is_reading r.link ≡ true
+reads_of r h = (and_parts (is_reading r.link) (is_none r.out) (not_false (is_reading r.link && is_none r.out) h)).0
+  where
+    not_false : (b : Bool) → not b ≡ false → b ≡ true
+    not_false true h = refl
+    not_false false h = false_true (sym h)
+
+reading_open : (l : Link) → is_reading l ≡ true → is_closed l ≡ true → ⊥
+reading_open Closed h c = false_true h
+reading_open (Ended end) h c = false_true h
+reading_open Idle h c = false_true c
+reading_open (Asked q) h c = false_true c
+reading_open (Answering a) h c = false_true c
+
+-- the agreement that a machine has
+agreed_is : (m : Machine) (r : Router) → Shows r m → r.agreed ≡ m.agreed
+agreed_is m r s = ap (λ (x : Router). x.agreed) s.is
+
+false_not_true : (b : Bool) → (b ≡ true → ⊥) → b ≡ false
+false_not_true true h = absurd (h refl)
+false_not_true false h = refl
+
+wanted_shifted : (w : Option ℕ) (f : Fed Receiving) → IsWanting w f → IsWanting (shifted w) f
+wanted_shifted None f h = tt
+wanted_shifted (Some unit) f h = h
+
+module _ (old : code.Router) (piece rest : List ℕ) (takes : (is_reading (seen_link old.machine.state [] []) && is_none old.machine.out) ≡ true) (is_reader : IsReader old.reader) where
+  on : (r : Router) → IsShown r old → router_stops r ≡ false
+  on r s = stops_of old.machine r s.machine ∙ ap not takes
+
+  reads_so : (r : Router) (s : IsShown r old) → old.reader ≡ reading r.agreed r.held
+  reads_so r s = s.reader (reads_of r (on r s))
+
+  part_so : (r : Router) (s : IsShown r old) → IsPartial 1 (as_read 1 (not r.agreed) r.held)
+  part_so r s = let h : IsReader (reading r.agreed r.held) = subst (λ x. IsReader x) (reads_so r s) is_reader in h
+
+  takes_so : (answer : Next) (new : Reader) (r : Router) (s : IsShown r old) → reader.Takes old.reader piece answer rest new → reader.Takes (reading r.agreed r.held) piece answer rest new
+  takes_so answer new r s t = subst (λ x. reader.Takes x piece answer rest new) (reads_so r s) t
+
+  -- a unit
+  module _ (u : Unit) (new : Reader) (t : reader.Takes old.reader piece (next.Unit u) rest new) (m : Machine) where
+    abbrev agreed_reader : Reader
+    agreed_reader = if m.agreed then after_agreed new else new
+
+    abbrev after_unit : code.Router
+    after_unit = record { machine = m; reader = agreed_reader }
+
+    abbrev cleared : Router → Router
+    cleared r = record r { held = [] }
+
+    told_reader : (b : Bool) (n r : Router) → Keeps r n → n.agreed ≡ b → new ≡ fresh (not r.agreed) → (if b then after_agreed new else new) ≡ reading b []
+    told_reader true n r k is e = ap (λ x. after_agreed x) e
+    told_reader false n r k is e =
+        let fell : r.agreed ≡ false = false_not_true r.agreed (λ h. false_true (sym is ∙ k.agreed h)) in
+        e ∙ ap (λ b. fresh (not b)) fell
+
+    read_shown : (r : Router) → IsShown r old → Does (λ x. on_unit x.link u x) old.machine m → IsShown (on_unit r.link u (cleared r)) after_unit
+    read_shown r s does =
+        let n : Router = on_unit r.link u (cleared r) in
+        let k : Keeps (cleared r) n = unit_keeps r.link u (cleared r) refl (reads_of r (on r s)) in
+        let machine : Shows n m = does (cleared r) (rehold r old.machine [] s.machine) in
+        let made : new ≡ fresh (not r.agreed) = (takes_so (next.Unit u) new r s t).gives.2 in
+        record {
+          machine = machine;
+          reader = λ h. told_reader m.agreed n (cleared r) k (agreed_is m n machine) made ∙ (λ i. reading (sym (agreed_is m n machine) i) (sym k.held i));
+          closed = λ c. false_true (sym k.connected ∙ c);
+        }
+
+    pub unit_goes : (lacking : Bool) → ReadsOrLacks lacking u old.machine m → Takes true old piece after_unit rest
+    unit_goes false does = (shifted, λ r s. (on_unit r.link u (cleared r), read_shown r s does, goes r s))
+      where
+        goes : (r : Router) → IsShown r old → GoesOn shifted r piece (on_unit r.link u (cleared r)) rest
+        goes r s items w =
+            let x = takes_so (next.Unit u) new r s t in
+            let front : List ℕ = r.held ++ but_last x.taken in
+            let bytes : List ℕ = r.held ++ x.taken in
+            let had : Noted = with_bytes (finds_memory (shifted w)) bytes (record r { held = front }) (Whole u) in
+            let same : had ≡ reads u (cleared r) =
+            ap (λ b. if b then lacks u (cleared r) else reads u (cleared r)) (ap (λ b. may_lack r.link u (record r { held = front }) && not b) (has_memory w) ∙ and-false (may_lack r.link u (record r { held = front }))) in
+            let whole : fed r items (shifted w) piece ≡ fed (on_unit r.link u (cleared r)) ((reads u (cleared r)).items ++ items) w rest =
+            ap (λ y. fed r items (shifted w) y) x.piece_is ∙ unit_taken r x.taken rest (on r s) items (shifted w) (part_so r s) u x.gives.1
+            ∙ (λ i. feed stops router_byte (record { router = (same i).router; items = (same i).items ++ items; wanting = counts_back u w i }) rest) in
+            ((reads u (cleared r)).items ++ items, record { router_is = ap (λ f. f.machine.router) whole; rest_is = ap (λ f. f.rest) whole; wanted = λ h. wanted_shifted w (fed r items (shifted w) piece) (subst (λ f. IsWanting w f) (sym whole) h) })
+    unit_goes true lacking = ((λ w. Some zero), λ r s. (ended r, shown_ended r s, goes r s))
+      where
+        ended : Router → Router
+        ended r = record r { held = []; link = Ended ends.Memory }
+
+        shown_ended : (r : Router) → IsShown r old → IsShown (ended r) after_unit
+        shown_ended r s = record { machine = lacking.1 (cleared r) (rehold r old.machine [] s.machine); reader = λ h. false_true h; closed = λ c. false_true c }
+
+        goes : (r : Router) → IsShown r old → GoesOn (λ w. Some zero) r piece (ended r) rest
+        goes r s items w =
+            let x = takes_so (next.Unit u) new r s t in
+            let front : List ℕ = r.held ++ but_last x.taken in
+            let bytes : List ℕ = r.held ++ x.taken in
+            let lack : may_lack r.link u (record r { held = front }) ≡ true = lacking.0 (record r { held = front }) (rehold r old.machine front s.machine) in
+            let had : Noted = with_bytes false bytes (record r { held = front }) (Whole u) in
+            let same : had ≡ lacks u (cleared r) = ap (λ b. if b && true then lacks u (cleared r) else reads u (cleared r)) lack in
+            let whole : fed r items (Some zero) piece ≡ fed (ended r) ((lacks u (cleared r)).items ++ items) None rest =
+            ap (λ y. fed r items (Some zero) y) x.piece_is ∙ unit_taken r x.taken rest (on r s) items (Some zero) (part_so r s) u x.gives.1
+            ∙ (λ i. feed stops router_byte (record { router = (same i).router; items = (same i).items ++ items; wanting = None }) rest) in
+            let left = whole ∙ stopped (ended r) ((lacks u (cleared r)).items ++ items) None rest refl in
+            let right = stopped (ended r) items w rest refl in (
+              items,
+              record {
+                router_is = ap (λ f. f.machine.router) left ∙ sym (ap (λ f. f.machine.router) right);
+                rest_is = ap (λ f. f.rest) left ∙ sym (ap (λ f. f.rest) right);
+                wanted = λ h. ap (λ f. list_any is_lacking f.machine.items) left;
+              },
+            )
+
+  -- more is asked for
+  pub more_goes : (new : Reader) → reader.Takes old.reader piece next.NeedMore rest new → Takes false old piece (record old { reader = new }) rest
+  more_goes new t = (None, λ r s. (held_so r s, shown_held r s, ends r s))
+    where
+      held_so : (r : Router) → IsShown r old → Router
+      held_so r s = record r { held = r.held ++ (takes_so next.NeedMore new r s t).taken }
+
+      shown_held : (r : Router) (s : IsShown r old) → IsShown (held_so r s) (record old { reader = new })
+      shown_held r s = record {
+        machine = rehold r old.machine (r.held ++ (takes_so next.NeedMore new r s t).taken) s.machine;
+        reader = λ h. (takes_so next.NeedMore new r s t).gives.3;
+        closed = λ c. absurd (reading_open r.link (reads_of r (on r s)) c);
+      }
+
+      ends : (r : Router) (s : IsShown r old) (items : List Item) → Arrives (fed r items None piece) None (held_so r s) rest
+      ends r s items =
+          let x = takes_so next.NeedMore new r s t in
+          let whole : fed r items None piece ≡ record { machine = taking (held_so r s) items None; rest = [] } =
+          ap (λ y. fed r items None y) (x.piece_is ∙ ap (λ y. x.taken ++ y) x.gives.2) ∙ more_taken r x.taken [] (on r s) items None x.gives.1 in
+          record { router_is = ap (λ f. f.machine.router) whole; rest_is = ap (λ f. f.rest) whole ∙ sym x.gives.2; wanted = tt }
+
+  -- a fault
+  pub fault_goes : (fault : UnitFault) (new : Reader) (bytes : List ℕ) (m : Machine) → reader.Takes old.reader piece (next.Fault fault) rest new → bytes ≡ new.held → Does (λ r. (breaks fault bytes r).router) old.machine m
+      → Takes false old piece (record { machine = m; reader = new }) rest
+  fault_goes fault new bytes m t is does = (None, λ r s. ((breaks fault bytes r).router, shown_broken r s, ends r s))
+    where
+      shown_broken : (r : Router) → IsShown r old → IsShown (breaks fault bytes r).router (record { machine = m; reader = new })
+      shown_broken r s = record { machine = does r s.machine; reader = λ h. false_true h; closed = λ c. false_true c }
+
+      ends : (r : Router) (s : IsShown r old) (items : List Item) → Arrives (fed r items None piece) None ((breaks fault bytes r).router) rest
+      ends r s items =
+          let x = takes_so (next.Fault fault) new r s t in
+          elim x.gives [
+            | inr again ↦ absurd (let e : ◌≡◌ {A = Option UnitFault} None (Some fault) = again.0 in cc)
+            | inl first ↦
+                (let held : r.held ++ x.taken ≡ bytes = sym (is ∙ ap (λ (y : Reader). y.held) first.2) in
+                let b : Router = (breaks fault bytes r).router in
+                let whole : fed r items None piece ≡ fed b ((breaks fault bytes r).items ++ items) None rest =
+                ap (λ y. fed r items None y) x.piece_is ∙ fault_taken r x.taken rest (on r s) items None (part_so r s) fault first.1
+                ∙ ap (λ y. feed stops router_byte (with_judged (taking r items None) y (Faulty fault)) rest) held in
+                let left = whole ∙ stopped b ((breaks fault bytes r).items ++ items) None rest refl in
+                record { router_is = ap (λ f. f.machine.router) left; rest_is = ap (λ f. f.rest) left; wanted = tt })
+          ]
+
+-- One after the other
+pub goes_none : (v : code.Router) (piece : List ℕ) → Takes true v piece v piece
+goes_none v piece = ((λ w. w), λ r s. (r, s, λ items w. (items, record { router_is = refl; rest_is = refl; wanted = λ h. h })))
+
+pub goes_then : (old mid new : code.Router) (piece left rest : List ℕ) → Takes true old piece mid left → Takes true mid left new rest → Takes true old piece new rest
+goes_then old mid new piece left rest first then_ = (
+  (λ w. first.0 (then_.0 w)),
+  λ r s.
+      let a = first.1 r s in
+      let b = then_.1 a.0 a.1 in (
+        b.0,
+        b.1,
+        λ items w.
+            let x = a.2 items (then_.0 w) in
+            let y = b.2 x.0 w in
+            (y.0, record { router_is = x.1.router_is ∙ y.1.router_is; rest_is = x.1.rest_is ∙ y.1.rest_is; wanted = λ h. x.1.wanted (y.1.wanted h) }),
+      ),
+)
+
+pub goes_last : (old mid new : code.Router) (piece left rest : List ℕ) → Takes true old piece mid left → Takes false mid left new rest → Takes false old piece new rest
+goes_last old mid new piece left rest first last = (
+  first.0 last.0,
+  λ r s.
+      let a = first.1 r s in
+      let b = last.1 a.0 a.1 in (
+        b.0,
+        b.1,
+        λ items.
+            let x = a.2 items last.0 in
+            let y = b.2 x.0 in
+            record { router_is = x.1.router_is ∙ y.router_is; rest_is = x.1.rest_is ∙ y.rest_is; wanted = x.1.wanted y.wanted },
+      ),
+)
+
+-- A router that has stopped leaves what there is.
+pub goes_stop : (v : code.Router) (piece : List ℕ) → (is_reading (seen_link v.machine.state [] []) && is_none v.machine.out) ≡ false → Takes false v piece v piece
+goes_stop v piece h = (
+  None,
+  λ r s. (
+    r,
+    s,
+    λ items.
+        let e = stopped r items None piece (stops_of v.machine r s.machine ∙ ap not h) in
+        record { router_is = ap (λ f. f.machine.router) e; rest_is = ap (λ f. f.rest) e; wanted = tt },
+  ),
+)
+
+-- A step that leaves what is held and agreed on, and opens and closes nothing
+pub keeps_shown : (old new : code.Router) (r n : Router) → Shows n new.machine → new.reader ≡ old.reader → IsShown r old → n.held ≡ r.held → n.agreed ≡ r.agreed → (is_reading n.link ≡ true → is_reading r.link ≡ true)
+    → (is_closed n.link ≡ true → is_closed r.link ≡ true) → IsShown n new
+keeps_shown old new r n machine same s held agreed reads_on closed_on = record {
+  machine = machine;
+  reader = λ h. same ∙ s.reader (reads_on h) ∙ (λ i. reading (sym agreed i) (sym held i));
+  closed = λ h. let was = s.closed (closed_on h) in (held ∙ was.0, agreed ∙ was.1);
+}
+
+-- The clock
+pub record Clocks (r n : Router) : Type 0 where
+  pub held : n.held ≡ r.held
+  pub agreed : n.agreed ≡ r.agreed
+  pub reads_on : is_reading n.link ≡ true → is_reading r.link ≡ true
+  pub closed_on : is_closed n.link ≡ is_closed r.link
+
+same_clock : (r s : Router) → s.held ≡ r.held → s.agreed ≡ r.agreed → s.link ≡ r.link → Clocks r s
+same_clock r s held agreed link = record { held = held; agreed = agreed; reads_on = λ h. ap is_reading (sym link) ∙ h; closed_on = ap is_closed link }
+
+expired_clocks : (l : Link) (r : Router) → r.link ≡ l → Clocks r (expired l r)
+expired_clocks Closed r is = same_clock r (emptied r) refl refl refl
+expired_clocks Idle r is = same_clock r (emptied r) refl refl refl
+expired_clocks (Ended end) r is = same_clock r (emptied r) refl refl refl
+expired_clocks (Asked AskReset) r is = same_clock r (emptied r) refl refl refl
+expired_clocks (Asked (AskSerial session serial)) r is = record { held = refl; agreed = refl; reads_on = λ h. false_true h; closed_on = ap is_closed (sym is) }
+expired_clocks (Answering a) r is = by_test (is_serial (Some a.question))
+  where
+    by_test : (b : Bool) → Clocks r (if b then record (emptied r) { link = Ended ends.Expired; out = [] } else emptied r)
+    by_test true = record { held = refl; agreed = refl; reads_on = λ h. false_true h; closed_on = ap is_closed (sym is) }
+    by_test false = same_clock r (emptied r) refl refl refl
+
+pub clocked_keeps : (now : ℕ) (r : Router) → Clocks r (clocked now r)
+unfolding clocked
+clocked_keeps now r = by_test (is_over r.version (later r.now now))
+  where
+    by_test : (b : Bool) → Clocks r (if b then expired r.link (record r { now = later r.now now }) else record r { now = later r.now now })
+    by_test true = let k = expired_clocks r.link (record r { now = later r.now now }) refl in record { held = k.held; agreed = k.agreed; reads_on = k.reads_on; closed_on = k.closed_on }
+    by_test false = same_clock r (record r { now = later r.now now }) refl refl refl
+
+pub told_shown : (old new : code.Router) (now : ℕ) (r : Router) → Shows (clocked now r) new.machine → new.reader ≡ old.reader → IsShown r old → IsShown (clocked now r) new
+told_shown old new now r machine same s =
+    let k = clocked_keeps now r in keeps_shown old new r (clocked now r) machine same s k.held k.agreed k.reads_on (λ h. sym k.closed_on ∙ h)
+
+-- What is closed holds nothing, and no version is agreed on.
+closes_so : (r : Router) → (is_closed r.link ≡ true → (r.held ≡ []) × (r.agreed ≡ false)) → ((close r).held ≡ []) × ((close r).agreed ≡ false) × (is_closed (close r).link ≡ true)
+closes_so r h = by_test (is_closed r.link) refl
+  where
+    by_test : (b : Bool) → is_closed r.link ≡ b
+        → ((if b then r else record r { link = Closed; agreed = false; session = None; held = []; out = []; due = Some (sum_of r.now (retry_of r.version)) }).held ≡ [])
+        × ((if b then r else record r { link = Closed; agreed = false; session = None; held = []; out = []; due = Some (sum_of r.now (retry_of r.version)) }).agreed ≡ false)
+        × (is_closed (if b then r else record r { link = Closed; agreed = false; session = None; held = []; out = []; due = Some (sum_of r.now (retry_of r.version)) }).link ≡ true)
+    by_test true is = let was = h is in (was.0, was.1, is)
+    by_test false is = (refl, refl, refl)
+
+closed_clock : (old : code.Router) (now : ℕ) (r : Router) → IsShown r old → is_closed (clocked now r).link ≡ true → ((clocked now r).held ≡ []) × ((clocked now r).agreed ≡ false)
+closed_clock old now r s h = let k = clocked_keeps now r in let was = s.closed (sym k.closed_on ∙ h) in (k.held ∙ was.0, k.agreed ∙ was.1)
+
+pub connects_shown : (old new : code.Router) (now : ℕ) (r : Router) → IsShown r old → Shows (connects_at now r).router new.machine → new.reader ≡ fresh true → IsShown (connects_at now r).router new
+unfolding connects_at
+connects_shown old new now r s machine made =
+    let c = closes_so (clocked now r) (closed_clock old now r s) in
+    record { machine = machine; reader = λ h. made ∙ (λ i. reading (sym c.1 i) (sym c.0 i)); closed = λ h. false_true h }
+
+pub closes_shown : (old new : code.Router) (now : ℕ) (r : Router) → IsShown r old → Shows (closed_at now r).router new.machine → IsShown (closed_at now r).router new
+unfolding closed_at
+closes_shown old new now r s machine =
+    let c = closes_so (clocked now r) (closed_clock old now r s) in
+    record { machine = machine; reader = λ h. absurd (reading_open (close (clocked now r)).link h c.2); closed = λ h. (c.0, c.1) }
+
+-- An idle link may ask.
+asks_shown : (old new : code.Router) (r : Router) (b : Bool) → (b ≡ true → is_reading r.link ≡ true) → IsShown r old → Shows (asks_if b r).router new.machine → new.reader ≡ old.reader → IsShown (asks_if b r).router new
+asks_shown old new r true idle s machine same = keeps_shown old new r (ask r) machine same s refl refl (λ h. idle refl) (λ h. false_true h)
+asks_shown old new r false idle s machine same = keeps_shown old new r r machine same s refl refl (λ h. h) (λ h. h)
+
+idle_reads : (l : Link) → is_idle l ≡ true → is_reading l ≡ true
+idle_reads Idle h = refl
+idle_reads Closed h = false_true h
+idle_reads (Asked q) h = false_true h
+idle_reads (Answering a) h = false_true h
+idle_reads (Ended end) h = false_true h
+
+due_reads : (l : Link) (due : Option ℕ) (now : ℕ) → is_due l due now ≡ true → is_reading l ≡ true
+due_reads Idle due now h = refl
+due_reads Closed due now h = false_true h
+due_reads (Asked q) due now h = false_true h
+due_reads (Answering a) due now h = false_true h
+due_reads (Ended end) due now h = false_true h
+
+pub idle_shown : (old new : code.Router) (r : Router) → IsShown r old → Shows (asks r).router new.machine → new.reader ≡ old.reader → IsShown (asks r).router new
+unfolding asks
+idle_shown old new r s machine same = asks_shown old new r (is_idle r.link) (idle_reads r.link) s machine same
+
+-- Bytes are pulled.
+pub pulls_shown : (old new : code.Router) (r : Router) (most : ℕ) → new ≡ record old { machine = record old.machine { out = drop most old.machine.out } } → IsShown r old → IsShown (router_pulled most r) new
+unfolding router_pulled
+pulls_shown old new r most e s =
+    subst (λ v. IsShown (record r { out = drop most r.out }) v) (sym e)
+    (keeps_shown old (record old { machine = record old.machine { out = drop most old.machine.out } }) r (record r { out = drop most r.out })
+    (record { withdrawn = s.machine.withdrawn; announced = s.machine.announced; staged = s.machine.staged; is = ap (λ (x : Router). record x { out = drop most x.out }) s.machine.is })
+    refl s refl refl (λ h. h) (λ h. h))
+
+-- A moment is told, and an idle link asks where it is due.
+pub ticks_shown : (old new : code.Router) (now : ℕ) (r : Router) → IsShown r old → Shows (ticks_at now r).router new.machine → new.reader ≡ old.reader → IsShown (ticks_at now r).router new
+unfolding ticks_at
+ticks_shown old new now r s machine same =
+    by_test (is_due (clocked now r).link (clocked now r).due (clocked now r).now) (due_reads (clocked now r).link (clocked now r).due (clocked now r).now) machine
+  where
+    by_test : (b : Bool) → (b ≡ true → is_reading (clocked now r).link ≡ true) → Shows (asks_if b (clocked now r)).router new.machine → IsShown (asks_if b (clocked now r)).router new
+    by_test true idle m = keeps_shown old new r (ask (clocked now r)) m same s (clocked_keeps now r).held (clocked_keeps now r).agreed (λ h. (clocked_keeps now r).reads_on (idle refl)) (λ h. false_true h)
+    by_test false idle m = keeps_shown old new r (clocked now r) m same s (clocked_keeps now r).held (clocked_keeps now r).agreed (clocked_keeps now r).reads_on (λ h. sym (clocked_keeps now r).closed_on ∙ h)
+
+-- The unit at which memory was wanting took memory.
+wanted_so : (now : ℕ) (piece : List ℕ) (r : Router) (wanting : Option ℕ) → IsWanting wanting (fed (clocked now r) (At now ∷ []) wanting piece) → IfSome wanting (λ unit. is_wanted now piece r unit ≡ true)
+unfolding receives
+wanted_so now piece r None h = tt
+wanted_so now piece r (Some unit) h = h
+
+-- A piece is handed in.
+pub receives_so : (old mid new : code.Router) (now : ℕ) (piece rest : List ℕ) (count : ℕ) → Does (clocked now) old.machine mid.machine → mid.reader ≡ old.reader → Takes false mid piece new rest → count ≡ length piece - length rest
+    → ReceivesSo now piece count old new
+unfolding receives
+receives_so old mid new now piece rest count does same takes e = (
+  takes.0,
+  λ r s.
+      let t = takes.1 (clocked now r) (told_shown old mid now r (does r s.machine) same s) in
+      let ends = t.2 (At now ∷ []) in
+      record { shown = subst (λ x. IsShown x new) (sym ends.router_is) t.1; count_is = e ∙ ap (λ x. length piece - length x) (sym ends.rest_is); wanted = wanted_so now piece r takes.0 ends.wanted },
+)
+
+-- What leads to a router is told by its transcript.
+pub led : (calls : List Call) (v : code.Router) → Leads calls v → Led calls v
+led calls v leads = record { leads = leads; kept = router_keeps calls; asking = router_asks calls; split = router_splits calls }
+
+-- A call on a router leads on.
+pub leads_on : (call : Call) (old new : code.Router) → Calls (λ r. (called call r).router) old new → LeadsOn call old new
+leads_on call old new does calls leads = led (call ∷ calls) new (does (played calls).router leads)

@@ -1,0 +1,6 @@
+use Rattle.std.proofs.Common.{sym}
+use Rattle.vrps.proofs.SetLaws.{has-empty}
+use Rattle.rtr_ends.proofs.machine.Machine.is_in_base.Goals as goal
+
+pub returns-in-Reset : goal.returns-in-Reset
+returns-in-Reset c = rw c.in-Reset.is (sym (has-empty c.args.vrp.now))

@@ -1,0 +1,58 @@
+use Rattle.std.proofs.Common.{sym, ap, ◌∙◌}
+use Rattle.rtr_ends.specs.Router.{ask}
+use Rattle.rtr_ends.specs.Seen.{seen}
+use Rattle.rtr_ends.specs.declared.machine.State.TheVariants as states
+use Rattle.rtr_ends.proofs.MachineCells.{does_so, fails_so, foreign_idle, idle_news, idle_old, idle_rejects, idle_strange, reports_so, stays_so, told_so, idle_told, idle_no_data, is_code, no_code}
+use Rattle.rtr_ends.proofs.machine.Machine.on_idle.Goals as goal
+
+pub returns-then-is_strange : goal.returns-then-is_strange
+returns-then-is_strange c =
+    fails_so c.args.unit.now states.Idle _ _ c.requires (λ w a held. idle_strange _ _ c.args.unit.now c.in-SerialNotify.is (seen c.args.self.now w a held) (sym c.is_strange.ensures ∙ c.if-is_strange.true)) c.fails.ensures
+
+pub returns-then-is_news : goal.returns-then-is_news
+returns-then-is_news c =
+    does_so c.args.unit.now states.Idle ask _ _ c.requires
+    (λ w a held. idle_news _ _ c.args.unit.now c.in-SerialNotify.is (seen c.args.self.now w a held) (sym c.is_strange.ensures ∙ c.if-is_strange.false) (sym c.is_news.ensures ∙ c.if-is_news.true)) c.ask.ensures
+
+pub returns-else-is_news : goal.returns-else-is_news
+returns-else-is_news c =
+    stays_so c.args.unit.now states.Idle _ c.requires
+    (λ w a held. idle_old _ _ c.args.unit.now c.in-SerialNotify.is (seen c.args.self.now w a held) (sym c.is_strange.ensures ∙ c.if-is_strange.false) (sym c.is_news.ensures ∙ c.if-is_news.false))
+
+pub returns-in-CacheResponse : goal.returns-in-CacheResponse
+returns-in-CacheResponse c =
+    reports_so c.args.unit.now states.Idle _ _ c.requires (λ w a held. idle_rejects c.args.unit.now (ap foreign_idle c.in-CacheResponse.is) (seen c.args.self.now w a held)) c.reports.ensures
+
+pub returns-in-Prefix : goal.returns-in-Prefix
+returns-in-Prefix c =
+    reports_so c.args.unit.now states.Idle _ _ c.requires (λ w a held. idle_rejects c.args.unit.now (ap foreign_idle c.in-Prefix.is) (seen c.args.self.now w a held)) c.reports-in-Prefix.ensures
+
+pub returns-in-RouterKey : goal.returns-in-RouterKey
+returns-in-RouterKey c =
+    reports_so c.args.unit.now states.Idle _ _ c.requires (λ w a held. idle_rejects c.args.unit.now (ap foreign_idle c.in-RouterKey.is) (seen c.args.self.now w a held)) c.reports-in-RouterKey.ensures
+
+pub returns-in-EndOfData : goal.returns-in-EndOfData
+returns-in-EndOfData c =
+    reports_so c.args.unit.now states.Idle _ _ c.requires (λ w a held. idle_rejects c.args.unit.now (ap foreign_idle c.in-EndOfData.is) (seen c.args.self.now w a held)) c.reports-in-EndOfData.ensures
+
+pub returns-in-CacheReset : goal.returns-in-CacheReset
+returns-in-CacheReset c =
+    reports_so c.args.unit.now states.Idle _ _ c.requires (λ w a held. idle_rejects c.args.unit.now (ap foreign_idle c.in-CacheReset.is) (seen c.args.self.now w a held)) c.reports-in-CacheReset.ensures
+
+pub returns-in-SerialQuery : goal.returns-in-SerialQuery
+returns-in-SerialQuery c =
+    reports_so c.args.unit.now states.Idle _ _ c.requires (λ w a held. idle_rejects c.args.unit.now (ap foreign_idle c.in-SerialQuery.is) (seen c.args.self.now w a held)) c.reports-in-SerialQuery.ensures
+
+pub returns-in-ResetQuery : goal.returns-in-ResetQuery
+returns-in-ResetQuery c =
+    reports_so c.args.unit.now states.Idle _ _ c.requires (λ w a held. idle_rejects c.args.unit.now (ap foreign_idle c.in-ResetQuery.is) (seen c.args.self.now w a held)) c.reports-in-ResetQuery.ensures
+
+pub returns-then-code-ne2 : goal.returns-then-code-ne2
+returns-then-code-ne2 c =
+    told_so c.args.unit.now states.Idle _ c.code-code.result c.requires
+    (λ w a held. rw c.code-code.ensures (idle_told c.in-ErrorReport.report c.args.unit.now c.in-ErrorReport.is (seen c.args.self.now w a held) (no_code _ _ 2 c.code-code.ensures c.if-code-ne2.true)))
+
+pub returns-else-code-ne2 : goal.returns-else-code-ne2
+returns-else-code-ne2 c =
+    stays_so c.args.unit.now states.Idle _ c.requires
+    (λ w a held. idle_no_data c.in-ErrorReport.report c.args.unit.now c.in-ErrorReport.is (seen c.args.self.now w a held) (is_code _ _ 2 c.code-code.ensures c.if-code-ne2.false))

@@ -1,0 +1,152 @@
+//! A router between two units: what it holds, its link, and what it asks (RFC 8210 sections 5 to 8).
+ghost use Rattle.std.specs.Prelude.{◌≡◌, ◌&&◌, [], None, false};
+ghost use Rattle.vrps.specs.Origin.{state};
+ghost use Rattle.vrps.specs.VrpSet.{empty};
+ghost use Rattle.rtr_ends.specs.Answer.{report, sent};
+ghost use Rattle.rtr_ends.specs.Cache.{is_none};
+ghost use Rattle.rtr_ends.specs.Router as model;
+ghost use Rattle.rtr_ends.specs.Seen.{seen_question, seen_versions};
+ghost use Rattle.rtr_ends.specs.Transcript.{choose, query};
+
+use crate::link::End;
+use crate::outbox::Outbox;
+use crate::question::{Question, Version};
+use crate::reports::report_on;
+use crate::staging::Staging;
+use crate::table::Table;
+use rtr_pdu::Unit;
+use std::alloc::Global;
+
+/// The state of a link.
+#[derive(Clone, Copy, Debug, PartialEq, Eq)]
+pub enum State {
+    Closed,
+    Idle,
+    Asked(Question),
+    /// An answer has begun, of this session.
+    Answering { question: Question, session: u16 },
+    Ended(End),
+}
+
+/// A router, but for the bytes that have come of a unit.
+#[derive(Drop)]
+pub struct Machine {
+    pub alloc: Global,
+    pub table: Table,
+    pub version: Option<Version>,
+    /// Whether the next query must be a Reset Query.
+    pub mark: bool,
+    pub due: Option<u64>,
+    /// The greatest moment so far.
+    pub clock: u64,
+    pub state: State,
+    pub agreed: bool,
+    /// The session of the latest Cache Response.
+    pub session: Option<u16>,
+    pub staging: Staging,
+    pub out: Outbox,
+}
+
+impl Machine {
+    ghost use Rattle.rtr_ends.specs.Seen.{Does, ReadsSo, ReadsOrLacks, Shows, begun_with, seen_link};
+    ghost use Rattle.rtr_ends.specs.declared.machine.State.TheVariants as states;
+    ghost use Rattle.rtr_ends.specs.declared.link.End.TheVariants as ends;
+
+    /// Nothing committed, and no connection.
+    pub fn new(alloc: Global) -> Machine
+        ensures { Shows model.new_router result }
+    {
+        Machine {
+            alloc,
+            table: Table::empty(alloc),
+            version: None,
+            mark: false,
+            due: None,
+            clock: 0,
+            state: State::Closed,
+            agreed: false,
+            session: None,
+            staging: Staging::over(alloc, 0),
+            out: Outbox::new(),
+        }
+    }
+
+    /// A question is put.
+    pub fn asks(&mut self, question: Question)
+        ensures { self.new ≡ record self.old { state = states.Asked question; out = sent (query (seen_question question)) } }
+    {
+        match question {
+            Question::Reset => self.out.put(&Unit::ResetQuery),
+            Question::Serial { session, serial } => {
+                self.out.put(&Unit::SerialQuery { session, serial })
+            }
+        }
+        self.state = State::Asked(question);
+    }
+
+    /// Which question is to be put.
+    pub fn choose(&self) -> Question
+        ensures { seen_question result ≡ choose (seen_versions self.now.version) self.now.mark }
+    {
+        match &self.version {
+            Some(version) => {
+                if self.mark {
+                    Question::Reset
+                } else {
+                    Question::Serial {
+                        session: version.session,
+                        serial: version.serial,
+                    }
+                }
+            }
+            None => Question::Reset,
+        }
+    }
+
+    /// Asks as it is to be asked next.
+    pub fn ask(&mut self)
+        ensures { Does model.ask self.old self.new }
+    {
+        let question = self.choose();
+        self.asks(question);
+    }
+
+    /// Drops what is committed.
+    pub fn empty(&mut self)
+        ensures { self.new ≡ record self.old { table = empty; version = None; mark = false } }
+    {
+        self.table = Table::empty(self.alloc);
+        self.version = None;
+        self.mark = false;
+    }
+
+    /// Ends the link with a report on a unit.
+    pub fn reports(&mut self, code: u16, unit: &Unit)
+        ensures { self.new ≡ record self.old { state = states.Ended (ends.Reported code); out = sent (report code (sent unit.now)) } }
+    {
+        self.out.put(&report_on(code, unit));
+        self.state = State::Ended(End::Reported(code));
+    }
+
+    /// The same with code 0, Corrupt Data, and what is committed is dropped.
+    pub fn fails(&mut self, unit: &Unit)
+        ensures { self.new ≡ record self.old { table = empty; version = None; mark = false; state = states.Ended (ends.Reported 0); out = sent (report 0 (sent unit.now)) } }
+    {
+        self.empty();
+        self.reports(0, unit);
+    }
+
+    /// Whether bytes are taken: a connection is open, and nothing is to be pulled.
+    pub fn takes(&self) -> bool
+        ensures { result ≡ (model.is_reading (seen_link self.now.state [] []) && is_none self.now.out) }
+    {
+        let reads = match self.state {
+            State::Closed => false,
+            State::Ended(_) => false,
+            State::Idle => true,
+            State::Asked(_) => true,
+            State::Answering { .. } => true,
+        };
+        reads && self.out.is_empty()
+    }
+}

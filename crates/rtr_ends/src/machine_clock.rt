@@ -1,0 +1,143 @@
+//! What a router does where a moment is told, and where a connection is made or closed (RFC 8210 sections 6 and 8).
+ghost use Rattle.std.specs.Prelude.{◌≡◌, [], Option};
+ghost use Rattle.rtr_ends.specs.Router as model;
+ghost use Rattle.rtr_ends.specs.Seen.{seen_versions};
+ghost use Rattle.rtr_ends.specs.Transcript.{is_over, retry_of, sum_of};
+
+use crate::link::End;
+use crate::machine::{Machine, State};
+use crate::staging::Staging;
+
+impl Machine {
+    ghost use Rattle.rtr_ends.specs.Seen.{Does, ReadsSo, ReadsOrLacks, Shows, begun_with, seen_link};
+    ghost use Rattle.rtr_ends.specs.declared.machine.State.TheVariants as states;
+    ghost use Rattle.rtr_ends.specs.declared.link.End.TheVariants as ends;
+
+    /// A moment is told. What has expired is dropped; a Serial Query that is outstanding then ends the link.
+    pub fn tell(&mut self, now: u64)
+        ensures { Does (model.clocked now) self.old self.new }
+    {
+        self.clock = self.clock.max(now);
+        if self.is_over() {
+            self.expire();
+        }
+    }
+
+    /// Whether more than expire has passed since the commit.
+    fn is_over(&self) -> bool
+        ensures { result ≡ is_over (seen_versions self.now.version) self.now.clock }
+    {
+        match &self.version {
+            Some(version) => version.is_over(self.clock),
+            None => false,
+        }
+    }
+
+    /// What is committed has expired.
+    fn expire(&mut self)
+        ensures { Does (λ r. model.expired r.link r) self.old self.new }
+    {
+        self.empty();
+        match self.state {
+            State::Asked(question) => {
+                if question.is_serial() {
+                    self.state = State::Ended(End::Expired);
+                    self.out.clear();
+                }
+            }
+            State::Answering {
+                question,
+                session: _,
+            } => {
+                if question.is_serial() {
+                    self.state = State::Ended(End::Expired);
+                    self.out.clear();
+                }
+            }
+            _ => {}
+        }
+    }
+
+    /// A connection is made.
+    pub fn connect(&mut self, now: u64)
+        ensures { Does (λ r. (model.connects_at now r).router) self.old self.new }
+    {
+        self.tell(now);
+        self.close();
+        self.ask();
+    }
+
+    /// The connection is closed.
+    pub fn closed(&mut self, now: u64)
+        ensures { Does (λ r. (model.closed_at now r).router) self.old self.new }
+    {
+        self.tell(now);
+        self.close();
+    }
+
+    /// Closes the connection, if there is one. What was not pulled is dropped, and what is staged.
+    fn close(&mut self)
+        ensures { Does model.close self.old self.new }
+    {
+        if self.state == State::Closed {
+            return;
+        }
+        self.staging = Staging::over(self.alloc, 0);
+        self.state = State::Closed;
+        self.agreed = false;
+        self.session = None;
+        self.out.clear();
+        self.due = Some(self.retry_moment());
+    }
+
+    /// When to try again after a failure.
+    pub fn retry_moment(&self) -> u64
+        ensures { result ≡ sum_of self.now.clock (retry_of (seen_versions self.now.version)) }
+    {
+        let retry = match &self.version {
+            Some(version) => version.retry,
+            None => 600,
+        };
+        self.clock.saturating_add(u64::from(retry))
+    }
+
+    /// A moment is told. An idle link asks where it is due.
+    pub fn tick(&mut self, now: u64)
+        ensures { Does (λ r. (model.ticks_at now r).router) self.old self.new }
+    {
+        self.tell(now);
+        if self.is_due() {
+            self.ask();
+        }
+    }
+
+    /// Whether an idle link is due to ask.
+    fn is_due(&self) -> bool
+        ensures { result ≡ model.is_due (seen_link self.now.state [] []) self.now.due self.now.clock }
+    {
+        match self.state {
+            State::Idle => match self.due {
+                Some(due) => due <= self.clock,
+                None => false,
+            },
+            _ => false,
+        }
+    }
+
+    /// Asks where the link is idle, and answers whether it did.
+    pub fn ask_idle(&mut self) -> bool
+        ensures asks { Does (λ r. (model.asks r).router) self.old self.new }
+        ensures idle { result ≡ model.is_idle (seen_link self.old.state [] []) }
+    {
+        match self.state {
+            State::Idle => {
+                self.ask();
+                true
+            }
+            State::Closed => false,
+            State::Asked(_) => false,
+            State::Answering { .. } => false,
+            State::Ended(_) => false,
+        }
+    }
+}

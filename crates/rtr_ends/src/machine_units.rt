@@ -1,0 +1,328 @@
+//! What a router does at a unit (RFC 8210 sections 5, 7, 8 and 12): the rules of each link, unit by unit.
+ghost use Rattle.std.specs.Prelude.{◌∷◌, ◌≡◌, ◌≤◌, ◌&&◌, ℕ, [], true, Some, Ok};
+ghost use Rattle.rtr_pdu.specs.declared.unit.Unit.{Unit as Units};
+ghost use Rattle.vrps.specs.VrpSet.{has, size};
+ghost use Rattle.rtr_ends.specs.Answer.{report, sent};
+ghost use Rattle.rtr_ends.specs.Router as model;
+ghost use Rattle.rtr_ends.specs.Seen.{seen_question, seen_versions};
+ghost use Rattle.rtr_ends.specs.Transcript.{base_of, differs, is_wrong, session_of};
+
+use crate::link::End;
+use crate::machine::{Machine, State};
+use crate::question::{Question, Version, within};
+use crate::reports::{code_of, fault_unit, type_byte};
+use crate::staging::{Staged, Staging};
+use prefixes::Vrp;
+use rtr_pdu::{Unit, UnitFault};
+use std::mem;
+use vrps::SetFault;
+
+impl Machine {
+    ghost use Rattle.rtr_ends.specs.Seen.{Does, ReadsSo, ReadsOrLacks, Shows, begun_with, seen_link};
+    ghost use Rattle.rtr_ends.specs.declared.machine.State.TheVariants as states;
+    ghost use Rattle.rtr_ends.specs.declared.link.End.TheVariants as ends;
+
+    /// A unit is read. Whether memory was wanting; then the link has ended.
+    pub fn read(&mut self, unit: &Unit) -> bool
+        ensures { ReadsOrLacks result unit.now self.old self.new }
+    {
+        match self.state {
+            State::Closed => false,
+            State::Ended(_) => false,
+            State::Idle => {
+                self.on_idle(unit);
+                false
+            }
+            State::Asked(question) => {
+                self.on_asked(question, unit);
+                false
+            }
+            State::Answering { question, session } => {
+                match self.on_answering(question, session, unit) {
+                    Ok(()) => false,
+                    Err(SetFault::TooMany) => {
+                        self.state = State::Ended(End::TooMany);
+                        false
+                    }
+                    Err(SetFault::Memory) => {
+                        self.state = State::Ended(End::Memory);
+                        true
+                    }
+                }
+            }
+        }
+    }
+
+    /// A unit on an idle link.
+    fn on_idle(&mut self, unit: &Unit)
+        requires { self.old.state ≡ states.Idle }
+        ensures { Does (λ r. model.on_unit r.link unit.now r) self.old self.new }
+    {
+        match unit {
+            Unit::SerialNotify { session, serial } => {
+                if self.is_strange(*session) {
+                    self.fails(unit);
+                } else if self.is_news(*serial) {
+                    self.ask();
+                }
+            }
+            Unit::CacheResponse { .. } => self.reports(0, unit),
+            Unit::Prefix { .. } => self.reports(0, unit),
+            Unit::RouterKey(_) => self.reports(0, unit),
+            Unit::EndOfData { .. } => self.reports(0, unit),
+            Unit::CacheReset => self.reports(0, unit),
+            Unit::SerialQuery { .. } => self.reports(0, unit),
+            Unit::ResetQuery => self.reports(0, unit),
+            Unit::ErrorReport(report) => {
+                let code = report.code();
+                if code != 2 {
+                    self.state = State::Ended(End::Told(code));
+                }
+            }
+        }
+    }
+
+    /// A unit where the question is not answered yet.
+    fn on_asked(&mut self, question: Question, unit: &Unit)
+        requires { self.old.state ≡ states.Asked question }
+        ensures { Does (λ r. model.on_unit r.link unit.now r) self.old self.new }
+    {
+        match unit {
+            Unit::SerialNotify { session, serial: _ } => {
+                if self.is_strange(*session) {
+                    self.fails(unit);
+                }
+            }
+            Unit::CacheResponse { session } => {
+                if self.is_wrong(question, *session) {
+                    self.fails(unit);
+                } else {
+                    self.begin(question, *session);
+                }
+            }
+            Unit::Prefix { .. } => self.reports(0, unit),
+            Unit::RouterKey(_) => self.reports(0, unit),
+            Unit::EndOfData { .. } => self.reports(0, unit),
+            Unit::CacheReset => match question {
+                Question::Serial { .. } => {
+                    self.agreed = true;
+                    self.asks(Question::Reset);
+                }
+                Question::Reset => self.reports(0, unit),
+            },
+            Unit::SerialQuery { .. } => self.reports(0, unit),
+            Unit::ResetQuery => self.reports(0, unit),
+            Unit::ErrorReport(report) => {
+                self.agreed = true;
+                self.told_off(question, report.code());
+            }
+        }
+    }
+
+    /// A unit in an answer. `TooMany`: the table would have more records than a set may have. Memory is wanted for a record and for the
+    /// table at the end.
+    fn on_answering(
+        &mut self,
+        question: Question,
+        session: u16,
+        unit: &Unit,
+    ) -> Result<(), SetFault>
+        requires { self.old.state ≡ states.Answering question session }
+        ensures { ReadsSo result unit.now self.old self.new }
+    {
+        match unit {
+            Unit::SerialNotify { session, serial: _ } => {
+                if self.is_strange(*session) {
+                    self.fails(unit);
+                }
+                Ok(())
+            }
+            Unit::Prefix { announce, vrp } => self.stage(question, unit, *announce, vrp),
+            Unit::RouterKey(_) => Ok(()),
+            Unit::EndOfData {
+                session: named,
+                serial,
+                refresh,
+                retry,
+                expire,
+            } => {
+                if *named != session {
+                    self.fails(unit);
+                    return Ok(());
+                }
+                self.commit(question, session, *serial, *refresh, *retry, *expire)
+            }
+            Unit::ErrorReport(report) => {
+                self.told_off(question, report.code());
+                Ok(())
+            }
+            Unit::CacheResponse { .. } => self.rejects(unit),
+            Unit::CacheReset => self.rejects(unit),
+            Unit::SerialQuery { .. } => self.rejects(unit),
+            Unit::ResetQuery => self.rejects(unit),
+        }
+    }
+
+    /// A unit that does not belong in an answer.
+    fn rejects(&mut self, unit: &Unit) -> Result<(), SetFault>
+        ensures ok { result ≡ Ok tt }
+        ensures reports { self.new ≡ record self.old { state = states.Ended (ends.Reported 0); out = sent (report 0 (sent unit.now)) } }
+    {
+        self.reports(0, unit);
+        Ok(())
+    }
+
+    /// An answer of this session begins.
+    fn begin(&mut self, question: Question, session: u16)
+        ensures { Does (λ r. record r { agreed = true; session = Some session; link = model.Answering (begun_with question session [] []) }) self.old self.new }
+    {
+        let count = self.base_len(question);
+        self.agreed = true;
+        self.session = Some(session);
+        self.staging = Staging::over(self.alloc, count);
+        self.state = State::Answering { question, session };
+    }
+
+    /// A record in an answer.
+    fn stage(
+        &mut self,
+        question: Question,
+        unit: &Unit,
+        announce: bool,
+        vrp: &Vrp,
+    ) -> Result<(), SetFault>
+        ensures { (session : ℕ) → self.old.state ≡ states.Answering question session → unit.now ≡ Unit.Prefix announce vrp.now → ReadsSo result unit.now self.old self.new }
+    {
+        let in_base = self.is_in_base(question, vrp);
+        match self.staging.take(in_base, announce, vrp) {
+            Ok(Staged::Stays) => Ok(()),
+            Ok(Staged::Wrong(code)) => {
+                self.reports(code, unit);
+                self.mark = true;
+                Ok(())
+            }
+            Err(fault) => Err(fault),
+        }
+    }
+
+    /// The end of an answer: what is staged becomes the table, under this name.
+    fn commit(
+        &mut self,
+        question: Question,
+        session: u16,
+        serial: u32,
+        refresh: u32,
+        retry: u32,
+        expire: u32,
+    ) -> Result<(), SetFault>
+        ensures { self.old.state ≡ states.Answering question session → ReadsSo result (Unit.EndOfData session serial refresh retry expire) self.old self.new }
+    {
+        let staging = mem::replace(&mut self.staging, Staging::over(self.alloc, 0));
+        match staging.end(self.alloc, question, &self.table) {
+            Ok(table) => {
+                let refresh = within(1, 86_400, refresh);
+                self.table = table;
+                self.version = Some(Version {
+                    session,
+                    serial,
+                    moment: self.clock,
+                    refresh,
+                    retry: within(1, 7_200, retry),
+                    expire: within(600, 172_800, expire),
+                });
+                self.mark = false;
+                self.due = Some(self.clock.saturating_add(u64::from(refresh)));
+                self.state = State::Idle;
+                Ok(())
+            }
+            Err(fault) => Err(fault),
+        }
+    }
+
+    /// An Error Report to the question that is outstanding: code 2, No Data Available, leaves the link idle; code 0, Corrupt Data,
+    /// to a Serial Query drops what is committed; all but 2 end the link.
+    fn told_off(&mut self, question: Question, code: u16)
+        ensures { Does (model.told_off (seen_question question) code) self.old self.new }
+    {
+        self.staging = Staging::over(self.alloc, 0);
+        if code == 2 {
+            self.due = Some(self.retry_moment());
+            self.state = State::Idle;
+            return;
+        }
+        if code == 0 && question.is_serial() {
+            self.empty();
+        }
+        self.state = State::Ended(End::Told(code));
+    }
+
+    /// Whether the session differs from the connection's, after agreement.
+    fn is_strange(&self, session: u16) -> bool
+        ensures { result ≡ (self.now.agreed && differs (session_of self.now.session (seen_versions self.now.version)) session) }
+    {
+        let own = match self.session {
+            Some(own) => own,
+            None => match &self.version {
+                Some(version) => version.session,
+                None => return false,
+            },
+        };
+        self.agreed && own != session
+    }
+
+    /// Whether a notify of this serial is of a later version than the committed one.
+    fn is_news(&self, serial: u32) -> bool
+        ensures { result ≡ model.is_news (seen_versions self.now.version) serial }
+    {
+        match &self.version {
+            Some(version) => version.is_before(serial),
+            None => true,
+        }
+    }
+
+    /// Whether a Cache Response of this session does not answer the question.
+    fn is_wrong(&self, question: Question, session: u16) -> bool
+        ensures { result ≡ is_wrong (Some (seen_question question)) (seen_versions self.now.version) session }
+    {
+        match &self.version {
+            Some(version) => question.is_serial() && version.session != session,
+            None => false,
+        }
+    }
+
+    /// Whether the record is in the base of the answer to this question.
+    fn is_in_base(&self, question: Question, vrp: &Vrp) -> bool
+        ensures { result ≡ has (base_of (seen_question question) self.now.table) vrp.now }
+    {
+        match question {
+            Question::Reset => false,
+            Question::Serial { .. } => self.table.contains(vrp),
+        }
+    }
+
+    /// How many records the base of the answer to this question has.
+    fn base_len(&self, question: Question) -> usize
+        ensures count { result ≡ size (base_of (seen_question question) self.now.table) }
+        ensures fits { result ≤ 16777215 }
+    {
+        match question {
+            Question::Reset => 0,
+            Question::Serial { .. } => self.table.len(),
+        }
+    }
+
+    /// Bytes show a fault. The link ends, with a report but for an Error Report.
+    pub fn breaks(&mut self, fault: UnitFault, bytes: &[u8])
+        ensures { Does (λ r. (model.breaks fault bytes.now r).router) self.old self.new }
+    {
+        match fault_unit(self.agreed, fault, bytes) {
+            None => self.out.clear(),
+            Some(unit) => self.out.put(&unit),
+        }
+        if type_byte(bytes) == 10 {
+            self.state = State::Ended(End::Malformed);
+        } else {
+            self.state = State::Ended(End::Reported(code_of(self.agreed, fault)));
+        }
+    }
+}

@@ -1,0 +1,81 @@
+//! Bytes to be pulled.
+ghost use Rattle.std.specs.Prelude.{◌≡◌, ◌≤◌, ◌==◌, [], ◌++◌, length, take, drop, min};
+ghost use Rattle.rtr_ends.specs.Answer.{sent};
+ghost use Rattle.rtr_ends.specs.Cache.{is_none};
+
+use rtr_pdu::{Unit, UnitBuffer, encode};
+use std::marker::Model;
+
+/// The bytes of one unit that are still to be pulled. It takes no memory.
+#[derive(Drop)]
+pub struct Outbox {
+    unit: UnitBuffer,
+    /// How many of its bytes were pulled.
+    pulled: usize,
+}
+
+impl Model for Outbox {
+    ghost use Rattle.std.specs.Prelude.{ℕ, ◌≤◌, List, length, drop};
+
+    ghost Value = { List ℕ };
+
+    ghost view = { λ o. drop o.pulled o.unit.items };
+
+    ghost invariant = { λ o. o.pulled ≤ length o.unit.items };
+}
+
+impl Outbox {
+    /// Nothing to be pulled.
+    pub fn new() -> Outbox
+        ensures { result ≡ [] }
+    {
+        Outbox {
+            unit: UnitBuffer::new(),
+            pulled: 0,
+        }
+    }
+
+    /// Whether nothing is to be pulled.
+    pub fn is_empty(&self) -> bool
+        ensures { result ≡ is_none self.now }
+    {
+        self.pulled == self.unit.len()
+    }
+
+    /// How many bytes are to be pulled.
+    pub fn len(&self) -> usize
+        ensures count { result ≡ length self.now }
+        ensures fits { result ≤ 4096 }
+    {
+        self.unit.len() - self.pulled
+    }
+
+    /// Drops what is to be pulled.
+    pub fn clear(&mut self)
+        ensures { self.new ≡ [] }
+    {
+        self.unit.clear();
+        self.pulled = 0;
+    }
+
+    /// A unit is to be pulled, and nothing else.
+    pub fn put(&mut self, unit: &Unit)
+        ensures { self.new ≡ sent unit.now }
+    {
+        encode(unit, &mut self.unit);
+        self.pulled = 0;
+    }
+
+    /// Moves as many bytes as there are, or as fit, to the front of `room`, and answers how many.
+    pub fn pull(&mut self, room: &mut [u8]) -> usize
+        ensures count { result ≡ min (length room.old) (length self.old) }
+        ensures front { room.new ≡ take (length room.old) self.old ++ drop (length self.old) room.old }
+        ensures rest { self.new ≡ drop (length room.old) self.old }
+    {
+        let bytes = &self.unit.as_slice()[self.pulled..];
+        let count = bytes.len().min(room.len());
+        room[..count].copy_from_slice(&bytes[..count]);
+        self.pulled += count;
+        count
+    }
+}

@@ -1,0 +1,71 @@
+//! What a router asks for, and what it has committed.
+ghost use Rattle.std.specs.Prelude.{◌≡◌, ℕ, Option, Some, None};
+ghost use Rattle.vrps.specs.Serial.{is_before};
+ghost use Rattle.rtr_ends.specs.Transcript.{is_over, is_serial, within};
+
+use vrps::Serial;
+
+/// A question: for all, or for what changed since a version (RFC 8210 sections 5.3 and 5.4).
+#[derive(Clone, Copy, Debug, PartialEq, Eq)]
+pub enum Question {
+    /// For all.
+    Reset,
+    /// For what changed since this version.
+    Serial { session: u16, serial: u32 },
+}
+
+impl Question {
+    ghost use Rattle.rtr_ends.specs.Seen.{seen_question};
+
+    /// Whether it is a Serial Query.
+    pub fn is_serial(self) -> bool
+        ensures { result ≡ is_serial (Some (seen_question self)) }
+    {
+        match self {
+            Question::Reset => false,
+            Question::Serial { .. } => true,
+        }
+    }
+}
+
+/// The version that was committed: its name, when that was, and its intervals, in seconds (RFC 8210 sections 5.8 and 6).
+#[derive(Clone, Copy, Debug, PartialEq, Eq)]
+pub struct Version {
+    pub session: u16,
+    pub serial: u32,
+    pub moment: u64,
+    pub refresh: u32,
+    pub retry: u32,
+    pub expire: u32,
+}
+
+impl Version {
+    ghost use Rattle.rtr_ends.specs.Seen.{seen_version, seen_versions};
+
+    /// Whether more than expire has passed since the commit.
+    pub fn is_over(&self, now: u64) -> bool
+        ensures { result ≡ is_over (Some (seen_version self.now)) now }
+    {
+        u64::from(self.expire) < now.saturating_sub(self.moment)
+    }
+
+    /// Whether this serial is one of a later version (RFC 1982).
+    pub fn is_before(&self, serial: u32) -> bool
+        ensures { result ≡ is_before self.now.serial serial }
+    {
+        Serial(self.serial).is_before(Serial(serial))
+    }
+}
+
+/// An interval, brought to the nearest bound of its range.
+pub fn within(low: u32, high: u32, seconds: u32) -> u32
+    ensures { result ≡ within low high seconds }
+{
+    if seconds < low {
+        low
+    } else if high < seconds {
+        high
+    } else {
+        seconds
+    }
+}

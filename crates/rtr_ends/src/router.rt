@@ -1,0 +1,208 @@
+//! Routers, over any transport.
+ghost use Rattle.rtr_pdu.specs.Reader.{after_agreed};
+ghost use Rattle.std.specs.Prelude.{if◌then◌else◌, ℕ, List, Option, ◌≡◌, ◌<◌, ◌≤◌, ◌&&◌, not, true, false, [], ◌++◌, take, drop, min, length, option_map};
+ghost use Rattle.rtr_ends.specs.Cache.{is_none};
+ghost use Rattle.rtr_ends.specs.Router as model;
+ghost use Rattle.rtr_ends.specs.Router.{called};
+ghost use Rattle.rtr_ends.specs.Seen.{Shows, seen_link};
+ghost use Rattle.rtr_ends.specs.Transcript.{due, kept};
+ghost use Rattle.rtr_ends.specs.Peer.{HasRoom};
+ghost use Rattle.rtr_ends.specs.Links.{asked_on, name_of, told_link};
+ghost use Rattle.vrps.specs.Origin.{state};
+
+use crate::link::{AskFault, Link};
+use crate::machine::{Machine, State};
+use prefixes::Route;
+use rtr_pdu::{Next, UnitReader};
+use std::alloc::Global;
+use vrps::{OriginState, Serial, VrpSet};
+
+/// A router: what it has committed, and at most one connection (RFC 8210 sections 5 to 8). Moments are in seconds of a clock that the
+/// caller hands in; one below the greatest so far counts as that one.
+#[derive(Drop)]
+pub struct Router {
+    machine: Machine,
+    reader: UnitReader,
+}
+
+impl Router {
+    ghost use Rattle.rtr_ends.specs.Shown.{Calls, IsShown, Leads, LeadsOn, ReceivesSo, Takes, held_by};
+
+    /// Nothing is committed, and there is no connection.
+    pub fn new(alloc: Global) -> Router
+        ensures { IsShown model.new_router result }
+    {
+        Router {
+            machine: Machine::new(alloc),
+            reader: UnitReader::for_router(),
+        }
+    }
+
+    /// A connection is made, and a question put on it. An older connection is closed. It takes no memory.
+    pub fn connect(&mut self, now: u64)
+        ensures calls { Calls (λ r. (called (model.Connects now) r).router) self.old self.new }
+        ensures leads { LeadsOn (model.Connects now) self.old self.new }
+    {
+        self.machine.connect(now);
+        self.reader = UnitReader::for_router();
+    }
+
+    /// The connection is closed. It takes no memory.
+    pub fn closed(&mut self, now: u64)
+        ensures calls { Calls (λ r. (called (model.Closes now) r).router) self.old self.new }
+        ensures leads { LeadsOn (model.Closes now) self.old self.new }
+    {
+        self.machine.closed(now);
+    }
+
+    /// A moment is told; an idle link asks where it is due. It takes no memory.
+    pub fn tick(&mut self, now: u64)
+        ensures calls { Calls (λ r. (called (model.Ticks now) r).router) self.old self.new }
+        ensures leads { LeadsOn (model.Ticks now) self.old self.new }
+    {
+        self.machine.tick(now);
+    }
+
+    /// Asks on an idle link. It takes no memory.
+    pub fn ask(&mut self) -> Result<(), AskFault>
+        ensures calls { Calls (λ r. (called model.AsksNow r).router) self.old self.new }
+        ensures leads { LeadsOn model.AsksNow self.old self.new }
+        ensures result { (r : model.Router) → IsShown r self.old → result ≡ asked_on r.link }
+    {
+        match self.machine.state {
+            State::Idle => {
+                let _asks = self.machine.ask_idle();
+                Ok(())
+            }
+            State::Asked(_) => Err(AskFault::Busy),
+            State::Answering { .. } => Err(AskFault::Busy),
+            State::Closed => Err(AskFault::NotConnected),
+            State::Ended(_) => Err(AskFault::NotConnected),
+        }
+    }
+
+    /// Hands out the bytes to be pulled, as many as there are, or as fit, and answers how many. It takes no memory.
+    pub fn pull(&mut self, room: &mut [u8]) -> usize
+        ensures calls { Calls (λ r. (called (model.Pulls (length room.old)) r).router) self.old self.new }
+        ensures leads { LeadsOn (model.Pulls (length room.old)) self.old self.new }
+        ensures bytes { (r : model.Router) → IsShown r self.old → (result ≡ min (length room.old) (length r.out)) × (room.new ≡ take (length room.old) r.out ++ drop (length r.out) room.old) }
+    {
+        self.machine.out.pull(room)
+    }
+
+    /// Whether there are bytes to be pulled.
+    pub fn has_bytes(&self) -> bool
+        ensures { (r : model.Router) → IsShown r self.now → is_none r.out ≡ not result }
+    {
+        !self.machine.out.is_empty()
+    }
+
+    /// The committed table.
+    pub fn table(&self) -> &VrpSet
+        ensures shown { (r : model.Router) → IsShown r self.now → result.now ≡ r.table }
+        ensures kept { (calls : List model.Call) → Leads calls self.now → result.now ≡ (kept (model.played calls).items).table }
+    {
+        self.machine.table.set()
+    }
+
+    /// The session and serial of the committed version, if there is one.
+    pub fn committed(&self) -> Option<(u16, Serial)>
+        ensures shown { (r : model.Router) → IsShown r self.now → option_map (λ name. (name.0, name.1.0)) result ≡ name_of r.version }
+        ensures kept { (calls : List model.Call) → Leads calls self.now → option_map (λ name. (name.0, name.1.0)) result ≡ name_of (kept (model.played calls).items).version }
+    {
+        match &self.machine.version {
+            Some(version) => Some((version.session, Serial(version.serial))),
+            None => None,
+        }
+    }
+
+    /// The state of a route over the committed table. It takes no memory.
+    pub fn route_state(&self, route: &Route) -> OriginState
+        ensures { (r : model.Router) → IsShown r self.now → result ≡ state r.table route.now }
+    {
+        self.machine.table.state(route)
+    }
+
+    /// When an idle link asks again, if ever.
+    pub fn due(&self) -> Option<u64>
+        ensures shown { (r : model.Router) → IsShown r self.now → result ≡ r.due }
+        ensures kept { (calls : List model.Call) → Leads calls self.now → result ≡ due (model.played calls).items }
+    {
+        self.machine.due
+    }
+
+    /// The link.
+    pub fn link(&self) -> Link
+        ensures { (r : model.Router) → IsShown r self.now → result ≡ told_link r.link }
+    {
+        match self.machine.state {
+            State::Closed => Link::Closed,
+            State::Idle => Link::Idle,
+            State::Asked(_) => Link::Asked,
+            State::Answering { .. } => Link::Answering,
+            State::Ended(end) => Link::Ended(end),
+        }
+    }
+
+    /// The bytes that it holds: received that are no whole unit yet, and to be pulled.
+    pub(crate) fn room(&self)
+        ensures { HasRoom (held_by self.now) }
+    {
+        let _received = self.reader.held();
+        let _ready = self.machine.out.len();
+    }
+
+    /// Takes bytes of a piece, and answers how many: none where bytes are to be pulled or no link is open, else up to the end of the first
+    /// unit that gives bytes to be pulled or ends the link.
+    pub fn receive(&mut self, piece: &[u8], now: u64) -> usize
+        ensures shown { ReceivesSo now piece.now result self.old self.new }
+        ensures leads { (wanting : Option ℕ) × LeadsOn (model.Receives now wanting piece.now) self.old self.new }
+    {
+        self.machine.tell(now);
+        let mut rest = piece;
+        self.take(&mut rest);
+        piece.len() - rest.len()
+    }
+
+    /// Takes bytes from the front of the piece.
+    fn take(&mut self, piece: &mut &[u8])
+        ensures takes { Takes false self.old piece.old.now self.new piece.new.now }
+        ensures less { length piece.new.now ≤ length piece.old.now }
+    {
+        while self.machine.takes() {
+            if !self.step(piece) {
+                return;
+            }
+        }
+    }
+
+    /// Takes the bytes up to the end of a unit, or all of them, or up to a fault; whether it was a unit.
+    fn step(&mut self, piece: &mut &[u8]) -> bool
+        requires { (model.is_reading (seen_link self.old.machine.state [] []) && is_none self.old.machine.out) ≡ true }
+        ensures takes { Takes result self.old piece.old.now self.new piece.new.now }
+        ensures less { result ≡ true → length piece.new.now < length piece.old.now }
+        ensures within { length piece.new.now ≤ length piece.old.now }
+    {
+        match self.reader.next(piece) {
+            Next::Unit(unit) => {
+                let _lacks = self.machine.read(&unit);
+                self.agree();
+                true
+            }
+            Next::NeedMore => false,
+            Next::Fault(fault) => {
+                self.machine.breaks(fault, self.reader.held());
+                false
+            }
+        }
+    }
+
+    /// Tells the reader of agreement, where there is one.
+    fn agree(&mut self)
+        ensures { self.new ≡ record self.old { reader = if self.old.machine.agreed then after_agreed self.old.reader else self.old.reader } }
+    {
+        if self.machine.agreed {
+            self.reader.agreed();
+        }
+    }
+}

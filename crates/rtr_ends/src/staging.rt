@@ -1,0 +1,149 @@
+//! What an answer under way has staged over its base.
+ghost use Rattle.std.specs.Prelude.{◌≡◌, IfOk, IsErrOf, true, false};
+ghost use Rattle.vrps.specs.VrpSet.{VrpSet as Vrps, empty, has, size, set_of, union, without};
+ghost use Rattle.rtr_ends.specs.Transcript.{Begun, base_of};
+
+use crate::question::Question;
+use crate::table::Table;
+use prefixes::Vrp;
+use std::alloc::{AllocError, Global};
+use vrps::{Change, Gathered, SetFault, VrpSet};
+
+/// The records of an answer that is not at its end: those withdrawn from its base, those announced over it, and how many records
+/// its end would leave. The base stays as it is.
+#[derive(Drop)]
+pub struct Staging {
+    pub withdrawn: Gathered,
+    pub announced: Gathered,
+    pub count: usize,
+}
+
+/// What a record does to an answer.
+#[derive(Clone, Copy, Debug, PartialEq, Eq)]
+pub enum Staged {
+    /// It is staged.
+    Stays,
+    /// It acts wrongly, with this error code (RFC 8210 section 12).
+    Wrong(u16),
+}
+
+impl Staging {
+    ghost use Rattle.rtr_ends.specs.Staging.{GoesTo, LeadsTo};
+    ghost use Rattle.rtr_ends.specs.Seen.{IsStaged, seen_question};
+
+    /// Nothing is staged over a base of so many records. It takes no memory.
+    pub fn over(alloc: Global, count: usize) -> Staging
+        ensures { result ≡ record { withdrawn = empty; announced = empty; count = count } }
+    {
+        Staging {
+            withdrawn: Gathered::new(alloc),
+            announced: Gathered::new(alloc),
+            count,
+        }
+    }
+
+    /// A record is withdrawn: code 6 where it is not in the base, or was withdrawn already. Without memory nothing is staged.
+    pub fn withdraw(&mut self, in_base: bool, vrp: &Vrp) -> Result<Staged, SetFault>
+        ensures { (base : Vrps) (b : Begun) → IsStaged base b.withdrawn b.announced self.old → in_base ≡ has base vrp.now
+            → GoesTo base b false vrp.now result self.new }
+    {
+        if !in_base {
+            return Ok(Staged::Wrong(6));
+        }
+        match self.withdrawn.insert(*vrp) {
+            Ok(true) => {
+                self.count = self.count.saturating_sub(1);
+                Ok(Staged::Stays)
+            }
+            Ok(false) => Ok(Staged::Wrong(6)),
+            Err(_) => Err(SetFault::Memory),
+        }
+    }
+
+    /// A record is announced: code 7 where it is in the base, or was announced already; `TooMany` where the table would have more
+    /// records than a set may have. Without memory nothing is staged.
+    pub fn announce(&mut self, in_base: bool, vrp: &Vrp) -> Result<Staged, SetFault>
+        ensures { (base : Vrps) (b : Begun) → IsStaged base b.withdrawn b.announced self.old → in_base ≡ has base vrp.now
+            → GoesTo base b true vrp.now result self.new }
+    {
+        if in_base {
+            return Ok(Staged::Wrong(7));
+        }
+        if self.count >= VrpSet::LIMIT {
+            if self.announced.contains(vrp) {
+                return Ok(Staged::Wrong(7));
+            }
+            return Err(SetFault::TooMany);
+        }
+        match self.announced.insert(*vrp) {
+            Ok(true) => {
+                self.count += 1;
+                Ok(Staged::Stays)
+            }
+            Ok(false) => Ok(Staged::Wrong(7)),
+            Err(_) => Err(SetFault::Memory),
+        }
+    }
+
+    /// A record comes: it is staged, or acts wrongly.
+    pub fn take(&mut self, in_base: bool, announce: bool, vrp: &Vrp) -> Result<Staged, SetFault>
+        ensures { (base : Vrps) (b : Begun) → IsStaged base b.withdrawn b.announced self.old → in_base ≡ has base vrp.now
+            → GoesTo base b announce vrp.now result self.new }
+    {
+        if announce {
+            self.announce(in_base, vrp)
+        } else {
+            self.withdraw(in_base, vrp)
+        }
+    }
+
+    /// The table to which the records lead from the base of the answer to this question. Want of memory is the only error.
+    pub fn end(self, alloc: Global, question: Question, table: &Table) -> Result<Table, SetFault>
+        ensures { (b : Begun) → IsStaged (base_of (seen_question question) table.now) b.withdrawn b.announced self
+            → LeadsTo (base_of (seen_question question) table.now) b result }
+    {
+        let set = self.led(alloc, question, table.set())?;
+        Ok(Table::of(alloc, set)?)
+    }
+
+    /// The set of that table.
+    fn led(self, alloc: Global, question: Question, table: &VrpSet) -> Result<VrpSet, SetFault>
+        ensures { (b : Begun) → IsStaged (base_of (seen_question question) table.now) b.withdrawn b.announced self
+            → LeadsTo (base_of (seen_question question) table.now) b result }
+    {
+        match question {
+            Question::Reset => self.lead_from_nothing(alloc),
+            Question::Serial { .. } => self.lead(alloc, table),
+        }
+    }
+
+    /// The set to which the records lead from the base. The time is linear in the number of all of them.
+    pub fn lead(self, alloc: Global, base: &VrpSet) -> Result<VrpSet, SetFault>
+        ensures ok { IfOk result (λ table. table ≡ union (without base.now self.withdrawn) self.announced) }
+        ensures too_many { (b : Begun) → IsStaged base.now b.withdrawn b.announced self → ¬ (IsErrOf result SetFault.TooMany) }
+    {
+        let Staging {
+            withdrawn,
+            announced,
+            count: _,
+        } = self;
+        // A set that is looked at is known to be within the limit.
+        let _records = base.len();
+        let withdraw = withdrawn.into_set(alloc)?;
+        let announce = announced.into_set(alloc)?;
+        Change { withdraw, announce }.apply(alloc, base)
+    }
+
+    /// The same from the empty set.
+    pub fn lead_from_nothing(self, alloc: Global) -> Result<VrpSet, SetFault>
+        ensures ok { IfOk result (λ table. table ≡ self.announced) }
+        ensures too_many { (b : Begun) → IsStaged empty b.withdrawn b.announced self → ¬ (IsErrOf result SetFault.TooMany) }
+    {
+        let Staging {
+            withdrawn: _,
+            announced,
+            count: _,
+        } = self;
+        announced.into_set(alloc)
+    }
+}

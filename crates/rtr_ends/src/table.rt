@@ -1,0 +1,81 @@
+//! A router's table.
+ghost use Rattle.std.specs.Prelude.{◌≡◌, ◌≤◌, IfOk};
+ghost use Rattle.vrps.specs.Origin.{state};
+ghost use Rattle.vrps.specs.VrpSet.{empty, has, size};
+
+use prefixes::{Route, Vrp};
+use std::alloc::{AllocError, Global};
+use std::marker::Model;
+use vrps::{OriginIndex, OriginState, VrpSet};
+
+/// A set of records with the index by which routes are judged over it.
+#[derive(Drop)]
+pub struct Table {
+    set: VrpSet,
+    index: OriginIndex,
+}
+
+impl Model for Table {
+    ghost use Rattle.std.specs.Prelude.{◌≡◌};
+    ghost use Rattle.std.specs.FinMap as map;
+    ghost use Rattle.prefixes.specs.Payload.{coded_payload};
+    ghost use Rattle.vrps.specs.VrpSet.{VrpSet as Vrps};
+    ghost use base.Stored.{coded_unit};
+
+    ghost Value = { Vrps };
+
+    ghost coded = { map.code coded_payload coded_unit };
+
+    ghost view = { λ t. t.set };
+
+    ghost invariant = { λ t. t.index ≡ t.set };
+}
+
+impl Table {
+    /// No record. It takes no memory.
+    pub fn empty(alloc: Global) -> Table
+        ensures { result ≡ empty }
+    {
+        Table {
+            set: VrpSet::empty(alloc),
+            index: OriginIndex::empty(alloc),
+        }
+    }
+
+    /// The table of these records. The time is linear in their number.
+    pub fn of(alloc: Global, set: VrpSet) -> Result<Table, AllocError>
+        ensures { IfOk result (λ table. table ≡ set) }
+    {
+        let index = OriginIndex::over(alloc, &set)?;
+        Ok(Table { set, index })
+    }
+
+    /// The records.
+    pub fn set(&self) -> &VrpSet
+        ensures { result.now ≡ self.now }
+    {
+        &self.set
+    }
+
+    /// How many records there are.
+    pub fn len(&self) -> usize
+        ensures count { result ≡ size self.now }
+        ensures fits { result ≤ 16777215 }
+    {
+        self.set.len()
+    }
+
+    /// Whether the record is there.
+    pub fn contains(&self, vrp: &Vrp) -> bool
+        ensures { result ≡ has self.now vrp.now }
+    {
+        self.set.contains(vrp)
+    }
+
+    /// The state of a route. It takes no memory.
+    pub fn state(&self, route: &Route) -> OriginState
+        ensures { result ≡ state self.now route.now }
+    {
+        self.index.state(route)
+    }
+}
