@@ -4,12 +4,22 @@ use Rattle.rtr_ends.specs.Router as model
 use Rattle.rtr_ends.specs.Transcript.{Committed}
 use Rattle.rtr_ends.specs.declared.link.AskFault.{AskFault}
 use Rattle.rtr_ends.specs.declared.link.AskFault.TheVariants.{Busy, NotConnected}
+use Rattle.rtr_ends.specs.declared.link.End.{End}
+use Rattle.rtr_ends.specs.declared.link.End.TheVariants as ends
 use Rattle.rtr_ends.specs.declared.link.Link.{Link}
 use Rattle.rtr_ends.specs.declared.link.Link.TheVariants as links
 
 abbrev pub ask_fault_number : AskFault → ℕ
 ask_fault_number Busy = 1
 ask_fault_number NotConnected = 2
+
+abbrev pub end_number : End → ℕ
+end_number (ends.Reported code) = 1
+end_number (ends.Told code) = 2
+end_number ends.Malformed = 3
+end_number ends.Memory = 4
+end_number ends.Expired = 5
+end_number ends.TooMany = 6
 
 abbrev pub told_link : model.Link → Link
 told_link model.Closed = links.Closed

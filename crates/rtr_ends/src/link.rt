@@ -18,6 +18,24 @@ pub enum End {
     TooMany,
 }
 
+impl End {
+    ghost use Rattle.rtr_ends.specs.Links.{end_number};
+
+    /// The number by which the end is printed. It is fixed.
+    pub fn number(self) -> u8
+        ensures { result ≡ end_number self }
+    {
+        match self {
+            End::Reported(_) => 1,
+            End::Told(_) => 2,
+            End::Malformed => 3,
+            End::Memory => 4,
+            End::Expired => 5,
+            End::TooMany => 6,
+        }
+    }
+}
+
 /// The link of a router to its cache.
 #[derive(Clone, Copy, Debug, PartialEq, Eq)]
 pub enum Link {

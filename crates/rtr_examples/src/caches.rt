@@ -504,6 +504,16 @@ fn pieces(
     Ok(all)
 }
 
+/// The answer of a cache that holds so many records to a Reset Query.
+pub(crate) fn whole_answer(alloc: Global, count: u32) -> Result<Vec<u8>, Fail> {
+    let log = VersionLog::new(alloc, 0x1234, 5, 2)?;
+    let mut cache = Cache::new(alloc, log, Timing::default());
+    cache.publish(many(alloc, count)?)?;
+    let conn = cache.open()?;
+    cache.receive(conn, &RESET);
+    pieces(&mut cache, alloc, conn, 200_032, false)
+}
+
 #[test]
 fn ten_thousand_records_in_pieces(rt: HostRuntime) -> Result<(), Fail> {
     let alloc = rt.alloc();
