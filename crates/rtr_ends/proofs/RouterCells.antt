@@ -508,18 +508,17 @@ goes_on : Leaves 100 (notify_bytes 0x1234 5 ++ notify_bytes 0x1234 5 ++ take 3 r
 unfolding receives router_byte clocked on_unit judge as_read
 goes_on = (refl, refl)
 
--- Want of memory
-
-lacks_at_response : (called (Receives 100 (Some 0) response_bytes) asked_all).router ≡ record asked_all { link = Ended ends.Memory }
+-- Want of memory: none is asked for where an answer begins,
+begins_without_memory : (called (Receives 100 (Some 0) response_bytes) asked_all).router ≡ answering nothing_yet
 unfolding receives router_byte clocked on_unit judge as_read
-lacks_at_response = refl
+begins_without_memory = refl
 
--- at the second unit of a piece
+-- but where it ends, at the second unit of a piece
 lacks_at_end : (called (Receives 100 (Some 1) (response_bytes ++ end_bytes 5)) asked_all).router ≡ record (answering nothing_yet) { link = Ended ends.Memory }
 unfolding receives router_byte clocked on_unit judge as_read
 lacks_at_end = refl
 
--- None is asked for where the session is another one,
+-- and not where the session is another one,
 session_before_memory : (called (Receives 100 (Some 0) (sent (CacheResponse 0x2222))) asks_since).router
     ≡ record asks_since { table = empty; version = None; link = Ended (ends.Reported 0); out = sent (report 0 (sent (CacheResponse 0x2222))) }
 unfolding receives router_byte clocked on_unit judge as_read

@@ -137,13 +137,12 @@ on_unit (Answering a) (EndOfData session serial refresh retry expire) r =
 on_unit (Answering a) (ErrorReport e) r = told_off a.question e.code r
 on_unit (Answering a) u r = reports 0 u r
 
--- The units at which memory is taken: those that begin an answer, stage a record, or commit
+-- The units at which memory is taken: those that stage a record, or commit
 abbrev pub is_staged : Staged → Bool
 is_staged (Stays a) = true
 is_staged other = false
 
 abbrev pub may_lack : Link → Unit → Router → Bool
-may_lack (Asked question) (CacheResponse session) r = not (is_wrong (Some question) r.version session)
 may_lack (Answering a) (Prefix announce v) r = is_staged (stage (base_of a.question r.table) a announce v)
 may_lack (Answering a) (EndOfData session serial refresh retry expire) r = session == a.session
 may_lack link u r = false

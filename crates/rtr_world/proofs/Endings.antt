@@ -18,7 +18,7 @@ use Rattle.rtr_ends.proofs.TableLaws.{false_true}
 use Rattle.rtr_world.specs.Claims.{IsLawfulEnd, OfAnother}
 use Rattle.rtr_world.specs.History.{conn_due}
 use Rattle.rtr_world.specs.OneAnswer.{NotifiesOf, without_notifies}
-use Rattle.rtr_world.specs.World.{Side, World, Ending, instances, SideEvent, RouterRestart, Connect, RouterSends, CacheGets, CacheSends, RouterGets, Cut, NotifyRouter, Ask, Tick, is_ended, ending_of, noted, connects, router_restarts, router_sends, sends_from, cache_sends, gets_at, cache_gets, router_gets, cut, notifies_at, side_step, side_part, side_refused, tell_closed, close_ended, settle_conn, settle_link, settle_rest, settle_wire, settle}
+use Rattle.rtr_world.specs.World.{Side, World, Ending, instances, SideEvent, RouterRestart, Connect, RouterSends, CacheGets, CacheSends, RouterGets, Cut, NotifyRouter, Ask, Tick, is_ended, ending_of, noted, connects, router_restarts, router_sends, cache_sends, cache_gets, router_gets, cut, side_step, side_part, side_refused, tell_closed, settle}
 use Rattle.rtr_world.proofs.Folding.{Blind, sends_keep, gets_keep, notifies_keep, settle_keeps}
 use Rattle.rtr_world.proofs.Invariant.{Flow, GoodRouter, Good, Shape}
 use Rattle.rtr_world.proofs.RouterSteps.{right_response}

@@ -1,5 +1,5 @@
 -- Each router of a world holds what its transcript keeps.
-use Rattle.std.specs.Prelude.{◌≡◌, ℕ, Bool, true, false, List, [], ◌∷◌, ◌++◌, take, Option, Some, None, if◌then◌else◌, refl}
+use Rattle.std.specs.Prelude.{◌≡◌, ℕ, Bool, true, false, List, [], ◌∷◌, ◌++◌, take, Option, None, if◌then◌else◌, refl}
 use Rattle.std.proofs.Common.{sym, ap, subst}
 use Rattle.std.specs.List.{AllByRecursion}
 use Rattle.vrps.specs.Instance.{Instance}
@@ -7,7 +7,7 @@ use Rattle.rtr_ends.specs.Cache.{Conn}
 use Rattle.rtr_ends.specs.Router.{Link, Closed, Idle, Asked, Answering, Ended, Call, Connects, Receives, Pulls, Closes, AsksNow, Ticks, called, is_closed, closed_at, IsKept}
 use Rattle.rtr_ends.specs.Transcript.{Item, Refused}
 use Rattle.rtr_ends.proofs.KeptLaws.{Tells, called_tells, is_kept, new_tells, refused_closed, refused_closes}
-use Rattle.rtr_world.specs.World.{Side, World, instances, SideEvent, RouterRestart, Connect, RouterSends, CacheGets, CacheSends, RouterGets, Cut, NotifyRouter, Ask, Tick, Event, Publish, Restart, On, noted, connects, router_restarts, router_sends, sends_from, cache_sends, gets_at, cache_gets, router_gets, cut, notifies_at, side_step, side_part, side_refused, tell_closed, close_ended, settle_conn, settle_link, settle_rest, settle_wire, settle, cache_gone, goes_through, settled, is_refused, on_side, new_side, new_world}
+use Rattle.rtr_world.specs.World.{Side, World, instances, SideEvent, RouterRestart, Connect, RouterSends, CacheGets, CacheSends, RouterGets, Cut, NotifyRouter, Ask, Tick, Event, Publish, Restart, On, noted, connects, router_restarts, router_sends, cache_sends, cache_gets, router_gets, cut, side_step, side_part, side_refused, tell_closed, settle_conn, settle_link, settle_rest, settle_wire, settle, cache_gone, goes_through, settled, is_refused, on_side, new_side, new_world}
 use Rattle.rtr_world.specs.History.{Outcome, Done, SessionUsed, TooManyVersions, NoSuchRouter, Memory, after, Entry, LeadsFrom}
 use Rattle.rtr_world.specs.Claims.{Tables}
 use Rattle.rtr_world.proofs.Folding.{Blind, gets_keep, leads_keep, notifies_keep, rest_keeps, sends_keep, settle_keeps, wire_keeps}
