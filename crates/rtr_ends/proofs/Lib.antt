@@ -1,3 +1,4 @@
+pub mod AnswerRows
 pub mod AnswerUnits
 pub mod AnsweringLaws
 pub mod Bytes
@@ -25,4 +26,5 @@ pub mod ServingLaws
 pub mod StagingLaws
 pub mod TableLaws
 pub mod TakenLaws
+pub mod TranscriptRows
 pub mod UnitByUnit

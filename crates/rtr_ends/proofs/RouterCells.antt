@@ -701,3 +701,26 @@ cut_change = keeps_on asks_since (amid asks_since (At 100 ∷ [])) before_change
     (keeps_on asks_since before_change after_change (sent (Prefix false v)) (take 23 (end_bytes 6)) over_change
     (keeps_unit asks_since before_change after_change (take 19 (sent (Prefix false v))) 0xf0 refl refl over_change (refl, refl) (refl, refl))
     (keeps_held asks_since after_change (take 23 (end_bytes 6)) refl refl (refl, refl)))
+
+-- Sums stop at the greatest moment: it is not told yet, and the sum passes it;
+closes_near_the_last : (called (Closes 18446744073709551600) asked_all).router ≡ record asked_all { now = 18446744073709551600; link = Closed; due = Some 18446744073709551615 }
+unfolding closed_at clocked
+closes_near_the_last = refl
+
+-- and the sum is just that moment.
+closes_at_the_last : (called (Closes 18446744073709551015) asked_all).router.due ≡ Some 18446744073709551615
+unfolding closed_at clocked
+closes_at_the_last = refl
+
+-- No memory is wanting at a Cache Reset, at a notify, or at a Cache Response of another session.
+none_at_reset : called (Receives 100 (Some 0) (sent CacheReset)) asks_since ≡ called (Receives 100 None (sent CacheReset)) asks_since
+unfolding receives router_byte clocked on_unit judge as_read
+none_at_reset = refl
+
+none_at_notify : called (Receives 100 (Some 0) (notify_bytes 0x1234 6)) asks_since ≡ called (Receives 100 None (notify_bytes 0x1234 6)) asks_since
+unfolding receives router_byte clocked on_unit judge as_read
+none_at_notify = refl
+
+none_at_other_session : called (Receives 100 (Some 0) (sent (CacheResponse 0x2222))) asks_since ≡ called (Receives 100 None (sent (CacheResponse 0x2222))) asks_since
+unfolding receives router_byte clocked on_unit judge as_read
+none_at_other_session = refl

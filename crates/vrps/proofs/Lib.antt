@@ -7,6 +7,7 @@ pub mod Headed
 pub mod Judging
 pub mod Listed
 pub mod Members
+pub mod NamedRows
 pub mod OriginRows
 pub mod PathRows
 pub mod Searching
