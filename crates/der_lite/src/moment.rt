@@ -119,7 +119,7 @@ impl Moment {
     }
 
     /// The text, `YYYYMMDDHHMMSSZ`.
-    pub(crate) fn text(&self) -> [u8; 15]
+    pub fn text(&self) -> [u8; 15]
         ensures value { result ≡ moment_text self.now }
         ensures real { IsTrue (is_moment self.now) }
     {

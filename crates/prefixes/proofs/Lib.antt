@@ -5,6 +5,7 @@ pub mod Groups
 pub mod Lacks
 pub mod LongestRun
 pub mod Numbers
+pub mod OrderRows
 pub mod PayloadOrder
 pub mod RefusedRows
 pub mod Spelling
