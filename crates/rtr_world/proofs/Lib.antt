@@ -5,6 +5,8 @@ pub mod CacheSteps
 pub mod Commits
 pub mod EndLaws
 pub mod Endings
+pub mod EndsNoted
+pub mod EventRows
 pub mod EventSteps
 pub mod Folding
 pub mod Histories

@@ -1,5 +1,5 @@
 -- What holds after every list of events.
-use Rattle.std.specs.Prelude.{◌≡◌, List, Option, Some, None, ⊤, zero, suc, map}
+use Rattle.std.specs.Prelude.{◌≡◌, ℕ, List, ◌∷◌, drop, Option, Some, None, ⊤, zero, suc, map}
 use Rattle.std.specs.List.{AllByRecursion}
 use Rattle.prefixes.specs.declared.route.Route.{Route}
 use Rattle.vrps.specs.Instance.{Instance, named}
@@ -8,10 +8,10 @@ use Rattle.vrps.specs.VrpSet.{VrpSet, empty}
 use Rattle.vrps.specs.declared.origin.OriginState.{OriginState}
 use Rattle.rtr_ends.specs.declared.link.End.{End}
 use Rattle.rtr_ends.specs.declared.link.End.TheVariants as ends
-use Rattle.rtr_ends.specs.Router.{IsKept}
-use Rattle.rtr_ends.specs.Transcript.{Question, AskSerial, Committed, kept}
+use Rattle.rtr_ends.specs.Router.{Ended, IsKept}
+use Rattle.rtr_ends.specs.Transcript.{Question, AskSerial, Committed, kept, outstanding}
 use Rattle.rtr_world.specs.Place.{NeverBack}
-use Rattle.rtr_world.specs.World.{Side, World, Event, Ending, instances, settle}
+use Rattle.rtr_world.specs.World.{Side, World, Event, Ending, SideEvent, instances, settle, side_step}
 use Rattle.rtr_world.specs.History.{Made, IsMade, Entry, IsEvent, Leads}
 use Rattle.rtr_world.specs.OneAnswer.{Between}
 
@@ -68,6 +68,15 @@ IsLawfulEnd end question home = ⊥
 
 abbrev pub LawfulEnds : Type 0
 LawfulEnds = Always (λ w s. AllByRecursion (λ (e : Ending). IsLawfulEnd e.end e.question e.home) s.endings)
+
+-- A link that ends by an event is noted, with its question and the instance of its connection, before all ends that were noted.
+abbrev pub NotesEnd : World → SideEvent → Option ℕ → Side → Type 0
+NotesEnd w event wanting s =
+    (end : End) → (side_step w event wanting s).router.link ≡ Ended end →
+    (side_step w event wanting s).endings ≡ record { end = end; question = outstanding (drop 1 (side_step w event wanting s).items); home = s.home } ∷ s.endings
+
+abbrev pub EndsNoted : Type 0
+EndsNoted = (made : Made) (history : List Entry) (w : World) → Leads made history w → AllByRecursion (λ s. (event : SideEvent) (wanting : Option ℕ) → NotesEnd w event wanting s) w.sides
 
 -- The steps: a history leads to one world, and every list of events has outcomes with which it leads somewhere.
 abbrev pub OneWorld : Type 0

@@ -1,5 +1,5 @@
 //! Laws of the definitions. These functions do nothing: their contracts are the laws.
-ghost use Rattle.rtr_world.specs.Claims.{EachLeads, Headline, LawfulEnds, NoWayBack, OneAnswerAlways, OneWorld, RouteStates, Settles, Tables};
+ghost use Rattle.rtr_world.specs.Claims.{EachLeads, EndsNoted, Headline, LawfulEnds, NoWayBack, OneAnswerAlways, OneWorld, RouteStates, Settles, Tables};
 
 /// A history of events with their outcomes leads to one world, and every list of events has outcomes with which it leads to one. The
 /// clean-up after each event leaves nothing to be done.
@@ -24,9 +24,11 @@ pub fn headline()
 {}
 
 /// A link ends by want of memory at the router, by the expiry of its version, by an Error Report of code 1 (want of memory at the
-/// cache), or by one of code 0 to a Serial Query of another session than the cache's, and by nothing else.
+/// cache), or by one of code 0 to a Serial Query of another session than the cache's, and by nothing else. These are the ends that were
+/// noted, and each link that ends by an event is noted.
 pub fn lawful_ends()
-    ensures { LawfulEnds }
+    ensures lawful { LawfulEnds }
+    ensures noted { EndsNoted }
 {}
 
 /// After every list of events, no version was committed at a router that was published before one that it had committed earlier: not in

@@ -1,5 +1,6 @@
 use Rattle.rtr_world.proofs.EndLaws.{lawful_ends}
+use Rattle.rtr_world.proofs.EndsNoted.{ends_noted}
 use Rattle.rtr_world.proofs.laws.lawful_ends.Goals as goal
 
 pub returns : goal.returns
-returns c = lawful_ends
+returns c = record { lawful = lawful_ends; noted = ends_noted }

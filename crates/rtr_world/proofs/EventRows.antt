@@ -1,0 +1,195 @@
+-- Events of the world that other rows do not have: a second router, notifies, questions, ticks, restarts of routers, refusals for want of
+-- memory, and ends of links.
+use Rattle.std.specs.Prelude.{◌≡◌, ℕ, ◌≤◌, Bool, true, false, List, [], ◌∷◌, ◌++◌, take, drop, Some, None, refl}
+use Rattle.std.proofs.Common.{ap, arith}
+use Rattle.std.specs.Str.{chars, is_utf8}
+use Rattle.vrps.specs.Instance.{Instance}
+use Rattle.vrps.specs.VrpSet.{VrpSet, empty, set_of}
+use Rattle.vrps.proofs.SetLaws.{listing-set_of}
+use Rattle.rtr_pdu.specs.Judging.{judge}
+use Rattle.rtr_pdu.specs.Stream.{as_read}
+use Rattle.rtr_pdu.specs.declared.unit.Unit.TheVariants.{SerialNotify, SerialQuery}
+use Rattle.rtr_ends.specs.declared.link.End.TheVariants as ends
+use Rattle.rtr_ends.specs.Answer.{report, sent, sent_all}
+use Rattle.rtr_ends.specs.Cache.{Conn, new_conn, conn_takes, conn_byte, conn_pulled, conn_notified}
+use Rattle.rtr_ends.specs.Router.{Router, Idle, Asked, new_router, on_unit, router_byte, receives, clocked, connects_at, closed_at, ticks_at, asks, router_pulled}
+use Rattle.rtr_ends.specs.Timing.{default_intervals}
+use Rattle.rtr_ends.specs.Transcript.{At, Opened, Asks, Reads, Refused, Restarts, Shut, Item, AskReset, AskSerial, Committed}
+use Rattle.rtr_ends.proofs.Rows.{v, v_ascends, cache, with_all_of, reset_bytes, response_bytes, v_bytes, end_bytes}
+use Rattle.rtr_world.specs.History.{Done, Memory, after, refusal, may_refuse, moved, MayEnd}
+use Rattle.rtr_world.specs.World.{Side, World, Publish, Restart, On, RouterRestart, Connect, RouterSends, CacheGets, CacheSends, RouterGets, Cut, NotifyRouter, Ask, Tick, new_side, connects, router_sends, cache_gets, cache_sends, router_gets, router_restarts, cut, side_step, side_refused, settle, goes_through, settled, is_refused}
+
+abbrev just_v : VrpSet
+just_v = set_of (v ∷ [])
+
+abbrev with_v : Instance
+with_v = cache 5 (just_v ∷ [])
+
+abbrev world : List Side → World
+world sides = record { keep = 2; past = []; present = with_v; sides = sides }
+
+-- one router connects, and the other does not
+abbrev asking : Router
+asking = record new_router { link = Asked AskReset }
+
+abbrev opened : List Item
+opened = Asks AskReset ∷ Opened ∷ At 0 ∷ []
+
+abbrev open_side : Router → Conn → List ℕ → List ℕ → List Item → Side
+open_side r o up down items = record { router = r; conn = Some o; up = up; down = down; home = Some with_v; items = items; endings = []; places = [] }
+
+second_connects : after (On 1 Connect) (Done None) (world (new_side ∷ new_side ∷ []))
+    ≡ world (new_side ∷ open_side (record asking { out = reset_bytes }) (new_conn with_v) [] [] opened ∷ [])
+unfolding goes_through settled settle side_step connects connects_at clocked
+second_connects = refl
+
+first_sends : after (On 0 (RouterSends 3)) (Done None) (world (open_side (record asking { out = reset_bytes }) (new_conn with_v) [] [] opened ∷ open_side (record asking { out = reset_bytes }) (new_conn with_v) [] [] opened ∷ []))
+    ≡ world (open_side (record asking { out = drop 3 reset_bytes }) (new_conn with_v) (take 3 reset_bytes) [] opened ∷ open_side (record asking { out = reset_bytes }) (new_conn with_v) [] [] opened ∷ [])
+unfolding goes_through settled settle side_step router_sends router_pulled
+first_sends = refl
+
+-- a notify is queued, and none while one is due
+abbrev notified : Conn
+notified = record { state = record { cache = with_v; agreed = false; ended = false; due = sent (SerialNotify 0x1234 5); notified = true }; held = [] }
+
+notifies : after (On 0 NotifyRouter) (Done None) (world (open_side asking (new_conn with_v) [] [] opened ∷ [])) ≡ world (open_side asking notified [] [] opened ∷ [])
+unfolding goes_through settled settle side_step conn_notified
+notifies = refl
+
+notifies_once : after (On 0 NotifyRouter) (Done None) (world (open_side asking notified [] [] opened ∷ [])) ≡ world (open_side asking notified [] [] opened ∷ [])
+unfolding goes_through settled settle side_step conn_notified
+notifies_once = refl
+
+-- an idle router asks, and one that has asked does not
+abbrev version_5 : Committed
+version_5 = record { session = 0x1234; serial = 5; moment = 0; intervals = default_intervals }
+
+abbrev idle : Router
+idle = record new_router { table = just_v; version = Some version_5; due = Some 3600; link = Idle; agreed = true; session = Some 0x1234 }
+
+abbrev asked_again : Router
+asked_again = record idle { link = Asked (AskSerial 0x1234 5); out = sent (SerialQuery 0x1234 5) }
+
+asks_again : after (On 0 Ask) (Done None) (world (open_side idle (new_conn with_v) [] [] [] ∷ [])) ≡ world (open_side asked_again (new_conn with_v) [] [] (Asks (AskSerial 0x1234 5) ∷ []) ∷ [])
+unfolding goes_through settled settle side_step asks
+asks_again = refl
+
+asks_once : after (On 0 Ask) (Done None) (world (open_side asked_again (new_conn with_v) [] [] [] ∷ [])) ≡ world (open_side asked_again (new_conn with_v) [] [] [] ∷ [])
+unfolding goes_through settled settle side_step asks
+asks_once = refl
+
+-- The clock goes on where there is no connection: what has expired is emptied.
+abbrev closed_side : Router → List Item → Side
+closed_side r items = record new_side { router = r; items = items }
+
+abbrev closed : Router
+closed = record new_router { table = just_v; version = Some version_5; due = Some 600 }
+
+ticks : after (On 0 (Tick 7200)) (Done None) (world (closed_side closed [] ∷ [])) ≡ world (closed_side (record closed { now = 7200 }) (At 7200 ∷ []) ∷ [])
+unfolding goes_through settled settle side_step ticks_at clocked
+ticks = refl
+
+expires : after (On 0 (Tick 7201)) (Done None) (world (closed_side closed [] ∷ [])) ≡ world (closed_side (record new_router { due = Some 600; now = 7201 }) (At 7201 ∷ []) ∷ [])
+unfolding goes_through settled settle side_step ticks_at clocked
+expires = refl
+
+-- An expiry while a Serial Query is outstanding ends the link. That is noted, and the router is told in the same event.
+expires_asked : after (On 0 (Tick 7201)) (Done None) (world (open_side asked_again (new_conn with_v) [] [] (Asks (AskSerial 0x1234 5) ∷ []) ∷ []))
+    ≡ world (record (closed_side (record new_router { due = Some 7801; now = 7201 }) (Shut ∷ At 7201 ∷ At 7201 ∷ Asks (AskSerial 0x1234 5) ∷ [])) {
+      endings = record { end = ends.Expired; question = Some (AskSerial 0x1234 5); home = Some with_v } ∷ [];
+    } ∷ [])
+unfolding goes_through settled settle side_step ticks_at clocked closed_at
+expires_asked = refl
+
+-- The cache began anew: the router is told so, is emptied, and is told that the connection is closed. Its end is noted.
+abbrev ended_conn : List ℕ → Conn
+ended_conn due = record { state = record { cache = with_v; agreed = true; ended = true; due = due; notified = false }; held = [] }
+
+abbrev other : Router
+other = record idle { version = Some (record version_5 { session = 0x2222 }); session = None; agreed = false; link = Asked (AskSerial 0x2222 5) }
+
+abbrev corrupt : List ℕ
+corrupt = sent (report 0 (sent (SerialQuery 0x2222 5)))
+
+-- A cache connection that ended is closed at the cache when its last byte is pulled,
+last_byte : after (On 0 (CacheSends 99)) (Done None) (world (open_side other (ended_conn corrupt) [] [] (Asks (AskSerial 0x2222 5) ∷ []) ∷ []))
+    ≡ world (record (open_side other (new_conn with_v) [] corrupt (Asks (AskSerial 0x2222 5) ∷ [])) { conn = None } ∷ [])
+unfolding goes_through settled settle side_step cache_sends conn_pulled
+last_byte = refl
+
+is_corrupt : after (On 0 (RouterGets 99)) (Done None) (world (record (open_side other (new_conn with_v) [] corrupt (Asks (AskSerial 0x2222 5) ∷ [])) { conn = None } ∷ []))
+    ≡ world (record (closed_side (record new_router { due = Some 600 }) (Shut ∷ At 0 ∷ Reads (report 0 (sent (SerialQuery 0x2222 5))) ∷ At 0 ∷ Asks (AskSerial 0x2222 5) ∷ [])) {
+      endings = record { end = ends.Told 0; question = Some (AskSerial 0x2222 5); home = Some with_v } ∷ [];
+    } ∷ [])
+unfolding goes_through settled settle side_step router_gets receives clocked router_byte on_unit judge as_read closed_at is_utf8 chars
+is_corrupt = refl
+
+-- A router restarts: nothing is left of its connection.
+restarts_router : after (On 0 RouterRestart) (Done None) (world (open_side (record asking { now = 9 }) notified (take 3 reset_bytes) (7 ∷ []) opened ∷ []))
+    ≡ world (closed_side new_router (Restarts ∷ opened) ∷ [])
+unfolding goes_through settled settle side_step router_restarts
+restarts_router = refl
+
+-- Refused for want of memory: what came before has moved, the connection is cut with nothing to arrive, and the router is told.
+cut_by_want : after (On 0 (CacheGets 8)) (Memory 3 None) (world (open_side (record asking { out = 9 ∷ [] }) (new_conn with_v) reset_bytes (7 ∷ []) opened ∷ []))
+    ≡ world (closed_side (record new_router { due = Some 600 }) (Shut ∷ At 0 ∷ Refused ∷ opened) ∷ [])
+unfolding is_refused settled settle side_refused cut cache_gets conn_takes conn_byte judge as_read closed_at clocked
+cut_by_want = refl
+
+old_stays : after (On 0 RouterRestart) (Memory 0 None) (world (open_side idle (new_conn with_v) [] (7 ∷ []) [] ∷ [])) ≡ world (closed_side (record closed { due = Some 600 }) (Shut ∷ At 0 ∷ Refused ∷ []) ∷ [])
+unfolding is_refused settled settle side_refused cut closed_at clocked
+old_stays = refl
+
+nothing_published : after (Publish just_v) (Memory 0 None) (world (new_side ∷ [])) ≡ world (new_side ∷ [])
+unfolding is_refused
+nothing_published = refl
+
+-- which events may be refused so
+abbrev connected : World
+connected = world (open_side asking (new_conn with_v) reset_bytes [] opened ∷ new_side ∷ [])
+
+refuses : (may_refuse connected (Publish just_v) ≡ true) × (may_refuse connected (Restart 1 1) ≡ true) × (may_refuse connected (On 1 RouterRestart) ≡ true) × (may_refuse connected (On 1 Connect) ≡ true)
+    × (may_refuse connected (On 0 (RouterSends 0)) ≡ true) × (may_refuse connected (On 0 (CacheGets 0)) ≡ true) × (may_refuse connected (On 0 (CacheSends 0)) ≡ true) × (may_refuse connected (On 0 (RouterGets 0)) ≡ true)
+refuses = (refl, refl, refl, refl, refl, refl, refl, refl)
+
+never_refuses : (may_refuse connected (On 0 (Cut 0)) ≡ false) × (may_refuse connected (On 0 NotifyRouter) ≡ false) × (may_refuse connected (On 0 Ask) ≡ false) × (may_refuse connected (On 0 (Tick 0)) ≡ false)
+    × (may_refuse connected (On 1 (RouterSends 9)) ≡ false) × (may_refuse connected (On 1 (CacheGets 9)) ≡ false) × (may_refuse connected (On 1 (CacheSends 9)) ≡ false) × (may_refuse connected (On 1 (RouterGets 9)) ≡ false)
+never_refuses = (refl, refl, refl, refl, refl, refl, refl, refl)
+
+-- It tells at most the bytes that it would have moved with memory, and a unit only where that came and takes memory.
+all_of_it : moved connected (On 0 (CacheGets 99)) None ≡ 8
+unfolding cache_gets conn_takes conn_byte judge as_read
+all_of_it = refl
+
+too_many_bytes : MayEnd (refusal connected (On 0 (CacheGets 99))) connected (On 0 (CacheGets 99)) (Memory 9 None) → ⊥
+unfolding refusal cache_gets conn_takes conn_byte judge as_read
+too_many_bytes h = let e : 9 ≤ 8 = h.2 in omega (arith, e)
+
+never_came : MayEnd (refusal connected (On 0 (CacheGets 7))) connected (On 0 (CacheGets 7)) (Done (Some 0)) → ⊥
+unfolding refusal conn_takes conn_byte judge as_read
+never_came h = absurd (let e : false ≡ true = h in cc)
+
+no_unit : MayEnd (refusal connected (Restart 1 1)) connected (Restart 1 1) (Done (Some 0)) → ⊥
+unfolding refusal
+no_unit h = h
+
+-- The cache published {v} after the connection was made. What it tells now is the new version.
+abbrev at_first : Instance
+at_first = cache 5 (empty ∷ [])
+
+abbrev now_v : Instance
+now_v = cache 5 (just_v ∷ empty ∷ [])
+
+abbrev later_world : Conn → List ℕ → World
+later_world o up = record { keep = 2; past = []; present = now_v; sides = record (open_side asking o up [] opened) { home = Some at_first } ∷ [] }
+
+abbrev told_now : Bool → List ℕ → Bool → Conn
+told_now agreed due is_notice = record { state = record { cache = now_v; agreed = agreed; ended = false; due = due; notified = is_notice }; held = [] }
+
+notifies_of_now : after (On 0 NotifyRouter) (Done None) (later_world (new_conn at_first) []) ≡ later_world (told_now false (sent (SerialNotify 0x1234 6)) true) []
+unfolding goes_through settled settle side_step conn_notified
+notifies_of_now = refl
+
+answers_as_now : after (On 0 (CacheGets 8)) (Done None) (later_world (new_conn at_first) reset_bytes) ≡ later_world (told_now true (response_bytes ++ v_bytes ++ end_bytes 6) false) []
+unfolding goes_through settled settle side_step cache_gets conn_takes conn_byte judge as_read
+answers_as_now = ap (λ vs. later_world (told_now true (sent_all (with_all_of 6 just_v vs)) false) []) (listing-set_of (v ∷ []) v_ascends)
