@@ -6,11 +6,11 @@ use std::process::Abort;
 use std::test::Fail;
 use vrps::{Published, Serial, VersionLog, VrpSet};
 
-type Rows = &'static [(&'static str, u8, u32)];
+pub(crate) type Rows = &'static [(&'static str, u8, u32)];
 
-const V: (&str, u8, u32) = ("192.0.2.0/24", 24, 64496);
+pub(crate) const V: (&str, u8, u32) = ("192.0.2.0/24", 24, 64496);
 
-const W: (&str, u8, u32) = ("198.51.100.0/24", 24, 64497);
+pub(crate) const W: (&str, u8, u32) = ("198.51.100.0/24", 24, 64497);
 
 const RESET: [u8; 8] = [1, 2, 0, 0, 0, 0, 0, 8];
 
@@ -30,7 +30,7 @@ const ANSWER: [u8; 52] = [
     0x1c, 0x20,
 ];
 
-fn set_of(alloc: Global, rows: Rows) -> Result<VrpSet, Fail> {
+pub(crate) fn set_of(alloc: Global, rows: Rows) -> Result<VrpSet, Fail> {
     let mut list = Vec::new(alloc);
     for &(text, max_len, asn) in rows {
         list.push(Vrp::new(IpPrefix::parse(text)?, max_len, Asn(asn))?)?;
@@ -39,7 +39,7 @@ fn set_of(alloc: Global, rows: Rows) -> Result<VrpSet, Fail> {
 }
 
 /// A cache of session 0x1234 whose first version has this serial, with these versions.
-fn cache_of(
+pub(crate) fn cache_of(
     alloc: Global,
     start: u32,
     keep: u16,

@@ -1,11 +1,11 @@
-use crate::caches::whole_answer;
+use crate::caches::{V as CACHE_V, W as CACHE_W, cache_of, set_of, whole_answer};
 use prefixes::{IpPrefix, Route};
 use rtr_ends::laws::router_has_room;
-use rtr_ends::{AskFault, End, Link, Router};
+use rtr_ends::{AskFault, Cache, Conn, End, Link, Router};
 use std::alloc::Global;
 use std::process::Abort;
 use std::test::Fail;
-use vrps::{OriginState, Serial};
+use vrps::{OriginState, Serial, VersionLog};
 
 const RESET_QUERY: &[u8] = b"\x01\x02\x00\x00\x00\x00\x00\x08";
 
@@ -38,7 +38,7 @@ const CACHE_RESET: &[u8] = b"\x01\x08\x00\x00\x00\x00\x00\x08";
 /// Hands in pieces one after the other, and checks that all of each is taken.
 fn hand<R: Abort>(rt: &R, router: &mut Router, pieces: &[&[u8]], now: u64) {
     for piece in pieces {
-        assert_eq!(rt; router.receive(piece, now), piece.len());
+        assert!(rt; router.receive(piece, now) == piece.len());
     }
 }
 
@@ -53,7 +53,7 @@ fn expect_pulled<R: Abort>(rt: &R, router: &mut Router, bytes: &[u8]) {
 
 /// Checks what is committed: so many records, and this serial of session 4660.
 fn expect_held<R: Abort>(rt: &R, router: &Router, records: usize, serial: u32) {
-    assert_eq!(rt; router.table().len(), records);
+    assert!(rt; router.table().len() == records);
     assert!(rt; router.committed() == Some((4660, Serial(serial))));
     router_has_room(router);
 }
@@ -100,7 +100,7 @@ fn an_answer_commits_at_its_last_byte(rt: HostRuntime) -> Result<(), Fail> {
         let Some(front) = answer.as_slice().get(..k) else {
             return Err(Fail::from("short"));
         };
-        assert_eq!(rt; router.receive(front, 0), k);
+        assert!(rt; router.receive(front, 0) == k);
         router.closed(0);
         if k < 52 {
             expect_nothing(&rt, &router);
@@ -117,11 +117,11 @@ fn an_answer_commits_at_its_last_byte(rt: HostRuntime) -> Result<(), Fail> {
 fn changes_are_committed(rt: HostRuntime) {
     let mut router = asked_since(&rt, rt.alloc());
     assert!(rt; router.ask() == Err(AskFault::Busy));
-    assert_eq!(rt; AskFault::Busy.number(), 1);
+    assert!(rt; AskFault::Busy.number() == 1);
     hand(&rt, &mut router, &[RESPONSE, W, END_6], 0);
     expect_held(&rt, &router, 2, 6);
     assert!(rt; router.ask().is_ok());
-    assert_eq!(rt; router.receive(RESPONSE, 0), 0);
+    assert!(rt; router.receive(RESPONSE, 0) == 0);
     expect_pulled(
         &rt,
         &mut router,
@@ -297,10 +297,10 @@ fn hostile_units_are_refused(rt: HostRuntime) {
                 count = count.saturating_add(router.receive(rest, 0));
             }
         }
-        assert_eq!(rt; count, *taken);
+        assert!(rt; count == *taken);
         assert!(rt; router.link() == Link::Ended(*end));
         expect_pulled(&rt, &mut router, report);
-        assert_eq!(rt; router.receive(RESPONSE, 0), 0);
+        assert!(rt; router.receive(RESPONSE, 0) == 0);
         expect_nothing(&rt, &router);
     }
 }
@@ -487,7 +487,7 @@ fn expect_report<R: Abort>(rt: &R, router: &mut Router, unit: &[u8]) {
     let mut room = [0u8; 128];
     let count = router.pull(&mut room);
     assert!(rt; room.starts_with(b"\x01\x0a\x00\x00"));
-    assert_eq!(rt; count, unit.len().saturating_add(16));
+    assert!(rt; count == unit.len().saturating_add(16));
     match room.get(12..count.saturating_sub(4)) {
         Some(copy) => assert!(rt; copy == unit),
         None => assert!(rt; false, "no copy"),
@@ -518,7 +518,7 @@ fn expect_done<R: Abort>(rt: &R, router: &mut Router, unit: &[u8], does: Does, r
         }
     }
     expect_pulled(rt, router, b"");
-    assert_eq!(rt; router.table().len(), kept);
+    assert!(rt; router.table().len() == kept);
     assert!(rt; router.committed().is_some() == (kept == 1));
 }
 
@@ -558,4 +558,51 @@ fn ten_thousand_records_make_one_table(rt: HostRuntime) -> Result<(), Fail> {
         );
     }
     Ok(())
+}
+
+/// Moves all bytes both ways until nothing moves.
+fn connected(cache: &mut Cache<VersionLog>, conn: Conn, router: &mut Router) {
+    let mut room = [0u8; 64];
+    for _ in 0..20 {
+        let asked = router.pull(&mut room);
+        if let Some(bytes) = room.get(..asked) {
+            cache.receive(conn, bytes);
+        }
+        let answered = cache.pull(conn, &mut room);
+        if let Some(bytes) = room.get(..answered) {
+            let taken = router.receive(bytes, 0);
+            if let Some(rest) = bytes.get(taken..) {
+                router.receive(rest, 0);
+            }
+        }
+    }
+}
+
+#[test]
+fn a_router_follows_a_cache(rt: HostRuntime) -> Result<(), Fail> {
+    let alloc = rt.alloc();
+    let mut cache = cache_of(alloc, 5, 2, &[&[CACHE_V]])?;
+    let conn = cache.open()?;
+    let mut router = Router::new(alloc);
+    router.connect(0);
+    connected(&mut cache, conn, &mut router);
+    expect_held(&rt, &router, 1, 5);
+    cache.publish(set_of(alloc, &[CACHE_V, CACHE_W])?)?;
+    assert!(rt; cache.notify(conn));
+    connected(&mut cache, conn, &mut router);
+    expect_held(&rt, &router, 2, 6);
+    cache.publish(set_of(alloc, &[CACHE_W])?)?;
+    cache.publish(set_of(alloc, &[])?)?;
+    assert!(rt; router.ask().is_ok());
+    connected(&mut cache, conn, &mut router);
+    expect_held(&rt, &router, 0, 8);
+    Ok(())
+}
+
+#[test]
+fn reserved_bits_of_a_record_are_ignored(rt: HostRuntime) {
+    let mut router = asked(&rt, rt.alloc(), 0);
+    let odd = b"\x01\x04\x00\x00\x00\x00\x00\x14\x81\x18\x18\x00\xc0\x00\x02\x00\x00\x00\xfb\xf0";
+    hand(&rt, &mut router, &[RESPONSE, odd, END_5], 0);
+    expect_held(&rt, &router, 1, 5);
 }
