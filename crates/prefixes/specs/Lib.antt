@@ -1,5 +1,6 @@
 pub mod Address
 pub mod Fault
+pub mod Halves
 pub mod Payload
 pub mod Reading
 pub mod Text

@@ -1,6 +1,7 @@
 //! IP prefixes, AS numbers, validated ROA payloads and routes, for IPv4 and IPv6.
 #![tactic(auto)]
 
+mod address;
 mod asn;
 mod family;
 mod fault;

@@ -2,6 +2,7 @@
 ghost use Rattle.std.specs.Prelude.{◌≡◌, ℕ, ◌-◌, ◌/◌, ◌%◌, ◌^◌, ◌<◌, ◌≤◌, ◌↔◌, IsTrue, IfOk, IsOk, Err};
 ghost use Rattle.prefixes.specs.Address.{Block, HasNoHostBits, IsPrefix, contains};
 
+use crate::address::Address;
 use crate::family::{Family, V4, V6};
 use crate::fault::PrefixFault;
 use std::marker::{Model, PhantomData};
@@ -10,7 +11,7 @@ use std::marker::{Model, PhantomData};
 /// (RFC 4632 section 3.1, RFC 4291 section 2.3).
 #[derive_where(Clone, Copy, PartialEq, Eq, PartialOrd, Ord, Hash)]
 pub struct Prefix<F: Family> {
-    addr: u128,
+    addr: Address,
     len: u8,
     family: PhantomData<F>,
 }
@@ -50,7 +51,7 @@ impl<F: Family> Prefix<F> {
             return Err(PrefixFault::HostBits);
         }
         Ok(Prefix {
-            addr,
+            addr: Address::new(addr),
             len,
             family: PhantomData,
         })
@@ -61,7 +62,7 @@ impl<F: Family> Prefix<F> {
         ensures value { result ≡ self.now.addr }
         ensures prefix { IsPrefix F.WIDTH self.now }
     {
-        self.addr
+        self.addr.number()
     }
 
     /// How many of the first bits count.
@@ -80,7 +81,7 @@ impl<F: Family> Prefix<F> {
             return false;
         }
         let host = F::WIDTH - self.len;
-        host == 128 || self.addr >> host == other.addr >> host
+        host == 128 || self.addr() >> host == other.addr() >> host
     }
 }
 
