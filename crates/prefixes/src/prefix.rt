@@ -1,10 +1,12 @@
 //! Prefixes of one family, and of either.
 ghost use Rattle.std.specs.Prelude.{◌≡◌, ℕ, ◌-◌, ◌/◌, ◌%◌, ◌^◌, ◌<◌, ◌≤◌, ◌↔◌, IsTrue, IfOk, IsOk, Err};
 ghost use Rattle.prefixes.specs.Address.{Block, HasNoHostBits, IsPrefix, contains};
+ghost use Rattle.prefixes.specs.Payload.{block_cmp};
 
 use crate::address::Address;
 use crate::family::{Family, V4, V6};
 use crate::fault::PrefixFault;
+use std::cmp::Ordering;
 use std::marker::{Model, PhantomData};
 
 /// A prefix of the family `F`: an address and how many of its first bits count, all others being zero
@@ -83,6 +85,17 @@ impl<F: Family> Prefix<F> {
         let host = F::WIDTH - self.len;
         host == 128 || self.addr() >> host == other.addr() >> host
     }
+
+    /// The order of prefixes of a family: address, length.
+    #[inline(always)]
+    fn order(&self, other: &Prefix<F>) -> Ordering
+        ensures { result ≡ block_cmp self.now other.now }
+    {
+        match self.addr().cmp(&other.addr()) {
+            Ordering::Equal => self.len.cmp(&other.len),
+            unequal => unequal,
+        }
+    }
 }
 
 /// A prefix of either family. All of IPv4 stand before all of IPv6; within a family the order is by address, then length.
@@ -93,7 +106,7 @@ pub enum IpPrefix {
 }
 
 impl IpPrefix {
-    ghost use Rattle.prefixes.specs.Payload.{block_of, covers, width_of};
+    ghost use Rattle.prefixes.specs.Payload.{block_of, covers, prefix_cmp, width_of};
 
     /// Whether they are of one family, and each address of `other` is one of this prefix.
     pub fn covers(&self, other: &IpPrefix) -> bool
@@ -114,6 +127,19 @@ impl IpPrefix {
         match self {
             IpPrefix::V4(p) => p.len(),
             IpPrefix::V6(p) => p.len(),
+        }
+    }
+
+    /// The order of prefixes: family, address, length.
+    #[inline(always)]
+    pub(crate) fn order(&self, other: &IpPrefix) -> Ordering
+        ensures { result ≡ prefix_cmp self.now other.now }
+    {
+        match (self, other) {
+            (IpPrefix::V4(p), IpPrefix::V4(q)) => p.order(q),
+            (IpPrefix::V6(p), IpPrefix::V6(q)) => p.order(q),
+            (IpPrefix::V4(_), IpPrefix::V6(_)) => Ordering::Less,
+            (IpPrefix::V6(_), IpPrefix::V4(_)) => Ordering::Greater,
         }
     }
 }
