@@ -77,6 +77,13 @@ pub fn number_32(bytes: &[u8], at: usize) -> u32
     BigEndian::read_u32(&bytes[at..])
 }
 
+fn number_128(bytes: &[u8], at: usize) -> u128
+    requires { at + 16 ≤ length bytes.now }
+    ensures { result ≡ number_at 16 at bytes.now }
+{
+    BigEndian::read_u128(&bytes[at..])
+}
+
 /// The payload of an IPv4 Prefix.
 fn v4_record(bytes: &[u8]) -> Option<Vrp>
     requires { length bytes.now ≡ 20 }
@@ -98,7 +105,7 @@ fn v6_record(bytes: &[u8]) -> Option<Vrp>
     ensures some { IfSome result (λ v. (v ≡ v6_in bytes.now) × IsRecord 128 bytes.now) }
     ensures none { IfNone result (¬ (IsRecord 128 bytes.now)) }
 {
-    match Prefix::<V6>::new(BigEndian::read_u128(&bytes[12..]), bytes[9]) {
+    match Prefix::<V6>::new(number_128(bytes, 12), bytes[9]) {
         Err(_) => None,
         Ok(prefix) => match Vrp::new(IpPrefix::V6(prefix), bytes[10], Asn(number_32(bytes, 28))) {
             Err(_) => None,
