@@ -3,11 +3,12 @@ use Rattle.std.proofs.Common.{◌≡◌, ◌∙◌, inl, inr, ℕ, ◌+◌, ◌-
 use Rattle.std.specs.declared.cmp.Ordering.TheVariants.{Less, Greater}
 use Rattle.std.proofs.lemmas.Bool.{cases_lt}
 use Rattle.std.proofs.lemmas.List.{get_or-append_right, get_or-map, get_or_append_left, get_or_default, length-append, length-map, length_push}
+use Rattle.prefixes.specs.Address.{Block}
 use Rattle.prefixes.specs.Payload.{Payload, prefix_cmp}
 use Rattle.prefixes.specs.declared.prefix.IpPrefix.{IpPrefix}
 use Rattle.prefixes.specs.declared.prefix.IpPrefix.TheVariants.{V4, V6}
 use Rattle.vrps.specs.Groups.{AreGroups, begin, prefix_at}
-use Rattle.vrps.specs.Heads.{AreHeads, MayFollow, heads_of, v4_prefix, v6_prefix}
+use Rattle.vrps.specs.Heads.{AreHeads, MayFollow, heads_of, v4_prefix}
 use Rattle.vrps.specs.declared.groups.Heads.{Heads}
 use Rattle.vrps.specs.declared.key.Head.{Head}
 use Rattle.vrps.proofs.Grouped.{begins_below, begins_within}
@@ -16,20 +17,20 @@ use Rattle.vrps.proofs.Grouped.{begins_below, begins_within}
 pub first_head : (heads : Heads) (place : ℕ) (head : Head ℕ) → place < length heads.v4.items → head ≡ get_or heads.v4.items place head → v4_prefix head ≡ get_or (heads_of heads) place (v4_prefix head)
 first_head heads place head low is =
     ap v4_prefix is ∙ sym (get_or-map v4_prefix heads.v4.items place head (v4_prefix head) low)
-    ∙ sym (get_or_append_left (map v4_prefix heads.v4.items) (map v6_prefix heads.v6.items) (v4_prefix head) place (let size = length-map heads.v4.items v4_prefix in omega (arith, size, low)))
+    ∙ sym (get_or_append_left (map v4_prefix heads.v4.items) (map V6 heads.v6.items) (v4_prefix head) place (let size = length-map heads.v4.items v4_prefix in omega (arith, size, low)))
 
 -- the others are those of IPv6
-pub other_head : (heads : Heads) (place : ℕ) (head : Head ℕ) → length heads.v4.items ≤ place → place - length heads.v4.items < length heads.v6.items
-    → head ≡ get_or heads.v6.items (place - length heads.v4.items) head → v6_prefix head ≡ get_or (heads_of heads) place (v6_prefix head)
+pub other_head : (heads : Heads) (place : ℕ) (head : Block) → length heads.v4.items ≤ place → place - length heads.v4.items < length heads.v6.items
+    → head ≡ get_or heads.v6.items (place - length heads.v4.items) head → V6 head ≡ get_or (heads_of heads) place (V6 head)
 other_head heads place head high low is =
-    ap v6_prefix is ∙ sym (get_or-map v6_prefix heads.v6.items (place - length heads.v4.items) head (v6_prefix head) low)
-    ∙ sym (get_or-append_right (map v4_prefix heads.v4.items) (map v6_prefix heads.v6.items) (length heads.v4.items) place (v6_prefix head) (length-map heads.v4.items v4_prefix) high)
+    ap V6 is ∙ sym (get_or-map V6 heads.v6.items (place - length heads.v4.items) head (V6 head) low)
+    ∙ sym (get_or-append_right (map v4_prefix heads.v4.items) (map V6 heads.v6.items) (length heads.v4.items) place (V6 head) (length-map heads.v4.items v4_prefix) high)
 
 pub heads_count : (heads : Heads) → length (heads_of heads) ≡ length heads.v4.items + length heads.v6.items
 heads_count heads =
-    let all = length-append (map v4_prefix heads.v4.items) (map v6_prefix heads.v6.items) in
+    let all = length-append (map v4_prefix heads.v4.items) (map V6 heads.v6.items) in
     let v4 = length-map heads.v4.items v4_prefix in
-    let v6 = length-map heads.v6.items v6_prefix in
+    let v6 = length-map heads.v6.items V6 in
     omega (arith, all, v4, v6)
 
 -- the prefix of the record at which a group begins
@@ -58,7 +59,7 @@ pub may_follow : (records : List Payload) (starts : List ℕ) (g : AreGroups rec
 may_follow records starts g places heads (V6 p) d low h named = tt
 may_follow records starts g places heads (V4 p) d low h named = by_rest heads.v6.items refl
   where
-    by_rest : (rest : List (Head ℕ)) → heads.v6.items ≡ rest → heads.v6.items ≡ []
+    by_rest : (rest : List Block) → heads.v6.items ≡ rest → heads.v6.items ≡ []
     by_rest [] is = is
     by_rest (head ∷ rest) is = absurd (
         let size = ap length is in
@@ -66,8 +67,8 @@ may_follow records starts g places heads (V4 p) d low h named = by_rest heads.v6
         let counted = h.counted in
         let first : length heads.v4.items - length heads.v4.items ≡ 0 = omega arith in
         let read : head ≡ get_or heads.v6.items (length heads.v4.items - length heads.v4.items) head = sym ((λ i. get_or (is i) (first i) head)) in
-        let v6 : v6_prefix head ≡ prefix_at records starts (length heads.v4.items) d =
-        other_head heads (length heads.v4.items) head (omega arith) (omega (arith, size)) read ∙ h.each (length heads.v4.items) d (v6_prefix head) (omega (arith, size, count, counted)) in
+        let v6 : V6 head ≡ prefix_at records starts (length heads.v4.items) d =
+        other_head heads (length heads.v4.items) head (omega arith) (omega (arith, size)) read ∙ h.each (length heads.v4.items) d (V6 head) (omega (arith, size, count, counted)) in
         let before = begins_below records starts g (length heads.v4.items) places (omega (arith, size, count, counted)) (omega (arith, low)) in
         let less = g.ascend places (begin records starts (length heads.v4.items)) d low before in
         let e : Greater ≡ Less = (λ i. prefix_cmp (v6 i) (named i)) ∙ less in cc)

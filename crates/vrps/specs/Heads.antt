@@ -11,12 +11,9 @@ use Rattle.vrps.specs.declared.key.Head.{Head}
 abbrev pub v4_prefix : Head ℕ → IpPrefix
 v4_prefix head = V4 (head_block head)
 
-abbrev pub v6_prefix : Head ℕ → IpPrefix
-v6_prefix head = V6 (head_block head)
-
 -- the prefixes, all of IPv4 before all of IPv6
 abbrev pub heads_of : Heads → List IpPrefix
-heads_of heads = map v4_prefix heads.v4.items ++ map v6_prefix heads.v6.items
+heads_of heads = map v4_prefix heads.v4.items ++ map V6 heads.v6.items
 
 -- They are those of the groups at so many first places.
 pub record AreHeads (records : List Payload) (starts : List ℕ) (places : ℕ) (heads : List IpPrefix) : Type 0 where

@@ -6,7 +6,7 @@ ghost use Rattle.vrps.specs.Heads.{AreHeads, MayFollow, heads_of};
 ghost use Rattle.vrps.specs.Keys.{key_prefix};
 
 use crate::key::{Head, Key};
-use prefixes::{IpPrefix, Vrp};
+use prefixes::{IpPrefix, Prefix, V6, Vrp};
 use std::alloc::{AllocError, Global};
 
 /// The prefixes of sorted groups, those of a family side by side.
@@ -15,7 +15,7 @@ pub(crate) struct Heads {
     /// Of the IPv4 groups, which are the first ones.
     v4: Vec<Head<u32>>,
     /// Of the IPv6 groups.
-    v6: Vec<Head<u128>>,
+    v6: Vec<Prefix<V6>>,
 }
 
 impl Heads {
@@ -48,10 +48,7 @@ impl Heads {
                 addr: p.addr() as u32,
                 len: p.len(),
             })?,
-            IpPrefix::V6(p) => self.v6.push(Head {
-                addr: p.addr(),
-                len: p.len(),
-            })?,
+            IpPrefix::V6(p) => self.v6.push(*p)?,
         }
         Ok(())
     }
@@ -124,7 +121,11 @@ impl<'a> Group<'a> {
         if self.place < heads.v4.len() {
             Key::V4(heads.v4[self.place])
         } else {
-            Key::V6(heads.v6[self.place - heads.v4.len()])
+            let p = &heads.v6[self.place - heads.v4.len()];
+            Key::V6(Head {
+                addr: p.addr(),
+                len: p.len(),
+            })
         }
     }
 

@@ -49,7 +49,7 @@ impl Model for OriginIndex {
 }
 
 impl OriginIndex {
-    /// The index over a set. It has a copy of the records, and 12 bytes more for each IPv4 group and 36 for each IPv6 group.
+    /// The index over a set. It has a copy of the records, and 12 bytes more for each IPv4 group and 21 for each IPv6 group.
     pub fn over(alloc: Global, set: &VrpSet) -> Result<OriginIndex, AllocError>
         ensures { IfOk result (λ index. index ≡ set.now) }
     {

@@ -1,5 +1,6 @@
 use Rattle.std.proofs.Common.{◌≡◌, ◌∙◌, ◌-◌, length, get_or, ap, arith}
-use Rattle.vrps.specs.Heads.{v4_prefix, v6_prefix}
+use Rattle.prefixes.specs.declared.prefix.IpPrefix.TheVariants.{V6}
+use Rattle.vrps.specs.Heads.{v4_prefix}
 use Rattle.vrps.proofs.Headed.{first_head, heads_count, other_head}
 use Rattle.vrps.proofs.groups.Group.key.Goals as goal
 
@@ -22,6 +23,8 @@ returns-else-self-len c = λ d.
     let counted = groups.headed.counted in
     let within = c.args.self.now.within in
     let place : c.args.self.now.place - c.len-else-self-len.result ≡ c.args.self.now.place - length groups.heads.v4.items = omega (arith, size, again) in
-    let read = c.index-else-self-len.ensures ∙ ap (λ n. get_or groups.heads.v6.items n c.index-else-self-len.result.now) place in
-    other_head groups.heads c.args.self.now.place c.index-else-self-len.result.now (omega (arith, size, v6, len)) (omega (arith, size, v6, len, all, counted, within)) read
-    ∙ groups.headed.each c.args.self.now.place d (v6_prefix c.index-else-self-len.result.now) c.args.self.now.within
+    let read = c.index-p.ensures ∙ ap (λ n. get_or groups.heads.v6.items n c.index-p.result.now) place in
+    let p = c.index-p.result.now in
+    (λ i. V6 (record { addr = c.addr.ensures.value i; len = c.len-else-self-len-2.ensures.value i }))
+    ∙ other_head groups.heads c.args.self.now.place p (omega (arith, size, v6, len)) (omega (arith, size, v6, len, all, counted, within)) read
+    ∙ groups.headed.each c.args.self.now.place d (V6 p) c.args.self.now.within
