@@ -7,6 +7,7 @@ use crate::fault::PrefixFault;
 use crate::prefix::IpPrefix;
 use std::cmp::Ordering;
 use std::marker::Model;
+use std::mem::size_of;
 
 /// A validated ROA payload: the AS may originate the prefix, and its parts up to the maximum length
 /// (RFC 6811 section 2). Payloads are ordered by family, address, length, maximum, AS.
@@ -16,6 +17,9 @@ pub struct Vrp {
     max_len: u8,
     asn: Asn,
 }
+
+// Sets and B-trees are made of records, and take so much time as these take room.
+const _: () = prove!(size_of::<Vrp>() == 24);
 
 impl Model for Vrp {
     ghost use Rattle.prefixes.specs.Payload.{Payload, IsPayload};
