@@ -4,7 +4,6 @@
 pub mod answering;
 pub mod directories;
 pub mod hexadecimal;
-pub mod listing;
 pub mod manifests;
 pub mod offering;
 pub mod roas;

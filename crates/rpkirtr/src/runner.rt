@@ -4,7 +4,6 @@ ghost use Rattle.std.specs.Io.KnownBytes.{Appends};
 
 use crate::answering::{AnswerFault, Answered, answer_lines};
 use crate::directories::{Directory, read_directories};
-use crate::listing::{ListFault, read_list, write_list};
 use crate::manifests::print_manifest;
 use crate::offering::{offer_directory, tell_answer};
 use crate::roas::print_roa;
@@ -12,6 +11,7 @@ use crate::routing::{print_state, read_route};
 use crate::units::{UnitsEnd, print_units};
 use crate::words::{Order, read_words};
 use der_lite::Moment;
+use payload_lists::{ListFault, read_list, write_list};
 use payloads::{PayloadFault, decode_manifest, decode_roa};
 use points::Repository;
 use std::alloc::{AllocError, Global};

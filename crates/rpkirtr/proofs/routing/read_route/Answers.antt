@@ -1,4 +1,4 @@
-use Rattle.rpkirtr.proofs.Entries.{unreadable}
+use Rattle.payload_lists.proofs.Entries.{unreadable}
 use Rattle.rpkirtr.proofs.routing.read_route.Goals as goal
 
 pub returns-in_default-clause-none : goal.returns-in_default-clause-none

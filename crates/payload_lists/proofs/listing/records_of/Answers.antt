@@ -1,8 +1,8 @@
 use Rattle.std.proofs.Common.{◌≡◌, ◌+◌, ◌++◌, ◌∷◌, if◌then◌else◌, ◌∙◌, [], drop, subst, sym, ap}
 use Rattle.std.proofs.lemmas.List.{drop_all}
 use Rattle.serde_json.specs.View.{items_view, view}
-use Rattle.rpkirtr.proofs.Entries.{SoFar, finish, next_item, step, stop}
-use Rattle.rpkirtr.proofs.listing.records_of.Goals as goal
+use Rattle.payload_lists.proofs.Entries.{SoFar, finish, next_item, step, stop}
+use Rattle.payload_lists.proofs.listing.records_of.Goals as goal
 
 pub returns-in_default-clause-no_list : goal.returns-in_default-clause-no_list
 returns-in_default-clause-no_list c e vs h =

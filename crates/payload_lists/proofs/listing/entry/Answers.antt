@@ -1,8 +1,8 @@
 use Rattle.std.proofs.Common.{◌≡◌, ◌∙◌, sym}
 use Rattle.serde_json.specs.View.{view, members_view}
-use Rattle.rpkirtr.specs.PayloadList.{member_count}
-use Rattle.rpkirtr.proofs.Entries.{count_view, if_some, is_entry, not_three}
-use Rattle.rpkirtr.proofs.listing.entry.Goals as goal
+use Rattle.payload_lists.specs.PayloadList.{member_count}
+use Rattle.payload_lists.proofs.Entries.{count_view, if_some, is_entry, not_three}
+use Rattle.payload_lists.proofs.listing.entry.Goals as goal
 
 pub returns-then-len-ne3-clause-none : goal.returns-then-len-ne3-clause-none
 returns-then-len-ne3-clause-none c v h =

@@ -4,8 +4,8 @@ ghost use Rattle.serde_json.specs.View.{view, items_view};
 ghost use Rattle.std.specs.List.Sorted.{IsStrictlySortedBy};
 ghost use Rattle.prefixes.specs.Payload.{Payload, vrp_cmp};
 ghost use Rattle.vrps.specs.VrpSet.{VrpSet as Vrps, set_of, size};
-ghost use Rattle.rpkirtr.specs.Reading.{Makes};
-ghost use Rattle.rpkirtr.specs.PayloadList.{AreEntries, IsEntry, IsPayloadList, Lists, entry_text, list_text, text_at, whole_at};
+ghost use Rattle.payload_lists.specs.Reading.{Makes};
+ghost use Rattle.payload_lists.specs.PayloadList.{AreEntries, IsEntry, IsPayloadList, Lists, entry_text, list_text, text_at, whole_at};
 
 use prefixes::{Asn, IpPrefix, Vrp};
 use serde_json::Value;
@@ -22,7 +22,7 @@ pub enum ListFault {
 }
 
 impl ListFault {
-    ghost use Rattle.rpkirtr.specs.Fault.{fault_number};
+    ghost use Rattle.payload_lists.specs.Fault.{fault_number};
 
     /// The number by which the fault is printed.
     pub fn number(self) -> u8
@@ -33,7 +33,7 @@ impl ListFault {
 }
 
 impl From<AllocError> for ListFault {
-    ghost use Rattle.rpkirtr.specs.declared.listing.ListFault.TheVariants.{Memory};
+    ghost use Rattle.payload_lists.specs.declared.listing.ListFault.TheVariants.{Memory};
 
     ghost from_gives = { λ _ e. e ≡ Memory };
 

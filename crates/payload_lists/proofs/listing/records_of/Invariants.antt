@@ -1,7 +1,7 @@
 use Rattle.std.proofs.Common.{drop}
 use Rattle.serde_json.specs.View.{items_view}
-use Rattle.rpkirtr.proofs.Entries.{SoFar}
-use Rattle.rpkirtr.proofs.listing.records_of.Given as goal
+use Rattle.payload_lists.proofs.Entries.{SoFar}
+use Rattle.payload_lists.proofs.listing.records_of.Given as goal
 
 -- the payloads so far are those of the items before this one
 abbrev pub invariant-loop-item : goal.invariant-loop-item

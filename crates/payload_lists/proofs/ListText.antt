@@ -3,7 +3,7 @@ use Rattle.std.proofs.Common.{◌≡◌, ◌==◌, false, ne_eqb, ◌<◌, ◌+�
 use Rattle.std.proofs.lemmas.List.{length-map, length-take-le, take_more}
 use Rattle.std.specs.List.{join_with_byte}
 use Rattle.prefixes.specs.Payload.{Payload}
-use Rattle.rpkirtr.specs.PayloadList.{entry_text}
+use Rattle.payload_lists.specs.PayloadList.{entry_text}
 
 -- what stands before a piece that follows these
 abbrev separator : ℕ → List (List ℕ) → List ℕ

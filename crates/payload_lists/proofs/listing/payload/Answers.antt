@@ -1,6 +1,6 @@
 use Rattle.std.proofs.Common.{◌≡◌, true, false, arith}
-use Rattle.rpkirtr.proofs.Entries.{makes_none, unreadable}
-use Rattle.rpkirtr.proofs.listing.payload.Goals as goal
+use Rattle.payload_lists.proofs.Entries.{makes_none, unreadable}
+use Rattle.payload_lists.proofs.listing.payload.Goals as goal
 
 pub returns-in_default-clause-none : goal.returns-in_default-clause-none
 returns-in_default-clause-none c v h = unreadable c.args.prefix.now c.parse.result c.parse.ensures c.in_default.not-Ok v.prefix h.prefix

@@ -1,8 +1,8 @@
 use Rattle.std.proofs.Common.{subst, sym}
 use Rattle.serde_json.specs.View.{items_view, view}
-use Rattle.rpkirtr.specs.PayloadList.{Lists}
-use Rattle.rpkirtr.proofs.Entries.{same_list}
-use Rattle.rpkirtr.proofs.listing.read_list.Goals as goal
+use Rattle.payload_lists.specs.PayloadList.{Lists}
+use Rattle.payload_lists.proofs.Entries.{same_list}
+use Rattle.payload_lists.proofs.listing.read_list.Goals as goal
 
 pub returns-in-Some-clause-no_list : goal.returns-in-Some-clause-no_list
 returns-in-Some-clause-no_list c e s h =

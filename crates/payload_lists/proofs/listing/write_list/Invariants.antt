@@ -1,7 +1,7 @@
 use Rattle.std.proofs.Common.{◌≡◌, ◌++◌, codes, map, string_bytes, take}
 use Rattle.std.specs.List.{join_with_byte}
-use Rattle.rpkirtr.specs.PayloadList.{entry_text}
-use Rattle.rpkirtr.proofs.listing.write_list.Given as goal
+use Rattle.payload_lists.specs.PayloadList.{entry_text}
+use Rattle.payload_lists.proofs.listing.write_list.Given as goal
 
 -- the entries so far are written
 abbrev pub invariant-loop-index : goal.invariant-loop-index

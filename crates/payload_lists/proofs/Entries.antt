@@ -13,8 +13,8 @@ use Rattle.prefixes.specs.declared.fault.PrefixFault.{PrefixFault}
 use Rattle.prefixes.specs.declared.fault.PrefixFault.TheVariants as faults
 use Rattle.prefixes.specs.declared.prefix.IpPrefix.{IpPrefix}
 use Rattle.prefixes.proofs.Spelling.{one_reading}
-use Rattle.rpkirtr.specs.PayloadList.{AreEntries, IsEntry, IsPayloadList, Lists, member_count, text_at, whole_at}
-use Rattle.rpkirtr.specs.Reading.{Makes}
+use Rattle.payload_lists.specs.PayloadList.{AreEntries, IsEntry, IsPayloadList, Lists, member_count, text_at, whole_at}
+use Rattle.payload_lists.specs.Reading.{Makes}
 use Rattle.vrps.specs.VrpSet.{VrpSet, set_of, size}
 
 count_of : (ms : List (String Global × Data)) → member_count (members_of ms) ≡ length ms

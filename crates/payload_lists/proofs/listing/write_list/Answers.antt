@@ -1,5 +1,5 @@
-use Rattle.rpkirtr.proofs.ListText.{text-more}
-use Rattle.rpkirtr.proofs.listing.write_list.Goals as goal
+use Rattle.payload_lists.proofs.ListText.{text-more}
+use Rattle.payload_lists.proofs.listing.write_list.Goals as goal
 
 pub loop-index-preserved : goal.loop-index-preserved
 loop-index-preserved c =
