@@ -4,11 +4,14 @@
 usage: tests/wrong_bodies.py [--after-gate] [NAME | NAME/EDIT]..
 
 Without words all crates are tried, else these crates or single edits (with or without the ending .edit). An edit has the form of
-those in must-fail. Proofs are modular, so edits of different functions are tried in one check: each edited function must be refused
-of its own, and no other; one that waits for a refused callee is tried again without it. An edit that changes no function, but a
-constant or a layout, goes alone. The last line is 'N passed, M failed'.
+those in must-fail. Proofs are modular: a proof knows of other functions their contracts alone. So edits of different functions are
+tried in one check of a copy, in which each function but the edited ones has a hole for a proof: it stands for its contract, and takes
+no time. Each edited function must be refused of its own; one that waits for a refused callee is tried again without it, and what is
+not refused so is tried alone over the whole crate. An edit of a constant or a layout names in a line 'by: FUNCTION' who must refuse
+it, and goes alone. The last line is 'N passed, M failed'.
 
 --after-gate takes the libraries that a run of the gate has just built in this tree."""
+import copy
 import importlib.machinery
 import importlib.util
 import os
@@ -36,52 +39,86 @@ def kit():
 RT = kit()
 HEAD = re.compile(r"(?m)^(?:    )?(?:pub(?:\([a-z]+\))? )?(?:const )?fn (\w+)|^impl\b[^{;]*|^(?:pub(?:\([a-z]+\))? )?(?:const|static|struct|enum|trait|type|mod)\b")
 
-# What a check says of a function that it did not judge, as one that it calls is refused.
+# What a check says of a function that it found nothing against; of one that it may not have judged, as it refused or passed over one that it calls;
+# and of one in which it found a goal that does not hold.
+WELL = re.compile(r"proved|no holes|depends on a hole")
 MASKED = re.compile(r"it calls|which is not proved|which has no proof")
+OPEN = re.compile(r"`search` did not prove")
+
+# The proof of a function that a pack leaves as it is.
+HOLE = """use Rattle.{library}.proofs.{path}.Statement.{{statement}}
+
+pub {name}_spec : {{M : Type 1}} → statement M
+{name}_spec = ?
+"""
 
 
 class Edit:
-    """A wrong body: its name, the pairs of texts that it changes, and the functions in which they stand."""
+    """A wrong body: its name, the pairs of texts that it changes, and the functions that must refuse it."""
 
     def __init__(self, crate, file):
         self.name = os.path.basename(file)[: -len(".edit")]
         self.label = f"{crate.name}/{self.name}"
         self.texts, self.why = RT.read_edit(file, crate.folder)
-        self.pairs, path, old = [], "", ""
+        self.pairs, self.places, path, old = [], set(), "", ""
         with open(file, encoding="utf-8") as it:
             for line in it.read().split("\n"):
                 if line.startswith("file: "):
                     path = line[len("file: ") :].strip()
+                elif line.startswith("by: "):
+                    self.places.add(f"{crate.name}::{line[len('by: ') :].strip()}")
                 elif line.startswith("old: "):
                     old = line[len("old: ") :]
                 elif line.startswith("new:"):
                     self.pairs.append((path, old, re.sub(r"\A ", "", line[len("new:") :])))
-        # (a pair that applies to what an earlier one made stands in no function of the text as it is: such an edit goes alone)
-        self.places = {function_at(crate, *it[:2]) for it in self.pairs} if not self.why else {None}
+        self.goes_alone = bool(self.places)
+        if not self.places and not self.why:
+            # (a pair that applies to what an earlier one made stands in no function of the text as it is: such an edit goes alone)
+            self.places = {function_at(crate, *it[:2]) for it in self.pairs}
+            self.goes_alone = None in self.places
 
-    def goes_alone(self):
-        return None in self.places
+
+def text_of(crate, path):
+    with open(f"{crate.folder}/{path}", encoding="utf-8") as it:
+        return it.read()
+
+
+def heads_in(crate, path):
+    """What begins in a text of src/: where, and its name as a check prints it, or None where it is no function with a body."""
+    modules, owner = module_of(path), ""
+    for it in HEAD.finditer(text_of(crate, path)):
+        if it[1] and not it[0].startswith("    "):
+            owner = ""
+        elif not it[1]:
+            owner = owner_of(it[0]) if it[0].startswith("impl") else None
+        # (a check names a method by the module of its type, wherever its impl stands, and one of a trait by the module of the impl)
+        home = crate.homes.get(owner, modules)
+        yield it.start(), f"{crate.name}::{home}{owner and owner + '::'}{it[1]}" if it[1] and owner is not None else None
+
+
+def module_of(path):
+    modules = path[len("src/") : -len(".rt")].replace("/", "::")
+    return "" if modules in ("lib", "main") else f"{modules}::"
+
+
+def sources(crate):
+    found = [f"{at}/{it}" for at, _, names in os.walk(f"{crate.folder}/src") for it in names if it.endswith(".rt")]
+    return sorted(os.path.relpath(it, crate.folder) for it in found)
+
+
+def homes_of(crate):
+    """The module of each type of a crate."""
+    types = r"(?m)^(?:pub(?:\([a-z]+\))? )?(?:struct|enum) (\w+)"
+    return {name: module_of(path) for path in sources(crate) for name in re.findall(types, text_of(crate, path))}
 
 
 def function_at(crate, path, old):
     """The name, as a check prints it, of the function in which a text stands, or None where it stands in none."""
-    with open(f"{crate.folder}/{path}", encoding="utf-8") as it:
-        text = it.read()
+    text = text_of(crate, path)
     if not path.startswith("src/") or text.count(old) != 1:
         return None
-    found, owner = None, ""
-    for it in HEAD.finditer(text, 0, text.index(old) + len(old)):
-        if it[1]:
-            found = it[1]
-            owner = owner if it[0].startswith("    ") else ""
-        elif it[0].startswith("impl"):
-            found, owner = None, owner_of(it[0])
-        else:
-            found, owner = None, ""
-    # (a check names a method by the module of its type, wherever its impl stands)
-    modules = path[len("src/") : -len(".rt")].replace("/", "::")
-    modules = "" if modules in ("lib", "main") else f"{modules}::"
-    return found and (f"{crate.name}::..::{owner}{found}" if owner else f"{crate.name}::{modules}{found}")
+    end = text.index(old) + len(old)
+    return next((name for at, name in reversed([*heads_in(crate, path)]) if at < end), None)
 
 
 def owner_of(head):
@@ -91,16 +128,17 @@ def owner_of(head):
         plain = re.sub(r"<[^<>]*>", "", plain)
     words = plain.replace("impl", "", 1).replace("&", "").split()
     names = [it.split("::")[-1] for it in words if it not in ("for", "mut")]
-    # (a check adds the arguments of the trait, as in SetFaultFromAllocError)
-    given = re.match(r"impl(?:<[^>]*>)?\s+[\w:]+<(\w+)>\s+for", head)
-    return (f"{names[1]}{names[0]}{given[1] if given else ''}" if "for" in words else names[0]) + "::"
+    # (a check adds the arguments of the trait, as in SetFaultFromAllocError and ProgramFaultFromIoError)
+    given = re.match(r"impl(?:<[^>]*>)?\s+[\w:]+<([\w:]+)>\s+for", head)
+    given = "".join(it[:1].upper() + it[1:] for it in given[1].split("::")) if given else ""
+    return f"{names[1]}{names[0]}{given}" if "for" in words else names[0]
 
 
 def packed(edits):
     """Packs edits so that no two of a pack change one function."""
     packs = []
     for edit in edits:
-        place = next((it for it in packs if not edit.goes_alone() and not it[0].goes_alone() and all(not edit.places & other.places for other in it)), None)
+        place = next((it for it in packs if not edit.goes_alone and not it[0].goes_alone and all(not edit.places & other.places for other in it)), None)
         if place is None:
             packs.append([edit])
         else:
@@ -112,29 +150,47 @@ def texts_of(crate, edits):
     """The files as several edits leave them, each of which stands in a function of its own."""
     texts = {}
     for path, old, new in [pair for edit in edits for pair in edit.pairs]:
-        if path not in texts:
-            with open(f"{crate.folder}/{path}", encoding="utf-8") as it:
-                texts[path] = it.read()
-        texts[path] = texts[path].replace(old, new)
+        texts[path] = (texts.get(path) or text_of(crate, path)).replace(old, new)
     return texts
 
 
 def belongs(name, place):
     """Whether a function that a check names is this one, or a closure in it."""
-    crate, _, rest = place.partition("::..::")
-    if rest:
-        return bool(re.match(rf"{crate}::(?:.*::)?(?:fn::)?{re.escape(rest)}(?:$|::)", name))
-    module, _, function = place.rpartition("::")
-    return name == place or name.startswith(f"{module}::fn::{function}::")
+    return f"{name}::".replace("::fn::", "::", 1).startswith(f"{place}::")
 
 
-def refused_of_own(crate, texts, places, kept):
-    """Checks the crate with these texts, or only what stands in these places and what that calls, and returns the functions that are refused of
-    their own, or None and why the prover was not reached."""
-    only = [word for it in sorted(places) for word in ("--only", it.replace("::..::", "::").partition("::")[2])]
-    ran = RT.checked(crate, texts, ["--jobs", "1", *only], kept)
-    if only and ran.returncode == 2:
-        return refused_of_own(crate, texts, set(), kept)
+def with_holes(crate, places, room):
+    """A copy of the crate in which each function but these has a hole for a proof."""
+    for part in RT.rtlib.PARTS:
+        if os.path.isdir(f"{crate.folder}/{part}"):
+            shutil.copytree(f"{crate.folder}/{part}", f"{room}/{part}")
+    for place in {name for path in sources(crate) for _, name in heads_in(crate, path) if name} - places:
+        names = place.split("::")[1:]
+        folder = "/".join([room, "proofs", *names])
+        # (a function that calls itself is proved in a folder of its cycle, and keeps its proof)
+        if os.path.isdir("/".join([room, "proofs", *names[:-1], f"+{names[-1]}"])):
+            continue
+        os.makedirs(folder, exist_ok=True)
+        for it in ("Invariants.antt", "Answers.antt"):
+            if os.path.isfile(f"{folder}/{it}"):
+                os.remove(f"{folder}/{it}")
+        with open(f"{folder}/Proof.antt", "w", encoding="utf-8") as it:
+            it.write(HOLE.format(library=crate.name, path=".".join(names), name=names[-1]))
+    made = copy.copy(crate)
+    made.folder = room
+    return made
+
+
+def refused_in(crate, texts, places, kept):
+    """Checks what stands in these places, with these texts and over the contracts of all else, and returns the functions that are refused of their
+    own, or None and why the prover was not reached."""
+    only = [word for it in sorted(places) for word in ("--only", it.partition("::")[2])]
+    with tempfile.TemporaryDirectory(prefix="wrong-bodies-") as room:
+        return refused_of_own(RT.checked(with_holes(crate, places, room), texts, ["--jobs", "1", "--allow-holes", *only], kept), texts)
+
+
+def refused_of_own(ran, texts):
+    """The functions that a check refuses of their own, or None and why the prover was not reached."""
     lines = ran.stdout.rstrip("\n").split("\n")
     unread = next((it for it in lines if RT.unread(it, texts)), "")
     if unread:
@@ -143,24 +199,26 @@ def refused_of_own(crate, texts, places, kept):
         return set(), ""
     if ran.returncode != 1 or not lines[-1].startswith(("logic=not-proved", "only=")):
         return None, "it did not reach the prover: " + " | ".join(lines[-4:])[:400]
-    said = dict(re.findall(r"(?m)^fn (\S+): (.*)$", ran.stdout))
-    own = {name for name, what in said.items() if not what.startswith("proved") and not MASKED.search(what)}
+    # (an error in the file of a function's own answers is the function's own)
+    wrong = set(re.findall(r"(?m)^(?:\./)?proofs/(\S+)/(?:Invariants|Answers)\.antt:\d+:\d+: error: ", ran.stdout))
+    said = [it for it in re.findall(r"(?m)^fn (\S+): (.*)$", ran.stdout) if not WELL.match(it[1])]
+    own = {name for name, what in said if not MASKED.search(what) or OPEN.search(what) or "/".join(name.split("::")[1:]) in wrong}
     return own, ""
 
 
 def judged_alone(crate, edit, kept):
-    """Whether the edit, tried alone, is refused by what it changes, and what to say."""
-    own, why = refused_of_own(crate, edit.texts, set() if edit.goes_alone() else edit.places, kept)
+    """Whether the edit, tried alone over the whole crate, is refused by what it changes, and what to say."""
+    own, why = refused_of_own(RT.checked(crate, edit.texts, ["--jobs", "1"], kept), edit.texts)
     if own is None:
         return False, f"BAD EDIT: {why}"
     if not own:
         return False, "NOT REFUSED: the crate is still proved with this edit"
-    if edit.goes_alone():
-        return True, f"refused by {', '.join(sorted(own)[:3])}"
+    if None in edit.places:
+        return False, f"BAD EDIT: it changes no function, so a line 'by: FUNCTION' must name who refuses it: {', '.join(sorted(own)[:3])}"
     by, others = shared(own, edit.places)
     if not by:
         return False, f"REFUSED ELSEWHERE: by {', '.join(others[:4])}, and not by {', '.join(sorted(edit.places))}"
-    if others:
+    if others and not edit.goes_alone:
         return False, f"REFUSED ELSEWHERE TOO: by {', '.join(others[:4])}"
     return True, f"refused by {', '.join(by)}"
 
@@ -174,9 +232,9 @@ def shared(own, places):
 def judged(crate, edits, kept):
     """Tries a pack of edits in one check, what waits there for a refused callee in the next, and alone what no check of several refused as it must be."""
     found, left = [], edits
-    while len(left) > 1:
+    while left and None not in left[0].places:
         places = {place for edit in left for place in edit.places}
-        own, _ = refused_of_own(crate, texts_of(crate, left), places, kept)
+        own, _ = refused_in(crate, texts_of(crate, left), places, kept)
         if own is None or shared(own, places)[1]:
             break
         by = {edit.name: shared(own, edit.places)[0] for edit in left}
@@ -201,7 +259,7 @@ def tried(crate, edits):
 
 def edits_of(crate, words):
     """The edits of a crate that the words name."""
-    folder = f"{crate.folder}/wrong"
+    crate.homes, folder = homes_of(crate), f"{crate.folder}/wrong"
     files = sorted(os.listdir(folder)) if os.path.isdir(folder) else []
     chosen = [it for it in files if not words or crate.name in words or f"{crate.name}/{it}" in words or f"{crate.name}/{it[: -len('.edit')]}" in words]
     return [Edit(crate, f"{folder}/{it}") for it in chosen if it.endswith(".edit")]
