@@ -9,8 +9,6 @@ pub mod offering;
 pub mod roas;
 pub mod routing;
 pub mod runner;
-#[cfg(test)]
-mod tests;
 pub mod units;
 pub mod words;
 
