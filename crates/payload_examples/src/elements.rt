@@ -45,11 +45,14 @@ fn reads_the_shortest(rt: HostRuntime) {
         (48, b"\x30\x00".as_slice(), 0),
     ] {
         let mut cursor = Cursor::new(bytes);
-        assert_eq!(rt; cursor.peek_tag(), Some(tag));
-        assert_eq!(rt; read_one(&mut cursor, tag).ok(), Some(len), "at {bytes:?}");
+        assert!(rt; cursor.peek_tag() == Some(tag));
+        assert!(rt;
+            read_one(&mut cursor, tag).ok() == Some(len),
+            "at {bytes:?}"
+        );
         assert!(rt; cursor.at_end());
-        assert_eq!(rt; cursor.offset(), bytes.len());
-        assert_eq!(rt; cursor.peek_tag(), None);
+        assert!(rt; cursor.offset() == bytes.len());
+        assert!(rt; cursor.peek_tag() == None);
         assert!(rt; cursor.finish().is_ok());
     }
 }
@@ -76,35 +79,26 @@ fn tells_the_first_fault(rt: HostRuntime) {
         (3, b"\x03\x02\x08\x00".as_slice(), 4),
         (22, b"\x16\x01\x80".as_slice(), 4),
     ] {
-        assert_eq!(rt; fault(tag, bytes), Some((number, 0)), "at {bytes:?}");
+        assert!(rt; fault(tag, bytes) == Some((number, 0)), "at {bytes:?}");
     }
-    assert_eq!(rt; fault(48, b"\x30\x02\x04\x00".as_slice()), Some((5, 2)));
+    assert!(rt; fault(48, b"\x30\x02\x04\x00".as_slice()) == Some((5, 2)));
 }
 
 #[test]
 fn tells_offsets_in_the_payload(rt: HostRuntime) -> Result<(), Fail> {
     let mut outer = Cursor::new(b"\x04\x00\x30\x06\x02\x01\x05\x16\x01\x80".as_slice());
-    assert_eq!(rt; outer.octets().is_ok(), true);
+    assert!(rt; outer.octets().is_ok() == true);
     let Ok(mut inner) = outer.sequence() else {
         assert!(rt; false);
         return Ok(());
     };
-    assert_eq!(rt; inner.offset(), 4);
-    assert_eq!(rt;
-        inner.octets().err().map(|f| (f.number(), f.offset)),
-        Some((2, 4))
-    );
-    assert_eq!(rt; inner.offset(), 4);
-    assert_eq!(rt; inner.integer().ok(), Some(b"\x05".as_slice()));
-    assert_eq!(rt;
-        inner.ia5().err().map(|f| (f.number(), f.offset)),
-        Some((4, 7))
-    );
-    assert_eq!(rt; inner.peek_tag(), Some(22));
-    assert_eq!(rt;
-        inner.finish().err().map(|f| (f.number(), f.offset)),
-        Some((5, 7))
-    );
+    assert!(rt; inner.offset() == 4);
+    assert!(rt; inner.octets().err().map(|f| (f.number(), f.offset)) == Some((2, 4)));
+    assert!(rt; inner.offset() == 4);
+    assert!(rt; inner.integer().ok() == Some(b"\x05".as_slice()));
+    assert!(rt; inner.ia5().err().map(|f| (f.number(), f.offset)) == Some((4, 7)));
+    assert!(rt; inner.peek_tag() == Some(22));
+    assert!(rt; inner.finish().err().map(|f| (f.number(), f.offset)) == Some((5, 7)));
     assert!(rt; outer.at_end());
     Ok(())
 }
@@ -113,11 +107,11 @@ fn tells_offsets_in_the_payload(rt: HostRuntime) -> Result<(), Fail> {
 fn refuses_every_beginning(rt: HostRuntime) {
     let whole = b"\x30\x07\x04\x05\x01\x02\x03\x04\x05".as_slice();
     for cut in 0..9usize {
-        assert_eq!(rt; fault(48, &whole[..cut]), Some((1, 0)), "{cut} bytes");
+        assert!(rt; fault(48, &whole[..cut]) == Some((1, 0)), "{cut} bytes");
     }
     let long = b"\x04\x82\x01\x00".as_slice();
     for cut in 0..5usize {
-        assert_eq!(rt; fault(4, &long[..cut]), Some((1, 0)), "{cut} bytes");
+        assert!(rt; fault(4, &long[..cut]) == Some((1, 0)), "{cut} bytes");
     }
 }
 
@@ -141,7 +135,7 @@ fn writes_lengths_in_the_fewest_bytes(rt: HostRuntime) -> Result<(), Fail> {
         let written = writer.as_slice();
         assert!(rt; written.starts_with(head), "{len}");
         let mut cursor = Cursor::new(written);
-        assert_eq!(rt; read_one(&mut cursor, 4).ok(), Some(len));
+        assert!(rt; read_one(&mut cursor, 4).ok() == Some(len));
         assert!(rt; cursor.finish().is_ok());
     }
     Ok(())
@@ -163,9 +157,9 @@ fn writes_each_element(rt: HostRuntime) -> Result<(), Fail> {
     let members = members.into_bytes();
     assert!(rt; members.len() < 100);
     writer.sequence(members.as_slice())?;
-    assert_eq!(rt;
-        writer.as_slice(),
-        b"\x30\x16\x02\x02\x00\x80\x03\x02\x03\xf8\x04\x01\x01\x06\x02\x2a\x03\x16\x05a.roa".as_slice()
+    assert!(rt;
+        writer.as_slice()
+            == b"\x30\x16\x02\x02\x00\x80\x03\x02\x03\xf8\x04\x01\x01\x06\x02\x2a\x03\x16\x05a.roa".as_slice()
     );
     Ok(())
 }
@@ -184,9 +178,9 @@ fn writes_numbers_in_the_fewest_bytes(rt: HostRuntime) -> Result<(), Fail> {
     ] {
         let mut writer = DerWriter::new(alloc);
         writer.unsigned(number)?;
-        assert_eq!(rt; writer.as_slice(), element);
+        assert!(rt; writer.as_slice() == element);
         let mut cursor = Cursor::new(element);
-        assert_eq!(rt; unsigned(cursor.integer()?), Some(number));
+        assert!(rt; unsigned(cursor.integer()?) == Some(number));
     }
     Ok(())
 }
@@ -225,10 +219,10 @@ fn walk_fault(payload: &[u8]) -> Option<(u8, usize)> {
 
 #[test]
 fn walks_nested_elements(rt: HostRuntime) {
-    assert_eq!(rt; walk(ATTESTATION).ok(), Some(3));
+    assert!(rt; walk(ATTESTATION).ok() == Some(3));
     let of_no_bits =
         b"\x30\x14\x02\x03\x00\xfb\xf0\x30\x0d\x30\x0b\x04\x02\x00\x01\x30\x05\x30\x03\x03\x01\x00".as_slice();
-    assert_eq!(rt; walk(of_no_bits).ok(), Some(0));
+    assert!(rt; walk(of_no_bits).ok() == Some(0));
     for (payload, number, offset) in [
         (b"".as_slice(), 1u8, 0usize),
         (b"\x30".as_slice(), 1, 0),
@@ -241,9 +235,8 @@ fn walks_nested_elements(rt: HostRuntime) {
         (b"\xa0\x00".as_slice(), 2, 0),
         (b"\x30\x01\xa0".as_slice(), 1, 2),
     ] {
-        assert_eq!(rt;
-            walk_fault(payload),
-            Some((number, offset)),
+        assert!(rt;
+            walk_fault(payload) == Some((number, offset)),
             "at {payload:?}"
         );
     }
@@ -254,16 +247,16 @@ fn walks_no_beginning_and_nothing_more(rt: HostRuntime) -> Result<(), Fail> {
     let alloc = rt.alloc();
     let whole = ATTESTATION.as_slice();
     for cut in 0..25usize {
-        assert_eq!(rt; walk_fault(&whole[..cut]), Some((1, 0)), "{cut} bytes");
+        assert!(rt; walk_fault(&whole[..cut]) == Some((1, 0)), "{cut} bytes");
     }
     let mut more = Vec::new(alloc);
     more.extend_from_slice(whole)?;
     more.push(0u8)?;
-    assert_eq!(rt; walk_fault(more.as_slice()), Some((5, 25)));
+    assert!(rt; walk_fault(more.as_slice()) == Some((5, 25)));
     let mut long = Vec::new(alloc);
     long.extend_from_slice(b"\x30\x81".as_slice())?;
     long.extend_from_slice(&whole[1..])?;
-    assert_eq!(rt; walk_fault(long.as_slice()), Some((3, 0)));
+    assert!(rt; walk_fault(long.as_slice()) == Some((3, 0)));
     Ok(())
 }
 
@@ -282,10 +275,10 @@ fn tells_faults_inside_the_payload(rt: HostRuntime) {
     }
     let mut longer = *ATTESTATION;
     longer[16] = 9;
-    assert_eq!(rt; walk_fault(&longer), Some((1, 15)));
+    assert!(rt; walk_fault(&longer) == Some((1, 15)));
     let mut past = *ATTESTATION;
     past[18] = 5;
-    assert_eq!(rt; walk_fault(&past), Some((1, 19)));
+    assert!(rt; walk_fault(&past) == Some((1, 19)));
 }
 
 #[test]

@@ -20,7 +20,7 @@ fn writes_what_it_reads(rt: HostRuntime) -> Result<(), Fail> {
             assert!(rt; false, "{text}");
             return Ok(());
         };
-        assert_eq!(rt; moment.to_string(rt.alloc())?.as_str(), text);
+        assert!(rt; moment.to_string(rt.alloc())?.as_str() == text);
     }
     Ok(())
 }
@@ -88,10 +88,10 @@ fn compares_the_earlier_number_first(rt: HostRuntime) {
                 assert!(rt; false);
                 return;
             };
-            assert_eq!(rt; m.cmp(&n), i.cmp(&k), "{earlier} {later}");
-            assert_eq!(rt; m.partial_cmp(&n), Some(i.cmp(&k)));
-            assert_eq!(rt; m == n, i == k);
-            assert_eq!(rt; m < n, i < k);
+            assert!(rt; m.cmp(&n) == i.cmp(&k), "{earlier} {later}");
+            assert!(rt; m.partial_cmp(&n) == Some(i.cmp(&k)));
+            assert!(rt; (m == n) == (i == k));
+            assert!(rt; (m < n) == (i < k));
         }
     }
 }
@@ -105,9 +105,9 @@ fn stands_in_elements_both_ways(rt: HostRuntime) -> Result<(), Fail> {
     };
     let mut writer = DerWriter::new(rt.alloc());
     writer.time(&noon)?;
-    assert_eq!(rt; writer.as_slice(), bytes);
+    assert!(rt; writer.as_slice() == bytes);
     let mut cursor = Cursor::new(bytes);
-    assert_eq!(rt; cursor.time().ok(), Some(noon));
+    assert!(rt; cursor.time().ok() == Some(noon));
     assert!(rt; cursor.at_end());
     Ok(())
 }
@@ -129,14 +129,14 @@ fn tells_the_first_fault_of_a_time(rt: HostRuntime) {
         (b"\x18\x0f2025010112000\xb2Z".as_slice(), 4),
     ] {
         let mut cursor = Cursor::new(bytes);
-        assert_eq!(rt;
+        assert!(rt;
             cursor
                 .time()
                 .err()
-                .map(|fault| (fault.number(), fault.offset)),
-            Some((number, 0)),
+                .map(|fault| (fault.number(), fault.offset))
+                == Some((number, 0)),
             "at {bytes:?}"
         );
-        assert_eq!(rt; cursor.offset(), 0);
+        assert!(rt; cursor.offset() == 0);
     }
 }

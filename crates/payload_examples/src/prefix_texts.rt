@@ -52,10 +52,10 @@ fn prefixes_are_read_and_written(rt: HostRuntime) -> Result<(), Fail> {
         match IpPrefix::parse(text) {
             Ok(prefix) => {
                 let shown = prefix.to_string(rt.alloc())?;
-                assert_eq!(rt; shown.as_str(), written, "{text}");
+                assert!(rt; shown.as_str() == written, "{text}");
                 assert!(rt; IpPrefix::parse(shown.as_str()) == Ok(prefix), "{text}");
             }
-            Err(fault) => assert_eq!(rt; fault.number(), 0, "{text}"),
+            Err(fault) => assert!(rt; fault.number() == 0, "{text}"),
         }
     }
     Ok(())
@@ -122,8 +122,8 @@ fn other_text_is_refused(rt: HostRuntime) {
         ("fe80::%1/128", PrefixFault::BadText),
     ] {
         match IpPrefix::parse(text) {
-            Ok(_) => assert_eq!(rt; 0, want.number(), "{text}"),
-            Err(fault) => assert_eq!(rt; fault, want, "{text}"),
+            Ok(_) => assert!(rt; 0 == want.number(), "{text}"),
+            Err(fault) => assert!(rt; fault == want, "{text}"),
         }
     }
 }
@@ -131,8 +131,8 @@ fn other_text_is_refused(rt: HostRuntime) {
 #[test]
 fn numbers_are_read_and_written(rt: HostRuntime) -> Result<(), Fail> {
     for (text, want) in [("0", 0), ("64496", 64496), ("4294967295", 4294967295)] {
-        assert_eq!(rt; Asn::parse(text), Ok(Asn(want)), "{text}");
-        assert_eq!(rt; Asn(want).to_string(rt.alloc())?.as_str(), text);
+        assert!(rt; Asn::parse(text) == Ok(Asn(want)), "{text}");
+        assert!(rt; Asn(want).to_string(rt.alloc())?.as_str() == text);
     }
     for text in [
         "",
@@ -148,7 +148,7 @@ fn numbers_are_read_and_written(rt: HostRuntime) -> Result<(), Fail> {
         "4294967296",
         "99999999999",
     ] {
-        assert_eq!(rt; Asn::parse(text), Err(PrefixFault::BadText), "{text}");
+        assert!(rt; Asn::parse(text) == Err(PrefixFault::BadText), "{text}");
     }
     Ok(())
 }
@@ -183,7 +183,7 @@ fn shorter_prefixes_cover_longer_ones(rt: HostRuntime) {
         ("::/0", "2001:db8::/32", true),
     ] {
         match (IpPrefix::parse(text), IpPrefix::parse(other)) {
-            (Ok(p), Ok(q)) => assert_eq!(rt; p.covers(&q), covers, "{text} {other}"),
+            (Ok(p), Ok(q)) => assert!(rt; p.covers(&q) == covers, "{text} {other}"),
             _ => assert!(rt; false, "{text} {other}"),
         }
     }

@@ -50,10 +50,10 @@ fn decodes_roas(rt: HostRuntime) -> Result<(), Fail> {
             assert!(rt; false, "{text}");
             return Ok(());
         };
-        assert_eq!(rt; roa.asn(), Asn(64496));
-        assert_eq!(rt; roa.notes(), notes);
+        assert!(rt; roa.asn() == Asn(64496));
+        assert!(rt; roa.notes() == notes);
         let vrps = roa.vrps(alloc)?;
-        assert_eq!(rt; vrps.len(), 1);
+        assert!(rt; vrps.len() == 1);
         assert!(rt; vrps.first().copied() == vrp(text, max_len).ok(), "{text}");
     }
     Ok(())
@@ -136,15 +136,14 @@ fn tells_the_first_fault(rt: HostRuntime) {
             25,
         ),
     ] {
-        assert_eq!(rt;
-            fault(alloc, payload),
-            Some((number, offset)),
+        assert!(rt;
+            fault(alloc, payload) == Some((number, offset)),
             "at {payload:?}"
         );
     }
     let whole = ONE_PREFIX.as_slice();
     for cut in 0..25usize {
-        assert_eq!(rt; fault(alloc, &whole[..cut]), Some((1, 0)), "{cut} bytes");
+        assert!(rt; fault(alloc, &whole[..cut]) == Some((1, 0)), "{cut} bytes");
     }
 }
 
@@ -212,12 +211,12 @@ fn makes_roas_of_values(rt: HostRuntime) -> Result<(), Fail> {
         let made = Roa::new(Asn(64496), entries_of(alloc, rows)?);
         let fault = match made {
             Ok(roa) => {
-                assert_eq!(rt; roa.entries().len(), rows.len());
+                assert!(rt; roa.entries().len() == rows.len());
                 None
             }
             Err(fault) => Some((fault.kind.number(), fault.index)),
         };
-        assert_eq!(rt; fault, refusal);
+        assert!(rt; fault == refusal);
     }
     Ok(())
 }
@@ -264,9 +263,9 @@ fn takes_65536_entries_and_no_more(rt: HostRuntime) -> Result<(), Fail> {
         assert!(rt; false);
         return Ok(());
     };
-    assert_eq!(rt; roa.entries().len(), 65536);
+    assert!(rt; roa.entries().len() == 65536);
     let more = long_payload(&rt, alloc, 65537)?;
     assert!(rt; more.len() > 8);
-    assert_eq!(rt; fault(alloc, more.as_slice()), Some((19, more.len() - 8)));
+    assert!(rt; fault(alloc, more.as_slice()) == Some((19, more.len() - 8)));
     Ok(())
 }

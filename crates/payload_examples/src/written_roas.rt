@@ -24,7 +24,7 @@ fn writes_what_it_reads(rt: HostRuntime) -> Result<(), Fail> {
             return Ok(());
         };
         let written = encode_roa(alloc, &roa)?;
-        assert_eq!(rt; written.as_slice(), payload);
+        assert!(rt; written.as_slice() == payload);
     }
     Ok(())
 }
@@ -39,7 +39,10 @@ fn writes_each_roa_with_one_other_byte(rt: HostRuntime) -> Result<(), Fail> {
             payload[index] = byte;
             if let Ok(roa) = decode_roa(alloc, &payload) {
                 let written = encode_roa(alloc, &roa)?;
-                assert_eq!(rt; written.as_slice(), payload.as_slice(), "{byte} at {index}");
+                assert!(rt;
+                    written.as_slice() == payload.as_slice(),
+                    "{byte} at {index}"
+                );
                 spelled.push((index, byte))?;
             }
         }
@@ -47,7 +50,7 @@ fn writes_each_roa_with_one_other_byte(rt: HostRuntime) -> Result<(), Fail> {
     // The AS number: 128, 128 and 256 values. The length of the address: 5, or 8, by which the three
     // bytes of the maximum are bits too. The unused bits: 0 to 3. Four bytes of address: 256 each.
     // The maximum: 32 to 127. At each of the 19 other bytes only the one that stands there.
-    assert_eq!(rt; spelled.len(), 128 + 128 + 256 + 2 + 4 + 4 * 256 + 96 + 19);
+    assert!(rt; spelled.len() == 128 + 128 + 256 + 2 + 4 + 4 * 256 + 96 + 19);
     Ok(())
 }
 
@@ -64,12 +67,12 @@ fn writes_roas_of_values(rt: HostRuntime) -> Result<(), Fail> {
         return Ok(());
     };
     let written = encode_roa(alloc, &roa)?;
-    assert_eq!(rt; written.as_slice(), BOTH_FAMILIES.as_slice());
+    assert!(rt; written.as_slice() == BOTH_FAMILIES.as_slice());
     let Ok(again) = decode_roa(alloc, written.as_slice()) else {
         assert!(rt; false);
         return Ok(());
     };
-    assert_eq!(rt; again.asn(), roa.asn());
+    assert!(rt; again.asn() == roa.asn());
     assert!(rt; again.entries() == roa.entries());
     Ok(())
 }

@@ -106,17 +106,14 @@ fn a_reset_query_is_answered_from_the_current_version(rt: HostRuntime) -> Result
     for size in [1, 7, 64] {
         let mut cache = cache_of(alloc, 5, 2, &[&[V]])?;
         let conn = cache.open()?;
-        assert_eq!(rt; cache.receive(conn, &RESET), 8);
+        assert!(rt; cache.receive(conn, &RESET) == 8);
         assert!(rt; cache.has_bytes(conn));
         let answer = answer_of(alloc, &[&V_UNIT], 5)?;
-        assert_eq!(rt; pulled(&mut cache, alloc, conn, size)?, answer);
+        assert!(rt; pulled(&mut cache, alloc, conn, size)? == answer);
         assert!(rt; !cache.has_bytes(conn));
         for _ in 0..2 {
-            assert_eq!(rt; cache.receive(conn, &query(5)), 12);
-            assert_eq!(rt;
-                pulled(&mut cache, alloc, conn, size)?,
-                answer_of(alloc, &[], 5)?
-            );
+            assert!(rt; cache.receive(conn, &query(5)) == 12);
+            assert!(rt; pulled(&mut cache, alloc, conn, size)? == answer_of(alloc, &[], 5)?);
         }
     }
     Ok(())
@@ -128,11 +125,8 @@ fn serials_go_round(rt: HostRuntime) -> Result<(), Fail> {
     let mut cache = cache_of(alloc, 4294967295, 2, &[&[V], &[V, W]])?;
     let conn = cache.open()?;
     let asked = [1, 1, 0x12, 0x34, 0, 0, 0, 12, 0xff, 0xff, 0xff, 0xff];
-    assert_eq!(rt; cache.receive(conn, &asked), 12);
-    assert_eq!(rt;
-        pulled(&mut cache, alloc, conn, 64)?,
-        answer_of(alloc, &[&W_UNIT], 0)?
-    );
+    assert!(rt; cache.receive(conn, &asked) == 12);
+    assert!(rt; pulled(&mut cache, alloc, conn, 64)? == answer_of(alloc, &[&W_UNIT], 0)?);
     Ok(())
 }
 
@@ -143,23 +137,17 @@ fn an_answer_under_way_keeps_its_version(rt: HostRuntime) -> Result<(), Fail> {
     let conn = cache.open()?;
     cache.receive(conn, &RESET);
     let mut first = [0u8; 10];
-    assert_eq!(rt; cache.pull(conn, &mut first), 10);
+    assert!(rt; cache.pull(conn, &mut first) == 10);
     assert!(rt; cache.publish(set_of(alloc, &[V, W])?)? == Published::New(Serial(6)));
     let answer = answer_of(alloc, &[&V_UNIT], 5)?;
     let Some(rest) = answer.as_slice().get(10..) else {
         return Err(Fail::from("short"));
     };
-    assert_eq!(rt; pulled(&mut cache, alloc, conn, 7)?.as_slice(), rest);
+    assert!(rt; pulled(&mut cache, alloc, conn, 7)?.as_slice() == rest);
     cache.receive(conn, &query(5));
-    assert_eq!(rt;
-        pulled(&mut cache, alloc, conn, 7)?,
-        answer_of(alloc, &[&W_UNIT], 6)?
-    );
+    assert!(rt; pulled(&mut cache, alloc, conn, 7)? == answer_of(alloc, &[&W_UNIT], 6)?);
     cache.receive(conn, &RESET);
-    assert_eq!(rt;
-        pulled(&mut cache, alloc, conn, 7)?,
-        answer_of(alloc, &[&V_UNIT, &W_UNIT], 6)?
-    );
+    assert!(rt; pulled(&mut cache, alloc, conn, 7)? == answer_of(alloc, &[&V_UNIT, &W_UNIT], 6)?);
     Ok(())
 }
 
@@ -169,23 +157,14 @@ fn old_serials_are_reset(rt: HostRuntime) -> Result<(), Fail> {
     let mut cache = cache_of(alloc, 4, 2, &[&[], &[V], &[V, W], &[V]])?;
     let conn = cache.open()?;
     cache.receive(conn, &query(5));
-    assert_eq!(rt;
-        pulled(&mut cache, alloc, conn, 64)?,
-        answer_of(alloc, &[], 7)?
-    );
+    assert!(rt; pulled(&mut cache, alloc, conn, 64)? == answer_of(alloc, &[], 7)?);
     let other = cache.open()?;
     assert!(rt; other != conn);
     cache.receive(other, &query(4));
     let reset = [1u8, 8, 0, 0, 0, 0, 0, 8];
-    assert_eq!(rt;
-        pulled(&mut cache, alloc, other, 64)?.as_slice(),
-        reset.as_slice()
-    );
+    assert!(rt; pulled(&mut cache, alloc, other, 64)?.as_slice() == reset.as_slice());
     cache.receive(other, &RESET);
-    assert_eq!(rt;
-        pulled(&mut cache, alloc, other, 64)?,
-        answer_of(alloc, &[&V_UNIT], 7)?
-    );
+    assert!(rt; pulled(&mut cache, alloc, other, 64)? == answer_of(alloc, &[&V_UNIT], 7)?);
     cache.close(conn);
     assert!(rt; cache.open()? == conn);
     Ok(())
@@ -200,10 +179,7 @@ fn nothing_is_published(rt: HostRuntime) -> Result<(), Fail> {
     let report = [
         1u8, 10, 0, 2, 0, 0, 0, 0x18, 0, 0, 0, 8, 1, 2, 0, 0, 0, 0, 0, 8, 0, 0, 0, 0,
     ];
-    assert_eq!(rt;
-        pulled(&mut cache, alloc, conn, 64)?.as_slice(),
-        report.as_slice()
-    );
+    assert!(rt; pulled(&mut cache, alloc, conn, 64)?.as_slice() == report.as_slice());
     assert!(rt; cache.is_open(conn));
     assert!(rt; !cache.notify(conn));
     Ok(())
@@ -215,12 +191,12 @@ fn two_queries_in_one_piece(rt: HostRuntime) -> Result<(), Fail> {
     let mut cache = cache_of(alloc, 5, 2, &[&[V]])?;
     let conn = cache.open()?;
     let piece = [1, 2, 0, 0, 0, 0, 0, 8, 1, 2, 0, 0, 0, 0, 0, 8];
-    assert_eq!(rt; cache.receive(conn, &piece), 8);
-    assert_eq!(rt; cache.receive(conn, &RESET), 0);
+    assert!(rt; cache.receive(conn, &piece) == 8);
+    assert!(rt; cache.receive(conn, &RESET) == 0);
     let answer = answer_of(alloc, &[&V_UNIT], 5)?;
-    assert_eq!(rt; pulled(&mut cache, alloc, conn, 64)?, answer);
-    assert_eq!(rt; cache.receive(conn, &RESET), 8);
-    assert_eq!(rt; pulled(&mut cache, alloc, conn, 64)?, answer);
+    assert!(rt; pulled(&mut cache, alloc, conn, 64)? == answer);
+    assert!(rt; cache.receive(conn, &RESET) == 8);
+    assert!(rt; pulled(&mut cache, alloc, conn, 64)? == answer);
     Ok(())
 }
 
@@ -235,16 +211,13 @@ fn another_version_is_reported(rt: HostRuntime) -> Result<(), Fail> {
             cache.receive(conn, &RESET);
             pulled(&mut cache, alloc, conn, 64)?;
         }
-        assert_eq!(rt; cache.receive(conn, &old), 8);
+        assert!(rt; cache.receive(conn, &old) == 8);
         let report = [
             1u8, 10, 0, code, 0, 0, 0, 0x18, 0, 0, 0, 8, 0, 2, 0, 0, 0, 0, 0, 8, 0, 0, 0, 0,
         ];
         assert!(rt; !cache.is_open(conn));
-        assert_eq!(rt;
-            pulled(&mut cache, alloc, conn, 64)?.as_slice(),
-            report.as_slice()
-        );
-        assert_eq!(rt; cache.receive(conn, &RESET), 0);
+        assert!(rt; pulled(&mut cache, alloc, conn, 64)?.as_slice() == report.as_slice());
+        assert!(rt; cache.receive(conn, &RESET) == 0);
     }
     Ok(())
 }
@@ -257,10 +230,7 @@ fn routers_are_notified(rt: HostRuntime) -> Result<(), Fail> {
     assert!(rt; cache.notify(conn));
     assert!(rt; !cache.notify(conn));
     let notify = [1u8, 0, 0x12, 0x34, 0, 0, 0, 12, 0, 0, 0, 5];
-    assert_eq!(rt;
-        pulled(&mut cache, alloc, conn, 64)?.as_slice(),
-        notify.as_slice()
-    );
+    assert!(rt; pulled(&mut cache, alloc, conn, 64)?.as_slice() == notify.as_slice());
     Ok(())
 }
 
@@ -381,12 +351,12 @@ fn each_unit_in_every_cutting(rt: HostRuntime) -> Result<(), Fail> {
         for cut in 0..came.len() {
             let conn = cache.open()?;
             let (front, back) = came.split_at(cut);
-            assert_eq!(rt; cache.receive(conn, front), front.len());
+            assert!(rt; cache.receive(conn, front) == front.len());
             assert!(rt; !cache.has_bytes(conn));
-            assert_eq!(rt; cache.receive(conn, back), back.len());
-            assert_eq!(rt; cache.receive(conn, &RESET), 0);
-            assert_eq!(rt; pulled(&mut cache, alloc, conn, 64)?.as_slice(), answer);
-            assert_eq!(rt; cache.is_open(conn), goes_on);
+            assert!(rt; cache.receive(conn, back) == back.len());
+            assert!(rt; cache.receive(conn, &RESET) == 0);
+            assert!(rt; pulled(&mut cache, alloc, conn, 64)?.as_slice() == answer);
+            assert!(rt; cache.is_open(conn) == goes_on);
             cache.close(conn);
         }
     }
@@ -405,17 +375,14 @@ fn another_session_is_corrupt(rt: HostRuntime) -> Result<(), Fail> {
         return Err(Fail::from("nothing published"));
     };
     assert!(rt; serial == Serial(9));
-    assert_eq!(rt; set.len(), 1);
+    assert!(rt; set.len() == 1);
     let conn = cache.open()?;
-    assert_eq!(rt; cache.receive(conn, &query(5)), 12);
+    assert!(rt; cache.receive(conn, &query(5)) == 12);
     let report = [
         1u8, 10, 0, 0, 0, 0, 0, 0x1c, 0, 0, 0, 12, 1, 1, 0x12, 0x34, 0, 0, 0, 12, 0, 0, 0, 5, 0, 0,
         0, 0,
     ];
-    assert_eq!(rt;
-        pulled(&mut cache, alloc, conn, 64)?.as_slice(),
-        report.as_slice()
-    );
+    assert!(rt; pulled(&mut cache, alloc, conn, 64)?.as_slice() == report.as_slice());
     assert!(rt; !cache.is_open(conn));
     Ok(())
 }
@@ -430,14 +397,14 @@ fn a_long_unit_is_copied_as_far_as_there_is_room(rt: HostRuntime) -> Result<(), 
     for _ in 0..4088u32 {
         key.push(0)?;
     }
-    assert_eq!(rt; cache.receive(conn, key.as_slice()), 4096);
+    assert!(rt; cache.receive(conn, key.as_slice()) == 4096);
     let mut report = Vec::new(alloc);
     for _ in 0..5000u32 {
         report.push(0u8)?;
     }
-    assert_eq!(rt; cache.pull(conn, report.as_mut_slice()), 4096);
+    assert!(rt; cache.pull(conn, report.as_mut_slice()) == 4096);
     let head = [1u8, 10, 0, 3, 0, 0, 0x10, 0, 0, 0, 0x0f, 0xf0, 1, 9, 1];
-    assert_eq!(rt; report.as_slice().get(..15), Some(head.as_slice()));
+    assert!(rt; report.as_slice().get(..15) == Some(head.as_slice()));
     assert!(rt; !cache.is_open(conn));
     Ok(())
 }
@@ -448,18 +415,15 @@ fn a_number_that_no_connection_has(rt: HostRuntime) -> Result<(), Fail> {
     let mut cache = cache_of(alloc, 5, 2, &[&[V]])?;
     let conn = cache.open()?;
     let other = cache.open()?;
-    assert_eq!(rt; cache.receive(other, &RESET), 8);
+    assert!(rt; cache.receive(other, &RESET) == 8);
     cache.close(conn);
     cache.close(conn);
     let mut out = [7u8; 8];
-    assert_eq!(rt; cache.receive(conn, &RESET), 0);
-    assert_eq!(rt; cache.pull(conn, &mut out), 0);
-    assert_eq!(rt; out, [7u8; 8]);
+    assert!(rt; cache.receive(conn, &RESET) == 0);
+    assert!(rt; cache.pull(conn, &mut out) == 0);
+    assert!(rt; out == [7u8; 8]);
     assert!(rt; !cache.notify(conn) && !cache.is_open(conn) && !cache.has_bytes(conn));
-    assert_eq!(rt;
-        pulled(&mut cache, alloc, other, 64)?.as_slice(),
-        ANSWER.as_slice()
-    );
+    assert!(rt; pulled(&mut cache, alloc, other, 64)?.as_slice() == ANSWER.as_slice());
     assert!(rt; cache.open()? == conn);
     each_has_room(&cache);
     Ok(())
@@ -523,7 +487,7 @@ fn ten_thousand_records_in_pieces(rt: HostRuntime) -> Result<(), Fail> {
     let conn = cache.open()?;
     cache.receive(conn, &RESET);
     let whole = pieces(&mut cache, alloc, conn, 200_032, false)?;
-    assert_eq!(rt; whole.len(), 200_032);
+    assert!(rt; whole.len() == 200_032);
     for size in [1, 4096] {
         cache.receive(conn, &RESET);
         assert!(rt;

@@ -122,7 +122,7 @@ fn longest_units(rt: HostRuntime) -> Result<(), Fail> {
     ];
     for head in heads {
         let mut unit = vec![in rt.alloc(); 7u8; 4096]?;
-        assert_eq!(rt; unit.len(), 4096);
+        assert!(rt; unit.len() == 4096);
         for i in 0..16usize {
             unit[i] = head[i];
         }
@@ -136,41 +136,26 @@ fn longest_units(rt: HostRuntime) -> Result<(), Fail> {
 #[test]
 fn faults(rt: HostRuntime) {
     let version = [0x00, 0x02, 0x00, 0x00, 0x00, 0x00, 0x00, 0x08];
-    assert_eq!(rt;
-        first_fault(true, &version),
-        (Some(UnitFault::Version), 8, 0)
-    );
+    assert!(rt; first_fault(true, &version) == (Some(UnitFault::Version), 8, 0));
     let kind = [0x01, 0x05, 0x00, 0x00, 0x00, 0x00, 0x00, 0x08, 0x01];
-    assert_eq!(rt; first_fault(false, &kind), (Some(UnitFault::Type), 8, 1));
+    assert!(rt; first_fault(false, &kind) == (Some(UnitFault::Type), 8, 1));
     let length = [0x01, 0x04, 0x00, 0x00, 0xff, 0xff, 0xff, 0xff, 0x01];
-    assert_eq!(rt;
-        first_fault(false, &length),
-        (Some(UnitFault::Length), 8, 1)
-    );
+    assert!(rt; first_fault(false, &length) == (Some(UnitFault::Length), 8, 1));
     let long = [0x01, 0x09, 0x00, 0x00, 0xff, 0xff, 0xff, 0xff, 0x01, 0x01];
-    assert_eq!(rt; first_fault(false, &long), (Some(UnitFault::TooLong), 8, 2));
+    assert!(rt; first_fault(false, &long) == (Some(UnitFault::TooLong), 8, 2));
     let record = [
         0x01, 0x04, 0x00, 0x00, 0x00, 0x00, 0x00, 0x14, 0x01, 0x18, 0x17, 0x00, 0xc0, 0x00, 0x02,
         0x00, 0x00, 0x00, 0xfb, 0xf0, 0x01,
     ];
-    assert_eq!(rt;
-        first_fault(false, &record),
-        (Some(UnitFault::Record), 20, 1)
-    );
+    assert!(rt; first_fault(false, &record) == (Some(UnitFault::Record), 20, 1));
     let report = [
         0x01, 0x0a, 0x00, 0x00, 0x00, 0x00, 0x00, 0x10, 0x00, 0x00, 0x00, 0x01, 0x00, 0x00, 0x00,
         0x00,
     ];
-    assert_eq!(rt;
-        first_fault(false, &report),
-        (Some(UnitFault::ErrorReport), 16, 0)
-    );
-    assert_eq!(rt;
-        first_fault(false, &[0x01, 0x02]),
-        (Some(UnitFault::Truncated), 2, 0)
-    );
-    assert_eq!(rt; first_fault(false, &[]), (None, 0, 0));
-    assert_eq!(rt; UnitFault::Truncated.number(), 7);
+    assert!(rt; first_fault(false, &report) == (Some(UnitFault::ErrorReport), 16, 0));
+    assert!(rt; first_fault(false, &[0x01, 0x02]) == (Some(UnitFault::Truncated), 2, 0));
+    assert!(rt; first_fault(false, &[]) == (None, 0, 0));
+    assert!(rt; UnitFault::Truncated.number() == 7);
 }
 
 #[test]
@@ -182,11 +167,8 @@ fn reserved_bits(rt: HostRuntime) -> Result<(), Fail> {
     let mut pieces = Vec::new(rt.alloc());
     pieces.push(unit.as_slice().to_vec(rt.alloc())?)?;
     let (units, fault) = read_all(rt.alloc(), false, pieces.as_slice())?;
-    assert_eq!(rt; fault, None);
-    assert_eq!(rt;
-        written(rt.alloc(), units.as_slice())?.as_slice(),
-        ANNOUNCEMENT.as_slice()
-    );
+    assert!(rt; fault == None);
+    assert!(rt; written(rt.alloc(), units.as_slice())?.as_slice() == ANNOUNCEMENT.as_slice());
     Ok(())
 }
 
@@ -197,9 +179,9 @@ fn a_fault_is_answered_again(rt: HostRuntime) {
     let mut piece = bytes.as_slice();
     assert!(rt; matches!(reader.next(&mut piece), Next::Fault(UnitFault::Version)));
     assert!(rt; matches!(reader.next(&mut piece), Next::Fault(UnitFault::Version)));
-    assert_eq!(rt; piece.len(), 1);
-    assert_eq!(rt; reader.held().len(), 8);
-    assert_eq!(rt; reader.end_of_input(), Some(UnitFault::Version));
+    assert!(rt; piece.len() == 1);
+    assert!(rt; reader.held().len() == 8);
+    assert!(rt; reader.end_of_input() == Some(UnitFault::Version));
 }
 
 #[test]
@@ -281,12 +263,12 @@ fn read_apart(alloc: Global, bytes: &[u8]) -> Result<(Vec<u8>, Option<ReadFault>
 #[test]
 fn units_from_a_reader(rt: HostRuntime) -> Result<(), Fail> {
     let (again, fault) = read_apart(rt.alloc(), &ANSWER)?;
-    assert_eq!(rt; again.as_slice(), ANSWER.as_slice());
-    assert_eq!(rt; fault, None);
+    assert!(rt; again.as_slice() == ANSWER.as_slice());
+    assert!(rt; fault == None);
     let (front, fault) = read_apart(rt.alloc(), &ANSWER[..51])?;
-    assert_eq!(rt; front.as_slice(), &ANSWER[..28]);
-    assert_eq!(rt; fault, Some(ReadFault::Fault(UnitFault::Truncated)));
-    assert_eq!(rt; ReadFault::Fault(UnitFault::Truncated).number(), 7);
+    assert!(rt; front.as_slice() == &ANSWER[..28]);
+    assert!(rt; fault == Some(ReadFault::Fault(UnitFault::Truncated)));
+    assert!(rt; ReadFault::Fault(UnitFault::Truncated).number() == 7);
     Ok(())
 }
 
@@ -295,12 +277,12 @@ fn one_unit_and_no_more(rt: HostRuntime) {
     let mut input = Counted::new(ANSWER.as_slice());
     let first = read_unit(&mut input);
     assert!(rt; matches!(first, Ok(Some(Unit::CacheResponse { session: 0x1234 }))));
-    assert_eq!(rt; *input.device(), &ANSWER[8..]);
-    assert_eq!(rt; (input.calls(), input.failures()), (1, 0));
+    assert!(rt; *input.device() == &ANSWER[8..]);
+    assert!(rt; (input.calls(), input.failures()) == (1, 0));
     let second = read_unit(&mut input);
     assert!(rt; matches!(second, Ok(Some(Unit::Prefix { .. }))));
-    assert_eq!(rt; *input.device(), &ANSWER[28..]);
-    assert_eq!(rt; (input.calls(), input.failures()), (3, 0));
+    assert!(rt; *input.device() == &ANSWER[28..]);
+    assert!(rt; (input.calls(), input.failures()) == (3, 0));
 }
 
 #[test]
@@ -313,19 +295,19 @@ fn a_fault_of_the_header_leaves_the_rest(rt: HostRuntime) {
             Err(ReadFault::Fault(UnitFault::Version))
         )
     );
-    assert_eq!(rt; *input.device(), &bytes[8..]);
-    assert_eq!(rt; (input.calls(), input.failures()), (1, 0));
+    assert!(rt; *input.device() == &bytes[8..]);
+    assert!(rt; (input.calls(), input.failures()) == (1, 0));
 }
 
 #[test]
 fn end_and_failure_of_a_reader(rt: HostRuntime) {
     let mut input = Counted::new([].as_slice());
     assert!(rt; matches!(read_unit(&mut input), Ok(None)));
-    assert_eq!(rt; (input.calls(), input.failures()), (1, 0));
+    assert!(rt; (input.calls(), input.failures()) == (1, 0));
     let mut broken = Counted::new(Broken {});
     assert!(rt; matches!(read_unit(&mut broken), Err(ReadFault::ReadFailed)));
-    assert_eq!(rt; (broken.calls(), broken.failures()), (1, 1));
-    assert_eq!(rt; ReadFault::ReadFailed.number(), 8);
+    assert!(rt; (broken.calls(), broken.failures()) == (1, 1));
+    assert!(rt; ReadFault::ReadFailed.number() == 8);
 }
 
 #[test]
@@ -336,20 +318,17 @@ fn units_to_a_writer(rt: HostRuntime) -> Result<(), Fail> {
     };
     let mut whole = Counted::new(Vec::new(rt.alloc()));
     assert!(rt; write_unit(&query, &mut whole).is_ok());
-    assert_eq!(rt; whole.device().as_slice(), SERIAL_QUERY.as_slice());
-    assert_eq!(rt; (whole.calls(), whole.failures()), (1, 0));
+    assert!(rt; whole.device().as_slice() == SERIAL_QUERY.as_slice());
+    assert!(rt; (whole.calls(), whole.failures()) == (1, 0));
     for calls in [12u8, 5, 0] {
         let mut out = Counted::new(Narrow {
             taken: Vec::new(rt.alloc()),
             calls,
         });
         let written = write_unit(&query, &mut out);
-        assert_eq!(rt; written.is_ok(), calls == 12);
-        assert_eq!(rt;
-            out.device().taken.as_slice(),
-            &SERIAL_QUERY[..usize::from(calls)]
-        );
-        assert_eq!(rt; out.failures(), if calls == 12 { 0 } else { 1 });
+        assert!(rt; written.is_ok() == (calls == 12));
+        assert!(rt; out.device().taken.as_slice() == &SERIAL_QUERY[..usize::from(calls)]);
+        assert!(rt; out.failures() == (if calls == 12 { 0 } else { 1 }));
     }
     Ok(())
 }
@@ -358,5 +337,5 @@ fn units_to_a_writer(rt: HostRuntime) -> Result<(), Fail> {
 fn a_writer_that_takes_nothing(rt: HostRuntime) {
     let mut full = Counted::new(ArrayVec::<u8, 0>::new());
     assert!(rt; write_unit(&Unit::ResetQuery, &mut full).is_err());
-    assert_eq!(rt; (full.calls(), full.failures()), (1, 1));
+    assert!(rt; (full.calls(), full.failures()) == (1, 1));
 }

@@ -41,7 +41,7 @@ fn sets_ascend(rt: HostRuntime) -> Result<(), Fail> {
         ("192.0.2.0/24", 24, 1),
         ("2001:db8::/32", 48, 1),
     ];
-    assert_eq!(rt; set.len(), ascending.len());
+    assert!(rt; set.len() == ascending.len());
     assert!(rt; !set.is_empty());
     assert!(rt; VrpSet::empty(rt.alloc()).is_empty());
     for (vrp, (text, max_len, asn)) in set.iter().zip(ascending) {
@@ -126,9 +126,9 @@ fn changes_apply_to_any_set(rt: HostRuntime) -> Result<(), Fail> {
 
 #[test]
 fn faults_are_numbered(rt: HostRuntime) {
-    assert_eq!(rt; SetFault::TooMany.number(), 1);
-    assert_eq!(rt; SetFault::Memory.number(), 2);
-    assert_eq!(rt; PathFault::EmptySequence.number(), 1);
+    assert!(rt; SetFault::TooMany.number() == 1);
+    assert!(rt; SetFault::Memory.number() == 2);
+    assert!(rt; PathFault::EmptySequence.number() == 1);
 }
 
 #[test]
@@ -162,7 +162,7 @@ fn routes_have_states(rt: HostRuntime) -> Result<(), Fail> {
     ] {
         let index = OriginIndex::over(rt.alloc(), set)?;
         let prefix = IpPrefix::parse(text)?;
-        assert_eq!(rt; index.state(&Route { prefix, origin }), want, "{text}");
+        assert!(rt; index.state(&Route { prefix, origin }) == want, "{text}");
     }
     Ok(())
 }
@@ -175,9 +175,8 @@ fn serials_go_round(rt: HostRuntime) {
         (5, 5, false),
         (4294967295, 0, true),
     ] {
-        assert_eq!(rt;
-            Serial(earlier).is_before(Serial(later)),
-            want,
+        assert!(rt;
+            Serial(earlier).is_before(Serial(later)) == want,
             "{earlier} {later}"
         );
     }
@@ -303,7 +302,7 @@ fn expect_states<R: AllocGlobal + Abort>(
     let index = OriginIndex::over(rt.alloc(), &set_of(rt.alloc(), records)?)?;
     for &(text, origin, want) in table {
         let prefix = IpPrefix::parse(text)?;
-        assert_eq!(rt; index.state(&Route { prefix, origin }), want, "{text}");
+        assert!(rt; index.state(&Route { prefix, origin }) == want, "{text}");
     }
     Ok(())
 }
@@ -433,7 +432,7 @@ fn expect_changes<R: AllocGlobal + Abort, S: VersionStore>(
     log: &mut S,
 ) -> Result<(), Fail> {
     let alloc = rt.alloc();
-    assert_eq!(rt; log.session(), 0x1234);
+    assert!(rt; log.session() == 0x1234);
     assert!(rt; log.current().is_none());
     assert!(rt; matches!(log.since(Serial(4))?, Since::NoData));
     let published: [(Rows, Published); 5] = [
@@ -567,7 +566,7 @@ fn few_groups_are_read(rt: HostRuntime) -> Result<(), Fail> {
         let prefix = IpPrefix::parse(text)?;
         let origin = Some(1);
         let (state, probes) = index.state_counted(&Route { prefix, origin });
-        assert_eq!(rt; state, want, "{text}");
+        assert!(rt; state == want, "{text}");
         assert!(rt; probes <= most, "{text}: {probes}");
     }
     Ok(())
@@ -577,8 +576,8 @@ fn expect_no_reading<R: AllocGlobal + Abort>(rt: &R, index: &OriginIndex) -> Res
     let prefix = IpPrefix::parse("10.0.0.0/8")?;
     let origin = Some(1);
     let (state, probes) = index.state_counted(&Route { prefix, origin });
-    assert_eq!(rt; state, OriginState::NotFound);
-    assert_eq!(rt; probes, 0);
+    assert!(rt; state == OriginState::NotFound);
+    assert!(rt; probes == 0);
     Ok(())
 }
 
@@ -599,7 +598,7 @@ fn gathered_records_make_a_set(rt: HostRuntime) -> Result<(), Fail> {
     assert!(rt; gathered.insert(v)?);
     assert!(rt; !gathered.insert(w)?);
     assert!(rt; gathered.contains(&v));
-    assert_eq!(rt; gathered.len(), 2);
+    assert!(rt; gathered.len() == 2);
     let set = gathered.into_set(alloc)?;
     assert!(rt; set.is_same(&set_of(alloc, &[V, W])?));
     Ok(())
