@@ -21,6 +21,7 @@ fn writes_what_it_reads(rt: HostRuntime) -> Result<(), Fail> {
             return Ok(());
         };
         assert!(rt; moment.to_string(rt.alloc())?.as_str() == text);
+        assert!(rt; moment.text().as_slice() == text.as_bytes());
     }
     Ok(())
 }

@@ -235,3 +235,58 @@ fn keeps_what_is_in_use(rt: HostRuntime) -> Result<(), Fail> {
     }
     Ok(())
 }
+
+#[test]
+fn judges_the_least_file_and_its_first_fault(rt: HostRuntime) {
+    let alloc = rt.alloc();
+    let roa = file("a.roa", ROA);
+    let listed: &[(&str, &[u8])] = &[("a.roa", ROA)];
+    let both: &[(&str, &[u8])] = &[("a.roa", ROA), ("b.roa", ROA)];
+    // The hash of the first listed file is judged before the second, which is missing, and so is its content.
+    assert!(rt;
+        at_noon(alloc, 2, NOON, both, &[file("a.roa", WITH_VERSION)]) == Some((8, Some(0)))
+    );
+    assert!(rt;
+        at_noon(
+            alloc,
+            2,
+            NOON,
+            &[("a.roa", WITH_VERSION), ("b.roa", ROA)],
+            &[file("a.roa", WITH_VERSION), file("b.roa", WITH_VERSION)]
+        ) == Some((9, Some(0)))
+    );
+    // Two files of one name come before all that is listed, also where neither is listed, and where they are equal.
+    assert!(rt; at_noon(alloc, 2, NOON, both, &[roa, roa]) == Some((6, Some(1))));
+    let other = file("x", b"");
+    assert!(rt; at_noon(alloc, 2, NOON, listed, &[roa, other, other, roa]) == Some((6, Some(2))));
+    // The object is hashed, and the content is read.
+    let signed = FileIn {
+        name: "a.roa",
+        object: b"signed",
+        content: ROA,
+    };
+    assert!(rt; at_noon(alloc, 2, NOON, &[("a.roa", b"signed")], &[signed]) == Some((0, None)));
+}
+
+#[test]
+fn uses_a_point_until_its_next_update(rt: HostRuntime) -> Result<(), Fail> {
+    let alloc = rt.alloc();
+    let mut repository = Repository::new(alloc);
+    if let (Some(early), Some(noon), Some(end), Some(late)) = (
+        Moment::parse("20241231235959Z"),
+        Moment::parse(NOON),
+        Moment::parse("20250102000000Z"),
+        Moment::parse("20250102000001Z"),
+    ) {
+        assert!(rt;
+            repository.offer("one", FIRST, &[file("a.roa", ROA)], noon) == Ok(Offered::New)
+        );
+        // nextUpdate alone is looked at, and an offer that is refused, here as too late, takes nothing away.
+        assert!(rt; repository.payloads(early)?.len() == 1);
+        assert!(rt; repository.offer("one", FIRST, &[], late) == Err(PointFault::Stale));
+        assert!(rt; repository.payloads(end)?.len() == 1);
+    } else {
+        assert!(rt; false);
+    }
+    Ok(())
+}

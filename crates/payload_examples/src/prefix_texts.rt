@@ -1,4 +1,4 @@
-use prefixes::{Asn, IpPrefix, PrefixFault, Vrp};
+use prefixes::{Asn, Family, IpPrefix, PrefixFault, V4, V6, Vrp};
 use std::test::Fail;
 
 #[test]
@@ -187,4 +187,10 @@ fn shorter_prefixes_cover_longer_ones(rt: HostRuntime) {
             _ => assert!(rt; false, "{text} {other}"),
         }
     }
+}
+
+#[test]
+fn families_have_their_numbers(rt: HostRuntime) {
+    assert!(rt; (V4::WIDTH, V4::AFI) == (32, 1));
+    assert!(rt; (V6::WIDTH, V6::AFI) == (128, 2));
 }

@@ -210,6 +210,7 @@ fn agreement_within_a_unit(rt: HostRuntime) {
 struct Narrow {
     taken: Vec<u8>,
     calls: u8,
+    is_flushed: bool,
 }
 
 impl Write for Narrow {
@@ -228,6 +229,7 @@ impl Write for Narrow {
     }
 
     fn flush(&mut self) -> io::Result<()> {
+        self.is_flushed = true;
         Ok(())
     }
 }
@@ -324,6 +326,7 @@ fn units_to_a_writer(rt: HostRuntime) -> Result<(), Fail> {
         let mut out = Counted::new(Narrow {
             taken: Vec::new(rt.alloc()),
             calls,
+            is_flushed: false,
         });
         let written = write_unit(&query, &mut out);
         assert!(rt; written.is_ok() == (calls == 12));
@@ -338,4 +341,16 @@ fn a_writer_that_takes_nothing(rt: HostRuntime) {
     let mut full = Counted::new(ArrayVec::<u8, 0>::new());
     assert!(rt; write_unit(&Unit::ResetQuery, &mut full).is_err());
     assert!(rt; (full.calls(), full.failures()) == (1, 1));
+}
+
+#[test]
+fn a_flush_is_handed_on(rt: HostRuntime) {
+    let mut out = Counted::new(Narrow {
+        taken: Vec::new(rt.alloc()),
+        calls: 1,
+        is_flushed: false,
+    });
+    assert!(rt; out.flush().is_ok());
+    assert!(rt; out.device().is_flushed);
+    assert!(rt; out.failures() == 0);
 }
