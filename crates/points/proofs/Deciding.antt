@@ -1,5 +1,5 @@
 -- What decides an offer whose manifest is spelled.
-use Rattle.std.proofs.Common.{◌≡◌, ℕ, Bool, true, false, List, [], ◌∷◌, ◌++◌, Option, Some, None, IfSome, refl, sym, subst, ◌∙◌, inl, inr}
+use Rattle.std.proofs.Common.{◌≡◌, ℕ, Bool, true, false, List, [], ◌∷◌, ◌++◌, Option, Some, None, IfSome, refl, sym, ◌∙◌}
 use Rattle.der_lite.specs.Place.{Fault}
 use Rattle.der_lite.specs.Moments.{CivilMoment}
 use Rattle.payloads.specs.Manifest.{ManifestValue, ManifestSpells, ManifestFaultAt}
@@ -7,8 +7,10 @@ use Rattle.points.specs.declared.file.FileIn.{FileIn}
 use Rattle.points.specs.declared.fault.PointFault.{PointFault}
 use Rattle.points.specs.Accepted.{Accepted}
 use Rattle.points.specs.Answers.{told_by_fault}
-use Rattle.points.specs.Offers.{Judgement, BadManifest, first_that_holds, manifest_tests, twice_tests, tests, Decided, FromFile, Judged}
-use Rattle.points.specs.Steps.{Tells}
+use Rattle.points.specs.Offers.{Judgement, BadManifest, first_that_holds, manifest_tests, twice_tests, tests, Judged}
+use Rattle.points.specs.Offers as offers
+use Rattle.points.specs.Steps.{FromFile, Tells}
+use Rattle.points.proofs.InSteps.{to_first}
 use Rattle.points.proofs.Taking.{tells}
 
 front_decides : (ts us : List (Judgement × Bool)) (j : Judgement) → first_that_holds ts ≡ Some j → first_that_holds (ts ++ us) ≡ Some j
@@ -24,17 +26,12 @@ rest_decides ((k, false) ∷ ts) us h = rest_decides ts us h
 -- a manifest that is not spelled
 pub unspelled : (before : Option Accepted) (bytes : List ℕ) (files : List FileIn) (now : CivilMoment) (fault : PointFault)
     → Tells fault (λ j. (first : Fault) × ManifestFaultAt bytes first.offset first.number × (j ≡ BadManifest first)) → Tells fault (Judged before bytes files now)
-unfolding Judged
 unspelled before bytes files now fault h =
-    tells fault (λ j. (first : Fault) × ManifestFaultAt bytes first.offset first.number × (j ≡ BadManifest first)) (Judged before bytes files now) (λ j bad. inl bad) h
+    tells fault (λ j. (first : Fault) × ManifestFaultAt bytes first.offset first.number × (j ≡ BadManifest first)) (Judged before bytes files now) (λ j bad. offers.unspelled bad.0 bad.1 bad.2) h
 
 module _ (before : Option Accepted) (m : ManifestValue) (bytes : List ℕ) (files : List FileIn) (now : CivilMoment) (spelled : ManifestSpells m bytes) where
-  decided : (j : Judgement) → Decided (first_that_holds (tests before m bytes files now)) j (FromFile 0 m.files files j) → Judged before bytes files now j
-  unfolding Judged
-  decided j d = inr (m, spelled, d)
-
   by_test : (j : Judgement) → first_that_holds (tests before m bytes files now) ≡ Some j → Judged before bytes files now j
-  by_test j h = decided j (subst (λ (r : Option Judgement). Decided r j (FromFile 0 m.files files j)) (sym h) refl)
+  by_test j h = offers.by_test m spelled h
 
   -- a test of the manifest
   pub by_manifest : (j : Judgement) → first_that_holds (manifest_tests before m bytes now) ≡ Some j → Judged before bytes files now j
@@ -62,7 +59,7 @@ module _ (before : Option Accepted) (m : ManifestValue) (bytes : List ℕ) (file
 
       -- a file that is listed, or New
       pub by_file : (j : Judgement) → FromFile 0 m.files files j → Judged before bytes files now j
-      by_file j h = decided j (subst (λ (r : Option Judgement). Decided r j (FromFile 0 m.files files j)) (sym none) h)
+      by_file j h = offers.by_files m spelled none (to_first 0 m.files files j h)
 
       pub by_files : (fault : PointFault) → Tells fault (FromFile 0 m.files files) → Tells fault (Judged before bytes files now)
       by_files fault h = tells fault (FromFile 0 m.files files) (Judged before bytes files now) by_file h

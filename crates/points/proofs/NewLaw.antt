@@ -14,7 +14,9 @@ use Rattle.payloads.proofs.ManifestLaws.{manifest_spellings}
 use Rattle.points.specs.declared.file.FileIn.{FileIn}
 use Rattle.points.specs.Files.{is_roa_name, is_named, file_named, has_hash}
 use Rattle.points.specs.Accepted.{Accepted, IsPoint}
-use Rattle.points.specs.Offers.{IsAbove, ShareNoName, Serves, Acceptable, Judgement, New, Same, NotYet, Stale, OldNumber, OldTime, FileTwice, first_that_holds, is_same, is_old_number, is_old_time, twice_tests, tests, Decided, AtContent, AtHash, AtFile, FromFile, Judged}
+use Rattle.points.specs.Offers.{IsAbove, ShareNoName, Serves, Acceptable, Judgement, New, Same, NotYet, Stale, OldNumber, OldTime, FileTwice, first_that_holds, is_same, is_old_number, is_old_time, twice_tests, tests}
+use Rattle.points.specs.Steps.{Decided, AtContent, AtHash, AtFile, FromFile, JudgedInSteps}
+use Rattle.points.proofs.InSteps.{judged_in_steps, judged_so}
 use Rattle.points.specs.Laws.{NewWhereAcceptable}
 use Rattle.points.proofs.Named.{differs, not_equal, contains_cases, named_more, found}
 
@@ -226,17 +228,17 @@ none_hold before bytes files now p a =
     (never_twice 0 [] files (λ k d l. refl) a.apart)))))
 
 pub new_law : NewWhereAcceptable
-unfolding Judged
+unfolding JudgedInSteps
 new_law before bytes files now p = (
-  (λ j. elim j [
+  (λ j. elim (judged_in_steps before bytes files now New j) [
     | inl b ↦ absurd (let h = b.2 in cc)
     | inr k ↦
         let n = new_is_last (tests before k.0 bytes files now) (FromFile 0 k.0.files files New) (never before k.0 bytes files now) k.2 in
         accepts before k.0 bytes files now k.1 n.0 n.1
   ]),
-  (λ a. inr (
+  (λ a. judged_so before bytes files now New (inr (
     a.manifest,
     a.spelled,
     subst (λ (r : Option Judgement). Decided r New (FromFile 0 a.manifest.files files New)) (sym (none_hold before bytes files now p a)) (serve_files 0 a.manifest.files files a.apart a.served),
-  )),
+  ))),
 )

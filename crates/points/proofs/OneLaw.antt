@@ -6,7 +6,9 @@ use Rattle.payloads.proofs.RoaLaws.{roa_faults}
 use Rattle.payloads.proofs.ManifestLaws.{manifest_faults, manifest_spellings}
 use Rattle.points.specs.declared.file.FileIn.{FileIn}
 use Rattle.points.specs.Files.{is_roa_name, file_named, has_hash}
-use Rattle.points.specs.Offers.{Judgement, BadManifest, BadRoa, first_that_holds, tests, Decided, AtContent, AtHash, AtFile, FromFile, Judged}
+use Rattle.points.specs.Offers.{Judgement, BadManifest, BadRoa, first_that_holds, tests}
+use Rattle.points.specs.Steps.{Decided, AtContent, AtHash, AtFile, FromFile, JudgedInSteps}
+use Rattle.points.proofs.InSteps.{judged_in_steps}
 use Rattle.points.specs.Laws.{OneJudgement}
 
 fault_is : (f g : Fault) → f.offset ≡ g.offset → f.number ≡ g.number → f ≡ g
@@ -48,16 +50,16 @@ files_one i (l ∷ others) files j k a b =
     file_one i l (file_named l.name files) j k (FromFile (suc i) others files j) (FromFile (suc i) others files k) (files_one (suc i) others files j k) a b
 
 pub one_judged : OneJudgement
-unfolding Judged
+unfolding JudgedInSteps
 one_judged before bytes files now j k a b =
-    elim a [
-      | inl x ↦ elim b [
+    elim (judged_in_steps before bytes files now j a) [
+      | inl x ↦ elim (judged_in_steps before bytes files now k b) [
         | inl y ↦
             let e = manifest_faults.0 bytes x.0.offset y.0.offset x.0.number y.0.number x.1 y.1 in
             x.2 ∙ ap (λ (t : Fault). BadManifest t) (fault_is x.0 y.0 e.0 e.1) ∙ sym y.2
         | inr y ↦ absurd (manifest_faults.1 bytes x.0.offset x.0.number y.0 x.1 y.1)
       ]
-      | inr x ↦ elim b [
+      | inr x ↦ elim (judged_in_steps before bytes files now k b) [
         | inl y ↦ absurd (manifest_faults.1 bytes y.0.offset y.0.number x.0 y.1 x.1)
         | inr y ↦
             let same : x.0 ≡ y.0 = manifest_spellings.1 bytes x.0 y.0 x.1 y.1 in

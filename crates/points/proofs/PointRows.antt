@@ -2,10 +2,11 @@
 use Rattle.std.proofs.Common.{◌≡◌, ℕ, true, false, Bor, List, [], ◌∷◌, Option, Some, None, refl, replicate}
 use Rattle.der_lite.specs.Moments.{CivilMoment, told, moment_before}
 use Rattle.payloads.specs.Manifest.{ManifestValue}
+use Rattle.points.specs.Steps.{FromFile}
 use Rattle.points.specs.declared.file.FileIn.{FileIn}
 use Rattle.points.specs.Files.{is_roa_name}
 use Rattle.points.specs.Accepted.{Accepted}
-use Rattle.points.specs.Offers.{Judgement, Same, NotYet, Stale, OldNumber, OldTime, FileTwice, Missing, first_that_holds, tests, FromFile}
+use Rattle.points.specs.Offers.{Judgement, Same, NotYet, Stale, OldNumber, OldTime, FileTwice, Missing, first_that_holds, tests}
 
 -- a.roa
 abbrev a_roa : List ℕ

@@ -12,8 +12,8 @@ use Rattle.points.specs.declared.fault.PointFault.{PointFault}
 use Rattle.points.specs.Files.{is_roa_name, file_named, has_hash}
 use Rattle.points.specs.Accepted.{IsRoaOf, listed_roas}
 use Rattle.points.specs.Answers.{told_by_fault}
-use Rattle.points.specs.Offers.{Judgement, BadRoa, AtContent, AtHash, AtFile, FromFile}
-use Rattle.points.specs.Steps.{Tells}
+use Rattle.points.specs.Offers.{Judgement, BadRoa}
+use Rattle.points.specs.Steps.{AtContent, AtFile, AtHash, FromFile, Tells}
 use Rattle.points.proofs.Named.{found}
 
 weaker : (o : Option Judgement) (P Q : Judgement → Type 0) → ((j : Judgement) → P j → Q j) → IfSome o P → IfSome o Q

@@ -1,5 +1,5 @@
 -- Which offers to a publication point are acceptable, and how each is judged (RFC 9286, sections 4.2.1 and 6).
-use Rattle.std.specs.Prelude.{◌≡◌, ◌≢◌, ◌⊎◌, ℕ, suc, ◌<◌, Bool, true, false, not, nat_le, bytes_eq, if◌then◌else◌, List, [], ◌∷◌, ◌++◌, Option, Some, None, IsTrue, ⊤}
+use Rattle.std.specs.Prelude.{◌≡◌, ◌≢◌, ◌⊎◌, ℕ, suc, ◌<◌, Bool, true, false, not, nat_le, bytes_eq, if◌then◌else◌, List, [], ◌∷◌, ◌++◌, ◌+◌, length, Option, Some, None, IsTrue, ⊤}
 use Rattle.std.specs.List.{All, AllPairs, Contains}
 use Rattle.sha2.specs.Sha256.{sha256}
 use Rattle.der_lite.specs.Place.{Fault}
@@ -96,38 +96,49 @@ twice_tests i earlier (file ∷ files) = (FileTwice i, is_named file.name.now ea
 unfoldable pub tests : Option Accepted → ManifestValue → List ℕ → List FileIn → CivilMoment → List (Judgement × Bool)
 tests before m bytes files now = manifest_tests before m bytes now ++ twice_tests 0 [] files
 
--- what the tests decide, or else what is later
-abbrev pub Decided : Option Judgement → Judgement → Type 0 → Type 0
-Decided (Some first) judgement Later = judgement ≡ first
-Decided None judgement Later = Later
+-- Nothing is wrong with a listed file: the file of its name has the hash, and the content of a ROA is spelled.
+pub record IsRight (files : List FileIn) (listed : ListedFile) : Type 0 where
+  pub file : FileIn
+  pub named : file_named listed.name files ≡ Some file
+  pub hashed : has_hash listed file ≡ true
+  pub spelled : is_roa_name listed.name ≡ true → (roa : RoaValue) × RoaSpells roa file.content.now
 
--- the content of listed file i, which is a ROA or not: its first fault, or else what is later
-abbrev pub AtContent : ℕ → Bool → List ℕ → Judgement → Type 0 → Type 0
-AtContent i false content judgement Later = Later
-AtContent i true content judgement Later =
-    ((fault : Fault) × RoaFaultAt content fault.offset fault.number × (judgement ≡ BadRoa i fault))
-    ⊎ (((roa : RoaValue) × RoaSpells roa content) × Later)
+-- The file of its name has another hash.
+pub record HasOtherHash (files : List FileIn) (listed : ListedFile) : Type 0 where
+  pub file : FileIn
+  pub named : file_named listed.name files ≡ Some file
+  pub differs : has_hash listed file ≡ false
 
--- the hash of listed file i, which is the object's or not
-abbrev pub AtHash : ℕ → Bool → Judgement → Type 0 → Type 0
-AtHash i false judgement Later = judgement ≡ HashDiffers i
-AtHash i true judgement Later = Later
+-- The file of its name has the hash, and its content, that of a ROA, has this first fault.
+pub record HasBadRoa (files : List FileIn) (listed : ListedFile) (fault : Fault) : Type 0 where
+  pub file : FileIn
+  pub named : file_named listed.name files ≡ Some file
+  pub hashed : has_hash listed file ≡ true
+  pub is_roa : is_roa_name listed.name ≡ true
+  pub first : RoaFaultAt file.content.now fault.offset fault.number
 
--- listed file i, with the file of its name, if there is one
-abbrev pub AtFile : ℕ → ListedFile → Option FileIn → Judgement → Type 0 → Type 0
-AtFile i listed None judgement Later = judgement ≡ Missing i
-AtFile i listed (Some file) judgement Later =
-    AtHash i (has_hash listed file) judgement (AtContent i (is_roa_name listed.name) file.content.now judgement Later)
+-- This is wrong with listed file i.
+abbrev pub IsWrong : List FileIn → ℕ → ListedFile → Judgement → Type 0
+IsWrong files i listed (Missing n) = (n ≡ i) × (file_named listed.name files ≡ None)
+IsWrong files i listed (HashDiffers n) = (n ≡ i) × HasOtherHash files listed
+IsWrong files i listed (BadRoa n fault) = (n ≡ i) × HasBadRoa files listed fault
+IsWrong files i listed judgement = ⊥
 
--- the listed files, from i on: the first at which something is wrong, or New
-abbrev pub FromFile : ℕ → List ListedFile → List FileIn → Judgement → Type 0
-FromFile i [] files judgement = judgement ≡ New
-FromFile i (listed ∷ others) files judgement =
-    AtFile i listed (file_named listed.name files) judgement (FromFile (suc i) others files judgement)
+-- The first listed file that is not right is wrong in this way. Files are counted from i.
+pub record FirstWrong (i : ℕ) (listed : List ListedFile) (files : List FileIn) (judgement : Judgement) : Type 0 where
+  pub right : List ListedFile
+  pub wrong : ListedFile
+  pub others : List ListedFile
+  pub parts : listed ≡ right ++ wrong ∷ others
+  pub before : All (IsRight files) right
+  pub is : IsWrong files (i + length right) wrong judgement
 
--- The manifest is not spelled; or else the first test that holds decides, and where none does, the listed files.
-unfoldable pub Judged : Option Accepted → List ℕ → List FileIn → CivilMoment → Judgement → Type 0
-Judged before bytes files now judgement =
-    ((fault : Fault) × ManifestFaultAt bytes fault.offset fault.number × (judgement ≡ BadManifest fault))
-    ⊎ ((m : ManifestValue) × ManifestSpells m bytes
-    × Decided (first_that_holds (tests before m bytes files now)) judgement (FromFile 0 m.files files judgement))
+-- The first that is wrong decides; where none is, the offer is New.
+abbrev pub FromFiles : ℕ → List ListedFile → List FileIn → Judgement → Type 0
+FromFiles i listed files judgement = FirstWrong i listed files judgement ⊎ (All (IsRight files) listed × (judgement ≡ New))
+
+-- The manifest is not spelled; or else the first test that holds decides; or else the listed files.
+pub data Judged (before : Option Accepted) (bytes : List ℕ) (files : List FileIn) (now : CivilMoment) (judgement : Judgement) : Type 0 where
+  unspelled : (fault : Fault) → ManifestFaultAt bytes fault.offset fault.number → judgement ≡ BadManifest fault → Judged before bytes files now judgement
+  by_test : (m : ManifestValue) → ManifestSpells m bytes → first_that_holds (tests before m bytes files now) ≡ Some judgement → Judged before bytes files now judgement
+  by_files : (m : ManifestValue) → ManifestSpells m bytes → first_that_holds (tests before m bytes files now) ≡ None → FromFiles 0 m.files files judgement → Judged before bytes files now judgement

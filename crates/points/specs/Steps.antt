@@ -1,5 +1,5 @@
 -- What the steps of judging give.
-use Rattle.std.specs.Prelude.{◌≡◌, ℕ, suc, Bool, true, false, List, ◌∷◌, Option, Some, None, Result, Ok, Err, IfSome, MatchOption}
+use Rattle.std.specs.Prelude.{◌≡◌, ◌⊎◌, ℕ, suc, Bool, true, false, List, [], ◌∷◌, Option, Some, None, Result, Ok, Err, IfSome, MatchOption}
 use Rattle.std.specs.List.{AllZip}
 use Rattle.der_lite.specs.Place.{Fault}
 use Rattle.der_lite.specs.Moments.{CivilMoment}
@@ -7,10 +7,46 @@ use Rattle.payloads.specs.Manifest.{ListedFile, ManifestValue, ManifestSpells, M
 use Rattle.payloads.specs.RoaValues.{RoaValue, RoaSpells, RoaFaultAt}
 use Rattle.points.specs.declared.file.FileIn.{FileIn}
 use Rattle.points.specs.declared.fault.PointFault.{PointFault}
-use Rattle.points.specs.Files.{is_roa_name}
+use Rattle.points.specs.Files.{is_roa_name, file_named, has_hash}
 use Rattle.points.specs.Accepted.{Accepted, IsRoaOf, Holds, listed_roas}
-use Rattle.points.specs.Offers.{Judgement, New, Same, BadManifest, BadRoa, FromFile, Judged}
+use Rattle.points.specs.Offers.{Judgement, New, Same, BadManifest, Missing, HashDiffers, BadRoa, Judged, first_that_holds, tests}
 use Rattle.points.specs.Answers.{told_by_fault}
+
+-- what the tests decide, or else what is later
+abbrev pub Decided : Option Judgement → Judgement → Type 0 → Type 0
+Decided (Some first) judgement Later = judgement ≡ first
+Decided None judgement Later = Later
+
+-- the content of listed file i, which is a ROA or not: its first fault, or else what is later
+abbrev pub AtContent : ℕ → Bool → List ℕ → Judgement → Type 0 → Type 0
+AtContent i false content judgement Later = Later
+AtContent i true content judgement Later =
+    ((fault : Fault) × RoaFaultAt content fault.offset fault.number × (judgement ≡ BadRoa i fault))
+    ⊎ (((roa : RoaValue) × RoaSpells roa content) × Later)
+
+-- the hash of listed file i, which is the object's or not
+abbrev pub AtHash : ℕ → Bool → Judgement → Type 0 → Type 0
+AtHash i false judgement Later = judgement ≡ HashDiffers i
+AtHash i true judgement Later = Later
+
+-- listed file i, with the file of its name, if there is one
+abbrev pub AtFile : ℕ → ListedFile → Option FileIn → Judgement → Type 0 → Type 0
+AtFile i listed None judgement Later = judgement ≡ Missing i
+AtFile i listed (Some file) judgement Later =
+    AtHash i (has_hash listed file) judgement (AtContent i (is_roa_name listed.name) file.content.now judgement Later)
+
+-- the listed files, from i on: the first at which something is wrong, or New
+abbrev pub FromFile : ℕ → List ListedFile → List FileIn → Judgement → Type 0
+FromFile i [] files judgement = judgement ≡ New
+FromFile i (listed ∷ others) files judgement =
+    AtFile i listed (file_named listed.name files) judgement (FromFile (suc i) others files judgement)
+
+-- The manifest is not spelled; or else the first test that holds decides, and where none does, the listed files. It is `Judged`, said step by step.
+unfoldable pub JudgedInSteps : Option Accepted → List ℕ → List FileIn → CivilMoment → Judgement → Type 0
+JudgedInSteps before bytes files now judgement =
+    ((fault : Fault) × ManifestFaultAt bytes fault.offset fault.number × (judgement ≡ BadManifest fault))
+    ⊎ ((m : ManifestValue) × ManifestSpells m bytes
+    × Decided (first_that_holds (tests before m bytes files now)) judgement (FromFile 0 m.files files judgement))
 
 -- a fault that tells a judgement tells one of which this holds
 abbrev pub Tells : PointFault → (Judgement → Type 0) → Type 0

@@ -3,8 +3,8 @@ use Rattle.std.specs.List.{AllZip}
 use Rattle.std.proofs.lemmas.Result.{err_from_is_err_and}
 use Rattle.payloads.specs.Manifest.{ListedFile}
 use Rattle.points.specs.Accepted.{IsRoaOf, listed_roas}
-use Rattle.points.specs.Offers.{New, Same, FromFile}
-use Rattle.points.specs.Steps.{Tells}
+use Rattle.points.specs.Offers.{New, Same}
+use Rattle.points.specs.Steps.{FromFile, Tells}
 use Rattle.points.proofs.Deciding.{unspelled, by_told, by_manifest, by_twice, by_file, by_files}
 use Rattle.points.proofs.judging.judge.Goals as goal
 

@@ -1,9 +1,10 @@
 use Rattle.std.proofs.Common.{List, take, drop}
 use Rattle.std.specs.List.{AllZip}
+use Rattle.points.specs.Steps.{FromFile}
 use Rattle.points.specs.declared.file.FileIn.{FileIn}
 use Rattle.points.specs.Accepted.{IsRoaOf, listed_roas}
 use Rattle.points.specs.Finding.{AreFiles}
-use Rattle.points.specs.Offers.{Judgement, FromFile}
+use Rattle.points.specs.Offers.{Judgement}
 use Rattle.points.proofs.judging.take_files.Given as goal
 
 -- nothing is wrong with the files so far, and these are their ROAs

@@ -14,6 +14,18 @@ returns-in_err-accepted-clause-exact c =
     rw (p.1, p.2) (fault_is_not c.args.self.now c.args.manifest.now c.args.files.now c.args.now held c.in_err-accepted.field-0.0
     (subst (λ (b : Option Accepted). Tells c.in_err-accepted.field-0.0 (Judged b c.args.manifest.now c.args.files.now c.args.now)) before c.in_err-accepted.ensures.value))
 
+pub returns-in-Some-clause-judged : goal.returns-in-Some-clause-judged
+returns-in-Some-clause-judged c =
+    let before = c.as_ref.ensures.value ∙ c.self.view_is in
+    let takes = subst (λ (b : Option Accepted). Takes (Ok c.in_ok-accepted.field-0) b c.args.manifest.now c.args.files.now c.args.now) before c.in_ok-accepted.ensures.value in
+    (subst (λ (r : Option Accepted). Takes (Ok r) c.args.self.now c.args.manifest.now c.args.files.now c.args.now) c.in-Some.is takes).0
+
+pub returns-in-None-clause-judged : goal.returns-in-None-clause-judged
+returns-in-None-clause-judged c =
+    let before = c.as_ref.ensures.value ∙ c.self.view_is in
+    let takes = subst (λ (b : Option Accepted). Takes (Ok c.in_ok-accepted.field-0) b c.args.manifest.now c.args.files.now c.args.now) before c.in_ok-accepted.ensures.value in
+    subst (λ (r : Option Accepted). Takes (Ok r) c.args.self.now c.args.manifest.now c.args.files.now c.args.now) c.in-None.is takes
+
 pub returns-in-Some-clause-exact : goal.returns-in-Some-clause-exact
 returns-in-Some-clause-exact c =
     let before = c.as_ref.ensures.value ∙ c.self.view_is in
