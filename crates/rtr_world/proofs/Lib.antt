@@ -15,6 +15,7 @@ pub mod OneAnswers
 pub mod Places
 pub mod Rests
 pub mod RouterSteps
+pub mod Runs
 pub mod Seen
 pub mod SideLaws
 pub mod SideSteps

@@ -1,5 +1,5 @@
 -- What holds after every list of events.
-use Rattle.std.specs.Prelude.{◌≡◌, ℕ, List, ◌∷◌, drop, Option, Some, None, ⊤, zero, suc, map}
+use Rattle.std.specs.Prelude.{◌≡◌, ℕ, List, [], ◌∷◌, drop, Option, Some, None, ⊤, zero, suc, map}
 use Rattle.std.specs.List.{AllByRecursion}
 use Rattle.prefixes.specs.declared.route.Route.{Route}
 use Rattle.vrps.specs.Instance.{Instance, named}
@@ -8,8 +8,8 @@ use Rattle.vrps.specs.VrpSet.{VrpSet, empty}
 use Rattle.vrps.specs.declared.origin.OriginState.{OriginState}
 use Rattle.rtr_ends.specs.declared.link.End.{End}
 use Rattle.rtr_ends.specs.declared.link.End.TheVariants as ends
-use Rattle.rtr_ends.specs.Router.{Ended, IsKept}
-use Rattle.rtr_ends.specs.Transcript.{Question, AskSerial, Committed, kept, outstanding}
+use Rattle.rtr_ends.specs.Router.{Router, Call, Ended, IsKept, played}
+use Rattle.rtr_ends.specs.Transcript.{Item, Question, AskSerial, Committed, Refused, Restarts, kept, outstanding}
 use Rattle.rtr_world.specs.Place.{NeverBack}
 use Rattle.rtr_world.specs.World.{Side, World, Event, Ending, SideEvent, instances, settle, side_step}
 use Rattle.rtr_world.specs.History.{Made, IsMade, Entry, IsEvent, Leads}
@@ -77,6 +77,22 @@ NotesEnd w event wanting s =
 
 abbrev pub EndsNoted : Type 0
 EndsNoted = (made : Made) (history : List Entry) (w : World) → Leads made history w → AllByRecursion (λ s. (event : SideEvent) (wanting : Option ℕ) → NotesEnd w event wanting s) w.sides
+
+-- what a router was told, asked and read since it was last restarted
+abbrev pub since_restart : List Item → List Item
+since_restart [] = []
+since_restart (Restarts ∷ items) = []
+since_restart (Refused ∷ items) = since_restart items
+since_restart (item ∷ items) = item ∷ since_restart items
+
+-- Calls lead to the router, and to its transcript since it was restarted, refused events aside.
+pub record IsRun (r : Router) (items : List Item) : Type 0 where
+  pub calls : List Call
+  pub router_is : (played calls).router ≡ r
+  pub items_are : (played calls).items ≡ since_restart items
+
+abbrev pub RoutersRun : Type 0
+RoutersRun = Always (λ w s. IsRun s.router s.items)
 
 -- The steps: a history leads to one world, and every list of events has outcomes with which it leads somewhere.
 abbrev pub OneWorld : Type 0

@@ -1,5 +1,5 @@
 //! Laws of the definitions. These functions do nothing: their contracts are the laws.
-ghost use Rattle.rtr_world.specs.Claims.{EachLeads, EndsNoted, Headline, LawfulEnds, NoWayBack, OneAnswerAlways, OneWorld, RouteStates, Settles, Tables};
+ghost use Rattle.rtr_world.specs.Claims.{EachLeads, EndsNoted, Headline, LawfulEnds, NoWayBack, OneAnswerAlways, OneWorld, RouteStates, RoutersRun, Settles, Tables};
 
 /// A history of events with their outcomes leads to one world, and every list of events has outcomes with which it leads to one. The
 /// clean-up after each event leaves nothing to be done.
@@ -13,6 +13,12 @@ pub fn steps()
 /// greatest moment that it was told; and its link is as the transcript says.
 pub fn tables()
     ensures { Tables }
+{}
+
+/// Each router of a world is one to which calls lead, and its transcript since it was last restarted is that of these calls, refused
+/// events aside. So what is promised of routers under any calls is promised of those of a world.
+pub fn routers_run()
+    ensures { RoutersRun }
 {}
 
 /// After every list of events each router's table is empty if it holds no session, and otherwise is exactly the set that was published

@@ -1,0 +1,5 @@
+use Rattle.rtr_world.proofs.Runs.{routers_run}
+use Rattle.rtr_world.proofs.laws.routers_run.Goals as goal
+
+pub returns : goal.returns
+returns c = routers_run
