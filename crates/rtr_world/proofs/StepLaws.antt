@@ -1,9 +1,9 @@
 -- Histories lead somewhere, and to one world.
-use Rattle.std.specs.Prelude.{◌≡◌, List, [], ◌∷◌, map, Option, Some, None, refl}
+use Rattle.std.specs.Prelude.{◌≡◌, ◌||◌, List, [], ◌∷◌, map, Option, Some, None, if◌then◌else◌, refl}
 use Rattle.std.proofs.Common.{sym, ap, ◌∙◌, subst}
 use Rattle.std.specs.List.{AllByRecursion}
-use Rattle.rtr_world.specs.Claims.{OneWorld, EachLeads}
-use Rattle.rtr_world.specs.History.{Outcome, Done, refusal, MayEnd, after, IsEvent, Entry, LeadsFrom}
+use Rattle.rtr_world.specs.Claims.{OneWorld, EachLeads, RefusesRightly}
+use Rattle.rtr_world.specs.History.{Outcome, Done, TooManyVersions, all_have_room, refusal, MayEnd, after, IsEvent, Entry, LeadsFrom}
 use Rattle.rtr_world.specs.World.{World, Event, new_world}
 
 one_from : (old : World) (history : List Entry) (w v : World) → LeadsFrom old history w → LeadsFrom old history v → w ≡ v
@@ -39,3 +39,10 @@ each_from old (event ∷ events) fits =
 pub each_leads : EachLeads
 each_leads made events is fits =
     let k = each_from (new_world made.routers made.session made.start made.keep) events fits in (k.0, k.1, k.2, (is, k.3))
+
+pub refuses_rightly : RefusesRightly
+unfolding refusal
+refuses_rightly w = record {
+  never = λ set current. ap (λ b. if b || all_have_room w.present w.sides then None else Some TooManyVersions) current;
+  alone = λ event refused outcome due ends. subst (λ o. MayEnd o w event outcome) due ends;
+}

@@ -1,8 +1,9 @@
 -- What holds after every list of events.
-use Rattle.std.specs.Prelude.{◌≡◌, ℕ, List, [], ◌∷◌, drop, Option, Some, None, ⊤, zero, suc, map}
+use Rattle.std.specs.Prelude.{◌≡◌, ℕ, true, List, [], ◌∷◌, drop, Option, Some, None, ⊤, zero, suc, map}
 use Rattle.std.specs.List.{AllByRecursion}
 use Rattle.prefixes.specs.declared.route.Route.{Route}
 use Rattle.vrps.specs.Instance.{Instance, named}
+use Rattle.vrps.specs.Store.{is_current}
 use Rattle.vrps.specs.Origin.{HasState, state}
 use Rattle.vrps.specs.VrpSet.{VrpSet, empty}
 use Rattle.vrps.specs.declared.origin.OriginState.{OriginState}
@@ -11,8 +12,8 @@ use Rattle.rtr_ends.specs.declared.link.End.TheVariants as ends
 use Rattle.rtr_ends.specs.Router.{Router, Call, Ended, IsKept, played}
 use Rattle.rtr_ends.specs.Transcript.{Item, Question, AskSerial, Committed, Refused, Restarts, kept, outstanding}
 use Rattle.rtr_world.specs.Place.{NeverBack}
-use Rattle.rtr_world.specs.World.{Side, World, Event, Ending, SideEvent, instances, settle, side_step}
-use Rattle.rtr_world.specs.History.{Made, IsMade, Entry, IsEvent, Leads}
+use Rattle.rtr_world.specs.World.{Side, World, Event, Publish, Ending, SideEvent, instances, settle, side_step}
+use Rattle.rtr_world.specs.History.{Outcome, refusal, MayEnd, Made, IsMade, Entry, IsEvent, Leads}
 use Rattle.rtr_world.specs.OneAnswer.{Between}
 
 -- a fact of each router of each world to which a history leads
@@ -77,6 +78,14 @@ NotesEnd w event wanting s =
 
 abbrev pub EndsNoted : Type 0
 EndsNoted = (made : Made) (history : List Entry) (w : World) → Leads made history w → AllByRecursion (λ s. (event : SideEvent) (wanting : Option ℕ) → NotesEnd w event wanting s) w.sides
+
+-- A set that is current already is never refused; and where a refusal is due there is no other outcome, want of memory included.
+pub record Refuses (w : World) : Type 0 where
+  pub never : (set : VrpSet) → is_current w.present.sets set ≡ true → refusal w (Publish set) ≡ None
+  pub alone : (event : Event) (refused outcome : Outcome) → refusal w event ≡ Some refused → MayEnd (refusal w event) w event outcome → outcome ≡ refused
+
+abbrev pub RefusesRightly : Type 0
+RefusesRightly = (w : World) → Refuses w
 
 -- what a router was told, asked and read since it was last restarted
 abbrev pub since_restart : List Item → List Item

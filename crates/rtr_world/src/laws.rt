@@ -1,12 +1,14 @@
 //! Laws of the definitions. These functions do nothing: their contracts are the laws.
-ghost use Rattle.rtr_world.specs.Claims.{EachLeads, EndsNoted, Headline, LawfulEnds, NoWayBack, OneAnswerAlways, OneWorld, RouteStates, RoutersRun, Settles, Tables};
+ghost use Rattle.rtr_world.specs.Claims.{EachLeads, EndsNoted, Headline, LawfulEnds, NoWayBack, OneAnswerAlways, OneWorld, RefusesRightly, RouteStates, RoutersRun, Settles, Tables};
 
 /// A history of events with their outcomes leads to one world, and every list of events has outcomes with which it leads to one. The
-/// clean-up after each event leaves nothing to be done.
+/// clean-up after each event leaves nothing to be done. A set that is current already is never refused, and where a refusal is due there is
+/// no other outcome.
 pub fn steps()
     ensures one { OneWorld }
     ensures each { EachLeads }
     ensures settles { Settles }
+    ensures refuses { RefusesRightly }
 {}
 
 /// After every list of events each router holds what its transcript keeps, asks again when the transcript says, and knows the

@@ -1,6 +1,6 @@
 use Rattle.rtr_world.proofs.Rests.{settles}
-use Rattle.rtr_world.proofs.StepLaws.{each_leads, one_world}
+use Rattle.rtr_world.proofs.StepLaws.{each_leads, one_world, refuses_rightly}
 use Rattle.rtr_world.proofs.laws.steps.Goals as goal
 
 pub returns : goal.returns
-returns c = record { one = one_world; each = each_leads; settles = settles }
+returns c = record { one = one_world; each = each_leads; settles = settles; refuses = refuses_rightly }
