@@ -145,7 +145,6 @@ version_cut : RoaFaultAt (0x30 ∷ 0x01 ∷ 0xa0 ∷ []) 2 1
 unfolding as_id_at address_family_at address_at max_length_at maximum_at entry_at entries_at addresses_at ip_family_at blocks_at attestation_at payload_at element_at content_at end_at length_end content_end has_length is_truncated head_rules content_place next_place
 version_cut = faults (0x30 ∷ 0x01 ∷ 0xa0 ∷ []) 1 2 refl refl
 
-
 -- of two entries of one prefix the greater maximum stands behind
 greater_maximum : RoaSpells (flat (64496, ((Ipv4, entry (V4 (block 0xc0000200 24)) None ∷ entry (V4 (block 0xc0000200 24)) (Some 25) ∷ []), None))) (0x30 ∷ 0x22 ∷ 0x02 ∷ 0x03 ∷ 0x00 ∷ 0xfb ∷ 0xf0 ∷ 0x30 ∷ 0x1b ∷ 0x30 ∷ 0x19 ∷ 0x04 ∷ 0x02 ∷ 0x00 ∷ 0x01 ∷ 0x30 ∷ 0x13 ∷ 0x30 ∷ 0x06 ∷ 0x03 ∷ 0x04 ∷ 0x00 ∷ 0xc0 ∷ 0x00 ∷ 0x02 ∷ 0x30 ∷ 0x09 ∷ 0x03 ∷ 0x04 ∷ 0x00 ∷ 0xc0 ∷ 0x00 ∷ 0x02 ∷ 0x02 ∷ 0x01 ∷ 0x19 ∷ [])
 unfolding as_id_at address_family_at address_at max_length_at maximum_at entry_at entries_at addresses_at ip_family_at blocks_at attestation_at payload_at element_at content_at end_at length_end content_end has_length is_truncated head_rules content_place next_place
