@@ -1,7 +1,7 @@
 -- What holds of the definitions of single elements: those that are read as their content, which keeps rules, and those of a moment.
 use Rattle.std.specs.Prelude.{◌≡◌, ◌↔◌, ℕ, Bool, true, ◌⊎◌, List, [], ◌++◌, Some, Ok, Err}
 use Rattle.der_lite.specs.Place.{Place, Fault}
-use Rattle.der_lite.specs.Der.{IsBytes, head_rules}
+use Rattle.der_lite.specs.Der.{IsBytes, BitsSpell, head_rules, is_bit_string}
 use Rattle.der_lite.specs.Moments.{CivilMoment, is_moment, moment_before, moment_text, moment_in, TimeSpells, IsMomentOf}
 use Rattle.der_lite.specs.Grammar.{Element, Breaks, plain, behind, inside}
 use Rattle.der_lite.specs.Reading.{element_at, content_at, time_at}
@@ -46,6 +46,13 @@ OneSpelling =
     (tag : ℕ) (rules : List ℕ → List (ℕ × Bool))
     → ((v a b : List ℕ) → (plain tag rules).Spells v a → (plain tag rules).Spells v b → a ≡ b)
     × ((v w a b more rest : List ℕ) → (plain tag rules).Spells v a → (plain tag rules).Spells w b → a ++ more ≡ b ++ rest → (v ≡ w) × (more ≡ rest))
+
+-- A content keeps the rules of a bit string exactly where it spells bits; it spells one list of them, and no list has two contents.
+abbrev pub SpellsBits : Type 0
+SpellsBits =
+    ((content : List ℕ) → (is_bit_string content ≡ true) ↔ ((bits : List Bool) × BitsSpell bits content))
+    × ((content : List ℕ) (one other : List Bool) → BitsSpell one content → BitsSpell other content → one ≡ other)
+    × ((bits : List Bool) (a b : List ℕ) → IsBytes a → IsBytes b → BitsSpell bits a → BitsSpell bits b → a ≡ b)
 
 -- ---- moments
 

@@ -1,6 +1,6 @@
 //! What holds of the definitions of elements. Nothing here runs.
 
-ghost use Rattle.der_lite.specs.Laws.{OneFault, OneFaultOfTimes, OneIsBefore, OneSpelling, OneSpellingOfTimes, OneText, OpensExactly, ReadsExactly, ReadsTimesExactly};
+ghost use Rattle.der_lite.specs.Laws.{OneFault, OneFaultOfTimes, OneIsBefore, OneSpelling, OneSpellingOfTimes, OneText, OpensExactly, ReadsExactly, ReadsTimesExactly, SpellsBits};
 
 /// A read gives a content exactly where the element of that content stands, and a fault exactly
 /// where that fault is the first.
@@ -22,6 +22,11 @@ pub fn one_fault()
 /// No content has two spellings, and no spelling begins another.
 pub fn one_spelling()
     ensures { OneSpelling }
+{}
+
+/// A content keeps the rules of a bit string exactly where it spells bits. It spells one list of bits, and no list has two contents.
+pub fn spells_bits()
+    ensures { SpellsBits }
 {}
 
 /// A read gives a moment exactly where the element of that moment stands, and a fault exactly where
