@@ -11,10 +11,7 @@ use Rattle.rtr_pdu.specs.declared.unit.Unit.{Unit}
 use Rattle.rtr_pdu.specs.declared.unit.Unit.TheVariants.{SerialNotify, SerialQuery, ResetQuery, CacheResponse, Prefix, EndOfData, CacheReset, RouterKey, ErrorReport}
 use Rattle.rtr_ends.specs.declared.link.End.{End}
 use Rattle.rtr_ends.specs.declared.link.End.TheVariants as ends
-use Rattle.rtr_ends.specs.Answer.{report, sent, sent_all}
-use Rattle.rtr_ends.specs.Connection.{fault_code, fault_report}
-use Rattle.rtr_pdu.specs.Stream.{type_of}
-use Rattle.rtr_pdu.specs.declared.unit.UnitFault.{UnitFault}
+use Rattle.rtr_ends.specs.Answer.{report, sent}
 use Rattle.rtr_ends.specs.Router as model
 use Rattle.rtr_ends.specs.Router.{Router, Link, Closed, Idle, Asked, Answering, Ended, ask, asking, asks, asks_if, breaks, clocked, close, closed_at, commit, connects_at, expired, fails, fault_end, is_due, is_idle, is_news, is_staged, is_strange, judged, may_lack, on_unit, reports, stage, staged, ticks_at, told, told_off}
 use Rattle.rtr_ends.specs.Transcript.{Question, AskReset, AskSerial, Begun, base_of, bounded, is_over, is_wrong, later, query, sum_of, within}
@@ -455,18 +452,3 @@ asks_not old busy = does_from (λ r. (asks r).router) old old (λ withdrawn anno
     by_state (states.Asked q) withdrawn announced = refl
     by_state (states.Answering q session) withdrawn announced = refl
     by_state (states.Ended end) withdrawn announced = refl
-
--- A fault
-pub breaks_so : (fault : UnitFault) (bytes : List ℕ) (old new : Machine) (end : End) → end ≡ fault_end old.agreed fault bytes → new ≡ record old { out = sent_all (fault_report old.agreed fault bytes) }
-    → Does (λ r. (breaks fault bytes r).router) old (record new { state = states.Ended end })
-breaks_so fault bytes old new end is e =
-    subst (λ n. Does (λ r. (breaks fault bytes r).router) old (record n { state = states.Ended end })) (sym e)
-    (does_from (λ r. (breaks fault bytes r).router) old (record old { out = sent_all (fault_report old.agreed fault bytes); state = states.Ended end }) (λ withdrawn announced held st.
-    shown_as ((breaks fault bytes (seen old withdrawn announced held)).router) (record old { out = sent_all (fault_report old.agreed fault bytes); state = states.Ended end }) withdrawn announced []
-    (λ i. record (seen old withdrawn announced []) { link = Ended (sym is i); out = sent_all (fault_report old.agreed fault bytes) }) tt))
-
-pub malformed_end : (agreed : Bool) (fault : UnitFault) (bytes : List ℕ) → (type_of bytes == 10) ≡ true → ends.Malformed ≡ fault_end agreed fault bytes
-malformed_end agreed fault bytes h = sym (ap (λ b. if b then ends.Malformed else ends.Reported (fault_code agreed fault)) h)
-
-pub reported_end : (agreed : Bool) (fault : UnitFault) (bytes : List ℕ) (code : ℕ) → code ≡ fault_code agreed fault → (type_of bytes == 10) ≡ false → ends.Reported code ≡ fault_end agreed fault bytes
-reported_end agreed fault bytes code e h = ap ends.Reported e ∙ sym (ap (λ b. if b then ends.Malformed else ends.Reported (fault_code agreed fault)) h)

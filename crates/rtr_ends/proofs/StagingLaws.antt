@@ -140,9 +140,6 @@ module _ (base : VrpSet) (b : Begun) (v : Payload) (s : Staging) (st : IsStaged 
       else if nat_lt 16777215 (size (led_to base b.withdrawn (v ∷ b.announced))) then model.Over
       else model.Stays (record b { announced = v ∷ b.announced })
 
-  pub unknown_withdrawn : (new : Staging) → has base v ≡ false → GoesTo base b false v (Ok (Wrong 6)) new
-  unknown_withdrawn new out = subst (λ x. Answers base b x (Ok (Wrong 6)) new) (sym (ap (λ k. by_withdrawn k (is_listed v b.withdrawn)) out)) refl
-
   pub twice_withdrawn : (new : Staging) → has s.withdrawn v ≡ true → GoesTo base b false v (Ok (Wrong 6)) new
   twice_withdrawn new found =
       subst (λ x. Answers base b x (Ok (Wrong 6)) new) (sym (ap (λ l. by_withdrawn (has base v) l) (listed_withdrawn true (sym found)) ∙ neither (has base v))) refl
@@ -176,9 +173,6 @@ module _ (base : VrpSet) (b : Begun) (v : Payload) (s : Staging) (st : IsStaged 
         count = omega (arith, less, st.count, sized);
         fits = omega (arith, less, st.fits);
       }
-
-  pub known_announced : (new : Staging) → has base v ≡ true → GoesTo base b true v (Ok (Wrong 7)) new
-  known_announced new known = subst (λ x. Answers base b x (Ok (Wrong 7)) new) (sym (ap (λ k. by_announced k (is_listed v b.announced)) known)) refl
 
   pub twice_announced : (new : Staging) → has s.announced v ≡ true → GoesTo base b true v (Ok (Wrong 7)) new
   twice_announced new found =

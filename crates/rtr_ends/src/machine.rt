@@ -48,7 +48,7 @@ pub struct Machine {
 }
 
 impl Machine {
-    ghost use Rattle.rtr_ends.specs.Seen.{Does, ReadsSo, ReadsOrLacks, Shows, begun_with, seen_link};
+    ghost use Rattle.rtr_ends.specs.Seen.{Does, Shows, seen_link};
     ghost use Rattle.rtr_ends.specs.declared.machine.State.TheVariants as states;
     ghost use Rattle.rtr_ends.specs.declared.link.End.TheVariants as ends;
 

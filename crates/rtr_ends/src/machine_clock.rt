@@ -9,7 +9,7 @@ use crate::machine::{Machine, State};
 use crate::staging::Staging;
 
 impl Machine {
-    ghost use Rattle.rtr_ends.specs.Seen.{Does, ReadsSo, ReadsOrLacks, Shows, begun_with, seen_link};
+    ghost use Rattle.rtr_ends.specs.Seen.{Does, seen_link};
     ghost use Rattle.rtr_ends.specs.declared.machine.State.TheVariants as states;
     ghost use Rattle.rtr_ends.specs.declared.link.End.TheVariants as ends;
 

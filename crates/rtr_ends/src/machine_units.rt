@@ -1,6 +1,5 @@
 //! What a router does at a unit (RFC 8210 sections 5, 7, 8 and 12): the rules of each link, unit by unit.
-ghost use Rattle.std.specs.Prelude.{◌∷◌, ◌≡◌, ◌≤◌, ◌&&◌, ℕ, [], true, Some, Ok};
-ghost use Rattle.rtr_pdu.specs.declared.unit.Unit.{Unit as Units};
+ghost use Rattle.std.specs.Prelude.{◌≡◌, ◌≤◌, ◌&&◌, ℕ, [], true, Some, Ok};
 ghost use Rattle.vrps.specs.VrpSet.{has, size};
 ghost use Rattle.rtr_ends.specs.Answer.{report, sent};
 ghost use Rattle.rtr_ends.specs.Router as model;
@@ -18,7 +17,7 @@ use std::mem;
 use vrps::SetFault;
 
 impl Machine {
-    ghost use Rattle.rtr_ends.specs.Seen.{Does, ReadsSo, ReadsOrLacks, Shows, begun_with, seen_link};
+    ghost use Rattle.rtr_ends.specs.Seen.{Does, ReadsSo, ReadsOrLacks, begun_with};
     ghost use Rattle.rtr_ends.specs.declared.machine.State.TheVariants as states;
     ghost use Rattle.rtr_ends.specs.declared.link.End.TheVariants as ends;
 
