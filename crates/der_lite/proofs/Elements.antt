@@ -1,14 +1,14 @@
 -- What is read as an element is spelled so, and what is spelled so is read.
-use Rattle.std.proofs.Common.{◌≡◌, ℕ, ◌+◌, ◌-◌, ◌^◌, ◌<◌, ◌≤◌, Bool, true, false, not, ◌&&◌, ltb, eqb, List, [], ◌∷◌, ◌++◌, length, take, drop, None, refl, sym, ap, subst, ◌∙◌, arith, append_assoc, length-append, length-take, length-drop}
+use Rattle.std.proofs.Common.{◌≡◌, ℕ, ◌+◌, ◌-◌, ◌^◌, ◌<◌, ◌≤◌, Bool, true, false, not, ◌&&◌, ltb, eqb, List, [], ◌∷◌, ◌++◌, length, get_or, take, drop, None, refl, sym, ap, subst, ◌∙◌, arith, append_assoc, length-append, length-take, length-drop}
 use Rattle.std.proofs.lemmas.Bool.{not-false, le-ltb, ltb-false, or_parts, or_from, and_right, eqb-true, eq-eqb}
 use Rattle.std.proofs.lemmas.List.{take_at, drop_at, take-append-drop, drop-drop, get_or-drop}
 use Rattle.der_lite.specs.Place.{Place, place_of, first_of}
-use Rattle.der_lite.specs.Der.{IsBytes, tlv, length_bytes, announced, told_length, is_length, tag_of, first_length_byte, later_length_bytes, has_length, length_end, content_end, is_truncated, head_rules}
-use Rattle.der_lite.specs.Grammar.{inside, behind, Keeps}
+use Rattle.der_lite.specs.Der.{IsBytes, tlv, length_bytes, announced, told_length, is_length, length_part, tag_of, has_length, length_end, content_end, is_truncated, head_rules}
+use Rattle.der_lite.specs.Grammar.{inside, Keeps}
 use Rattle.der_lite.specs.Reading.{content_place, next_place}
 use Rattle.der_lite.proofs.Rules.{kept_first}
 use Rattle.der_lite.proofs.Once.{front_bytes}
-use Rattle.der_lite.proofs.Lengths.{length_tells, told_spells}
+use Rattle.der_lite.proofs.Lengths.{length_tells, length_spells, told_spells}
 
 -- bytes that begin with a tag and the bytes of a length
 pub record Begins (bytes : List ℕ) (tag first : ℕ) (more after : List ℕ) : Type 0 where
@@ -16,18 +16,18 @@ pub record Begins (bytes : List ℕ) (tag first : ℕ) (more after : List ℕ) :
   pub counted : announced first ≡ length more
 
 module _ (bytes : List ℕ) (tag first : ℕ) (more after : List ℕ) (b : Begins bytes tag first more after) where
-  -- the later length bytes are those
-  later_is : later_length_bytes bytes ≡ more
-  later_is = rw (b.parts, b.counted) (take_at more after (length more) refl)
+  -- the length bytes are those
+  part_is : length_part bytes ≡ first ∷ more
+  part_is = rw (b.parts, b.counted) (ap (λ (l : List ℕ). first ∷ l) (take_at more after (length more) refl))
 
   -- the tag is that one
   tag_is : tag_of bytes ≡ tag
   tag_is = rw (b.parts) refl
 
-  -- whether the length is in the fewest bytes hangs on the length bytes alone
-  has_is : has_length bytes ≡ is_length first more
+  -- whether the length is rightly spelled hangs on the length bytes alone
+  has_is : has_length bytes ≡ is_length (first ∷ more)
   unfolding has_length
-  has_is = rw (later_is, b.parts) refl
+  has_is = ap is_length part_is
 
   -- where the length ends
   length_end_is : length_end bytes ≡ 2 + length more
@@ -35,18 +35,22 @@ module _ (bytes : List ℕ) (tag first : ℕ) (more after : List ℕ) (b : Begin
   length_end_is = rw (b.parts, b.counted) refl
 
   -- where the content ends
-  content_end_is : content_end bytes ≡ 2 + length more + told_length first more
+  content_end_is : content_end bytes ≡ 2 + length more + told_length (first ∷ more)
   unfolding content_end
-  content_end_is = rw (later_is, length_end_is, b.parts) refl
+  content_end_is = ap (λ (l : List ℕ). length_end bytes + told_length l) part_is ∙ ap (λ (k : ℕ). k + told_length (first ∷ more)) length_end_is
+
+-- the place behind these bytes
+abbrev pub behind : ℕ → List ℕ → List ℕ → Place
+behind at front rest = place_of (at + length front) rest
 
 -- the element of this content stands at p, and q and r are the places of its content and behind it
-pub record Stands (tag : ℕ) (p q r : Place) : Type 0 where
+pub record Opens (tag : ℕ) (p q r : Place) : Type 0 where
   pub short : length q.rest < 2 ^ 32
   pub parts : p.rest ≡ tlv tag q.rest ++ r.rest
   pub q_is : q ≡ inside p.at q.rest
   pub r_is : r ≡ behind p.at (tlv tag q.rest) r.rest
 
--- an element of this tag stands whole at the front, with a length in the fewest bytes
+-- an element of this tag stands whole at the front, with a length rightly spelled
 pub record HasHead (tag : ℕ) (bytes : List ℕ) : Type 0 where
   pub whole : is_truncated bytes ≡ false
   pub tag_is : tag_of bytes ≡ tag
@@ -79,7 +83,7 @@ ends_stand bytes h k =
     (ltb-false (length bytes) (length_end bytes) o.0, ltb-false (length bytes) (content_end bytes) second)
 
 -- bytes in which a length ends begin with a tag and the bytes of a length
-begins : (bytes : List ℕ) → length_end bytes ≤ length bytes → Begins bytes (tag_of bytes) (first_length_byte bytes) (later_length_bytes bytes) (drop (announced (first_length_byte bytes)) (drop 2 bytes))
+begins : (bytes : List ℕ) → length_end bytes ≤ length bytes → Begins bytes (tag_of bytes) (get_or bytes 1 0) (take (announced (get_or bytes 1 0)) (drop 2 bytes)) (drop (announced (get_or bytes 1 0)) (drop 2 bytes))
 unfolding length_end
 begins [] h = absurd (omega arith)
 begins (a ∷ []) h = absurd (omega arith)
@@ -122,21 +126,21 @@ cut tag first n le ce bytes more parts le_is ce_is long spelled short =
     }
 
 -- the element that stands at the place
-pub stands : (tag : ℕ) (p : Place) → IsBytes p.rest → Keeps (head_rules tag p.rest) → Stands tag p (content_place p) (next_place p)
+pub stands : (tag : ℕ) (p : Place) → IsBytes p.rest → Keeps (head_rules tag p.rest) → Opens tag p (content_place p) (next_place p)
 unfolding content_place next_place
 stands tag p bytes kept =
     let hd = head_kept tag p.rest kept in
     let ends = ends_stand p.rest hd.whole hd.fewest in
     let b = begins p.rest ends.0 in
-    let first = first_length_byte p.rest in
-    let more = later_length_bytes p.rest in
+    let first = get_or p.rest 1 0 in
+    let more = take (announced first) (drop 2 p.rest) in
     let after = drop (announced first) (drop 2 p.rest) in
     let le_is = length_end_is p.rest (tag_of p.rest) first more after b in
     let ce_is = content_end_is p.rest (tag_of p.rest) first more after b in
     let told = told_spells first more (IsBytes-take (announced first) (drop 2 p.rest) (IsBytes-drop 2 p.rest bytes)) b.counted (sym (has_is p.rest (tag_of p.rest) first more after b) ∙ hd.fewest) in
     let after_is : after ≡ drop (length_end p.rest) p.rest = drop-drop (announced first) 2 p.rest ∙ ap (λ (k : ℕ). drop k p.rest) (omega (arith, b.counted, le_is)) in
     let parts : p.rest ≡ tag ∷ first ∷ (more ++ drop (length_end p.rest) p.rest) = b.parts ∙ rw (hd.tag_is, after_is) refl in
-    let c = cut tag first (told_length first more) (length_end p.rest) (content_end p.rest) p.rest more parts le_is (ce_is ∙ omega arith) ends.1 told.0 told.1 in
+    let c = cut tag first (told_length (first ∷ more)) (length_end p.rest) (content_end p.rest) p.rest more parts le_is (ce_is ∙ omega arith) ends.1 told.0 told.1 in
     record {
       short = c.short;
       parts = c.parts;
@@ -150,7 +154,7 @@ pub record Again (tag at : ℕ) (content bytes rest : List ℕ) : Type 0 where
   pub content_is : content_place (place_of at bytes) ≡ inside at content
   pub next_is : next_place (place_of at bytes) ≡ behind at (tlv tag content) rest
 
-again : (tag at first : ℕ) (content bytes more rest : List ℕ) → Begins bytes tag first more (content ++ rest) → length_bytes (length content) ≡ first ∷ more → told_length first more ≡ length content → is_length first more ≡ true → Again tag at content bytes rest
+again : (tag at first : ℕ) (content bytes more rest : List ℕ) → Begins bytes tag first more (content ++ rest) → length_bytes (length content) ≡ first ∷ more → told_length (first ∷ more) ≡ length content → is_length (first ∷ more) ≡ true → Again tag at content bytes rest
 unfolding content_place next_place is_truncated
 again tag at first content bytes more rest b spelled told fewest =
     let after = content ++ rest in
@@ -184,7 +188,7 @@ stands_again tag at content rest short =
       parts = ap (λ (l : List ℕ). (tag ∷ l ++ content) ++ rest) t.2.spelled ∙ ap (λ (l : List ℕ). tag ∷ t.0 ∷ l) (append_assoc t.1 content rest);
       counted = t.2.counted;
     } in
-    again tag at t.0 content (tlv tag content ++ rest) t.1 rest b t.2.spelled t.2.told t.2.fewest
+    again tag at t.0 content (tlv tag content ++ rest) t.1 rest b t.2.spelled t.2.told (length_spells (length content) t.0 t.1 t.2)
 
 -- the content of bytes is bytes
 pub content_bytes : (p : Place) → IsBytes p.rest → IsBytes (content_place p).rest

@@ -4,22 +4,19 @@ use Rattle.std.proofs.lemmas.Bool.{eqb-true, eqb-false, ne_eqb}
 use Rattle.std.proofs.lemmas.List.{append-nil, nil_from_length, get_or-append-add}
 use Rattle.der_lite.specs.Place.{Place, Fault, place_of}
 use Rattle.der_lite.specs.Der.{IsBytes, tlv, head_rules}
-use Rattle.der_lite.specs.Grammar.{Element, Members, Content, Keeps, Splits, inside, behind, element, primitive, constructed, Trails, FaultIn, last, member, OptionSpells, optional, EachSpells, each}
+use Rattle.der_lite.specs.Grammar.{Element, Members, Content, Keeps, Stands, inside, element, primitive, constructed, Trails, FaultIn, last, member, OptionSpells, optional, EachSpells, each}
 use Rattle.der_lite.specs.Reading.{◌>>=◌, judged, content_place, next_place}
 use Rattle.der_lite.specs.Decoding.{Read, ReadAll, ReadContent, read_element, read_primitive, read_constructed, ended, read_last, read_member, read_optional, each_from, read_each}
 use Rattle.der_lite.proofs.Rules.{judged-kept, judged_ok, judged_err, judged_breaks, bind_ok, bind_err, ok_is, err, err_is}
-use Rattle.der_lite.proofs.Elements.{stands, stands_again, content_bytes}
+use Rattle.der_lite.proofs.Elements.{behind, stands, stands_again, content_bytes}
 
--- what was taken from the front of the place p, and the place behind it
-pub record Takes {V : Type 0} (e : Element V) (p : Place) (v : V) (q : Place) : Type 0 where
-  pub front : List ℕ
-  pub parts : p.rest ≡ front ++ q.rest
-  pub behind_is : q ≡ behind p.at front q.rest
-  pub spells : e.Spells v front
+-- the place behind what stands at a place
+pub next_is : {V : Type 0} {Spells : V → List ℕ → Type 0} (p next : Place) (v : V) (s : Stands Spells p v next) → next ≡ behind p.at s.front next.rest
+next_is p next v s = λ i. place_of (s.behind i) next.rest
 
 -- Reading is exact for an element: what is read is spelled, what is spelled is read, and so with faults. A spelling has a byte at least.
 pub record ExactElement {V : Type 0} (e : Element V) (read : Read V) : Type 0 where
-  pub takes : (p : Place) (v : V) (q : Place) → IsBytes p.rest → read p ≡ Ok (v, q) → Takes e p v q
+  pub takes : (p : Place) (v : V) (q : Place) → IsBytes p.rest → read p ≡ Ok (v, q) → Stands e.Spells p v q
   pub again : (at : ℕ) (v : V) (front rest : List ℕ) → e.Spells v front → read (place_of at (front ++ rest)) ≡ Ok (v, behind at front rest)
   pub faults : (p : Place) (f : Fault) → IsBytes p.rest → read p ≡ Err f → e.FaultAt p f
   pub refuses : (p : Place) (f : Fault) → e.FaultAt p f → read p ≡ Err f
@@ -84,7 +81,7 @@ module _ {V : Type 0} (before : List ℕ → List (ℕ × Bool)) (m : Members V)
           | inr k ↦ elim (bind_err (read p) (λ w. judged (whole w) at (Ok w)) f k.1) [
             | inl r ↦ inr (inl (k.0, x.faults p f bytes r))
             | inr r ↦ elim (judged_err (whole r.0) at (Ok r.0) f r.2) [
-              | inl b ↦ inr (inr (k.0, (r.0, x.takes p r.0 bytes r.1, b)))
+              | inl b ↦ inr (inr (r.0, k.0, x.takes p r.0 bytes r.1, b))
               | inr n ↦ absurd (let h = n.1 in cc)
             ]
           ]
@@ -95,8 +92,8 @@ module _ {V : Type 0} (before : List ℕ → List (ℕ × Bool)) (m : Members V)
           | inr i ↦ elim i [
             | inl k ↦ judged-kept (before p.rest) at (read p >>= λ w. judged (whole w) at (Ok w)) k.0
                 ∙ ap (λ (r : Result V Fault). r >>= λ w. judged (whole w) at (Ok w)) (x.refuses p f k.1)
-            | inr k ↦ judged-kept (before p.rest) at (read p >>= λ w. judged (whole w) at (Ok w)) k.0
-                ∙ ap (λ (r : Result V Fault). r >>= λ w. judged (whole w) at (Ok w)) (x.again p k.1.0 k.1.1) ∙ judged_breaks (whole k.1.0) at (Ok k.1.0) f k.1.2
+            | inr k ↦ judged-kept (before p.rest) at (read p >>= λ w. judged (whole w) at (Ok w)) k.1
+                ∙ ap (λ (r : Result V Fault). r >>= λ w. judged (whole w) at (Ok w)) (x.again p k.0 k.2) ∙ judged_breaks (whole k.0) at (Ok k.0) f k.3
           ]
         ];
   }
@@ -113,13 +110,13 @@ module _ {V : Type 0} (tag : ℕ) (head : List ℕ → List (ℕ × Bool)) (c : 
         let b = bind_ok (read p.at (content_place p)) then_next (v, q) j.1 in
         let s = stands tag p bytes (h.usual p.rest j.0) in
         let inner = (content_place p).rest in
-        let t : Takes (element tag head c) p b.0 (next_place p) = record {
+        let t : Stands (element tag head c).Spells p b.0 (next_place p) = record {
           front = tlv tag inner;
           parts = s.parts;
-          behind_is = s.r_is;
-          spells = (inner, record { short = s.short; spelled = refl }, x.takes p.at (content_place p) b.0 (content_bytes p bytes) b.1);
+          behind = ap (λ (y : Place). y.at) s.r_is;
+          spelled = (inner, record { short = s.short; spelled = refl }, x.takes p.at (content_place p) b.0 (content_bytes p bytes) b.1);
         } in
-        subst (λ (y : V × Place). Takes (element tag head c) p y.0 y.1) (ok_is (b.0, next_place p) (v, q) b.2) t;
+        subst (λ (y : V × Place). Stands (element tag head c).Spells p y.0 y.1) (ok_is (b.0, next_place p) (v, q) b.2) t;
     again = λ at v front rest s.
         let inner = s.0 in
         let w = stands_again tag at inner rest s.1.short in
@@ -140,11 +137,9 @@ module _ {V : Type 0} (tag : ℕ) (head : List ℕ → List (ℕ × Bool)) (c : 
                 let inner = (content_place p).rest in
                 inr (
                   inner,
-                  tlv tag inner,
-                  (next_place p).rest,
-                  record { parts = s.parts },
+                  next_place p,
                   k.0,
-                  record { short = s.short; spelled = refl },
+                  record { front = tlv tag inner; parts = s.parts; spelled = record { short = s.short; spelled = refl }; behind = ap (λ (y : Place). y.at) s.r_is },
                   subst (λ (y : Place). c.FaultAt p.at y f) s.q_is (x.faults p.at (content_place p) f (content_bytes p bytes) r),
                 )
             | inr r ↦ absurd (let n = r.2 in cc)
@@ -156,11 +151,12 @@ module _ {V : Type 0} (tag : ℕ) (head : List ℕ → List (ℕ × Bool)) (c : 
           | inl b ↦ judged_breaks (head p.rest) p.at (read p.at (content_place p) >>= then_next) f b
           | inr k ↦
               let inner = k.0 in
-              let parts : p.rest ≡ tlv tag inner ++ k.2 = k.3.parts ∙ ap (λ (l : List ℕ). l ++ k.2) k.5.spelled in
-              let w = stands_again tag p.at inner k.2 k.5.short in
+              let rest = k.1.rest in
+              let parts : p.rest ≡ tlv tag inner ++ rest = k.3.parts ∙ ap (λ (l : List ℕ). l ++ rest) k.3.spelled.spelled in
+              let w = stands_again tag p.at inner rest k.3.spelled.short in
               let content_is : content_place p ≡ inside p.at inner = ap (λ (l : List ℕ). content_place (place_of p.at l)) parts ∙ w.content_is in
-              judged-kept (head p.rest) p.at (read p.at (content_place p) >>= then_next) k.4
-              ∙ ap (λ (y : Place). read p.at y >>= then_next) content_is ∙ ap (λ (r : Result V Fault). r >>= then_next) (x.refuses p.at (inside p.at inner) f k.6)
+              judged-kept (head p.rest) p.at (read p.at (content_place p) >>= then_next) k.2
+              ∙ ap (λ (y : Place). read p.at y >>= then_next) content_is ∙ ap (λ (r : Result V Fault). r >>= then_next) (x.refuses p.at (inside p.at inner) f k.4)
         ];
     some = λ v front s. omega (arith, ap (λ (l : List ℕ). length l) s.1.spelled);
   }
@@ -175,7 +171,7 @@ module _ {A B : Type 0} (e : Element A) (read : Read A) (x : ExactElement e read
         | inl r ↦ inl (x.faults p f bytes r)
         | inr r ↦
             let t = x.takes p r.0.0 r.0.1 bytes r.1 in
-            inr (r.0.0, t.front, r.0.1.rest, record { parts = t.parts }, t.spells, subst (λ (q : Place). Later r.0.0 q f) t.behind_is (found r.0.0 r.0.1 f (IsBytes-behind p.rest t.front r.0.1.rest bytes t.parts) r.2))
+            inr (r.0.0, r.0.1, t, found r.0.0 r.0.1 f (IsBytes-behind p.rest t.front r.0.1.rest bytes t.parts) r.2)
       ]
 
   -- where the first member is spelled, reading goes on behind it
@@ -189,11 +185,12 @@ module _ {A B : Type 0} (e : Element A) (read : Read A) (x : ExactElement e read
   refuses_in found p f d =
       elim d [
         | inl r ↦ ap (λ (r : Result (A × Place) Fault). r >>= λ y. later y.0 y.1) (x.refuses p f r)
-        | inr r ↦ reads_first p r.0 r.1 r.2 r.3.parts r.4 ∙ found r.0 (behind p.at r.1 r.2) f r.5
+        | inr r ↦
+            reads_first p r.0 r.2.front r.1.rest r.2.parts r.2.spelled ∙ ap (λ (q : Place). later r.0 q) (sym (next_is p r.1 r.0 r.2)) ∙ found r.0 r.1 f r.3
       ]
 
   -- the first is taken, and what is behind it
-  takes_in : (p : Place) (b : B) → IsBytes p.rest → (read p >>= λ y. later y.0 y.1) ≡ Ok b → (a : A) × (q : Place) × Takes e p a q × IsBytes q.rest × (later a q ≡ Ok b)
+  takes_in : (p : Place) (b : B) → IsBytes p.rest → (read p >>= λ y. later y.0 y.1) ≡ Ok b → (a : A) × (q : Place) × Stands e.Spells p a q × IsBytes q.rest × (later a q ≡ Ok b)
   takes_in p b bytes d =
       let r = bind_ok (read p) (λ y. later y.0 y.1) b d in
       let t = x.takes p r.0.0 r.0.1 bytes r.1 in
@@ -242,7 +239,7 @@ module _ {A : Type 0} (e : Element A) (read : Read A) (x : ExactElement e read) 
       let t = takes_in e read x (λ a. Trails) (λ a q. ended q (f a)) p b bytes d in
       let k = ended_ok t.1 (f t.0) b t.4 in
       let all : t.2.front ≡ p.rest = sym (t.2.parts ∙ ap (λ (l : List ℕ). t.2.front ++ l) k.0 ∙ append-nil t.2.front) in
-      (t.0, subst (λ (l : List ℕ). e.Spells t.0 l) all t.2.spells, k.1)
+      (t.0, subst (λ (l : List ℕ). e.Spells t.0 l) all t.2.spelled, k.1)
 
   -- one member that is all is read so
   again_one : {B : Type 0} (f : A → B) (p : Place) (a : A) → e.Spells a p.rest → (read p >>= λ y. ended y.1 (f y.0)) ≡ Ok (f a)
@@ -277,7 +274,7 @@ module _ {A B : Type 0} (e : Element A) (read : Read A) (x : ExactElement e read
     takes = λ p v bytes d.
         let t = takes_in e read x (λ a. (m a).FaultAt) (λ a q. others a q >>= λ b. Ok (a, b)) p v bytes d in
         let k = bind_ok (others t.0 t.1) (λ b. Ok (t.0, b)) v t.4 in
-        subst (λ (w : A × B). (member e m).Spells w p.rest) (ok_is (t.0, k.0) v k.2) (t.2.front, t.1.rest, record { parts = t.2.parts }, t.2.spells, (y t.0).takes t.1 k.0 t.3 k.1);
+        subst (λ (w : A × B). (member e m).Spells w p.rest) (ok_is (t.0, k.0) v k.2) (t.2.front, t.1.rest, record { parts = t.2.parts }, t.2.spelled, (y t.0).takes t.1 k.0 t.3 k.1);
     again = λ p v s.
         reads_first e read x (λ a. (m a).FaultAt) (λ a q. others a q >>= λ b. Ok (a, b)) p v.0 s.0 s.1 s.2.parts s.3
         ∙ ap (λ (r : Result B Fault). r >>= λ b. Ok (v.0, b)) ((y v.0).again (behind p.at s.0 s.1) v.1 s.4);
@@ -348,9 +345,9 @@ module _ {A : Type 0} (e : List A → Element A) (read : List A → Read A) (x :
         | inr k ↦
             let r = bind_ok (read before p) (next_of n before) v k.1 in
             let t = (x before).takes p r.0.0 r.0.1 bytes r.1 in
-            let less : length r.0.1.rest ≤ n = omega (arith, (x before).some r.0.0 t.front t.spells, ap (λ (l : List ℕ). length l) t.parts, length-append t.front r.0.1.rest) in
+            let less : length r.0.1.rest ≤ n = omega (arith, (x before).some r.0.0 t.front t.spelled, ap (λ (l : List ℕ). length l) t.parts, length-append t.front r.0.1.rest) in
             let i = takes_from n (before ++ r.0.0 ∷ []) r.0.1 v less (IsBytes-behind p.rest t.front r.0.1.rest bytes t.parts) r.2 in
-            (r.0.0 ∷ i.0, i.1 ∙ append_assoc before (r.0.0 ∷ []) i.0, (t.front, r.0.1.rest, record { parts = t.parts }, t.spells, i.2))
+            (r.0.0 ∷ i.0, i.1 ∙ append_assoc before (r.0.0 ∷ []) i.0, (t.front, r.0.1.rest, record { parts = t.parts }, t.spelled, i.2))
       ]
 
   -- spelled values are what the loop gives
@@ -368,7 +365,7 @@ module _ {A : Type 0} (e : List A → Element A) (read : List A → Read A) (x :
 
   -- a fault behind so many members
   abbrev FaultFrom : List A → Place → Fault → Type 0
-  FaultFrom before p f = (vs : List A) × (front : List ℕ) × (rest : List ℕ) × Splits p.rest front rest × EachSpells e before vs front × (rest ≢ []) × (e (before ++ vs)).FaultAt (behind p.at front rest) f
+  FaultFrom before p f = (vs : List A) × (next : Place) × Stands (EachSpells e before) p vs next × (next.rest ≢ []) × (e (before ++ vs)).FaultAt next f
 
   -- a fault that the loop gives stands there
   faults_from : (n : ℕ) (before : List A) (p : Place) (f : Fault) → length p.rest ≤ n → IsBytes p.rest → each_from n read before p ≡ Err f → FaultFrom before p f
@@ -378,30 +375,28 @@ module _ {A : Type 0} (e : List A → Element A) (read : List A → Read A) (x :
         | inl k ↦ absurd (let m = k.1 in cc)
         | inr k ↦ elim (bind_err (read before p) (next_of n before) f k.1) [
           | inl r ↦
-              let here : (e before).FaultAt p f = (x before).faults p f bytes r in
-              let place : p ≡ behind p.at [] p.rest = ap (λ (k : ℕ). place_of k p.rest) (omega arith) in (
+              let here : (e before).FaultAt p f = (x before).faults p f bytes r in (
                 [],
-                [],
-                p.rest,
-                record { parts = refl },
-                refl,
+                p,
+                record { front = []; parts = refl; spelled = refl; behind = omega arith },
                 is_longer p.rest k.0,
-                subst (λ (q : Place). (e (before ++ [])).FaultAt q f) place (subst (λ (l : List A). (e l).FaultAt p f) (sym (append-nil before)) here),
+                subst (λ (l : List A). (e l).FaultAt p f) (sym (append-nil before)) here,
               )
           | inr r ↦
               let t = (x before).takes p r.0.0 r.0.1 bytes r.1 in
-              let less : length r.0.1.rest ≤ n = omega (arith, (x before).some r.0.0 t.front t.spells, ap (λ (l : List ℕ). length l) t.parts, length-append t.front r.0.1.rest) in
+              let less : length r.0.1.rest ≤ n = omega (arith, (x before).some r.0.0 t.front t.spelled, ap (λ (l : List ℕ). length l) t.parts, length-append t.front r.0.1.rest) in
               let i = faults_from n (before ++ r.0.0 ∷ []) r.0.1 f less (IsBytes-behind p.rest t.front r.0.1.rest bytes t.parts) r.2 in
-              let parts : p.rest ≡ (t.front ++ i.1) ++ i.2 = t.parts ∙ ap (λ (l : List ℕ). t.front ++ l) i.3.parts ∙ sym (append_assoc t.front i.1 i.2) in
-              let place : behind r.0.1.at i.1 i.2 ≡ behind p.at (t.front ++ i.1) i.2 = ap (λ (k : ℕ). place_of k i.2) (omega (arith, ap (λ (q : Place). q.at) t.behind_is, length-append t.front i.1)) in (
+              let parts : p.rest ≡ (t.front ++ i.2.front) ++ i.1.rest = t.parts ∙ ap (λ (l : List ℕ). t.front ++ l) i.2.parts ∙ sym (append_assoc t.front i.2.front i.1.rest) in (
                 r.0.0 ∷ i.0,
-                t.front ++ i.1,
-                i.2,
-                record { parts = parts },
-                (t.front, i.1, record { parts = refl }, t.spells, i.4),
-                i.5,
-                subst (λ (l : List A). (e l).FaultAt (behind p.at (t.front ++ i.1) i.2) f) (append_assoc before (r.0.0 ∷ []) i.0)
-                    (subst (λ (q : Place). (e ((before ++ r.0.0 ∷ []) ++ i.0)).FaultAt q f) place i.6),
+                i.1,
+                record {
+                  front = t.front ++ i.2.front;
+                  parts = parts;
+                  spelled = (t.front, i.2.front, record { parts = refl }, t.spelled, i.2.spelled);
+                  behind = omega (arith, i.2.behind, t.behind, length-append t.front i.2.front);
+                },
+                i.3,
+                subst (λ (l : List A). (e l).FaultAt i.1 f) (append_assoc before (r.0.0 ∷ []) i.0) i.4,
               )
         ]
       ]
@@ -437,5 +432,6 @@ module _ {A : Type 0} (e : List A → Element A) (read : List A → Read A) (x :
     takes = λ p v bytes d. let t = takes_from (length p.rest) [] p v (omega arith) bytes d in subst (λ (l : List A). EachSpells e [] l p.rest) (sym t.1) t.2;
     again = λ p v s. again_from v (length p.rest) [] p (omega arith) s;
     faults = λ p f bytes d. faults_from (length p.rest) [] p f (omega arith) bytes d;
-    refuses = λ p f d. refuses_from d.0 (length p.rest) [] p f d.1 d.2 (omega arith) d.3.parts d.4 d.5 d.6;
+    refuses = λ p f d.
+        refuses_from d.0 (length p.rest) [] p f d.2.front d.1.rest (omega arith) d.2.parts d.2.spelled d.3 (subst (λ (q : Place). (e d.0).FaultAt q f) (next_is p d.1 d.0 d.2) d.4);
   }

@@ -1,12 +1,12 @@
 -- What holds of each grammar that reading is exact for.
 use Rattle.std.proofs.Common.{◌≡◌, ◌⊎◌, ℕ, List, ◌++◌, Result, Ok, Err, refl, sym, ap, ◌∙◌, inl, inr}
 use Rattle.der_lite.specs.Place.{Place, Fault, place_of}
-use Rattle.der_lite.specs.Grammar.{Element, Members, behind}
+use Rattle.der_lite.specs.Grammar.{Element, Members, Stands}
 use Rattle.der_lite.specs.Decoding.{Read, ReadAll}
-use Rattle.der_lite.specs.Laws.{FoundAs}
 use Rattle.der_lite.proofs.Rules.{ok, err, ok_is, err_is}
 use Rattle.der_lite.specs.Der.{IsBytes}
-use Rattle.der_lite.proofs.Exact.{ExactElement, ExactMembers}
+use Rattle.der_lite.proofs.Elements.{behind}
+use Rattle.der_lite.proofs.Exact.{ExactElement, ExactMembers, next_is}
 
 module _ {V : Type 0} (m : Members V) (read : ReadAll V) (x : ExactMembers m read) where
   -- no bytes spell two values
@@ -31,31 +31,29 @@ module _ {V : Type 0} (m : Members V) (read : ReadAll V) (x : ExactMembers m rea
 
 module _ {V : Type 0} (e : Element V) (read : Read V) (x : ExactElement e read) where
   -- what stands at a place is read
-  pub stands_read : (p : Place) (v : V) (q : Place) → FoundAs e p v q → read p ≡ Ok (v, q)
+  pub stands_read : (p : Place) (v : V) (q : Place) → Stands e.Spells p v q → read p ≡ Ok (v, q)
   stands_read p v q h =
       ap (λ (l : List ℕ). read (place_of p.at l)) h.parts
-      ∙ x.again p.at v h.front q.rest h.spells
-      ∙ ap (λ (r : Place). Ok (v, r)) (sym h.behind_is)
+      ∙ x.again p.at v h.front q.rest h.spelled
+      ∙ ap (λ (r : Place). Ok (v, r)) (sym (next_is p q v h))
 
   -- what is read stands there
-  pub read_stands : (p : Place) (v : V) (q : Place) → IsBytes p.rest → read p ≡ Ok (v, q) → FoundAs e p v q
-  read_stands p v q bytes h =
-      let t = x.takes p v q bytes h in
-      record { front = t.front; parts = t.parts; spells = t.spells; behind_is = t.behind_is }
+  pub read_stands : (p : Place) (v : V) (q : Place) → IsBytes p.rest → read p ≡ Ok (v, q) → Stands e.Spells p v q
+  read_stands p v q bytes h = x.takes p v q bytes h
 
   -- at most one fault stands at a place
   pub element_fault : (p : Place) (f g : Fault) → e.FaultAt p f → e.FaultAt p g → f ≡ g
   element_fault p f g s t = err_is {A = V × Place} f g (sym (x.refuses p f s) ∙ x.refuses p g t)
 
   -- none where an element stands
-  pub element_apart : (p : Place) (v : V) (q : Place) (f : Fault) → FoundAs e p v q → e.FaultAt p f → ⊥
+  pub element_apart : (p : Place) (v : V) (q : Place) (f : Fault) → Stands e.Spells p v q → e.FaultAt p f → ⊥
   element_apart p v q f h d = let same : ok {A = V × Place} (v, q) ≡ err f = sym (stands_read p v q h) ∙ x.refuses p f d in absurd cc
 
   -- and one everywhere else
-  pub element_either : (p : Place) → IsBytes p.rest → ((v : V) × (q : Place) × FoundAs e p v q) ⊎ ((f : Fault) × e.FaultAt p f)
+  pub element_either : (p : Place) → IsBytes p.rest → ((v : V) × (q : Place) × Stands e.Spells p v q) ⊎ ((f : Fault) × e.FaultAt p f)
   element_either p bytes = decided (read p) refl
     where
-      decided : (r : Result (V × Place) Fault) → read p ≡ r → ((v : V) × (q : Place) × FoundAs e p v q) ⊎ ((f : Fault) × e.FaultAt p f)
+      decided : (r : Result (V × Place) Fault) → read p ≡ r → ((v : V) × (q : Place) × Stands e.Spells p v q) ⊎ ((f : Fault) × e.FaultAt p f)
       decided (Ok y) h = inl (y.0, y.1, read_stands p y.0 y.1 bytes h)
       decided (Err f) h = inr (f, x.faults p f bytes h)
 

@@ -10,6 +10,7 @@ use Rattle.der_lite.specs.Der.{IsBytes, number, twos_complement, is_integer, Int
 use Rattle.der_lite.specs.Grammar.{Keeps}
 use Rattle.der_lite.specs.Decoding.{read_primitive}
 use Rattle.der_lite.specs.Values.{is_negative, between_rules, integer_between}
+pub use Rattle.der_lite.proofs.Lengths.{number_bound}
 use Rattle.der_lite.proofs.Rules.{kept_first}
 use Rattle.der_lite.proofs.Exact.{ExactContent, exact_primitive}
 use Rattle.der_lite.proofs.Once.{Once, front_bytes, once_primitive}
@@ -36,12 +37,6 @@ module _ (least most fault : ℕ) where
       (λ content n kept s. let k = between_kept content kept in pos_is (number content) n (sym (value_is content k.1) ∙ s.value))
 
 -- ---- a number has one content
-
-pub number_bound : (xs : List ℕ) → IsBytes xs → number xs < 256 ^ length xs
-number_bound [] h = omega arith
-number_bound (x ∷ xs) h =
-    let most : x * 256 ^ length xs ≤ 255 * 256 ^ length xs = mul-le-mul_right (256 ^ length xs) (omega (arith, h zero)) in
-    omega (arith, most, number_bound xs (λ i. h (suc i)), pow-suc 256 (length xs))
 
 digits_one : (xs ys : List ℕ) → length xs ≡ length ys → IsBytes xs → IsBytes ys → number xs ≡ number ys → xs ≡ ys
 digits_one [] [] l hx hy e = refl

@@ -2,13 +2,13 @@
 use Rattle.std.proofs.Common.{◌≡◌, ℕ, Bool, List, [], ◌++◌, Result, Ok, Err, refl, sym, ap, subst, ◌∙◌, inl, inr}
 use Rattle.der_lite.specs.Place.{Place, Fault, place_of}
 use Rattle.der_lite.specs.Der.{IsBytes, head_rules, tlv}
-use Rattle.der_lite.specs.Grammar.{Element, Breaks, behind, inside, primitive, plain}
+use Rattle.der_lite.specs.Grammar.{Element, Breaks, inside, primitive, plain}
 use Rattle.der_lite.specs.Reading.{◌>>=◌, judged, element_at, content_at, content_place, next_place}
 use Rattle.der_lite.specs.Decoding.{Read, ReadContent, read_element, read_primitive}
 use Rattle.der_lite.specs.Laws.{Found}
 use Rattle.der_lite.proofs.Rules.{judged-bind, judged-kept, judged_ok, judged_err, judged_breaks, ok_is}
-use Rattle.der_lite.proofs.Elements.{Stands, stands, stands_again}
-use Rattle.der_lite.proofs.Exact.{ExactElement, IsHead, exact_element, exact_primitive}
+use Rattle.der_lite.proofs.Elements.{Opens, behind, stands, stands_again}
+use Rattle.der_lite.proofs.Exact.{ExactElement, IsHead, exact_element, exact_primitive, next_is}
 
 -- the usual rules of a head
 pub usual_head : (tag : ℕ) → IsHead tag (head_rules tag)
@@ -58,20 +58,20 @@ pub opens_found : (tag : ℕ) (p inner next : Place) → IsBytes p.rest → elem
 unfolding element_at
 opens_found tag p inner next bytes e =
     let j = judged_ok (head_rules tag p.rest) p.at (Ok (content_place p, next_place p)) (inner, next) e in
-    let s = subst (λ (x : Place × Place). Stands tag p x.0 x.1) (ok_is (content_place p, next_place p) (inner, next) j.1) (stands tag p bytes j.0) in
-    (record { front = tlv tag inner.rest; parts = s.parts; spells = (inner.rest, record { short = s.short; spelled = refl }, (refl, refl)); behind_is = s.r_is }, s.q_is)
+    let s = subst (λ (x : Place × Place). Opens tag p x.0 x.1) (ok_is (content_place p, next_place p) (inner, next) j.1) (stands tag p bytes j.0) in
+    (record { front = tlv tag inner.rest; parts = s.parts; spelled = (inner.rest, record { short = s.short; spelled = refl }, (refl, refl)); behind = ap (λ (x : Place). x.at) s.r_is }, s.q_is)
 
 -- what stands there is opened
 pub found_opens : (tag : ℕ) (p inner next : Place) → Found tag (λ content. []) p inner.rest next → inner ≡ inside p.at inner.rest → element_at tag p ≡ Ok (inner, next)
 unfolding element_at
 found_opens tag p inner next h inner_is =
-    let content = h.spells.0 in
-    let same : content ≡ inner.rest = sym h.spells.2.0 in
-    let a = stands_again tag p.at content next.rest h.spells.1.short in
+    let content = h.spelled.0 in
+    let same : content ≡ inner.rest = sym h.spelled.2.0 in
+    let a = stands_again tag p.at content next.rest h.spelled.1.short in
     let q = place_of p.at (tlv tag content ++ next.rest) in
-    let place : p ≡ q = ap (place_of p.at) (h.parts ∙ ap (λ (l : List ℕ). l ++ next.rest) h.spells.1.spelled) in
+    let place : p ≡ q = ap (place_of p.at) (h.parts ∙ ap (λ (l : List ℕ). l ++ next.rest) h.spelled.1.spelled) in
     let first : content_place q ≡ inner = a.content_is ∙ ap (λ (l : List ℕ). inside p.at l) same ∙ sym inner_is in
-    let second : next_place q ≡ next = a.next_is ∙ ap (λ (l : List ℕ). behind p.at l next.rest) (sym h.spells.1.spelled) ∙ sym h.behind_is in
+    let second : next_place q ≡ next = a.next_is ∙ ap (λ (l : List ℕ). behind p.at l next.rest) (sym h.spelled.1.spelled) ∙ sym (next_is p next inner.rest h) in
     ap (element_at tag) place
     ∙ judged-kept (head_rules tag q.rest) q.at (Ok (content_place q, next_place q)) a.kept
     ∙ ap (λ (x : Place). Ok (x, next_place q)) first ∙ ap (λ (x : Place). Ok (inner, x)) second

@@ -1,5 +1,5 @@
 -- Elements of the distinguished encoding rules (X.690).
-use Rattle.std.specs.Prelude.{◌≡◌, ℕ, zero, suc, ◌+◌, ◌-◌, ◌*◌, ◌/◌, ◌%◌, ◌^◌, ◌<◌, Bool, true, false, not, ◌&&◌, ◌||◌, nat_lt, nat_le, ◌==◌, if◌then◌else◌, List, [], ◌∷◌, ◌++◌, length, take, drop, slice_index, replicate, ℤ, pos, ◌-ℤ◌}
+use Rattle.std.specs.Prelude.{◌≡◌, ℕ, zero, suc, ◌+◌, ◌-◌, ◌*◌, ◌/◌, ◌%◌, ◌^◌, ◌<◌, Bool, true, false, not, ◌&&◌, ◌||◌, nat_lt, nat_le, ◌==◌, bytes_eq, if◌then◌else◌, List, [], ◌∷◌, ◌++◌, length, take, slice_index, replicate, ℤ, pos, ◌-ℤ◌}
 
 -- bytes are numbers below 256
 abbrev pub IsBytes : List ℕ → Type 0
@@ -74,39 +74,38 @@ pub record BitsSpell (bits : List Bool) (bytes : List ℕ) : Type 0 where
 abbrev pub announced : ℕ → ℕ
 announced first = if nat_lt 128 first && nat_lt first 133 then first - 128 else 0
 
--- the length that a first length byte and those that it announces tell
-abbrev pub told_length : ℕ → List ℕ → ℕ
-told_length first more = if nat_lt first 128 then first else number more
-
--- they are a length in the fewest bytes
-abbrev pub is_length : ℕ → List ℕ → Bool
-is_length first more = nat_lt first 128 || (nat_lt 0 (slice_index more 0) && nat_le 128 (number more))
-
--- of bytes that begin with an element: the tag, the first length byte, those that it announces
+-- of bytes that begin with an element: the tag
 abbrev pub tag_of : List ℕ → ℕ
 tag_of bytes = slice_index bytes 0
 
--- the byte behind the tag
-abbrev pub first_length_byte : List ℕ → ℕ
-first_length_byte bytes = slice_index bytes 1
+-- those that are to tell the length of its content: the first behind the tag, and those that it announces
+abbrev pub length_part : List ℕ → List ℕ
+length_part [] = []
+length_part (tag ∷ []) = []
+length_part (tag ∷ first ∷ more) = first ∷ take (announced first) more
 
--- the length bytes that it announces
-abbrev pub later_length_bytes : List ℕ → List ℕ
-later_length_bytes bytes = take (announced (first_length_byte bytes)) (drop 2 bytes)
+-- the length that they tell: the first itself, if it is below 128, or else what the others spell
+abbrev pub told_length : List ℕ → ℕ
+told_length [] = 0
+told_length (first ∷ more) = if nat_lt first 128 then first else number more
 
--- the length is in the fewest bytes
+-- 10.1: they are the one spelling of this length
+abbrev pub is_length : List ℕ → Bool
+is_length part = bytes_eq part (length_bytes (told_length part))
+
+-- the length is rightly spelled
 unfoldable pub has_length : List ℕ → Bool
-has_length bytes = is_length (first_length_byte bytes) (later_length_bytes bytes)
+has_length bytes = is_length (length_part bytes)
 
 -- where the length ends, and where the content does
 unfoldable pub length_end : List ℕ → ℕ
-length_end bytes = 2 + announced (first_length_byte bytes)
+length_end bytes = 2 + announced (slice_index bytes 1)
 
 -- where the content ends, counted as the length tells it
 unfoldable pub content_end : List ℕ → ℕ
-content_end bytes = length_end bytes + told_length (first_length_byte bytes) (later_length_bytes bytes)
+content_end bytes = length_end bytes + told_length (length_part bytes)
 
--- the tag, the length or the content do not all stand here
+-- The tag and the length are not all there; or they are, the length is rightly spelled, and the content is not all there.
 unfoldable pub is_truncated : List ℕ → Bool
 is_truncated bytes = nat_lt (length bytes) (length_end bytes) || (has_length bytes && nat_lt (length bytes) (content_end bytes))
 

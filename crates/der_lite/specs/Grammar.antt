@@ -31,21 +31,24 @@ Keeps rules = first_of rules ≡ None
 pub record Splits (bytes front rest : List ℕ) : Type 0 where
   pub parts : bytes ≡ front ++ rest
 
--- the place behind these bytes
-abbrev pub behind : ℕ → List ℕ → List ℕ → Place
-behind at front rest = record { at = at + length front; rest = rest }
+-- Bytes that spell this value stand at the front of place p, and next is the place behind them.
+pub record Stands {V : Type 0} (Spells : V → List ℕ → Type 0) (p : Place) (v : V) (next : Place) : Type 0 where
+  pub front : List ℕ
+  pub parts : p.rest ≡ front ++ next.rest
+  pub spelled : Spells v front
+  pub behind : next.at ≡ p.at + length front
 
 -- where the content of an element begins that stands at an offset
 abbrev pub inside : ℕ → List ℕ → Place
 inside at content = record { at = at + 1 + length (length_bytes (length content)); rest = content }
 
--- An element: rules over its tag and its length are judged first, and then its content.
+-- An element. Its fault: the head breaks a rule; or it keeps them all, the element stands here, and its content is faulty.
 abbrev pub element : {V : Type 0} → ℕ → (List ℕ → List (ℕ × Bool)) → Content V → Element V
 element {V} tag head content = record {
   Spells = λ v bytes. (inner : List ℕ) × Tlv tag inner bytes × content.Spells v inner;
   FaultAt = λ p fault.
       Breaks (head p.rest) p.at fault
-      ⊎ ((inner : List ℕ) × (front : List ℕ) × (rest : List ℕ) × Splits p.rest front rest × Keeps (head p.rest) × Tlv tag inner front × content.FaultAt p.at (inside p.at inner) fault);
+      ⊎ ((inner : List ℕ) × (next : Place) × Keeps (head p.rest) × Stands (Tlv tag) p inner next × content.FaultAt p.at (inside p.at inner) fault);
 }
 
 -- a content that spells a value by itself
@@ -59,14 +62,15 @@ primitive {V} Spells rules = record {
 abbrev pub plain : ℕ → (List ℕ → List (ℕ × Bool)) → Element (List ℕ)
 plain tag rules = element tag (head_rules tag) (primitive (λ content inner. content ≡ inner) rules)
 
--- A content of members: rules that are judged before them, the members, and rules over the whole.
+-- A content of members. Its fault: a rule that is judged before them is broken; or a member is faulty; or all are spelled, and a rule over
+-- them is broken.
 abbrev pub constructed : {V : Type 0} → (List ℕ → List (ℕ × Bool)) → Members V → (V → List (ℕ × Bool)) → Content V
 constructed {V} before members whole = record {
   Spells = λ v inner. Keeps (before inner) × members.Spells v inner × Keeps (whole v);
   FaultAt = λ at p fault.
       Breaks (before p.rest) at fault
       ⊎ (Keeps (before p.rest) × members.FaultAt p fault)
-      ⊎ (Keeps (before p.rest) × ((v : V) × members.Spells v p.rest × Breaks (whole v) at fault));
+      ⊎ ((v : V) × Keeps (before p.rest) × members.Spells v p.rest × Breaks (whole v) at fault);
 }
 
 -- bytes remain where the enclosing element should end
@@ -74,11 +78,11 @@ pub record Trails (p : Place) (fault : Fault) : Type 0 where
   pub more : p.rest ≢ []
   pub is : fault ≡ record { number = 5; offset = p.at }
 
--- the first member faults, or it is spelled and what is behind it faults
+-- The first member is faulty; or it stands here, and what is behind it is faulty.
 abbrev pub FaultIn : {A : Type 0} → Element A → (A → Place → Fault → Type 0) → Place → Fault → Type 0
 FaultIn {A} first Later p fault =
     first.FaultAt p fault
-    ⊎ ((a : A) × (front : List ℕ) × (rest : List ℕ) × Splits p.rest front rest × first.Spells a front × Later a (behind p.at front rest) fault)
+    ⊎ ((a : A) × (next : Place) × Stands first.Spells p a next × Later a next fault)
 
 -- one member, and the end
 abbrev pub last : {A : Type 0} → Element A → Members A
@@ -111,9 +115,9 @@ abbrev pub EachSpells : {A : Type 0} → (List A → Element A) → List A → L
 EachSpells e before [] bytes = bytes ≡ []
 EachSpells e before (a ∷ others) bytes = (front : List ℕ) × (rest : List ℕ) × Splits bytes front rest × (e before).Spells a front × EachSpells e (before ++ a ∷ []) others rest
 
--- Members to the end, each of which may depend on those before it.
+-- Members to the end, each of which may depend on those before it. Their fault: some stand here, bytes remain, and the next is faulty.
 abbrev pub each : {A : Type 0} → (List A → Element A) → Members (List A)
 each {A} e = record {
   Spells = EachSpells e [];
-  FaultAt = λ p fault. (before : List A) × (front : List ℕ) × (rest : List ℕ) × Splits p.rest front rest × EachSpells e [] before front × (rest ≢ []) × (e before).FaultAt (behind p.at front rest) fault;
+  FaultAt = λ p fault. (before : List A) × (next : Place) × Stands (EachSpells e []) p before next × (next.rest ≢ []) × (e before).FaultAt next fault;
 }

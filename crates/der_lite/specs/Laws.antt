@@ -3,20 +3,13 @@ use Rattle.std.specs.Prelude.{◌≡◌, ◌↔◌, ℕ, Bool, true, ◌⊎◌, 
 use Rattle.der_lite.specs.Place.{Place, Fault}
 use Rattle.der_lite.specs.Der.{IsBytes, BitsSpell, head_rules, is_bit_string}
 use Rattle.der_lite.specs.Moments.{CivilMoment, is_moment, moment_before, moment_text, moment_in, TimeSpells, IsMomentOf}
-use Rattle.der_lite.specs.Grammar.{Element, Breaks, plain, behind, inside}
+use Rattle.der_lite.specs.Grammar.{Breaks, Stands, plain, inside}
 use Rattle.der_lite.specs.Reading.{element_at, content_at, time_at}
 use Rattle.der_lite.specs.Times.{timed}
 
--- An element that spells this value stands at the front of place p, and q is the place behind it.
-pub record FoundAs {V : Type 0} (e : Element V) (p : Place) (v : V) (q : Place) : Type 0 where
-  pub front : List ℕ
-  pub parts : p.rest ≡ front ++ q.rest
-  pub spells : e.Spells v front
-  pub behind_is : q ≡ behind p.at front q.rest
-
--- An element of this tag, with this content.
+-- An element of this tag stands here, with this content.
 abbrev pub Found : ℕ → (List ℕ → List (ℕ × Bool)) → Place → List ℕ → Place → Type 0
-Found tag rules = FoundAs (plain tag rules)
+Found tag rules = Stands (plain tag rules).Spells
 
 -- Reading gives a content exactly where its element stands, and a fault exactly where that fault stands.
 abbrev pub ReadsExactly : Type 0
@@ -60,7 +53,7 @@ SpellsBits =
 abbrev pub ReadsTimesExactly : Type 0
 ReadsTimesExactly =
     (p : Place) → IsBytes p.rest
-    → ((m : CivilMoment) (q : Place) → (time_at p ≡ Ok (m, q)) ↔ FoundAs (timed (λ m. [])) p m q)
+    → ((m : CivilMoment) (q : Place) → (time_at p ≡ Ok (m, q)) ↔ Stands (timed (λ m. [])).Spells p m q)
     × ((fault : Fault) → (time_at p ≡ Err fault) ↔ (timed (λ m. [])).FaultAt p fault)
 
 -- At most one fault stands where a moment is expected, none where one stands, and one everywhere else.
@@ -68,8 +61,8 @@ abbrev pub OneFaultOfTimes : Type 0
 OneFaultOfTimes =
     (rules : CivilMoment → List (ℕ × Bool)) (p : Place)
     → ((f g : Fault) → (timed rules).FaultAt p f → (timed rules).FaultAt p g → f ≡ g)
-    × ((m : CivilMoment) (q : Place) (f : Fault) → FoundAs (timed rules) p m q → (timed rules).FaultAt p f → ⊥)
-    × (IsBytes p.rest → ((m : CivilMoment) × (q : Place) × FoundAs (timed rules) p m q) ⊎ ((f : Fault) × (timed rules).FaultAt p f))
+    × ((m : CivilMoment) (q : Place) (f : Fault) → Stands (timed rules).Spells p m q → (timed rules).FaultAt p f → ⊥)
+    × (IsBytes p.rest → ((m : CivilMoment) × (q : Place) × Stands (timed rules).Spells p m q) ⊎ ((f : Fault) × (timed rules).FaultAt p f))
 
 -- No moment has two elements; and where one element begins with another, it is that one, of the same moment.
 abbrev pub OneSpellingOfTimes : Type 0

@@ -11,4 +11,5 @@ pub mod Values
 pub mod Fields
 pub mod Moments
 pub mod MomentRows
+pub mod HeadRows
 pub mod Civils

@@ -2,7 +2,7 @@
 use Rattle.std.specs.Prelude.{◌≡◌, ℕ, ◌∷◌, [], List, ◌++◌, true, false, codes, Some, None, Ok, Err, refl}
 use Rattle.der_lite.specs.Moments.{told, is_moment, moment_before, moment_digits, moment_text, moment_of, is_time, moment_in}
 use Rattle.der_lite.specs.Place.{Place, place_of}
-use Rattle.der_lite.specs.Der.{head_rules, has_length, length_end, content_end, is_truncated}
+use Rattle.der_lite.specs.Der.{head_rules, has_length, length_bytes, length_end, content_end, is_truncated}
 use Rattle.der_lite.specs.Reading.{content_place, next_place, element_at, content_at, time_at}
 
 -- the last second of all
@@ -127,14 +127,14 @@ place : ℕ → List ℕ → Place
 place tag text = place_of 7 (tag ∷ 15 ∷ text ++ 5 ∷ 0 ∷ [])
 
 read_noon : time_at (place 24 (codes "20250101120000Z")) ≡ Ok (told 2025 1 1 12 0 0, place_of 24 (5 ∷ 0 ∷ []))
-unfolding place time_at content_at element_at content_place next_place head_rules is_truncated has_length length_end content_end moment_in is_time moment_of moment_text moment_digits is_moment
+unfolding place time_at content_at element_at content_place next_place head_rules is_truncated has_length length_bytes length_end content_end moment_in is_time moment_of moment_text moment_digits is_moment
 read_noon = refl
 
 -- a UTCTime has another tag
 utc_time : time_at (place 23 (codes "20250101120000Z")) ≡ Err (record { number = 2; offset = 7 })
-unfolding place time_at content_at element_at content_place next_place head_rules is_truncated has_length length_end content_end
+unfolding place time_at content_at element_at content_place next_place head_rules is_truncated has_length length_bytes length_end content_end
 utc_time = refl
 
 common_february : time_at (place 24 (codes "20250229120000Z")) ≡ Err (record { number = 4; offset = 7 })
-unfolding place time_at content_at element_at content_place next_place head_rules is_truncated has_length length_end content_end is_time moment_of moment_text moment_digits is_moment
+unfolding place time_at content_at element_at content_place next_place head_rules is_truncated has_length length_bytes length_end content_end is_time moment_of moment_text moment_digits is_moment
 common_february = refl

@@ -1,6 +1,6 @@
 //! The length bytes of an element (X.690, 8.1.3 and 10.1).
 
-ghost use Rattle.std.specs.Prelude.{◌≡◌, ◌<◌, ◌≤◌, ◌^◌, length};
+ghost use Rattle.std.specs.Prelude.{◌≡◌, ◌<◌, ◌≤◌, ◌^◌, ◌∷◌, length};
 ghost use Rattle.der_lite.specs.Der.{announced as announced_by, number as number_of, told_length, is_length as is_length_of};
 
 /// How many length bytes a first one announces behind it.
@@ -34,7 +34,7 @@ pub(crate) fn number(bytes: &[u8]) -> u32
 /// The length that a first length byte and those that it announces tell.
 pub(crate) fn told(first: u8, more: &[u8]) -> usize
     requires { length more.now ≤ 4 }
-    ensures value { result ≡ told_length first more.now }
+    ensures value { result ≡ told_length (first ∷ more.now) }
     ensures short { result < 2 ^ 32 }
 {
     if first < 128 {
@@ -44,10 +44,13 @@ pub(crate) fn told(first: u8, more: &[u8]) -> usize
     }
 }
 
-/// Whether they are a length in the fewest bytes.
+/// Whether a first length byte and those that it announces are a length in the fewest bytes.
 pub(crate) fn is_length(first: u8, more: &[u8]) -> bool
-    requires { length more.now ≤ 4 }
-    ensures { result ≡ is_length_of first more.now }
+    requires { announced_by first ≡ length more.now }
+    ensures { result ≡ is_length_of (first ∷ more.now) }
 {
-    first < 128 || more.first().is_some_and(|b| *b > 0) && number(more) >= 128
+    match more {
+        [] => first < 128,
+        [highest, ..] => *highest > 0 && number(more) >= 128,
+    }
 }
