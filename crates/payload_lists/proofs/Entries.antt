@@ -1,5 +1,5 @@
 -- The entries of a payload list.
-use Rattle.std.proofs.Common.{◌≡◌, ◌≢◌, ℕ, ◌<◌, ◌+◌, suc, drop, get_or, drop-cons, ◌≤◌, ◌++◌, IfSome, append_assoc, append-nil, List, [], ◌∷◌, Option, Some, None, Result, Ok, Err, length, refl, sym, ap, ◌∙◌, subst, arith, rules, add-one, codes, String}
+use Rattle.std.proofs.Common.{◌≡◌, ◌≢◌, ℕ, ◌<◌, ◌+◌, suc, drop, get_or, drop-cons, ◌≤◌, ◌++◌, IfSome, append_assoc, append-nil, List, [], ◌∷◌, Option, Some, None, Result, Ok, length, refl, sym, ap, ◌∙◌, subst, arith, rules, add-one, codes, String}
 use Rattle.std.proofs.lemmas.List.{length-map}
 use Rattle.std.specs.declared.alloc.Global.{Global}
 use Rattle.serde_json.specs.Data.{Data, Items, no_items, item, Members}
@@ -8,11 +8,9 @@ use Rattle.serde_json.specs.Read as json
 use Rattle.serde_json.specs.View.{view, items_view, members_of, members_view}
 use Rattle.serde_json.specs.declared.value.Value.{Value}
 use Rattle.prefixes.specs.Payload.{Payload, block_of, width_of}
-use Rattle.prefixes.specs.Text.{PrefixText, ReadsAs}
+use Rattle.prefixes.specs.Text.{PrefixText}
 use Rattle.prefixes.specs.declared.fault.PrefixFault.{PrefixFault}
-use Rattle.prefixes.specs.declared.fault.PrefixFault.TheVariants as faults
 use Rattle.prefixes.specs.declared.prefix.IpPrefix.{IpPrefix}
-use Rattle.prefixes.proofs.Spelling.{one_reading}
 use Rattle.payload_lists.specs.PayloadList.{AreEntries, IsEntry, IsPayloadList, Lists, member_count, text_at, whole_at}
 use Rattle.payload_lists.specs.Reading.{Makes}
 use Rattle.vrps.specs.VrpSet.{VrpSet, set_of, size}
@@ -23,26 +21,6 @@ count_of (m ∷ ms) = rw (count_of ms) search rules
 
 pub count_view : (ms : List (String Global × Value)) → member_count (members_view ms) ≡ length ms
 count_view ms = count_of _ ∙ length-map ms _
-
--- a text that is refused spells no prefix
-refused : (text : List ℕ) (fault : PrefixFault) → ReadsAs text (Err fault) → (p : IpPrefix) → ¬ (PrefixText p text)
-refused text faults.BadText reads p h = reads p h.says
-refused text faults.TooLong reads p h =
-    let same = one_reading text reads.0 p reads.1 h.says in
-    let over : width_of p < (block_of p).len = subst (λ q. width_of q < (block_of q).len) same reads.2 in
-    absurd (omega (arith, over, h.is_prefix.in_family))
-refused text faults.HostBits reads p h =
-    let same = one_reading text reads.0 p reads.1 h.says in
-    subst (λ q. ¬ (PrefixText q text)) same (λ k. reads.3 k.is_prefix.no_host_bits) h
-refused text faults.MaxLength reads p h = absurd reads
-
-pub unreadable : (text : List ℕ) (r : Result IpPrefix PrefixFault) → ReadsAs text r → ((p : IpPrefix) → r ≡ Ok p → ⊥) → (p : IpPrefix) → ¬ (PrefixText p text)
-unreadable text (Ok q) reads none p h = absurd (none q refl)
-unreadable text (Err fault) reads none p h = refused text fault reads p h
-
--- the prefix that is read is the one that a payload of this text has
-pub same_prefix : (text : List ℕ) (p q : IpPrefix) → PrefixText p text → PrefixText q text → p ≡ q
-same_prefix text p q g h = one_reading text p q g.says h.says
 
 pub same_member_count : (ms ns : Members) (d : Data) (n : ℕ) → Some ms ≡ as_object d → as_object d ≡ Some ns → member_count ms ≡ n → member_count ns ≡ n
 same_member_count ms ns d n e h count = let same : ms ≡ ns = some_same ms ns (e ∙ h) in subst (λ x. member_count x ≡ n) same count
@@ -70,10 +48,21 @@ is_entry d ms asn max_len text v object three has_asn has_max has_text made = re
 pub not_three : (v : Payload) (d : Data) (ms : Members) (n : ℕ) → Some ms ≡ as_object d → member_count ms ≡ n → n ≢ 3 → ¬ (IsEntry d v)
 not_three v d ms n e count other h = other (sym (same_member_count ms h.members d n e h.is_object count) ∙ h.three)
 
+-- a prefix, as it is read
+abbrev pub read : IpPrefix → Result IpPrefix PrefixFault
+read p = Ok p
+
+-- The prefix that is read is the one of a payload of this text.
+abbrev pub IsOnly : List ℕ → IpPrefix → Type 0
+IsOnly text p = (q : IpPrefix) → PrefixText q text → read p ≡ read q
+
+same_prefix : (p q : IpPrefix) → read p ≡ read q → q ≡ p
+same_prefix p q e = cc
+
 -- numbers that make no payload with this prefix
-pub makes_none : (text : List ℕ) (p : IpPrefix) (asn max_len : ℕ) → PrefixText p text → ((((block_of p).len ≤ max_len) × (max_len ≤ width_of p)) → ⊥) → (v : Payload) → ¬ (Makes asn max_len text v)
-makes_none text p asn max_len reads none v h =
-    let same : v.prefix ≡ p = same_prefix text v.prefix p h.prefix reads in
+pub makes_none : (text : List ℕ) (p : IpPrefix) (asn max_len : ℕ) → IsOnly text p → ((((block_of p).len ≤ max_len) × (max_len ≤ width_of p)) → ⊥) → (v : Payload) → ¬ (Makes asn max_len text v)
+makes_none text p asn max_len only none v h =
+    let same : v.prefix ≡ p = same_prefix p v.prefix (only v.prefix h.prefix) in
     let low : (block_of p).len ≤ v.max_len = subst (λ q. (block_of q).len ≤ v.max_len) same h.payload.not_shorter in
     let high : v.max_len ≤ width_of p = subst (λ q. v.max_len ≤ width_of q) same h.payload.in_family in
     none (omega (arith, low, h.max_len_is), omega (arith, high, h.max_len_is))
@@ -85,27 +74,36 @@ if_some (Some x) f h = f x h
 -- The entries so far are these payloads, and others are left.
 pub record SoFar (whole left : Items) (done : List Payload) : Type 0 where
   pub on : (vs : List Payload) → AreEntries left vs → AreEntries whole (done ++ vs)
-  pub rest : (vs : List Payload) → AreEntries whole vs → (ws : List Payload) × AreEntries left ws
+  pub rest : (vs : List Payload) → AreEntries whole vs → (ws : List Payload) × AreEntries left ws × (vs ≡ done ++ ws)
 
 pub begin : (whole : Items) → SoFar whole whole []
-begin whole = record { on = λ vs h. h; rest = λ vs h. (vs, h) }
-
-tail_of : (d : Data) (left : Items) (ws : List Payload) → AreEntries (item d left) ws → (rest : List Payload) × AreEntries left rest
-tail_of d left [] h = absurd h
-tail_of d left (w ∷ ws) h = (ws, h.1)
+begin whole = record { on = λ vs h. h; rest = λ vs h. (vs, h, refl) }
 
 head_of : (d : Data) (left : Items) (ws : List Payload) → AreEntries (item d left) ws → (v : Payload) × IsEntry d v
 head_of d left [] h = absurd h
 head_of d left (w ∷ ws) h = (w, h.0)
 
-pub step : (whole left : Items) (d : Data) (done : List Payload) (v : Payload) → SoFar whole (item d left) done → IsEntry d v → SoFar whole left (done ++ v ∷ [])
-step whole left d done v s e = record {
+next_of : (left : Items) (d : Data) (done : List Payload) (v : Payload) (vs ws : List Payload) → ((w : Payload) → IsEntry d w → w ≡ v) → AreEntries (item d left) ws → vs ≡ done ++ ws
+    → (rest : List Payload) × AreEntries left rest × (vs ≡ (done ++ v ∷ []) ++ rest)
+next_of left d done v vs [] one h is = absurd h
+next_of left d done v vs (w ∷ ws) one h is = (ws, h.1, is ∙ ap (λ x. done ++ x ∷ ws) (one w h.0) ∙ sym (append_assoc done (v ∷ []) ws))
+
+pub step : (whole left : Items) (d : Data) (done : List Payload) (v : Payload) → SoFar whole (item d left) done → IsEntry d v → ((w : Payload) → IsEntry d w → w ≡ v) → SoFar whole left (done ++ v ∷ [])
+step whole left d done v s e one = record {
   on = λ vs h. subst (λ xs. AreEntries whole xs) (sym (append_assoc done (v ∷ []) vs)) (s.on (v ∷ vs) (e, h));
-  rest = λ vs h. let more = s.rest vs h in tail_of d left more.0 more.1;
+  rest = λ vs h. let more = s.rest vs h in next_of left d done v vs more.0 one more.1 more.2;
 }
 
 pub finish : (whole : Items) (done : List Payload) → SoFar whole no_items done → AreEntries whole done
 finish whole done s = subst (λ xs. AreEntries whole xs) (append-nil done) (s.on [] tt)
+
+-- These are all, and no others are.
+only_empty : (ws : List Payload) → AreEntries no_items ws → ws ≡ []
+only_empty [] h = refl
+only_empty (w ∷ ws) h = absurd h
+
+pub finish_one : (whole : Items) (done : List Payload) → SoFar whole no_items done → (vs : List Payload) → AreEntries whole vs → vs ≡ done
+finish_one whole done s vs h = let more = s.rest vs h in more.2 ∙ ap (λ ws. done ++ ws) (only_empty more.0 more.1) ∙ append-nil done
 
 pub stop : (whole left : Items) (d : Data) (done : List Payload) → SoFar whole (item d left) done → ((v : Payload) → ¬ (IsEntry d v)) → (vs : List Payload) → ¬ (AreEntries whole vs)
 stop whole left d done s none vs h = let more = s.rest vs h in let first = head_of d left more.0 more.1 in none first.0 first.1
@@ -118,30 +116,13 @@ next_item list i x h e =
 one_some : {A : Type 0} (a b : A) (o : Option A) → o ≡ Some a → o ≡ Some b → a ≡ b
 one_some a b o e f = let same : Some a ≡ Some b = sym e ∙ f in cc
 
--- An entry is of one payload.
-one_payload : (d : Data) (v w : Payload) → IsEntry d v → IsEntry d w → v ≡ w
-one_payload d v w g h =
-    let texts = one_some g.text h.text (text_at (codes "prefix") d) g.has_text h.has_text in
-    let prefixes = same_prefix h.text v.prefix w.prefix (subst (λ t. PrefixText v.prefix t) texts g.prefix) h.prefix in
-    let max_lens = one_some v.max_len w.max_len (whole_at (codes "maxLength") d) g.max_len h.max_len in
-    let asns = one_some v.asn w.asn (whole_at (codes "asn") d) g.asn h.asn in
-    λ i. record { prefix = prefixes i; max_len = max_lens i; asn = asns i }
-
-one_list : (ds : Items) (vs ws : List Payload) → AreEntries ds vs → AreEntries ds ws → vs ≡ ws
-one_list no_items [] [] g h = refl
-one_list no_items (v ∷ vs) ws g h = absurd g
-one_list no_items [] (w ∷ ws) g h = absurd h
-one_list (item d ds) [] ws g h = absurd g
-one_list (item d ds) (v ∷ vs) [] g h = absurd h
-one_list (item d ds) (v ∷ vs) (w ∷ ws) g h = λ i. one_payload d v w g.0 h.0 i ∷ one_list ds vs ws g.1 h.1 i
-
 pub lists : (items : Items) (records : List Payload) (s : VrpSet) → AreEntries items records → s ≡ set_of records → size s ≤ 16777215 → Lists items s
 lists items records s entries is few = record { records = records; entries = entries; set_is = is; within_limit = few }
 
 -- An array of the entries of too many different records is no list.
-pub too_many : (items : Items) (records : List Payload) (s : VrpSet) → AreEntries items records → 16777215 < size (set_of records) → ¬ (Lists items s)
-too_many items records s entries many h =
-    let same : h.records ≡ records = one_list items h.records records h.entries entries in
+pub too_many : (items : Items) (records : List Payload) (s : VrpSet) → ((vs : List Payload) → AreEntries items vs → vs ≡ records) → 16777215 < size (set_of records) → ¬ (Lists items s)
+too_many items records s one many h =
+    let same : h.records ≡ records = one h.records h.entries in
     let sizes : size s ≡ size (set_of records) = ap (λ x. size x) (h.set_is ∙ ap (λ vs. set_of vs) same) in
     absurd (omega (arith, sizes, many, h.within_limit))
 

@@ -59,6 +59,7 @@ fn text<'a>(value: &'a Value, key: &str) -> Option<&'a str>
 /// The payload of these numbers and this text, if they make one.
 fn payload(asn: u64, max_len: u64, prefix: &str) -> Option<Vrp>
     ensures some { IfSome result (λ v. Makes asn max_len prefix.now v) }
+    ensures one { IfSome result (λ v. (w : Payload) → Makes asn max_len prefix.now w → w ≡ v) }
     ensures none { IfNone result ((v : Payload) → ¬ (Makes asn max_len prefix.now v)) }
 {
     let Ok(prefix) = IpPrefix::parse(prefix) else {
@@ -79,6 +80,7 @@ fn payload(asn: u64, max_len: u64, prefix: &str) -> Option<Vrp>
 /// The payload of an entry.
 fn entry(value: &Value) -> Option<Vrp>
     ensures some { IfSome result (λ v. IsEntry (view value.now) v) }
+    ensures one { IfSome result (λ v. (w : Payload) → IsEntry (view value.now) w → w ≡ v) }
     ensures none { IfNone result ((v : Payload) → ¬ (IsEntry (view value.now) v)) }
 {
     let members = value.as_object()?;
@@ -94,6 +96,7 @@ fn entry(value: &Value) -> Option<Vrp>
 /// The payloads of the entries, in their order.
 fn records_of(alloc: Global, list: &[Value]) -> Result<Vec<Vrp>, ListFault>
     ensures ok { IfOk result (λ vs. AreEntries (items_view list.now) vs.items) }
+    ensures one { IfOk result (λ vs. (ws : List Payload) → AreEntries (items_view list.now) ws → ws ≡ vs.items) }
     ensures no_list { IsErrOf result ListFault.NoList → (vs : List Payload) → ¬ (AreEntries (items_view list.now) vs) }
 {
     let mut records = Vec::new(alloc);

@@ -1,11 +1,9 @@
 pub mod Addresses
 pub mod Decimals
-pub mod DerivedOrder
 pub mod Groups
 pub mod Lacks
 pub mod LongestRun
 pub mod Numbers
 pub mod OrderRows
-pub mod PayloadOrder
 pub mod RefusedRows
 pub mod Spelling

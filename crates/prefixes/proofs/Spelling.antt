@@ -136,6 +136,18 @@ one_reading text p q h k =
     let len = decimal_injective (block_of p).len (block_of q).len (omega (arith, h.three_digits)) (omega (arith, parts.1)) parts.2 in
     same_address p q h.address h.is_address parts.0 len
 
+-- So what is read from the text of a prefix is that prefix.
+pub read_only : (text : List ℕ) (r : Result IpPrefix PrefixFault) → ReadsAs text r → (p : IpPrefix) → PrefixText p text → r ≡ Ok p
+read_only text (Ok q) reads p h = ap (λ (x : IpPrefix). Ok x) (one_reading text q p reads.says h.says)
+read_only text (Err BadText) reads p h = absurd (reads p h.says)
+read_only text (Err TooLong) reads p h =
+    let over : width_of p < (block_of p).len = subst (λ q. width_of q < (block_of q).len) (one_reading text reads.0 p reads.1 h.says) reads.2 in
+    absurd (omega (arith, over, h.is_prefix.in_family))
+read_only text (Err HostBits) reads p h =
+    let none : ¬ (PrefixText p text) = subst (λ q. ¬ (PrefixText q text)) (one_reading text reads.0 p reads.1 h.says) (λ k. reads.3 k.is_prefix.no_host_bits) in
+    absurd (none h)
+read_only text (Err MaxLength) reads p h = absurd reads
+
 -- What is written for an address spells it.
 written_is_address : (p : IpPrefix) → IsPrefix (width_of p) (block_of p) → IsAddress p (written_address p)
 written_is_address (V4 p) h = (h.address, refl)

@@ -16,4 +16,4 @@ pub use family::{Family, V4, V6};
 pub use fault::PrefixFault;
 pub use prefix::{IpPrefix, Prefix};
 pub use route::Route;
-pub use vrp::{Vrp, order};
+pub use vrp::Vrp;

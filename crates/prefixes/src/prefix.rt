@@ -1,7 +1,12 @@
 //! Prefixes of one family, and of either.
 ghost use Rattle.std.specs.Prelude.{◌≡◌, ℕ, ◌-◌, ◌/◌, ◌%◌, ◌^◌, ◌<◌, ◌≤◌, ◌↔◌, IsTrue, IfOk, IsOk, Err};
+ghost use Rattle.std.proofs.Common.{rules};
+ghost use Rattle.std.specs.Cmp.{partial_order_from_own_ties, partial_order_from_total};
+ghost use Rattle.std.specs.Cmp.Rules.{comparing};
+ghost use Rattle.std.specs.Ordering.{as_partial_cmp};
 ghost use Rattle.prefixes.specs.Address.{Block, HasNoHostBits, IsPrefix, contains};
-ghost use Rattle.prefixes.specs.Payload.{block_cmp};
+ghost use Rattle.prefixes.specs.Payload.{block_cmp, prefix_cmp};
+ghost use Rattle.prefixes.specs.Orders.{block_total, prefix_total};
 
 use crate::address::Address;
 use crate::family::{Family, V4, V6};
@@ -11,7 +16,7 @@ use std::marker::{Model, PhantomData};
 
 /// A prefix of the family `F`: an address and how many of its first bits count, all others being zero
 /// (RFC 4632 section 3.1, RFC 4291 section 2.3).
-#[derive_where(Clone, Copy, PartialEq, Eq, PartialOrd, Ord, Hash)]
+#[derive_where(Clone, Copy, PartialEq, Eq, Hash)]
 pub struct Prefix<F: Family> {
     addr: Address,
     len: u8,
@@ -85,12 +90,20 @@ impl<F: Family> Prefix<F> {
         let host = F::WIDTH - self.len;
         host == 128 || self.addr() >> host == other.addr() >> host
     }
+}
 
-    /// The order of prefixes of a family: address, length.
+/// The order of prefixes of a family: address, length.
+impl<F: Family> Ord for Prefix<F> {
+    ghost cmp = { block_cmp };
+
+    ghost total = { block_total };
+
+    ghost matches_partial_cmp = { Prim.search (comparing, rules) };
+
+    ghost matches_eq = { Prim.search (comparing, rules) };
+
     #[inline(always)]
-    fn order(&self, other: &Prefix<F>) -> Ordering
-        ensures { result ≡ block_cmp self.now other.now }
-    {
+    fn cmp(&self, other: &Prefix<F>) -> Ordering {
         match self.addr().cmp(&other.addr()) {
             Ordering::Equal => self.len.cmp(&other.len),
             unequal => unequal,
@@ -98,15 +111,25 @@ impl<F: Family> Prefix<F> {
     }
 }
 
+impl<F: Family> PartialOrd for Prefix<F> {
+    ghost partial_cmp = { as_partial_cmp block_cmp };
+
+    ghost laws = { partial_order_from_own_ties (partial_order_from_total block_total) (Prim.search (comparing, rules)) };
+
+    fn partial_cmp(&self, other: &Prefix<F>) -> Option<Ordering> {
+        Some(self.cmp(other))
+    }
+}
+
 /// A prefix of either family. All of IPv4 stand before all of IPv6; within a family the order is by address, then length.
-#[derive(Clone, Copy, PartialEq, Eq, PartialOrd, Ord, Hash)]
+#[derive(Clone, Copy, PartialEq, Eq, Hash)]
 pub enum IpPrefix {
     V4(Prefix<V4>),
     V6(Prefix<V6>),
 }
 
 impl IpPrefix {
-    ghost use Rattle.prefixes.specs.Payload.{block_of, covers, prefix_cmp, width_of};
+    ghost use Rattle.prefixes.specs.Payload.{block_of, covers, width_of};
 
     /// Whether they are of one family, and each address of `other` is one of this prefix.
     pub fn covers(&self, other: &IpPrefix) -> bool
@@ -129,17 +152,35 @@ impl IpPrefix {
             IpPrefix::V6(p) => p.len(),
         }
     }
+}
 
-    /// The order of prefixes: family, address, length.
+/// The order of prefixes: family, address, length.
+impl Ord for IpPrefix {
+    ghost cmp = { prefix_cmp };
+
+    ghost total = { prefix_total };
+
+    ghost matches_partial_cmp = { Prim.search (comparing, rules) };
+
+    ghost matches_eq = { Prim.search (comparing, rules) };
+
     #[inline(always)]
-    pub(crate) fn order(&self, other: &IpPrefix) -> Ordering
-        ensures { result ≡ prefix_cmp self.now other.now }
-    {
+    fn cmp(&self, other: &IpPrefix) -> Ordering {
         match (self, other) {
-            (IpPrefix::V4(p), IpPrefix::V4(q)) => p.order(q),
-            (IpPrefix::V6(p), IpPrefix::V6(q)) => p.order(q),
+            (IpPrefix::V4(p), IpPrefix::V4(q)) => p.cmp(q),
+            (IpPrefix::V6(p), IpPrefix::V6(q)) => p.cmp(q),
             (IpPrefix::V4(_), IpPrefix::V6(_)) => Ordering::Less,
             (IpPrefix::V6(_), IpPrefix::V4(_)) => Ordering::Greater,
         }
+    }
+}
+
+impl PartialOrd for IpPrefix {
+    ghost partial_cmp = { as_partial_cmp prefix_cmp };
+
+    ghost laws = { partial_order_from_own_ties (partial_order_from_total prefix_total) (Prim.search (comparing, rules)) };
+
+    fn partial_cmp(&self, other: &IpPrefix) -> Option<Ordering> {
+        Some(self.cmp(other))
     }
 }

@@ -12,13 +12,14 @@ use std::fmt::{self, Display};
 use std::net::{Ipv4Addr, Ipv6Addr};
 
 impl IpPrefix {
-    ghost use Rattle.prefixes.specs.Text.{ReadsAs};
+    ghost use Rattle.prefixes.specs.Text.{PrefixText, ReadsAs};
 
     /// The prefix that a text spells: an address, a slash, and the length in one to three decimal digits without a leading zero
     /// (RFC 4632 section 3.1, RFC 4291 sections 2.2 and 2.3). An IPv6 address has no part in dotted decimal. Other text is
     /// `BadText`; then a length over the family's width is `TooLong`; then a bit set after the first bits is `HostBits`.
     pub fn parse(text: &str) -> Result<IpPrefix, PrefixFault>
-        ensures { ReadsAs text.now result }
+        ensures reads { ReadsAs text.now result }
+        ensures only { (p : IpPrefix) → PrefixText p text.now → result ≡ Ok p }
     {
         let Some((address, length)) = text.split_once('/') else {
             return Err(PrefixFault::BadText);

@@ -1,6 +1,11 @@
 //! Validated ROA payloads.
 ghost use Rattle.std.specs.Prelude.{◌≡◌, ℕ, ◌-◌, ◌/◌, ◌%◌, ◌^◌, ◌<◌, ◌≤◌, ◌↔◌, IsTrue, IfOk, IsOk, OnErr, Err};
+ghost use Rattle.std.proofs.Common.{rules};
+ghost use Rattle.std.specs.Cmp.{partial_order_from_own_ties, partial_order_from_total};
+ghost use Rattle.std.specs.Cmp.Rules.{comparing};
+ghost use Rattle.std.specs.Ordering.{as_partial_cmp};
 ghost use Rattle.prefixes.specs.Payload.{Payload, IsPayload, width_of, block_of, vrp_cmp};
+ghost use Rattle.prefixes.specs.Orders.{vrp_total};
 
 use crate::asn::Asn;
 use crate::fault::PrefixFault;
@@ -11,7 +16,7 @@ use std::mem::size_of;
 
 /// A validated ROA payload: the AS may originate the prefix, and its parts up to the maximum length
 /// (RFC 6811 section 2). Payloads are ordered by family, address, length, maximum, AS.
-#[derive(Clone, Copy, PartialEq, Eq, PartialOrd, Ord, Hash)]
+#[derive(Clone, Copy, PartialEq, Eq, Hash)]
 pub struct Vrp {
     prefix: IpPrefix,
     max_len: u8,
@@ -79,14 +84,35 @@ impl Vrp {
     }
 }
 
-/// The order in which sets of payloads are listed: family, address, length, maximum, AS. It is the derived one, and stands where it is
-/// called, as walks over sets take most of their time for it.
-#[inline(always)]
-pub fn order(a: &Vrp, b: &Vrp) -> Ordering
-    ensures { result ≡ vrp_cmp a.now b.now }
-{
-    match a.prefix.order(&b.prefix) {
-        Ordering::Equal => a.max_len.cmp(&b.max_len).then(a.asn.0.cmp(&b.asn.0)),
-        unequal => unequal,
+/// The order in which sets of payloads are listed: family, address, length, maximum, AS. It stands where it is called, as walks over sets
+/// take most of their time for it.
+impl Ord for Vrp {
+    ghost cmp = { vrp_cmp };
+
+    ghost total = { vrp_total };
+
+    ghost matches_partial_cmp = { Prim.search (comparing, rules) };
+
+    ghost matches_eq = { Prim.search (comparing, rules) };
+
+    #[inline(always)]
+    fn cmp(&self, other: &Vrp) -> Ordering {
+        match self.prefix.cmp(&other.prefix) {
+            Ordering::Equal => self
+                .max_len
+                .cmp(&other.max_len)
+                .then(self.asn.0.cmp(&other.asn.0)),
+            unequal => unequal,
+        }
+    }
+}
+
+impl PartialOrd for Vrp {
+    ghost partial_cmp = { as_partial_cmp vrp_cmp };
+
+    ghost laws = { partial_order_from_own_ties (partial_order_from_total vrp_total) (Prim.search (comparing, rules)) };
+
+    fn partial_cmp(&self, other: &Vrp) -> Option<Ordering> {
+        Some(self.cmp(other))
     }
 }

@@ -10,7 +10,7 @@ use Rattle.std.specs.Cmp.{eq_by_cmp_equiv}
 use Rattle.std.specs.FinMap as map
 use Rattle.std.specs.List.{AllByRecursion}
 use Rattle.prefixes.specs.Payload.{Payload, vrp_cmp}
-use Rattle.prefixes.proofs.PayloadOrder.{vrp_total, vrp_exact}
+use Rattle.prefixes.specs.Orders.{vrp_total, vrp_exact}
 use Rattle.vrps.specs.VrpSet.{VrpSet, empty, has, listing, set_of, size, union, with_member, without}
 use Rattle.vrps.proofs.Listed.{size_of_listing}
 use Rattle.vrps.specs.declared.set.SetFault.{SetFault}

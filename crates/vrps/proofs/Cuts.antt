@@ -6,7 +6,7 @@ use Rattle.std.specs.declared.cmp.Ordering.TheVariants.{Less, Equal, Greater}
 use Rattle.std.proofs.lemmas.List.{drop_more, take-append-drop, take_all}
 use Rattle.std.proofs.lemmas.List.Elements.{recursion_from_All}
 use Rattle.prefixes.specs.Payload.{Payload, vrp_cmp}
-use Rattle.prefixes.proofs.PayloadOrder.{vrp_total, vrp_exact}
+use Rattle.prefixes.specs.Orders.{vrp_total, vrp_exact}
 use Rattle.vrps.specs.Walk.{IsCut}
 use Rattle.vrps.proofs.Walks.{Ascends, Above, ascends_drop, head_below, weaker}
 

@@ -5,43 +5,31 @@ use Rattle.std.specs.List.{All, list_any}
 use Rattle.std.specs.List.Sorted.{IsStrictlySortedBy}
 use Rattle.std.specs.Cmp.{eq_by_cmp_equiv}
 use Rattle.std.specs.Ordering.{is_eq}
-use Rattle.std.specs.declared.cmp.Ordering.{Ordering}
 use Rattle.prefixes.specs.Payload.{Payload, IsPayload, vrp_cmp}
-use Rattle.prefixes.proofs.PayloadOrder.{vrp_total}
+use Rattle.prefixes.specs.Orders.{vrp_total}
 use Rattle.vrps.specs.VrpSet.{VrpSet, IsListing, has, set_of, size, with_member}
 use Rattle.vrps.proofs.SetLaws.{has-set_of, has-with_member, same_set, same_vrp, size-set_of}
 
--- Two orders that answer alike are one.
-abbrev one_order : {C : Payload → Payload → Ordering} → ((x y : Payload) → C x y ≡ vrp_cmp x y) → C ≡ vrp_cmp
-one_order same = λ i x y. same x y i
-
 -- what is found
-pub has_gathered : {C : Payload → Payload → Ordering} (same : (x y : Payload) → C x y ≡ vrp_cmp x y) (s : VrpSet) (vs : List Payload) (q : Payload) → set_of vs ≡ s
-    → list_any (λ x. is_eq (C q x)) vs ≡ has s q
-has_gathered same s vs q is = ap (λ (r : Payload → Payload → Ordering). list_any (λ x. is_eq (r q x)) vs) (one_order same) ∙ sym (has-set_of vs q) ∙ ap (λ t. has t q) is
+pub has_gathered : (s : VrpSet) (vs : List Payload) (q : Payload) → set_of vs ≡ s → list_any (same_vrp q) vs ≡ has s q
+has_gathered s vs q is = sym (has-set_of vs q) ∙ ap (λ t. has t q) is
 
 true_or : (a b : Bool) → cond a true b ≡ (a || b)
 true_or true b = refl
 true_or false b = refl
 
 -- what is added
-pub gathers : {C : Payload → Payload → Ordering} (same : (x y : Payload) → C x y ≡ vrp_cmp x y) (s : VrpSet) (vs ws : List Payload) (v : Payload) → set_of vs ≡ s
-    → ((q : Payload) → list_any (λ x. is_eq (C q x)) ws ≡ cond (is_eq (C v q)) true (list_any (λ x. is_eq (C q x)) vs)) → set_of ws ≡ with_member s v
-gathers {C = C} same s vs ws v is updates =
-    let by_order : (q : Payload) → list_any (same_vrp q) ws ≡ cond (is_eq (vrp_cmp v q)) true (list_any (same_vrp q) vs) =
-    subst (λ (r : Payload → Payload → Ordering). (q : Payload) → list_any (λ x. is_eq (r q x)) ws ≡ cond (is_eq (r v q)) true (list_any (λ x. is_eq (r q x)) vs)) (one_order same) updates in
+pub gathers : (s : VrpSet) (vs ws : List Payload) (v : Payload) → set_of vs ≡ s
+    → ((q : Payload) → list_any (same_vrp q) ws ≡ cond (is_eq (vrp_cmp v q)) true (list_any (same_vrp q) vs)) → set_of ws ≡ with_member s v
+gathers s vs ws v is updates =
     same_set (set_of ws) (with_member s v) (λ q.
-    has-set_of ws q ∙ by_order q ∙ true_or (is_eq (vrp_cmp v q)) (list_any (same_vrp q) vs)
+    has-set_of ws q ∙ updates q ∙ true_or (is_eq (vrp_cmp v q)) (list_any (same_vrp q) vs)
     ∙ (λ i. (eq_by_cmp_equiv vrp_total).symm v q i || sym (has-set_of vs q) i)
     ∙ ap (λ t. same_vrp q v || has t q) is ∙ sym (has-with_member s v q))
 
--- in ascending order
-pub ascends_so : {C : Payload → Payload → Ordering} (same : (x y : Payload) → C x y ≡ vrp_cmp x y) (vs : List Payload) → IsStrictlySortedBy C vs → IsStrictlySortedBy vrp_cmp vs
-ascends_so same vs h = subst (λ (r : Payload → Payload → Ordering). IsStrictlySortedBy r vs) (one_order same) h
-
 -- how many
-pub size_gathered : {C : Payload → Payload → Ordering} (same : (x y : Payload) → C x y ≡ vrp_cmp x y) (s : VrpSet) (vs : List Payload) → set_of vs ≡ s → IsStrictlySortedBy C vs → length vs ≡ size s
-size_gathered same s vs is h = sym (size-set_of vs (ascends_so same vs h)) ∙ ap (λ t. size t) is
+pub size_gathered : (s : VrpSet) (vs : List Payload) → set_of vs ≡ s → IsStrictlySortedBy vrp_cmp vs → length vs ≡ size s
+size_gathered s vs is h = sym (size-set_of vs h) ∙ ap (λ t. size t) is
 
 -- what they are listed as
 pub gathered_listing : (s : VrpSet) (vs ws : List Payload) → set_of vs ≡ s → ws ≡ vs → IsStrictlySortedBy vrp_cmp vs → All IsPayload ws → size s ≤ 16777215 → IsListing ws

@@ -15,7 +15,7 @@ use Rattle.std.proofs.lemmas.Nat.{pow-add}
 use Rattle.prefixes.specs.Address.{IsPrefix}
 use Rattle.prefixes.specs.Payload.{Payload, block_of, covers, prefix_cmp, width_of}
 use Rattle.prefixes.specs.declared.prefix.IpPrefix.{IpPrefix}
-use Rattle.prefixes.proofs.PayloadOrder.{prefix_total}
+use Rattle.prefixes.specs.Orders.{prefix_total}
 use Rattle.vrps.specs.Groups.{AreGroups, begin, group_at, prefix_at}
 use Rattle.vrps.specs.Keys.{agree, cut, up_to}
 use Rattle.vrps.specs.Search.{CostsDigits, CostsLengths, IsLeft, IsNextGroup, IsUpTo, NoneCovers, digit_count}

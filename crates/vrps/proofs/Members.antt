@@ -7,7 +7,7 @@ use Rattle.std.proofs.lemmas.Bool.{cases_lt}
 use Rattle.std.proofs.lemmas.List.{drop_all, get_or_default, get_or_past}
 use Rattle.prefixes.specs.Payload.{Payload, prefix_cmp}
 use Rattle.prefixes.specs.declared.prefix.IpPrefix.{IpPrefix}
-use Rattle.prefixes.proofs.PayloadOrder.{prefix_total}
+use Rattle.prefixes.specs.Orders.{prefix_total}
 use Rattle.vrps.specs.Groups.{AreGroups, begin, group_at, of_prefix, prefix_at, same_prefix}
 use Rattle.vrps.proofs.Grouped.{begins_below, begins_up_to, begins_within, place_of}
 use Rattle.vrps.proofs.Judging.{dropped_part, kept_part}

@@ -1,5 +1,5 @@
 -- A binary search over a listing finds the members.
-use Rattle.std.proofs.Common.{◌≡◌, ◌+◌, ◌∙◌, ⊎_elim, ℕ, List, length, get_or, Result, Ok, Err, is_ok, ap, sym, subst, arith}
+use Rattle.std.proofs.Common.{◌≡◌, ◌+◌, ◌∙◌, ⊎_elim, ℕ, List, length, get_or, Result, Ok, Err, is_ok, ap, sym, arith}
 use Rattle.std.specs.List.{list_any}
 use Rattle.std.specs.List.Sorted.{IsBinarySearchResult, IsSearchInRange, IsSorted, IsStrictlySortedBy}
 use Rattle.std.specs.Ordering.{is_eq, is_lt, ordering_reverse}
@@ -10,7 +10,7 @@ use Rattle.std.proofs.lemmas.List.Folds.{list_any_at, list_any_none}
 use Rattle.std.proofs.lemmas.List.Sorted.{searchable_from_sorted}
 use Rattle.std.proofs.lemmas.Map.Keys.{Less-from_sorted}
 use Rattle.prefixes.specs.Payload.{Payload, vrp_cmp}
-use Rattle.prefixes.proofs.PayloadOrder.{vrp_total}
+use Rattle.prefixes.specs.Orders.{vrp_total}
 use Rattle.vrps.specs.VrpSet.{VrpSet, IsListing, has, set_of}
 use Rattle.vrps.proofs.SetLaws.{has-set_of, same_vrp}
 
@@ -32,8 +32,6 @@ found vs q ascends (Err at) within parted =
     (λ after. seen_from _ q Greater (parts.1 k d after below))
     (cases_lt k at)))
 
-pub has_searched : {C : Payload → Payload → Ordering} (same : (x y : Payload) → C x y ≡ vrp_cmp x y) (s : VrpSet) (vs : List Payload) (q : Payload) → set_of vs ≡ s → IsListing vs
-    → (r : Result ℕ ℕ) → IsSearchInRange r (length vs) → IsBinarySearchResult (λ v. C v q) vs r → is_ok r ≡ has s q
-has_searched {C = C} same s vs q is h r within searched =
-    let by_order : (λ (v : Payload). C v q) ≡ (λ v. vrp_cmp v q) = λ i v. same v q i in
-    found vs q h.ascends r within (subst (λ c. IsBinarySearchResult c vs r) by_order searched) ∙ sym (has-set_of vs q) ∙ ap (λ t. has t q) is
+pub has_searched : (s : VrpSet) (vs : List Payload) (q : Payload) → set_of vs ≡ s → IsListing vs
+    → (r : Result ℕ ℕ) → IsSearchInRange r (length vs) → IsBinarySearchResult (λ v. vrp_cmp v q) vs r → is_ok r ≡ has s q
+has_searched s vs q is h r within searched = found vs q h.ascends r within searched ∙ sym (has-set_of vs q) ∙ ap (λ t. has t q) is

@@ -13,7 +13,7 @@ use Rattle.std.specs.FinMap as map
 use Rattle.std.specs.declared.cmp.Ordering.TheVariants.{Less, Equal, Greater}
 use Rattle.std.proofs.Common.{ap, sym, ◌∙◌, subst, arith}
 use Rattle.prefixes.specs.Payload.{Payload, vrp_cmp}
-use Rattle.prefixes.proofs.PayloadOrder.{vrp_total, vrp_exact}
+use Rattle.prefixes.specs.Orders.{vrp_total, vrp_exact}
 use Rattle.vrps.specs.VrpSet.{VrpSet, empty, has, listing, with_member, with_all, set_of, union, without, size}
 use Rattle.vrps.specs.Change.{between, apply, merge}
 

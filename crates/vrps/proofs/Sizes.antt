@@ -5,7 +5,7 @@ use Rattle.std.proofs.lemmas.Map.Made.{length-le_from_is_member}
 use Rattle.std.specs.Cmp.{eq_by_cmp_equiv}
 use Rattle.std.specs.FinMap as map
 use Rattle.prefixes.specs.Payload.{Payload, vrp_cmp}
-use Rattle.prefixes.proofs.PayloadOrder.{vrp_total}
+use Rattle.prefixes.specs.Orders.{vrp_total}
 use Rattle.vrps.specs.VrpSet.{VrpSet, has, listing, size, with_member}
 use Rattle.vrps.proofs.Listed.{size_of_listing}
 use Rattle.vrps.proofs.SetLaws.{has-listing, listing_ascends}

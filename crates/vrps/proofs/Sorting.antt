@@ -7,7 +7,7 @@ use Rattle.std.proofs.lemmas.List.Sorted.{list_any-IsPermutation}
 use Rattle.std.proofs.lemmas.List.Kept.{Contains-dedup, Contains-from_dedup}
 use Rattle.std.proofs.lemmas.Map.Views.{list_any-from_Contains, Contains-from_any, tells_apart}
 use Rattle.prefixes.specs.Payload.{Payload}
-use Rattle.prefixes.proofs.PayloadOrder.{vrp_total, vrp_exact}
+use Rattle.prefixes.specs.Orders.{vrp_total, vrp_exact}
 use Rattle.vrps.specs.VrpSet.{set_of}
 use Rattle.vrps.proofs.SetLaws.{has-set_of, same_set, same_vrp}
 

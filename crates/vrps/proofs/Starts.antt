@@ -11,7 +11,7 @@ use Rattle.std.proofs.lemmas.List.{drop_all, drop_more, get_or-append-add, get_o
 use Rattle.std.proofs.lemmas.Map.Keys.{Less-from_sorted}
 use Rattle.prefixes.specs.Payload.{Payload, IsPayload, prefix_cmp, vrp_cmp}
 use Rattle.prefixes.specs.declared.prefix.IpPrefix.{IpPrefix}
-use Rattle.prefixes.proofs.PayloadOrder.{prefix_exact, prefix_total}
+use Rattle.prefixes.specs.Orders.{prefix_exact, prefix_total}
 use Rattle.vrps.specs.Groups.{AreGroups, prefixes_of, same_prefix}
 
 -- where a group begins, of the groups of the records before an end

@@ -10,7 +10,7 @@ use Rattle.std.specs.declared.cmp.Ordering.TheVariants.{Less, Equal, Greater}
 use Rattle.std.proofs.lemmas.List.Kept.{IsStrictlySortedBy-filter}
 use Rattle.prefixes.specs.Payload.{Payload, block_of, vrp_cmp}
 use Rattle.prefixes.specs.declared.route.Route.{Route}
-use Rattle.prefixes.proofs.PayloadOrder.{vrp_total, vrp_exact}
+use Rattle.prefixes.specs.Orders.{vrp_total, vrp_exact}
 use Rattle.vrps.specs.Origin.{CoveringDecides, HasState, IsCovered, IsMatched, ListsCovering, covering, covers_route, is_origin, matches, state}
 use Rattle.vrps.specs.VrpSet.{VrpSet, has, listing}
 use Rattle.vrps.specs.declared.origin.OriginState.{OriginState}

@@ -11,8 +11,8 @@ use Rattle.std.proofs.lemmas.Bool.Decides.{nat_tests}
 use Rattle.std.proofs.lemmas.List.{length-append}
 use Rattle.prefixes.specs.Payload.{Payload, vrp_cmp}
 use Rattle.prefixes.specs.contracts.vrp.VrpPartialEq.TheImpl as derived_eq
-use Rattle.prefixes.proofs.DerivedOrder.{ties}
-use Rattle.prefixes.proofs.PayloadOrder.{vrp_total, vrp_exact}
+use Rattle.prefixes.specs.contracts.vrp.VrpOrd.TheImpl.Laws.{matches_eq-law}
+use Rattle.prefixes.specs.Orders.{vrp_total, vrp_exact}
 use Rattle.vrps.specs.Instance.{Instance, IsInstance, AreNews, Version, versions_from, with_serial}
 use Rattle.vrps.specs.Serial.{serial_at, steps_to}
 use Rattle.vrps.specs.Store.{same_list, is_same, SameExactly, is_current, PublishedIsInstance, NamesItself, KeptIsItself, IsBeforeNewer}
@@ -39,7 +39,7 @@ pub tied_lists : (vs ws : List Payload) → pointwise (derived_eq.ghosts).eq vs 
 tied_lists [] [] = refl
 tied_lists [] (w ∷ ws) = refl
 tied_lists (v ∷ vs) [] = refl
-tied_lists (v ∷ vs) (w ∷ ws) = λ i. ties v w i && tied_lists vs ws i
+tied_lists (v ∷ vs) (w ∷ ws) = λ i. matches_eq-law v w i && tied_lists vs ws i
 
 list_itself : (vs : List Payload) → same_list vs vs ≡ true
 list_itself [] = refl

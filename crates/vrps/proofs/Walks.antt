@@ -9,7 +9,7 @@ use Rattle.std.specs.declared.cmp.Ordering.TheVariants.{Less, Equal, Greater}
 use Rattle.std.proofs.lemmas.List.{take-append-drop}
 use Rattle.std.proofs.lemmas.List.Folds.{list_any-append}
 use Rattle.prefixes.specs.Payload.{Payload, vrp_cmp}
-use Rattle.prefixes.proofs.PayloadOrder.{vrp_total, vrp_exact}
+use Rattle.prefixes.specs.Orders.{vrp_total, vrp_exact}
 use Rattle.vrps.specs.Change.{apply}
 use Rattle.vrps.specs.VrpSet.{VrpSet, listing, set_of, union, without}
 use Rattle.vrps.specs.Walk.{IsCut, led, left_out}

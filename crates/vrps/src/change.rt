@@ -8,7 +8,7 @@ ghost use Rattle.vrps.specs.VrpSet.{listing, set_of, size};
 ghost use Rattle.vrps.specs.Walk.{IsCut, left_out};
 
 use crate::set::{SetFault, VrpSet};
-use prefixes::{Vrp, order};
+use prefixes::Vrp;
 use std::alloc::{AllocError, Global};
 use std::cmp::Ordering;
 
@@ -64,7 +64,7 @@ pub(crate) fn cut_at<'a>(records: &'a [Vrp], at: &Vrp) -> Cut<'a>
     ensures { IsCut records.now at.now result.below.now result.found result.above.now }
 {
     for (index, record) in records.iter().enumerate() {
-        match order(record, at) {
+        match record.cmp(at) {
             Ordering::Less => {}
             Ordering::Equal => {
                 return Cut {

@@ -10,7 +10,7 @@ ghost use Rattle.vrps.specs.Walk.{left_out};
 
 use crate::change::{Change, differences};
 use circular_buffer::HeapCircularBuffer;
-use prefixes::{Vrp, order};
+use prefixes::Vrp;
 use std::alloc::{AllocError, Global};
 use std::cmp::Ordering;
 
@@ -77,7 +77,7 @@ fn joined(alloc: Global, older: &Lists, newer: &Lists) -> Result<Lists, AllocErr
     let mut p = front_of(gone, new);
     let mut q = front_of(lost, came);
     while let (Some(x), Some(y)) = (p.first, q.first) {
-        match order(x, y) {
+        match x.cmp(y) {
             Ordering::Less => {
                 put(&mut lists, x, p.of_s)?;
                 p = front_of(p.s, p.t);
@@ -131,7 +131,7 @@ fn front_of<'a>(s: &'a [Vrp], t: &'a [Vrp]) -> Front<'a>
         let [y, more_t @ ..] = rest_t else {
             return made_front(Some(x), true, more_s, rest_t);
         };
-        match order(x, y) {
+        match x.cmp(y) {
             Ordering::Less => return made_front(Some(x), true, more_s, rest_t),
             Ordering::Greater => return made_front(Some(y), false, rest_s, more_t),
             Ordering::Equal => {

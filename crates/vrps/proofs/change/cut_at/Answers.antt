@@ -13,7 +13,7 @@ loop-index-preserved c =
     let i = c.loop-index.index in
     let x = c.index-records-index.result in
     All-more (λ v. vrp_cmp v c.args.at.now ≡ Less) vs i x c.loop-index-test.true c.loop-index.invariant
-    (subst (λ y. vrp_cmp y c.args.at.now ≡ Less) c.index-records-index.is (sym c.order.ensures ∙ c.in-Less.is))
+    (subst (λ y. vrp_cmp y c.args.at.now ≡ Less) c.index-records-index.is (sym c.cmp.ensures ∙ c.in-Less.is))
 
 pub returns-in-Equal : goal.returns-in-Equal
 returns-in-Equal c =
@@ -21,7 +21,7 @@ returns-in-Equal c =
     let i = c.loop-index.index in
     let all : take (length vs - (i + 1)) (drop (i + 1) vs) ≡ drop (i + 1) vs = take_all (length vs - (i + 1)) (drop (i + 1) vs) (omega (arith, length-drop (i + 1) vs)) in
     subst (λ l. IsCut vs c.args.at.now (take i vs) true l) (sym all)
-    (cut_found vs i c.index-records-index.result c.args.at.now c.requires c.loop-index-test.true c.index-records-index.is c.loop-index.invariant (sym c.order.ensures ∙ c.in-Equal.is))
+    (cut_found vs i c.index-records-index.result c.args.at.now c.requires c.loop-index-test.true c.index-records-index.is c.loop-index.invariant (sym c.cmp.ensures ∙ c.in-Equal.is))
 
 pub returns-in-Greater : goal.returns-in-Greater
 returns-in-Greater c =
@@ -29,7 +29,7 @@ returns-in-Greater c =
     let i = c.loop-index.index in
     let all : take (length vs - i) (drop i vs) ≡ drop i vs = take_all (length vs - i) (drop i vs) (omega (arith, length-drop i vs)) in
     subst (λ l. IsCut vs c.args.at.now (take i vs) false l) (sym all)
-    (cut_between vs i c.index-records-index.result c.args.at.now c.requires c.loop-index-test.true c.index-records-index.is c.loop-index.invariant (sym c.order.ensures ∙ c.in-Greater.is))
+    (cut_between vs i c.index-records-index.result c.args.at.now c.requires c.loop-index-test.true c.index-records-index.is c.loop-index.invariant (sym c.cmp.ensures ∙ c.in-Greater.is))
 
 pub returns : goal.returns
 returns c = cut_past c.args.records.now c.loop-index.index c.args.at.now c.loop-index-test.false c.loop-index.invariant

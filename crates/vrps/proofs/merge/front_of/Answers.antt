@@ -17,7 +17,7 @@ returns-in-Less c =
     rw (c.made_front-in-Less.ensures.first, c.made_front-in-Less.ensures.of_s, c.made_front-in-Less.ensures.s, c.made_front-in-Less.ensures.t)
     (record {
       front = front_at_s c.args.s.now c.args.t.now l.rest_s.now l.rest_t.now c.x-item.result c.in-len1-up.len_at_least c.x-item.is l.invariant.s_ascends l.invariant.t_ascends
-          (above_at c.x-item.result c.y-item.result l.rest_t.now c.in-len1-up-rest_t.len_at_least c.y-item.is l.invariant.t_ascends (sym c.order.ensures ∙ c.in-Less.is)) l.invariant.only_s l.invariant.only_t l.invariant.fewer;
+          (above_at c.x-item.result c.y-item.result l.rest_t.now c.in-len1-up-rest_t.len_at_least c.y-item.is l.invariant.t_ascends (sym c.cmp.ensures ∙ c.in-Less.is)) l.invariant.only_s l.invariant.only_t l.invariant.fewer;
     })
 
 pub returns-in-Greater : goal.returns-in-Greater
@@ -26,7 +26,7 @@ returns-in-Greater c =
     rw (c.made_front-in-Greater.ensures.first, c.made_front-in-Greater.ensures.of_s, c.made_front-in-Greater.ensures.s, c.made_front-in-Greater.ensures.t)
     (record {
       front = front_at_t c.args.s.now c.args.t.now l.rest_s.now l.rest_t.now c.y-item.result c.in-len1-up-rest_t.len_at_least c.y-item.is l.invariant.s_ascends l.invariant.t_ascends
-          (above_at c.y-item.result c.x-item.result l.rest_s.now c.in-len1-up.len_at_least c.x-item.is l.invariant.s_ascends (swaps c.x-item.result c.y-item.result (sym c.order.ensures ∙ c.in-Greater.is)))
+          (above_at c.y-item.result c.x-item.result l.rest_s.now c.in-len1-up.len_at_least c.x-item.is l.invariant.s_ascends (swaps c.x-item.result c.y-item.result (sym c.cmp.ensures ∙ c.in-Greater.is)))
           l.invariant.only_s l.invariant.only_t l.invariant.fewer;
     })
 
@@ -38,7 +38,7 @@ loop-rest_s-preserved c =
     let y = c.y-item.result in
     let some = c.in-len1-up.len_at_least in
     let more = c.in-len1-up-rest_t.len_at_least in
-    let same = sym c.order.ensures ∙ c.in-Equal.is in
+    let same = sym c.cmp.ensures ∙ c.in-Equal.is in
     record {
       only_s = both_at l.rest_s.now l.rest_t.now x y some more c.x-item.is c.y-item.is i.s_ascends i.t_ascends same ∙ i.only_s;
       only_t = both_at l.rest_t.now l.rest_s.now y x more some c.y-item.is c.x-item.is i.t_ascends i.s_ascends (swaps_equal x y same) ∙ i.only_t;

@@ -29,7 +29,7 @@ loop-p-preserved-in_ok-put-in-Less c =
     let d = ap (λ o. option_map (λ v. v.now) o) c.in-Some-Some.is-0 in
     let e = ap (λ o. option_map (λ v. v.now) o) c.in-Some-Some.is-1 in
     let front = c.front_of-p-in-Less.ensures.front in
-    let is = sym c.order.ensures ∙ c.in-Less.is in
+    let is = sym c.cmp.ensures ∙ c.in-Less.is in
     record {
       withdraw = goes_less _ _ _ _ p.of_s q.of_s (left_out p.s.now p.t.now) (left_out q.s.now q.t.now) _ c.loop-p.lists.withdraw.items _ _ d e is i.p.after_s (left_out_ascends p.s.now p.t.now) i.q.after_s (left_out_ascends q.s.now q.t.now) front.only_s c.in_ok-put-in-Less.ensures.withdraw i.withdraw;
       announce = goes_less _ _ _ _ (not p.of_s) (not q.of_s) (left_out p.t.now p.s.now) (left_out q.t.now q.s.now) _ c.loop-p.lists.announce.items _ _ d e is i.p.after_t (left_out_ascends p.t.now p.s.now) i.q.after_t (left_out_ascends q.t.now q.s.now) front.only_t c.in_ok-put-in-Less.ensures.announce i.announce;
@@ -45,7 +45,7 @@ loop-p-preserved-in_ok-put-in-Greater c =
     let d = ap (λ o. option_map (λ v. v.now) o) c.in-Some-Some.is-0 in
     let e = ap (λ o. option_map (λ v. v.now) o) c.in-Some-Some.is-1 in
     let front = c.front_of-q-in-Greater.ensures.front in
-    let is = sym c.order.ensures ∙ c.in-Greater.is in
+    let is = sym c.cmp.ensures ∙ c.in-Greater.is in
     record {
       withdraw = goes_greater _ _ _ _ p.of_s q.of_s (left_out p.s.now p.t.now) (left_out q.s.now q.t.now) _ c.loop-p.lists.withdraw.items _ _ d e is i.p.after_s (left_out_ascends p.s.now p.t.now) i.q.after_s (left_out_ascends q.s.now q.t.now) front.only_s c.in_ok-put-in-Greater.ensures.withdraw i.withdraw;
       announce = goes_greater _ _ _ _ (not p.of_s) (not q.of_s) (left_out p.t.now p.s.now) (left_out q.t.now q.s.now) _ c.loop-p.lists.announce.items _ _ d e is i.p.after_t (left_out_ascends p.t.now p.s.now) i.q.after_t (left_out_ascends q.t.now q.s.now) front.only_t c.in_ok-put-in-Greater.ensures.announce i.announce;
@@ -61,7 +61,7 @@ loop-p-preserved c =
     let d = ap (λ o. option_map (λ v. v.now) o) c.in-Some-Some.is-0 in
     let e = ap (λ o. option_map (λ v. v.now) o) c.in-Some-Some.is-1 in
     let front = c.front_of-q-in-Equal.ensures.front in
-    let is = sym c.order.ensures ∙ c.in-Equal.is in
+    let is = sym c.cmp.ensures ∙ c.in-Equal.is in
     record {
       withdraw = goes_equal _ _ _ _ p.of_s q.of_s (not p.of_s && q.of_s) (left_out p.s.now p.t.now) (left_out q.s.now q.t.now) _ c.loop-p.lists.withdraw.items _ _ refl d e is i.p.after_s (left_out_ascends p.s.now p.t.now) i.q.after_s (left_out_ascends q.s.now q.t.now) front.only_s c.in_ok-put_other-in-Equal.ensures.withdraw i.withdraw;
       announce = goes_equal _ _ _ _ (not p.of_s) (not q.of_s) (p.of_s && not q.of_s) (left_out p.t.now p.s.now) (left_out q.t.now q.s.now) _ c.loop-p.lists.announce.items _ _ (ap (λ b. b && not q.of_s) (not_not p.of_s)) d e is i.p.after_t (left_out_ascends p.t.now p.s.now) i.q.after_t (left_out_ascends q.t.now q.s.now) front.only_t c.in_ok-put_other-in-Equal.ensures.announce i.announce;
