@@ -68,6 +68,8 @@ fn tells_the_first_fault(rt: HostRuntime) {
         (48, b"\x31\x81\x7f".as_slice(), 2),
         (48, b"\x30\x85\x00\x00\x00\x00\x01".as_slice(), 3),
         (48, b"\x30\x80".as_slice(), 3),
+        (48, b"\x30\x85".as_slice(), 3),
+        (48, b"\x30\xff".as_slice(), 3),
         (4, b"\x04\x81\x7f".as_slice(), 3),
         (4, b"\x04\x82\x00\x80".as_slice(), 3),
         (2, b"\x02\x00".as_slice(), 4),

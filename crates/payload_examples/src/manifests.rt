@@ -196,6 +196,24 @@ fn tells_names(rt: HostRuntime) -> Result<(), Fail> {
 }
 
 #[test]
+fn tells_a_name_twice_before_its_hash(rt: HostRuntime) -> Result<(), Fail> {
+    let alloc = rt.alloc();
+    let whole = payload_of(&rt, alloc, b"\x01".as_slice(), "a.roa b.roa a.roa")?;
+    // The tag of the last hash, its length, and its count of unused bits, each wrong.
+    for (back, byte) in [(35usize, 0x04u8), (34, 0x20), (33, 0x01)] {
+        let mut payload = whole.clone()?;
+        let len = payload.len();
+        assert!(rt; len > 35);
+        payload[len - back] = byte;
+        assert!(rt;
+            fault(alloc, payload.as_slice()) == Some((18, 144)),
+            "{back}"
+        );
+    }
+    Ok(())
+}
+
+#[test]
 fn tells_long_names(rt: HostRuntime) -> Result<(), Fail> {
     let alloc = rt.alloc();
     for (length, refusal) in [(251usize, None), (252, Some((16u8, 60usize)))] {

@@ -2,7 +2,7 @@
 
 use der_lite::{Bits, DerWriter};
 use payloads::{PayloadFault, Roa, RoaEntry, decode_roa};
-use prefixes::{Asn, IpPrefix, PrefixFault, Vrp};
+use prefixes::{Asn, IpPrefix, Prefix, PrefixFault, V4, Vrp};
 use std::alloc::Global;
 use std::process::Abort;
 use std::test::Fail;
@@ -221,8 +221,8 @@ fn makes_roas_of_values(rt: HostRuntime) -> Result<(), Fail> {
     Ok(())
 }
 
-/// The payload of AS64496 and of so many prefixes of 24 bits, from 10.0.0.0 on.
-pub(crate) fn long_payload(rt: &impl Abort, alloc: Global, count: u32) -> Result<Vec<u8>, Fail> {
+/// The entries of so many prefixes of 24 bits, from 0.0.0.0 on.
+fn many_entries(rt: &impl Abort, alloc: Global, count: u32) -> Result<Vec<u8>, Fail> {
     let mut list = DerWriter::new(alloc);
     for index in 0..count {
         let mut entry = DerWriter::new(alloc);
@@ -238,21 +238,40 @@ pub(crate) fn long_payload(rt: &impl Abort, alloc: Global, count: u32) -> Result
         assert!(rt; entry.as_slice().len() < 100);
         list.sequence(entry.as_slice())?;
     }
+    Ok(list.into_bytes())
+}
+
+/// The payload of AS64496, of a family of this number with these entries, and of what stands behind the family.
+fn payload_of(
+    rt: &impl Abort,
+    alloc: Global,
+    number: u8,
+    entries: &[u8],
+    behind: &[u8],
+) -> Result<Vec<u8>, Fail> {
     let mut family = DerWriter::new(alloc);
-    family.octets(b"\x00\x01".as_slice())?;
-    assert!(rt; list.as_slice().len() < 4000000);
-    family.sequence(list.as_slice())?;
+    family.octets(&[0, number])?;
+    assert!(rt; entries.len() < 4000000);
+    family.sequence(entries)?;
     let mut blocks = DerWriter::new(alloc);
     assert!(rt; family.as_slice().len() < 4000000);
     blocks.sequence(family.as_slice())?;
+    let mut blocks = blocks.into_bytes();
+    blocks.extend_from_slice(behind)?;
     let mut members = DerWriter::new(alloc);
     members.integer(b"\x00\xfb\xf0".as_slice())?;
-    assert!(rt; blocks.as_slice().len() < 4000000);
+    assert!(rt; blocks.len() < 4000000);
     members.sequence(blocks.as_slice())?;
     let mut whole = DerWriter::new(alloc);
     assert!(rt; members.as_slice().len() < 4000000);
     whole.sequence(members.as_slice())?;
     Ok(whole.into_bytes())
+}
+
+/// The payload of AS64496 and of so many prefixes of 24 bits, from 0.0.0.0 on.
+pub(crate) fn long_payload(rt: &impl Abort, alloc: Global, count: u32) -> Result<Vec<u8>, Fail> {
+    let entries = many_entries(rt, alloc, count)?;
+    payload_of(rt, alloc, 1, entries.as_slice(), b"")
 }
 
 #[test]
@@ -267,5 +286,90 @@ fn takes_65536_entries_and_no_more(rt: HostRuntime) -> Result<(), Fail> {
     let more = long_payload(&rt, alloc, 65537)?;
     assert!(rt; more.len() > 8);
     assert!(rt; fault(alloc, more.as_slice()) == Some((19, more.len() - 8)));
+    Ok(())
+}
+
+#[test]
+fn judges_an_entry_too_many_behind_its_head(rt: HostRuntime) -> Result<(), Fail> {
+    let alloc = rt.alloc();
+    let entries = many_entries(&rt, alloc, 65536)?;
+    // Behind as many entries as there may be: one with eight unused bits, one below the last, one of another tag, one of a length in too
+    // many bytes, and one that is cut.
+    for (last, number) in [
+        (b"\x30\x06\x03\x04\x08\x01\x00\x00".as_slice(), 19u8),
+        (b"\x30\x06\x03\x04\x00\x00\x00\x00".as_slice(), 19),
+        (b"\x31\x06\x03\x04\x00\x01\x00\x00".as_slice(), 2),
+        (b"\x30\x81\x06\x03\x04\x00\x01\x00\x00".as_slice(), 3),
+        (b"\x30\x07\x03\x04\x00\x01\x00\x00".as_slice(), 1),
+    ] {
+        let mut list = entries.clone()?;
+        list.extend_from_slice(last)?;
+        let payload = payload_of(&rt, alloc, 1, list.as_slice(), b"")?;
+        assert!(rt; payload.len() > last.len());
+        assert!(rt;
+            fault(alloc, payload.as_slice()) == Some((number, payload.len() - last.len())),
+            "{last:?}"
+        );
+    }
+    Ok(())
+}
+
+#[test]
+fn judges_what_is_before_an_entry_too_many(rt: HostRuntime) -> Result<(), Fail> {
+    let alloc = rt.alloc();
+    let entries = many_entries(&rt, alloc, 65536)?;
+    // Behind a family of as many entries as there may be: the same family, IPv4 behind IPv6, a family without addresses, and one with an
+    // entry. The fault stands so many bytes before the end.
+    for (family, behind, number, before) in [
+        (
+            1u8,
+            b"\x30\x0e\x04\x02\x00\x01\x30\x08\x30\x06\x03\x04\x00\xc0\x00\x02".as_slice(),
+            8u8,
+            14usize,
+        ),
+        (
+            2,
+            b"\x30\x0e\x04\x02\x00\x01\x30\x08\x30\x06\x03\x04\x00\xc0\x00\x02".as_slice(),
+            12,
+            14,
+        ),
+        (1, b"\x30\x06\x04\x02\x00\x02\x30\x00".as_slice(), 9, 2),
+        (
+            1,
+            b"\x30\x0e\x04\x02\x00\x02\x30\x08\x30\x06\x03\x04\x00\x20\x01\x0d".as_slice(),
+            19,
+            8,
+        ),
+    ] {
+        let payload = payload_of(&rt, alloc, family, entries.as_slice(), behind)?;
+        assert!(rt; payload.len() > before);
+        assert!(rt;
+            fault(alloc, payload.as_slice()) == Some((number, payload.len() - before)),
+            "{behind:?}"
+        );
+    }
+    // The last of as many entries as there may be is no greater than the one before it, and another one follows.
+    let mut list = many_entries(&rt, alloc, 65535)?;
+    list.extend_from_slice(b"\x30\x06\x03\x04\x00\x00\x00\x00")?;
+    list.extend_from_slice(b"\x30\x06\x03\x04\x00\x01\x00\x00")?;
+    let payload = payload_of(&rt, alloc, 1, list.as_slice(), b"")?;
+    assert!(rt; payload.len() > 16);
+    assert!(rt; fault(alloc, payload.as_slice()) == Some((12, payload.len() - 16)));
+    Ok(())
+}
+
+#[test]
+fn makes_no_roa_of_an_entry_too_many(rt: HostRuntime) -> Result<(), Fail> {
+    let alloc = rt.alloc();
+    let mut entries = Vec::new(alloc);
+    for index in 0..65537u32 {
+        let prefix = Prefix::<V4>::new(u128::from(index) * 256, 24)?;
+        entries.push(RoaEntry {
+            prefix: IpPrefix::V4(prefix),
+            max_len: None,
+        })?;
+    }
+    let made = Roa::new(Asn(64496), entries);
+    assert!(rt; made.err().map(|fault| (fault.kind.number(), fault.index)) == Some((19, 65536)));
     Ok(())
 }

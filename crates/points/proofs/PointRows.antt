@@ -68,6 +68,10 @@ again_late : decides held (listing_a (1 ∷ []) first second) (1 ∷ 2 ∷ []) [
 unfolding tests moment_before
 again_late = refl
 
+again_early : decides held (listing_a (1 ∷ []) first second) (1 ∷ 2 ∷ []) [] (told 2024 12 31 23 59 59) ≡ Some NotYet
+unfolding tests moment_before
+again_early = refl
+
 -- the number is judged before thisUpdate
 the_same_number : decides held (listing_a (1 ∷ []) noon third) (3 ∷ []) (a_file ∷ []) noon ≡ Some OldNumber
 unfolding tests moment_before
@@ -85,10 +89,21 @@ handed_in_twice : decides held (listing_a (2 ∷ []) noon third) (3 ∷ []) (a_f
 unfolding tests moment_before
 handed_in_twice = refl
 
--- numbers are compared as numbers: 0080 is above 7f
-above_127 : decides (Some (record { bytes = 1 ∷ []; manifest = listing_a (127 ∷ []) first second; roas = [] })) (listing_a (0 ∷ 128 ∷ []) noon third) (3 ∷ []) [] noon ≡ None
+-- numbers are compared as numbers: 0080 is above 7f, and 00ff below 0100
+abbrev holds_number : List ℕ → Option Accepted
+holds_number number = Some (record { bytes = 1 ∷ []; manifest = listing_a number first second; roas = [] })
+
+above_127 : decides (holds_number (127 ∷ [])) (listing_a (0 ∷ 128 ∷ []) noon third) (3 ∷ []) [] noon ≡ None
 unfolding tests moment_before
 above_127 = refl
+
+above_255 : decides (holds_number (0 ∷ 255 ∷ [])) (listing_a (1 ∷ 0 ∷ []) noon third) (3 ∷ []) [] noon ≡ None
+unfolding tests moment_before
+above_255 = refl
+
+below_256 : decides (holds_number (1 ∷ 0 ∷ [])) (listing_a (0 ∷ 255 ∷ []) noon third) (3 ∷ []) [] noon ≡ Some OldNumber
+unfolding tests moment_before
+below_256 = refl
 
 not_handed_in : FromFile 0 (listing_a (2 ∷ []) noon third).files [] (Missing 0)
 not_handed_in = refl

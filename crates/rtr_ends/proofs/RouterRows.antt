@@ -215,6 +215,12 @@ announced_again : called (Receives 100 None v_bytes) changes
 unfolding receives router_byte clocked on_unit judge as_read
 announced_again = ap (by_stage 100 v true changes) stage_again
 
+-- The copy is written anew, without what was ignored.
+copied_anew : called (Receives 100 None (take 8 v_bytes ++ 0x81 ∷ drop 9 v_bytes)) changes
+    ≡ record { router = record changes { mark = true; link = Ended (ends.Reported 7); out = sent (report 7 v_bytes) }; items = Reads (Prefix true v) ∷ At 100 ∷ [] }
+unfolding receives router_byte clocked on_unit judge as_read
+copied_anew = ap (by_stage 100 v true changes) stage_again
+
 stage_unknown : stage just_v since_v false w ≡ Wrong 6
 stage_unknown = λ i. if has_not_w i && true then Stays (record since_v { withdrawn = w ∷ [] }) else Wrong 6
 

@@ -19,6 +19,13 @@ no_copy = 0x01 ∷ 0x0a ∷ 0 ∷ 0x02 ∷ 0 ∷ 0 ∷ 0 ∷ 0x10 ∷ 0 ∷ 0 �
 shows_report : Shows 1 no_copy faults.ErrorReport
 shows_report = ((refl, omega arith, omega arith), refl, λ h. absurd (omega (arith, h.0)))
 
+-- One whose lengths add up to its own modulo 2^32 alone
+abbrev wrapped_sum : List ℕ
+wrapped_sum = 0x01 ∷ 0x0a ∷ 0 ∷ 0x02 ∷ 0 ∷ 0 ∷ 0 ∷ 0x10 ∷ 0xff ∷ 0xff ∷ 0xff ∷ 0xf0 ∷ 0 ∷ 0 ∷ 0 ∷ 0x10 ∷ []
+
+shows_wrapped_sum : Shows 1 wrapped_sum faults.ErrorReport
+shows_wrapped_sum = ((refl, omega arith, omega arith), refl, λ h. absurd (omega (arith, h.0)))
+
 -- A Serial Notify of version 2
 abbrev notify : List ℕ
 notify = 0x02 ∷ 0 ∷ 0x12 ∷ 0x34 ∷ 0 ∷ 0 ∷ 0 ∷ 0x0c ∷ 0 ∷ 0 ∷ 0 ∷ 0x05 ∷ []
