@@ -1,9 +1,10 @@
 -- Events of the world that other rows do not have: a second router, notifies, questions, ticks, restarts of routers, refusals for want of
 -- memory, and ends of links.
-use Rattle.std.specs.Prelude.{◌≡◌, ℕ, ◌≤◌, Bool, true, false, List, [], ◌∷◌, ◌++◌, take, drop, Some, None, refl}
+use Rattle.std.specs.Prelude.{◌≡◌, ℕ, ◌≤◌, Bool, true, false, List, [], ◌∷◌, ◌++◌, length, take, drop, Some, None, refl}
 use Rattle.std.proofs.Common.{ap, arith}
 use Rattle.std.specs.Str.{chars, is_utf8}
 use Rattle.vrps.specs.Instance.{Instance}
+use Rattle.vrps.specs.Store.{is_current}
 use Rattle.vrps.specs.VrpSet.{VrpSet, empty, set_of}
 use Rattle.vrps.proofs.SetLaws.{listing-set_of}
 use Rattle.rtr_pdu.specs.Judging.{judge}
@@ -16,7 +17,7 @@ use Rattle.rtr_ends.specs.Router.{Router, Idle, Asked, new_router, on_unit, rout
 use Rattle.rtr_ends.specs.Timing.{default_intervals}
 use Rattle.rtr_ends.specs.Transcript.{At, Opened, Asks, Reads, Refused, Restarts, Shut, Item, AskReset, AskSerial, Committed}
 use Rattle.rtr_ends.proofs.Rows.{v, v_ascends, cache, with_all_of, reset_bytes, response_bytes, v_bytes, end_bytes}
-use Rattle.rtr_world.specs.History.{Done, Memory, after, refusal, may_refuse, moved, MayEnd}
+use Rattle.rtr_world.specs.History.{Done, Memory, after, refusal, may_refuse, moved, MayEnd, has_connection, is_near, room_for, room_since}
 use Rattle.rtr_world.specs.World.{Side, World, Publish, Restart, On, RouterRestart, Connect, RouterSends, CacheGets, CacheSends, RouterGets, Cut, NotifyRouter, Ask, Tick, new_side, connects, router_sends, cache_gets, cache_sends, router_gets, router_restarts, cut, side_step, side_refused, settle, goes_through, settled, is_refused}
 
 abbrev just_v : VrpSet
@@ -124,6 +125,40 @@ is_corrupt : after (On 0 (RouterGets 99)) (Done None) (world (record (open_side 
 unfolding goes_through settled settle side_step router_gets receives clocked router_byte on_unit judge as_read closed_at is_utf8 chars
 is_corrupt = refl
 
+-- A cut leaves no more than it says, and no more than there is. A later one only shortens, and without a connection it changes nothing.
+abbrev cut_side : List ℕ → Side
+cut_side down = record (open_side asking (new_conn with_v) [] down opened) { conn = None }
+
+cuts : after (On 0 (Cut 2)) (Done None) (world (open_side asking (new_conn with_v) (7 ∷ []) (1 ∷ 2 ∷ 3 ∷ []) opened ∷ [])) ≡ world (cut_side (1 ∷ 2 ∷ []) ∷ [])
+unfolding goes_through settled settle side_step cut
+cuts = refl
+
+cuts_fewer : after (On 0 (Cut 9)) (Done None) (world (open_side asking (new_conn with_v) (7 ∷ []) (1 ∷ 2 ∷ 3 ∷ []) opened ∷ [])) ≡ world (cut_side (1 ∷ 2 ∷ 3 ∷ []) ∷ [])
+unfolding goes_through settled settle side_step cut
+cuts_fewer = refl
+
+cuts_again : (after (On 0 (Cut 1)) (Done None) (world (cut_side (1 ∷ 2 ∷ []) ∷ [])) ≡ world (cut_side (1 ∷ []) ∷ []))
+    × (after (On 0 (Cut 9)) (Done None) (world (cut_side (1 ∷ []) ∷ [])) ≡ world (cut_side (1 ∷ []) ∷ []))
+unfolding goes_through settled settle side_step cut
+cuts_again = (refl, refl)
+
+cuts_none : after (On 0 (Cut 9)) (Done None) (world (closed_side closed [] ∷ [])) ≡ world (closed_side closed [] ∷ [])
+unfolding goes_through settled settle side_step cut
+cuts_none = refl
+
+-- What a router sends behind a cut nobody receives.
+sends_to_none : (after (On 0 (RouterSends 8)) (Done None) (world (record (cut_side (1 ∷ [])) { router = record asking { out = reset_bytes } } ∷ []))
+    ≡ world (record (cut_side (1 ∷ [])) { up = reset_bytes } ∷ []))
+    × (after (On 0 (CacheGets 8)) (Done None) (world (record (cut_side (1 ∷ [])) { up = reset_bytes } ∷ [])) ≡ world (record (cut_side (1 ∷ [])) { up = reset_bytes } ∷ []))
+unfolding goes_through settled settle side_step router_sends router_pulled cache_gets
+sends_to_none = (refl, refl)
+
+-- Nothing that the cache still sends is on the wire to a closed link.
+sends_to_closed : after (On 0 (CacheSends 99)) (Done None) (world (record (open_side closed notified (1 ∷ []) [] []) { home = None } ∷ []))
+    ≡ world (record (open_side closed (record notified { state = record (notified.state) { due = [] } }) (1 ∷ []) [] []) { home = None } ∷ [])
+unfolding goes_through settled settle side_step cache_sends conn_pulled
+sends_to_closed = refl
+
 -- A router restarts: nothing is left of its connection.
 restarts_router : after (On 0 RouterRestart) (Done None) (world (open_side (record asking { now = 9 }) notified (take 3 reset_bytes) (7 ∷ []) opened ∷ []))
     ≡ world (closed_side new_router (Restarts ∷ opened) ∷ [])
@@ -155,6 +190,10 @@ refuses = (refl, refl, refl, refl, refl, refl, refl, refl)
 never_refuses : (may_refuse connected (On 0 (Cut 0)) ≡ false) × (may_refuse connected (On 0 NotifyRouter) ≡ false) × (may_refuse connected (On 0 Ask) ≡ false) × (may_refuse connected (On 0 (Tick 0)) ≡ false)
     × (may_refuse connected (On 1 (RouterSends 9)) ≡ false) × (may_refuse connected (On 1 (CacheGets 9)) ≡ false) × (may_refuse connected (On 1 (CacheSends 9)) ≡ false) × (may_refuse connected (On 1 (RouterGets 9)) ≡ false)
 never_refuses = (refl, refl, refl, refl, refl, refl, refl, refl)
+
+-- a router whose link is closed has a connection while one is open at the cache, and one that was not told yet has one too
+still_connected : (has_connection (record new_side { conn = Some (new_conn with_v) }) ≡ true) × (has_connection (cut_side []) ≡ true) × (has_connection new_side ≡ false)
+still_connected = (refl, refl, refl)
 
 -- It tells at most the bytes that it would have moved with memory, and a unit only where that came and takes memory.
 all_of_it : moved connected (On 0 (CacheGets 99)) None ≡ 8
@@ -193,3 +232,16 @@ notifies_of_now = refl
 answers_as_now : after (On 0 (CacheGets 8)) (Done None) (later_world (new_conn at_first) reset_bytes) ≡ later_world (told_now true (response_bytes ++ v_bytes ++ end_bytes 6) false) []
 unfolding goes_through settled settle side_step cache_gets conn_takes conn_byte judge as_read
 answers_as_now = ap (λ vs. later_world (told_now true (sent_all (with_all_of 6 just_v vs)) false) []) (listing-set_of (v ∷ []) v_ascends)
+
+-- Too many versions are counted from the one that a router committed under this session, and from the one that was current when its
+-- connection was made, or the first; an instance that ended does not count, nor is a set refused that is current already.
+counted_so : (sets : List VrpSet) → length sets ≡ 2147483648 → let i = cache 5 sets in
+    (is_near i (Some 0) ≡ false) × (is_near i (Some 1) ≡ true)
+    × (room_since i (Some (cache 5 [])) ≡ false) × (room_since i (Some (cache 5 (just_v ∷ empty ∷ []))) ≡ true)
+    × (room_since i (Some (record (cache 5 []) { session = 0x2222 })) ≡ true) × (room_since i None ≡ true)
+    × (room_for i (Some (record version_5 { session = 0x2222 })) ≡ true) × (room_for i None ≡ true)
+counted_so sets count = rw count (refl, refl, refl, refl, refl, refl, refl, refl)
+
+never_too_many : (w : World) (set : VrpSet) → is_current w.present.sets set ≡ true → refusal w (Publish set) ≡ None
+unfolding refusal
+never_too_many w set current = rw current refl

@@ -16,7 +16,7 @@ use Rattle.rtr_ends.specs.Cache.{Conn}
 use Rattle.rtr_ends.specs.Connection.{IsLater}
 use Rattle.rtr_ends.specs.Router.{Router, Link, Closed, Idle, Asked, Answering, Ended, IsKept}
 use Rattle.rtr_ends.specs.Transcript.{Begun, Committed, Question, base_of, kept}
-use Rattle.rtr_world.specs.Claims.{IsJudged, IsNamed, Headline, NoWayBack, RouteStates}
+use Rattle.rtr_world.specs.Claims.{Always, HoldsNamed, IsJudged, IsNamed, Headline, NoWayBack, RouteStates}
 use Rattle.rtr_world.specs.History.{Outcome, Done, SessionUsed, TooManyVersions, NoSuchRouter, Memory, is_near, room_for, room_since, all_have_room, is_used, refusal, MayEnd, after, IsEvent, Entry, LeadsFrom, Made, IsMade, conn_due}
 use Rattle.rtr_world.specs.OneAnswer.{without_notifies}
 use Rattle.rtr_world.specs.Place.{NeverBack, position_of}
@@ -332,3 +332,12 @@ no_way_back made history w leads =
     each : (sides : List Side) → AllByRecursion (Good w.keep w.past w.present) sides → AllByRecursion (λ s. NeverBack s.places) sides
     each [] g = tt
     each (s ∷ sides) g = (g.0.order.never_back, each sides g.1)
+
+-- the set and the answers over it
+pub sentence : Always (λ w s. HoldsNamed (instances w) (kept s.items).version s.router.table)
+sentence made history w leads = each w.sides (headline made history w leads) (route_states made history w leads)
+  where
+    each : (sides : List Side) → AllByRecursion (λ s. IsNamed (instances w) (kept s.items).version s.router.table) sides → AllByRecursion (λ s. (route : Route) → IsJudged (instances w) (kept s.items).version route (state s.router.table route)) sides
+        → AllByRecursion (λ s. HoldsNamed (instances w) (kept s.items).version s.router.table) sides
+    each [] h k = tt
+    each (s ∷ sides) h k = (record { named_so = h.0; routes = k.0 }, each sides h.1 k.1)

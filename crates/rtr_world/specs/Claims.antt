@@ -47,6 +47,11 @@ abbrev pub IsJudged : List Instance → Option Committed → Route → OriginSta
 IsJudged all None route answer = HasState empty route answer
 IsJudged all (Some version) route answer = (set : VrpSet) × (named all version.session version.serial ≡ Some set) × HasState set route answer
 
+-- both
+pub record HoldsNamed (all : List Instance) (version : Option Committed) (table : VrpSet) : Type 0 where
+  pub named_so : IsNamed all version table
+  pub routes : (route : Route) → IsJudged all version route (state table route)
+
 abbrev pub RouteStates : Type 0
 RouteStates = Always (λ w s. (route : Route) → IsJudged (instances w) (kept s.items).version route (state s.router.table route))
 
@@ -67,8 +72,11 @@ IsLawfulEnd (ends.Told (suc zero)) question home = ⊤
 IsLawfulEnd (ends.Told zero) question home = OfAnother question home
 IsLawfulEnd end question home = ⊥
 
+abbrev pub AreLawful : List Ending → Type 0
+AreLawful endings = AllByRecursion (λ (e : Ending). IsLawfulEnd e.end e.question e.home) endings
+
 abbrev pub LawfulEnds : Type 0
-LawfulEnds = Always (λ w s. AllByRecursion (λ (e : Ending). IsLawfulEnd e.end e.question e.home) s.endings)
+LawfulEnds = Always (λ w s. AreLawful s.endings)
 
 -- A link that ends by an event is noted, with its question and the instance of its connection, before all ends that were noted.
 abbrev pub NotesEnd : World → SideEvent → Option ℕ → Side → Type 0

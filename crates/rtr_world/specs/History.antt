@@ -7,7 +7,8 @@ use Rattle.vrps.specs.VrpSet.{IsVrpSet}
 use Rattle.rtr_ends.specs.Cache.{Conn, conn_takes}
 use Rattle.rtr_ends.specs.Connection.{is_wanting}
 use Rattle.rtr_ends.specs.Router.{is_closed, receives}
-use Rattle.rtr_ends.specs.Transcript.{Committed, Item, Lacks}
+use Rattle.rtr_ends.specs.Shown.{is_lacking}
+use Rattle.rtr_ends.specs.Transcript.{Committed}
 use Rattle.rtr_world.specs.Place.{position_of}
 use Rattle.rtr_world.specs.World.{Side, World, instances, SideEvent, RouterRestart, Connect, RouterSends, CacheGets, CacheSends, RouterGets, Event, Publish, Restart, On, cache_gets, router_gets, goes_through, settled, is_refused, new_world, timing}
 
@@ -98,11 +99,6 @@ most_of (CacheSends most) = most
 most_of (RouterGets most) = most
 most_of event = 0
 
--- memory was wanting at this item of a transcript
-abbrev pub is_lacking : Item → Bool
-is_lacking (Lacks unit) = true
-is_lacking item = false
-
 -- memory is wanting at this unit of so many bytes that arrive at the cache
 abbrev pub conn_wants : World → ℕ → ℕ → Side → Option Conn → Bool
 conn_wants w bytes unit s None = false
@@ -166,3 +162,9 @@ pub record IsMade (made : Made) : Type 0 where
 
 abbrev pub Leads : Made → List Entry → World → Type 0
 Leads made history w = IsMade made × LeadsFrom (new_world made.routers made.session made.start made.keep) history w
+
+-- a world to which some history leads: only so do its serials name its versions
+pub record Reached (w : World) : Type 0 where
+  pub made : Made
+  pub history : List Entry
+  pub leads : Leads made history w

@@ -1,5 +1,10 @@
+pub mod CatchUp
+pub mod CaughtUp
 pub mod Claims
+pub mod Events
 pub mod History
 pub mod OneAnswer
 pub mod Place
+pub mod Reached
+pub mod Shown
 pub mod World

@@ -1,4 +1,5 @@
 //! Laws of the definitions. These functions do nothing: their contracts are the laws.
+ghost use Rattle.rtr_world.specs.CatchUp.{CatchesUp, IdleIsCurrent, RoundsAreSteps, RoundsEnd};
 ghost use Rattle.rtr_world.specs.Claims.{EachLeads, EndsNoted, Headline, LawfulEnds, NoWayBack, OneAnswerAlways, OneWorld, RefusesRightly, RouteStates, RoutersRun, Settles, Tables};
 
 /// A history of events with their outcomes leads to one world, and every list of events has outcomes with which it leads to one. The
@@ -51,4 +52,26 @@ pub fn no_way_back()
 /// ended, and a closed one holds nothing, has nothing to be pulled, and nothing is on the wire to it.
 pub fn one_answer()
     ensures { OneAnswerAlways }
+{}
+
+/// A router connects, and then nothing happens but moves of its own: bytes are sent and handed in, a connection is cut or made anew, and
+/// memory may be wanting at any of it. Where its link is idle then, it holds the newest version of the present instance; or nothing is
+/// published, it holds no session, and its table is empty.
+pub fn idle_is_current()
+    ensures { IdleIsCurrent }
+{}
+
+/// A router connects, and rounds follow: all bytes go from it to the cache and back. After the first its link is idle or closed, or it
+/// asks for all after a Cache Reset; and then its link is idle or closed after the second, whatever memory was wanting. A round is four
+/// events of the world.
+pub fn rounds_end()
+    ensures ends { RoundsEnd }
+    ensures steps { RoundsAreSteps }
+{}
+
+/// Where no memory is wanting, catching up succeeds: a router connects, and after one round its link is idle; or it asks for all after a
+/// Cache Reset, and its link is idle after the second; or it is closed and holds no session, and its link is idle after one round on a
+/// new connection.
+pub fn catches_up()
+    ensures { CatchesUp }
 {}

@@ -1,0 +1,130 @@
+-- A cache that is handed a whole question reads it, and its reply is due.
+use Rattle.std.specs.Prelude.{◌≡◌, ◌⊎◌, ℕ, ◌<◌, Bool, true, false, not, ◌&&◌, ◌||◌, ◌==◌, List, [], ◌∷◌, ◌++◌, length, take, Option, Some, None, if◌then◌else◌, refl}
+use Rattle.std.proofs.Common.{sym, ap, ◌∙◌, append_assoc, subst, arith, inl, inr}
+use Rattle.std.proofs.lemmas.Bool.{and_parts}
+use Rattle.vrps.specs.Instance.{Instance, Version, versions_from, with_serial}
+use Rattle.vrps.specs.Serial.{serial_at}
+use Rattle.vrps.specs.VrpSet.{VrpSet}
+use Rattle.rtr_pdu.specs.Judging.{judge}
+use Rattle.rtr_pdu.specs.Unit.{IsUnit}
+use Rattle.rtr_pdu.specs.declared.unit.Unit.{Unit}
+use Rattle.rtr_pdu.specs.declared.unit.Unit.TheVariants.{SerialQuery, ResetQuery, CacheReset, ErrorReport}
+use Rattle.rtr_pdu.proofs.NextLaws.{judge_part, judge_sent, some_sent}
+use Rattle.rtr_ends.specs.Answer.{Reply, and_end, and_on, answer, report, sent, sent_all, serial_answer, step_answer, whole_answer}
+use Rattle.rtr_ends.specs.Cache.{Conn, Taking, conn_byte, conn_stops, conn_takes, finds_memory, is_none, with_judged, with_moment}
+use Rattle.rtr_ends.specs.Connection.{Read, Wanting, takes_memory}
+use Rattle.rtr_ends.specs.Transcript.{AskReset, AskSerial, Question, query}
+use Rattle.rtr_ends.proofs.FeedingLaws.{feed_keeps, feed_takes}
+use Rattle.rtr_world.specs.World.{timing}
+
+abbrev pub code_of : Unit → ℕ
+code_of (ErrorReport e) = e.code
+code_of u = 0
+
+pub other_report : (one other : ℕ) (copy copied : List ℕ) → (one ≡ other → ⊥) → report one copy ∷ [] ≡ report other copied ∷ [] → ⊥
+other_report one other copy copied differs e = let same : report one copy ≡ report other copied = cc in differs (ap code_of same)
+
+-- The connection goes on after an answer, save after Error Report 0.
+pub goes_or_other : (i : Instance) (keep : ℕ) (q : Question) → ((answer i keep timing (query q)).goes_on ≡ true) ⊎ ((copy : List ℕ) × ((answer i keep timing (query q)).units ≡ report 0 copy ∷ []))
+goes_or_other i keep AskReset = inl refl
+goes_or_other i keep (AskSerial session serial) = by_session (session == i.session)
+  where
+    reply : Bool → Reply
+    reply b = if b then and_on (serial_answer i.session keep timing serial (versions_from i.start i.sets)) else and_end (report 0 (sent (SerialQuery session serial)) ∷ [])
+
+    by_session : (b : Bool) → ((reply b).goes_on ≡ true) ⊎ ((copy : List ℕ) × ((reply b).units ≡ report 0 copy ∷ []))
+    by_session true = inl refl
+    by_session false = inr (sent (SerialQuery session serial), refl)
+
+-- Error Report 1 is no answer.
+pub no_wanting : (i : Instance) (keep : ℕ) (q : Question) → (answer i keep timing (query q)).units ≡ report 1 [] ∷ [] → ⊥
+no_wanting i keep AskReset = by_sets i.sets
+  where
+    by_sets : (sets : List VrpSet) → whole_answer i.session timing (versions_from i.start sets) ≡ report 1 [] ∷ [] → ⊥
+    by_sets [] e = other_report 2 1 (sent ResetQuery) [] (λ k. absurd (omega (arith, k))) e
+    by_sets (x ∷ older) e = let k : whole_answer i.session timing (versions_from i.start (x ∷ older)) ≡ report 1 [] ∷ [] = e in cc
+no_wanting i keep (AskSerial session serial) = by_session (session == i.session)
+  where
+    by_step : (now : Version) (o : Option Version) → step_answer i.session timing now o ≡ report 1 [] ∷ [] → ⊥
+    by_step now None e = let k : CacheReset ∷ [] ≡ report 1 [] ∷ [] = e in cc
+    by_step now (Some before) e = let k : step_answer i.session timing now (Some before) ≡ report 1 [] ∷ [] = e in cc
+
+    by_sets : (sets : List VrpSet) → serial_answer i.session keep timing serial (versions_from i.start sets) ≡ report 1 [] ∷ [] → ⊥
+    by_sets [] e = other_report 2 1 (sent (SerialQuery i.session serial)) [] (λ k. absurd (omega (arith, k))) e
+    by_sets (x ∷ older) e =
+        let now : Version = record { serial = serial_at i.start (length older); set = x } in
+        by_step (record { serial = serial_at i.start (length older); set = x }) (with_serial serial (record { serial = serial_at i.start (length older); set = x } ∷ take keep (versions_from i.start older))) e
+
+    by_session : (b : Bool) → (if b then and_on (serial_answer i.session keep timing serial (versions_from i.start i.sets)) else and_end (report 0 (sent (SerialQuery session serial)) ∷ [])).units ≡ report 1 [] ∷ [] → ⊥
+    by_session true e = by_sets i.sets e
+    by_session false e = other_report 0 1 (sent (SerialQuery session serial)) [] (λ k. absurd (omega (arith, k))) e
+
+module _ (keep : ℕ) (i : Instance) (u : Unit) (fits : IsUnit u) (wanting : Option ℕ) where
+  -- what is due once the unit is read, and whether the connection has ended then: its answer, or Error Report 1 in its place
+  abbrev pub IsDue : Bool → List Unit → Type 0
+  IsDue ended units = ((units ≡ (answer i keep timing u).units) × (ended ≡ not (answer i keep timing u).goes_on)) ⊎ ((units ≡ report 1 [] ∷ []) × (wanting ≡ None → ⊥))
+
+  pub record IsRead (o : Conn) : Type 0 where
+    pub units : List Unit
+    pub due : o.state.due ≡ sent_all units
+    pub reply : IsDue o.state.ended units
+    pub held : o.held ≡ []
+
+  -- some of it is to come
+  record Comes (rest : List ℕ) (m : Taking) : Type 0 where
+    next : ℕ
+    more : List ℕ
+    rest_is : rest ≡ next ∷ more
+    whole : m.conn.held ++ rest ≡ sent u
+    due : m.conn.state.due ≡ []
+    on : m.conn.state.ended ≡ false
+    same : m.wanting ≡ wanting
+
+  abbrev Reads : List ℕ → Taking → Type 0
+  Reads rest m = Comes rest m ⊎ ((rest ≡ []) × IsRead m.conn)
+
+  byte_whole : (m : Taking) (bytes : List ℕ) → m.wanting ≡ wanting → IsRead (with_moment keep timing bytes m.conn (Some (if takes_memory i u && not (finds_memory m.wanting) then Wanting i u bytes else Read i u bytes)))
+  byte_whole m bytes same = by_memory (takes_memory i u && not (finds_memory m.wanting)) refl
+    where
+      lacks : (takes_memory i u && not (finds_memory m.wanting)) ≡ true → wanting ≡ None → ⊥
+      lacks e none =
+          let parts = and_parts (takes_memory i u) (not (finds_memory m.wanting)) e in
+          let finds : false ≡ true = ap (λ x. not (finds_memory x)) (sym (same ∙ none)) ∙ parts.1 in cc
+
+      by_memory : (b : Bool) → (takes_memory i u && not (finds_memory m.wanting)) ≡ b → IsRead (with_moment keep timing bytes m.conn (Some (if b then Wanting i u bytes else Read i u bytes)))
+      by_memory true e = record { units = report 1 [] ∷ []; due = refl; reply = inr (refl, lacks e); held = refl }
+      by_memory false e = record { units = (answer i keep timing u).units; due = refl; reply = inl (refl, refl); held = refl }
+
+  byte_comes : (rest : List ℕ) (m : Taking) (b : ℕ) → m.conn.held ++ b ∷ rest ≡ sent u → m.conn.state.due ≡ [] → m.conn.state.ended ≡ false → m.wanting ≡ wanting → Reads rest (conn_byte keep timing i m b)
+  unfolding conn_byte
+  byte_comes [] m b whole due on same =
+      let is = ap (judge 1 false) whole ∙ judge_sent 1 false u fits in
+      subst (λ j. Reads [] (with_judged keep timing i m (m.conn.held ++ b ∷ []) j)) (sym is) (inr (refl, byte_whole m (m.conn.held ++ b ∷ []) same))
+  byte_comes (c ∷ rest) m b whole due on same =
+      let begun : (m.conn.held ++ b ∷ []) ++ c ∷ rest ≡ sent u = append_assoc m.conn.held (b ∷ []) (c ∷ rest) ∙ whole in
+      let is = judge_part 1 false u (m.conn.held ++ b ∷ []) rest c fits begun in
+      subst (λ j. Reads (c ∷ rest) (with_judged keep timing i m (m.conn.held ++ b ∷ []) j)) (sym is)
+      (inl (record { next = c; more = rest; rest_is = refl; whole = begun; due = due; on = on; same = same }))
+
+  reads_byte : (b : ℕ) (rest : List ℕ) (m : Taking) → conn_stops m.conn ≡ false → Reads (b ∷ rest) m → Reads rest (conn_byte keep timing i m b)
+  reads_byte b rest m goes (inl c) = byte_comes rest m b c.whole c.due c.on c.same
+  reads_byte b rest m goes (inr r) = absurd (let e : b ∷ rest ≡ [] = r.0 in cc)
+
+  -- what a connection that stops has read
+  stopped : (rest : List ℕ) (m : Taking) → (0 < length rest → conn_stops m.conn ≡ true) → Reads rest m → (rest ≡ []) × IsRead m.conn
+  stopped rest m stops (inr r) = r
+  stopped rest m stops (inl c) =
+      let on : conn_stops m.conn ≡ false = (λ j. c.on j || not (is_none (c.due j))) in
+      let some = ap length c.rest_is in
+      absurd (let e : true ≡ false = sym (stops (omega (arith, some))) ∙ on in cc)
+
+  start : (bytes : List ℕ) (o : Conn) → bytes ≡ sent u → o.held ≡ [] → o.state.due ≡ [] → o.state.ended ≡ false → Reads bytes (record { conn = o; moments = []; wanting = wanting })
+  start [] o e held due on = absurd (some_sent 1 u (sym e))
+  start (b ∷ bytes) o e held due on = inl (record { next = b; more = bytes; rest_is = refl; whole = ap (λ x. x ++ b ∷ bytes) held ∙ e; due = due; on = on; same = refl })
+
+  pub is_read : (bytes : List ℕ) (o : Conn) → bytes ≡ sent u → o.held ≡ [] → o.state.due ≡ [] → o.state.ended ≡ false
+      → ((conn_takes keep timing i wanting bytes o).rest ≡ []) × IsRead (conn_takes keep timing i wanting bytes o).machine.conn
+  unfolding conn_takes
+  is_read bytes o e held due on =
+      let taken = feed_takes (λ (x : Taking). conn_stops x.conn) (conn_byte keep timing i) (record { conn = o; moments = []; wanting = wanting }) bytes in
+      stopped _ _ taken.1.all_or (feed_keeps (λ (x : Taking). conn_stops x.conn) (conn_byte keep timing i) Reads reads_byte (record { conn = o; moments = []; wanting = wanting }) bytes (start bytes o e held due on))

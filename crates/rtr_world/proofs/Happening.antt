@@ -1,0 +1,64 @@
+-- What happens at one side.
+use Rattle.std.specs.Prelude.{◌≡◌, ℕ, List, ◌∷◌, Option, None, Result, Ok, Err, is_err, false, true, refl, ⊤}
+use Rattle.std.proofs.Common.{sym, subst}
+use Rattle.std.specs.declared.alloc.AllocError.{AllocError}
+use Rattle.vrps.specs.Steps.{Steps}
+use Rattle.rtr_ends.specs.Cache.{Conn}
+use Rattle.rtr_ends.specs.Router.{Noted}
+use Rattle.rtr_ends.specs.Shown.{IsShown}
+use Rattle.rtr_ends.specs.Transcript.{Item, Refused}
+use Rattle.rtr_ends.specs.declared.cache.Cache.{Cache}
+use Rattle.rtr_ends.specs.declared.router.Router as routers
+use Rattle.rtr_world.specs.Events.{side_event_of}
+use Rattle.rtr_world.specs.Shown.{AloneAt, Begins, Goes, Happens, Moves, Passes, ShowsSide}
+use Rattle.rtr_world.specs.World as model
+use Rattle.rtr_world.specs.World.{World, Side, cut, instances, noted, settle, side_part, side_refused, side_step}
+use Rattle.rtr_world.specs.declared.event.SideEvent.{SideEvent}
+use Rattle.rtr_world.specs.declared.side.Side as values
+use Rattle.rtr_world.proofs.Moving.{and_then}
+
+module _ (w : World) (at : ℕ → Option Conn) where
+  -- the event of a case
+  pub of_case : (e f : SideEvent) (s : Side) (Now : Side → Type 0) (result : Result ⊤ AllocError) → e ≡ f → Begins w at (side_event_of f) s Now result → Begins w at (side_event_of e) s Now result
+  of_case e f s Now result is h = subst (λ x. Begins w at (side_event_of x) s Now result) (sym is) h
+
+  pub passes : (e : model.SideEvent) (s : Side) (Now : Side → Type 0) → Now (side_step w e None s) → Passes w at e s Now
+  passes e s Now h = record { wanting = None; wanted = tt; now = h }
+
+  pub begins_as : (e : model.SideEvent) (s : Side) (P Q : Side → Type 0) (result : Result ⊤ AllocError) → ((t : Side) → P t → Q t) → Begins w at e s P result → Begins w at e s Q result
+  begins_as e s P Q (Ok done) f h = record { wanting = h.wanting; wanted = h.wanted; now = f _ h.now }
+  begins_as e s P Q (Err error) f h = record { bytes = h.bytes; fewer = h.fewer; may = h.may; part = h.part; cut_is = h.cut_is; now = f _ h.now }
+
+  -- a call on the router alone
+  pub noted_shows : (s : Side) (v : values.Side) (n : Noted) (router : routers.Router) → ShowsSide w at s v → IsShown n.router router → AloneAt w at (noted (instances w) n s) v (record v { router = router })
+  noted_shows s v n router h shown = record { shows = record { router = shown; conn = h.conn; up = h.up; down = h.down; made = h.made; made_to = h.made_to }; conn = refl }
+
+  -- an item of the transcript is nothing that is shown
+  refused_shows : (s : Side) (cache : Cache Steps) (old : values.Side) (v : values.Side) (items : List Item) → Moves w at old.conn s cache v → Moves w at old.conn (record s { items = items }) cache v
+  refused_shows s cache old v items m = record {
+    now = m.now;
+    shows = record { serves = m.shows.serves; side = record { router = m.shows.side.router; conn = m.shows.side.conn; up = m.shows.side.up; down = m.shows.side.down; made = m.shows.side.made; made_to = m.shows.side.made_to } };
+    others = m.others;
+    own = m.own;
+    only = m.only;
+  }
+
+  refused_settles : (e : model.SideEvent) (s : Side) (old mid n : values.Side) (between later : Cache Steps) (bytes : ℕ)
+      → Moves w at old.conn (record (cut 0 (side_part w e bytes None s)) { items = Refused ∷ (cut 0 (side_part w e bytes None s)).items }) between mid → Goes (λ w s. settle (instances w) s) between mid later n
+      → Moves w at old.conn (settle (instances w) (side_refused w e bytes None s)) later n
+  unfolding side_refused
+  refused_settles e s old mid n between later bytes m settles = and_then w at old.conn (side_refused w e bytes None s) _ between later mid n m (settles w m.now (side_refused w e bytes None s) m.shows)
+
+  -- with the cut where memory is wanting, and the clean-up
+  pub happens : (e : model.SideEvent) (s : Side) (old v mid n : values.Side) (cache between later : Cache Steps) (result : Result ⊤ AllocError) → Begins w at e s (λ t. Moves w at old.conn t cache v) result
+      → (is_err result ≡ true → Goes (λ w s. cut 0 s) cache v between mid) → (is_err result ≡ false → (between ≡ cache) × (mid ≡ v)) → Goes (λ w s. settle (instances w) s) between mid later n → Happens w at e s (λ t. Moves w at old.conn t later n) result
+  happens e s old v mid n cache between later (Ok done) b cuts stays settles =
+      let same = stays refl in
+      let m : Moves w at old.conn (side_step w e b.wanting s) between mid = subst (λ c. Moves w at old.conn (side_step w e b.wanting s) c mid) (sym same.0) (subst (λ x. Moves w at old.conn (side_step w e b.wanting s) cache x) (sym same.1) b.now) in
+      record { wanting = b.wanting; wanted = b.wanted; now = and_then w at old.conn (side_step w e b.wanting s) _ between later mid n m (settles w m.now (side_step w e b.wanting s) m.shows) }
+  happens e s old v mid n cache between later (Err error) b cuts stays settles =
+      let c = cuts refl w b.now.now b.part b.now.shows in
+      let m = and_then w at old.conn b.part (cut 0 b.part) cache between v mid b.now c in
+      let k = subst (λ t. Moves w at old.conn t between mid) b.cut_is m in
+      let r = refused_shows (cut 0 (side_part w e b.bytes None s)) between old mid (Refused ∷ (cut 0 (side_part w e b.bytes None s)).items) k in
+      record { bytes = b.bytes; fewer = b.fewer; may = b.may; now = refused_settles e s old mid n between later b.bytes r settles }

@@ -1,0 +1,195 @@
+-- A set is published.
+use Rattle.std.specs.Prelude.{◌≡◌, ℕ, ◌+◌, ◌-◌, ◌%◌, ◌^◌, ◌<◌, ◌==◌, ◌&&◌, ◌||◌, Bool, true, false, List, [], ◌∷◌, length, find, Option, Some, None, is_some, Result, Ok, Err, if◌then◌else◌, refl, ⊤}
+use Rattle.std.proofs.Common.{sym, ap, ◌∙◌, subst, arith, zero, suc}
+use Rattle.std.specs.declared.alloc.AllocError.{AllocError}
+use Rattle.vrps.specs.Instance.{Instance, Version, versions_from}
+use Rattle.vrps.specs.Serial.{serial_at}
+use Rattle.vrps.specs.Store.{is_current, is_same, published}
+use Rattle.vrps.specs.Steps.{HoldsSteps}
+use Rattle.vrps.specs.Stores.{Publishes, newest}
+use Rattle.vrps.specs.VrpSet.{VrpSet, IsVrpSet}
+use Rattle.vrps.specs.declared.serial.Serial.{Serial}
+use Rattle.vrps.specs.declared.store.Published.{Published}
+use Rattle.vrps.specs.declared.store.Published.TheVariants.{New, Unchanged}
+use Rattle.rtr_ends.specs.Cache.{Conn}
+use Rattle.rtr_ends.specs.CacheState.{ShowsCache}
+use Rattle.rtr_world.specs.History.{Done, Memory, TooManyVersions, MayEnd, Reached, after, all_have_room, is_near, is_used, refusal, room_for, room_since, side_at}
+use Rattle.rtr_world.specs.Reached.{ShowsAt, ShowsParts, ShowsRest, ShowsWorld, Steps}
+use Rattle.rtr_world.specs.Shown.{MadeAt, MadeTo, MadeWhere, state_of}
+use Rattle.rtr_world.specs.World.{World, Side, Publish, goes_through, instances, is_refused, settled}
+use Rattle.rtr_world.specs.declared.event.WorldFault.{WorldFault}
+use Rattle.rtr_world.specs.declared.event.WorldFault.TheVariants as faults
+use Rattle.rtr_world.specs.declared.side.Side as values
+use Rattle.rtr_world.specs.declared.world.World as code
+use Rattle.rtr_world.proofs.Rests.{history_rests}
+use Rattle.rtr_world.proofs.Showing.{unsettled}
+use Rattle.rtr_world.proofs.Stepping.{same_rest}
+use Rattle.rtr_world.proofs.Versions.{lt_of}
+
+-- the current set
+pub no_current : (sets : List VrpSet) (start : ℕ) (set : VrpSet) → None ≡ newest (versions_from start sets) → false ≡ is_current sets set
+no_current [] start set h = refl
+no_current (now ∷ older) start set h = absurd (let k : ◌≡◌ {A = Option Version} None (newest (versions_from start (now ∷ older))) = h in cc)
+
+pub some_current : (sets : List VrpSet) (start : ℕ) (set : VrpSet) (v : Version) → Some v ≡ newest (versions_from start sets) → is_same v.set set ≡ is_current sets set
+some_current [] start set v h = absurd (let k : ◌≡◌ {A = Option Version} (Some v) None = h in cc)
+some_current (now ∷ older) start set v h = ap (λ (x : Version). is_same x.set set) (inside h)
+  where
+    inside : {a b : Version} → Some a ≡ Some b → a ≡ b
+    inside h = cc
+
+-- the serial of the next version
+pub first_next : (start : ℕ) (sets : List VrpSet) (serial : ℕ) → start ≡ serial → start < 2 ^ 32 → None ≡ newest (versions_from start sets) → serial ≡ serial_at start (length sets)
+first_next start [] serial is fits h = grind (arith, is, fits)
+first_next start (set ∷ older) serial is fits h = absurd (let k : ◌≡◌ {A = Option Version} None (newest (versions_from start (set ∷ older))) = h in cc)
+
+pub later_next : (start : ℕ) (sets : List VrpSet) (v : Version) → Some v ≡ newest (versions_from start sets) → (v.serial + 1) % 2 ^ 32 ≡ serial_at start (length sets)
+later_next start [] v h = absurd (let k : ◌≡◌ {A = Option Version} (Some v) None = h in cc)
+later_next start (now ∷ older) v h =
+    let e : v.serial ≡ serial_at start (length older) = ap (λ (x : Version). x.serial) (inside h) in
+    ap (λ n. (n + 1) % 2 ^ 32) e ∙ (let k : ((start + length older) % 2 ^ 32 + 1) % 2 ^ 32 ≡ (start + (length older + 1)) % 2 ^ 32 = omega arith in k)
+    ∙ ap (λ n. (start + n) % 2 ^ 32) (let k : length older + 1 ≡ length (now ∷ older) = omega arith in k)
+  where
+    inside : {a b : Version} → Some a ≡ Some b → a ≡ b
+    inside h = cc
+
+-- What is refused
+pub not_refused : (w : World) (set : VrpSet) → (is_current w.present.sets set || all_have_room w.present w.sides) ≡ true → refusal w (Publish set) ≡ None
+unfolding refusal
+not_refused w set h = ap (λ b. if b then None else Some TooManyVersions) h
+
+pub too_many : (w : World) (set : VrpSet) → (is_current w.present.sets set || all_have_room w.present w.sides) ≡ false → refusal w (Publish set) ≡ Some TooManyVersions
+unfolding refusal
+too_many w set h = ap (λ b. if b then None else Some TooManyVersions) h
+
+pub refuses_more : (w : World) (v : code.World) (set : VrpSet) → ShowsWorld w v → IsVrpSet set → is_current w.present.sets set ≡ false → all_have_room w.present w.sides ≡ false → Steps w (Publish set) (Err faults.TooManyVersions) v
+refuses_more w v set h fits other none = record {
+  outcome = TooManyVersions;
+  fits = fits;
+  may = subst (λ o. MayEnd o w (Publish set) TooManyVersions) (sym (too_many w set ((λ j. other j || none j)))) refl;
+  answers = refl;
+  shows = h;
+}
+
+-- The current set adds nothing.
+unchanged : (i : Instance) (set : VrpSet) → is_current i.sets set ≡ true → published set i ≡ i
+unchanged i set h = ap (λ b. if b then i else record i { sets = set ∷ i.sets }) h
+
+added : (i : Instance) (set : VrpSet) → is_current i.sets set ≡ false → published set i ≡ record i { sets = set ∷ i.sets }
+added i set h = ap (λ b. if b then i else record i { sets = set ∷ i.sets }) h
+
+abbrev pub with_set : World → VrpSet → World
+with_set w set = record w { present = record w.present { sets = set ∷ w.present.sets } }
+
+publish_sides : (w : World) (set : VrpSet) → Reached w → after (Publish set) (Done None) w ≡ record w { present = published set w.present }
+unfolding settled goes_through
+publish_sides w set was = ap (λ sides. record w { present = published set w.present; sides = sides }) (unsettled (published set w.present ∷ w.past) w.sides (history_rests was.made was.history w was.leads))
+
+pub publishes_nothing : (w : World) (v : code.World) (set : VrpSet) → Reached w → ShowsWorld w v → IsVrpSet set → is_current w.present.sets set ≡ true → Steps w (Publish set) (Ok tt) v
+publishes_nothing w v set was h fits same =
+    let is : after (Publish set) (Done None) w ≡ w = publish_sides w set was ∙ ap (λ i. record w { present = i }) (unchanged w.present set same) in
+    record {
+      outcome = Done None;
+      fits = fits;
+      may = subst (λ o. MayEnd o w (Publish set) (Done None)) (sym (not_refused w set (ap (λ b. b || all_have_room w.present w.sides) same))) tt;
+      answers = refl;
+      shows = subst (λ x. ShowsWorld x v) (sym is) h;
+    }
+
+or_room : (a b : Bool) → b ≡ true → (a || b) ≡ true
+or_room true b h = refl
+or_room false b h = h
+
+shows_same : (w : World) (set : VrpSet) (v : code.World) → ShowsWorld w v → ShowsWorld (after (Publish set) (Memory 0 None) w) v
+unfolding is_refused
+shows_same w set v h = h
+
+pub publish_fails : (w : World) (v n : code.World) (set : VrpSet) (result : Result ⊤ WorldFault) → (h : ShowsWorld w v) → IsVrpSet set → all_have_room w.present w.sides ≡ true → result ≡ Err faults.Memory → n ≡ record v { cache = n.cache }
+    → ShowsCache HoldsSteps (state_of w h.at) n.cache → Steps w (Publish set) result n
+publish_fails w v n set result h fits room is_err same served = record {
+  outcome = Memory 0 None;
+  fits = fits;
+  may = subst (λ o. MayEnd o w (Publish set) (Memory 0 None)) (sym (not_refused w set (or_room (is_current w.present.sets set) (all_have_room w.present w.sides) room))) (refl, tt, omega arith);
+  answers = is_err;
+  shows = shows_same w set n (record {
+    rest = same_rest w w.sides v n h.rest (same ∙ ap (λ l. record v { cache = n.cache; sides = l }) (sym (ap (λ x. x.sides) same)));
+    at = h.at;
+    parts = subst (λ l. ShowsParts w h.at n.cache l.items) (sym (ap (λ x. x.sides) same)) (record { serves = served; each = h.parts.each; own = h.parts.own; all = h.parts.all });
+  });
+}
+
+-- Each side is shown at one version more.
+one_more_made : (i : Instance) (set : VrpSet) (home : Option Instance) (made : Option Serial) → room_since i home ≡ true → MadeAt i home made → MadeAt (record i { sets = set ∷ i.sets }) home made
+one_more_made i set None made room h = h
+one_more_made i set (Some home) made room h = by_session (i.session == home.session) room h
+  where
+    by_session : (b : Bool) → (if b then is_near i (Some (length home.sets - 1)) else true) ≡ true → MadeWhere b i home made → MadeWhere b (record i { sets = set ∷ i.sets }) home made
+    by_session false room h = h
+    by_session true room h =
+        let low : length i.sets - (length home.sets - 1) < 2 ^ 31 = lt_of _ _ room in
+        record { serial = h.serial; behind = omega (arith, h.behind); near = omega (arith, low, h.behind) }
+
+some_either : (b : Bool) (x y : Instance) (o : Option Instance) → is_some (if b then Some x else o) ≡ is_some (if b then Some y else o)
+some_either true x y o = refl
+some_either false x y o = refl
+
+used_still : (w : World) (set : VrpSet) (session : ℕ) → is_used (instances w) session ≡ is_used (instances (with_set w set)) session
+used_still w set session = some_either (w.present.session == session) w.present (record w.present { sets = set ∷ w.present.sets }) (find (λ i. i.session == session) w.past)
+
+made_to_still : (w : World) (set : VrpSet) (home : Option Instance) → MadeTo (instances w) home → MadeTo (instances (with_set w set)) home
+made_to_still w set None h = tt
+made_to_still w set (Some home) h = sym (used_still w set home.session) ∙ h
+
+one_more_shown : (w : World) (set : VrpSet) (at : ℕ → Option Conn) (a : Option Side) (q : Option values.Side) → ((s : Side) → a ≡ Some s → room_since w.present s.home ≡ true) → ShowsAt w at a q → ShowsAt (with_set w set) at a q
+one_more_shown w set at None None room h = tt
+one_more_shown w set at (Some s) (Some v) room h = record { router = h.router; conn = h.conn; up = h.up; down = h.down; made = one_more_made w.present set s.home v.made (room s refl) h.made; made_to = made_to_still w set s.home h.made_to }
+one_more_shown w set at None (Some v) room h = h
+one_more_shown w set at (Some s) None room h = h
+
+rooms : (i : Instance) (sides : List Side) → all_have_room i sides ≡ true → (r : ℕ) (s : Side) → side_at r sides ≡ Some s → room_since i s.home ≡ true
+rooms i [] h r s is = absurd (let k : ◌≡◌ {A = Option Side} None (Some s) = is in cc)
+rooms i (t ∷ sides) h zero s is = ap (λ (x : Side). room_since i x.home) (sym (inside is)) ∙ and_right (room_for i t.router.version) (room_since i t.home) (and_left (room_for i t.router.version && room_since i t.home) (all_have_room i sides) h)
+  where
+    inside : {a b : Side} → Some a ≡ Some b → a ≡ b
+    inside h = cc
+
+    and_left : (a b : Bool) → (a && b) ≡ true → a ≡ true
+    and_left true b h = refl
+    and_left false b h = h
+
+    and_right : (a b : Bool) → (a && b) ≡ true → b ≡ true
+    and_right true b h = h
+    and_right false b h = absurd (let k : false ≡ true = h in cc)
+rooms i (t ∷ sides) h (suc r) s is = rooms i sides (and_right (room_for i t.router.version && room_since i t.home) (all_have_room i sides) h) r s is
+  where
+    and_right : (a b : Bool) → (a && b) ≡ true → b ≡ true
+    and_right true b h = h
+    and_right false b h = absurd (let k : false ≡ true = h in cc)
+
+pub publishes_new : (w : World) (v n : code.World) (set : VrpSet) (result : Result Published AllocError) (published : Published) → Reached w → (h : ShowsWorld w v) → IsVrpSet set → is_current w.present.sets set ≡ false → all_have_room w.present w.sides ≡ true
+    → n ≡ record v { cache = n.cache } → result ≡ Ok published → Publishes (λ i cache. ShowsCache HoldsSteps (record (state_of w h.at) { cache = i }) cache) result set w.present n.cache → Steps w (Publish set) (Ok tt) n
+publishes_new w v n set result published was h fits other room same went told =
+    let is : after (Publish set) (Done None) w ≡ with_set w set = publish_sides w set was ∙ ap (λ i. record w { present = i }) (added w.present set other) in
+    record {
+      outcome = Done None;
+      fits = fits;
+      may = subst (λ o. MayEnd o w (Publish set) (Done None)) (sym (not_refused w set (or_room (is_current w.present.sets set) (all_have_room w.present w.sides) room))) tt;
+      answers = refl;
+      shows = subst (λ x. ShowsWorld x n) (sym is) (record {
+        rest = again (same_rest w w.sides v n h.rest (same ∙ ap (λ l. record v { cache = n.cache; sides = l }) (sym (ap (λ x. x.sides) same))));
+        at = h.at;
+        parts = subst (λ l. ShowsParts (with_set w set) h.at n.cache l.items) (sym (ap (λ x. x.sides) same)) (record {
+          serves = by_answer published (subst (λ r. Publishes (λ i cache. ShowsCache HoldsSteps (record (state_of w h.at) { cache = i }) cache) r set w.present n.cache) went told);
+          each = λ r. one_more_shown w set h.at (side_at r w.sides) _ (λ s is. rooms w.present w.sides room r s is) (h.parts.each r);
+          own = h.parts.own;
+          all = h.parts.all;
+        });
+      });
+    }
+  where
+    again : ShowsRest w n → ShowsRest (with_set w set) n
+    again r = record { keep = r.keep; used = λ session. r.used session ∙ used_still w set session; session = r.session; start = r.start }
+
+    by_answer : (p : Published) → Publishes (λ i cache. ShowsCache HoldsSteps (record (state_of w h.at) { cache = i }) cache) (Ok p) set w.present n.cache → ShowsCache HoldsSteps (state_of (with_set w set) h.at) n.cache
+    by_answer (New serial) t = subst (λ i. ShowsCache HoldsSteps (record (state_of w h.at) { cache = i }) n.cache) (added w.present set other) t.0
+    by_answer Unchanged t = absurd (let k : false ≡ true = sym other ∙ t.1 in cc)

@@ -1,0 +1,138 @@
+-- Room for one version more.
+use Rattle.std.specs.Prelude.{◌≡◌, ℕ, ◌+◌, ◌-◌, ◌≤◌, ◌<◌, ◌^◌, ◌==◌, ◌&&◌, ◌||◌, Bool, true, false, nat_lt, List, [], ◌∷◌, length, Option, Some, None, IfSome, is_none, if◌then◌else◌, refl}
+use Rattle.std.proofs.Common.{sym, ap, ◌∙◌, subst, arith, inl, inr, zero, suc}
+use Rattle.std.proofs.lemmas.Bool.{cases_Bool}
+use Rattle.std.proofs.lemmas.Bool.Decides.{nat_tests}
+use Rattle.std.specs.List.{AllByRecursion}
+use Rattle.std.specs.Option.{option_map}
+use Rattle.std.proofs.lemmas.List.{length-append}
+use Rattle.vrps.specs.Instance.{Instance, versions}
+use Rattle.vrps.specs.Serial.{serial_at}
+use Rattle.vrps.specs.declared.serial.Serial.{Serial}
+use Rattle.rtr_ends.specs.Transcript.{Committed}
+use Rattle.rtr_world.specs.History.{Reached, all_have_room, is_near, room_for, room_since, side_at}
+use Rattle.rtr_world.specs.Place.{position_of}
+use Rattle.rtr_world.specs.Shown.{MadeAt, MadeWhere, held_of}
+use Rattle.rtr_world.specs.World.{World, Side, instances}
+use Rattle.rtr_world.proofs.Histories.{Known, history_known}
+use Rattle.rtr_world.proofs.Versions.{Present, Stands, TableAt, equal_of, of_present, position_at}
+use Rattle.rtr_world.proofs.WorldSteps.{GoodWorld, history_good, new_good}
+use Rattle.rtr_world.proofs.TableLaws.{new_side_tells}
+use Rattle.rtr_world.proofs.SideLaws.{all_new}
+
+-- a fact of each side is one of this
+pub all_at : (P : Side → Type 0) (r : ℕ) (sides : List Side) (s : Side) → side_at r sides ≡ Some s → AllByRecursion P sides → P s
+all_at P r [] s is h = absurd (let k : ◌≡◌ {A = Option Side} None (Some s) = is in cc)
+all_at P zero (t ∷ sides) s is h = subst P (inside is) h.0
+  where
+    inside : {a b : Side} → Some a ≡ Some b → a ≡ b
+    inside h = cc
+all_at P (suc r) (t ∷ sides) s is h = all_at P r sides s is h.1
+
+pub reached_good : (w : World) → Reached w → GoodWorld w
+reached_good w r = history_good _ r.history w r.leads.1 (new_good r.made r.leads.0) (all_new _ new_side_tells r.made.routers)
+
+pub reached_known : (w : World) (r : ℕ) (s : Side) → Reached w → side_at r w.sides ≡ Some s → Known w s
+reached_known w r s reached found = all_at (Known w) r w.sides s found (history_known reached.made reached.history w reached.leads)
+
+-- What the test of two serials answers
+abbrev pub Tests : Option Serial → ℕ → Bool → Type 0
+Tests held next answer = (start position steps : ℕ) → steps ≤ 2 ^ 31 → IfSome held (λ s. s.0 ≡ serial_at start position) → next ≡ serial_at start (position + steps) → answer ≡ (is_none held || nat_lt steps (2 ^ 31))
+
+tests_none : (held : Option Serial) (next : ℕ) (answer : Bool) → Tests held next answer → held ≡ None → (start position : ℕ) → next ≡ serial_at start position → answer ≡ true
+tests_none held next answer tests none start position is =
+    tests start position 0 (omega arith) (subst (λ h. IfSome h (λ s. s.0 ≡ serial_at start position)) (sym none) tt) (is ∙ ap (serial_at start) (let e : position ≡ position + 0 = omega arith in e)) ∙ ap (λ h. is_none h || nat_lt 0 (2 ^ 31)) none
+
+tests_some : (held : Option Serial) (next : ℕ) (answer : Bool) → Tests held next answer → (serial start position total : ℕ) → option_map (λ s. s.0) held ≡ Some serial → serial ≡ serial_at start position → next ≡ serial_at start total → position ≤ total → total - position ≤ 2 ^ 31
+    → answer ≡ nat_lt (total - position) (2 ^ 31)
+tests_some None next answer tests serial start position total is at after behind near = absurd (let k : ◌≡◌ {A = Option ℕ} None (Some serial) = is in cc)
+tests_some (Some s) next answer tests serial start position total is at after behind near =
+    tests start position (total - position) near (inside is ∙ at) (after ∙ ap (serial_at start) (let e : total ≡ position + (total - position) = omega (arith, behind) in e))
+  where
+    inside : {a b : ℕ} → Some a ≡ Some b → a ≡ b
+    inside h = cc
+
+no_serial : (held : Option Serial) → option_map (λ s. s.0) held ≡ None → held ≡ None
+no_serial None h = refl
+no_serial (Some s) h = absurd (let k : ◌≡◌ {A = Option ℕ} (Some s.0) None = h in cc)
+
+-- of the version that a router holds
+pub room_held : (w : World) (s : Side) (held : Option Serial) (next : ℕ) (answer : Bool) → Tests held next answer → Present (instances w) w.present → TableAt (instances w) s.router.version s.router.table
+    → next ≡ serial_at w.present.start (length w.present.sets) → option_map (λ x. x.0) held ≡ held_of w.present.session s.router.version → answer ≡ room_for w.present s.router.version
+room_held w s held next answer tests p table after is = by_version s.router.version table is
+  where
+    i : Instance
+    i = w.present
+
+    by_session : (version : Committed) → Stands (instances w) version.session version.serial s.router.table → (b : Bool) → (w.present.session == version.session) ≡ b
+        → option_map (λ x. x.0) held ≡ (if b then Some version.serial else None) → answer ≡ (if b then is_near w.present (position_of version.serial (versions w.present)) else true)
+    by_session version t false e h = tests_none held next answer tests (no_serial held h) w.present.start (length w.present.sets) after
+    by_session version t true e h =
+        let mine : version.session ≡ w.present.session = sym (equal_of w.present.session version.session e) in
+        let same : t.i ≡ w.present = of_present (instances w) w.present p version.session version.serial s.router.table t mine in
+        let place : position_of version.serial (versions w.present) ≡ Some (length t.older) = ap (λ x. position_of version.serial (versions x)) (sym same) ∙ position_at (instances w) version.session version.serial s.router.table t in
+        let sets : length w.present.sets ≡ length t.newer + length (s.router.table ∷ t.older) = ap (λ (x : Instance). length x.sets) (sym same) ∙ ap length t.sets ∙ length-append t.newer (s.router.table ∷ t.older) in
+        tests_some held next answer tests version.serial w.present.start (length t.older) (length w.present.sets) h (t.serial_is ∙ ap (λ (x : Instance). serial_at x.start (length t.older)) same) after (omega (arith, sets)) (omega (arith, sets, t.young))
+        ∙ ap (is_near w.present) (sym place)
+
+    by_version : (version : Option Committed) → TableAt (instances w) version s.router.table → option_map (λ x. x.0) held ≡ held_of w.present.session version → answer ≡ room_for w.present version
+    by_version None t h = tests_none held next answer tests (no_serial held h) w.present.start (length w.present.sets) after
+    by_version (Some version) t h = by_session version t (w.present.session == version.session) refl h
+
+-- of the one that was current when the connection was made
+pub room_made : (i : Instance) (home : Option Instance) (made : Option Serial) (next : ℕ) (answer : Bool) → Tests made next answer → MadeAt i home made → next ≡ serial_at i.start (length i.sets) → answer ≡ room_since i home
+room_made i None made next answer tests none after = tests_none made next answer tests none i.start (length i.sets) after
+room_made i (Some home) made next answer tests is after = by_session (i.session == home.session) is
+  where
+    by_session : (b : Bool) → MadeWhere b i home made → answer ≡ (if b then is_near i (Some (length home.sets - 1)) else true)
+    by_session false h = tests_none made next answer tests h i.start (length i.sets) after
+    by_session true h = tests_some made next answer tests (serial_at i.start (length home.sets - 1)) i.start (length home.sets - 1) (length i.sets) (ap (option_map (λ x. x.0)) h.serial) refl after (omega (arith, h.behind)) h.near
+
+-- The first sides have room.
+abbrev pub has_room_at : World → Side → Bool
+has_room_at w s = room_for w.present s.router.version && room_since w.present s.home
+
+abbrev pub FirstHaveRoom : World → ℕ → Type 0
+FirstHaveRoom w k = (r : ℕ) (s : Side) → r < k → side_at r w.sides ≡ Some s → has_room_at w s ≡ true
+
+pub none_first : (w : World) → FirstHaveRoom w 0
+none_first w r s low is = absurd (omega (arith, low))
+
+pub one_more : (w : World) (k : ℕ) (s : Side) → FirstHaveRoom w k → side_at k w.sides ≡ Some s → has_room_at w s ≡ true → FirstHaveRoom w (k + 1)
+one_more w k s first is room r t low found = elim (cases_Bool (r == k)) [
+  | inl same ↦ ap (has_room_at w) (inside (sym found ∙ ap (λ n. side_at n w.sides) (equal_of r k same) ∙ is)) ∙ room
+  | inr other ↦ first r t (below r k low other) found
+]
+  where
+    inside : {a b : Side} → Some a ≡ Some b → a ≡ b
+    inside h = cc
+
+    below : (r k : ℕ) → r < k + 1 → (r == k) ≡ false → r < k
+    below r k low other = grind (arith, nat_tests)
+
+all_room : (i : Instance) (sides : List Side) → ((r : ℕ) (s : Side) → side_at r sides ≡ Some s → (room_for i s.router.version && room_since i s.home) ≡ true) → all_have_room i sides ≡ true
+all_room i [] h = refl
+all_room i (s ∷ sides) h = (λ j. h zero s refl j && all_room i sides (λ r t is. h (suc r) t is) j)
+
+in_sides : (r : ℕ) (sides : List Side) (s : Side) → side_at r sides ≡ Some s → r < length sides
+in_sides r [] s is = absurd (let k : ◌≡◌ {A = Option Side} None (Some s) = is in cc)
+in_sides zero (t ∷ sides) s is = omega arith
+in_sides (suc r) (t ∷ sides) s is = let low = in_sides r sides s is in omega (arith, low)
+
+pub all_first : (w : World) (k : ℕ) → FirstHaveRoom w k → length w.sides ≤ k → true ≡ all_have_room w.present w.sides
+all_first w k first all = sym (all_room w.present w.sides (λ r s is. first r s (let low = in_sides r w.sides s is in omega (arith, low, all)) is))
+
+one_far : (i : Instance) (r : ℕ) (sides : List Side) (s : Side) → side_at r sides ≡ Some s → (room_for i s.router.version && room_since i s.home) ≡ false → all_have_room i sides ≡ false
+one_far i r [] s is far = absurd (let k : ◌≡◌ {A = Option Side} None (Some s) = is in cc)
+one_far i zero (t ∷ sides) s is far = ap (λ b. b && all_have_room i sides) (ap (λ x. room_for i x.router.version && room_since i x.home) (inside is) ∙ far)
+  where
+    inside : {a b : Side} → Some a ≡ Some b → a ≡ b
+    inside h = cc
+one_far i (suc r) (t ∷ sides) s is far = and_false (room_for i t.router.version && room_since i t.home) (all_have_room i sides) (one_far i r sides s is far)
+  where
+    and_false : (a b : Bool) → b ≡ false → (a && b) ≡ false
+    and_false true b h = h
+    and_false false b h = refl
+
+pub is_far : (w : World) (r : ℕ) (s : Side) → side_at r w.sides ≡ Some s → has_room_at w s ≡ false → false ≡ all_have_room w.present w.sides
+is_far w r s is far = sym (one_far w.present r w.sides s is far)

@@ -1,0 +1,311 @@
+-- A world of the program and its model.
+use Rattle.std.specs.Prelude.{◌≡◌, ℕ, ◌+◌, ◌<◌, ◌≤◌, ◌==◌, ◌||◌, Bool, true, false, nat_lt, List, [], ◌∷◌, ◌++◌, map, length, find, Option, Some, None, is_some, IsSome, Result, slice_get, slice_set, option_map, if◌then◌else◌, refl, ⊤}
+use Rattle.std.proofs.Common.{sym, ap, ◌∙◌, subst, arith, inl, inr, zero, suc}
+use Rattle.std.proofs.lemmas.Bool.{cases_Bool}
+use Rattle.std.proofs.lemmas.Bool.Decides.{nat_tests}
+use Rattle.std.proofs.lemmas.List.Folds.{list_any-append}
+use Rattle.std.specs.List.{AllByRecursion, list_any}
+use Rattle.vrps.specs.Instance.{Instance}
+use Rattle.vrps.specs.Steps.{Steps}
+use Rattle.rtr_ends.specs.Cache.{Conn}
+use Rattle.rtr_ends.specs.declared.cache.Cache.{Cache}
+use Rattle.rtr_ends.specs.declared.cache.Conn.{Conn as Number}
+use Rattle.rtr_world.specs.History.{Entry, Leads, LeadsFrom, Made, Reached, WorldStep, after, is_used, side_at}
+use Rattle.rtr_world.specs.Reached.{AreOwn, HasAt, LeadsTo, Lost, LostAt, SettledAll, ShowsAt, ShowsParts, Steps as StepsSo, StepsTo}
+use Rattle.rtr_world.specs.Shown.{ConnIs, Goes, Has, IsNewSide, Moves, ShowsSide}
+use Rattle.rtr_world.specs.World.{World, Side, Event, instances, new_side, new_sides, on_side, settle}
+use Rattle.rtr_world.specs.declared.event.WorldFault.{WorldFault}
+use Rattle.rtr_world.specs.declared.side.Side as values
+use Rattle.rtr_world.specs.declared.world.World as code
+use Rattle.rtr_world.proofs.Moving.{none_some}
+use Rattle.rtr_world.proofs.Rests.{Rests, stays}
+use Rattle.rtr_world.proofs.Versions.{equal_of, lt_of}
+
+not_equal_of : (a b : ℕ) → (a == b) ≡ false → ¬ (a ≡ b)
+not_equal_of a b h e = grind (arith, nat_tests)
+
+inside : {A : Type 0} {a b : A} → Some a ≡ Some b → a ≡ b
+inside h = cc
+
+-- One event more
+leads_from : (old : World) (history : List Entry) (w : World) (entry : Entry) (n : World) → LeadsFrom old history w → WorldStep w entry.event entry.outcome n → LeadsFrom old (history ++ entry ∷ []) n
+leads_from old [] w entry n leads step = (n, subst (λ x. WorldStep x entry.event entry.outcome n) leads step, refl)
+leads_from old (first ∷ history) w entry n leads step = (leads.0, leads.1, leads_from leads.0 history w entry n leads.2 step)
+
+pub leads_on : (made : Made) (history : List Entry) (w : World) (entry : Entry) (n : World) → Leads made history w → WorldStep w entry.event entry.outcome n → Leads made (history ++ entry ∷ []) n
+leads_on made history w entry n leads step = (leads.0, leads_from _ history w entry n leads.1 step)
+
+-- New sides
+new_shows : (w : World) (at : ℕ → Option Conn) (v : values.Side) → IsNewSide v → ShowsSide w at new_side v
+new_shows w at v h = record { router = h.router; conn = subst (λ c. ConnIs at c None) (sym h.conn) tt; up = h.up; down = h.down; made = h.made; made_to = tt }
+
+pub all_new_show : (w : World) (at : ℕ → Option Conn) (items : List values.Side) → AllByRecursion IsNewSide items → (r : ℕ) → ShowsAt w at (side_at r (new_sides (length items))) (slice_get items r)
+all_new_show w at [] h r = tt
+all_new_show w at (v ∷ items) h zero = new_shows w at v h.0
+all_new_show w at (v ∷ items) h (suc r) = all_new_show w at items h.1 r
+
+no_number : (items : List values.Side) → AllByRecursion IsNewSide items → (r n : ℕ) → HasAt (slice_get items r) n → ⊥
+no_number [] h r n has = has
+no_number (v ∷ items) h zero n has = subst (λ c. Has c n) h.0.conn has
+no_number (v ∷ items) h (suc r) n has = no_number items h.1 r n has
+
+pub new_own : (items : List values.Side) → AllByRecursion IsNewSide items → AreOwn items
+new_own items h r d n has also = absurd (no_number items h r n has)
+
+-- A side that is found
+pub record FoundSide (w : World) (at : ℕ → Option Conn) (a : Option Side) (v : values.Side) : Type 0 where
+  pub side : Side
+  pub is : a ≡ Some side
+  pub shows : ShowsSide w at side v
+
+pub found_side : (w : World) (at : ℕ → Option Conn) (a : Option Side) (q : Option values.Side) (v : values.Side) → q ≡ Some v → ShowsAt w at a q → FoundSide w at a v
+found_side w at (Some s) (Some u) v e h = record { side = s; is = refl; shows = subst (λ x. ShowsSide w at s x) (inside e) h }
+found_side w at None (Some u) v e h = absurd h
+found_side w at (Some s) None v e h = absurd h
+found_side w at None None v e h = absurd (let k : ◌≡◌ {A = Option values.Side} None (Some v) = e in cc)
+
+-- so many sides
+same_length : (w : World) (at : ℕ → Option Conn) (sides : List Side) (items : List values.Side) → ((r : ℕ) → ShowsAt w at (side_at r sides) (slice_get items r)) → length sides ≡ length items
+same_length w at [] [] h = refl
+same_length w at (s ∷ sides) (v ∷ items) h = ap suc (same_length w at sides items (λ r. h (suc r)))
+same_length w at [] (v ∷ items) h = absurd (h zero)
+same_length w at (s ∷ sides) [] h = absurd (h zero)
+
+pub shown_length : (w : World) (at : ℕ → Option Conn) (cache : Cache Steps) (items : List values.Side) → ShowsParts w at cache items → length w.sides ≡ length items
+shown_length w at cache items h = same_length w at w.sides items h.each
+
+-- One side is another now.
+pub set_same : {X : Type 0} (xs : List X) (c : ℕ) (x : X) → c < length xs → slice_get (slice_set xs c x) c ≡ Some x
+set_same [] c x h = absurd (omega (arith, h))
+set_same (y ∷ xs) zero x h = refl
+set_same (y ∷ xs) (suc c) x h = set_same xs c x (omega (arith, h))
+
+pub set_other : {X : Type 0} (xs : List X) (c d : ℕ) (x : X) → ¬ (d ≡ c) → slice_get (slice_set xs c x) d ≡ slice_get xs d
+set_other [] c d x h = refl
+set_other (y ∷ xs) zero zero x h = absurd (h refl)
+set_other (y ∷ xs) zero (suc d) x h = refl
+set_other (y ∷ xs) (suc c) zero x h = refl
+set_other (y ∷ xs) (suc c) (suc d) x h = set_other xs c d x (λ e. h (ap suc e))
+
+on_same : (r : ℕ) (f : Side → Side) (sides : List Side) → side_at r (on_side r f sides) ≡ option_map f (side_at r sides)
+on_same r f [] = refl
+on_same zero f (s ∷ sides) = refl
+on_same (suc r) f (s ∷ sides) = on_same r f sides
+
+on_other : (r d : ℕ) (f : Side → Side) (sides : List Side) → ¬ (d ≡ r) → side_at d (on_side r f sides) ≡ side_at d sides
+on_other r d f [] h = refl
+on_other zero zero f (s ∷ sides) h = absurd (h refl)
+on_other zero (suc d) f (s ∷ sides) h = refl
+on_other (suc r) zero f (s ∷ sides) h = refl
+on_other (suc r) (suc d) f (s ∷ sides) h = on_other r d f sides (λ e. h (ap suc e))
+
+-- other sides do not matter to one
+pub among : (w : World) (sides : List Side) (at : ℕ → Option Conn) (s : Side) (v : values.Side) → ShowsSide w at s v → ShowsSide (record w { sides = sides }) at s v
+among w sides at s v h = record { router = h.router; conn = h.conn; up = h.up; down = h.down; made = h.made; made_to = h.made_to }
+
+module _ (w : World) (at now : ℕ → Option Conn) (sides : List Side) where
+  still_conn : (n : Option Number) (o : Option Conn) → ((k : ℕ) → Has n k → IsSome (at k) → now k ≡ at k) → ConnIs at n o → ConnIs now n o
+  still_conn None None keeps h = tt
+  still_conn (Some n) (Some o) keeps h = keeps n.0 refl (subst IsSome (sym h) refl) ∙ h
+  still_conn None (Some o) keeps h = h
+  still_conn (Some n) None keeps h = h
+
+  pub still : (a : Option Side) (q : Option values.Side) → ((k : ℕ) → HasAt q k → IsSome (at k) → now k ≡ at k) → ShowsAt w at a q → ShowsAt (record w { sides = sides }) now a q
+  still None None keeps h = tt
+  still (Some s) (Some v) keeps h = record { router = h.router; conn = still_conn v.conn s.conn keeps h.conn; up = h.up; down = h.down; made = h.made; made_to = h.made_to }
+  still None (Some v) keeps h = h
+  still (Some s) None keeps h = h
+
+-- a number that a side has is one at the cache
+some_at : (w : World) (at : ℕ → Option Conn) (a : Option Side) (q : Option values.Side) (k : ℕ) → ShowsAt w at a q → HasAt q k → IsSome (at k)
+some_at w at (Some s) (Some v) k h has = by_conn v.conn s.conn has h.conn
+  where
+    by_conn : (n : Option Number) (o : Option Conn) → Has n k → ConnIs at n o → IsSome (at k)
+    by_conn (Some n) (Some o) e is = subst (λ m. IsSome (at m)) e (subst IsSome (sym is) refl)
+    by_conn (Some n) None e is = absurd is
+    by_conn None o e is = absurd e
+some_at w at None None k h has = absurd has
+some_at w at None (Some v) k h has = absurd h
+some_at w at (Some s) None k h has = absurd h
+
+module _ (w : World) (at : ℕ → Option Conn) (cache later : Cache Steps) (olds : List values.Side) (r : ℕ) (s : Side) (f : Side → Side) (old new : values.Side) (parts : ShowsParts w at cache olds) (low : r < length olds) (found : slice_get olds r ≡ Some old)
+    (is : side_at r w.sides ≡ Some s) (m : Moves w at old.conn (f s) later new) where
+  had : (k : ℕ) → Has old.conn k → HasAt (slice_get olds r) k
+  had k has = subst (λ q. HasAt q k) (sym found) has
+
+  there : (d : ℕ) → ¬ (d ≡ r) → ShowsAt (record w { sides = on_side r f w.sides }) m.now (side_at d (on_side r f w.sides)) (slice_get (slice_set olds r new) d)
+  there d other =
+      subst (λ a. ShowsAt (record w { sides = on_side r f w.sides }) m.now a (slice_get (slice_set olds r new) d)) (sym (on_other r d f w.sides other))
+      (subst (λ q. ShowsAt (record w { sides = on_side r f w.sides }) m.now (side_at d w.sides) q) (sym (set_other olds r d new other))
+      (still w at m.now (on_side r f w.sides) (side_at d w.sides) (slice_get olds d) (λ k has some. m.others k some (λ mine. other (parts.own d r k has (had k mine)))) (parts.each d)))
+
+  here : ShowsAt (record w { sides = on_side r f w.sides }) m.now (side_at r (on_side r f w.sides)) (slice_get (slice_set olds r new) r)
+  here =
+      subst (λ a. ShowsAt (record w { sides = on_side r f w.sides }) m.now a (slice_get (slice_set olds r new) r)) (sym (on_same r f w.sides ∙ ap (option_map f) is))
+      (subst (λ q. ShowsAt (record w { sides = on_side r f w.sides }) m.now (Some (f s)) q) (sym (set_same olds r new low)) (among w (on_side r f w.sides) m.now (f s) new m.shows.side))
+
+  each : (d : ℕ) → ShowsAt (record w { sides = on_side r f w.sides }) m.now (side_at d (on_side r f w.sides)) (slice_get (slice_set olds r new) d)
+  each d = elim (cases_Bool (d == r)) [
+    | inl same ↦ subst (λ k. ShowsAt (record w { sides = on_side r f w.sides }) m.now (side_at k (on_side r f w.sides)) (slice_get (slice_set olds r new) k)) (sym (equal_of d r same)) here
+    | inr other ↦ there d (not_equal_of d r other)
+  ]
+
+  -- whose number it is now
+  mine : (k : ℕ) → HasAt (slice_get (slice_set olds r new) r) k → Has new.conn k
+  mine k has = subst (λ q. HasAt q k) (set_same olds r new low) has
+
+  theirs : (d k : ℕ) → ¬ (d ≡ r) → HasAt (slice_get (slice_set olds r new) d) k → HasAt (slice_get olds d) k
+  theirs d k other has = subst (λ q. HasAt q k) (set_other olds r d new other) has
+
+  clash : (d k : ℕ) → ¬ (d ≡ r) → HasAt (slice_get olds d) k → Has new.conn k → ⊥
+  clash d k other has new_has = elim (m.own k new_has) [
+    | inl old_has ↦ other (parts.own d r k has (had k old_has))
+    | inr none ↦ none_some (at k) none (some_at w at (side_at d w.sides) (slice_get olds d) k (parts.each d) has)
+  ]
+
+  own_now : AreOwn (slice_set olds r new)
+  own_now a b k has also = elim (cases_Bool (a == r)) [
+    | inl x ↦ elim (cases_Bool (b == r)) [
+      | inl y ↦ equal_of a r x ∙ sym (equal_of b r y)
+      | inr y ↦ absurd (clash b k (not_equal_of b r y) (theirs b k (not_equal_of b r y) also) (mine k (subst (λ d. HasAt (slice_get (slice_set olds r new) d) k) (equal_of a r x) has)))
+    ]
+    | inr x ↦ elim (cases_Bool (b == r)) [
+      | inl y ↦ absurd (clash a k (not_equal_of a r x) (theirs a k (not_equal_of a r x) has) (mine k (subst (λ d. HasAt (slice_get (slice_set olds r new) d) k) (equal_of b r y) also)))
+      | inr y ↦ parts.own a b k (theirs a k (not_equal_of a r x) has) (theirs b k (not_equal_of b r y) also)
+    ]
+  ]
+
+  owner : (k : ℕ) → IsSome (m.now k) → (d : ℕ) × HasAt (slice_get (slice_set olds r new) d) k
+  owner k some = elim (m.only k some) [
+    | inl has ↦ (r, subst (λ q. HasAt q k) (sym (set_same olds r new low)) has)
+    | inr was ↦ let one = parts.all k (subst IsSome was.1 some) in (one.0, subst (λ q. HasAt q k) (sym (set_other olds r one.0 new (not_mine k one.0 was.0 one.1))) one.1)
+  ]
+    where
+      not_mine : (k d : ℕ) → (Has old.conn k → ⊥) → HasAt (slice_get olds d) k → ¬ (d ≡ r)
+      not_mine k d none has e = none (subst (λ q. HasAt q k) found (subst (λ d. HasAt (slice_get olds d) k) e has))
+
+  pub moved : ShowsParts (record w { sides = on_side r f w.sides }) m.now later (slice_set olds r new)
+  moved = record { serves = m.shows.serves; each = each; own = own_now; all = owner }
+
+-- In a world that is reached the clean-up changes nothing, whatever instances there are.
+settled_same : (all : List Instance) (sides : List Side) → AllByRecursion Rests sides → map (settle all) sides ≡ sides
+settled_same all [] h = refl
+settled_same all (s ∷ sides) h = ap (λ x. x ∷ map (settle all) sides) (stays all s h.0) ∙ ap (λ x. s ∷ x) (settled_same all sides h.1)
+
+pub settled_on : (all : List Instance) (r : ℕ) (f : Side → Side) (sides : List Side) → AllByRecursion Rests sides → map (settle all) (on_side r f sides) ≡ on_side r (λ s. settle all (f s)) sides
+settled_on all r f [] h = refl
+settled_on all zero f (s ∷ sides) h = ap (λ x. settle all (f s) ∷ x) (settled_same all sides h.1)
+settled_on all (suc r) f (s ∷ sides) h = ap (λ x. x ∷ map (settle all) (on_side r f sides)) (stays all s h.0) ∙ ap (λ x. s ∷ x) (settled_on all r f sides h.1)
+
+pub unsettled : (all : List Instance) (sides : List Side) → AllByRecursion Rests sides → map (settle all) sides ≡ sides
+unsettled = settled_same
+
+-- the clean-up, side by side
+abbrev pub settle_first : List Instance → ℕ → List Side → List Side
+settle_first all zero sides = sides
+settle_first all (suc k) sides = on_side k (settle all) (settle_first all k sides)
+
+first_behind : (all : List Instance) (k : ℕ) (s : Side) (sides : List Side) → settle_first all (suc k) (s ∷ sides) ≡ settle all s ∷ settle_first all k sides
+first_behind all zero s sides = refl
+first_behind all (suc k) s sides = ap (on_side (suc k) (settle all)) (first_behind all k s sides)
+
+pub settles_each : (all : List Instance) (sides : List Side) → settle_first all (length sides) sides ≡ map (settle all) sides
+settles_each all [] = refl
+settles_each all (s ∷ sides) = first_behind all (length sides) s sides ∙ ap (λ x. settle all s ∷ x) (settles_each all sides)
+
+-- the sessions that were used
+any_or : (b : Bool) (all : List Instance) (i : Instance) (session : ℕ) → (b || is_used all session) ≡ is_some (if b then Some i else find (λ j. j.session == session) all)
+any_or true all i session = refl
+any_or false all i session = refl
+
+or_swap : (a b : Bool) → (a || (b || false)) ≡ (b || a)
+or_swap true true = refl
+or_swap true false = refl
+or_swap false true = refl
+or_swap false false = refl
+
+pub used_more : (items : List ℕ) (all : List Instance) (i : Instance) (session : ℕ) → list_any (λ y. y == session) items ≡ is_used all session → list_any (λ y. y == session) (items ++ i.session ∷ []) ≡ is_used (i ∷ all) session
+used_more items all i session h =
+    list_any-append (λ y. y == session) items (i.session ∷ []) ∙ ap (λ b. b || (i.session == session || false)) h ∙ or_swap (is_used all session) (i.session == session) ∙ any_or (i.session == session) all i session
+
+-- One side more has lost its connection.
+pub record LostFirst (olds news : List values.Side) (k : ℕ) : Type 0 where
+  pub len : length news ≡ length olds
+  pub lost : (r : ℕ) → r < k → LostAt (slice_get olds r) (slice_get news r)
+  pub left : (r : ℕ) → k ≤ r → slice_get news r ≡ slice_get olds r
+
+pub lost_none : (olds : List values.Side) → LostFirst olds olds 0
+lost_none olds = record { len = refl; lost = λ r low. absurd (omega (arith, low)); left = λ r h. refl }
+
+pub set_length : {X : Type 0} (xs : List X) (c : ℕ) (x : X) → length (slice_set xs c x) ≡ length xs
+set_length [] c x = refl
+set_length (y ∷ xs) zero x = refl
+set_length (y ∷ xs) (suc c) x = ap suc (set_length xs c x)
+
+last_below : (r k : ℕ) → r < k + 1 → nat_lt r k ≡ false → r ≡ k
+last_below r k below h = grind (arith, nat_tests)
+
+pub lost_more : (olds news : List values.Side) (k : ℕ) (old new : values.Side) → LostFirst olds news k → k < length news → slice_get news k ≡ Some old → Lost old new → LostFirst olds (slice_set news k new) (k + 1)
+lost_more olds news k old new h low found lost = record {
+  len = set_length news k new ∙ h.len;
+  lost = λ r below. elim (cases_Bool (r == k)) [
+    | inl same ↦ subst (λ d. LostAt (slice_get olds d) (slice_get (slice_set news k new) d)) (sym (equal_of r k same)) here
+    | inr other ↦ subst (λ q. LostAt (slice_get olds r) q) (sym (set_other news k r new (not_equal_of r k other))) (h.lost r (let differs = not_equal_of r k other in below_k r k below differs))
+  ];
+  left = λ r above. set_other news k r new (λ e. absurd (omega (arith, above, e))) ∙ h.left r (omega (arith, above));
+}
+  where
+    here : LostAt (slice_get olds k) (slice_get (slice_set news k new) k)
+    here = subst (λ q. LostAt (slice_get olds k) q) (sym (set_same news k new low)) (subst (λ q. LostAt q (Some new)) (sym (sym (h.left k (omega arith)) ∙ found)) lost)
+
+    below_k : (r k : ℕ) → r < k + 1 → ¬ (r ≡ k) → r < k
+    below_k r k below differs = elim (cases_Bool (nat_lt r k)) [ inl yes_it ↦ lt_of r k yes_it | inr not_it ↦ absurd (differs (last_below r k below not_it)) ]
+
+pub lost_all : (olds news : List values.Side) (k : ℕ) → LostFirst olds news k → length news ≤ k → (r : ℕ) → LostAt (slice_get olds r) (slice_get news r)
+lost_all olds news k h all r = elim (cases_Bool (nat_lt r k)) [ inl low ↦ h.lost r (lt_of r k low) | inr high ↦ behind (above r k high) ]
+  where
+    above : (r k : ℕ) → nat_lt r k ≡ false → k ≤ r
+    above r k h = grind (arith, nat_tests)
+
+    none : {X : Type 0} (xs : List X) (r : ℕ) → length xs ≤ r → slice_get xs r ≡ None
+    none [] r h = refl
+    none (x ∷ xs) zero h = absurd (omega (arith, h))
+    none (x ∷ xs) (suc r) h = none xs r (omega (arith, h))
+
+    behind : k ≤ r → LostAt (slice_get olds r) (slice_get news r)
+    behind h2 = subst (λ q. LostAt q (slice_get news r)) (sym (none olds r (omega (arith, all, h2, h.len)))) (subst (λ q. LostAt None q) (sym (none news r (omega (arith, all, h2)))) tt)
+
+-- One side more is cleaned up.
+pub record SettledFirst (w : World) (k : ℕ) (cache : Cache Steps) (sides : List values.Side) : Type 0 where
+  pub now : ℕ → Option Conn
+  pub parts : ShowsParts (record w { sides = settle_first (instances w) k w.sides }) now cache sides
+
+pub settled_more : (w : World) (k : ℕ) (cache later : Cache Steps) (sides : List values.Side) (old new : values.Side) → SettledFirst w k cache sides → k < length sides → slice_get sides k ≡ Some old
+    → Goes (λ w s. settle (instances w) s) cache old later new → SettledFirst w (k + 1) later (slice_set sides k new)
+settled_more w k cache later sides old new h low found settles =
+    let w1 : World = record w { sides = settle_first (instances w) k w.sides } in
+    let there : FoundSide w1 h.now (side_at k w1.sides) old = found_side w1 h.now (side_at k w1.sides) (slice_get sides k) old found (h.parts.each k) in
+    let m = settles w1 h.now there.side (record { serves = h.parts.serves; side = there.shows }) in
+    let next : suc k ≡ k + 1 = omega arith in
+    subst (λ n. SettledFirst w n later (slice_set sides k new)) next (record { now = m.now; parts = moved w1 h.now cache later sides k there.side (settle (instances w)) old new h.parts low found there.is m })
+
+pub settled_all : (w : World) (k : ℕ) (cache : Cache Steps) (sides : List values.Side) → SettledFirst w k cache sides → k ≡ length w.sides → SettledAll w cache sides
+settled_all w k cache sides h all = record {
+  at = h.now;
+  parts = subst (λ l. ShowsParts (record w { sides = l }) h.now cache sides) (ap (λ n. settle_first (instances w) n w.sides) all ∙ settles_each (instances w) w.sides) h.parts;
+}
+
+-- The history leads on.
+pub steps_on : (made : Made) (history : List Entry) (v n : code.World) (event : Event) (result : Result ⊤ WorldFault) → (l : LeadsTo made history v) → StepsSo l.world event result n → StepsTo made history event result n
+steps_on made history v n event result l s = record {
+  outcome = s.outcome;
+  answers = s.answers;
+  leads = record {
+    world = after event s.outcome l.world;
+    leads = leads_on made history l.world (record { event = event; outcome = s.outcome }) (after event s.outcome l.world) l.leads (s.fits, s.may, refl);
+    shows = s.shows;
+  };
+}
+
+pub reached_by : (made : Made) (history : List Entry) (v : code.World) → (l : LeadsTo made history v) → Reached l.world
+reached_by made history v l = record { made = made; history = history; leads = l.leads }

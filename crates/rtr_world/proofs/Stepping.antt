@@ -1,0 +1,126 @@
+-- One event at a router.
+use Rattle.std.specs.Prelude.{◌≡◌, ℕ, ◌<◌, ◌≤◌, ◌==◌, Bool, true, false, not, ◌||◌, nat_lt, List, [], length, Option, Some, None, is_some, IfSome, Result, Ok, Err, is_ok, slice_get, slice_set, if◌then◌else◌, refl, ⊤}
+use Rattle.std.proofs.Common.{sym, ap, ◌∙◌, subst, arith}
+use Rattle.std.proofs.lemmas.Bool.Decides.{nat_tests}
+use Rattle.std.specs.List.{list_any}
+use Rattle.std.specs.declared.alloc.AllocError.{AllocError}
+use Rattle.vrps.specs.Instance.{Instance}
+use Rattle.rtr_ends.specs.Cache.{Conn}
+use Rattle.rtr_ends.specs.Router.{Link, Closed, Idle, Asked, Answering, Ended, is_closed}
+use Rattle.rtr_world.specs.History.{Done, Memory, NoSuchRouter, MayEnd, IsWanted, Reached, after, may_refuse_at, most_of, moved_at, refusal, side_at, wants_at}
+use Rattle.rtr_world.specs.Reached.{ShowsParts, ShowsRest, ShowsWorld, Steps}
+use Rattle.rtr_world.specs.Shown.{Happens, MayFail, Moves}
+use Rattle.rtr_world.specs.World.{World, Side, SideEvent, RouterRestart, Connect, RouterSends, CacheGets, CacheSends, RouterGets, Cut, NotifyRouter, Ask, Tick, On, goes_through, instances, is_refused, on_side, settle, settled, side_refused, side_step}
+use Rattle.rtr_world.specs.declared.event.WorldFault.{WorldFault}
+use Rattle.rtr_world.specs.declared.event.WorldFault.TheVariants as faults
+use Rattle.rtr_world.specs.declared.side.Side as values
+use Rattle.rtr_world.specs.declared.world.World as code
+use Rattle.rtr_world.proofs.Invariant.{Good, GoodLink}
+use Rattle.rtr_world.proofs.Rests.{history_rests}
+use Rattle.rtr_world.proofs.Room.{reached_known}
+use Rattle.rtr_world.proofs.Seen.{Seen}
+use Rattle.rtr_world.proofs.Showing.{moved, settled_on, shown_length}
+
+-- what the calls on sides leave alone
+pub same_rest : (w : World) (sides : List Side) (v n : code.World) → ShowsRest w v → n ≡ record v { cache = n.cache; sides = n.sides } → ShowsRest (record w { sides = sides }) n
+same_rest w sides v n h same = record {
+  keep = ap (λ x. x.keep) same ∙ h.keep;
+  used = λ session. ap (λ x. list_any (λ y. y == session) x.sessions.items) same ∙ h.used session;
+  session = ap (λ x. x.session) same ∙ h.session;
+  start = h.start ∙ sym (ap (λ x. x.start) same);
+}
+
+-- the worlds afterwards: only this side is cleaned up
+pub after_done : (w : World) (r : ℕ) (e : SideEvent) (wanting : Option ℕ) → Reached w → after (On r e) (Done wanting) w ≡ record w { sides = on_side r (λ s. settle (instances w) (side_step w e wanting s)) w.sides }
+unfolding settled goes_through
+after_done w r e wanting was = ap (λ sides. record w { sides = sides }) (settled_on (instances w) r (side_step w e wanting) w.sides (history_rests was.made was.history w was.leads))
+
+pub after_memory : (w : World) (r : ℕ) (e : SideEvent) (bytes : ℕ) (wanting : Option ℕ) → Reached w → after (On r e) (Memory bytes wanting) w ≡ record w { sides = on_side r (λ s. settle (instances w) (side_refused w e bytes wanting s)) w.sides }
+unfolding settled is_refused
+after_memory w r e bytes wanting was = ap (λ sides. record w { sides = sides }) (settled_on (instances w) r (side_refused w e bytes wanting) w.sides (history_rests was.made was.history w was.leads))
+
+less_than : (r n : ℕ) → r < n → nat_lt r n ≡ true
+less_than r n h = grind (arith, nat_tests)
+
+not_less : (r n : ℕ) → n ≤ r → nat_lt r n ≡ false
+not_less r n h = grind (arith, nat_tests)
+
+pub found_router : (w : World) (r : ℕ) (e : SideEvent) → r < length w.sides → refusal w (On r e) ≡ None
+unfolding refusal
+found_router w r e low = ap (λ b. if b then None else Some NoSuchRouter) (less_than r (length w.sides) low)
+
+no_router : (w : World) (r : ℕ) (e : SideEvent) → length w.sides ≤ r → refusal w (On r e) ≡ Some NoSuchRouter
+unfolding refusal
+no_router w r e high = ap (λ b. if b then None else Some NoSuchRouter) (not_less r (length w.sides) high)
+
+pub no_such : (w : World) (v : code.World) (r : ℕ) (e : SideEvent) → ShowsWorld w v → length v.sides.items ≤ r → Steps w (On r e) (Err faults.NoSuchRouter) v
+no_such w v r e h high = record {
+  outcome = NoSuchRouter;
+  fits = tt;
+  may = subst (λ o. MayEnd o w (On r e) NoSuchRouter) (sym (no_router w r e (let len = shown_length w h.at v.cache v.sides.items h.parts in omega (arith, len, high)))) refl;
+  answers = refl;
+  shows = h;
+}
+
+-- What may fail is an event of a router that has a connection.
+links_out : (s : Side) (all : List Instance) (i : Instance) (seen : Option Seen) (l : Link) → GoodLink all i seen l s.router s.conn s.up s.down → ¬ (s.router.out ≡ []) → is_closed l ≡ false
+links_out s all i seen Closed g some = absurd (some g.3)
+links_out s all i seen (Ended end) g some = refl
+links_out s all i seen Idle g some = refl
+links_out s all i seen (Asked q) g some = refl
+links_out s all i seen (Answering a) g some = refl
+
+open_conn : (o : Option Conn) → ¬ (o ≡ None) → is_some o ≡ true
+open_conn None h = absurd (h refl)
+open_conn (Some o) h = refl
+
+or_true : (b : Bool) → (b || true) ≡ true
+or_true true = refl
+or_true false = refl
+
+may_fail : (w : World) (s : Side) (e : SideEvent) → Good w.keep w.past w.present s → MayFail e s → may_refuse_at e (Some s) ≡ true
+may_fail w s Connect g h = refl
+may_fail w s (RouterSends most) g h = ap (λ b. not b || is_some s.conn) (links_out s (instances w) w.present g.seen s.router.link g.router.link h)
+may_fail w s (CacheSends most) g h = ap (λ b. not (is_closed s.router.link) || b) (open_conn s.conn h) ∙ or_true (not (is_closed s.router.link))
+may_fail w s RouterRestart g h = absurd h
+may_fail w s (CacheGets most) g h = absurd h
+may_fail w s (RouterGets most) g h = absurd h
+may_fail w s (Cut left) g h = absurd h
+may_fail w s NotifyRouter g h = absurd h
+may_fail w s Ask g h = absurd h
+may_fail w s (Tick now) g h = absurd h
+
+module _ (w : World) (v n : code.World) (r : ℕ) (e : SideEvent) (s : Side) (old new : values.Side) (was : Reached w) (h : ShowsWorld w v) (low : r < length v.sides.items) (found : slice_get v.sides.items r ≡ Some old) (is : side_at r w.sides ≡ Some s)
+    (same : n ≡ record v { cache = n.cache; sides = n.sides }) (items : n.sides.items ≡ slice_set v.sides.items r new) (router : ℕ) (router_is : r ≡ router) where
+  in_range : r < length w.sides
+  in_range = let len = shown_length w h.at v.cache v.sides.items h.parts in omega (arith, len, low)
+
+  shown_now : (f : Side → Side) → Moves w h.at old.conn (f s) n.cache new → ShowsWorld (record w { sides = on_side r f w.sides }) n
+  shown_now f m = record {
+    rest = same_rest w (on_side r f w.sides) v n h.rest same;
+    at = m.now;
+    parts = subst (λ l. ShowsParts (record w { sides = on_side r f w.sides }) m.now n.cache l) (sym items) (moved w h.at v.cache n.cache v.sides.items r s f old new h.parts low found is m);
+  }
+
+  wanted : (wanting : Option ℕ) → IfSome wanting (λ unit. wants_at w e (most_of e) unit (Some s) ≡ true) → IsWanted w (On r e) most_of wanting
+  wanted None h = tt
+  wanted (Some unit) h = ap (wants_at w e (most_of e) unit) is ∙ h
+
+  pub done : (result : Result ⊤ WorldFault) → result ≡ Ok tt → Happens w h.at e s (λ t. Moves w h.at old.conn t n.cache new) (Ok tt) → Steps w (On router e) result n
+  done result ok p = subst (λ k. Steps w (On k e) result n) router_is (record {
+    outcome = Done p.wanting;
+    fits = tt;
+    may = subst (λ o. MayEnd o w (On r e) (Done p.wanting)) (sym (found_router w r e in_range)) (wanted p.wanting p.wanted);
+    answers = ap is_ok ok;
+    shows = subst (λ x. ShowsWorld x n) (sym (after_done w r e p.wanting was)) (shown_now (λ s. settle (instances w) (side_step w e p.wanting s)) p.now);
+  })
+
+  pub refused : (result : Result ⊤ WorldFault) (error : AllocError) → result ≡ Err faults.Memory → Happens w h.at e s (λ t. Moves w h.at old.conn t n.cache new) (Err error) → Steps w (On router e) result n
+  refused result error is_err p = subst (λ k. Steps w (On k e) result n) router_is (record {
+    outcome = Memory p.bytes None;
+    fits = tt;
+    may = subst (λ o. MayEnd o w (On r e) (Memory p.bytes None)) (sym (found_router w r e in_range))
+        (ap (may_refuse_at e) is ∙ may_fail w s e (reached_known w r s was is).0 p.may, tt, subst (λ o. p.bytes ≤ moved_at w e None o) (sym is) p.fewer);
+    answers = is_err;
+    shows = subst (λ x. ShowsWorld x n) (sym (after_memory w r e p.bytes None was)) (shown_now (λ s. settle (instances w) (side_refused w e p.bytes None s)) p.now);
+  })

@@ -1,0 +1,5 @@
+use Rattle.rtr_world.proofs.CatchUpEnds.{catches_up}
+use Rattle.rtr_world.proofs.laws.catches_up.Goals as goal
+
+pub returns : goal.returns
+returns c = catches_up

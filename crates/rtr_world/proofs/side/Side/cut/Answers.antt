@@ -1,0 +1,7 @@
+use Rattle.rtr_world.proofs.Moving.{alone, and_then, cuts}
+use Rattle.rtr_world.proofs.side.Side.cut.Goals as goal
+
+pub returns : goal.returns
+returns c = λ w at s h.
+    let m = c.close.ensures w at s h in
+    and_then w at _ _ _ _ _ _ _ m (alone w m.now _ _ _ _ _ m.shows (cuts w m.now c.args.left s _ _ _ m.shows.side c.clear.ensures c.keep.ensures))

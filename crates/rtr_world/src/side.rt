@@ -1,0 +1,190 @@
+//! One router of a world, its connection, and the bytes on their way.
+ghost use Rattle.std.specs.Prelude.{◌≡◌, ℕ, ◌+◌, ◌-◌, ◌≤◌, ◌^◌, ◌&&◌, ◌||◌, nat_lt, length, Option, IfSome, is_none, option_map};
+ghost use Rattle.vrps.specs.Serial.{serial_at};
+ghost use Rattle.vrps.specs.Steps.{HoldsSteps};
+ghost use Rattle.rtr_ends.specs.CacheState.{ShowsCache};
+ghost use Rattle.rtr_ends.specs.Router.{Router as Routed};
+ghost use Rattle.rtr_ends.specs.Shown.{IsShown};
+ghost use Rattle.rtr_world.specs.History.{Reached, room_for, room_since, side_at};
+ghost use Rattle.rtr_world.specs.Reached.{Lost};
+ghost use Rattle.rtr_ends.specs.Cache.{Conn as Conned};
+ghost use Rattle.rtr_world.specs.Events.{side_event_of};
+ghost use Rattle.rtr_world.specs.Shown.{Begins, Goes, Happens, IsNewSide, Moves, Shows, ShowsSide, held_of, state_of};
+ghost use Rattle.rtr_world.specs.World as model;
+
+use crate::event::SideEvent;
+use crate::wire::Wire;
+use rtr_ends::{Cache, Conn, Router};
+use std::alloc::{AllocError, Global};
+use vrps::{Serial, VersionLog};
+
+/// A router, its connection at the cache where one is open there, and the bytes on their way to the cache and to the router.
+#[derive(Drop)]
+pub struct Side {
+    pub router: Router,
+    pub conn: Option<Conn>,
+    pub up: Wire,
+    pub down: Wire,
+    /// The serial that was current when the connection was made, or the first one where nothing was published; none where there is no
+    /// connection, or it was made to an earlier instance of the cache.
+    pub made: Option<Serial>,
+}
+
+impl Side {
+    /// A router that was never connected.
+    pub fn new(alloc: Global) -> Side
+        ensures { IsNewSide result }
+    {
+        Side {
+            router: Router::new(alloc),
+            conn: None,
+            up: Wire::new(alloc),
+            down: Wire::new(alloc),
+            made: None,
+        }
+    }
+
+    /// The connection is closed at the cache.
+    pub fn close(&mut self, cache: &mut Cache<VersionLog>)
+        ensures { Goes (λ w s. record s { conn = Option.None }) cache.old self.old cache.new self.new }
+    {
+        if let Some(conn) = self.conn {
+            cache.close(conn);
+            self.conn = None;
+        }
+    }
+
+    /// The cache is no more: the connection is gone there, and the bytes towards it.
+    pub fn lose_cache(&mut self)
+        ensures { Lost self.old self.new }
+    {
+        self.conn = None;
+        self.up.clear();
+        self.made = None;
+    }
+
+    /// The serial that the router holds of this session.
+    fn held(&self, session: u16) -> Option<Serial>
+        ensures { (r : Routed) → IsShown r self.now.router → option_map (λ s. s.0) result ≡ held_of session r.version }
+    {
+        let (one, serial) = self.router.committed()?;
+        if session == one { Some(serial) } else { None }
+    }
+
+    /// Whether a version of this serial would stand fewer than 2^31 after the one that the router holds of this session, and after the
+    /// one that was current when its connection was made.
+    pub fn has_room(&self, session: u16, next: Serial) -> bool
+        ensures { (w : model.World) (at : ℕ → Option Conned) (r : ℕ) (s : model.Side) → Reached w → side_at r w.sides ≡ Option.Some s → session ≡ w.present.session →
+            next.0 ≡ serial_at w.present.start (length w.present.sets) → ShowsSide w at s self.now → result ≡ (room_for w.present s.router.version && room_since w.present s.home) }
+    {
+        is_near(self.held(session), next) && is_near(self.made, next)
+    }
+
+    /// A new router stands in this one's place.
+    fn restart(&mut self, cache: &mut Cache<VersionLog>, alloc: Global)
+        ensures { Goes (λ w s. model.router_restarts s) cache.old self.old cache.new self.new }
+    {
+        self.close(cache);
+        *self = Side::new(alloc);
+    }
+
+    /// The cache's side is closed; so many of the bytes towards the router still arrive.
+    fn cut(&mut self, cache: &mut Cache<VersionLog>, left: u64)
+        ensures { Goes (λ w s. model.cut left s) cache.old self.old cache.new self.new }
+    {
+        self.close(cache);
+        self.up.clear();
+        self.down.keep(left);
+    }
+
+    /// A connection is made, to an instance whose first version has the serial `start`.
+    fn connect(&mut self, cache: &mut Cache<VersionLog>, start: u32) -> Result<(), AllocError>
+        ensures { (w : model.World) (at : ℕ → Option Conned) (s : model.Side) → w.present.start ≡ start → Shows w at s cache.old self.old →
+            Begins w at model.Connect s (λ t. Moves w at self.old.conn t cache.new self.new) result }
+    {
+        self.close(cache);
+        let conn = cache.open()?;
+        self.router.connect(0);
+        self.conn = Some(conn);
+        self.up.clear();
+        self.down.clear();
+        self.made = Some(current_or(cache, start));
+        Ok(())
+    }
+
+    /// The cache notifies the router, where it can.
+    fn notify(&mut self, cache: &mut Cache<VersionLog>)
+        ensures { Goes (λ w s. model.notifies_at w s s.conn) cache.old self.old cache.new self.new }
+    {
+        if let Some(conn) = self.conn {
+            let _notified = cache.notify(conn);
+        }
+    }
+
+    /// What an event does at this side, the clean-up aside. Where memory is wanting, the cut is still to come.
+    fn begin(
+        &mut self,
+        cache: &mut Cache<VersionLog>,
+        alloc: Global,
+        start: u32,
+        event: SideEvent,
+    ) -> Result<(), AllocError>
+        ensures { (w : model.World) (at : ℕ → Option Conned) (s : model.Side) → w.present.start ≡ start → Shows w at s cache.old self.old →
+            Begins w at (side_event_of event) s (λ t. Moves w at self.old.conn t cache.new self.new) result }
+    {
+        match event {
+            SideEvent::RouterRestart => self.restart(cache, alloc),
+            SideEvent::Connect => return self.connect(cache, start),
+            SideEvent::RouterSends(most) => return self.router_sends(most),
+            SideEvent::CacheGets(most) => self.cache_gets(cache, most),
+            SideEvent::CacheSends(most) => return self.cache_sends(cache, most),
+            SideEvent::RouterGets(most) => self.router_gets(most),
+            SideEvent::Cut(left) => self.cut(cache, left),
+            SideEvent::NotifyRouter => self.notify(cache),
+            SideEvent::Ask => {
+                let _asked = self.router.ask();
+            }
+            SideEvent::Tick(now) => self.router.tick(now),
+        }
+        Ok(())
+    }
+
+    /// An event at this side, with the clean-up after it. Where memory is wanting, the connection is cut with nothing to arrive.
+    pub fn happen(
+        &mut self,
+        cache: &mut Cache<VersionLog>,
+        alloc: Global,
+        start: u32,
+        event: SideEvent,
+    ) -> Result<(), AllocError>
+        ensures { (w : model.World) (at : ℕ → Option Conned) (s : model.Side) → w.present.start ≡ start → Shows w at s cache.old self.old →
+            Happens w at (side_event_of event) s (λ t. Moves w at self.old.conn t cache.new self.new) result }
+    {
+        let done = self.begin(cache, alloc, start, event);
+        if done.is_err() {
+            self.cut(cache, 0);
+        }
+        self.settle(cache);
+        done
+    }
+}
+
+/// The serial of the current version, or this one where nothing is published.
+fn current_or(cache: &Cache<VersionLog>, start: u32) -> Serial
+    ensures { (w : model.World) (at : ℕ → Option Conned) → w.present.start ≡ start → ShowsCache HoldsSteps (state_of w at) cache.now → result.0 ≡ serial_at w.present.start (length w.present.sets - 1) }
+{
+    match cache.current() {
+        None => Serial(start),
+        Some((serial, _)) => serial,
+    }
+}
+
+/// Whether the version of a serial stands fewer than 2^31 after this one, if there is one.
+fn is_near(held: Option<Serial>, next: Serial) -> bool
+    ensures { (start position steps : ℕ) → steps ≤ 2 ^ 31 → IfSome held (λ s. s.0 ≡ serial_at start position) → next.0 ≡ serial_at start (position + steps) → result ≡ (is_none held || nat_lt steps (2 ^ 31)) }
+{
+    match held {
+        None => true,
+        Some(serial) => serial == next || serial.is_before(next),
+    }
+}

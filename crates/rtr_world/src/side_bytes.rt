@@ -1,0 +1,115 @@
+//! The bytes that an event moves.
+ghost use Rattle.std.specs.Prelude.{◌≡◌, ◌≤◌, ℕ, Option, IfOk, min};
+ghost use Rattle.rtr_ends.specs.Cache.{Conn as Conned};
+ghost use Rattle.rtr_world.specs.Shown.{AloneAt, Begins, Moves, Passes, SendsSome, Shows, ShowsSide};
+ghost use Rattle.rtr_world.specs.World as model;
+
+use crate::side::Side;
+use rtr_ends::{Cache, Conn};
+use std::alloc::AllocError;
+use vrps::VersionLog;
+
+/// The most bytes that are pulled at once: as many as an end has ready.
+const CHUNK: usize = 4096;
+
+/// At most so many, and at most as many as are pulled at once.
+fn chunk(most: u64) -> usize
+    ensures { result ≡ min most 4096 }
+{
+    if most < 4096 { most as usize } else { CHUNK }
+}
+
+impl Side {
+    /// At most so many bytes are pulled from the router, and put on the wire to the cache.
+    pub fn router_sends(&mut self, most: u64) -> Result<(), AllocError>
+        ensures { (w : model.World) (at : ℕ → Option Conned) (s : model.Side) → ShowsSide w at s self.old →
+            Begins w at (model.RouterSends most) s (λ t. AloneAt w at t self.old self.new) result }
+    {
+        rtr_ends::laws::router_has_room(&self.router);
+        let mut room = [0; CHUNK];
+        let room = &mut room[..chunk(most)];
+        let count = self.router.pull(room);
+        if count == 0 {
+            return Ok(());
+        }
+        self.up.put(room, count)
+    }
+
+    /// At most so many bytes arrive at the cache.
+    pub fn cache_gets(&mut self, cache: &mut Cache<VersionLog>, most: u64)
+        ensures { (w : model.World) (at : ℕ → Option Conned) (s : model.Side) → Shows w at s cache.old self.old →
+            Passes w at (model.CacheGets most) s (λ t. Moves w at self.old.conn t cache.new self.new) }
+    {
+        match self.conn {
+            None => {}
+            Some(conn) => {
+                let count = cache.receive(conn, self.up.front(most));
+                self.up.arrive(count);
+            }
+        }
+    }
+
+    /// At most so many bytes are pulled from the connection, and put on the wire to the router. It answers how many.
+    fn send_some(
+        &mut self,
+        cache: &mut Cache<VersionLog>,
+        conn: Conn,
+        most: u64,
+    ) -> Result<usize, AllocError>
+        ensures sends { (w : model.World) (at : ℕ → Option Conned) (s : model.Side) (o : Conned) → Shows w at s cache.old self.old → s.conn ≡ Option.Some o → self.old.conn ≡ Option.Some conn →
+            SendsSome w at most s o (λ t. Moves w at self.old.conn t cache.new self.new) result }
+        ensures conn { self.new.conn ≡ self.old.conn }
+        ensures few { IfOk result (λ count. count ≤ most) }
+    {
+        let mut room = [0; CHUNK];
+        let room = &mut room[..chunk(most)];
+        let count = cache.pull(conn, room).min(room.len());
+        self.down.put(room, count)?;
+        Ok(count)
+    }
+
+    /// At most so many bytes are pulled from the connection, piece by piece, and put on the wire to the router.
+    fn send(
+        &mut self,
+        cache: &mut Cache<VersionLog>,
+        conn: Conn,
+        most: u64,
+    ) -> Result<(), AllocError>
+        ensures { (w : model.World) (at : ℕ → Option Conned) (s : model.Side) (o : Conned) → Shows w at s cache.old self.old → s.conn ≡ Option.Some o → self.old.conn ≡ Option.Some conn →
+            Begins w at (model.CacheSends most) s (λ t. Moves w at self.old.conn t cache.new self.new) result }
+    {
+        let mut left = most;
+        while left > 0 {
+            let count = self.send_some(cache, conn, left)?;
+            if count == 0 {
+                return Ok(());
+            }
+            left -= count as u64;
+        }
+        Ok(())
+    }
+
+    /// At most so many bytes of the cache's are put on the wire to the router.
+    pub fn cache_sends(
+        &mut self,
+        cache: &mut Cache<VersionLog>,
+        most: u64,
+    ) -> Result<(), AllocError>
+        ensures { (w : model.World) (at : ℕ → Option Conned) (s : model.Side) → Shows w at s cache.old self.old →
+            Begins w at (model.CacheSends most) s (λ t. Moves w at self.old.conn t cache.new self.new) result }
+    {
+        match self.conn {
+            None => Ok(()),
+            Some(conn) => self.send(cache, conn, most),
+        }
+    }
+
+    /// At most so many bytes arrive at the router.
+    pub fn router_gets(&mut self, most: u64)
+        ensures { (w : model.World) (at : ℕ → Option Conned) (s : model.Side) → ShowsSide w at s self.old →
+            Passes w at (model.RouterGets most) s (λ t. AloneAt w at t self.old self.new) }
+    {
+        let count = self.router.receive(self.down.front(most), 0);
+        self.down.arrive(count);
+    }
+}
