@@ -12,8 +12,6 @@ it, and goes alone. The last line is 'N passed, M failed'.
 
 --after-gate takes the libraries that a run of the gate has just built in this tree."""
 import copy
-import importlib.machinery
-import importlib.util
 import os
 import re
 import shutil
@@ -23,20 +21,9 @@ import time
 
 TOP = os.path.realpath(f"{os.path.dirname(os.path.abspath(__file__))}/..")
 
+sys.path.insert(0, f"{TOP}/tools")
+from kit import RT
 
-def kit():
-    """The command rt as a module: how it reads an edit, and how it checks a copy of a crate, is what is meant here too."""
-    file = os.path.realpath(shutil.which("rt"))
-    sys.path.insert(0, os.path.dirname(file))
-    loader = importlib.machinery.SourceFileLoader("rt", file)
-    spec = importlib.util.spec_from_loader("rt", loader)
-    module = importlib.util.module_from_spec(spec)
-    sys.dont_write_bytecode = True
-    loader.exec_module(module)
-    return module
-
-
-RT = kit()
 HEAD = re.compile(r"(?m)^(?:    )?(?:pub(?:\([a-z]+\))? )?(?:const )?fn (\w+)|^impl\b[^{;]*|^(?:pub(?:\([a-z]+\))? )?(?:const|static|struct|enum|trait|type|mod)\b")
 
 # What a check says of a function that it found nothing against; of one that it may not have judged, as it refused or passed over one that it calls;

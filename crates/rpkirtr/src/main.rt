@@ -6,11 +6,12 @@ pub mod directories;
 pub mod hexadecimal;
 pub mod manifests;
 pub mod offering;
+pub mod playing;
 pub mod roas;
 pub mod routing;
 pub mod runner;
+pub mod scripts;
 pub mod units;
-pub mod words;
 
 use std::process::ExitCode;
 use std::{env, io};

@@ -37,7 +37,7 @@ fn read_origin(word: &str) -> Option<Option<u32>>
 }
 
 /// The word for a state.
-fn word_of(state: OriginState) -> &'static str
+pub fn word_of(state: OriginState) -> &'static str
     ensures { result.now ≡ state_word state }
 {
     match state {

@@ -6,11 +6,12 @@ use crate::answering::{AnswerFault, Answered, answer_lines};
 use crate::directories::{Directory, read_directories};
 use crate::manifests::print_manifest;
 use crate::offering::{offer_directory, tell_answer};
+use crate::playing::play;
 use crate::roas::print_roa;
 use crate::routing::{print_state, read_route};
 use crate::units::{UnitsEnd, print_units};
-use crate::words::{Order, read_words};
 use der_lite::Moment;
+use orders::{Order, WordsFault, read_words};
 use payload_lists::{ListFault, read_list, write_list};
 use payloads::{PayloadFault, decode_manifest, decode_roa};
 use points::Repository;
@@ -39,6 +40,15 @@ pub enum ProgramFault {
 impl From<AllocError> for ProgramFault {
     fn from(_error: AllocError) -> ProgramFault {
         ProgramFault::Memory
+    }
+}
+
+impl From<WordsFault> for ProgramFault {
+    fn from(fault: WordsFault) -> ProgramFault {
+        match fault {
+            WordsFault::NoOrder => ProgramFault::Words,
+            WordsFault::Memory => ProgramFault::Memory,
+        }
     }
 }
 
@@ -120,6 +130,7 @@ fn run<R: Files + Net + AllocGlobal + Clone + Drop, O: Write, E: Write>(
             prefix,
             origin,
         } => route(rt, vrps, prefix, origin, out),
+        Order::World { file } => world(rt, file, out),
     }
 }
 
@@ -291,6 +302,21 @@ fn route<R: Files + AllocGlobal, O: Write>(
     };
     print_state(rt.alloc(), &set, &route, out)?;
     Ok(0)
+}
+
+/// The command `world`: what the script in a file does to a world.
+fn world<R: Files + AllocGlobal, O: Write>(
+    rt: &R,
+    file: &str,
+    out: &mut O,
+) -> Result<u8, ProgramFault>
+    ensures { IfOk result (λ s. s ≤ 1) }
+{
+    let script = read_file(rt, file)?;
+    let mut lines = BufWriter::new(rt.alloc(), out)?;
+    let status = play(rt.alloc(), script.as_slice(), &mut lines)?;
+    lines.flush()?;
+    Ok(status)
 }
 
 /// Tells the answers of a cache, and where the beginning of a unit remains, with the status.

@@ -1,8 +1,22 @@
 //! The words of the command line.
-use crate::runner::ProgramFault;
 use clap::error::ErrorKind;
 use clap::{Arg, ArgAction, ArgMatches, Command, Error};
 use std::alloc::{AllocError, Global};
+
+/// Why words give no order.
+#[derive(Debug, Drop)]
+pub enum WordsFault {
+    /// The words do not parse.
+    NoOrder,
+    /// Want of memory.
+    Memory,
+}
+
+impl From<AllocError> for WordsFault {
+    fn from(_error: AllocError) -> WordsFault {
+        WordsFault::Memory
+    }
+}
 
 /// A command: its name, its options, which take one value each, its other words, and words that come
 /// once or more.
@@ -13,7 +27,7 @@ struct Form {
     lists: &'static [&'static str],
 }
 
-static FORMS: [Form; 6] = [
+static FORMS: [Form; 7] = [
     Form {
         name: "roa",
         options: &[],
@@ -50,6 +64,12 @@ static FORMS: [Form; 6] = [
         words: &["PREFIX", "ORIGIN"],
         lists: &[],
     },
+    Form {
+        name: "world",
+        options: &[],
+        words: &["FILE"],
+        lists: &[],
+    },
 ];
 
 fn word<'a>(alloc: Global, name: &'static str) -> Arg<'a> {
@@ -72,7 +92,7 @@ fn subcommand<'a>(alloc: Global, form: &Form) -> Result<Command<'a>, AllocError>
 }
 
 /// The command line of the program: one level of commands, without help or version.
-pub fn command_line<'a>(alloc: Global) -> Result<Command<'a>, AllocError> {
+fn command_line<'a>(alloc: Global) -> Result<Command<'a>, AllocError> {
     let mut all = Command::new(alloc, "rpkirtr")
         .no_binary_name(true)
         .disable_help_flag(true)
@@ -118,23 +138,27 @@ pub enum Order<'a> {
         prefix: &'a str,
         origin: &'a str,
     },
+    /// What the script in FILE does to a world of one cache and its routers.
+    World {
+        file: &'a str,
+    },
 }
 
-fn fault_of(error: Error) -> ProgramFault {
+fn fault_of(error: Error) -> WordsFault {
     if error.kind() == ErrorKind::OutOfMemory {
-        ProgramFault::Memory
+        WordsFault::Memory
     } else {
-        ProgramFault::Words
+        WordsFault::NoOrder
     }
 }
 
 /// The value of an option or a word.
-fn value<'a>(found: &ArgMatches<'a>, name: &str) -> Result<&'a str, ProgramFault> {
-    found.get_str(name).ok_or(ProgramFault::Words)
+fn value<'a>(found: &ArgMatches<'a>, name: &str) -> Result<&'a str, WordsFault> {
+    found.get_str(name).ok_or(WordsFault::NoOrder)
 }
 
 /// The number that a text writes in decimal digits without a leading zero or a sign.
-fn decimal(text: &str) -> Option<u64> {
+pub fn decimal(text: &str) -> Option<u64> {
     match text.as_bytes() {
         [b'+', ..] => None,
         [b'0', _, ..] => None,
@@ -143,34 +167,34 @@ fn decimal(text: &str) -> Option<u64> {
 }
 
 /// The number of 16 bits under this name.
-fn number_16(found: &ArgMatches<'_>, name: &str) -> Result<u16, ProgramFault> {
-    let number = decimal(value(found, name)?).ok_or(ProgramFault::Words)?;
-    u16::try_from(number).map_err(|_| ProgramFault::Words)
+fn number_16(found: &ArgMatches<'_>, name: &str) -> Result<u16, WordsFault> {
+    let number = decimal(value(found, name)?).ok_or(WordsFault::NoOrder)?;
+    u16::try_from(number).map_err(|_| WordsFault::NoOrder)
 }
 
 /// The number of 32 bits under this name.
-fn number_32(found: &ArgMatches<'_>, name: &str) -> Result<u32, ProgramFault> {
-    let number = decimal(value(found, name)?).ok_or(ProgramFault::Words)?;
-    u32::try_from(number).map_err(|_| ProgramFault::Words)
+fn number_32(found: &ArgMatches<'_>, name: &str) -> Result<u32, WordsFault> {
+    let number = decimal(value(found, name)?).ok_or(WordsFault::NoOrder)?;
+    u32::try_from(number).map_err(|_| WordsFault::NoOrder)
 }
 
-fn roa_order<'a>(found: &ArgMatches<'a>) -> Result<Order<'a>, ProgramFault> {
+fn roa_order<'a>(found: &ArgMatches<'a>) -> Result<Order<'a>, WordsFault> {
     Ok(Order::Roa {
         file: value(found, "FILE")?,
     })
 }
 
-fn manifest_order<'a>(found: &ArgMatches<'a>) -> Result<Order<'a>, ProgramFault> {
+fn manifest_order<'a>(found: &ArgMatches<'a>) -> Result<Order<'a>, WordsFault> {
     Ok(Order::Manifest {
         file: value(found, "FILE")?,
     })
 }
 
-fn payloads_order<'a>(alloc: Global, found: &ArgMatches<'a>) -> Result<Order<'a>, ProgramFault> {
+fn payloads_order<'a>(alloc: Global, found: &ArgMatches<'a>) -> Result<Order<'a>, WordsFault> {
     let mut directories = Vec::new(alloc);
-    for &directory in found.get_strs("DIR").ok_or(ProgramFault::Words)? {
+    for &directory in found.get_strs("DIR").ok_or(WordsFault::NoOrder)? {
         if directories.push(directory).is_err() {
-            return Err(ProgramFault::Memory);
+            return Err(WordsFault::Memory);
         }
     }
     Ok(Order::Payloads {
@@ -179,13 +203,13 @@ fn payloads_order<'a>(alloc: Global, found: &ArgMatches<'a>) -> Result<Order<'a>
     })
 }
 
-fn units_order<'a>(found: &ArgMatches<'a>) -> Result<Order<'a>, ProgramFault> {
+fn units_order<'a>(found: &ArgMatches<'a>) -> Result<Order<'a>, WordsFault> {
     Ok(Order::Units {
         file: value(found, "FILE")?,
     })
 }
 
-fn answer_order<'a>(found: &ArgMatches<'a>) -> Result<Order<'a>, ProgramFault> {
+fn answer_order<'a>(found: &ArgMatches<'a>) -> Result<Order<'a>, WordsFault> {
     Ok(Order::Answer {
         session: number_16(found, "session")?,
         serial: number_32(found, "serial")?,
@@ -194,7 +218,7 @@ fn answer_order<'a>(found: &ArgMatches<'a>) -> Result<Order<'a>, ProgramFault> {
     })
 }
 
-fn route_order<'a>(found: &ArgMatches<'a>) -> Result<Order<'a>, ProgramFault> {
+fn route_order<'a>(found: &ArgMatches<'a>) -> Result<Order<'a>, WordsFault> {
     Ok(Order::Route {
         vrps: value(found, "vrps")?,
         prefix: value(found, "PREFIX")?,
@@ -202,8 +226,14 @@ fn route_order<'a>(found: &ArgMatches<'a>) -> Result<Order<'a>, ProgramFault> {
     })
 }
 
-/// Reads the words.
-pub fn read_words(alloc: Global, words: &[String]) -> Result<Order<'_>, ProgramFault> {
+fn world_order<'a>(found: &ArgMatches<'a>) -> Result<Order<'a>, WordsFault> {
+    Ok(Order::World {
+        file: value(found, "FILE")?,
+    })
+}
+
+/// The order that the words spell.
+pub fn read_words(alloc: Global, words: &[String]) -> Result<Order<'_>, WordsFault> {
     let command = command_line(alloc)?;
     let matches = command.try_get_matches_from(words).map_err(fault_of)?;
     match matches.subcommand() {
@@ -213,6 +243,7 @@ pub fn read_words(alloc: Global, words: &[String]) -> Result<Order<'_>, ProgramF
         Some(("units", found)) => units_order(found),
         Some(("answer", found)) => answer_order(found),
         Some(("route", found)) => route_order(found),
-        _ => Err(ProgramFault::Words),
+        Some(("world", found)) => world_order(found),
+        _ => Err(WordsFault::NoOrder),
     }
 }

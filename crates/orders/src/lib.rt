@@ -1,0 +1,6 @@
+//! The words of the command line: [`read_words`] gives the order that they spell, and [`decimal`] reads a number as its options are read.
+#![tactic(auto)]
+
+mod words;
+
+pub use words::{Order, WordsFault, decimal, read_words};
