@@ -6,6 +6,7 @@ usage: tests/commands.py PROGRAM
 Each run's status, output and errors are compared whole. It exits with 1 where one differs, and says which."""
 import hashlib
 import os
+import shutil
 import subprocess
 import sys
 import tempfile
@@ -45,6 +46,18 @@ def expect(words, status, output, errors=""):
     if found != (status, output, errors):
         failed += 1
         print(f"{' '.join(words)[:200]}: {found} in place of {(status, output, errors)}"[:2000])
+
+
+def expect_full(words, status, output=None, errors=None):
+    """Runs the program with these words, and with a stream that takes nothing for each for which no text is given."""
+    global failed
+    with open("/dev/full", "wb") as full:
+        out, err = (full if it is None else subprocess.PIPE for it in (output, errors))
+        ran = subprocess.run([program, *words.split(" ")], stdin=subprocess.DEVNULL, stdout=out, stderr=err, timeout=60)
+    found = ran.returncode, *(None if it is None else it.decode() for it in (ran.stdout, ran.stderr))
+    if found != (status, output, errors):
+        failed += 1
+        print(f"{words[:200]}, an output being full: {found} in place of {(status, output, errors)}"[:2000])
 
 
 def answers(hexadecimal, output, status=0, file="v.json"):
@@ -123,6 +136,19 @@ def words():
         "answer --session 4 --serial 5 --vrps v.json --other 1 00",
         "answer --session 4 --serial 5 --vrps v.json",
         "answer --session x --serial 5 --vrps gone.json 010",
+        "help",
+        "-V",
+        "answer --help",
+        "answer help --session 4660 --serial 5 --vrps v.json 00",
+        "roa --version",
+        # no word and no option is abbreviated, and the options stand behind the command
+        "ans --session 4660 --serial 5 --vrps v.json 00",
+        "answer --sess 4660 --serial 5 --vrps v.json 00",
+        "--now 20250101000000Z payloads one",
+        "--session 4660 answer --serial 5 --vrps v.json 00",
+        "answer --session 4660 --serial 5 --vrps v.json",
+        "payloads --now 20250101000000Z --now 20250101000000Z one",
+        "roa -x.der",
         "roa",
         "roa payload.der payload.der",
         "manifest",
@@ -131,6 +157,10 @@ def words():
     ):
         expect(text, 2, "", BAD)
     expect([], 2, "", BAD)
+    for number in ("", "5 ", " 5", "0x5", "-0"):
+        expect(["answer", f"--session={number}", "--serial", "5", "--vrps", "v.json", "00"], 2, "", BAD)
+    # a word that is no UTF-8
+    expect(["roa", "\udcff"], 2, "", BAD)
     # the words come before the file, the file before HEX
     for text in (
         f"answer --session 4660 --serial 5 --vrps gone.json {RESET}",
@@ -140,6 +170,11 @@ def words():
         "units gone.bin",
     ):
         expect(text, 3, "", DEVICE)
+    # a word behind -- and a lone - are names
+    write("-x.der", bytes.fromhex(ONE_PREFIX))
+    write("-", bytes.fromhex(ONE_PREFIX))
+    for text in ("roa -- -x.der", "roa -", "roa -- -"):
+        expect(text, 0, "192.0.2.0/24 24 64496\nnotes 0\n")
 
 
 def roas():
@@ -185,23 +220,58 @@ def points():
     point("both", manifest(1, "20250101000000Z", "20250102000000Z", both), both)
     write("one/objects/other.txt", "not listed")
     os.mkdir("bare")
+    os.mkdir("no_objects")
+    shutil.copy("one/manifest.der", "no_objects")
     for text, status, output, errors in (
         ("--now 20250101000000Z one", 0, LIST + "\n", "one new\n"),
+        ("--now=20250101000000Z one", 0, LIST + "\n", "one new\n"),
         ("--now 20250102000000Z one one", 0, LIST + "\n", "one new\none same\n"),
+        # each name that is given is a point
+        ("--now 20250101000000Z one one/", 0, LIST + "\n", "one new\none/ new\n"),
         ("--now 20250102000000Z both one", 0, THREE, "both new\none new\n"),
         ("one two --now 20250101120000Z", 1, LIST + "\n", "one new\ntwo refused 9 0\n"),
         ("--now 20250101120000Z two", 1, "[]\n", "two refused 9 0\n"),
         ("--now 20250102000001Z one", 1, "[]\n", "one refused 3\n"),
         ("--now 20241231235959Z one", 1, "[]\n", "one refused 2\n"),
         ("--now 20251301000000Z gone", 1, "refused word\n", ""),
+        ("--now 20161231235960Z gone", 1, "refused word\n", ""),
         ("--now 20250101000000Z one gone", 3, "", DEVICE),
         ("--now 20250101000000Z bare", 3, "", DEVICE),
+        ("--now 20250101000000Z no_objects", 3, "", DEVICE),
     ):
         expect(f"payloads {text}", status, output, errors)
+    # what is not listed is read too
+    os.mkdir("one/contents/other.txt")
+    expect("payloads --now 20250101000000Z one", 3, "", DEVICE)
+    os.rmdir("one/contents/other.txt")
     os.remove("one/contents/a.roa")
+    expect("payloads --now 20250101000000Z one", 1, "[]\n", "one refused 9 0\n")
+    os.rmdir("one/contents")
     expect("payloads --now 20250101000000Z one", 1, "[]\n", "one refused 9 0\n")
     os.remove("one/objects/a.roa")
     expect("payloads --now 20250101000000Z one", 1, "[]\n", "one refused 7 0\n")
+
+
+def full_outputs():
+    # a failed output comes before a refusal, but not before words that do not parse
+    for text, errors in (
+        ("roa payload.der", ""),
+        ("roa /dev/null", ""),
+        ("manifest whole.der", ""),
+        ("units some.bin", ""),
+        (f"answer --session 4660 --serial 5 --vrps v.json {RESET}", ""),
+        (f"answer --session 4660 --serial 5 --vrps bad.json {RESET}", ""),
+        ("route --vrps v.json 192.0.2.0/24 64496", ""),
+        ("route --vrps v.json 192.0.2.1/24 64496", ""),
+        ("payloads --now 20251301000000Z both", ""),
+        ("payloads --now 20250101000000Z both", "both new\n"),
+    ):
+        expect_full(text, 3, errors=errors + DEVICE)
+    expect_full("payloads --now 20250101000000Z both", 3, output="")
+    expect_full("payloads --now 20250102000001Z both", 3, output="")
+    expect_full("nothing", 2)
+    expect_full("nothing", 2, output="")
+    expect_full("roa gone.der", 3)
 
 
 def states_of_routes():
@@ -225,11 +295,13 @@ def states_of_routes():
         "192.0.2.0/24 AS64496",
         "192.0.2.0/24 NONE",
         "192.0.2.0/24 ",
+        "192.0.2.0/24 +5",
         "192.0.2.1/24 64496",
         "192.0.2.0/33 64496",
         "192.0.2.0 64496",
     ):
         expect(f"route --vrps routes.json {route}", 1, "refused word\n")
+    expect(["route", "--vrps", "routes.json", "192.0.2.0/24", "5 "], 1, "refused word\n")
 
 
 def order_of_refusals():
@@ -256,12 +328,16 @@ def lists():
         ("[]", ""),
         (LIST, ANNOUNCED),
         (' [ { "prefix" : "2001:DB8:0::/32" , "asn" : 1 , "maxLength" : 48 } ] \n', of_v6),
+        ('[{"asn":1,"maxLength":48,"prefix":"2001:DB8::/32"},{"asn":1,"maxLength":48,"prefix":"2001:db8:0:0::/32"}]', of_v6),
         ('[{"asn":1,"asn":64496,"maxLength":24,"prefix":"192.0.2.0/24"}]', ANNOUNCED),
     ):
         write("list.json", text)
         answers(RESET, BEGIN + announced + END, file="list.json")
     for text in (
         '[{"asn":1.0,"maxLength":24,"prefix":"192.0.2.0/24"}]',
+        '[{"asn":1e1,"maxLength":24,"prefix":"192.0.2.0/24"}]',
+        '[{"asn":1,"maxLength":24.0,"prefix":"192.0.2.0/24"}]',
+        '[{"asn":-0,"maxLength":24,"prefix":"192.0.2.0/24"}]',
         '[{"asn":-1,"maxLength":24,"prefix":"192.0.2.0/24"}]',
         '[{"asn":4294967296,"maxLength":24,"prefix":"192.0.2.0/24"}]',
         '[{"asn":"1","maxLength":24,"prefix":"192.0.2.0/24"}]',
@@ -274,6 +350,7 @@ def lists():
         '[{"asn":1,"maxLength":24,"other":"192.0.2.0/24"}]',
         '[[1,24,"192.0.2.0/24"]]',
         "[] x",
+        "\ufeff[]",
         "{}",
         "",
         b'["\xff"]',
@@ -315,11 +392,203 @@ def units():
         expect("units some.bin", status, output)
 
 
+# The same two records as items of a script; what one router does for an answer; and a world in which its answer is on the way to it.
+V, W = "192.0.2.0/24,24,64496", "198.51.100.0/24,24,64497"
+TURN = "router-sends {0} 12; cache-gets {0} 12; cache-sends {0} 99; router-gets {0} 99"
+WORLD = f"world 1 4660 5 2; publish {V}"
+SENT = f"{WORLD}; connect 0; router-sends 0 8; cache-gets 0 8; cache-sends 0 52"
+HELD = f"{SENT}; router-gets 0 52"
+SHOWN = "0 4660 5 1\n"
+
+
+def plays(script, output, status=0):
+    """Plays a script, of which a text has one line for each part between semicolons, and bytes are taken as they are."""
+    write("script", script if isinstance(script, bytes) else script.replace("; ", "\n") + "\n")
+    expect("world script", status, output)
+
+
+def every_cut():
+    # an answer under way is that of the version at its query: 10 bytes of it are sent, then a set is published
+    first = f"{WORLD}; connect 0; router-sends 0 8; cache-gets 0 8; cache-sends 0 10; publish {V} {W}; cache-sends 0 42; router-gets 0"
+    second = "52; ask 0; router-sends 0 12; cache-gets 0 12; cache-sends 0 52; router-gets 0"
+    for count in range(105):
+        shown = "0 empty\n" if count < 52 else SHOWN if count < 104 else "0 4660 6 2\n"
+        came = f"{first} {count}" if count < 52 else f"{first} {second} {count - 52}"
+        state = "not-found\n" if count < 104 else "valid\n"
+        end = "cut 0 0; show 0; route 0 198.51.100.0/24 64497; catch-up 0; show 0"
+        plays(f"{came}; {end}", shown + state + "0 caught-up\n0 4660 6 2\n")
+
+
+def cuts():
+    plays(f"{SENT}; router-gets 0 51; cut 0 0; show 0; connect 1", "0 empty\nline 10 refused 3\n")
+    plays(f"{SENT}; router-gets 0 51; cut 0 1; router-gets 0 1; show 0", SHOWN)
+    # a cut lets no more arrive than is on the way, and a later one only takes away
+    plays(f"{SENT}; cut 0 60; router-gets 0 60; show 0", SHOWN)
+    plays(f"{SENT}; cut 0 51; cut 0 52; router-gets 0 52; show 0", "0 empty\n")
+    # nobody receives what the router sends after a cut
+    plays(f"{HELD}; ask 0; cut 0 0; publish {W}; {TURN.format(0)}; show 0", SHOWN)
+    # a new connection has none of the old one's bytes
+    plays(f"{SENT}; connect 0; router-gets 0 52; show 0; {TURN.format(0)}; show 0", "0 empty\n" + SHOWN)
+
+
+def catch_ups():
+    first = f"{SENT}; router-gets 0 51"
+    caught = "0 caught-up\n"
+    plays(f"{first}; cut 0 0; show 0; catch-up 0; show 0; connect 1", "0 empty\n" + caught + SHOWN + "line 12 refused 3\n")
+    plays(f"{first}; cut 0 1; router-gets 0 1; show 0; catch-up 0; show 0; connect 1", SHOWN + caught + SHOWN + "line 13 refused 3\n")
+    # late bytes of an instance that ended
+    late = f"{SENT}; restart 8738 9; publish {W}; router-gets 0 52; show 0; catch-up 0; show 0; route 0 192.0.2.0/24 64496"
+    plays(late, SHOWN + caught + "0 8738 9 1\nnot-found\n")
+    emptied = f"{WORLD}; catch-up 0; show 0; restart 8738 9; publish; catch-up 0; show 0; route 0 192.0.2.0/24 64496; restart 4660 1"
+    plays(emptied, caught + SHOWN + caught + "0 8738 9 0\nnot-found\nline 10 refused 1\n")
+    plays("world 1 4660 5 2; catch-up 0; show 0; catch-up 1", "0 no-data\n0 empty\n1 no-such-router\n")
+    # a router of an instance that is no more, where nothing is published: what it held is dropped
+    plays(f"{WORLD}; catch-up 0; restart 8738 9; catch-up 0; show 0", caught + "0 no-data\n0 empty\n")
+    # from a version that is kept no more
+    sets = "; ".join(f"publish 10.0.{n}.0/24,24,1" for n in range(4))
+    plays(f"{WORLD}; catch-up 0; {sets}; catch-up 0; show 0; catch-up 0; show 0", caught * 2 + "0 4660 9 1\n" + caught + "0 4660 9 1\n")
+    # the last connection stays
+    plays(f"{WORLD}; catch-up 0; publish {W}; ask 0; {TURN.format(0)}; show 0", caught + "0 4660 6 1\n")
+    for line in ("catch-up", "catch-up 0 0", "catch-up 65536", "catch-up 00", "catch-up 0 "):
+        plays(f"{WORLD}; {line}", "line 3 unreadable\n", 1)
+
+
+def restarts_of_the_cache():
+    late = f"{SENT}; restart 8738 9; publish {W}"
+    plays(f"{late}; router-gets 0 52; show 0; route 0 192.0.2.0/24 64496", SHOWN + "valid\n")
+    plays(f"{late}; router-gets 0 51; cache-sends 0 99; router-gets 0 99; show 0", SHOWN)
+    # what was not sent yet is not sent any more, nor does a query arrive that was on the way
+    unsent = f"{WORLD}; connect 0; router-sends 0 8; cache-gets 0 8; cache-sends 0 51; restart 8738 9; publish {V}"
+    plays(f"{unsent}; cache-sends 0 52; router-gets 0 52; show 0", "0 empty\n")
+    plays(f"{WORLD}; connect 0; router-sends 0 8; restart 8738 9; publish {W}; cache-gets 0 8; cache-sends 0 99; router-gets 0 99; show 0", "0 empty\n")
+    # the report of 28 bytes on a query of another session empties the router, which then asks in 8 bytes
+    asked = f"{HELD}; restart 8738 9; publish {W}; connect 0; router-sends 0 12; cache-gets 0 12; cache-sends 0 28; router-gets 0"
+    plays(f"{asked} 27; show 0", SHOWN)
+    again = "connect 0; router-sends 0 8; cache-gets 0 8; cache-sends 0 52; router-gets 0 52; show 0; route 0 192.0.2.0/24 64496"
+    plays(f"{asked} 28; show 0; {again}", "0 empty\n0 8738 9 1\nnot-found\n")
+
+
+def restarts_of_a_router():
+    plays(f"{HELD}; router-restart 0; show 0; {TURN.format(0)}; show 0", "0 empty\n0 empty\n")
+    plays(f"{SENT}; router-restart 0; router-gets 0 52; show 0", "0 empty\n")
+    # it asks for all, and its clock begins anew
+    held = f"{WORLD}; tick 0 9000; connect 0; {TURN.format(0)}; show 0; router-restart 0; connect 0; {TURN.format(0)}; show 0"
+    plays(f"{held}; tick 0 7200; show 0; tick 0 7201; show 0", SHOWN * 3 + "0 empty\n")
+
+
+def several_routers():
+    begun = f"world 2 4660 5 2; publish {V}; connect 1; connect 0; {TURN.format(0)}; {TURN.format(1)}; publish {V} {W}; ask 1; {TURN.format(1)}"
+    shown = "show 0; show 1; route 0 198.51.100.0/24 64497; route 1 198.51.100.0/24 64497; route 1 198.51.100.0/24 none"
+    plays(f"{begun}; {shown}", "0 4660 5 1\n1 4660 6 2\nnot-found\nvalid\ninvalid\n")
+    plays(f"{begun}; router-restart 1; cut 1 0; show 0; show 1; ask 0; {TURN.format(0)}; show 0", "0 4660 5 1\n1 empty\n0 4660 6 2\n")
+    # with two versions kept before the current one, serial 5 is known and serial 4 is not
+    kept = f"world 2 4660 4 2; publish; connect 1; {TURN.format(1)}; show 1; publish {V}; connect 0; {TURN.format(0)}; show 0; publish {W} {V}; publish {V}"
+    known = "ask 0; router-sends 0 12; cache-gets 0 12; cache-sends 0 31; router-gets 0 31; show 0; cache-sends 0 1; router-gets 0 1; show 0"
+    reset = "ask 1; router-sends 1 12; cache-gets 1 12; cache-sends 1 8; router-gets 1 8; show 1"
+    after = "router-sends 1 8; cache-gets 1 8; cache-sends 1 52; router-gets 1 52; show 1"
+    plays(f"{kept}; {known}; {reset}; {after}", "1 4660 4 0\n0 4660 5 1\n0 4660 5 1\n0 4660 7 1\n1 4660 4 0\n1 4660 7 1\n")
+
+
+def questions():
+    # with nothing published there is a report of 24 bytes, and the connection stays; after 600 seconds the router asks again
+    none = f"world 1 4660 5 2; connect 0; router-sends 0 8; cache-gets 0 8; cache-sends 0 24; router-gets 0 24; show 0; publish {V}"
+    plays(f"{none}; ask 0; {TURN.format(0)}; show 0", "0 empty\n" + SHOWN)
+    plays(f"{none}; tick 0 599; {TURN.format(0)}; show 0; tick 0 600; {TURN.format(0)}; show 0", "0 empty\n0 empty\n" + SHOWN)
+    # the second question of two is none
+    twice = "ask 0; ask 0; router-sends 0 24; cache-gets 0 24; cache-sends 0 32; router-gets 0 32"
+    plays(f"{HELD}; {twice}; publish {W}; cache-gets 0 24; cache-sends 0 99; router-gets 0 99; show 0", SHOWN)
+    # serials go on from 0, and a set that is current adds none
+    wrapped = f"world 1 4660 4294967295 2; publish {V}; publish {V}; connect 0; {TURN.format(0)}; show 0; publish {V} {W} {V}; ask 0; {TURN.format(0)}; show 0"
+    plays(wrapped, "0 4660 4294967295 1\n0 4660 0 2\n")
+
+
+def notifies_and_ticks():
+    notified = "notify 0; cache-sends 0 12; router-gets 0 12; router-sends 0 12"
+    answered = "cache-gets 0 12; cache-sends 0 52; router-gets 0 52; show 0"
+    plays(f"{HELD}; publish {V} {W}; {notified}; {answered}", "0 4660 6 2\n")
+    # one of a version that it holds is no reason to ask; without a connection nobody is notified
+    plays(f"{HELD}; {notified}; publish {V} {W}; {answered}", SHOWN)
+    plays(f"{WORLD}; notify 0; cache-sends 0 12; router-gets 0 12; show 0", "0 empty\n")
+    # the intervals are those that a cache tells: 3600 seconds to the next question, 7200 to the end
+    told = f"{WORLD}; tick 0 100; connect 0; {TURN.format(0)}; publish {V} {W}"
+    plays(f"{told}; tick 0 3699; {TURN.format(0)}; show 0; tick 0 3700; router-sends 0 12; {answered}", SHOWN + "0 4660 6 2\n")
+    plays(f"{told}; tick 0 7300; show 0; tick 0 7301; show 0", SHOWN + "0 empty\n")
+    plays(f"{told}; cut 0 0; tick 0 7301; tick 0 7300; show 0; route 0 192.0.2.0/24 64496", "0 empty\nnot-found\n")
+    plays(f"{HELD}; tick 0 18446744073709551615; show 0", "0 empty\n")
+
+
+def refused_events():
+    on = ("router-restart {}", "connect {}", "router-sends {} 1", "cache-gets {} 1", "cache-sends {} 1", "router-gets {} 1", "cut {} 0", "notify {}")
+    on = (*on, "ask {}", "tick {} 1", "show {}", "route {} 192.0.2.0/24 64496")
+    for routers in (0, 1, 3):
+        events = "; ".join(it.format(routers) for it in on)
+        plays(f"world {routers} 1 1 1; {events}", "".join(f"line {2 + it} refused 3\n" for it in range(len(on))))
+    plays("world 1 4660 5 2; show 65535; show 0", "line 2 refused 3\n0 empty\n")
+    plays("world 0 1 1 1", "")
+    # a session that an instance has, or had; what is refused changes nothing
+    plays(f"{HELD}; restart 4660 9; ask 0; {TURN.format(0)}; show 0", "line 8 refused 1\n" + SHOWN)
+    plays("world 0 4660 5 2; restart 8738 9; restart 0 9; restart 4660 1; restart 8738 1; restart 0 0", "".join(f"line {it} refused 1\n" for it in (4, 5, 6)))
+    # without a connection these are no refusals, and change nothing
+    plays(f"{WORLD}; router-sends 0 8; cache-gets 0 8; cache-sends 0 8; router-gets 0 8; cut 0 0; notify 0; ask 0; show 0", "0 empty\n")
+
+
+def unreadable_beginnings():
+    for line in (
+        *("", " ", "\t", "\r", "world", "world 1 1 1", "world 1 1 1 1 1", "worlds 1 1 1 1", "World 1 1 1 1", "publish", "\ufeffworld 1 1 1 1"),
+        *("world  1 1 1 1", " world 1 1 1 1", "world 1 1 1 1 ", "world\t1 1 1 1", "world 1 1 1 1\r", "world 1 1 1 1\t"),
+        *("world 65536 1 1 1", "world 1 65536 1 1", "world 1 1 4294967296 1", "world 1 1 1 0", "world 1 1 1 1025", "world 1 1 1 65537"),
+        *("world 01 1 1 1", "world +1 1 1 1", "world 1 -1 1 1", "world 1 1 0x1 1", "world 1 1 1 x"),
+    ):
+        plays(f"{line}; show 0", "line 1 unreadable\n", 1)
+    plays(b"", "line 1 unreadable\n", 1)
+    plays(b"world 1 1 1 1\xff\n", "line 1 unreadable\n", 1)
+    plays(b"world 1 1 1 1\x00\n", "line 1 unreadable\n", 1)
+    plays("world 0 65535 4294967295 1024", "")
+
+
+def unreadable_lines():
+    for line in (
+        *("", " ", "\t", "\r", "connect", "connect 0 0", "connect  0", " connect 0", "connect 0 ", "connect\t0", "connect 0\r", "connect 0\t", "\tconnect 0"),
+        *("connect +0", "connect 00", "connect 05", "connect -1", "connect x", "connect 65536", "Connect 0", "nothing 0", "world 1 4660 5 2"),
+        *("router-sends 0", "router-sends 0 18446744073709551616", "router-sends 0 01", "cache-gets 0 +5", "cache-sends 0 x", "router-gets 0 1 1", "cut 0"),
+        *("cut 0 -1", "tick 0", "tick 0 18446744073709551616", "notify", "ask 0 0", "router-restart", "show", "show 0 0", "show 65536"),
+        *("restart 1", "restart 65536 1", "restart 1 4294967296", "restart 1 1 1", "restart 01 1"),
+        *("route 0", "route 0 192.0.2.0/24", "route 0 192.0.2.1/24 1", "route 0 192.0.2.0/33 1", "route 0 192.0.2.0/24 4294967296", "route 0 192.0.2.0/24 05"),
+        *("route 0 192.0.2.0/24 NONE", "route 0 192.0.2.0/24 1 1", "route 0 192.0.2.0/24 "),
+        *("publish ", f"publish  {V}", f"publish {V} ", f"publish {V}  {W}", "publish 192.0.2.0/24,24", f"publish {V},1", "publish 192.0.2.0/24,23,64496"),
+        *("publish 192.0.2.0/24,33,1", "publish 192.0.2.0/24,280,1", "publish 192.0.2.1/24,24,1", "publish 192.0.2.0/24,+24,1", "publish 192.0.2.0/24,024,1"),
+        *("publish 192.0.2.0/24,24,4294967296", "publish 192.0.2.0/24,24,01", "publish 192.0.2.0/24,24,none", f"publish {V},", f"publish {V};{W}"),
+        # what could not be done cannot be read first
+        *("connect 7 0", "router-sends 7", "show 7 0", "route 7 192.0.2.0/24 05", "restart 4660", "restart 4660 05"),
+    ):
+        plays(f"world 1 4660 5 2; show 0; {line}; show 0", "0 empty\nline 3 unreadable\n", 1)
+    plays(b"world 1 4660 5 2\nshow 0\nconnect \xff\n", "0 empty\nline 3 unreadable\n", 1)
+    plays(b"world 1 4660 5 2\nshow 0\n\n", "0 empty\nline 3 unreadable\n", 1)
+    # the last line may lack its newline
+    plays(b"world 1 4660 5 2\nshow 0", "0 empty\n")
+    plays(b"world 1 4660 5 2\nshow 0\nconnect", "0 empty\nline 3 unreadable\n", 1)
+
+
+def items_and_files():
+    items = f"{V} 192.0.2.0/24,25,64496 2001:DB8:0::/32,48,4294967295 {V} 0.0.0.0/0,0,0"
+    states = "; ".join(f"route 0 {it}" for it in ("192.0.2.0/25 64496", "2001:db8:1::/48 4294967295", "2001:db8::/32 none", "10.0.0.0/8 1", "::/0 1"))
+    many = f"world 1 4660 5 2; publish {items}; connect 0; router-sends 0 8; cache-gets 0 8; cache-sends 0 999; router-gets 0 999; show 0; {states}"
+    plays(many, "0 4660 5 4\nvalid\nvalid\ninvalid\ninvalid\nnot-found\n")
+    for text in ("world", "world script script", "world --help", "world -x"):
+        expect(text, 2, "", BAD)
+    expect("world gone", 3, "", DEVICE)
+    expect_full("world script", 3, errors=DEVICE)
+
+
 if __name__ == "__main__":
     program = os.path.abspath(sys.argv[1])
     with tempfile.TemporaryDirectory() as folder:
         os.chdir(folder)
-        for part in (resets, refusals_of_bytes, each_unit, faults_of_units, words, roas, manifests, points, states_of_routes, order_of_refusals, lists, units):
+        for part in (
+            *(resets, refusals_of_bytes, each_unit, faults_of_units, words, roas, manifests, points, states_of_routes, order_of_refusals, lists, units),
+            *(full_outputs, every_cut, cuts, catch_ups, restarts_of_the_cache, restarts_of_a_router, several_routers, questions, notifies_and_ticks),
+            *(refused_events, unreadable_beginnings, unreadable_lines, items_and_files),
+        ):
             part()
         os.chdir("/")
     sys.exit(1 if failed else 0)

@@ -54,6 +54,10 @@ refused 7 at 16
 0103123400000008
 01071234000000180000000500000e100000025800001c20
 010a00030000001800000008010800000000000800000000
+0 empty
+0 caught-up
+0 4660 5 1
+invalid
 END
 cmp -s told wanted || { diff told wanted >&2; exit 1; }
 grep -q '^point new$' errors || exit 1

@@ -1,4 +1,4 @@
-//! Examples of units, of the cache and of the router, which are the tests of the public items of these libraries: values of the
+//! Examples of units, of the cache, of the router and of worlds, which are the tests of the public items of these libraries: values of the
 //! standards, printed texts, and each public call once on its happy path. They stand apart, as a crate with tests is proved twice.
 #![tactic(auto)]
 
@@ -8,3 +8,5 @@ mod caches;
 mod routers;
 #[cfg(test)]
 mod units;
+#[cfg(test)]
+mod worlds;
