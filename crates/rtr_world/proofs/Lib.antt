@@ -1,3 +1,4 @@
+pub mod ActingOnce
 pub mod AnswerLaws
 pub mod Answered
 pub mod Bytes

@@ -16,7 +16,7 @@ use Rattle.rtr_ends.specs.Cache.{Conn}
 use Rattle.rtr_ends.specs.Connection.{IsLater}
 use Rattle.rtr_ends.specs.Router.{Router, Link, Closed, Idle, Asked, Answering, Ended, IsKept}
 use Rattle.rtr_ends.specs.Transcript.{Begun, Committed, Question, base_of, kept}
-use Rattle.rtr_world.specs.Claims.{Always, HoldsNamed, IsJudged, IsNamed, Headline, NoWayBack, RouteStates}
+use Rattle.rtr_world.specs.Claims.{ActExactlyOnce, Always, EachOnce, HoldsNamed, IsJudged, IsNamed, Headline, NoWayBack, RouteStates}
 use Rattle.rtr_world.specs.History.{Outcome, Done, SessionUsed, TooManyVersions, NoSuchRouter, Memory, is_near, room_for, room_since, all_have_room, is_used, refusal, MayEnd, after, IsEvent, Entry, LeadsFrom, Made, IsMade, conn_due}
 use Rattle.rtr_world.specs.OneAnswer.{without_notifies}
 use Rattle.rtr_world.specs.Place.{NeverBack, position_of}
@@ -31,6 +31,7 @@ use Rattle.rtr_world.proofs.Streams.{Stream}
 use Rattle.rtr_world.proofs.TableLaws.{AllTell, SideTells, after_tells, new_side_tells, tables}
 use Rattle.rtr_world.proofs.Versions.{Stands, TableAt, Present, table_named, position_at, of_present, stands_published, stands_restarted, find_session, same_number, equal_of, equal_true, lt_of, lt_true, some_is}
 use Rattle.rtr_world.proofs.Seen.{Seen, IsSeen}
+use Rattle.rtr_world.proofs.ActingOnce.{each_once}
 
 pub record GoodWorld (w : World) : Type 0 where
   pub present : Present (instances w) w.present
@@ -334,10 +335,17 @@ no_way_back made history w leads =
     each (s ∷ sides) g = (g.0.order.never_back, each sides g.1)
 
 -- the set and the answers over it
-pub sentence : Always (λ w s. HoldsNamed (instances w) (kept s.items).version s.router.table)
+pub sentence : Always (λ w s. HoldsNamed (instances w) s.items s.router.table)
 sentence made history w leads = each w.sides (headline made history w leads) (route_states made history w leads)
   where
     each : (sides : List Side) → AllByRecursion (λ s. IsNamed (instances w) (kept s.items).version s.router.table) sides → AllByRecursion (λ s. (route : Route) → IsJudged (instances w) (kept s.items).version route (state s.router.table route)) sides
-        → AllByRecursion (λ s. HoldsNamed (instances w) (kept s.items).version s.router.table) sides
+        → AllByRecursion (λ s. HoldsNamed (instances w) s.items s.router.table) sides
     each [] h k = tt
-    each (s ∷ sides) h k = (record { named_so = h.0; routes = k.0 }, each sides h.1 k.1)
+    each (s ∷ sides) h k = (record { named_so = h.0; once = each_once s.items; routes = k.0 }, each sides h.1 k.1)
+
+pub act_once : ActExactlyOnce
+act_once made history w leads = each w.sides
+  where
+    each : (sides : List Side) → AllByRecursion (λ s. EachOnce s.items) sides
+    each [] = tt
+    each (s ∷ sides) = (each_once s.items, each sides)

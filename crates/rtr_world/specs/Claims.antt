@@ -1,5 +1,5 @@
 -- What holds after every list of events.
-use Rattle.std.specs.Prelude.{◌≡◌, ℕ, true, List, [], ◌∷◌, drop, Option, Some, None, ⊤, zero, suc, map}
+use Rattle.std.specs.Prelude.{◌≡◌, ℕ, Bool, true, false, List, [], ◌∷◌, drop, Option, Some, None, ⊤, zero, suc, map}
 use Rattle.std.specs.List.{AllByRecursion}
 use Rattle.prefixes.specs.declared.route.Route.{Route}
 use Rattle.vrps.specs.Instance.{Instance, named}
@@ -10,7 +10,8 @@ use Rattle.vrps.specs.declared.origin.OriginState.{OriginState}
 use Rattle.rtr_ends.specs.declared.link.End.{End}
 use Rattle.rtr_ends.specs.declared.link.End.TheVariants as ends
 use Rattle.rtr_ends.specs.Router.{Router, Call, Ended, IsKept, played}
-use Rattle.rtr_ends.specs.Transcript.{Item, Question, AskSerial, Committed, Refused, Restarts, kept, outstanding}
+use Rattle.rtr_ends.specs.Transcript.{Begun, Item, Question, AskSerial, Committed, Refused, Restarts, base_of, is_commit, kept, outstanding, under_way}
+use Rattle.rtr_ends.specs.Commit.{Commits}
 use Rattle.rtr_world.specs.Place.{NeverBack}
 use Rattle.rtr_world.specs.World.{Side, World, Event, Publish, Ending, SideEvent, instances, settle, side_step}
 use Rattle.rtr_world.specs.History.{Outcome, refusal, MayEnd, Made, IsMade, Entry, IsEvent, Leads}
@@ -47,10 +48,25 @@ abbrev pub IsJudged : List Instance → Option Committed → Route → OriginSta
 IsJudged all None route answer = HasState empty route answer
 IsJudged all (Some version) route answer = (set : VrpSet) × (named all version.session version.serial ≡ Some set) × HasState set route answer
 
--- both
-pub record HoldsNamed (all : List Instance) (version : Option Committed) (table : VrpSet) : Type 0 where
-  pub named_so : IsNamed all version table
-  pub routes : (route : Route) → IsJudged all version route (state table route)
+-- Each commit: from the table that was held, or from the empty one after a Reset Query, each announcement and each withdrawal of the
+-- answer acted, and acted once, and they led to the table that was held then.
+abbrev pub ActsOnce : Bool → Option Begun → VrpSet → VrpSet → Type 0
+ActsOnce false answer old new = ⊤
+ActsOnce true None old new = ⊥
+ActsOnce true (Some a) old new = Commits (base_of a.question old) a.withdrawn a.announced new
+
+abbrev pub EachOnce : List Item → Type 0
+EachOnce [] = ⊤
+EachOnce (item ∷ items) = ActsOnce (is_commit (item ∷ items)) (under_way items) (kept items).table (kept (item ∷ items)).table × EachOnce items
+
+abbrev pub ActExactlyOnce : Type 0
+ActExactlyOnce = Always (λ w s. EachOnce s.items)
+
+-- the whole sentence
+pub record HoldsNamed (all : List Instance) (items : List Item) (table : VrpSet) : Type 0 where
+  pub named_so : IsNamed all (kept items).version table
+  pub once : EachOnce items
+  pub routes : (route : Route) → IsJudged all (kept items).version route (state table route)
 
 abbrev pub RouteStates : Type 0
 RouteStates = Always (λ w s. (route : Route) → IsJudged (instances w) (kept s.items).version route (state s.router.table route))

@@ -7,7 +7,6 @@ ghost use Rattle.vrps.specs.Store.{is_current};
 ghost use Rattle.rtr_ends.specs.Cache.{Conn};
 ghost use Rattle.rtr_ends.specs.Links.{name_of, told_link};
 ghost use Rattle.rtr_ends.specs.Router.{IsKept};
-ghost use Rattle.rtr_ends.specs.Transcript.{kept};
 ghost use Rattle.rtr_world.specs.CatchUp.{Rests};
 ghost use Rattle.rtr_world.specs.CaughtUp.{CatchesUp, Concluded, IdleOrDropped, IsIdle, Reconnected, Rounded, StaysOpen};
 ghost use Rattle.rtr_world.specs.Claims.{AreLawful, HoldsNamed};
@@ -195,7 +194,7 @@ impl World {
         ensures steps { (made : Made) (history : List Entry) → LeadsTo made history self.old → RunsTo made history (map event_of events.now) result self.new }
         ensures tables { (made : Made) (history : List Entry) → LeadsTo made history self.old → RunsSo made history (map event_of events.now) result self.new (λ w s. IsKept s.router s.items) }
         ensures one_answer { (made : Made) (history : List Entry) → LeadsTo made history self.old → RunsSo made history (map event_of events.now) result self.new (λ w s. Between w s s.router.link) }
-        ensures sentence { (made : Made) (history : List Entry) → LeadsTo made history self.old → RunsSo made history (map event_of events.now) result self.new (λ w s. HoldsNamed (model.instances w) (kept s.items).version s.router.table) }
+        ensures sentence { (made : Made) (history : List Entry) → LeadsTo made history self.old → RunsSo made history (map event_of events.now) result self.new (λ w s. HoldsNamed (model.instances w) s.items s.router.table) }
         ensures no_way_back { (made : Made) (history : List Entry) → LeadsTo made history self.old → RunsSo made history (map event_of events.now) result self.new (λ w s. NeverBack s.places) }
         ensures lawful_ends { (made : Made) (history : List Entry) → LeadsTo made history self.old → RunsSo made history (map event_of events.now) result self.new (λ w s. AreLawful s.endings) }
     {
