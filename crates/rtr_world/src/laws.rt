@@ -62,17 +62,17 @@ pub fn idle_is_current()
     ensures { IdleIsCurrent }
 {}
 
-/// A router connects, and rounds follow: all bytes go from it to the cache and back. After the first its link is idle or closed, or it
-/// asks for all after a Cache Reset; and then its link is idle or closed after the second, whatever memory was wanting. A round is four
-/// events of the world.
+/// A router connects, and rounds follow: all bytes go from it to the cache and back. After the first its link is idle and nothing is on
+/// its way in either direction, or it is closed; or it asks for all after a Cache Reset, and then so it is after the second, whatever
+/// memory was wanting. A round is four events of the world.
 pub fn rounds_end()
     ensures ends { RoundsEnd }
     ensures steps { RoundsAreSteps }
 {}
 
 /// Where no memory is wanting, catching up succeeds: a router connects, and after one round its link is idle; or it asks for all after a
-/// Cache Reset, and its link is idle after the second; or it is closed and holds no session, and its link is idle after one round on a
-/// new connection.
+/// Cache Reset, and its link is idle after the second; or it held a session when it connected, is closed and holds none, and its link is
+/// idle after one round on a new connection.
 pub fn catches_up()
     ensures { CatchesUp }
 {}

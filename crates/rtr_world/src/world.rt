@@ -251,8 +251,10 @@ impl World {
     }
 
     /// Catches a router up with the cache: what is open is cut with nothing to arrive, a connection is made, and all bytes are moved both
-    /// ways until nothing moves. Where the cache told the router to drop what it held of another session, it connects once more. The
-    /// last connection stays open; after want of memory it is cut.
+    /// ways until nothing moves. Where the cache told the router to drop what it held of another session, it connects once more. Ok: the
+    /// router holds the newest version of the present instance. NoData: nothing is published, and the router holds no session. After
+    /// both the last connection stays open, idle, with nothing on its way. NoSuchRouter: nothing is changed. Memory: it was wanting at
+    /// one of these events, and the connection is cut.
     pub fn catch_up(&mut self, router: u16) -> Result<(), CatchFault>
         ensures caught { (made : Made) (history : List Entry) → LeadsTo made history self.old → CatchesUp made history router result self.new }
         ensures no_such { (made : Made) (history : List Entry) (l : LeadsTo made history self.old) → result ≡ Result.Err CatchFault.NoSuchRouter ↔ (length l.world.sides ≤ router) }
