@@ -33,10 +33,25 @@ expect 0 'invalid' route 192.0.2.0/24 none --vrps=vrps.json
 expect 0 'not-found' route --vrps vrps.json 198.51.100.0/24 64496
 expect 1 'refused word' route --vrps nothing.json 192.0.2.1/24 64496
 
-# The blocks of README's commands, as a shell runs them that is no bash.
-sed -n '/^### The commands/,/^Status 0/p' "$top/README.md" | awk '/^```sh$/ { on = 1; next } /^```$/ { on = 0 } on' >commands.sh
+# The blocks of README and of the page of commands, as a shell runs them that is no bash. A block that is no example of `./run` is left out.
 printf '#!/bin/sh\nexec "%s/run" "$@"\n' "$top" >run
 chmod +x run
+blocks() { # blocks FILE
+    awk '/^```sh$/ { on = 1; block = ""; next } /^```$/ { if (on && block ~ /\.\/run /) printf "%s", block; on = 0; next } on { block = block $0 "\n" }' "$1"
+}
+blocks "$top/README.md" >commands.sh
+sh -e commands.sh >told 2>errors || exit 1
+cat >wanted <<'END'
+0103123400000008
+010400000000001401181800c00002000000fbf0
+01071234000000180000000500000e100000025800001c20
+0 empty
+0 caught-up
+0 4660 5 1
+invalid
+END
+cmp -s told wanted || { diff told wanted >&2; exit 1; }
+blocks "$top/docs/COMMANDS.md" >commands.sh
 sh -e commands.sh >told 2>errors || exit 1
 cat >wanted <<'END'
 192.0.2.0/24 24 64496
@@ -54,10 +69,6 @@ refused 7 at 16
 0103123400000008
 01071234000000180000000500000e100000025800001c20
 010a00030000001800000008010800000000000800000000
-0 empty
-0 caught-up
-0 4660 5 1
-invalid
 END
 cmp -s told wanted || { diff told wanted >&2; exit 1; }
 grep -q '^point new$' errors || exit 1

@@ -1,0 +1,369 @@
+#!/usr/bin/env python3
+"""Makes the pages of docs/ that are read off the sources: DEFINITIONS.md, BELIEVE.md and STANDARDS.md.
+
+usage: tools/pages.py [--check]
+
+Without a word the pages are written. With --check they are compared with what would be written: the status is 1 where one differs, and its
+name is told."""
+import collections
+import glob
+import os
+import re
+import sys
+
+TOP = os.path.realpath(f"{os.path.dirname(os.path.abspath(__file__))}/..")
+WORD = re.compile(r"[^\s(){}\[\],;:`=]+")
+
+# The promises and the calls by whose contracts they are kept.
+PROMISES = [
+    ("Payloads: decoders accept exactly the grammar and else tell the first fault", ["payloads::decode_roa", "payloads::decode_manifest", "payloads::laws::one_fault", "payloads::laws::one_spelling"]),
+    ("Publication points: offers and what is in use", ["points::Repository::offer", "points::Repository::payloads", "points::laws::new_where_acceptable"]),
+    ("Route states", ["vrps::OriginIndex::state", "vrps::laws::state_by_members"]),
+    ("Units in any cutting", ["rtr_pdu::UnitReader::next", "rtr_pdu::encode", "rtr_pdu::laws::one_split"]),
+    ("A cache's replies", ["rtr_ends::Cache::receive", "rtr_ends::Cache::pull", "rtr_ends::laws::serves_history"]),
+    ("What a router commits", ["rtr_ends::Router::receive", "rtr_ends::laws::router_keeps", "rtr_ends::laws::acts_exactly"]),
+    ("The headline, after every list of events", ["rtr_world::World::run", "rtr_world::laws::headline"]),
+    ("Catching up", ["rtr_world::World::catch_up"]),
+]
+
+
+def read(path):
+    with open(path, encoding="utf-8") as it:
+        return it.read()
+
+
+def crates():
+    """The crates that have definitions or contracts, as crates.txt has them, lowest first."""
+    named = [it.split(":")[0] for it in read(f"{TOP}/crates.txt").splitlines() if ":" in it]
+    return [it for it in named if not it.endswith("_examples")]
+
+
+class Definition:
+    """A definition: its name, its text, and the comment above it, or none where it stands with the one before."""
+
+    def __init__(self, file, name, comment, lines):
+        self.file, self.name, self.comment, self.lines = file, name, comment, lines
+        self.names = [name] + re.findall(r"(?m)^  (\S+) : ", "\n".join(lines)) * lines[0].lstrip().startswith(("pub data", "data"))
+
+
+class Source:
+    """A file of specs: its comment, what it names of others, and its definitions in their order."""
+
+    HEAD = re.compile(r"^(?:(?:abbrev|unfoldable|pub|record|data) )*([^\s(){}]+)(?: \(.*\))? :(?: |$)")
+
+    def __init__(self, crate, path):
+        self.crate, self.path, self.module = crate, os.path.relpath(path, TOP), f"Rattle.{crate}.specs.{os.path.basename(path)[:-5]}"
+        text = read(path)
+        self.names, self.definitions = imports(re.findall(r"(?m)^(?:pub )?use (.*)$", text)), []
+        parts = re.split(r"\n\s*\n", re.sub(r"(?m)^(?:pub )?use .*\n", "", text).strip())
+        self.comment = ""
+        for part in parts:
+            self.add(part.split("\n"))
+
+    def add(self, lines):
+        comment = " ".join(it.strip()[3:] for it in lines if it.lstrip().startswith("-- "))
+        code = [it for it in lines if not it.lstrip().startswith("--")]
+        if not code:
+            self.comment = self.comment or comment
+            return
+        if not self.definitions and not self.comment and lines[0].startswith("-- "):
+            self.comment, comment = comment, ""
+        head = next((self.HEAD.match(it.strip()) for it in code if self.HEAD.match(it.strip())), None)
+        if head and not code[0].startswith(("pub mod", "mod ")):
+            self.definitions.append(Definition(self, head.group(1), comment, code))
+
+
+def imports(uses):
+    """What the names of `use` lines stand for, whole."""
+    names = {}
+    for use in uses:
+        use = use.strip().rstrip(";")
+        if braced := re.match(r"(\S+?)\.\{(.*)\}$", use):
+            for name in braced.group(2).split(","):
+                whole, _, other = name.strip().partition(" as ")
+                names[other or whole] = f"{braced.group(1)}.{whole}"
+        elif named := re.match(r"(\S+) as (\S+)$", use):
+            names[named.group(2)] = named.group(1)
+    return names
+
+
+class Call:
+    """A public call with a contract: its name, its comment, and the names that its clauses and the types of its signature use."""
+
+    def __init__(self, crate, path, name, comment, roots):
+        self.crate, self.path, self.name, self.comment, self.roots = crate, path, name, comment, roots
+
+
+class Code:
+    """The files of a crate's code: the meanings of its types, and its public calls."""
+
+    def __init__(self, crate, known):
+        self.crate, self.known, self.meanings, self.calls = crate, known, {}, []
+        files = sorted(glob.glob(f"{TOP}/crates/{crate}/src/*.rt"))
+        main = f"{TOP}/crates/{crate}/src/lib.rt"
+        self.shown = set(re.findall(r"\w+", " ".join(re.findall(r"(?ms)^pub (?:use|mod) (.*?);", read(main))))) if os.path.exists(main) else None
+        for path in files:
+            self.each_block(path, self.meaning)
+        for path in files:
+            self.each_block(path, self.call)
+
+    def each_block(self, path, act):
+        """Does this to each function and each `impl Model`, with the lines before its body."""
+        lines, owner, names = read(path).split("\n"), "", {}
+        names.update(imports(re.findall(r"(?m)^\s*ghost use (.*);$", "\n".join(lines))))
+        for at, line in enumerate(lines):
+            if block := re.match(r"(?:pub )?(?:unsafe )?(impl|trait)\b(?:<.*?>)?\s*(.*?)\s*(?:where.*)?\{?$", line):
+                owner = block.group(2)
+                if owner.startswith("Model for"):
+                    end = next(k for k in range(at, len(lines)) if lines[k] == "}")
+                    act(path, owner[len("Model for ") :], lines[at:end], names)
+            elif line == "}":
+                owner = ""
+            elif function := re.match(r"\s*(pub )?(?:const )?(?:unsafe )?fn (\w+)", line):
+                if function.group(1) or " for " in owner or owner.startswith(tuple("ABCDEFGHIJKLMNOPQRSTUVWXYZ")) and "trait" in lines[at - 1]:
+                    end = next((k for k in range(at, len(lines)) if re.match(r"\s*(\{.*|.*\{|.*\{\})$", lines[k]) and "ensures" not in lines[k] and "requires" not in lines[k]), at)
+                    act(path, (owner, function.group(2), self.comment(lines, at)), lines[at : end + 1], names)
+
+    @staticmethod
+    def comment(lines, at):
+        above = []
+        while at and re.match(r"\s*(///|#\[)", lines[at - 1]):
+            at -= 1
+            above.insert(0, lines[at].strip())
+        return " ".join(it[4:] for it in above if it.startswith("///"))
+
+    def resolved(self, text, names):
+        found = set()
+        for word in WORD.findall(text):
+            for part in (word, word.split(".")[0]):
+                whole = names.get(part, "")
+                rest = word[len(part) :]
+                found |= {it for it in (whole, whole + rest) if it in self.known}
+        return found
+
+    def meaning(self, path, owner, lines, names):
+        if isinstance(owner, str):
+            inner = {**names, **imports(re.findall(r"(?m)^\s*ghost use (.*);$", "\n".join(lines)))}
+            name = re.match(r"\w+", owner).group()
+            self.meanings[name] = self.meanings.get(name, set()) | self.resolved("\n".join(it for it in lines if "ghost use" not in it), inner)
+
+    def call(self, path, owner, lines, names):
+        if isinstance(owner, str):
+            return
+        text = "\n".join(lines)
+        clauses = re.findall(r"(?:ensures|requires)\b.*", text)
+        if not clauses:
+            return
+        roots = self.resolved("\n".join(clauses), names)
+        for word in re.findall(r"\w+", text.split("ensures")[0]) + re.findall(r"\w+", owner[0]):
+            roots |= self.meanings.get(word, set())
+        of = re.sub(r"<.*?>", "", owner[0].split(" for ")[-1]).strip()
+        stem = os.path.basename(path)[:-3]
+        if self.shown is not None and stem not in self.shown and (of or owner[1]) not in self.shown:
+            return
+        place = [self.crate] + (["laws"] if stem == "laws" else []) + ([of] if of else []) + [owner[1]]
+        self.calls.append(Call(self.crate, os.path.relpath(path, TOP), "::".join(place), owner[2], roots))
+
+
+class House:
+    """All definitions and all calls, and what rests on what."""
+
+    def __init__(self):
+        self.sources = [Source(crate, path) for crate in crates() for path in sorted(glob.glob(f"{TOP}/crates/{crate}/specs/*.antt")) if not path.endswith("Lib.antt")]
+        self.known = {f"{file.module}.{name}": it for file in self.sources for it in file.definitions for name in it.names}
+        self.below = {it: self.uses(it) for file in self.sources for it in file.definitions}
+        self.calls = [call for crate in crates() for call in Code(crate, self.known).calls]
+        self.sources.sort(key=lambda file: (crates().index(file.crate), self.depth(file, ()), file.path))
+
+    def uses(self, definition):
+        file, found = definition.file, {}
+        own = {name: it for it in file.definitions for name in it.names}
+        for word in WORD.findall("\n".join(definition.lines)):
+            for part in (word, word.split(".")[0]):
+                whole = file.names.get(part, "")
+                it = own.get(part) or self.known.get(whole) or self.known.get(whole + word[len(part) :])
+                if it and it is not definition:
+                    found[it] = None
+        return list(found)
+
+    def depth(self, file, above):
+        """How many files of its crate stand below it, one on the other."""
+        if file in above:
+            return 0
+        lower = {it.file for definition in file.definitions for it in self.below[definition] if it.file.crate == file.crate and it.file is not file}
+        return 1 + max((self.depth(it, above + (file,)) for it in lower), default=0)
+
+    def closure(self, roots):
+        """The definitions on which these rest, in reading order."""
+        found, left = set(), [self.known[it] for it in roots]
+        while left:
+            it = left.pop()
+            if it not in found:
+                found.add(it)
+                left += self.below[it]
+        return [it for file in self.sources for it in file.definitions if it in found]
+
+
+def lines_of(definitions):
+    return sum(len(it.lines) for it in definitions)
+
+
+def link(path):
+    return f"[`{path}`](../{path})"
+
+
+def definitions_page(house):
+    out = ["# Definitions", "", "Made from the sources by `tools/pages.py`. These are the words in which the contracts of this repository speak, in reading order: a crate after those below it, a file after those on which it rests. A reader has to believe them and nothing else. What stands in one entry shares one comment in its file; a word without a comment says itself what it is."]
+    total = [it for file in house.sources for it in file.definitions]
+    out += ["", f"{len(total)} definitions of {lines_of(total)} lines. `docs/BELIEVE.md` tells on which of them each contract rests, `docs/STANDARDS.md` where a section of a standard stands."]
+    crate = ""
+    for file in house.sources:
+        if file.crate != crate:
+            crate = file.crate
+            out += ["", f"## {crate}"]
+        out += ["", f"### {link(file.path)}", "", file.comment, ""]
+        entry = ""
+        for it in file.definitions:
+            if it.comment or not entry:
+                if entry:
+                    out.append(entry + ".")
+                entry = f"- `{it.name}`" + (f": {it.comment[0].upper() + it.comment[1:]}" if it.comment else "")
+                entry = entry.rstrip(".:")
+            else:
+                entry += f"; `{it.name}`"
+        out.append(entry + "." if entry else "")
+    return out + rows()
+
+
+def rows():
+    """The files of worked rows, with their comments."""
+    out = ["", "## Worked rows", "", "Equations that the check computes from the definitions: a definition that gives another value is refused.", ""]
+    for crate in crates():
+        for path in sorted(glob.glob(f"{TOP}/crates/{crate}/*/*Rows.antt") + glob.glob(f"{TOP}/crates/{crate}/*/*Cells.antt")):
+            text = read(path)
+            comment = " ".join(it[3:] for it in re.match(r"((?:-- .*\n)*)", text).group(1).splitlines())
+            out.append(f"- {link(os.path.relpath(path, TOP))}, {len(re.findall(r'(?m)^(?:  )?(?! |use |abbrev |unfoldable |record |data |module |pub |--)[^ ]+ :(?: |$)', text))} rows: {comment}")
+    return out
+
+
+def believe_page(house):
+    named = {call.name: call for call in house.calls}
+    out = ["# What has to be believed", "", "Made from the sources by `tools/pages.py`. A contract is proved; that it says what was meant, a reader has to see. For each promise, and then for each public call with a contract and each law: the definitions on which its clauses rest, whole, and how many lines they have without their comments. What the kit's own library says (lists, numbers, options) is not counted.", ""]
+    for promise, calls in PROMISES:
+        missing = [it for it in calls if it not in named]
+        if missing:
+            sys.exit(f"pages: no such call: {', '.join(missing)}")
+        rest = house.closure(set().union(*(named[it].roots for it in calls)))
+        out += [f"## {promise}", "", f"By {', '.join(f'`{it}`' for it in calls)}: {len(rest)} definitions, {lines_of(rest)} lines.", ""]
+        by_file = collections.OrderedDict()
+        for it in rest:
+            by_file.setdefault(it.file.path, []).append(it.name)
+        out += [f"- {link(path)}: {', '.join(f'`{name}`' for name in names)}" for path, names in by_file.items()] + [""]
+    out += ["## Every call", ""]
+    crate = ""
+    for call in house.calls:
+        if call.crate != crate:
+            crate = call.crate
+            out += ["", f"### {crate}", "", "| Call | Its clauses name | Definitions in all | Lines |", "|---|---|---|---|"]
+        rest = house.closure(call.roots)
+        cited = sorted({house.known[it].name for it in call.roots})
+        out.append(f"| `{call.name[len(crate) + 2:]}` | {', '.join(f'`{it}`' for it in cited)} | {len(rest)} | {lines_of(rest)} |")
+    out += ["", "## What the laws say", "", "A law is the contract of a public function that does nothing.", ""]
+    out += [f"- `{call.name}`: {call.comment}" for call in house.calls if "::laws::" in call.name]
+    return out
+
+
+# What a comment cites: sections of a standard, or of the one that its file is about, or a standard alone.
+SECTIONS = re.compile(r"(RFC \d+|X\.690)(?:,? sections?)?,? (\d[\d., andto]*)|\bsections? (\d[\d., andto]*)|(RFC \d+|X\.690)|^(\d+\.\d+[\d., andto]*):")
+
+
+def cited(text, standard):
+    """The sections that a text cites, as pairs of a standard and a section, '' for the whole of it."""
+    found = set()
+    for one, of, alone, whole, first in SECTIONS.findall(text):
+        standard = one or whole or standard
+        if whole or not standard:
+            found |= {(whole, "")} if whole else set()
+            continue
+        numbers = re.findall(r"\d+(?:\.\d+)*|to", of or alone or first)
+        for at, number in enumerate(numbers):
+            if number == "to" and 0 < at < len(numbers) - 1 and "." not in numbers[at - 1] + numbers[at + 1]:
+                found |= {(standard, str(k)) for k in range(int(numbers[at - 1]), int(numbers[at + 1]) + 1)}
+            elif number != "to":
+                found.add((standard, number))
+    return found
+
+
+def subject(comment, crate):
+    """The standard that a file is about."""
+    named = re.search(r"RFC \d+|X\.690", comment)
+    return named.group() if named else "RFC 8210" if crate.startswith("rtr_") else ""
+
+
+def comments(path):
+    """The comments of a file of code, each with the name of what it stands above."""
+    above, found = [], []
+    for line in read(path).split("\n"):
+        text = line.strip()
+        if text.startswith(("///", "//!")):
+            above.append(text[4:])
+        elif above and not text.startswith("#"):
+            name = re.match(r"(?:pub(?:\(\w+\))? )?(?:const |unsafe )*(?:fn |struct |enum |trait |type )?(\w+)", text)
+            found.append((name.group(1) if name else "", " ".join(above)))
+            above = []
+    return found
+
+
+def cited_by(house):
+    """Where each section of a standard is cited."""
+    places = collections.defaultdict(list)
+    for file in house.sources:
+        of = subject(file.comment, file.crate)
+        for pair in cited(file.comment, of):
+            places[pair].append(link(file.path))
+        for it in file.definitions:
+            for pair in cited(it.comment, of):
+                places[pair].append(f"`{it.name}` in {link(file.path)}")
+    for crate in crates() + ["payload_examples", "set_examples", "rtr_examples"]:
+        for path in sorted(glob.glob(f"{TOP}/crates/{crate}/src/*.rt")):
+            found = comments(path)
+            of = subject(found[0][1] if found else "", crate)
+            for name, comment in found:
+                for pair in cited(comment, of):
+                    places[pair].append(f"`{name}` in {link(os.path.relpath(path, TOP))}" if name else link(os.path.relpath(path, TOP)))
+        for path in sorted(glob.glob(f"{TOP}/crates/{crate}/proofs/*Rows.antt")):
+            for pair in sorted(set().union(*(cited(it, subject("", crate)) for it in re.findall(r"(?m)^\s*-- (.*)$", read(path))))):
+                places[pair].append(f"rows in {link(os.path.relpath(path, TOP))}")
+    return places
+
+
+def standards_page(house):
+    places = cited_by(house)
+    out = ["# Where the standards stand", "", "Made from the sources by `tools/pages.py`: for each section of a standard the definitions, the code and the worked rows whose comments cite it."]
+    standard = ""
+    for pair in sorted(places, key=lambda pair: (pair[0].split()[0] != "RFC", int(re.search(r"\d+", pair[0]).group()), [int(it) for it in pair[1].split(".") if it])):
+        if pair[0] != standard:
+            standard = pair[0]
+            out += ["", f"## {standard}", ""]
+        out.append(f"- {'Section ' + pair[1] if pair[1] else 'The whole'}: {'; '.join(dict.fromkeys(places[pair]))}.")
+    return out
+
+
+def main():
+    house = House()
+    pages = {"DEFINITIONS.md": definitions_page(house), "BELIEVE.md": believe_page(house), "STANDARDS.md": standards_page(house)}
+    status = 0
+    for name, lines in pages.items():
+        path = f"{TOP}/docs/{name}"
+        text = re.sub(r"\n{3,}", "\n\n", "\n".join(lines).strip()) + "\n"
+        if "--check" not in sys.argv[1:]:
+            with open(path, "w", encoding="utf-8") as it:
+                it.write(text)
+        elif not os.path.exists(path) or read(path) != text:
+            print(f"docs/{name} differs from the sources: tools/pages.py makes it anew")
+            status = 1
+    return status
+
+
+if __name__ == "__main__":
+    sys.exit(main())
