@@ -5,7 +5,7 @@ use Rattle.std.proofs.lemmas.List.{take_all}
 use Rattle.der_lite.specs.Place.{Fault, place_of}
 use Rattle.der_lite.specs.Der.{IsBytes}
 use Rattle.der_lite.proofs.Rules.{ok_is}
-use Rattle.payloads.specs.declared.entry.RoaEntry.{RoaEntry}
+use Rattle.payloads.specs.declared.roa_entry.RoaEntry.{RoaEntry}
 use Rattle.payloads.specs.Roa.{RoaTree}
 use Rattle.payloads.specs.RoaReading.{payload_at}
 use Rattle.payloads.specs.RoaValues.{RoaValue, all_entries, flat, TreeSpells, RoaSpells, RoaFaultAt}

@@ -13,7 +13,7 @@ use Rattle.payloads.specs.declared.fault.PayloadFault.{PayloadFault}
 use Rattle.payloads.specs.declared.fault.PayloadFault.TheVariants.{At, Memory}
 use Rattle.payloads.specs.declared.fault.ValueFault.{ValueFault}
 use Rattle.payloads.specs.Faults.{fault_of}
-use Rattle.payloads.specs.Refusal.{Finds}
+use Rattle.payloads.specs.RoaRefusal.{Finds}
 use Rattle.payloads.specs.Gives.{GivesAllOrMemory, DecodesManifest}
 use Rattle.der_lite.proofs.Rules.{kept_first, kept_on}
 use Rattle.payloads.proofs.Manifests.{exact_payload}

@@ -20,12 +20,12 @@ use Rattle.der_lite.proofs.Numbers.{bytes_append, bytes_cons, no_bytes, tlv_leng
 use Rattle.payloads.specs.Manifest.{manifest_number, this_update, next_rules, next_update, sha_256, hash_algorithm, ListedFile, is_name, is_listed, listed_rules, file_name, file_hash, file_and_hash, file_list, ManifestValue, manifest, manifest_payload, ManifestSpells}
 use Rattle.payloads.specs.ManifestBytes.{file_bytes, files_bytes, front_bytes, manifest_bytes}
 use Rattle.payloads.specs.ManifestRefusal.{value_rules, file_rules, files_refusal, manifest_refusal, HasHash, HasShortName}
-use Rattle.payloads.proofs.FileNames.{name_facts, ascii_are}
+use Rattle.payloads.proofs.ManifestFileNames.{name_facts, ascii_are}
 use Rattle.der_lite.proofs.Rules.{kept_first, kept_on}
 use Rattle.payloads.proofs.ManifestRefusals.{manifest_right}
 use Rattle.payloads.proofs.Decoding.{are_bytes}
 use Rattle.payloads.specs.Laws.{IsHash, ManifestRefusesExactly}
-use Rattle.payloads.proofs.Refusals.{none_at}
+use Rattle.payloads.proofs.RoaRefusals.{none_at}
 
 -- ---- how many bytes there are
 

@@ -17,7 +17,7 @@ use Rattle.der_lite.proofs.Times.{exact_timed, exact_time}
 use Rattle.payloads.specs.Roa.{no_rules}
 use Rattle.payloads.specs.Manifest.{NumberSpells, number_range, number_rules, manifest_number, this_update, next_rules, next_update, sha_256, AlgorithmSpells, algorithm_rules, hash_algorithm, ListedFile, listed_rules, name_rules, NameSpells, file_name, HashSpells, hash_length, hash_rules, file_hash, too_many_files, file_parts, file_members, file_and_hash, file_list, manifest_parts, behind_next, behind_this, manifest_members, manifest, manifest_payload}
 use Rattle.payloads.specs.ManifestReading.{number_at, next_at, algorithm_at, name_at, hash_at, file_of, file_at, files_at, manifest_of, behind_next_at, behind_this_at, manifest_at}
-use Rattle.payloads.proofs.Fields.{exact_first}
+use Rattle.payloads.proofs.RoaFields.{exact_first}
 
 pub exact_number : ExactElement manifest_number number_at
 unfolding manifest_number number_at

@@ -10,7 +10,7 @@ use Rattle.payloads.specs.RoaValues.{flat, TreeSpells, RoaSpells, RoaFaultAt}
 use Rattle.payloads.specs.Laws.{OneFaultOf, OneSpellingOf}
 use Rattle.payloads.proofs.Roas.{exact_roa, exact_attestation}
 use Rattle.payloads.proofs.RoaOnce.{once_tree}
-use Rattle.payloads.proofs.Flats.{one_tree}
+use Rattle.payloads.proofs.RoaFlats.{one_tree}
 
 -- the whole payload, and its reading
 abbrev read_roa : Place → Result RoaTree Fault

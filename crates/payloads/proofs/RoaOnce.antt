@@ -12,9 +12,9 @@ use Rattle.der_lite.proofs.Integers.{once_between}
 use Rattle.der_lite.proofs.BitStrings.{once_bits, bits_one, spelled_count}
 use Rattle.prefixes.specs.Payload.{block_of, width_of}
 use Rattle.prefixes.specs.declared.prefix.IpPrefix.{IpPrefix}
-use Rattle.payloads.specs.declared.family.AddressFamily.{AddressFamily}
-use Rattle.payloads.specs.declared.family.AddressFamily.TheVariants.{Ipv4, Ipv6}
-use Rattle.payloads.specs.declared.entry.RoaEntry.{RoaEntry}
+use Rattle.payloads.specs.declared.roa_family.AddressFamily.{AddressFamily}
+use Rattle.payloads.specs.declared.roa_family.AddressFamily.TheVariants.{Ipv4, Ipv6}
+use Rattle.payloads.specs.declared.roa_entry.RoaEntry.{RoaEntry}
 use Rattle.payloads.specs.Roa.{no_rules, first_head, as_id, FamilySpells, family_rules, address_family, family_width, of_bits, PrefixSpells, address_rules, address, max_length, entry_parts, too_many_rules, order_rules, entry_members, ip_address, not_empty, entry_behind, addresses, ip_family, ip_addr_blocks, route_origin_attestation, roa_payload}
 use Rattle.payloads.specs.RoaValues.{TreeSpells}
 

@@ -5,8 +5,8 @@ use Rattle.der_lite.specs.Reading.{element_at, content_at, end_at, content_place
 use Rattle.prefixes.specs.Address.{Block}
 use Rattle.prefixes.specs.declared.prefix.IpPrefix.{IpPrefix}
 use Rattle.prefixes.specs.declared.prefix.IpPrefix.TheVariants.{V4, V6}
-use Rattle.payloads.specs.declared.family.AddressFamily.TheVariants.{Ipv4, Ipv6}
-use Rattle.payloads.specs.declared.entry.RoaEntry.{RoaEntry}
+use Rattle.payloads.specs.declared.roa_family.AddressFamily.TheVariants.{Ipv4, Ipv6}
+use Rattle.payloads.specs.declared.roa_entry.RoaEntry.{RoaEntry}
 use Rattle.payloads.specs.Roa.{Blocks, RoaTree}
 use Rattle.payloads.specs.RoaReading.{as_id_at, address_family_at, address_at, max_length_at, maximum_at, entry_at, entries_at, addresses_at, ip_family_at, blocks_at, attestation_at, payload_at}
 use Rattle.payloads.specs.RoaValues.{flat, RoaSpells, RoaFaultAt}

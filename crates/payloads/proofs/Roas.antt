@@ -6,11 +6,11 @@ use Rattle.der_lite.specs.Decoding.{read_member}
 use Rattle.der_lite.specs.Fields.{last_at, optional_at, valued_at}
 use Rattle.der_lite.proofs.Exact.{ExactElement, ExactMembers, exact_member, exact_each}
 use Rattle.der_lite.proofs.Fields.{exact_sequence, exact_last_at, exact_optional_at, exact_valued}
-use Rattle.payloads.specs.declared.family.AddressFamily.{AddressFamily}
-use Rattle.payloads.specs.declared.entry.RoaEntry.{RoaEntry}
+use Rattle.payloads.specs.declared.roa_family.AddressFamily.{AddressFamily}
+use Rattle.payloads.specs.declared.roa_entry.RoaEntry.{RoaEntry}
 use Rattle.payloads.specs.Roa.{no_rules, as_id, address_family, address, max_length, entry_parts, too_many_rules, order_rules, entry_members, ip_address, not_empty, entry_behind, addresses, ip_family, ip_addr_blocks, route_origin_attestation, roa_payload}
 use Rattle.payloads.specs.RoaReading.{as_id_at, address_family_at, address_at, max_length_at, maximum_at, entry_of, entry_at, entry_behind_at, entries_at, addresses_at, ip_family_at, blocks_at, attestation_at}
-use Rattle.payloads.proofs.Fields.{exact_as_id, exact_address_family, exact_address, exact_max_length}
+use Rattle.payloads.proofs.RoaFields.{exact_as_id, exact_address_family, exact_address, exact_max_length}
 
 pub exact_entry : (family : AddressFamily) (count : ℕ) (before : Option RoaEntry) → ExactElement (ip_address family count before) (entry_at family count before)
 unfolding ip_address entry_at maximum_at

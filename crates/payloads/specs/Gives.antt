@@ -1,7 +1,7 @@
 -- What the functions that read give.
 use Rattle.std.specs.Prelude.{◌≡◌, ℕ, ◌+◌, ◌-◌, List, [], ◌∷◌, ◌++◌, length, take, Result, Ok, Err}
 use Rattle.der_lite.specs.Place.{Place, Fault}
-use Rattle.payloads.specs.declared.entry.RoaEntry.{RoaEntry}
+use Rattle.payloads.specs.declared.roa_entry.RoaEntry.{RoaEntry}
 use Rattle.payloads.specs.declared.fault.GrammarFault.{GrammarFault}
 use Rattle.payloads.specs.declared.fault.PayloadFault.{PayloadFault}
 use Rattle.payloads.specs.declared.fault.PayloadFault.TheVariants.{At, Memory}

@@ -3,10 +3,10 @@ use Rattle.std.specs.Prelude.{◌≡◌, ◌↔◌, ℕ, ◌^◌, ◌<◌, ◌�
 use Rattle.std.specs.List.{All}
 use Rattle.der_lite.specs.Der.{IsBytes}
 use Rattle.der_lite.specs.Moments.{is_moment}
-use Rattle.payloads.specs.Entry.{HasPrefix}
+use Rattle.payloads.specs.RoaEntries.{HasPrefix}
 use Rattle.payloads.specs.Manifest.{ManifestValue, ManifestSpells, ManifestFaultAt}
 use Rattle.payloads.specs.RoaValues.{RoaValue, RoaSpells, RoaFaultAt}
-use Rattle.payloads.specs.Refusal.{roa_refusal}
+use Rattle.payloads.specs.RoaRefusal.{roa_refusal}
 use Rattle.payloads.specs.ManifestRefusal.{manifest_refusal}
 
 -- At most one fault fits bytes, none fits bytes that spell a value, and one fits all others.

@@ -1,14 +1,14 @@
 pub mod Faults
-pub mod Entry
+pub mod RoaEntries
 pub mod Roa
 pub mod RoaReading
 pub mod RoaValues
 pub mod RoaBytes
-pub mod Refusal
+pub mod RoaRefusal
 pub mod Manifest
 pub mod ManifestReading
 pub mod Gives
 pub mod Laws
 pub mod ManifestRefusal
-pub mod Names
+pub mod ManifestNames
 pub mod ManifestBytes

@@ -8,7 +8,7 @@ use Rattle.payloads.specs.declared.fault.ManifestFault.{ManifestFault}
 use Rattle.payloads.specs.declared.fault.ManifestFault.TheVariants.{Value, Memory}
 use Rattle.payloads.specs.Faults.{kind_number}
 use Rattle.payloads.specs.Manifest.{ListedFile, listed_rules, ManifestValue}
-use Rattle.payloads.specs.Refusal.{at_index}
+use Rattle.payloads.specs.RoaRefusal.{at_index}
 
 -- NumberRange (also where the number is none in the fewest bytes), TimesOrder
 abbrev pub value_rules : ManifestValue → List (ℕ × Bool)

@@ -9,10 +9,10 @@ use Rattle.prefixes.specs.Address.{Block}
 use Rattle.prefixes.specs.Payload.{block_of, width_of}
 use Rattle.prefixes.specs.declared.prefix.IpPrefix.{IpPrefix}
 use Rattle.prefixes.specs.declared.prefix.IpPrefix.TheVariants.{V4, V6}
-use Rattle.payloads.specs.declared.family.AddressFamily.{AddressFamily}
-use Rattle.payloads.specs.declared.family.AddressFamily.TheVariants.{Ipv4, Ipv6}
-use Rattle.payloads.specs.declared.entry.RoaEntry.{RoaEntry}
-use Rattle.payloads.specs.Entry.{is_not_above}
+use Rattle.payloads.specs.declared.roa_family.AddressFamily.{AddressFamily}
+use Rattle.payloads.specs.declared.roa_family.AddressFamily.TheVariants.{Ipv4, Ipv6}
+use Rattle.payloads.specs.declared.roa_entry.RoaEntry.{RoaEntry}
+use Rattle.payloads.specs.RoaEntries.{is_not_above}
 
 -- nothing is judged
 abbrev pub no_rules : {A : Type 0} → A → List (ℕ × Bool)

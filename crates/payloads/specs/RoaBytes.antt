@@ -6,9 +6,9 @@ use Rattle.prefixes.specs.Address.{Block}
 use Rattle.prefixes.specs.Payload.{block_of, width_of}
 use Rattle.prefixes.specs.declared.prefix.IpPrefix.{IpPrefix}
 use Rattle.prefixes.specs.declared.prefix.IpPrefix.TheVariants.{V4, V6}
-use Rattle.payloads.specs.declared.family.AddressFamily.{AddressFamily}
-use Rattle.payloads.specs.declared.family.AddressFamily.TheVariants.{Ipv4, Ipv6}
-use Rattle.payloads.specs.declared.entry.RoaEntry.{RoaEntry}
+use Rattle.payloads.specs.declared.roa_family.AddressFamily.{AddressFamily}
+use Rattle.payloads.specs.declared.roa_family.AddressFamily.TheVariants.{Ipv4, Ipv6}
+use Rattle.payloads.specs.declared.roa_entry.RoaEntry.{RoaEntry}
 use Rattle.payloads.specs.Roa.{family_number}
 use Rattle.payloads.specs.RoaValues.{RoaValue}
 

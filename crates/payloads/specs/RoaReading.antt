@@ -9,9 +9,9 @@ use Rattle.der_lite.specs.Decoding.{Read, ReadAll, read_member, read_each}
 use Rattle.der_lite.specs.Fields.{field_at, sequence_at, last_at, optional_at, valued_at}
 use Rattle.prefixes.specs.Payload.{block_of, width_of}
 use Rattle.prefixes.specs.declared.prefix.IpPrefix.{IpPrefix}
-use Rattle.payloads.specs.declared.family.AddressFamily.{AddressFamily}
-use Rattle.payloads.specs.declared.family.AddressFamily.TheVariants.{Ipv4, Ipv6}
-use Rattle.payloads.specs.declared.entry.RoaEntry.{RoaEntry}
+use Rattle.payloads.specs.declared.roa_family.AddressFamily.{AddressFamily}
+use Rattle.payloads.specs.declared.roa_family.AddressFamily.TheVariants.{Ipv4, Ipv6}
+use Rattle.payloads.specs.declared.roa_entry.RoaEntry.{RoaEntry}
 use Rattle.payloads.specs.Roa.{no_rules, family_rules, family_width, of_bits, too_many_rules, order_rules, not_empty, Family, Blocks, RoaTree}
 
 -- a version that is there is its own fault

@@ -3,8 +3,8 @@ use Rattle.std.specs.Prelude.{◌≡◌, ℕ, List, [], ◌++◌, map, Option, S
 use Rattle.std.specs.List.{count_by}
 use Rattle.der_lite.specs.Place.{place_of}
 use Rattle.prefixes.specs.Payload.{Payload}
-use Rattle.payloads.specs.declared.entry.RoaEntry.{RoaEntry}
-use Rattle.payloads.specs.Entry.{is_superfluous, payload_of}
+use Rattle.payloads.specs.declared.roa_entry.RoaEntry.{RoaEntry}
+use Rattle.payloads.specs.RoaEntries.{is_superfluous, payload_of}
 use Rattle.payloads.specs.Roa.{Family, Blocks, RoaTree, roa_payload}
 
 -- an AS and the entries, those of IPv4 before those of IPv6

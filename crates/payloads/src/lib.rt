@@ -4,25 +4,25 @@
 //! [`decode_manifest`] and [`encode_manifest`] do so for manifests (RFC 9286 section 4).
 #![tactic(auto)]
 
-mod bits;
-mod entries;
-mod entry;
-mod family;
 mod fault;
-mod files;
 pub mod laws;
 mod manifest;
+mod manifest_files;
+mod manifest_names;
 mod manifest_reading;
 mod manifest_writing;
-mod names;
-mod reading;
 mod roa;
-mod writing;
+mod roa_bits;
+mod roa_entries;
+mod roa_entry;
+mod roa_family;
+mod roa_reading;
+mod roa_writing;
 
-pub use entry::RoaEntry;
 pub use fault::{GrammarFault, GrammarFaultKind, ManifestFault, PayloadFault, ValueFault};
 pub use manifest::{ListedFile, Manifest};
 pub use manifest_reading::decode_manifest;
 pub use manifest_writing::encode_manifest;
 pub use roa::{Roa, decode_roa};
-pub use writing::encode_roa;
+pub use roa_entry::RoaEntry;
+pub use roa_writing::encode_roa;

@@ -5,13 +5,13 @@ ghost use Rattle.std.specs.String.{string_bytes};
 ghost use Rattle.der_lite.specs.Place.{first_of};
 ghost use Rattle.payloads.specs.Faults.{kind_number};
 ghost use Rattle.payloads.specs.Manifest.{ListedFile as Listed};
-ghost use Rattle.payloads.specs.Names.{AreNames};
-ghost use Rattle.payloads.specs.Refusal.{Finds};
+ghost use Rattle.payloads.specs.ManifestNames.{AreNames};
+ghost use Rattle.payloads.specs.RoaRefusal.{Finds};
 ghost use Rattle.payloads.specs.ManifestRefusal.{value_rules, file_rules, files_refusal, manifest_refusal, IsManifest, MakesManifest};
 
-use crate::entry::LIMIT;
+use crate::manifest_names::{Names, is_name};
 use crate::manifest_reading::{LONGEST_NUMBER, is_negative};
-use crate::names::{Names, is_name};
+use crate::roa_entry::LIMIT;
 use crate::{GrammarFaultKind, ManifestFault, ValueFault};
 use der_lite::{Moment, is_integer};
 use std::alloc::{AllocError, Global};

@@ -6,10 +6,10 @@ ghost use Rattle.payloads.specs.ManifestReading.{number_at, next_at, algorithm_a
 ghost use Rattle.der_lite.specs.Decoding.{read_each};
 ghost use Rattle.payloads.specs.Gives.{GivesNext, GivesOrMemory, GivesAllOrMemory, DecodesManifest, ListsFile, ListsFiles};
 
-use crate::entry::LIMIT;
-use crate::files::Files;
-use crate::names::is_name;
-use crate::reading::first_integer;
+use crate::manifest_files::Files;
+use crate::manifest_names::is_name;
+use crate::roa_entry::LIMIT;
+use crate::roa_reading::first_integer;
 use crate::{GrammarFault, GrammarFaultKind, ListedFile, Manifest, PayloadFault};
 use der_lite::{Cursor, Moment};
 use std::alloc::Global;

@@ -3,10 +3,10 @@
 ghost use Rattle.std.specs.Prelude.{◌≡◌, IfOk};
 ghost use Rattle.payloads.specs.RoaValues.{notes_of, payloads_of};
 ghost use Rattle.payloads.specs.Gives.{Decodes};
-ghost use Rattle.payloads.specs.Refusal.{roa_refusal, IsRoa, Makes, Finds};
+ghost use Rattle.payloads.specs.RoaRefusal.{roa_refusal, IsRoa, Makes, Finds};
 
-use crate::entries::Entries;
-use crate::reading::route_origin_attestation;
+use crate::roa_entries::Entries;
+use crate::roa_reading::route_origin_attestation;
 use crate::{GrammarFaultKind, PayloadFault, RoaEntry, ValueFault};
 use prefixes::{Asn, Vrp};
 use std::alloc::{AllocError, Global};
@@ -22,7 +22,7 @@ pub struct Roa {
 
 impl Model for Roa {
     ghost use Rattle.payloads.specs.RoaValues.{RoaValue};
-    ghost use Rattle.payloads.specs.Refusal.{IsRoa};
+    ghost use Rattle.payloads.specs.RoaRefusal.{IsRoa};
 
     ghost Value = { RoaValue };
 
@@ -82,7 +82,7 @@ impl Roa {
 }
 
 /// The first fault of the entries of a ROA.
-#[tactic(auto, unfolding(crate::specs::Refusal::roa_refusal))]
+#[tactic(auto, unfolding(crate::specs::RoaRefusal::roa_refusal))]
 fn refusal(entries: &[RoaEntry]) -> Option<ValueFault>
     ensures { Finds result (roa_refusal entries.now) }
 {

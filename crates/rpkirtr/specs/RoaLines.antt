@@ -3,8 +3,8 @@ use Rattle.std.specs.Prelude.{ℕ, List, ◌++◌, codes}
 use Rattle.std.specs.List.{flat_map}
 use Rattle.std.specs.Fmt.{decimal}
 use Rattle.prefixes.specs.Text.{written_text}
-use Rattle.payloads.specs.declared.entry.RoaEntry.{RoaEntry}
-use Rattle.payloads.specs.Entry.{greatest_length}
+use Rattle.payloads.specs.declared.roa_entry.RoaEntry.{RoaEntry}
+use Rattle.payloads.specs.RoaEntries.{greatest_length}
 use Rattle.payloads.specs.RoaValues.{RoaValue, notes_of}
 
 -- an entry: the prefix, the maximum length, the AS

@@ -1,4 +1,4 @@
-use Rattle.payloads.proofs.Spellings.{refusal_law}
+use Rattle.payloads.proofs.RoaSpellings.{refusal_law}
 use Rattle.payloads.proofs.laws.roa_refuses_exactly.Goals as goal
 
 pub returns : goal.returns

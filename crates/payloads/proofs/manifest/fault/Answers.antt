@@ -4,7 +4,7 @@ use Rattle.std.specs.declared.alloc.AllocError.{AllocError}
 use Rattle.payloads.specs.declared.fault.ValueFault.{ValueFault}
 use Rattle.payloads.specs.Faults.{kind_number}
 use Rattle.payloads.specs.Manifest.{ManifestValue}
-use Rattle.payloads.specs.Refusal.{Finds}
+use Rattle.payloads.specs.RoaRefusal.{Finds}
 use Rattle.payloads.specs.ManifestRefusal.{files_refusal, manifest_refusal}
 use Rattle.payloads.proofs.ManifestRefusals.{first_of_value, first_of_files}
 use Rattle.payloads.proofs.manifest.fault.Goals as goal

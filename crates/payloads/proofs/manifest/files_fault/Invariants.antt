@@ -1,5 +1,5 @@
 use Rattle.std.proofs.Common.{◌≡◌, [], drop, take}
-use Rattle.payloads.specs.Names.{AreNames}
+use Rattle.payloads.specs.ManifestNames.{AreNames}
 use Rattle.payloads.specs.ManifestRefusal.{files_refusal}
 use Rattle.payloads.proofs.manifest.files_fault.Given as goal
 

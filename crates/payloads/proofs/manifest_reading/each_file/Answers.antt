@@ -1,5 +1,5 @@
 use Rattle.std.proofs.Common.{◌≢◌, []}
-use Rattle.payloads.proofs.Listing.{file_shorter, files_on}
+use Rattle.payloads.proofs.ManifestListing.{file_shorter, files_on}
 use Rattle.payloads.proofs.manifest_reading.each_file.Goals as goal
 
 pub loop-members-smaller : goal.loop-members-smaller

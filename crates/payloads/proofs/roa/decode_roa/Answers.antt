@@ -4,7 +4,7 @@ use Rattle.payloads.specs.RoaValues.{all_entries, flat}
 use Rattle.payloads.specs.Gives.{Progress, Grows}
 use Rattle.payloads.specs.Faults.{fault_of}
 use Rattle.payloads.proofs.Decoding.{flat_read, fault_read, none_yet, read_twice}
-use Rattle.payloads.proofs.Refusals.{roa_right}
+use Rattle.payloads.proofs.RoaRefusals.{roa_right}
 use Rattle.payloads.proofs.roa.decode_roa.Goals as goal
 
 pub returns-in_err-route_origin_attestation : goal.returns-in_err-route_origin_attestation

@@ -1,7 +1,7 @@
 use Rattle.std.proofs.Common.{◌+◌, List, subst, sym, take}
 use Rattle.std.specs.List.{flat_map}
 use Rattle.std.specs.Io.KnownBytes.{Appends}
-use Rattle.payloads.specs.declared.entry.RoaEntry.{RoaEntry}
+use Rattle.payloads.specs.declared.roa_entry.RoaEntry.{RoaEntry}
 use Rattle.rpkirtr.specs.RoaLines.{entry_line}
 use Rattle.rpkirtr.proofs.Printing.{prints_next}
 use Rattle.rpkirtr.proofs.roas.print_roa.Goals as goal

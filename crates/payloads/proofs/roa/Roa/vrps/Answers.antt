@@ -1,8 +1,8 @@
 use Rattle.std.proofs.Common.{◌∙◌, List, ap}
-use Rattle.payloads.specs.declared.entry.RoaEntry.{RoaEntry}
-use Rattle.payloads.specs.Entry.{is_bad_maximum}
-use Rattle.payloads.specs.Refusal.{roa_refusal}
-use Rattle.payloads.proofs.Refusals.{maxima_right}
+use Rattle.payloads.specs.declared.roa_entry.RoaEntry.{RoaEntry}
+use Rattle.payloads.specs.RoaEntries.{is_bad_maximum}
+use Rattle.payloads.specs.RoaRefusal.{roa_refusal}
+use Rattle.payloads.proofs.RoaRefusals.{maxima_right}
 use Rattle.payloads.proofs.roa.Roa.vrps.Goals as goal
 
 pub vrp-requires : goal.vrp-requires

@@ -1,5 +1,5 @@
 use Rattle.std.proofs.Common.{◌≡◌, map, take}
-use Rattle.payloads.specs.Entry.{payload_of}
+use Rattle.payloads.specs.RoaEntries.{payload_of}
 use Rattle.payloads.proofs.roa.Roa.vrps.Given as goal
 
 -- the payloads of the entries so far

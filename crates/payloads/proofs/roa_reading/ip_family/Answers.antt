@@ -1,0 +1,9 @@
+use Rattle.std.proofs.Common.{refl}
+use Rattle.payloads.specs.RoaReading.{ip_family_at}
+use Rattle.payloads.proofs.roa_reading.ip_family.Goals as goal
+
+pub returns : goal.returns
+unfolding ip_family_at
+returns c =
+    let a = c.in_ok-addresses.ensures in
+    (((c.in_ok-family.family, a.0.0), c.sequence.new.self), rw (c.in_ok-members.ensures, c.in_ok-family.ensures, a.1, a.2, c.in_ok-finish.ensures) refl, (refl, refl), a.3)
