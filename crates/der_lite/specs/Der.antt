@@ -25,6 +25,31 @@ length_bytes n =
     else if nat_lt n (256 ^ 3) then 131 ∷ base_256 3 n
     else 132 ∷ base_256 4 n
 
+-- 8.1.2: the tags of elements, which are universal but for the last, [0] of a constructed context
+abbrev pub INTEGER : ℕ
+INTEGER = 2
+
+abbrev pub BIT_STRING : ℕ
+BIT_STRING = 3
+
+abbrev pub OCTET_STRING : ℕ
+OCTET_STRING = 4
+
+abbrev pub OBJECT_IDENTIFIER : ℕ
+OBJECT_IDENTIFIER = 6
+
+abbrev pub IA5_STRING : ℕ
+IA5_STRING = 22
+
+abbrev pub GENERALIZED_TIME : ℕ
+GENERALIZED_TIME = 24
+
+abbrev pub SEQUENCE : ℕ
+SEQUENCE = 48
+
+abbrev pub EXPLICIT_0 : ℕ
+EXPLICIT_0 = 160
+
 -- 8.1.1: the tag, the length of the content, the content
 abbrev pub tlv : ℕ → List ℕ → List ℕ
 tlv tag content = tag ∷ length_bytes (length content) ++ content

@@ -1,5 +1,6 @@
 -- Reading by a grammar over what the reads of a cursor give.
 use Rattle.std.specs.Prelude.{ℕ, Bool, ◌==◌, if◌then◌else◌, List, length, Option, Some, None, Result, Ok}
+use Rattle.der_lite.specs.Der.{SEQUENCE}
 use Rattle.der_lite.specs.Place.{Place, Fault}
 use Rattle.der_lite.specs.Grammar.{Members}
 use Rattle.der_lite.specs.Reading.{◌>>=◌, judged, element_at, end_at}
@@ -11,7 +12,7 @@ field_at read at rules value = read >>= λ x. judged (rules x.0) at (Ok (value x
 
 -- a SEQUENCE: rules before its members, the members, rules over the whole
 abbrev pub sequence_at : {V : Type 0} → (List ℕ → List (ℕ × Bool)) → ReadAll V → (V → List (ℕ × Bool)) → Read V
-sequence_at before members whole p = element_at 48 p >>= λ x. judged (before x.0.rest) p.at (members x.0 >>= λ v. judged (whole v) p.at (Ok (v, x.1)))
+sequence_at before members whole p = element_at SEQUENCE p >>= λ x. judged (before x.0.rest) p.at (members x.0 >>= λ v. judged (whole v) p.at (Ok (v, x.1)))
 
 -- one member, and the end
 abbrev pub last_at : {V : Type 0} → Read V → ReadAll V

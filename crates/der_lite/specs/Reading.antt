@@ -1,7 +1,7 @@
 -- What reading gives at a place: a value and the place behind it, or the first fault.
 use Rattle.std.specs.Prelude.{ℕ, ◌+◌, Bool, not, ◌==◌, if◌then◌else◌, List, [], ◌∷◌, length, drop, slice_range, Result, Ok, Err}
 use Rattle.der_lite.specs.Place.{Place, Fault}
-use Rattle.der_lite.specs.Der.{length_end, content_end, head_rules, is_integer, is_bit_string, is_ia5}
+use Rattle.der_lite.specs.Der.{BIT_STRING, GENERALIZED_TIME, IA5_STRING, INTEGER, OBJECT_IDENTIFIER, OCTET_STRING, length_end, content_end, head_rules, is_integer, is_bit_string, is_ia5}
 use Rattle.der_lite.specs.Moments.{CivilMoment, moment_of, is_time}
 
 -- what is read first, and then what is read with it; or the first fault
@@ -33,27 +33,27 @@ content_at tag rules p = element_at tag p >>= λ x. judged (rules x.0.rest) p.at
 
 -- an INTEGER
 abbrev pub integer_at : Place → Result (List ℕ × Place) Fault
-integer_at = content_at 2 (λ content. (4, not (is_integer content)) ∷ [])
+integer_at = content_at INTEGER (λ content. (4, not (is_integer content)) ∷ [])
 
 -- a BIT STRING
 abbrev pub bits_at : Place → Result (List ℕ × Place) Fault
-bits_at = content_at 3 (λ content. (4, not (is_bit_string content)) ∷ [])
+bits_at = content_at BIT_STRING (λ content. (4, not (is_bit_string content)) ∷ [])
 
 -- an OCTET STRING
 abbrev pub octets_at : Place → Result (List ℕ × Place) Fault
-octets_at = content_at 4 (λ content. [])
+octets_at = content_at OCTET_STRING (λ content. [])
 
 -- an OBJECT IDENTIFIER
 abbrev pub oid_at : Place → Result (List ℕ × Place) Fault
-oid_at = content_at 6 (λ content. [])
+oid_at = content_at OBJECT_IDENTIFIER (λ content. [])
 
 -- an IA5String
 abbrev pub ia5_at : Place → Result (List ℕ × Place) Fault
-ia5_at = content_at 22 (λ content. (4, not (is_ia5 content)) ∷ [])
+ia5_at = content_at IA5_STRING (λ content. (4, not (is_ia5 content)) ∷ [])
 
 -- a GeneralizedTime, read as the moment whose text it is
 unfoldable pub time_at : Place → Result (CivilMoment × Place) Fault
-time_at p = content_at 24 (λ content. (4, not (is_time content)) ∷ []) p >>= λ x. Ok (moment_of x.0, x.1)
+time_at p = content_at GENERALIZED_TIME (λ content. (4, not (is_time content)) ∷ []) p >>= λ x. Ok (moment_of x.0, x.1)
 
 -- the end of the enclosing element
 unfoldable pub end_at : Place → Result (Unit {0}) Fault

@@ -1,6 +1,6 @@
 -- GeneralizedTime in grammars: an element that is read as a moment.
 use Rattle.std.specs.Prelude.{ℕ, Bool, not, List, ◌∷◌, Ok}
-use Rattle.der_lite.specs.Der.{head_rules}
+use Rattle.der_lite.specs.Der.{GENERALIZED_TIME, head_rules}
 use Rattle.der_lite.specs.Moments.{CivilMoment, moment_of, is_time, TimeSpells}
 use Rattle.der_lite.specs.Grammar.{Element, element, primitive}
 use Rattle.der_lite.specs.Reading.{◌>>=◌, judged, time_at}
@@ -12,7 +12,7 @@ time_rules rules content = (4, not (is_time content)) ∷ rules (moment_of conte
 
 -- A GeneralizedTime (tag 24), whose moment keeps the rules.
 abbrev pub timed : (CivilMoment → List (ℕ × Bool)) → Element CivilMoment
-timed rules = element 24 (head_rules 24) (primitive TimeSpells (time_rules rules))
+timed rules = element GENERALIZED_TIME (head_rules GENERALIZED_TIME) (primitive TimeSpells (time_rules rules))
 
 -- reading it: the moment, and then its rules
 abbrev pub timed_at : (CivilMoment → List (ℕ × Bool)) → Read CivilMoment

@@ -1,7 +1,7 @@
 //! A cursor over the elements that stand in one enclosing element.
 
 ghost use Rattle.std.specs.Prelude.{IfOk, ◌≡◌, IsTrue, ◌↔◌, slice_get, []};
-ghost use Rattle.der_lite.specs.Der.{is_integer as is_integer_of, is_bit_string as is_bit_string_of, is_ia5};
+ghost use Rattle.der_lite.specs.Der.{SEQUENCE, is_integer as is_integer_of, is_bit_string as is_bit_string_of, is_ia5};
 ghost use Rattle.der_lite.specs.Moments.{is_moment};
 ghost use Rattle.der_lite.specs.Reading.{element_at, integer_at, bits_at, octets_at, oid_at, ia5_at, time_at, end_at};
 ghost use Rattle.der_lite.specs.Cursors.{Gives, Finds, Ends};
@@ -9,6 +9,7 @@ ghost use Rattle.der_lite.specs.Place.{place_of};
 
 use crate::content::{ia5_text, is_bit_string, is_integer};
 use crate::head::read_head;
+use crate::tag;
 use crate::{Bits, DerFault, DerFaultKind, Moment};
 use std::marker::Model;
 
@@ -81,9 +82,9 @@ impl<'a> Cursor<'a> {
 
     /// A cursor over the members of the SEQUENCE (tag 48) that stands here (X.690, 8.9).
     pub fn sequence(&mut self) -> Result<Cursor<'a>, DerFault>
-        ensures { Gives (λ c. c) result self.old self.new (element_at 48 self.old) }
+        ensures { Gives (λ c. c) result self.old self.new (element_at SEQUENCE self.old) }
     {
-        let (content, behind) = self.element(48)?;
+        let (content, behind) = self.element(tag::SEQUENCE)?;
         *self = behind;
         Ok(content)
     }
@@ -95,7 +96,7 @@ impl<'a> Cursor<'a> {
         ensures exact { Gives (λ content. content.now) result self.old self.new (integer_at self.old) }
         ensures fewest { IfOk result (λ content. IsTrue (is_integer_of content.now)) }
     {
-        let (content, behind) = self.element(2)?;
+        let (content, behind) = self.element(tag::INTEGER)?;
         if !is_integer(content.rest) {
             return Err(self.bad_content());
         }
@@ -111,7 +112,7 @@ impl<'a> Cursor<'a> {
         ensures exact { Gives bits_content result self.old self.new (bits_at self.old) }
         ensures valid { IfOk result (λ bits. IsTrue (is_bit_string_of (bits_content bits))) }
     {
-        let (content, behind) = self.element(3)?;
+        let (content, behind) = self.element(tag::BIT_STRING)?;
         if let [unused, bytes @ ..] = content.rest
             && is_bit_string(content.rest)
         {
@@ -129,7 +130,7 @@ impl<'a> Cursor<'a> {
     pub fn octets(&mut self) -> Result<&'a [u8], DerFault>
         ensures { Gives (λ content. content.now) result self.old self.new (octets_at self.old) }
     {
-        let (content, behind) = self.element(4)?;
+        let (content, behind) = self.element(tag::OCTET_STRING)?;
         *self = behind;
         Ok(content.rest)
     }
@@ -140,7 +141,7 @@ impl<'a> Cursor<'a> {
     pub fn oid(&mut self) -> Result<&'a [u8], DerFault>
         ensures { Gives (λ content. content.now) result self.old self.new (oid_at self.old) }
     {
-        let (content, behind) = self.element(6)?;
+        let (content, behind) = self.element(tag::OBJECT_IDENTIFIER)?;
         *self = behind;
         Ok(content.rest)
     }
@@ -152,7 +153,7 @@ impl<'a> Cursor<'a> {
         ensures exact { Gives (λ text. text.now) result self.old self.new (ia5_at self.old) }
         ensures ascii { IfOk result (λ text. IsTrue (is_ia5 text.now)) }
     {
-        let (content, behind) = self.element(22)?;
+        let (content, behind) = self.element(tag::IA5_STRING)?;
         match ia5_text(content.rest) {
             None => Err(self.bad_content()),
             Some(text) => {
@@ -170,7 +171,7 @@ impl<'a> Cursor<'a> {
         ensures exact { Gives (λ moment. moment) result self.old self.new (time_at self.old) }
         ensures real { IfOk result (λ moment. IsTrue (is_moment moment)) }
     {
-        let (content, behind) = self.element(24)?;
+        let (content, behind) = self.element(tag::GENERALIZED_TIME)?;
         let Some(moment) = Moment::from_text(content.rest) else {
             return Err(self.bad_content());
         };

@@ -12,6 +12,7 @@ mod head;
 pub mod laws;
 mod length;
 mod moment;
+mod tag;
 mod writer;
 
 pub use content::{Bits, is_integer, unsigned};

@@ -1,12 +1,13 @@
 //! Elements as bytes.
 
 ghost use Rattle.std.specs.Prelude.{◌≡◌, ◌<◌, ◌+◌, ◌^◌, ◌++◌, ◌∷◌, [], length, take, IsTrue, OnOk, OnErr};
-ghost use Rattle.der_lite.specs.Der.{length_bytes, tlv};
+ghost use Rattle.der_lite.specs.Der.{BIT_STRING, GENERALIZED_TIME, IA5_STRING, INTEGER, OBJECT_IDENTIFIER, OCTET_STRING, SEQUENCE, length_bytes, tlv};
 ghost use Rattle.der_lite.specs.Cursors.{bits_content};
 ghost use Rattle.der_lite.specs.Moments.{is_moment, moment_text};
 ghost use Rattle.der_lite.specs.Values.{unsigned_bytes};
 ghost use Rattle.der_lite.specs.Writing.{Adds};
 
+use crate::tag;
 use crate::{Bits, Moment};
 use std::alloc::{AllocError, Global};
 use std::marker::Model;
@@ -92,23 +93,23 @@ impl DerWriter {
     /// Writes a SEQUENCE (tag 48) of members that are written already.
     pub fn sequence(&mut self, members: &[u8]) -> Result<(), AllocError>
         requires { length members.now < 2 ^ 32 }
-        ensures { Adds result 48 members.now self.old self.new }
+        ensures { Adds result SEQUENCE members.now self.old self.new }
     {
-        self.element(48, &[], members)
+        self.element(tag::SEQUENCE, &[], members)
     }
 
     /// Writes an INTEGER (tag 2) of this content: two's complement in the fewest bytes.
     pub fn integer(&mut self, content: &[u8]) -> Result<(), AllocError>
         requires { length content.now < 2 ^ 32 }
-        ensures { Adds result 2 content.now self.old self.new }
+        ensures { Adds result INTEGER content.now self.old self.new }
     {
-        self.element(2, &[], content)
+        self.element(tag::INTEGER, &[], content)
     }
 
     /// Writes an INTEGER (tag 2) of this number, in the fewest bytes.
     #[tactic(auto, unfolding(crate::specs::Values::unsigned_bytes))]
     pub fn unsigned(&mut self, number: u32) -> Result<(), AllocError>
-        ensures { Adds result 2 (unsigned_bytes number) self.old self.new }
+        ensures { Adds result INTEGER (unsigned_bytes number) self.old self.new }
     {
         let low = (number % 256) as u8;
         let second = (number / 256 % 256) as u8;
@@ -130,41 +131,41 @@ impl DerWriter {
     /// Writes a BIT STRING (tag 3), whose unused bits are zero.
     pub fn bits(&mut self, bits: Bits) -> Result<(), AllocError>
         requires { length (bits_content bits) < 2 ^ 32 }
-        ensures { Adds result 3 (bits_content bits.entry) self.old self.new }
+        ensures { Adds result BIT_STRING (bits_content bits.entry) self.old self.new }
     {
-        self.element(3, &[bits.unused], bits.bytes)
+        self.element(tag::BIT_STRING, &[bits.unused], bits.bytes)
     }
 
     /// Writes an OCTET STRING (tag 4).
     pub fn octets(&mut self, content: &[u8]) -> Result<(), AllocError>
         requires { length content.now < 2 ^ 32 }
-        ensures { Adds result 4 content.now self.old self.new }
+        ensures { Adds result OCTET_STRING content.now self.old self.new }
     {
-        self.element(4, &[], content)
+        self.element(tag::OCTET_STRING, &[], content)
     }
 
     /// Writes an OBJECT IDENTIFIER (tag 6) of this content.
     pub fn oid(&mut self, content: &[u8]) -> Result<(), AllocError>
         requires { length content.now < 2 ^ 32 }
-        ensures { Adds result 6 content.now self.old self.new }
+        ensures { Adds result OBJECT_IDENTIFIER content.now self.old self.new }
     {
-        self.element(6, &[], content)
+        self.element(tag::OBJECT_IDENTIFIER, &[], content)
     }
 
     /// Writes an IA5String (tag 22), of ASCII alone.
     pub fn ia5(&mut self, text: &str) -> Result<(), AllocError>
         requires { length text.now < 2 ^ 32 }
-        ensures { Adds result 22 text.now self.old self.new }
+        ensures { Adds result IA5_STRING text.now self.old self.new }
     {
-        self.element(22, &[], text.as_bytes())
+        self.element(tag::IA5_STRING, &[], text.as_bytes())
     }
 
     /// Writes a GeneralizedTime (tag 24), `YYYYMMDDHHMMSSZ`.
     pub fn time(&mut self, moment: &Moment) -> Result<(), AllocError>
-        ensures added { Adds result 24 (moment_text moment.now) self.old self.new }
+        ensures added { Adds result GENERALIZED_TIME (moment_text moment.now) self.old self.new }
         ensures real { IsTrue (is_moment moment.now) }
     {
-        self.element(24, &moment.text(), &[])
+        self.element(tag::GENERALIZED_TIME, &moment.text(), &[])
     }
 
     /// What was written.

@@ -2,7 +2,7 @@
 use Rattle.std.specs.Prelude.{◌≡◌, ℕ, ◌-◌, ◌&&◌, ◌||◌, Bool, not, nat_lt, nat_le, ◌==◌, bytes_eq, List, [], ◌∷◌, length, slice_index, take, drop, pos}
 use Rattle.std.specs.List.{list_all, list_any}
 use Rattle.der_lite.specs.Place.{place_of}
-use Rattle.der_lite.specs.Der.{number, is_integer, IntSpells, is_bit_string, bit_count, is_ia5, head_rules}
+use Rattle.der_lite.specs.Der.{BIT_STRING, IA5_STRING, INTEGER, OBJECT_IDENTIFIER, SEQUENCE, number, is_integer, IntSpells, is_bit_string, bit_count, is_ia5, head_rules}
 use Rattle.der_lite.specs.Moments.{CivilMoment, is_between, moment_before}
 use Rattle.der_lite.specs.Times.{timed}
 use Rattle.der_lite.specs.Grammar.{Element, Members, element, primitive, constructed, last, member, each}
@@ -26,7 +26,7 @@ number_rules content = (4, not (is_integer content)) ∷ number_range content
 
 -- manifestNumber INTEGER (0..MAX): its content
 unfoldable pub manifest_number : Element (List ℕ)
-manifest_number = element 2 first_head (primitive NumberSpells number_rules)
+manifest_number = element INTEGER first_head (primitive NumberSpells number_rules)
 
 -- thisUpdate GeneralizedTime
 unfoldable pub this_update : Element CivilMoment
@@ -52,7 +52,7 @@ algorithm_rules content = (15, not (bytes_eq content sha_256)) ∷ []
 
 -- fileHashAlg OBJECT IDENTIFIER
 unfoldable pub hash_algorithm : Element (Unit {0})
-hash_algorithm = element 6 (head_rules 6) (primitive AlgorithmSpells algorithm_rules)
+hash_algorithm = element OBJECT_IDENTIFIER (head_rules OBJECT_IDENTIFIER) (primitive AlgorithmSpells algorithm_rules)
 
 -- ---- 4.2.2: names and hashes
 
@@ -92,7 +92,7 @@ NameSpells name content = content ≡ name
 
 -- file IA5String, behind the files before it
 unfoldable pub file_name : List ListedFile → Element (List ℕ)
-file_name before = element 22 (head_rules 22) (primitive NameSpells (name_rules before))
+file_name before = element IA5_STRING (head_rules IA5_STRING) (primitive NameSpells (name_rules before))
 
 -- a bit string of 256 bits has no unused one
 abbrev pub HashSpells : List ℕ → List ℕ → Type 0
@@ -106,7 +106,7 @@ hash_rules content = (4, not (is_bit_string content)) ∷ hash_length content
 
 -- hash BIT STRING, of SHA-256
 unfoldable pub file_hash : Element (List ℕ)
-file_hash = element 3 (head_rules 3) (primitive HashSpells hash_rules)
+file_hash = element BIT_STRING (head_rules BIT_STRING) (primitive HashSpells hash_rules)
 
 -- a payload has at most 65,536 files
 abbrev pub too_many_files : List ListedFile → List ℕ → List (ℕ × Bool)
@@ -121,11 +121,11 @@ file_members before = valued file_parts (member (file_name before) (λ name. las
 
 -- FileAndHash, behind the files before it
 unfoldable pub file_and_hash : List ListedFile → Element ListedFile
-file_and_hash before = element 48 (head_rules 48) (constructed (too_many_files before) (file_members before) no_rules)
+file_and_hash before = element SEQUENCE (head_rules SEQUENCE) (constructed (too_many_files before) (file_members before) no_rules)
 
 -- fileList SEQUENCE SIZE (0..MAX) OF FileAndHash
 unfoldable pub file_list : Element (List ListedFile)
-file_list = element 48 (head_rules 48) (constructed no_rules (each file_and_hash) no_rules)
+file_list = element SEQUENCE (head_rules SEQUENCE) (constructed no_rules (each file_and_hash) no_rules)
 
 -- ---- 4.2: Manifest
 
@@ -154,7 +154,7 @@ abbrev pub manifest_members : Members ManifestValue
 manifest_members = valued manifest_parts (member manifest_number (λ n. member this_update behind_this))
 
 unfoldable pub manifest : Element ManifestValue
-manifest = element 48 (head_rules 48) (constructed no_rules manifest_members no_rules)
+manifest = element SEQUENCE (head_rules SEQUENCE) (constructed no_rules manifest_members no_rules)
 
 -- the bytes are one manifest and no more
 unfoldable pub manifest_payload : Members ManifestValue

@@ -1,7 +1,7 @@
 -- The payload of a ROA (RFC 9582 section 4), and the first fault of bytes that spell none.
 use Rattle.std.specs.Prelude.{◌≡◌, ℕ, ◌+◌, ◌&&◌, ◌||◌, Bool, not, nat_lt, nat_le, ◌==◌, List, [], ◌∷◌, length, slice_index, Option, Some, None}
 use Rattle.std.specs.List.{last_or}
-use Rattle.der_lite.specs.Der.{BitsSpell, is_bit_string, bit_count, is_truncated, tag_of, head_rules}
+use Rattle.der_lite.specs.Der.{BIT_STRING, EXPLICIT_0, INTEGER, OCTET_STRING, SEQUENCE, BitsSpell, is_bit_string, bit_count, is_truncated, tag_of, head_rules}
 use Rattle.der_lite.specs.Grammar.{Element, Members, element, primitive, constructed, last, member, optional, each}
 use Rattle.der_lite.specs.Values.{integer_between, bits_number}
 use Rattle.der_lite.specs.Fields.{valued}
@@ -20,11 +20,11 @@ no_rules _ = []
 
 -- 4.1: version [0] is left out. Its tag (160) at the place of the first member is VersionPresent.
 abbrev pub first_head : List ℕ → List (ℕ × Bool)
-first_head bytes = (1, is_truncated bytes) ∷ (6, tag_of bytes == 160) ∷ head_rules 2 bytes
+first_head bytes = (1, is_truncated bytes) ∷ (6, tag_of bytes == EXPLICIT_0) ∷ head_rules INTEGER bytes
 
 -- 4.2: asID INTEGER (0..4294967295)
 unfoldable pub as_id : Element ℕ
-as_id = element 2 first_head (integer_between 0 4294967295 7)
+as_id = element INTEGER first_head (integer_between 0 4294967295 7)
 
 -- ---- 4.3.1: ROAIPAddressFamily
 
@@ -52,7 +52,7 @@ FamilySpells family content = content ≡ 0 ∷ family_number family ∷ []
 
 -- addressFamily OCTET STRING (SIZE(2)), behind the families before it
 unfoldable pub address_family : Option AddressFamily → Element AddressFamily
-address_family before = element 4 (head_rules 4) (primitive FamilySpells (family_rules before))
+address_family before = element OCTET_STRING (head_rules OCTET_STRING) (primitive FamilySpells (family_rules before))
 
 -- ---- 4.3.2: ROAIPAddress
 
@@ -86,11 +86,11 @@ address_rules family content = (4, not (is_bit_string content)) ∷ (10, nat_lt 
 
 -- address BIT STRING (SIZE(0..ub))
 unfoldable pub address : AddressFamily → Element IpPrefix
-address family = element 3 (head_rules 3) (primitive (PrefixSpells family) (address_rules family))
+address family = element BIT_STRING (head_rules BIT_STRING) (primitive (PrefixSpells family) (address_rules family))
 
 -- maxLength INTEGER (0..ub), not below the length of the prefix
 unfoldable pub max_length : IpPrefix → Element ℕ
-max_length prefix = element 2 (head_rules 2) (integer_between (block_of prefix).len (width_of prefix) 11)
+max_length prefix = element INTEGER (head_rules INTEGER) (integer_between (block_of prefix).len (width_of prefix) 11)
 
 -- the parts of an entry
 abbrev pub entry_parts : RoaEntry → IpPrefix × Option ℕ
@@ -110,7 +110,7 @@ entry_members family = valued entry_parts (member (address family) (λ prefix. o
 
 -- ROAIPAddress, behind so many entries of the payload, and behind the one before it in its family
 unfoldable pub ip_address : AddressFamily → ℕ → Option RoaEntry → Element RoaEntry
-ip_address family count before = element 48 (head_rules 48) (constructed (too_many_rules count) (entry_members family) (order_rules before))
+ip_address family count before = element SEQUENCE (head_rules SEQUENCE) (constructed (too_many_rules count) (entry_members family) (order_rules before))
 
 -- ---- 4.3: ipAddrBlocks
 
@@ -124,7 +124,7 @@ entry_behind family count before = ip_address family (count + length before) (la
 
 -- addresses SEQUENCE (SIZE(1..MAX)) OF ROAIPAddress
 unfoldable pub addresses : AddressFamily → ℕ → Element (List RoaEntry)
-addresses family count = element 48 (head_rules 48) (constructed not_empty (each (entry_behind family count)) no_rules)
+addresses family count = element SEQUENCE (head_rules SEQUENCE) (constructed not_empty (each (entry_behind family count)) no_rules)
 
 -- a family and its entries
 abbrev pub Family : Type 0
@@ -132,7 +132,7 @@ Family = AddressFamily × List RoaEntry
 
 -- ROAIPAddressFamily, behind the family before it and so many entries of the payload
 unfoldable pub ip_family : Option AddressFamily → ℕ → Element Family
-ip_family before count = element 48 (head_rules 48) (constructed no_rules (member (address_family before) (λ family. last (addresses family count))) no_rules)
+ip_family before count = element SEQUENCE (head_rules SEQUENCE) (constructed no_rules (member (address_family before) (λ family. last (addresses family count))) no_rules)
 
 -- one family or two
 abbrev pub Blocks : Type 0
@@ -140,7 +140,7 @@ Blocks = Family × Option Family
 
 -- ipAddrBlocks SEQUENCE (SIZE(1..2)) OF ROAIPAddressFamily
 unfoldable pub ip_addr_blocks : Element Blocks
-ip_addr_blocks = element 48 (head_rules 48) (constructed not_empty (member (ip_family None 0) (λ first. optional (ip_family (Some first.0) (length first.1)))) no_rules)
+ip_addr_blocks = element SEQUENCE (head_rules SEQUENCE) (constructed not_empty (member (ip_family None 0) (λ first. optional (ip_family (Some first.0) (length first.1)))) no_rules)
 
 -- ---- 4: RouteOriginAttestation
 
@@ -149,7 +149,7 @@ abbrev pub RoaTree : Type 0
 RoaTree = ℕ × Blocks
 
 unfoldable pub route_origin_attestation : Element RoaTree
-route_origin_attestation = element 48 (head_rules 48) (constructed no_rules (member as_id (λ asn. last ip_addr_blocks)) no_rules)
+route_origin_attestation = element SEQUENCE (head_rules SEQUENCE) (constructed no_rules (member as_id (λ asn. last ip_addr_blocks)) no_rules)
 
 -- the bytes are one ROA and no more
 unfoldable pub roa_payload : Members RoaTree

@@ -1,6 +1,6 @@
 -- The bytes of a ROA, element by element (RFC 9582 section 4). They are the one spelling of each value that has one.
 use Rattle.std.specs.Prelude.{ℕ, ◌+◌, ◌-◌, ◌*◌, ◌/◌, Bool, true, false, ◌==◌, if◌then◌else◌, List, [], ◌∷◌, ◌++◌, length, take, Option, Some, None}
-use Rattle.der_lite.specs.Der.{base_256, tlv}
+use Rattle.der_lite.specs.Der.{BIT_STRING, INTEGER, OCTET_STRING, SEQUENCE, base_256, tlv}
 use Rattle.der_lite.specs.Values.{unsigned_bytes}
 use Rattle.prefixes.specs.Address.{Block}
 use Rattle.prefixes.specs.Payload.{block_of, width_of}
@@ -27,11 +27,11 @@ address_content prefix = first_bytes (width_of prefix / 8) (block_of prefix)
 -- 4.3.2.2: maxLength INTEGER OPTIONAL
 abbrev pub maximum_bytes : Option ℕ → List ℕ
 maximum_bytes None = []
-maximum_bytes (Some maximum) = tlv 2 (unsigned_bytes maximum)
+maximum_bytes (Some maximum) = tlv INTEGER (unsigned_bytes maximum)
 
 -- 4.3.2: address and maxLength
 unfoldable pub entry_bytes : RoaEntry → List ℕ
-entry_bytes entry = tlv 48 (tlv 3 (address_content entry.prefix) ++ maximum_bytes entry.max_len)
+entry_bytes entry = tlv SEQUENCE (tlv BIT_STRING (address_content entry.prefix) ++ maximum_bytes entry.max_len)
 
 -- the prefix is of the family
 abbrev pub is_of : AddressFamily → IpPrefix → Bool
@@ -47,7 +47,7 @@ list_bytes family (entry ∷ entries) = (if is_of family entry.prefix then entry
 
 -- 4.3.1: addressFamily and the list of its addresses; nothing where the list is empty
 unfoldable pub family_bytes : AddressFamily → List ℕ → List ℕ
-family_bytes family list = if length list == 0 then [] else tlv 48 (tlv 4 (0 ∷ family_number family ∷ []) ++ tlv 48 list)
+family_bytes family list = if length list == 0 then [] else tlv SEQUENCE (tlv OCTET_STRING (0 ∷ family_number family ∷ []) ++ tlv SEQUENCE list)
 
 -- 4.3: IPv4, and then IPv6
 abbrev pub families_bytes : List RoaEntry → List ℕ
@@ -55,4 +55,4 @@ families_bytes entries = family_bytes Ipv4 (list_bytes Ipv4 entries) ++ family_b
 
 -- 4: asID and ipAddrBlocks
 unfoldable pub roa_bytes : RoaValue → List ℕ
-roa_bytes roa = tlv 48 (tlv 2 (unsigned_bytes roa.asn) ++ tlv 48 (families_bytes roa.entries))
+roa_bytes roa = tlv SEQUENCE (tlv INTEGER (unsigned_bytes roa.asn) ++ tlv SEQUENCE (families_bytes roa.entries))

@@ -1,7 +1,7 @@
 //! Reading the payload of a ROA, from top to bottom (RFC 9582 section 4).
 
 ghost use Rattle.std.specs.Prelude.{◌≡◌, ◌==◌, ◌<◌, IfOk, IsTrue, Some, option_copied, ⊤};
-ghost use Rattle.der_lite.specs.Der.{is_integer, tag_of};
+ghost use Rattle.der_lite.specs.Der.{EXPLICIT_0, is_integer, tag_of};
 ghost use Rattle.der_lite.specs.Reading.{integer_at};
 ghost use Rattle.der_lite.specs.Fields.{optional_at};
 ghost use Rattle.payloads.specs.RoaReading.{with_version, as_id_at, address_family_at, address_at, max_length_at, maximum_at, entry_at, entries_at, addresses_at, ip_family_at, blocks_at, payload_at};
@@ -16,13 +16,16 @@ use crate::{GrammarFault, GrammarFaultKind, RoaEntry};
 use der_lite::{Bits, Cursor, DerFault, DerFaultKind, unsigned};
 use prefixes::{Asn, IpPrefix, Prefix, V4, V6};
 
+/// The tag of an explicitly tagged version.
+const EXPLICIT_0: u8 = 0xa0;
+
 /// The content of the INTEGER at the start of the outer SEQUENCE. A version (tag `a0`) that stands
 /// in its place is `VersionPresent` (4.1).
 pub(crate) fn first_integer<'a>(cursor: &mut Cursor<'a>) -> Result<&'a [u8], GrammarFault>
-    ensures exact { GivesNext (λ content. content.now) result cursor.new (with_version (tag_of cursor.old.rest == 160) (integer_at cursor.old)) }
+    ensures exact { GivesNext (λ content. content.now) result cursor.new (with_version (tag_of cursor.old.rest == EXPLICIT_0) (integer_at cursor.old)) }
     ensures fewest { IfOk result (λ content. IsTrue (is_integer content.now)) }
 {
-    let has_version = cursor.peek_tag() == Some(0xa0);
+    let has_version = cursor.peek_tag() == Some(EXPLICIT_0);
     match cursor.integer() {
         Ok(content) => Ok(content),
         Err(fault) if has_version && fault.kind == DerFaultKind::WrongTag => Err(

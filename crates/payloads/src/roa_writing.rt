@@ -7,6 +7,7 @@ ghost use Rattle.prefixes.specs.Payload.{block_of, width_of};
 ghost use Rattle.payloads.specs.RoaEntries.{HasPrefix};
 ghost use Rattle.payloads.specs.RoaValues.{RoaSpells};
 ghost use Rattle.payloads.specs.RoaBytes.{address_content, maximum_bytes, entry_bytes, list_bytes, family_bytes, families_bytes};
+ghost use Rattle.der_lite.specs.Der.{BIT_STRING};
 ghost use Rattle.der_lite.specs.Writing.{Adds};
 
 use crate::roa_family::AddressFamily;
@@ -109,7 +110,7 @@ fn add_maximum(members: &mut DerWriter, max_len: Option<u8>) -> Result<(), Alloc
 
 /// Adds the bits of a prefix (4.3.2.1). Without memory nothing is added.
 fn add_address(members: &mut DerWriter, prefix: &IpPrefix) -> Result<(), AllocError>
-    ensures { Adds result 3 (address_content prefix.now) members.old members.new }
+    ensures { Adds result BIT_STRING (address_content prefix.now) members.old members.new }
 {
     let octets = octets(prefix);
     let len = usize::from(prefix.len());
