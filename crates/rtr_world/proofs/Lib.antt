@@ -32,6 +32,7 @@ pub mod Invariant
 pub mod Moving
 pub mod OneAnswers
 pub mod Places
+pub mod PlacesNoted
 pub mod Publishing
 pub mod Restarting
 pub mod Rests

@@ -93,16 +93,18 @@ module _ (keep : ℕ) (past : List Instance) (i : Instance) (y : VrpSet) (p : Pr
       more : (n m : ℕ) → n + suc m ≡ n + (m + 1)
       more n m = omega arith
 
-  table_published : (version : Option Committed) (table : VrpSet) → room_for i version ≡ true → TableAt (i ∷ past) version table → TableAt (next ∷ past) version table
-  table_published None table room t = t
-  table_published (Some version) table room t =
-      (stands_published past i y version.session version.serial table t (room_of version.session version.serial table t (length t.older) (omega arith) test)).0
+  pub room_after : (version : Committed) (table : VrpSet) (t : Stands (i ∷ past) version.session version.serial table) → room_for i (Some version) ≡ true → i.session ≡ version.session → length t.newer + 1 < 2 ^ 31
+  room_after version table t room = room_of version.session version.serial table t (length t.older) (omega arith) test
     where
       test : i.session ≡ version.session → nat_lt (length i.sets - length t.older) (2 ^ 31) ≡ true
       test e =
           let found = of_present (i ∷ past) i p version.session version.serial table t (sym e) in
           let place : position_of version.serial (versions i) ≡ Some (length t.older) = ap (λ x. position_of version.serial (versions x)) (sym found) ∙ position_at (i ∷ past) version.session version.serial table t in
           ap (is_near i) (sym place) ∙ sym (ap (λ b. if b then is_near i (position_of version.serial (versions i)) else true) (equal_true i.session version.session e)) ∙ room
+
+  table_published : (version : Option Committed) (table : VrpSet) → room_for i version ≡ true → TableAt (i ∷ past) version table → TableAt (next ∷ past) version table
+  table_published None table room t = t
+  table_published (Some version) table room t = (stands_published past i y version.session version.serial table t (room_after version table t room)).0
 
   -- room after what was seen
   room_seen : (home : Option Instance) (h : Seen) → IsSeen keep home (Some h) → room_since i home ≡ true → i.session ≡ h.session → nat_lt (length i.sets - (length h.sets - 1)) (2 ^ 31) ≡ true
@@ -209,20 +211,20 @@ settled_good : (w : World) → GoodWorld w → GoodWorld (settled w)
 unfolding settled
 settled_good w g = record { present = g.present; sides = all_map (Good w.keep w.past w.present) (Good w.keep w.past w.present) (settle (instances w)) w.sides (settle_good w g.present) g.sides }
 
-or_cases : (a b : Bool) → (a || b) ≡ true → a ≡ false → b ≡ true
+pub or_cases : (a b : Bool) → (a || b) ≡ true → a ≡ false → b ≡ true
 or_cases true b h e = absurd (let k : true ≡ false = e in cc)
 or_cases false b h e = h
 
 -- what is not refused
-published_so : (a : Bool) (w : World) (event : Event) (wanting : Option ℕ) → MayEnd (if a then None else Some TooManyVersions) w event (Done wanting) → a ≡ true
+pub published_so : (a : Bool) (w : World) (event : Event) (wanting : Option ℕ) → MayEnd (if a then None else Some TooManyVersions) w event (Done wanting) → a ≡ true
 published_so true w event wanting h = refl
 published_so false w event wanting h = absurd (let e : Done wanting ≡ TooManyVersions = h in cc)
 
-restarted_so : (a : Bool) (w : World) (event : Event) (wanting : Option ℕ) → MayEnd (if a then Some SessionUsed else None) w event (Done wanting) → a ≡ false
+pub restarted_so : (a : Bool) (w : World) (event : Event) (wanting : Option ℕ) → MayEnd (if a then Some SessionUsed else None) w event (Done wanting) → a ≡ false
 restarted_so true w event wanting h = absurd (let e : Done wanting ≡ SessionUsed = h in cc)
 restarted_so false w event wanting h = refl
 
-none_found : (o : Option Instance) → is_some o ≡ false → o ≡ None
+pub none_found : (o : Option Instance) → is_some o ≡ false → o ≡ None
 none_found None h = refl
 none_found (Some i) h = absurd (let e : true ≡ false = h in cc)
 

@@ -1,5 +1,5 @@
 -- What holds after every list of events.
-use Rattle.std.specs.Prelude.{◌≡◌, ℕ, Bool, true, false, List, [], ◌∷◌, drop, Option, Some, None, ⊤, zero, suc, map}
+use Rattle.std.specs.Prelude.{◌≡◌, ℕ, Bool, true, false, List, [], ◌∷◌, drop, length, if◌then◌else◌, Option, Some, None, ⊤, zero, suc, map}
 use Rattle.std.specs.List.{AllByRecursion}
 use Rattle.prefixes.specs.declared.route.Route.{Route}
 use Rattle.vrps.specs.Instance.{Instance, named}
@@ -12,7 +12,7 @@ use Rattle.rtr_ends.specs.declared.link.End.TheVariants as ends
 use Rattle.rtr_ends.specs.Router.{Router, Call, Ended, IsKept, played}
 use Rattle.rtr_ends.specs.Transcript.{Begun, Item, Question, AskSerial, Committed, Refused, Restarts, base_of, is_commit, kept, outstanding, under_way}
 use Rattle.rtr_ends.specs.Commit.{Commits}
-use Rattle.rtr_world.specs.Place.{NeverBack}
+use Rattle.rtr_world.specs.Place.{NeverBack, Place, place_of}
 use Rattle.rtr_world.specs.World.{Side, World, Event, Publish, Ending, SideEvent, instances, settle, side_step}
 use Rattle.rtr_world.specs.History.{Outcome, refusal, MayEnd, Made, IsMade, Entry, IsEvent, Leads}
 use Rattle.rtr_world.specs.OneAnswer.{Between}
@@ -74,6 +74,25 @@ RouteStates = Always (λ w s. (route : Route) → IsJudged (instances w) (kept s
 -- No way back: no version is committed that was published before one that was committed earlier.
 abbrev pub NoWayBack : Type 0
 NoWayBack = Always (λ w s. NeverBack s.places)
+
+-- How many commits a transcript has, those before a restart of the router included
+abbrev pub commits_in : List Item → ℕ
+commits_in [] = 0
+commits_in (item ∷ items) = if is_commit (item ∷ items) then suc (commits_in items) else commits_in items
+
+-- Where a version is held, the last place is its own among all that was published so far.
+abbrev pub IsLastPlace : List Instance → Option Committed → List (Option Place) → Type 0
+IsLastPlace all None places = ⊤
+IsLastPlace all (Some version) [] = ⊥
+IsLastPlace all (Some version) (last ∷ earlier) = last ≡ place_of all (Some version)
+
+-- Each commit has a place, and each place is a commit's.
+pub record HasPlaces (all : List Instance) (items : List Item) (places : List (Option Place)) : Type 0 where
+  pub count : length places ≡ commits_in items
+  pub last : IsLastPlace all (kept items).version places
+
+abbrev pub PlacesNoted : Type 0
+PlacesNoted = Always (λ w s. HasPlaces (instances w) s.items s.places)
 
 -- A link ends by want of memory, by its expiry, by a report of code 1, or by one of code 0 to a Serial Query of another session than
 -- the cache's, and by nothing else.

@@ -1,6 +1,6 @@
 //! Laws of the definitions. These functions do nothing: their contracts are the laws.
 ghost use Rattle.rtr_world.specs.CatchUp.{CatchesUp, IdleIsCurrent, RoundsAreSteps, RoundsEnd};
-ghost use Rattle.rtr_world.specs.Claims.{ActExactlyOnce, EachLeads, EndsNoted, Headline, LawfulEnds, NoWayBack, OneAnswerAlways, OneWorld, RefusesRightly, RouteStates, RoutersRun, Settles, Tables};
+ghost use Rattle.rtr_world.specs.Claims.{ActExactlyOnce, EachLeads, EndsNoted, Headline, LawfulEnds, NoWayBack, OneAnswerAlways, OneWorld, PlacesNoted, RefusesRightly, RouteStates, RoutersRun, Settles, Tables};
 
 /// A history of events with their outcomes leads to one world, and every list of events has outcomes with which it leads to one. The
 /// clean-up after each event leaves nothing to be done. A set that is current already is never refused, and where a refusal is due there is
@@ -42,9 +42,11 @@ pub fn lawful_ends()
 {}
 
 /// After every list of events, no version was committed at a router that was published before one that it had committed earlier: not in
-/// an earlier instance of the cache, and not earlier in the same one.
+/// an earlier instance of the cache, and not earlier in the same one. These are the places that were noted: there is one for each commit of
+/// the transcript, and where a version is held, the last is the place of that version.
 pub fn no_way_back()
-    ensures { NoWayBack }
+    ensures order { NoWayBack }
+    ensures noted { PlacesNoted }
 {}
 
 /// After every list of events what is on its way to a router on a live link is at most one answer, and what a cut took of it: the
