@@ -31,6 +31,7 @@ pub mod Histories
 pub mod Invariant
 pub mod Moving
 pub mod OneAnswers
+pub mod PlaceRows
 pub mod Places
 pub mod PlacesNoted
 pub mod Publishing

@@ -1,0 +1,126 @@
+-- Places of commits, worked out: a second one, one of a later instance, and what a refusal leaves.
+use Rattle.std.specs.Prelude.{◌≡◌, ℕ, ◌&&◌, ◌||◌, Bool, true, false, not, List, [], ◌∷◌, ◌++◌, Option, Some, None, refl}
+use Rattle.std.proofs.Common.{ap, ◌∙◌}
+use Rattle.vrps.specs.Instance.{Instance}
+use Rattle.vrps.specs.VrpSet.{VrpSet, empty, has, set_of, without}
+use Rattle.vrps.proofs.SetLaws.{has-set_of, has-union, has-without, same_set}
+use Rattle.rtr_pdu.specs.Judging.{judge}
+use Rattle.rtr_pdu.specs.Stream.{as_read}
+use Rattle.rtr_pdu.specs.declared.unit.Unit.TheVariants.{CacheResponse, EndOfData, Prefix, SerialNotify}
+use Rattle.rtr_ends.specs.Answer.{sent, sent_all}
+use Rattle.rtr_ends.specs.Cache.{Conn}
+use Rattle.rtr_ends.specs.Router.{Router, Asked, Idle, clocked, closed_at, new_router, on_unit, receives, router_byte}
+use Rattle.rtr_ends.specs.Timing.{default_intervals}
+use Rattle.rtr_ends.specs.Transcript.{Item, At, Opened, Asks, Reads, Refused, Restarts, Shut, AskReset, AskSerial, Committed, led_to}
+use Rattle.rtr_ends.proofs.Rows.{v, cache, end_bytes, response_bytes}
+use Rattle.rtr_world.specs.History.{Done, Memory, after}
+use Rattle.rtr_world.specs.Place.{Place}
+use Rattle.rtr_world.specs.World.{Side, World, On, RouterGets, cut, goes_through, is_refused, new_side, router_gets, settle, settled, side_refused, side_step}
+
+abbrev just_v : VrpSet
+just_v = set_of (v ∷ [])
+
+-- An answer without records leads to where it began.
+unchanged : (b : Bool) → ((b && true) || false) ≡ b
+unchanged true = refl
+unchanged false = refl
+
+same_led : (s : VrpSet) → led_to s [] [] ≡ s
+unfolding led_to
+same_led s = same_set _ _ (λ q.
+    has-union (without s (set_of [])) (set_of []) q ∙ (λ i. has-without s (set_of []) q i || has-set_of [] q i) ∙ (λ i. (has s q && not (has-set_of [] q i)) || false) ∙ unchanged (has s q))
+
+-- The cache published {v}, nothing and {v}. The router committed the first, has asked what changed since, and nothing did.
+abbrev thrice : Instance
+thrice = cache 5 (just_v ∷ empty ∷ just_v ∷ [])
+
+abbrev world_of : Side → World
+world_of s = record { keep = 2; past = []; present = thrice; sides = s ∷ [] }
+
+abbrev version : ℕ → Committed
+version serial = record { session = 0x1234; serial = serial; moment = 0; intervals = default_intervals }
+
+abbrev replied : Instance → Conn
+replied i = record { state = record { cache = i; agreed = true; ended = false; due = []; notified = false }; held = [] }
+
+abbrev place : ℕ → ℕ → Option Place
+place instance position = Some (record { instance = instance; position = position })
+
+abbrev asked_since : List Item
+asked_since = Asks (AskSerial 0x1234 5) ∷ Reads (EndOfData 0x1234 5 3600 600 7200) ∷ Reads (Prefix true v) ∷ Reads (CacheResponse 0x1234) ∷ At 0 ∷ Asks AskReset ∷ Opened ∷ At 0 ∷ []
+
+abbrev asked : Router
+asked = record new_router { table = just_v; version = Some (version 5); due = Some 3600; link = Asked (AskSerial 0x1234 5); agreed = true; session = Some 0x1234 }
+
+abbrev waiting_side : List ℕ → Side
+waiting_side down = record { router = asked; conn = Some (replied thrice); up = []; down = down; home = Some thrice; items = asked_since; endings = []; places = place 0 0 ∷ [] }
+
+abbrev no_change : List ℕ
+no_change = response_bytes ++ end_bytes 7
+
+abbrev twice : List Item
+twice = Reads (EndOfData 0x1234 7 3600 600 7200) ∷ Reads (CacheResponse 0x1234) ∷ At 0 ∷ asked_since
+
+abbrev committed_twice : VrpSet → Side
+committed_twice set = record (waiting_side []) { router = record asked { table = set; version = Some (version 7); link = Idle }; items = twice; places = place 0 2 ∷ place 0 0 ∷ [] }
+
+second_commit : after (On 0 (RouterGets 32)) (Done None) (world_of (waiting_side no_change)) ≡ world_of (committed_twice just_v)
+unfolding goes_through settled settle side_step router_gets receives clocked router_byte on_unit judge as_read
+second_commit = ap (λ s. world_of (committed_twice s)) (same_led just_v)
+
+-- The cache began anew and published nothing; the router restarted, and commits that. Its earlier places stay.
+abbrev anew : Instance
+anew = record { session = 0x2222; start = 9; sets = empty ∷ [] }
+
+abbrev later_world : Side → World
+later_world s = record { keep = 2; past = thrice ∷ []; present = anew; sides = s ∷ [] }
+
+abbrev asked_anew : List Item
+asked_anew = Asks AskReset ∷ Opened ∷ At 0 ∷ Restarts ∷ twice
+
+abbrev new_answer : List ℕ
+new_answer = sent_all (CacheResponse 0x2222 ∷ EndOfData 0x2222 9 3600 600 7200 ∷ [])
+
+abbrev new_waiting : List ℕ → Side
+new_waiting down = record {
+  router = record new_router { link = Asked AskReset };
+  conn = Some (replied anew);
+  up = [];
+  down = down;
+  home = Some anew;
+  items = asked_anew;
+  endings = [];
+  places = place 0 2 ∷ place 0 0 ∷ [];
+}
+
+abbrev committed_anew : VrpSet → Side
+committed_anew set = record (new_waiting []) {
+  router = record new_router { table = set; version = Some (record (version 9) { session = 0x2222 }); due = Some 3600; link = Idle; agreed = true; session = Some 0x2222 };
+  items = Reads (EndOfData 0x2222 9 3600 600 7200) ∷ Reads (CacheResponse 0x2222) ∷ At 0 ∷ asked_anew;
+  places = place 1 0 ∷ place 0 2 ∷ place 0 0 ∷ [];
+}
+
+third_commit : after (On 0 (RouterGets 99)) (Done None) (later_world (new_waiting new_answer)) ≡ later_world (committed_anew empty)
+unfolding goes_through settled settle side_step router_gets receives clocked router_byte on_unit judge as_read
+third_commit = ap (λ s. later_world (committed_anew s)) (same_led empty)
+
+-- Refused for want of memory one byte before the End of Data is whole: nothing is on the wire, the table is the old one, and no place
+-- is noted.
+abbrev and_notify : List ℕ
+and_notify = no_change ++ sent (SerialNotify 0x1234 7)
+
+abbrev told : VrpSet → ℕ → Router
+told set serial = record new_router { table = set; version = Some (version serial); due = Some 600 }
+
+refused_before : after (On 0 (RouterGets 44)) (Memory 31 None) (world_of (waiting_side and_notify))
+    ≡ world_of (record new_side { router = told just_v 5; items = Shut ∷ At 0 ∷ Refused ∷ Reads (CacheResponse 0x1234) ∷ At 0 ∷ asked_since; places = place 0 0 ∷ [] })
+unfolding is_refused settled settle side_refused cut router_gets receives clocked router_byte on_unit judge as_read closed_at
+refused_before = refl
+
+-- Refused behind it, with a notify still to come: nothing is on the wire, what was committed stays, and its place is noted.
+abbrev stays : VrpSet → World
+stays set = world_of (record new_side { router = told set 7; items = Shut ∷ At 0 ∷ Refused ∷ twice; places = place 0 2 ∷ place 0 0 ∷ [] })
+
+refused_behind : after (On 0 (RouterGets 44)) (Memory 32 None) (world_of (waiting_side and_notify)) ≡ stays just_v
+unfolding is_refused settled settle side_refused cut router_gets receives clocked router_byte on_unit judge as_read closed_at
+refused_behind = ap stays (same_led just_v)
