@@ -52,5 +52,6 @@ pub mod Streams
 pub mod TableLaws
 pub mod UnitCases
 pub mod Versions
+pub mod WantedEnds
 pub mod WorldRows
 pub mod WorldSteps

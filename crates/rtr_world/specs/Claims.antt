@@ -13,8 +13,8 @@ use Rattle.rtr_ends.specs.Router.{Router, Call, Ended, IsKept, played}
 use Rattle.rtr_ends.specs.Transcript.{Begun, Item, Question, AskSerial, Committed, Refused, Restarts, base_of, is_commit, kept, outstanding, under_way}
 use Rattle.rtr_ends.specs.Commit.{Commits}
 use Rattle.rtr_world.specs.Place.{NeverBack, Place, place_of}
-use Rattle.rtr_world.specs.World.{Side, World, Event, Publish, Ending, SideEvent, instances, settle, side_step}
-use Rattle.rtr_world.specs.History.{Outcome, refusal, MayEnd, Made, IsMade, Entry, IsEvent, Leads}
+use Rattle.rtr_world.specs.World.{Side, World, Event, On, Publish, Ending, RouterGets, SideEvent, instances, settle, side_step}
+use Rattle.rtr_world.specs.History.{Outcome, Done, Memory, refusal, MayEnd, Made, IsMade, Entry, IsEvent, Leads}
 use Rattle.rtr_world.specs.OneAnswer.{Between}
 
 -- a fact of each router of each world to which a history leads
@@ -121,6 +121,22 @@ NotesEnd w event wanting s =
 
 abbrev pub EndsNoted : Type 0
 EndsNoted = (made : Made) (history : List Entry) (w : World) → Leads made history w → AllByRecursion (λ s. (event : SideEvent) (wanting : Option ℕ) → NotesEnd w event wanting s) w.sides
+
+-- No outcome of bytes that arrive at a router names a unit.
+abbrev pub NamesNone : Event → Outcome → Type 0
+NamesNone (On r (RouterGets most)) (Done wanting) = wanting ≡ None
+NamesNone (On r (RouterGets most)) (Memory bytes wanting) = wanting ≡ None
+NamesNone event outcome = ⊤
+
+-- Then no link ended by want of memory at its router.
+abbrev pub NotByMemory : End → Type 0
+NotByMemory ends.Memory = ⊥
+NotByMemory end = ⊤
+
+abbrev pub NoneByMemory : Type 0
+NoneByMemory =
+    (made : Made) (history : List Entry) (w : World) → Leads made history w → AllByRecursion (λ (e : Entry). NamesNone e.event e.outcome) history →
+    AllByRecursion (λ (s : Side). AllByRecursion (λ (e : Ending). NotByMemory e.end) s.endings) w.sides
 
 -- A set that is current already is never refused; and where a refusal is due there is no other outcome, want of memory included.
 pub record Refuses (w : World) : Type 0 where

@@ -1,6 +1,7 @@
 use Rattle.rtr_world.proofs.EndLaws.{lawful_ends}
 use Rattle.rtr_world.proofs.EndsNoted.{ends_noted}
+use Rattle.rtr_world.proofs.WantedEnds.{none_by_memory}
 use Rattle.rtr_world.proofs.laws.lawful_ends.Goals as goal
 
 pub returns : goal.returns
-returns c = record { lawful = lawful_ends; noted = ends_noted }
+returns c = record { lawful = lawful_ends; noted = ends_noted; memory = none_by_memory }
