@@ -150,7 +150,7 @@ clocked_lawful now r items home on = by_clock (is_over r.version (later r.now no
     by_clock false = lawful_on r.link items home on
 
 -- a link that is closed has not ended
-closed_so : (r : Router) → is_ended (close r).link ≡ false
+pub closed_so : (r : Router) → is_ended (close r).link ≡ false
 closed_so r = by_bool (is_closed r.link) refl
   where
     not_ended : (l : Link) → is_closed l ≡ true → is_ended l ≡ false

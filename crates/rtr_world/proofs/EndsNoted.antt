@@ -1,4 +1,4 @@
--- Each end of a link is noted.
+-- Each end of a link is noted, where an event is refused too.
 use Rattle.std.specs.Prelude.{◌≡◌, ℕ, true, false, List, [], ◌∷◌, ◌++◌, drop, take, Option, Some, None}
 use Rattle.std.proofs.Common.{sym, ap, ◌∙◌}
 use Rattle.std.specs.List.{AllByRecursion}
@@ -7,8 +7,8 @@ use Rattle.rtr_ends.specs.declared.link.End.{End}
 use Rattle.rtr_ends.specs.Cache.{Conn}
 use Rattle.rtr_ends.specs.Router.{Link, Ended, Noted, connects_at, ticks_at, asks, receives, of_received, router_pulled}
 use Rattle.rtr_ends.specs.Transcript.{outstanding}
-use Rattle.rtr_world.specs.World.{Side, World, instances, SideEvent, RouterRestart, Connect, RouterSends, CacheGets, CacheSends, RouterGets, Cut, NotifyRouter, Ask, Tick, is_ended, ending_of, noted, connects, router_restarts, router_sends, sends_from, cache_sends, gets_at, cache_gets, router_gets, cut, notifies_at, side_step}
-use Rattle.rtr_world.specs.Claims.{EndsNoted, NotesEnd}
+use Rattle.rtr_world.specs.World.{Side, World, instances, SideEvent, RouterRestart, Connect, RouterSends, CacheGets, CacheSends, RouterGets, Cut, NotifyRouter, Ask, Tick, is_ended, ending_of, noted, connects, router_restarts, router_sends, sends_from, cache_sends, gets_at, cache_gets, router_gets, cut, notifies_at, side_refused, side_step}
+use Rattle.rtr_world.specs.Claims.{EndsNoted, NotesEnd, NotesEnds, NotesRefused}
 use Rattle.rtr_world.proofs.Rests.{Rests, history_rests}
 
 no_end : {A : Type 0} (l : Link) (end : End) → is_ended l ≡ false → l ≡ Ended end → A
@@ -43,9 +43,23 @@ notes w s on NotifyRouter wanting end e = by s.conn e
 notes w s on Ask wanting end e = of_noted (instances w) (asks s.router) s on end e
 notes w s on (Tick now) wanting end e = of_noted (instances w) (ticks_at now s.router) s on end e
 
+-- what moved before a refusal
+notes_part : (w : World) (s : Side) → is_ended s.router.link ≡ false → (event : SideEvent) (bytes : ℕ) (wanting : Option ℕ) → NotesRefused w event bytes wanting s
+unfolding side_refused cut side_step
+notes_part w s on (RouterSends most) bytes wanting end e = notes w s on (RouterSends bytes) wanting end e
+notes_part w s on (CacheGets most) bytes wanting end e = notes w s on (CacheGets bytes) wanting end e
+notes_part w s on (CacheSends most) bytes wanting end e = notes w s on (CacheSends bytes) wanting end e
+notes_part w s on (RouterGets most) bytes wanting end e = notes w s on (RouterGets bytes) wanting end e
+notes_part w s on RouterRestart bytes wanting end e = no_end s.router.link end on e
+notes_part w s on Connect bytes wanting end e = no_end s.router.link end on e
+notes_part w s on (Cut left) bytes wanting end e = no_end s.router.link end on e
+notes_part w s on NotifyRouter bytes wanting end e = no_end s.router.link end on e
+notes_part w s on Ask bytes wanting end e = no_end s.router.link end on e
+notes_part w s on (Tick now) bytes wanting end e = no_end s.router.link end on e
+
 pub ends_noted : EndsNoted
 ends_noted made history w leads = each w.sides (history_rests made history w leads)
   where
-    each : (sides : List Side) → AllByRecursion Rests sides → AllByRecursion (λ s. (event : SideEvent) (wanting : Option ℕ) → NotesEnd w event wanting s) sides
+    each : (sides : List Side) → AllByRecursion Rests sides → AllByRecursion (NotesEnds w) sides
     each [] h = tt
-    each (s ∷ sides) h = (notes w s h.0.link_on, each sides h.1)
+    each (s ∷ sides) h = (record { through = notes w s h.0.link_on; refused = notes_part w s h.0.link_on }, each sides h.1)

@@ -21,6 +21,7 @@ pub mod Connecting
 pub mod CutOff
 pub mod EndLaws
 pub mod Endings
+pub mod EndsKept
 pub mod EndsNoted
 pub mod EventRows
 pub mod EventRuns

@@ -1,5 +1,5 @@
 -- What holds after every list of events.
-use Rattle.std.specs.Prelude.{◌≡◌, ℕ, Bool, true, false, List, [], ◌∷◌, drop, length, if◌then◌else◌, Option, Some, None, ⊤, zero, suc, map}
+use Rattle.std.specs.Prelude.{◌≡◌, ◌⊎◌, ℕ, Bool, true, false, List, [], ◌∷◌, drop, length, if◌then◌else◌, Option, Some, None, ⊤, zero, suc, map}
 use Rattle.std.specs.List.{AllByRecursion}
 use Rattle.prefixes.specs.declared.route.Route.{Route}
 use Rattle.vrps.specs.Instance.{Instance, named}
@@ -13,8 +13,8 @@ use Rattle.rtr_ends.specs.Router.{Router, Call, Ended, IsKept, played}
 use Rattle.rtr_ends.specs.Transcript.{Begun, Item, Question, AskSerial, Committed, Refused, Restarts, base_of, is_commit, kept, outstanding, under_way}
 use Rattle.rtr_ends.specs.Commit.{Commits}
 use Rattle.rtr_world.specs.Place.{NeverBack, Place, place_of}
-use Rattle.rtr_world.specs.World.{Side, World, Event, On, Publish, Ending, RouterGets, SideEvent, instances, settle, side_step}
-use Rattle.rtr_world.specs.History.{Outcome, Done, Memory, refusal, MayEnd, Made, IsMade, Entry, IsEvent, Leads}
+use Rattle.rtr_world.specs.World.{Side, World, Event, On, Publish, Ending, RouterGets, SideEvent, instances, settle, side_refused, side_step}
+use Rattle.rtr_world.specs.History.{Outcome, Done, Memory, refusal, MayEnd, Made, IsMade, Entry, IsEvent, Leads, after}
 use Rattle.rtr_world.specs.OneAnswer.{Between}
 
 -- a fact of each router of each world to which a history leads
@@ -119,8 +119,30 @@ NotesEnd w event wanting s =
     (end : End) → (side_step w event wanting s).router.link ≡ Ended end →
     (side_step w event wanting s).endings ≡ record { end = end; question = outstanding (drop 1 (side_step w event wanting s).items); home = s.home } ∷ s.endings
 
+-- So is one that ends by what came before the event is refused for want of memory; the refusal is the last item then.
+abbrev pub NotesRefused : World → SideEvent → ℕ → Option ℕ → Side → Type 0
+NotesRefused w event bytes wanting s =
+    (end : End) → (side_refused w event bytes wanting s).router.link ≡ Ended end →
+    (side_refused w event bytes wanting s).endings ≡ record { end = end; question = outstanding (drop 2 (side_refused w event bytes wanting s).items); home = s.home } ∷ s.endings
+
+pub record NotesEnds (w : World) (s : Side) : Type 0 where
+  pub through : (event : SideEvent) (wanting : Option ℕ) → NotesEnd w event wanting s
+  pub refused : (event : SideEvent) (bytes : ℕ) (wanting : Option ℕ) → NotesRefused w event bytes wanting s
+
 abbrev pub EndsNoted : Type 0
-EndsNoted = (made : Made) (history : List Entry) (w : World) → Leads made history w → AllByRecursion (λ s. (event : SideEvent) (wanting : Option ℕ) → NotesEnd w event wanting s) w.sides
+EndsNoted = Always NotesEnds
+
+-- What was noted is never dropped: after an event and its clean-up, the ends of each router are those before it, with at most one in front.
+abbrev pub OneMore : List Ending → List Ending → Type 0
+OneMore old new = (new ≡ old) ⊎ ((end : Ending) × (new ≡ end ∷ old))
+
+abbrev pub NoneDropped : List Side → List Side → Type 0
+NoneDropped [] [] = ⊤
+NoneDropped (s ∷ sides) (n ∷ news) = OneMore s.endings n.endings × NoneDropped sides news
+NoneDropped sides news = ⊥
+
+abbrev pub EndsKept : Type 0
+EndsKept = (w : World) (event : Event) (outcome : Outcome) → NoneDropped w.sides (after event outcome w).sides
 
 -- No outcome of bytes that arrive at a router names a unit.
 abbrev pub NamesNone : Event → Outcome → Type 0

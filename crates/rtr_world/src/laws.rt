@@ -1,6 +1,6 @@
 //! Laws of the definitions. These functions do nothing: their contracts are the laws.
 ghost use Rattle.rtr_world.specs.CatchUp.{CatchesUp, IdleIsCurrent, RoundsAreSteps, RoundsEnd};
-ghost use Rattle.rtr_world.specs.Claims.{ActExactlyOnce, EachLeads, EndsNoted, Headline, LawfulEnds, NoWayBack, NoneByMemory, OneAnswerAlways, OneWorld, PlacesNoted, RefusesRightly, RouteStates, RoutersRun, Settles, Tables};
+ghost use Rattle.rtr_world.specs.Claims.{ActExactlyOnce, EachLeads, EndsKept, EndsNoted, Headline, LawfulEnds, NoWayBack, NoneByMemory, OneAnswerAlways, OneWorld, PlacesNoted, RefusesRightly, RouteStates, RoutersRun, Settles, Tables};
 
 /// A history of events with their outcomes leads to one world, and every list of events has outcomes with which it leads to one. The
 /// clean-up after each event leaves nothing to be done. A set that is current already is never refused, and where a refusal is due there is
@@ -35,11 +35,13 @@ pub fn headline()
 
 /// A link ends by want of memory at the router, by the expiry of its version, by an Error Report of code 1 (want of memory at the
 /// cache), or by one of code 0 to a Serial Query of another session than the cache's, and by nothing else. These are the ends that were
-/// noted, and each link that ends by an event is noted. Where no outcome of bytes that arrive at a router names a unit, no link ended by
-/// want of memory at its router.
+/// noted, and each link that ends by an event is noted, one that is refused after some bytes included; none that was noted is dropped, and
+/// an event adds one at most. Where no outcome of bytes that arrive at a router names a unit, no link ended by want of memory at its
+/// router.
 pub fn lawful_ends()
     ensures lawful { LawfulEnds }
     ensures noted { EndsNoted }
+    ensures kept { EndsKept }
     ensures memory { NoneByMemory }
 {}
 

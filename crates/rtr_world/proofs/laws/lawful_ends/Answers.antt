@@ -1,7 +1,8 @@
 use Rattle.rtr_world.proofs.EndLaws.{lawful_ends}
+use Rattle.rtr_world.proofs.EndsKept.{ends_kept}
 use Rattle.rtr_world.proofs.EndsNoted.{ends_noted}
 use Rattle.rtr_world.proofs.WantedEnds.{none_by_memory}
 use Rattle.rtr_world.proofs.laws.lawful_ends.Goals as goal
 
 pub returns : goal.returns
-returns c = record { lawful = lawful_ends; noted = ends_noted; memory = none_by_memory }
+returns c = record { lawful = lawful_ends; noted = ends_noted; kept = ends_kept; memory = none_by_memory }
