@@ -1,5 +1,5 @@
 -- What the cache reads and sends keeps the invariant.
-use Rattle.std.specs.Prelude.{◌≡◌, ℕ, Bool, true, false, not, ◌&&◌, List, [], ◌∷◌, ◌++◌, length, Option, Some, if◌then◌else◌, refl}
+use Rattle.std.specs.Prelude.{◌≡◌, ◌⊎◌, ℕ, Bool, true, false, not, ◌&&◌, List, [], ◌∷◌, ◌++◌, length, Option, Some, if◌then◌else◌, refl}
 use Rattle.std.proofs.Common.{sym, ap, ◌∙◌, subst, arith, inl, inr}
 use Rattle.std.specs.List.{AllByRecursion}
 use Rattle.std.proofs.lemmas.Bool.{and_parts, or_parts}
@@ -16,7 +16,8 @@ use Rattle.rtr_ends.specs.Feeding.{Fed, feed}
 use Rattle.rtr_ends.specs.Router.{Router, Link, Closed, Idle, Asked, Answering, Ended, is_reading}
 use Rattle.rtr_ends.specs.Transcript.{Question, query, base_of}
 use Rattle.rtr_ends.proofs.TableLaws.{false_true}
-use Rattle.rtr_world.specs.OneAnswer.{NotifiesOf, without_notifies}
+use Rattle.rtr_ends.proofs.FeedingLaws.{feed_keeps}
+use Rattle.rtr_world.specs.OneAnswer.{IsOfNow, NotifiesOf, without_notifies}
 use Rattle.rtr_world.specs.World.{timing}
 use Rattle.rtr_world.proofs.AnswerLaws.{plain_stays, plain_notifies, without-append, notifies-append}
 use Rattle.rtr_world.proofs.CacheSteps.{from_now, is_now, IsAnswered, answered_report, answer_answers, serial_low}
@@ -167,6 +168,46 @@ module _ (all : List Instance) (i : Instance) (p : Present all i) (keep : ℕ) (
       → GoodC (feed (λ (x : Taking). conn_stops x.conn) (conn_byte keep timing i) m piece).machine.conn ((feed (λ (x : Taking). conn_stops x.conn) (conn_byte keep timing i) m piece).rest ++ tail)
   fed_good tail m [] g = g
   fed_good tail m (b ∷ piece) g = fed_by tail m b piece (conn_stops m.conn) refl g (fed_good tail (conn_byte keep timing i m b) piece)
+
+  -- What is due then is what was, or the answer to the question as the cache is now.
+  abbrev pub DueNow : List ℕ → Conn → Type 0
+  DueNow old o = (o.state.due ≡ old) ⊎ IsOfNow i keep r.link o.state.due
+
+  byte_now : (old : List ℕ) (m : Taking) (b : ℕ) (bs : List ℕ) → conn_stops m.conn ≡ false → is_reading r.link ≡ true → GoodC m.conn (b ∷ bs) → DueNow old m.conn → DueNow old (conn_byte keep timing i m b).conn
+  unfolding conn_byte
+  byte_now old m b bs goes_on live g now = by_case (byte_case false m.conn.held b (bs ++ r.out) l.2.wanted op.upward)
+    where
+      l : Live all i home r (Some m.conn) (b ∷ bs) down
+      l = live_of r.link all i home r (Some m.conn) (b ∷ bs) down g.link live
+
+      op : Open i l.0 r.out (b ∷ bs) l.2.wanted l.2.lost m.conn
+      op = l.2.open_at
+
+      bytes : List ℕ
+      bytes = m.conn.held ++ b ∷ []
+
+      memory : Bool
+      memory = finds_memory m.wanting
+
+      by_case : ByteCase false m.conn.held b (bs ++ r.out) l.2.wanted → DueNow old (with_moment keep timing bytes m.conn (moment_of i memory bytes (judge 1 false bytes)))
+      by_case (partly e s) = subst (λ j. DueNow old (with_moment keep timing bytes m.conn (moment_of i memory bytes j))) (sym e) now
+      by_case (wholly u more is e fit s) =
+          subst (λ j. DueNow old (with_moment keep timing bytes m.conn (moment_of i memory bytes j))) (sym e) (inr (subst (λ x. IsOfNow i keep x (read (takes_memory i u && not memory)).due) (sym w.asks) (by_memory (takes_memory i u && not memory) refl)))
+        where
+          w : IsWhole l.0 r.link u more (without_notifies l.2.coming)
+          w = whole_question l.0 r.link u more (without_notifies l.2.coming) live (subst (λ x. Shape all l.0 r.link r.agreed r.version r.table x (without_notifies l.2.coming)) is l.2.shape)
+
+          read : Bool → Connection
+          read t = after keep timing m.conn.state (if t then Wanting i u bytes else Read i u bytes)
+
+          by_memory : (t : Bool) → (takes_memory i u && not memory) ≡ t → IsOfNow i keep (Asked w.q) (read t).due
+          by_memory true wants = inr (subst (λ x. takes_memory i x ≡ true) w.is (and_parts (takes_memory i u) (not memory) wants).0, refl)
+          by_memory false wants = inl (ap (λ x. sent_all (answer i keep timing x).units) w.is)
+
+  pub fed_now : (old tail : List ℕ) (m : Taking) (piece : List ℕ) → is_reading r.link ≡ true → GoodC m.conn (piece ++ tail) → DueNow old m.conn → DueNow old (feed (λ (x : Taking). conn_stops x.conn) (conn_byte keep timing i) m piece).machine.conn
+  fed_now old tail m piece live g now =
+      (feed_keeps (λ (x : Taking). conn_stops x.conn) (conn_byte keep timing i) (λ rest x. GoodC x.conn (rest ++ tail) × DueNow old x.conn)
+      (λ b rest x on k. (byte_good x b (rest ++ tail) on k.0, byte_now old x b (rest ++ tail) on live k.0 k.1)) m piece (g, now)).1
 
   -- a notify
   notice_fit : (sets : List VrpSet) → AllByRecursion IsUnit (notice i.session (versions_from i.start sets))

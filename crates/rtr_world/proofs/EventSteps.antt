@@ -1,14 +1,15 @@
 -- Every event keeps the invariant at each router.
-use Rattle.std.specs.Prelude.{◌≡◌, ℕ, Bool, true, false, List, [], ◌∷◌, ◌++◌, take, drop, Option, Some, None, if◌then◌else◌, refl}
+use Rattle.std.specs.Prelude.{◌≡◌, ◌⊎◌, ℕ, Bool, true, false, List, [], ◌∷◌, ◌++◌, take, drop, Option, Some, None, if◌then◌else◌, refl}
 use Rattle.std.proofs.Common.{sym, ap, ◌∙◌, subst, arith, append_assoc, inl}
 use Rattle.std.proofs.lemmas.List.{append-nil, take-append-drop, take_min}
 use Rattle.vrps.specs.Instance.{Instance}
 use Rattle.rtr_pdu.specs.declared.unit.Unit.{Unit}
 use Rattle.rtr_ends.specs.Answer.{sent}
 use Rattle.rtr_ends.specs.Cache.{Conn, conn_pulled, conn_takes, pulled_count}
-use Rattle.rtr_ends.specs.Router.{Router, Link, Closed, Idle, Asked, Answering, Ended, is_closed, close, clocked, is_due, is_idle, asks_if, connects_at, closed_at, ticks_at, asks, receives, router_pulled}
+use Rattle.rtr_ends.specs.Router.{Router, Link, Closed, Idle, Asked, Answering, Ended, is_closed, is_reading, close, clocked, is_due, is_idle, asks_if, connects_at, closed_at, ticks_at, asks, receives, router_pulled}
 use Rattle.rtr_ends.specs.Transcript.{choose, At, Item, Question, query}
 use Rattle.rtr_ends.proofs.KeptLaws.{clocked_tells}
+use Rattle.rtr_world.specs.OneAnswer.{IsOfNow}
 use Rattle.rtr_world.specs.Place.{Place}
 use Rattle.rtr_world.specs.History.{conn_due}
 use Rattle.rtr_world.specs.World.{Side, World, instances, timing, SideEvent, RouterRestart, Connect, RouterSends, CacheGets, CacheSends, RouterGets, Cut, NotifyRouter, Ask, Tick, noted, places_of, connects, router_restarts, router_sends, sends_from, cache_sends, gets_at, cache_gets, router_gets, cut, notifies_at, side_step, side_part, side_refused, tell_closed, close_ended, settle_conn, settle_link, settle_rest, settle_wire, settle}
@@ -123,6 +124,15 @@ module _ (w : World) (p : Present (instances w) w.present) where
   cache_gets_good : (most : ℕ) (wanting : Option ℕ) (s : Side) → GoodS s → GoodS (cache_gets w most wanting s)
   unfolding cache_gets
   cache_gets_good most wanting s g = gets_good most wanting s s.conn refl g
+
+  pub gets_now : (most : ℕ) (wanting : Option ℕ) (s : Side) (o : Option Conn) → s.conn ≡ o → is_reading s.router.link ≡ true → GoodS s
+      → (conn_due (gets_at w most wanting s o).conn ≡ conn_due o) ⊎ IsOfNow w.present w.keep s.router.link (conn_due (gets_at w most wanting s o).conn)
+  unfolding conn_takes
+  gets_now most wanting s None e live g = inl (ap conn_due e)
+  gets_now most wanting s (Some o) e live g =
+      let start : GoodRouter (instances w) w.present g.seen (Some o) (take most s.up ++ drop most s.up) s.down s.router =
+      subst (λ u. GoodRouter (instances w) w.present g.seen (Some o) u s.down s.router) (sym (take-append-drop most s.up)) (subst (λ x. GoodRouter (instances w) w.present g.seen x s.up s.down s.router) e g.router) in
+      cache.fed_now (instances w) w.present p w.keep g.seen (keeps_so s.home g.seen g.is_seen) s.router s.down o.state.due (drop most s.up) (record { conn = o; moments = []; wanting = wanting }) (take most s.up) live start (inl refl)
 
   router_gets_good : (most : ℕ) (wanting : Option ℕ) (s : Side) → GoodS s → SideTells s → GoodS (router_gets w most wanting s)
   unfolding router_gets receives

@@ -1,6 +1,7 @@
 pub mod ActingOnce
 pub mod AnswerLaws
 pub mod Answered
+pub mod AnsweredNow
 pub mod Bytes
 pub mod CacheMoves
 pub mod CacheSteps

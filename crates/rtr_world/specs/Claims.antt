@@ -9,13 +9,13 @@ use Rattle.vrps.specs.VrpSet.{VrpSet, empty}
 use Rattle.vrps.specs.declared.origin.OriginState.{OriginState}
 use Rattle.rtr_ends.specs.declared.link.End.{End}
 use Rattle.rtr_ends.specs.declared.link.End.TheVariants as ends
-use Rattle.rtr_ends.specs.Router.{Router, Call, Ended, IsKept, played}
+use Rattle.rtr_ends.specs.Router.{Router, Call, Ended, IsKept, is_reading, played}
 use Rattle.rtr_ends.specs.Transcript.{Begun, Item, Question, AskSerial, Committed, Refused, Restarts, base_of, is_commit, kept, outstanding, under_way}
 use Rattle.rtr_ends.specs.Commit.{Commits}
 use Rattle.rtr_world.specs.Place.{NeverBack, Place, place_of}
-use Rattle.rtr_world.specs.World.{Side, World, Event, On, Publish, Ending, RouterGets, SideEvent, instances, settle, side_refused, side_step}
-use Rattle.rtr_world.specs.History.{Outcome, Done, Memory, refusal, MayEnd, Made, IsMade, Entry, IsEvent, Leads, after}
-use Rattle.rtr_world.specs.OneAnswer.{Between}
+use Rattle.rtr_world.specs.World.{Side, World, Event, On, Publish, Ending, RouterGets, SideEvent, cache_gets, instances, settle, side_refused, side_step}
+use Rattle.rtr_world.specs.History.{Outcome, Done, Memory, refusal, MayEnd, Made, IsMade, Entry, IsEvent, Leads, after, conn_due}
+use Rattle.rtr_world.specs.OneAnswer.{Between, IsOfNow}
 
 -- a fact of each router of each world to which a history leads
 abbrev pub Always : (World → Side → Type 0) → Type 0
@@ -29,6 +29,13 @@ Tables = Always (λ w s. IsKept s.router s.items)
 -- One answer at most, nothing on the wire to a closed link, and no link that has ended
 abbrev pub OneAnswerAlways : Type 0
 OneAnswerAlways = Always (λ w s. Between w s s.router.link)
+
+-- When bytes arrive at the cache from a router on a live link, nothing more is due than was; or its question was read, and what is due is
+-- the answer of the cache as it is then.
+abbrev pub AnswersNow : Type 0
+AnswersNow = Always (λ w s.
+    is_reading s.router.link ≡ true → (most : ℕ) (wanting : Option ℕ) →
+    (conn_due (cache_gets w most wanting s).conn ≡ conn_due s.conn) ⊎ IsOfNow w.present w.keep s.router.link (conn_due (cache_gets w most wanting s).conn))
 
 -- The clean-up after an event leaves nothing to be done: once more, it changes nothing.
 abbrev pub Settles : Type 0

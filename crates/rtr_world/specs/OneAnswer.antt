@@ -130,3 +130,11 @@ abbrev pub Between : World → Side → Link → Type 0
 Between w s Closed = (s.router.held ≡ []) × (s.router.out ≡ []) × (s.down ≡ [])
 Between w s (Ended end) = ⊥
 Between w s link = OneAnswer w s
+
+-- What is due where a question was read just now: the answer of the cache as it is now, or Error Report 1 in the place of one that may
+-- take memory.
+abbrev pub IsOfNow : Instance → ℕ → Link → List ℕ → Type 0
+IsOfNow cache keep (Asked question) due =
+    (due ≡ sent_all (answer cache keep timing (query question)).units)
+    ⊎ ((takes_memory cache (query question) ≡ true) × (due ≡ sent_all (report 1 [] ∷ [])))
+IsOfNow cache keep link due = ⊥

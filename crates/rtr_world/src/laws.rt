@@ -1,6 +1,6 @@
 //! Laws of the definitions. These functions do nothing: their contracts are the laws.
 ghost use Rattle.rtr_world.specs.CatchUp.{CatchesUp, IdleIsCurrent, RoundsAreSteps, RoundsEnd};
-ghost use Rattle.rtr_world.specs.Claims.{ActExactlyOnce, EachLeads, EndsKept, EndsNoted, Headline, LawfulEnds, NoWayBack, NoneByMemory, OneAnswerAlways, OneWorld, PlacesNoted, RefusesRightly, RouteStates, RoutersRun, Settles, Tables};
+ghost use Rattle.rtr_world.specs.Claims.{ActExactlyOnce, AnswersNow, EachLeads, EndsKept, EndsNoted, Headline, LawfulEnds, NoWayBack, NoneByMemory, OneAnswerAlways, OneWorld, PlacesNoted, RefusesRightly, RouteStates, RoutersRun, Settles, Tables};
 
 /// A history of events with their outcomes leads to one world, and every list of events has outcomes with which it leads to one. The
 /// clean-up after each event leaves nothing to be done. A set that is current already is never refused, and where a refusal is due there is
@@ -56,9 +56,11 @@ pub fn no_way_back()
 /// After every list of events what is on its way to a router on a live link is at most one answer, and what a cut took of it: the
 /// answer of its cache to its question, as the cache was at some time after the connection was made. Its records lead from what the
 /// router holds to the set that was published under its End of Data. Notifies may stand between its units. Between events no link has
-/// ended, and a closed one holds nothing, has nothing to be pulled, and nothing is on the wire to it.
+/// ended, and a closed one holds nothing, has nothing to be pulled, and nothing is on the wire to it. When a question is read at the cache,
+/// what is due then is the answer of the cache as it is at that event, of the version that is current there.
 pub fn one_answer()
-    ensures { OneAnswerAlways }
+    ensures one { OneAnswerAlways }
+    ensures now { AnswersNow }
 {}
 
 /// A router connects, and then nothing happens but moves of its own: bytes are sent and handed in, a connection is cut or made anew, and

@@ -1,5 +1,6 @@
+use Rattle.rtr_world.proofs.AnsweredNow.{answers_now}
 use Rattle.rtr_world.proofs.OneAnswers.{one_answer}
 use Rattle.rtr_world.proofs.laws.one_answer.Goals as goal
 
 pub returns : goal.returns
-returns c = one_answer
+returns c = record { one = one_answer; now = answers_now }
