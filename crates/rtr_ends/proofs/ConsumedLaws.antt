@@ -115,7 +115,7 @@ staged_held u Over r = refl
 
 told_held : (q : Question) (code : ℕ) (r : Router) → (told_off q code r).held ≡ r.held
 told_held q code r =
-    if_held (code == 2) r (record r { link = Idle; due = Some (sum_of r.now (retry_of r.version)) }) (if code == 0 && is_serial (Some q) then told code (emptied r) else told code r) refl
+    if_held (code == 2) r (record r { link = Idle; due = Some (sum_of r.now (retry_of r.version)); no_data = true }) (if code == 0 && is_serial (Some q) then told code (emptied r) else told code r) refl
     (if_held (code == 0 && is_serial (Some q)) r (told code (emptied r)) (told code r) refl refl)
 
 unit_held : (l : Link) (u : Unit) (r : Router) → (on_unit l u r).held ≡ r.held

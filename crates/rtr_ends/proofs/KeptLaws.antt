@@ -143,7 +143,7 @@ told_unit r q e items agreed c h asked session = by_two (e.code == 2) refl
     by_zero false is two = ended_after (told e.code r) (ErrorReport e) items (ends.Told e.code) refl c (record { kept_is = kept_by false is; due_is = due_by false two ∙ h.due_is; now_is = h.now_is })
 
     idle_again : Router
-    idle_again = record r { link = Idle; due = Some (sum_of r.now (retry_of r.version)) }
+    idle_again = record r { link = Idle; due = Some (sum_of r.now (retry_of r.version)); no_data = true }
 
     by_test : Bool → Router
     by_test b = if b then idle_again else if e.code == 0 && is_serial (Some q) then told e.code (emptied r) else told e.code r

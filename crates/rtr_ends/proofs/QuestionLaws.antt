@@ -96,8 +96,8 @@ told_asks : (q : Question) (e : Report) (r : Router) (items : List Item) → r.o
 told_asks q e r items none m =
     let u : Unit = ErrorReport e in
     let later : List Item = Reads (ErrorReport e) ∷ items in
-    if_asks u (e.code == 2) (record r { link = Idle; due = Some (sum_of r.now (retry_of r.version)) }) (if e.code == 0 && is_serial (Some q) then told e.code (emptied r) else told e.code r) later
-    (quiet u (record r { link = Idle; due = Some (sum_of r.now (retry_of r.version)) }) later none m)
+    if_asks u (e.code == 2) (record r { link = Idle; due = Some (sum_of r.now (retry_of r.version)); no_data = true }) (if e.code == 0 && is_serial (Some q) then told e.code (emptied r) else told e.code r) later
+    (quiet u (record r { link = Idle; due = Some (sum_of r.now (retry_of r.version)); no_data = true }) later none m)
     (if_asks u (e.code == 0 && is_serial (Some q)) (told e.code (emptied r)) (told e.code r) later
     (ends_quiet u (told e.code (emptied r)) (ends.Told e.code) later refl (inl refl)) (ends_quiet u (told e.code r) (ends.Told e.code) later refl m))
 

@@ -155,11 +155,11 @@ slow = record (committed_at 100) { intervals = intervals 7200 900 86400 }
 
 -- Code 2 drops what was staged; the router asks again after retry, 600 where nothing is committed.
 no_data_answering : (called (Receives 1000 None (sent (report 2 serial_bytes))) (record changes { version = Some slow; link = Answering (record since_v { withdrawn = v ∷ [] }) })).router
-    ≡ record changes { version = Some slow; now = 1000; link = Idle; due = Some 1900 }
+    ≡ record changes { version = Some slow; now = 1000; link = Idle; due = Some 1900; no_data = true }
 unfolding receives router_byte clocked on_unit judge as_read is_utf8 chars
 no_data_answering = refl
 
-no_data_at_all : (called (Receives 1000 None (sent (report 2 reset_bytes))) asked_all).router ≡ record asked_all { agreed = true; now = 1000; link = Idle; due = Some 1600 }
+no_data_at_all : (called (Receives 1000 None (sent (report 2 reset_bytes))) asked_all).router ≡ record asked_all { agreed = true; now = 1000; link = Idle; due = Some 1600; no_data = true }
 unfolding receives router_byte clocked on_unit judge as_read is_utf8 chars
 no_data_at_all = refl
 
@@ -168,7 +168,7 @@ abbrev Tells : Link → Report → Router → Router → Type 0
 Tells link e r after = on_unit link (ErrorReport e) r ≡ record after { link = Ended (ends.Told e.code) }
 
 ends_told : (q : Question) (code : ℕ) (r : Router) → (code == 2) ≡ false → (code == 0 && is_serial (Some q)) ≡ false → told_off q code r ≡ told code r
-ends_told q code r h g = λ i. if h i then record r { link = Idle; due = Some (sum_of r.now (retry_of r.version)) } else if g i then told code (emptied r) else told code r
+ends_told q code r h g = λ i. if h i then record r { link = Idle; due = Some (sum_of r.now (retry_of r.version)); no_data = true } else if g i then told code (emptied r) else told code r
 
 told_idle : (e : Report) (r : Router) → (e.code == 2) ≡ false → Tells Idle e r r
 unfolding on_unit

@@ -185,7 +185,7 @@ wrong_session : (called (Receives 100 None (sent (CacheResponse 0x2222))) asks_s
 unfolding receives router_byte clocked on_unit judge as_read
 wrong_session = refl
 
-no_data : (called (Receives 100 None (sent (report 2 serial_bytes))) asks_since).router ≡ record asks_since { due = Some 700; link = Idle }
+no_data : (called (Receives 100 None (sent (report 2 serial_bytes))) asks_since).router ≡ record asks_since { due = Some 700; link = Idle; no_data = true }
 unfolding receives router_byte clocked on_unit judge as_read is_utf8 chars
 no_data = refl
 

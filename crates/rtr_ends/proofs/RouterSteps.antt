@@ -49,7 +49,7 @@ ends_keeps r end table version mark out = record { held = refl; agreed = λ h. h
 
 told_keeps : (q : Question) (code : ℕ) (r s : Router) → Keeps r s → Keeps r (told_off q code s)
 told_keeps q code r s k =
-    keeps_if (code == 2) r (record s { link = Idle; due = Some (sum_of s.now (retry_of s.version)) }) (if code == 0 && is_serial (Some q) then told code (emptied s) else told code s)
+    keeps_if (code == 2) r (record s { link = Idle; due = Some (sum_of s.now (retry_of s.version)); no_data = true }) (if code == 0 && is_serial (Some q) then told code (emptied s) else told code s)
     (record { held = k.held; agreed = k.agreed; connected = refl })
     (keeps_if (code == 0 && is_serial (Some q)) r (told code (emptied s)) (told code s) (record { held = k.held; agreed = k.agreed; connected = refl }) (record { held = k.held; agreed = k.agreed; connected = refl }))
 

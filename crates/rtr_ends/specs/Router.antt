@@ -25,13 +25,15 @@ pub data Link : Type 0 where
   Ended : (end : End) → Link
 
 -- What a router holds: the committed table and version; the mark that the next query must be a Reset Query; when an idle link
--- asks; the greatest moment so far; and of its connection the link, whether a version is agreed on, the session of the latest
--- Cache Response, what has come of a unit, and the bytes to be pulled
+-- asks; whether code 2, No Data Available, and no commit brought a link to idle last; the greatest moment so far; and of its
+-- connection the link, whether a version is agreed on, the session of the latest Cache Response, what has come of a unit, and the
+-- bytes to be pulled
 pub record Router : Type 0 where
   pub table : VrpSet
   pub version : Option Committed
   pub mark : Bool
   pub due : Option ℕ
+  pub no_data : Bool
   pub now : ℕ
   pub link : Link
   pub agreed : Bool
@@ -40,7 +42,7 @@ pub record Router : Type 0 where
   pub out : List ℕ
 
 abbrev pub new_router : Router
-new_router = record { table = empty; version = None; mark = false; due = None; now = 0; link = Closed; agreed = false; session = None; held = []; out = [] }
+new_router = record { table = empty; version = None; mark = false; due = None; no_data = false; now = 0; link = Closed; agreed = false; session = None; held = []; out = [] }
 
 abbrev pub asking : Question → Router → Router
 asking question r = record r { link = Asked question; out = sent (query question) }
@@ -99,6 +101,7 @@ commit a version r = record r {
   version = Some version;
   mark = false;
   due = Some (sum_of version.moment version.intervals.refresh);
+  no_data = false;
   link = Idle;
 }
 
@@ -106,7 +109,7 @@ commit a version r = record r {
 -- a Serial Query empties; all but 2 end the link.
 abbrev pub told_off : Question → ℕ → Router → Router
 told_off question code r =
-    if code == 2 then record r { link = Idle; due = Some (sum_of r.now (retry_of r.version)) }
+    if code == 2 then record r { link = Idle; due = Some (sum_of r.now (retry_of r.version)); no_data = true }
     else if code == 0 && is_serial (Some question) then told code (emptied r)
     else told code r
 

@@ -50,6 +50,7 @@ seen m withdrawn announced held = record {
   version = seen_versions m.version;
   mark = m.mark;
   due = m.due;
+  no_data = m.no_data;
   now = m.clock;
   link = seen_link m.state withdrawn announced;
   agreed = m.agreed;

@@ -37,6 +37,8 @@ pub struct Machine {
     /// Whether the next query must be a Reset Query.
     pub mark: bool,
     pub due: Option<u64>,
+    /// Whether code 2, No Data Available, made the link idle last, and no commit.
+    pub no_data: bool,
     /// The greatest moment so far.
     pub clock: u64,
     pub state: State,
@@ -62,6 +64,7 @@ impl Machine {
             version: None,
             mark: false,
             due: None,
+            no_data: false,
             clock: 0,
             state: State::Closed,
             agreed: false,

@@ -231,6 +231,7 @@ impl Machine {
                 });
                 self.mark = false;
                 self.due = Some(self.clock.saturating_add(u64::from(refresh)));
+                self.no_data = false;
                 self.state = State::Idle;
                 Ok(())
             }
@@ -246,6 +247,7 @@ impl Machine {
         self.staging = Staging::over(self.alloc, 0);
         if code == 2 {
             self.due = Some(self.retry_moment());
+            self.no_data = true;
             self.state = State::Idle;
             return;
         }
