@@ -43,7 +43,7 @@ eq_self : (a : ℕ) → (a == a) ≡ true
 eq_self a = grind (arith, nat_tests)
 
 -- what stands under a number that is set
-with_conn_at : (c : ℕ) (o : Option Conn) (m : CacheState) → (with_conn c o m).at c ≡ o
+pub with_conn_at : (c : ℕ) (o : Option Conn) (m : CacheState) → (with_conn c o m).at c ≡ o
 with_conn_at c o m = ap (λ b. if b then o else m.at c) (eq_self c)
 
 -- what is found

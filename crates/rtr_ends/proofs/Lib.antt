@@ -22,6 +22,7 @@ pub mod RouterSteps
 pub mod Rows
 pub mod SeenLaws
 pub mod SenderLaws
+pub mod ServeStreamLaws
 pub mod ServingLaws
 pub mod StagingLaws
 pub mod TableLaws

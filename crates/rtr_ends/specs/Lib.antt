@@ -10,7 +10,9 @@ pub mod Peer
 pub mod Router
 pub mod Seen
 pub mod Sender
+pub mod ServeStream
 pub mod Shown
 pub mod Staging
+pub mod Streams
 pub mod Timing
 pub mod Transcript

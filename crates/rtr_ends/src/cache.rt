@@ -6,6 +6,7 @@ ghost use Rattle.vrps.specs.Store.{is_current};
 ghost use Rattle.vrps.specs.Stores.{Publishes, newest};
 ghost use Rattle.rtr_ends.specs.CacheState.{CacheState, GivesBytes, HandsOut, OffersAt, Opens, ShowsCache, TakesPiece, has_bytes_at, is_open_at, notified, notifies_at, peer_at, with_conn, without_conns};
 ghost use Rattle.rtr_ends.specs.Sender.{version_of};
+ghost use Rattle.rtr_ends.specs.ServeStream.{is_within};
 
 use crate::peer::Peer;
 use crate::sender::Share;
@@ -46,7 +47,8 @@ impl<S: VersionStore> Cache<S> {
     /// has ended; else up to the end of the first unit, or to where a fault shows, or all. Memory is taken at a Serial Query alone,
     /// for the change; where it is wanting, Error Report 1 is due, and the connection ends (RFC 8210 section 12).
     pub fn receive(&mut self, conn: Conn, piece: &[u8]) -> usize
-        ensures { (m : CacheState) → ShowsCache S.holds m self.old → TakesPiece S.holds m conn.0 piece.now result self.new }
+        ensures takes { (m : CacheState) → ShowsCache S.holds m self.old → TakesPiece S.holds m conn.0 piece.now result self.new }
+        ensures within { result ≤ length piece.now }
     {
         if conn.0 >= self.peers.len() {
             return 0;
@@ -60,7 +62,8 @@ impl<S: VersionStore> Cache<S> {
     /// Fills `out` with bytes that are due to a router, as far as there are any, and answers how many. They are of the version that was
     /// current when its query was read. It takes no memory.
     pub fn pull(&mut self, conn: Conn, out: &mut [u8]) -> usize
-        ensures { (m : CacheState) → ShowsCache S.holds m self.old → GivesBytes S.holds m conn.0 out.old result out.new self.new }
+        ensures gives { (m : CacheState) → ShowsCache S.holds m self.old → GivesBytes S.holds m conn.0 out.old result out.new self.new }
+        ensures within { result ≤ length out.old }
     {
         if conn.0 >= self.peers.len() {
             return 0;
@@ -112,6 +115,16 @@ impl<S: VersionStore> Cache<S> {
         match self.peer(conn) {
             None => false,
             Some(peer) => peer.has_bytes(),
+        }
+    }
+
+    /// Whether bytes of a unit came that has not come whole.
+    pub(crate) fn is_within_unit(&self, conn: Conn) -> bool
+        ensures { (m : CacheState) → ShowsCache S.holds m self.now → result ≡ is_within (m.at conn.0) }
+    {
+        match self.peer(conn) {
+            None => false,
+            Some(peer) => peer.is_within_unit(),
         }
     }
 

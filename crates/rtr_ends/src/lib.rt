@@ -13,11 +13,15 @@ mod question;
 mod reports;
 mod router;
 mod sender;
+mod serving;
 mod staging;
+mod streams;
 mod table;
 mod timing;
 
 pub use cache::{Cache, Conn};
 pub use link::{AskFault, End, Link};
 pub use router::Router;
+pub use serving::{Served, serve_stream};
+pub use streams::StreamFault;
 pub use timing::{Timing, TimingFault};

@@ -1,5 +1,5 @@
 //! A router on its connection, as the cache sees it.
-ghost use Rattle.std.specs.Prelude.{◌≡◌, ℕ, Bool, true, false, not, ◌||◌, List, [], ◌∷◌, Some, option_map};
+ghost use Rattle.std.specs.Prelude.{◌≡◌, ◌≤◌, ℕ, length, Bool, true, false, not, ◌||◌, List, [], ◌∷◌, Some, option_map};
 ghost use Rattle.vrps.specs.Instance.{Instance, versions};
 ghost use Rattle.vrps.specs.Stores.{newest};
 ghost use Rattle.rtr_ends.specs.Cache.{Conn, can_notify, conn_notified, is_none, new_conn};
@@ -41,6 +41,13 @@ impl Peer {
         ensures { result ≡ (self.now.ended || not (is_none (due_of self.now.sender))) }
     {
         self.ended || self.sender.is_due()
+    }
+
+    /// Whether it has bytes of a unit that has not come whole.
+    pub fn is_within_unit(&self) -> bool
+        ensures { result ≡ not (is_none self.now.reader.held) }
+    {
+        !self.reader.held().is_empty()
     }
 
     /// Sends a report, and ends.
@@ -124,8 +131,9 @@ impl Peer {
     /// Takes bytes from the front of the piece: to the end of the first unit, or to a fault, or else all; none where bytes are
     /// due, or the connection has ended. It answers how many.
     pub fn receive<S: VersionStore>(&mut self, store: &S, piece: &[u8]) -> usize
-        ensures { (keep : ℕ) (t : Intervals) (i : Instance) (o : Conn) → S.holds keep i store.now → ShowsPeer t i o self.old →
+        ensures receives { (keep : ℕ) (t : Intervals) (i : Instance) (o : Conn) → S.holds keep i store.now → ShowsPeer t i o self.old →
             Receives keep t i o piece.now result self.new }
+        ensures within { result ≤ length piece.now }
     {
         if self.stops() {
             return 0;
@@ -146,7 +154,8 @@ impl Peer {
 
     /// Fills `out` with bytes that are due, as far as there are any.
     pub fn pull(&mut self, out: &mut [u8]) -> usize
-        ensures { (keep : ℕ) (t : Intervals) (i : Instance) (o : Conn) → ShowsPeer t i o self.old → Pulls keep t i o out.old result out.new self.new }
+        ensures pulls { (keep : ℕ) (t : Intervals) (i : Instance) (o : Conn) → ShowsPeer t i o self.old → Pulls keep t i o out.old result out.new self.new }
+        ensures within { result ≤ length out.old }
     {
         self.sender.pull(out)
     }

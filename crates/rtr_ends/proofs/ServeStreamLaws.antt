@@ -1,0 +1,380 @@
+-- One connection of a cache over a reader and a writer, from call to call.
+use Rattle.std.specs.Prelude.{◌≡◌, ◌⊎◌, ℕ, ◌+◌, ◌-◌, ◌*◌, ◌^◌, ◌<◌, ◌≤◌, ◌==◌, Bool, true, false, not, ◌||◌, min, List, [], ◌∷◌, ◌++◌, length, take, drop, Option, Some, None, Result, Ok, Err, option_map, if◌then◌else◌, ⊤, refl}
+use Rattle.std.proofs.Common.{zero, suc, sym, ap, ◌∙◌, subst, arith, append_assoc, inl, inr}
+use Rattle.std.proofs.Math.Seq.{take-add, take-append-add}
+use Rattle.std.proofs.lemmas.Bool.{cases_eq, cases_lt}
+use Rattle.std.proofs.lemmas.List.{append-nil, length-append, take-append-drop, take-append-le, length-take-le, take_all}
+use Rattle.std.specs.List.{AllByRecursion}
+use Rattle.std.specs.Io.KnownBytes.{Appends, Consumes, IsAtEnd, Keeps}
+use Rattle.std.proofs.KnownBytes.{Appends-nil, Appends-trans, Consumes-kept, Consumes-nil, Consumes-trans}
+use Rattle.vrps.specs.Instance.{Instance, IsInstance}
+use Rattle.rtr_pdu.specs.declared.counted.Counted.{Counted}
+use Rattle.rtr_pdu.specs.Counted.{IsSpent, calls_of}
+use Rattle.rtr_pdu.specs.Device.{GoesOutInPart}
+use Rattle.rtr_pdu.specs.Payloads.{AreBytes}
+use Rattle.rtr_pdu.specs.declared.device.WriteFailed.{WriteFailed as Failed}
+use Rattle.rtr_ends.specs.Cache.{CacheCall, Conn, Gives as Pulled, IsCacheCall, IsServed, Notifies, Publishes, Takes, Taking, conn_byte, conn_pulled, conn_stops, conn_takes, is_none, new_conn, serve, serving}
+use Rattle.rtr_ends.specs.CacheState.{CacheState, GivesBytes, IsLeastFree, ShowsCache, ShowsSlot, TakesPiece, consumed, due_at, is_open_at, peer_at, with_conn}
+use Rattle.rtr_ends.specs.Connection.{Moment}
+use Rattle.rtr_ends.specs.Feeding.{Fed, feed}
+use Rattle.rtr_ends.specs.Sender.{Gives}
+use Rattle.rtr_ends.specs.ServeStream.{AllOut, Answered, AnswersSo, EndedAs, EndsSo, IsTurn, Partly, ReadsSo, Serves, StandsAt, Waits, ended_within, is_within, stood}
+use Rattle.rtr_ends.specs.Timing.{Intervals}
+use Rattle.rtr_ends.specs.declared.cache.Cache.{Cache}
+use Rattle.rtr_ends.specs.declared.serving.Served.{Served}
+use Rattle.rtr_ends.specs.declared.serving.Served.TheVariants.{PeerClosed, Truncated, CacheEnded, Limit}
+use Rattle.rtr_ends.specs.declared.streams.StreamFault.{StreamFault}
+use Rattle.rtr_ends.specs.declared.streams.StreamFault.TheVariants.{ReadFailed, WriteFailed, Memory}
+use Rattle.rtr_ends.proofs.CacheStateLaws.{eq_of, with_conn_at}
+use Rattle.rtr_ends.proofs.FeedingLaws.{feed_takes, goes_on, stopped}
+use Rattle.rtr_ends.proofs.ServingLaws.{serves_history}
+use Rattle.rtr_ends.proofs.TableLaws.{false_true}
+
+-- A call is counted, or it is not made.
+pub not_less : {D A : Type 0} (old new : Counted D) → (¬ (IsSpent old) → calls_of new ≡ calls_of old + 1) → (IsSpent old → A × (new ≡ old)) → calls_of old ≤ calls_of new
+not_less old new counted spent = elim (cases_eq (calls_of old) (2 ^ 64 - 1)) [
+  | inl is ↦ (let e = ap calls_of (spent is).1 in omega (arith, e))
+  | inr not_so ↦ (let e = counted not_so in omega (arith, e))
+]
+
+-- Where the input ends, something was read.
+pub ends_in : (limit before now : ℕ) (served : Served) → (served ≡ Truncated) ⊎ (served ≡ PeerClosed) → before < now → now ≤ before + limit → ReadsSo limit before now (Ok served)
+ends_in limit before now served ends least most = elim ends [
+  | inl is ↦ subst (λ x. ReadsSo limit before now (Ok x)) (sym is) (least, most)
+  | inr is ↦ subst (λ x. ReadsSo limit before now (Ok x)) (sym is) (least, most)
+]
+
+-- What is pulled into a buffer stands at its front.
+pub pulled_is : (due out : List ℕ) (count : ℕ) (now rest : List ℕ) → Gives due out count now rest → take count now ≡ take (length out) due
+pulled_is due out count now rest g = elim (cases_lt (length out) (length due)) [
+  | inl more ↦ (let n : count ≡ length out = omega (arith, g.count_is, more) in here (omega (arith, n, more)) ∙ ap (λ k. take k due) n)
+  | inr all ↦ (let n : count ≡ length due = omega (arith, g.count_is, all) in here (omega (arith, n)) ∙ take_all count due (omega (arith, n)) ∙ sym (take_all (length out) due all))
+]
+  where
+    here : count ≤ length due → take count now ≡ take count due
+    here fits =
+        let l = length-take-le count due fits in
+        ap (take count) g.now_is ∙ take-append-le count (take count due) (drop count out) (omega (arith, l)) ∙ take_all count (take count due) (omega (arith, l))
+
+-- Nothing is due where nothing is pulled into room.
+none_due : (due out : List ℕ) (now rest : List ℕ) → Gives due out 0 now rest → 0 < length out → due ≡ []
+none_due [] out now rest g room = refl
+none_due (b ∷ due) out now rest g room = absurd (let c = g.count_is in omega (arith, c, room))
+
+drop_none : (n : ℕ) → drop {A = ℕ} n [] ≡ []
+drop_none zero = refl
+drop_none (suc n) = refl
+
+-- What was consumed of a piece is no more than the piece.
+rest_most : {M : Type 0} (stops : M → Bool) (step : M → ℕ → M) (m : M) (piece : List ℕ) → length (feed stops step m piece).rest ≤ length piece
+rest_most stops step m piece = let t = feed_takes stops step m piece in omega (arith, ap length t.1.piece_is, length-append t.0 (feed stops step m piece).rest)
+
+-- A connection of which nothing is due, and that takes nothing, is as it was; and has ended where there was a piece.
+abbrev by_stop : (keep : ℕ) (t : Intervals) (i : Instance) (m : Taking) (b : ℕ) (piece : List ℕ) → Fed Taking
+by_stop keep t i m b piece = feed (λ m. conn_stops m.conn) (conn_byte keep t i) m (b ∷ piece)
+
+pub none_taken : (keep : ℕ) (t : Intervals) (i : Instance) (wanting : Option ℕ) (piece : List ℕ) (o : Conn) → o.state.due ≡ [] → 0 ≡ length piece - length (conn_takes keep t i wanting piece o).rest
+    → ((conn_takes keep t i wanting piece o).machine.conn ≡ o) × (0 < length piece → o.state.ended ≡ true)
+unfolding conn_takes
+none_taken keep t i wanting [] o due none = (refl, λ some. absurd (omega (arith, some)))
+none_taken keep t i wanting (b ∷ piece) o due none = by_test (conn_stops o) refl
+  where
+    start : Taking
+    start = record { conn = o; moments = []; wanting = wanting }
+
+    ended_is : o.state.ended ≡ conn_stops o
+    ended_is = sym (ap (λ d. o.state.ended || not (is_none d)) due ∙ or_false o.state.ended)
+      where
+        or_false : (b : Bool) → (b || false) ≡ b
+        or_false true = refl
+        or_false false = refl
+
+    by_test : (s : Bool) → conn_stops o ≡ s → ((by_stop keep t i start b piece).machine.conn ≡ o) × (0 < length (b ∷ piece) → o.state.ended ≡ true)
+    by_test true is = (ap (λ f. f.machine.conn) (stopped (λ m. conn_stops m.conn) (conn_byte keep t i) start b piece is), λ some. ended_is ∙ is)
+    by_test false is =
+        let rest = rest_most (λ m. conn_stops m.conn) (conn_byte keep t i) (conn_byte keep t i start b) piece in
+        let on = ap (λ (f : Fed Taking). length f.rest) (goes_on (λ m. conn_stops m.conn) (conn_byte keep t i) start b piece is) in
+        absurd (omega (arith, none, rest, on))
+
+-- A turn is a call.
+turn_is_call : (call : CacheCall) → IsTurn call → IsCacheCall call
+turn_is_call (Publishes set) h = absurd h
+turn_is_call (Takes wanting piece) h = h
+turn_is_call (Pulled most) h = tt
+turn_is_call Notifies h = absurd h
+
+turns_are_calls : (calls : List CacheCall) → AllByRecursion IsTurn calls → AllByRecursion IsCacheCall calls
+turns_are_calls [] h = tt
+turns_are_calls (call ∷ calls) h = (turn_is_call call h.0, turns_are_calls calls h.1)
+
+-- More goes out in part.
+part_after : (had has written : Option (List ℕ)) (a b : List ℕ) → Appends had has a → GoesOutInPart has written b → GoesOutInPart had written (a ++ b)
+part_after had has written a b out part =
+    (length a + part.0, (let l = length-append a b in omega (arith, l, part.1)), subst (Appends had written) (sym (take-append-add a b part.0)) (Appends-trans had has written a (take part.0 b) out part.2))
+
+module _ {S : Type 0} (holds : ℕ → Instance → S → Type 0) (m : CacheState) (c : ℕ) where
+  abbrev standing : List CacheCall → CacheState
+  standing calls = with_conn c (Some (stood m calls).conn) m
+
+  stood_at : (calls : List CacheCall) → (standing calls).at c ≡ Some (stood m calls).conn
+  stood_at calls = with_conn_at c (Some (stood m calls).conn) m
+
+  -- Turns publish nothing.
+  cache_is : (calls : List CacheCall) → AllByRecursion IsTurn calls → (stood m calls).cache ≡ m.cache
+  cache_is [] h = refl
+  cache_is (Publishes set ∷ calls) h = absurd h.0
+  cache_is (Takes wanting piece ∷ calls) h = cache_is calls h.1
+  cache_is (Pulled most ∷ calls) h = cache_is calls h.1
+  cache_is (Notifies ∷ calls) h = absurd h.0
+
+  -- what is set twice is what it was set to last
+  set_twice : (x y z : Option Conn) (cache : Cache S) → x ≡ z → ShowsCache holds (with_conn c x (with_conn c y m)) cache → ShowsCache holds (with_conn c z m) cache
+  set_twice x y z cache e shows = record { timing = shows.timing; store = shows.store; slots = λ d. by_test d (d == c) (shows.slots d) }
+    where
+      by_test : (d : ℕ) (b : Bool) → ShowsSlot m.timing m.cache (if b then x else if b then y else m.at d) (peer_at cache.peers.items d) → ShowsSlot m.timing m.cache (if b then z else m.at d) (peer_at cache.peers.items d)
+      by_test d true h = subst (λ a. ShowsSlot m.timing m.cache a (peer_at cache.peers.items d)) e h
+      by_test d false h = h
+
+  -- A connection that is closed, and had not been open, leaves all as it was.
+  pub closes : (calls : List CacheCall) (cache : Cache S) → m.at c ≡ None → ShowsCache holds (with_conn c None (standing calls)) cache → ShowsCache holds m cache
+  closes calls cache free shows = record { timing = shows.timing; store = shows.store; slots = λ d. by_test d (d == c) refl (shows.slots d) }
+    where
+      by_test : (d : ℕ) (b : Bool) → (d == c) ≡ b → ShowsSlot m.timing m.cache (if b then None else if b then Some (stood m calls).conn else m.at d) (peer_at cache.peers.items d) → ShowsSlot m.timing m.cache (m.at d) (peer_at cache.peers.items d)
+      by_test d true is h = subst (λ a. ShowsSlot m.timing m.cache a (peer_at cache.peers.items d)) (sym (ap m.at (eq_of d c is) ∙ free)) h
+      by_test d false is h = h
+
+  module _ (calls : List CacheCall) (had has : Option (List ℕ)) (cache : Cache S) where
+    -- Bytes are pulled, and go out.
+    pub pulls_more : (piece : List ℕ) (p : Partly holds m c calls piece had has cache) (room now : List ℕ) (count : ℕ) (written : Option (List ℕ)) (new : Cache S) → GivesBytes holds (standing p.later) c room count now new
+        → Appends has written (take count now) → Partly holds m c calls piece had written new
+    unfolding conn_pulled
+    pulls_more piece p room now count written new g out = record {
+      later = Pulled (length room) ∷ p.later;
+      turns = (tt, p.turns);
+      stands = set_twice (option_map (conn_pulled m.keep m.timing (length room)) ((standing p.later).at c)) (Some (stood m p.later).conn) _ new (ap (option_map (conn_pulled m.keep m.timing (length room))) (stood_at p.later)) g.shows;
+      came = p.came;
+      sent = p.sent ++ take count now;
+      given = ap (λ x. x ++ take (length room) (stood m p.later).conn.state.due) p.given
+          ∙ append_assoc (stood m calls).given p.sent (take (length room) (stood m p.later).conn.state.due)
+          ∙ ap (λ x. (stood m calls).given ++ (p.sent ++ x)) (sym (pulled_is (due_at ((standing p.later).at c)) room count now _ g.gives ∙ ap (λ a. take (length room) (due_at a)) (stood_at p.later)));
+      out = Appends-trans had has written p.sent (take count now) p.out out;
+    }
+
+    -- Nothing is pulled where nothing is due.
+    pub pulls_none : (piece : List ℕ) (p : Partly holds m c calls piece had has cache) (room now : List ℕ) (new : Cache S) → 0 < length room → GivesBytes holds (standing p.later) c room 0 now new
+        → (q : Partly holds m c calls piece had has new) × ((stood m q.later).conn.state.due ≡ [])
+    unfolding conn_pulled pulls_more
+    pulls_none piece p room now new size g =
+        let due = none_due (due_at ((standing p.later).at c)) room now _ g.gives size in
+        let is : (stood m p.later).conn.state.due ≡ [] = sym (ap due_at (stood_at p.later)) ∙ due in
+        (pulls_more piece p room now 0 has new g (Appends-nil has), (λ i. drop (min (length room) (length (stood m p.later).conn.state.due)) (is i)) ∙ drop_none (min (length room) (length (stood m p.later).conn.state.due)))
+
+    -- Bytes are handed in.
+    pub takes_more : (piece : List ℕ) (p : Partly holds m c calls piece had has cache) (more : List ℕ) (count : ℕ) (new : Cache S) → AreBytes more → (t : TakesPiece holds (standing p.later) c more count new)
+        → Partly holds m c calls (piece ++ take count more) had has new
+    takes_more piece p more count new bytes t =
+        let is : count ≡ length more - length (conn_takes m.keep m.timing m.cache t.wanting more (stood m p.later).conn).rest = t.result_is ∙ ap (consumed t.wanting more (standing p.later)) (stood_at p.later) in
+        let same = sym (cache_is p.later p.turns) in
+        record {
+          later = Takes t.wanting more ∷ p.later;
+          turns = (bytes, p.turns);
+          stands = set_twice (option_map (λ o. (conn_takes m.keep m.timing m.cache t.wanting more o).machine.conn) ((standing p.later).at c)) (Some (stood m p.later).conn) _ new
+              (ap (option_map (λ o. (conn_takes m.keep m.timing m.cache t.wanting more o).machine.conn)) (stood_at p.later)
+              ∙ ap (λ i. Some (conn_takes m.keep m.timing i t.wanting more (stood m p.later).conn).machine.conn) same) t.shows;
+          came = ap (λ i. (stood m p.later).came ++ take (length more - length (conn_takes m.keep m.timing i t.wanting more (stood m p.later).conn).rest) more) (sym same)
+              ∙ (λ i. p.came i ++ take (sym is i) more) ∙ append_assoc (stood m calls).came piece (take count more);
+          sent = p.sent;
+          given = p.given;
+          out = p.out;
+        }
+
+    -- None of them is taken: the piece is at its end, or the connection has ended.
+    pub takes_none : (piece : List ℕ) (p : Partly holds m c calls piece had has cache) (more : List ℕ) (new : Cache S) → (stood m p.later).conn.state.due ≡ [] → AreBytes more → TakesPiece holds (standing p.later) c more 0 new
+        → Answered holds m c calls (piece ++ more) had has (Ok tt) new
+    unfolding takes_more conn_takes
+    takes_none piece p more new due bytes t =
+        let is : 0 ≡ length more - length (conn_takes m.keep m.timing m.cache t.wanting more (stood m p.later).conn).rest = t.result_is ∙ ap (consumed t.wanting more (standing p.later)) (stood_at p.later) in
+        let same = none_taken m.keep m.timing m.cache t.wanting more (stood m p.later).conn due is in
+        let q = takes_more piece p more 0 new bytes t in
+        let conn_is : (stood m q.later).conn ≡ (stood m p.later).conn = ap (λ i. (conn_takes m.keep m.timing i t.wanting more (stood m p.later).conn).machine.conn) (cache_is p.later p.turns) ∙ same.0 in
+        record {
+          later = q.later;
+          turns = q.turns;
+          stands = q.stands;
+          unread = more;
+          came = ap (λ x. x ++ more) (q.came ∙ ap (λ x. (stood m calls).came ++ x) (append-nil piece)) ∙ append_assoc (stood m calls).came piece more;
+          sent = q.sent;
+          given = q.given;
+          answers = (ap (λ o. o.state.due) conn_is ∙ due, (λ some. ap (λ o. o.state.ended) conn_is ∙ same.1 some), q.out);
+        }
+
+  -- The writer failed at bytes that were pulled.
+  fails_writing : (calls : List CacheCall) (had has written : Option (List ℕ)) (cache new : Cache S) (piece more room now : List ℕ) (count : ℕ) (e : Failed) (p : Partly holds m c calls piece had has cache) → GivesBytes holds (standing p.later) c room count now new
+      → GoesOutInPart has written (take count now) → Answered holds m c calls (piece ++ more) had written (Err e) new
+  unfolding pulls_more
+  fails_writing calls had has written cache new piece more room now count e p g part =
+      let silent : Partly holds m c calls piece None None cache = record { later = p.later; turns = p.turns; stands = p.stands; came = p.came; sent = p.sent; given = p.given; out = tt } in
+      let q = pulls_more calls None None cache piece silent room now count None new g tt in
+      record {
+        later = q.later;
+        turns = q.turns;
+        stands = q.stands;
+        unread = more;
+        came = ap (λ x. x ++ more) q.came ∙ append_assoc (stood m calls).came piece more;
+        sent = q.sent;
+        given = q.given;
+        answers = part_after had has written p.sent (take count now) p.out part;
+      }
+
+  pub fails_at : (calls : List CacheCall) (had has written : Option (List ℕ)) (cache new : Cache S) (piece room now : List ℕ) (at count : ℕ) (e : Failed) (p : Partly holds m c calls (take at piece) had has cache) → GivesBytes holds (standing p.later) c room count now new
+      → GoesOutInPart has written (take count now) → Answered holds m c calls piece had written (Err e) new
+  fails_at calls had has written cache new piece room now at count e p g part =
+      subst (λ x. Answered holds m c calls x had written (Err e) new) (take-append-drop at piece) (fails_writing calls had has written cache new (take at piece) (drop at piece) room now count e p g part)
+
+  -- Nothing was due: what is left of a piece is handed in, of which so much is taken.
+  pub answers_on : (calls : List CacheCall) (had has : Option (List ℕ)) (cache mid new : Cache S) (piece slice room now : List ℕ) (at count taken : ℕ) (p : Partly holds m c calls (take at piece) had has cache) → GivesBytes holds (standing p.later) c room count now mid
+      → count ≡ 0 → 0 < length room → AreBytes (drop at piece) → slice ≡ drop at piece → ((x : CacheState) → ShowsCache holds x mid → TakesPiece holds x c slice taken new) → Partly holds m c calls (take (at + taken) piece) had has new
+  answers_on calls had has cache mid new piece slice room now at count taken p g none size bytes is takes =
+      let q = pulls_none calls had has cache (take at piece) p room now mid size (subst (λ n. GivesBytes holds (standing p.later) c room n now mid) none g) in
+      subst (λ x. Partly holds m c calls x had has new) (sym (take-add at taken piece))
+      (takes_more calls had has mid (take at piece) q.0 (drop at piece) taken new bytes (subst (λ x. TakesPiece holds (standing q.0.later) c x taken new) is (takes (standing q.0.later) q.0.stands)))
+
+  -- None of it is taken.
+  pub answers_end : (calls : List CacheCall) (had has : Option (List ℕ)) (cache mid new : Cache S) (piece slice room now : List ℕ) (at count taken : ℕ) (p : Partly holds m c calls (take at piece) had has cache) → GivesBytes holds (standing p.later) c room count now mid
+      → count ≡ 0 → 0 < length room → AreBytes (drop at piece) → slice ≡ drop at piece → ((x : CacheState) → ShowsCache holds x mid → TakesPiece holds x c slice taken new) → taken ≡ 0 → Answered holds m c calls piece had has (Ok tt) new
+  answers_end calls had has cache mid new piece slice room now at count taken p g none size bytes is takes stop =
+      let q = pulls_none calls had has cache (take at piece) p room now mid size (subst (λ n. GivesBytes holds (standing p.later) c room n now mid) none g) in
+      let t = subst (λ x. TakesPiece holds (standing q.0.later) c x taken new) is (takes (standing q.0.later) q.0.stands) in
+      subst (λ x. Answered holds m c calls x had has (Ok tt) new) (take-append-drop at piece)
+      (takes_none calls had has mid (take at piece) q.0 (drop at piece) new q.1 bytes (subst (λ n. TakesPiece holds (standing q.0.later) c (drop at piece) n new) stop t))
+
+  -- A connection waits between two reads.
+  module _ (before left : Option (List ℕ)) (reads : ℕ) (had has : Option (List ℕ)) (cache : Cache S) (w : Waits holds m c before left reads had has cache) where
+    history : (calls : List CacheCall) → AllByRecursion IsTurn calls → IsInstance m.cache → IsServed m.keep m.timing m.cache (stood m calls)
+    history calls turns is = serves_history m.keep m.timing m.cache calls is (turns_are_calls calls turns)
+
+    -- Nothing more was read.
+    pub ends_there : (more : ℕ) (after : Option (List ℕ)) (result : Result Served StreamFault) → Consumes before after (stood m w.calls).came → EndsSo (stood m w.calls) [] after had has result → reads ≤ more
+        → EndedAs holds m c before after more had has result cache
+    ends_there more after result came ends most = (
+      record {
+        calls = w.calls;
+        turns = w.turns;
+        served = history w.calls w.turns;
+        unread = [];
+        consumed = subst (Consumes before after) (sym (append-nil (stood m w.calls).came)) came;
+        few = (let l = ap length (append-nil (stood m w.calls).came) in omega (arith, l, w.few, most));
+        ends = ends;
+      },
+      w.stands,
+    )
+
+    -- A piece was read and answered.
+    module _ (piece : List ℕ) (after : Option (List ℕ)) (written : Option (List ℕ)) (new : Cache S) (size : length piece ≤ 4096) (read : Consumes left after piece) (more : ℕ) (grows : reads + 1 ≤ more) where
+      came_all : (later : List CacheCall) (unread : List ℕ) → (stood m later).came ++ unread ≡ (stood m w.calls).came ++ piece → Consumes before after ((stood m later).came ++ unread) × (length ((stood m later).came ++ unread) ≤ 4096 * more)
+      came_all later unread is = (
+        subst (Consumes before after) (sym is) (Consumes-trans before left after (stood m w.calls).came piece w.consumed read),
+        (let l = length-append (stood m w.calls).came piece in omega (arith, ap length is, l, size, w.few, grows)),
+      )
+
+      -- The writer failed.
+      pub fails_there : (e : Failed) → Answered holds m c w.calls piece has written (Err e) new → EndedAs holds m c before after more had written (Err WriteFailed) new
+      fails_there e a =
+          let all = came_all a.later a.unread a.came in (
+            record {
+              calls = a.later;
+              turns = a.turns;
+              served = history a.later a.turns;
+              unread = a.unread;
+              consumed = all.0;
+              few = all.1;
+              ends = subst (GoesOutInPart had written) (sym a.given) (part_after had has written (stood m w.calls).given a.sent w.all_out.1 a.answers);
+            },
+            a.stands,
+          )
+
+      out_all : (a : Answered holds m c w.calls piece has written (Ok tt) new) → AllOut (stood m a.later) had written
+      out_all a = (a.answers.0, subst (Appends had written) (sym a.given) (Appends-trans had has written (stood m w.calls).given a.sent w.all_out.1 a.answers.2))
+
+      -- The connection has ended.
+      pub ended_there : Answered holds m c w.calls piece has written (Ok tt) new → ((x : CacheState) → ShowsCache holds x new → false ≡ is_open_at (x.at c)) → EndedAs holds m c before after more had written (Ok CacheEnded) new
+      ended_there a closed =
+          let all = came_all a.later a.unread a.came in (
+            record {
+              calls = a.later;
+              turns = a.turns;
+              served = history a.later a.turns;
+              unread = a.unread;
+              consumed = all.0;
+              few = all.1;
+              ends = (out_all a, is_ended (stood m a.later).conn.state.ended (closed (standing a.later) a.stands ∙ ap is_open_at (stood_at a.later)));
+            },
+            a.stands,
+          )
+        where
+          is_ended : (b : Bool) → false ≡ not b → b ≡ true
+          is_ended true h = refl
+          is_ended false h = false_true h
+
+      -- It goes on.
+      pub waits_on : Answered holds m c w.calls piece has written (Ok tt) new → ((x : CacheState) → ShowsCache holds x new → true ≡ is_open_at (x.at c)) → Waits holds m c before after more had written new
+      waits_on a opened =
+          let on : (stood m a.later).conn.state.ended ≡ false = goes_so (stood m a.later).conn.state.ended (opened (standing a.later) a.stands ∙ ap is_open_at (stood_at a.later)) in
+          let none : a.unread ≡ [] = no_rest a.unread (λ some. false_true (sym on ∙ a.answers.1 some)) in
+          let all = came_all a.later a.unread a.came in
+          let is : (stood m a.later).came ++ a.unread ≡ (stood m a.later).came = ap (λ x. (stood m a.later).came ++ x) none ∙ append-nil (stood m a.later).came in
+          record {
+            calls = a.later;
+            turns = a.turns;
+            stands = a.stands;
+            consumed = subst (Consumes before after) is all.0;
+            few = subst (λ x. length x ≤ 4096 * more) is all.1;
+            goes_on = on;
+            all_out = out_all a;
+          }
+        where
+          goes_so : (b : Bool) → true ≡ not b → b ≡ false
+          goes_so true h = false_true (sym h)
+          goes_so false h = refl
+
+          no_rest : (xs : List ℕ) → (0 < length xs → ⊥) → xs ≡ []
+          no_rest [] h = refl
+          no_rest (x ∷ xs) h = absurd (h (omega arith))
+
+    -- The input has ended.
+    pub input_ends : (after : Option (List ℕ)) (served : Served) (count more : ℕ) (buf : List ℕ) → count ≡ 0 → reads ≤ more → 0 < length buf → Consumes left after (take count buf) × (count ≡ 0 → 0 < length buf → IsAtEnd after)
+        → ((x : CacheState) → ShowsCache holds x cache → served ≡ ended_within (is_within (x.at c))) → EndedAs holds m c before after more had has (Ok served) cache
+    input_ends after served count more buf none most room read told =
+        ends_there more after (Ok served)
+        (subst (Consumes before after) (append-nil (stood m w.calls).came) (Consumes-trans before left after (stood m w.calls).came [] w.consumed (subst (λ n. Consumes left after (take n buf)) none read.0)))
+        (by_held (stood m w.calls).conn.held refl (told (standing w.calls) w.stands ∙ ap (λ o. ended_within (is_within o)) (stood_at w.calls)))
+        most
+      where
+        by_held : (held : List ℕ) → (stood m w.calls).conn.held ≡ held → served ≡ ended_within (not (is_none (stood m w.calls).conn.held)) → EndsSo (stood m w.calls) [] after had has (Ok served)
+        by_held [] is same = subst (λ x. EndsSo (stood m w.calls) [] after had has (Ok x)) (sym (same ∙ ap (λ h. ended_within (not (is_none h))) is)) (w.all_out, (refl, w.goes_on), is, read.1 none room)
+        by_held (b ∷ held) is same =
+            subst (λ x. EndsSo (stood m w.calls) [] after had has (Ok x)) (sym (same ∙ ap (λ h. ended_within (not (is_none h))) is)) (w.all_out, (refl, w.goes_on), subst (λ x. 0 < length x) (sym is) (omega arith), read.1 none room)
+
+    -- The reader failed.
+    pub read_fails_there : (after : Option (List ℕ)) (more : ℕ) → Keeps left after → reads ≤ more → EndedAs holds m c before after more had has (Err ReadFailed) cache
+    read_fails_there after more kept most = ends_there more after (Err ReadFailed) (Consumes-kept before left after (stood m w.calls).came w.consumed kept) (w.all_out, (refl, w.goes_on)) most
+
+    -- So many reads were made as were allowed.
+    pub limit_there : (more : ℕ) → reads ≤ more → EndedAs holds m c before left more had has (Ok Limit) cache
+    limit_there more most = ends_there more left (Ok Limit) w.consumed (w.all_out, (refl, w.goes_on)) most
+
+  -- A connection that was opened waits.
+  pub waits_first : (before had : Option (List ℕ)) (cache : Cache S) → StandsAt holds m c [] cache → Waits holds m c before before 0 had had cache
+  waits_first before had cache stands = record { calls = []; turns = tt; stands = stands; consumed = Consumes-nil before; few = omega arith; goes_on = refl; all_out = (refl, Appends-nil had) }
+
+-- Without a connection nothing happens.
+pub nothing_served : (m : CacheState) (before had : Option (List ℕ)) (reads : ℕ) → Serves m before before reads had had (Err Memory)
+nothing_served m before had reads = record {
+  calls = [];
+  turns = tt;
+  served = λ is. serves_history m.keep m.timing m.cache [] is tt;
+  unread = [];
+  consumed = Consumes-nil before;
+  few = omega arith;
+  ends = (refl, refl, refl);
+}

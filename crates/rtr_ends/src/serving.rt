@@ -1,0 +1,125 @@
+//! One connection of a cache over a reader and a writer.
+ghost use Rattle.std.specs.Prelude.{◌≡◌, ◌⊎◌, ◌-◌, ◌<◌, ℕ, Ok, List, [], length, IfErr};
+ghost use Rattle.std.specs.List.{AllByRecursion};
+ghost use Rattle.rtr_pdu.specs.Counted.{calls_of, device_of, failures_of, HasFailed};
+ghost use Rattle.rtr_ends.specs.Cache.{CacheCall};
+ghost use Rattle.rtr_ends.specs.CacheState.{CacheState, ShowsCache};
+ghost use Rattle.rtr_ends.specs.ServeStream.{Answered, EndedAs, IsTurn, ReadsSo, Serves, StandsAt, ended_within, is_within};
+ghost use Rattle.rtr_ends.specs.Streams.{FailsSo, WritesSo, fault_of};
+
+use crate::cache::{Cache, Conn};
+use crate::streams::{StreamFault, write_bytes};
+use rtr_pdu::{Counted, WriteFailed};
+use std::io::{Read, Write};
+use vrps::VersionStore;
+
+/// How a connection ended that was served.
+#[derive(Clone, Copy, Debug, PartialEq, Eq)]
+pub enum Served {
+    /// The input ended, at a unit's end.
+    PeerClosed,
+    /// The input ended inside a unit.
+    Truncated,
+    /// The cache ended the connection: its last answer was an Error Report, or a report of the router came that is never answered
+    /// (RFC 8210 section 12).
+    CacheEnded,
+    /// As often as was allowed was read.
+    Limit,
+}
+
+/// Serves one connection: reads queries, in pieces of at most 4,096 bytes, and writes the cache's replies to them, until the input or
+/// the connection ends, or a device fails, or `limit` reads were made. What has been read is answered before the next read. Answers go
+/// out in pieces of up to 32,768 bytes. The connection is closed in every case.
+pub fn serve_stream<S: VersionStore, R: Read, W: Write>(
+    cache: &mut Cache<S>,
+    input: &mut Counted<R>,
+    output: &mut Counted<W>,
+    limit: u64,
+) -> Result<Served, StreamFault>
+    ensures serves { (m : CacheState) → ShowsCache S.holds m cache.old → Serves m (R.remaining (device_of input.old)) (R.remaining (device_of input.new))
+        (calls_of input.new - calls_of input.old) (W.contents (device_of output.old)) (W.contents (device_of output.new)) result }
+    ensures closed { (m : CacheState) → ShowsCache S.holds m cache.old → ShowsCache S.holds m cache.new }
+    ensures fails { FailsSo input.old input.new output.old output.new (fault_of result) }
+    ensures reads { ReadsSo limit (calls_of input.old) (calls_of input.new) result }
+{
+    match cache.open() {
+        Err(_) => Err(StreamFault::Memory),
+        Ok(conn) => {
+            let result = serve(cache, conn, input, output, limit);
+            cache.close(conn);
+            result
+        }
+    }
+}
+
+/// Serves an open connection.
+fn serve<S: VersionStore, R: Read, W: Write>(
+    cache: &mut Cache<S>,
+    conn: Conn,
+    input: &mut Counted<R>,
+    output: &mut Counted<W>,
+    limit: u64,
+) -> Result<Served, StreamFault>
+    ensures serves { (m : CacheState) → StandsAt S.holds m conn.0 [] cache.old → EndedAs S.holds m conn.0 (R.remaining (device_of input.old)) (R.remaining (device_of input.new))
+        (calls_of input.new - calls_of input.old) (W.contents (device_of output.old)) (W.contents (device_of output.new)) result cache.new }
+    ensures fails { FailsSo input.old input.new output.old output.new (fault_of result) }
+    ensures reads { ReadsSo limit (calls_of input.old) (calls_of input.new) result }
+{
+    let mut buffer = [0u8; 4096];
+    let mut room = [0u8; 32768];
+    for _turn in 0..limit {
+        match input.read(&mut buffer) {
+            Ok(0) => return Ok(end_of_input(cache, conn)),
+            Ok(n) => match answer(cache, conn, &buffer[..n], &mut room, output) {
+                Err(WriteFailed) => return Err(StreamFault::WriteFailed),
+                Ok(()) => {
+                    if !cache.is_open(conn) {
+                        return Ok(Served::CacheEnded);
+                    }
+                }
+            },
+            Err(_) => return Err(StreamFault::ReadFailed),
+        }
+    }
+    Ok(Served::Limit)
+}
+
+/// How a connection ends where its input does.
+fn end_of_input<S: VersionStore>(cache: &Cache<S>, conn: Conn) -> Served
+    ensures either { (result ≡ Served.Truncated) ⊎ (result ≡ Served.PeerClosed) }
+    ensures within { (m : CacheState) → ShowsCache S.holds m cache.now → result ≡ ended_within (is_within (m.at conn.0)) }
+{
+    if cache.is_within_unit(conn) {
+        Served::Truncated
+    } else {
+        Served::PeerClosed
+    }
+}
+
+/// Answers a piece that was read: hands it in, and writes what becomes due, as long as the connection goes on.
+fn answer<S: VersionStore, W: Write>(
+    cache: &mut Cache<S>,
+    conn: Conn,
+    piece: &[u8],
+    room: &mut [u8],
+    output: &mut Counted<W>,
+) -> Result<(), WriteFailed>
+    requires { 0 < length room.old }
+    ensures answers { (m : CacheState) (calls : List CacheCall) → AllByRecursion IsTurn calls → StandsAt S.holds m conn.0 calls cache.old →
+        Answered S.holds m conn.0 calls piece.now (W.contents (device_of output.old)) (W.contents (device_of output.new)) result cache.new }
+    ensures fails { WritesSo output.old output.new result }
+{
+    let mut at = 0;
+    loop {
+        let ready = cache.pull(conn, room);
+        if ready > 0 {
+            write_bytes(&room[..ready], output)?;
+        } else {
+            let taken = cache.receive(conn, &piece[at..]);
+            if taken == 0 {
+                return Ok(());
+            }
+            at += taken;
+        }
+    }
+}

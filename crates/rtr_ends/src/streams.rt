@@ -1,0 +1,53 @@
+//! What the streams of both ends share: their faults, and the loop that writes.
+ghost use Rattle.std.specs.Prelude.{◌≡◌, ◌<◌, ◌≤◌, length, IfOk, IfErr};
+ghost use Rattle.std.specs.Io.KnownBytes.{Appends};
+ghost use Rattle.rtr_pdu.specs.Counted.{calls_of, device_of, failures_of, HasFailed};
+ghost use Rattle.rtr_pdu.specs.Device.{GoesOutInPart};
+
+use rtr_pdu::{Counted, WriteFailed};
+use std::io::Write;
+
+/// Why a stream ended before its time. The numbers are fixed.
+#[derive(Clone, Copy, Debug, PartialEq, Eq)]
+pub enum StreamFault {
+    /// The reader failed.
+    ReadFailed = 1,
+    /// The writer failed. A beginning of what was to be written has gone out.
+    WriteFailed = 2,
+    /// Want of memory for a connection. Nothing was read or written.
+    Memory = 3,
+}
+
+impl StreamFault {
+    ghost use Rattle.rtr_ends.specs.Streams.{stream_fault_number};
+
+    /// The number by which the fault is printed.
+    pub fn number(self) -> u8
+        ensures { result ≡ stream_fault_number self }
+    {
+        self as u8
+    }
+}
+
+/// Writes all the bytes, in one call where the writer takes them.
+pub(crate) fn write_bytes<W: Write>(
+    bytes: &[u8],
+    output: &mut Counted<W>,
+) -> Result<(), WriteFailed>
+    ensures ok { IfOk result (λ _. Appends (W.contents (device_of output.old)) (W.contents (device_of output.new)) bytes.now
+        × (failures_of output.new ≡ failures_of output.old) × (0 < length bytes.now → calls_of output.old < calls_of output.new) × (calls_of output.new ≤ 18446744073709551615)) }
+    ensures err { IfErr result (λ _. GoesOutInPart (W.contents (device_of output.old)) (W.contents (device_of output.new)) bytes.now
+        × HasFailed output.old output.new) }
+{
+    let mut at = 0;
+    while at < bytes.len() {
+        match output.write(&bytes[at..]) {
+            Ok(0) => return Err(WriteFailed),
+            Ok(n) => at += n,
+            Err(_) => return Err(WriteFailed),
+        }
+    }
+    // The count is a u64: callers' loops end by it.
+    let _calls = output.calls();
+    Ok(())
+}
