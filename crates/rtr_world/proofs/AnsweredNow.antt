@@ -21,6 +21,6 @@ answers_now made history w leads = each w.sides good.sides
 
     each : (sides : List Side) → AllByRecursion (Good w.keep w.past w.present) sides → AllByRecursion (λ s.
         is_reading s.router.link ≡ true → (most : ℕ) (wanting : Option ℕ) →
-        (conn_due (cache_gets w most wanting s).conn ≡ conn_due s.conn) ⊎ IsOfNow w.present w.keep s.router.link (conn_due (cache_gets w most wanting s).conn)) sides
+        (conn_due (cache_gets w most wanting s).conn ≡ conn_due s.conn) ⊎ IsOfNow w.present w.keep wanting s.router.link (conn_due (cache_gets w most wanting s).conn)) sides
     each [] h = tt
     each (s ∷ sides) h = (λ live most wanting. gets_now w good.present most wanting s s.conn refl live h.0, each sides h.1)

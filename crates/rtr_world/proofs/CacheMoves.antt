@@ -1,16 +1,16 @@
 -- What the cache reads and sends keeps the invariant.
-use Rattle.std.specs.Prelude.{◌≡◌, ◌⊎◌, ℕ, Bool, true, false, not, ◌&&◌, List, [], ◌∷◌, ◌++◌, length, Option, Some, if◌then◌else◌, refl}
+use Rattle.std.specs.Prelude.{◌≡◌, ◌⊎◌, ℕ, Bool, true, false, not, ◌&&◌, List, [], ◌∷◌, ◌++◌, length, Option, Some, None, IsSome, if◌then◌else◌, refl}
 use Rattle.std.proofs.Common.{sym, ap, ◌∙◌, subst, arith, inl, inr}
 use Rattle.std.specs.List.{AllByRecursion}
 use Rattle.std.proofs.lemmas.Bool.{and_parts, or_parts}
 use Rattle.std.proofs.lemmas.List.{append-nil}
 use Rattle.vrps.specs.Instance.{Instance, versions, versions_from}
 use Rattle.vrps.specs.VrpSet.{VrpSet}
-use Rattle.rtr_pdu.specs.Judging.{judge}
+use Rattle.rtr_pdu.specs.Judging.{Judgement, Begins, Whole, Faulty, judge}
 use Rattle.rtr_pdu.specs.Unit.{IsUnit}
 use Rattle.rtr_pdu.specs.declared.unit.Unit.{Unit}
 use Rattle.rtr_ends.specs.Answer.{answer, report, sent_all}
-use Rattle.rtr_ends.specs.Cache.{Conn, Taking, is_none, conn_stops, moment_of, with_moment, finds_memory, conn_byte, can_notify, conn_notified}
+use Rattle.rtr_ends.specs.Cache.{Conn, Taking, is_none, conn_stops, moment_of, with_moment, counted, finds_memory, conn_byte, can_notify, conn_notified}
 use Rattle.rtr_ends.specs.Connection.{Connection, Read, Wanting, Notify, after, notice, is_published, takes_memory}
 use Rattle.rtr_ends.specs.Feeding.{Fed, feed}
 use Rattle.rtr_ends.specs.Router.{Router, Link, Closed, Idle, Asked, Answering, Ended, is_reading}
@@ -170,12 +170,26 @@ module _ (all : List Instance) (i : Instance) (p : Present all i) (keep : ℕ) (
   fed_good tail m (b ∷ piece) g = fed_by tail m b piece (conn_stops m.conn) refl g (fed_good tail (conn_byte keep timing i m b) piece)
 
   -- What is due then is what was, or the answer to the question as the cache is now.
-  abbrev pub DueNow : List ℕ → Conn → Type 0
-  DueNow old o = (o.state.due ≡ old) ⊎ IsOfNow i keep r.link o.state.due
+  abbrev pub DueNow : List ℕ → Option ℕ → Conn → Type 0
+  DueNow old wanting o = (o.state.due ≡ old) ⊎ IsOfNow i keep wanting r.link o.state.due
 
-  byte_now : (old : List ℕ) (m : Taking) (b : ℕ) (bs : List ℕ) → conn_stops m.conn ≡ false → is_reading r.link ≡ true → GoodC m.conn (b ∷ bs) → DueNow old m.conn → DueNow old (conn_byte keep timing i m b).conn
+  -- Memory is wanting only where it was told.
+  some_wants : (wanting now : Option ℕ) → (wanting ≡ None → now ≡ None) → not (finds_memory now) ≡ true → IsSome wanting
+  some_wants (Some unit) now same lacks = refl
+  some_wants None now same lacks = absurd (let e : false ≡ true = ap (λ x. not (finds_memory x)) (sym (same refl)) ∙ lacks in cc)
+
+  none_counted : (j : Judgement) → counted j None ≡ None
+  none_counted Begins = refl
+  none_counted (Whole u) = refl
+  none_counted (Faulty fault) = refl
+
+  byte_counts : (wanting : Option ℕ) (m : Taking) (b : ℕ) → (wanting ≡ None → m.wanting ≡ None) → wanting ≡ None → (conn_byte keep timing i m b).wanting ≡ None
   unfolding conn_byte
-  byte_now old m b bs goes_on live g now = by_case (byte_case false m.conn.held b (bs ++ r.out) l.2.wanted op.upward)
+  byte_counts wanting m b same none = ap (counted (judge 1 false (m.conn.held ++ b ∷ []))) (same none) ∙ none_counted (judge 1 false (m.conn.held ++ b ∷ []))
+
+  byte_now : (old : List ℕ) (wanting : Option ℕ) (m : Taking) (b : ℕ) (bs : List ℕ) → conn_stops m.conn ≡ false → is_reading r.link ≡ true → (wanting ≡ None → m.wanting ≡ None) → GoodC m.conn (b ∷ bs) → DueNow old wanting m.conn → DueNow old wanting (conn_byte keep timing i m b).conn
+  unfolding conn_byte
+  byte_now old wanting m b bs goes_on live same g now = by_case (byte_case false m.conn.held b (bs ++ r.out) l.2.wanted op.upward)
     where
       l : Live all i home r (Some m.conn) (b ∷ bs) down
       l = live_of r.link all i home r (Some m.conn) (b ∷ bs) down g.link live
@@ -189,10 +203,10 @@ module _ (all : List Instance) (i : Instance) (p : Present all i) (keep : ℕ) (
       memory : Bool
       memory = finds_memory m.wanting
 
-      by_case : ByteCase false m.conn.held b (bs ++ r.out) l.2.wanted → DueNow old (with_moment keep timing bytes m.conn (moment_of i memory bytes (judge 1 false bytes)))
-      by_case (partly e s) = subst (λ j. DueNow old (with_moment keep timing bytes m.conn (moment_of i memory bytes j))) (sym e) now
+      by_case : ByteCase false m.conn.held b (bs ++ r.out) l.2.wanted → DueNow old wanting (with_moment keep timing bytes m.conn (moment_of i memory bytes (judge 1 false bytes)))
+      by_case (partly e s) = subst (λ j. DueNow old wanting (with_moment keep timing bytes m.conn (moment_of i memory bytes j))) (sym e) now
       by_case (wholly u more is e fit s) =
-          subst (λ j. DueNow old (with_moment keep timing bytes m.conn (moment_of i memory bytes j))) (sym e) (inr (subst (λ x. IsOfNow i keep x (read (takes_memory i u && not memory)).due) (sym w.asks) (by_memory (takes_memory i u && not memory) refl)))
+          subst (λ j. DueNow old wanting (with_moment keep timing bytes m.conn (moment_of i memory bytes j))) (sym e) (inr (subst (λ x. IsOfNow i keep wanting x (read (takes_memory i u && not memory)).due) (sym w.asks) (by_memory (takes_memory i u && not memory) refl)))
         where
           w : IsWhole l.0 r.link u more (without_notifies l.2.coming)
           w = whole_question l.0 r.link u more (without_notifies l.2.coming) live (subst (λ x. Shape all l.0 r.link r.agreed r.version r.table x (without_notifies l.2.coming)) is l.2.shape)
@@ -200,14 +214,15 @@ module _ (all : List Instance) (i : Instance) (p : Present all i) (keep : ℕ) (
           read : Bool → Connection
           read t = after keep timing m.conn.state (if t then Wanting i u bytes else Read i u bytes)
 
-          by_memory : (t : Bool) → (takes_memory i u && not memory) ≡ t → IsOfNow i keep (Asked w.q) (read t).due
-          by_memory true wants = inr (subst (λ x. takes_memory i x ≡ true) w.is (and_parts (takes_memory i u) (not memory) wants).0, refl)
+          by_memory : (t : Bool) → (takes_memory i u && not memory) ≡ t → IsOfNow i keep wanting (Asked w.q) (read t).due
+          by_memory true wants =
+              let parts = and_parts (takes_memory i u) (not memory) wants in inr (some_wants wanting m.wanting same parts.1, subst (λ x. takes_memory i x ≡ true) w.is parts.0, refl)
           by_memory false wants = inl (ap (λ x. sent_all (answer i keep timing x).units) w.is)
 
-  pub fed_now : (old tail : List ℕ) (m : Taking) (piece : List ℕ) → is_reading r.link ≡ true → GoodC m.conn (piece ++ tail) → DueNow old m.conn → DueNow old (feed (λ (x : Taking). conn_stops x.conn) (conn_byte keep timing i) m piece).machine.conn
-  fed_now old tail m piece live g now =
-      (feed_keeps (λ (x : Taking). conn_stops x.conn) (conn_byte keep timing i) (λ rest x. GoodC x.conn (rest ++ tail) × DueNow old x.conn)
-      (λ b rest x on k. (byte_good x b (rest ++ tail) on k.0, byte_now old x b (rest ++ tail) on live k.0 k.1)) m piece (g, now)).1
+  pub fed_now : (old tail : List ℕ) (m : Taking) (piece : List ℕ) (wanting : Option ℕ) → is_reading r.link ≡ true → (wanting ≡ None → m.wanting ≡ None) → GoodC m.conn (piece ++ tail) → DueNow old wanting m.conn → DueNow old wanting (feed (λ (x : Taking). conn_stops x.conn) (conn_byte keep timing i) m piece).machine.conn
+  fed_now old tail m piece wanting live same g now =
+      (feed_keeps (λ (x : Taking). conn_stops x.conn) (conn_byte keep timing i) (λ rest x. (wanting ≡ None → x.wanting ≡ None) × GoodC x.conn (rest ++ tail) × DueNow old wanting x.conn)
+      (λ b rest x on k. (byte_counts wanting x b k.0, byte_good x b (rest ++ tail) on k.1, byte_now old wanting x b (rest ++ tail) on live k.0 k.1 k.2)) m piece (same, g, now)).2
 
   -- a notify
   notice_fit : (sets : List VrpSet) → AllByRecursion IsUnit (notice i.session (versions_from i.start sets))

@@ -126,13 +126,13 @@ module _ (w : World) (p : Present (instances w) w.present) where
   cache_gets_good most wanting s g = gets_good most wanting s s.conn refl g
 
   pub gets_now : (most : ℕ) (wanting : Option ℕ) (s : Side) (o : Option Conn) → s.conn ≡ o → is_reading s.router.link ≡ true → GoodS s
-      → (conn_due (gets_at w most wanting s o).conn ≡ conn_due o) ⊎ IsOfNow w.present w.keep s.router.link (conn_due (gets_at w most wanting s o).conn)
+      → (conn_due (gets_at w most wanting s o).conn ≡ conn_due o) ⊎ IsOfNow w.present w.keep wanting s.router.link (conn_due (gets_at w most wanting s o).conn)
   unfolding conn_takes
   gets_now most wanting s None e live g = inl (ap conn_due e)
   gets_now most wanting s (Some o) e live g =
       let start : GoodRouter (instances w) w.present g.seen (Some o) (take most s.up ++ drop most s.up) s.down s.router =
       subst (λ u. GoodRouter (instances w) w.present g.seen (Some o) u s.down s.router) (sym (take-append-drop most s.up)) (subst (λ x. GoodRouter (instances w) w.present g.seen x s.up s.down s.router) e g.router) in
-      cache.fed_now (instances w) w.present p w.keep g.seen (keeps_so s.home g.seen g.is_seen) s.router s.down o.state.due (drop most s.up) (record { conn = o; moments = []; wanting = wanting }) (take most s.up) live start (inl refl)
+      cache.fed_now (instances w) w.present p w.keep g.seen (keeps_so s.home g.seen g.is_seen) s.router s.down o.state.due (drop most s.up) (record { conn = o; moments = []; wanting = wanting }) (take most s.up) wanting live (λ none. none) start (inl refl)
 
   router_gets_good : (most : ℕ) (wanting : Option ℕ) (s : Side) → GoodS s → SideTells s → GoodS (router_gets w most wanting s)
   unfolding router_gets receives

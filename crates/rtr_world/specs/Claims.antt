@@ -31,11 +31,11 @@ abbrev pub OneAnswerAlways : Type 0
 OneAnswerAlways = Always (λ w s. Between w s s.router.link)
 
 -- When bytes arrive at the cache from a router on a live link, nothing more is due than was; or its question was read, and what is due is
--- the answer of the cache as it is then.
+-- the answer of the cache as it is then, or Error Report 1 where memory was wanting.
 abbrev pub AnswersNow : Type 0
 AnswersNow = Always (λ w s.
     is_reading s.router.link ≡ true → (most : ℕ) (wanting : Option ℕ) →
-    (conn_due (cache_gets w most wanting s).conn ≡ conn_due s.conn) ⊎ IsOfNow w.present w.keep s.router.link (conn_due (cache_gets w most wanting s).conn))
+    (conn_due (cache_gets w most wanting s).conn ≡ conn_due s.conn) ⊎ IsOfNow w.present w.keep wanting s.router.link (conn_due (cache_gets w most wanting s).conn))
 
 -- The clean-up after an event leaves nothing to be done: once more, it changes nothing.
 abbrev pub Settles : Type 0

@@ -1,5 +1,5 @@
 -- What is on its way to a router is at most one answer (RFC 8210 sections 5 and 8).
-use Rattle.std.specs.Prelude.{◌≡◌, ◌⊎◌, ℕ, ◌==◌, true, false, List, [], ◌∷◌, ◌++◌, find, Option, Some, None, ⊤}
+use Rattle.std.specs.Prelude.{◌≡◌, ◌⊎◌, ℕ, ◌==◌, true, false, List, [], ◌∷◌, ◌++◌, find, Option, Some, None, IsSome, ⊤}
 use Rattle.prefixes.specs.Payload.{Payload}
 use Rattle.vrps.specs.Instance.{Instance, named}
 use Rattle.vrps.specs.VrpSet.{VrpSet}
@@ -131,10 +131,10 @@ Between w s Closed = (s.router.held ≡ []) × (s.router.out ≡ []) × (s.down 
 Between w s (Ended end) = ⊥
 Between w s link = OneAnswer w s
 
--- What is due where a question was read just now: the answer of the cache as it is now, or Error Report 1 in the place of one that may
--- take memory.
-abbrev pub IsOfNow : Instance → ℕ → Link → List ℕ → Type 0
-IsOfNow cache keep (Asked question) due =
+-- What is due where a question was read just now: the answer of the cache as it is now, or, where memory is wanting at a unit, Error
+-- Report 1 in the place of one that may take memory.
+abbrev pub IsOfNow : Instance → ℕ → Option ℕ → Link → List ℕ → Type 0
+IsOfNow cache keep wanting (Asked question) due =
     (due ≡ sent_all (answer cache keep timing (query question)).units)
-    ⊎ ((takes_memory cache (query question) ≡ true) × (due ≡ sent_all (report 1 [] ∷ [])))
-IsOfNow cache keep link due = ⊥
+    ⊎ (IsSome wanting × (takes_memory cache (query question) ≡ true) × (due ≡ sent_all (report 1 [] ∷ [])))
+IsOfNow cache keep wanting link due = ⊥
