@@ -279,8 +279,8 @@ module _ (all : List Instance) (i : Instance) (home : Option Seen) (conn : Optio
   data_good : (r : Router) (more : List Unit) (copy : List ℕ) (d : Reads r more) → d.wanted ≡ [] → without_notifies more ≡ [] → Mine d.h.session r.version → GoodR (on_unit (Asked AskReset) (report 2 copy) r)
   unfolding on_unit
   data_good r more copy d wanted rest m =
-      let k : Router = record r { agreed = true; link = Idle; due = Some (sum_of r.now (retry_of r.version)) } in
-      same_good (record r { agreed = true; link = Idle; due = Some (sum_of r.now (retry_of r.version)) }) more Idle
+      let k : Router = record r { agreed = true; link = Idle; due = Some (sum_of r.now (retry_of r.version)); no_data = true } in
+      same_good (record r { agreed = true; link = Idle; due = Some (sum_of r.now (retry_of r.version)); no_data = true }) more Idle
       (record {
         h = d.h;
         is_home = d.is_home;

@@ -47,7 +47,7 @@ report_free false code r h = tt
 told_free : (question : Question) (code : ℕ) (r : Router) → Free (told_off question code r).link
 told_free question code r = by_code (code == 2) (code == 0 && is_serial (Some question))
   where
-    by_code : (b c : Bool) → Free (if b then record r { link = Idle; due = Some (sum_of r.now (retry_of r.version)) } else if c then told code (emptied r) else told code r).link
+    by_code : (b c : Bool) → Free (if b then record r { link = Idle; due = Some (sum_of r.now (retry_of r.version)); no_data = true } else if c then told code (emptied r) else told code r).link
     by_code true c = tt
     by_code false true = tt
     by_code false false = tt

@@ -7,7 +7,7 @@ loop-rest-init c i h = exchanging_none i c.args.conn.0 c.args.bytes.now c.args.r
 
 pub split_at-requires : goal.split_at-requires
 split_at-requires c =
-    exchange_fits c.requires.0 c.args.conn.0 c.args.bytes.now c.loop-rest.rest.now c.loop-rest.replies.items c.loop-rest.cache c.receive-count.result (λ k. omega (arith, c.type_inv.bytes k)) (c.loop-rest.invariant c.requires.0 c.requires.1) c.receive-count.new.self c.receive-count.ensures
+    exchange_fits c.requires.0 c.args.conn.0 c.args.bytes.now c.loop-rest.rest.now c.loop-rest.replies.items c.loop-rest.cache c.receive-count.result (λ k. omega (arith, c.type_inv.bytes k)) (c.loop-rest.invariant c.requires.0 c.requires.1) c.receive-count.new.self c.receive-count.ensures.takes
 
 pub pull_all-requires : goal.pull_all-requires
 pull_all-requires c =
@@ -15,19 +15,19 @@ pull_all-requires c =
       c.requires.0,
       (
         e.came ++ take c.receive-count.result c.loop-rest.rest.now,
-        exchange_takes c.requires.0 c.args.conn.0 c.args.bytes.now c.loop-rest.rest.now c.loop-rest.replies.items c.loop-rest.cache c.receive-count.result (λ k. omega (arith, c.type_inv.bytes k)) e c.receive-count.new.self c.receive-count.ensures,
+        exchange_takes c.requires.0 c.args.conn.0 c.args.bytes.now c.loop-rest.rest.now c.loop-rest.replies.items c.loop-rest.cache c.receive-count.result (λ k. omega (arith, c.type_inv.bytes k)) e c.receive-count.new.self c.receive-count.ensures.takes,
       ),
     )
 
 pub loop-rest-smaller : goal.loop-rest-smaller
 loop-rest-smaller c =
     rw c.split_at.ensures.back (exchange_less c.requires.0 c.args.conn.0 c.args.bytes.now c.loop-rest.rest.now c.loop-rest.replies.items c.loop-rest.cache c.receive-count.result (λ k. omega (arith, c.type_inv.bytes k)) (c.loop-rest.invariant c.requires.0 c.requires.1)
-    c.receive-count.new.self c.is_open.result c.is_empty.result c.receive-count.ensures c.is_open.ensures c.loop-rest-test.true c.is_empty.ensures c.if-not-is_empty.true)
+    c.receive-count.new.self c.is_open.result c.is_empty.result c.receive-count.ensures.takes c.is_open.ensures c.loop-rest-test.true c.is_empty.ensures c.if-not-is_empty.true)
 
 pub loop-rest-preserved : goal.loop-rest-preserved
 loop-rest-preserved c i h =
     let e = c.loop-rest.invariant i h in
-    rw c.split_at.ensures.back (exchange_more i c.args.conn.0 c.args.bytes.now c.loop-rest.rest.now c.loop-rest.replies.items c.loop-rest.cache c.receive-count.result (λ k. omega (arith, c.type_inv.bytes k)) e c.receive-count.new.self c.pull_all.new.cache c.pull_all.new.replies.items c.receive-count.ensures
+    rw c.split_at.ensures.back (exchange_more i c.args.conn.0 c.args.bytes.now c.loop-rest.rest.now c.loop-rest.replies.items c.loop-rest.cache c.receive-count.result (λ k. omega (arith, c.type_inv.bytes k)) e c.receive-count.new.self c.pull_all.new.cache c.pull_all.new.replies.items c.receive-count.ensures.takes
     (λ s. c.in_ok-pull_all.ensures i (e.came ++ take c.receive-count.result c.loop-rest.rest.now) s))
 
 pub returns-else-not-is_empty : goal.returns-else-not-is_empty

@@ -4,7 +4,7 @@ use Rattle.rtr_world.proofs.Moving.{no_conn}
 use Rattle.rtr_world.proofs.side.Side.cache_gets.Goals as goal
 
 pub returns-in-Some : goal.returns-in-Some
-returns-in-Some c = λ w at s h. cache_got w at s c.args.cache.now _ c.args.self.now _ c.in-Some.conn c.args.most c.receive-count.result c.front.result.now h c.in-Some.is c.front.ensures (c.receive-count.ensures _ h.serves)
+returns-in-Some c = λ w at s h. cache_got w at s c.args.cache.now _ c.args.self.now _ c.in-Some.conn c.args.most c.receive-count.result c.front.result.now h c.in-Some.is c.front.ensures (c.receive-count.ensures.takes _ h.serves)
     (ap (λ up. record c.args.self.now { up = up }) c.arrive.ensures)
 
 pub returns-in-None : goal.returns-in-None
