@@ -7,6 +7,7 @@ pub mod CacheStateLaws
 pub mod CommitLaws
 pub mod ConsumedLaws
 pub mod FeedingLaws
+pub mod FetchStreamLaws
 pub mod HistoryLaws
 pub mod KeptLaws
 pub mod LifeLaws

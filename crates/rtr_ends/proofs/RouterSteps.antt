@@ -35,7 +35,7 @@ use Rattle.rtr_ends.proofs.UnitByUnit.{but_last}
 use Rattle.rtr_ends.proofs.TableLaws.{false_true}
 
 -- What a unit leaves: what is held; agreement; and a connection
-record Keeps (r n : Router) : Type 0 where
+pub record Keeps (r n : Router) : Type 0 where
   pub held : n.held ≡ r.held
   pub agreed : r.agreed ≡ true → n.agreed ≡ true
   pub connected : is_closed n.link ≡ false
@@ -67,7 +67,7 @@ fails_keep u r = record { held = refl; agreed = λ h. h; connected = refl }
 reports_keep : (u : Unit) (r : Router) → Keeps r (reports 0 u r)
 reports_keep u r = record { held = refl; agreed = λ h. h; connected = refl }
 
-unit_keeps : (l : Link) (u : Unit) (r : Router) → r.link ≡ l → is_reading l ≡ true → Keeps r (on_unit l u r)
+pub unit_keeps : (l : Link) (u : Unit) (r : Router) → r.link ≡ l → is_reading l ≡ true → Keeps r (on_unit l u r)
 unfolding on_unit
 unit_keeps Closed u r is h = false_true h
 unit_keeps (Ended end) u r is h = false_true h

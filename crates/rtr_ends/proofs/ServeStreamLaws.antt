@@ -61,12 +61,12 @@ none_due : (due out : List ℕ) (now rest : List ℕ) → Gives due out 0 now re
 none_due [] out now rest g room = refl
 none_due (b ∷ due) out now rest g room = absurd (let c = g.count_is in omega (arith, c, room))
 
-drop_none : (n : ℕ) → drop {A = ℕ} n [] ≡ []
+pub drop_none : (n : ℕ) → drop {A = ℕ} n [] ≡ []
 drop_none zero = refl
 drop_none (suc n) = refl
 
 -- What was consumed of a piece is no more than the piece.
-rest_most : {M : Type 0} (stops : M → Bool) (step : M → ℕ → M) (m : M) (piece : List ℕ) → length (feed stops step m piece).rest ≤ length piece
+pub rest_most : {M : Type 0} (stops : M → Bool) (step : M → ℕ → M) (m : M) (piece : List ℕ) → length (feed stops step m piece).rest ≤ length piece
 rest_most stops step m piece = let t = feed_takes stops step m piece in omega (arith, ap length t.1.piece_is, length-append t.0 (feed stops step m piece).rest)
 
 -- A connection of which nothing is due, and that takes nothing, is as it was; and has ended where there was a piece.
@@ -108,7 +108,7 @@ turns_are_calls [] h = tt
 turns_are_calls (call ∷ calls) h = (turn_is_call call h.0, turns_are_calls calls h.1)
 
 -- More goes out in part.
-part_after : (had has written : Option (List ℕ)) (a b : List ℕ) → Appends had has a → GoesOutInPart has written b → GoesOutInPart had written (a ++ b)
+pub part_after : (had has written : Option (List ℕ)) (a b : List ℕ) → Appends had has a → GoesOutInPart has written b → GoesOutInPart had written (a ++ b)
 part_after had has written a b out part =
     (length a + part.0, (let l = length-append a b in omega (arith, l, part.1)), subst (Appends had written) (sym (take-append-add a b part.0)) (Appends-trans had has written a (take part.0 b) out part.2))
 

@@ -5,6 +5,7 @@ pub mod Commit
 pub mod Connection
 pub mod Consumed
 pub mod Feeding
+pub mod FetchStream
 pub mod Links
 pub mod Peer
 pub mod Router

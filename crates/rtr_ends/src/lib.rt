@@ -2,6 +2,7 @@
 #![tactic(auto)]
 
 mod cache;
+mod fetching;
 pub mod laws;
 mod link;
 mod machine;
@@ -20,6 +21,7 @@ mod table;
 mod timing;
 
 pub use cache::{Cache, Conn};
+pub use fetching::{Fetched, fetch_stream};
 pub use link::{AskFault, End, Link};
 pub use router::Router;
 pub use serving::{Served, serve_stream};

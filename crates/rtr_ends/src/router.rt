@@ -85,6 +85,7 @@ impl Router {
     pub fn pull(&mut self, room: &mut [u8]) -> usize
         ensures calls { Calls (λ r. (called (model.Pulls (length room.old)) r).router) self.old self.new }
         ensures leads { LeadsOn (model.Pulls (length room.old)) self.old self.new }
+        ensures within { result ≤ length room.old }
         ensures bytes { (r : model.Router) → IsShown r self.old → (result ≡ min (length room.old) (length r.out)) × (room.new ≡ take (length room.old) r.out ++ drop (length r.out) room.old) }
     {
         self.machine.out.pull(room)
@@ -144,6 +145,13 @@ impl Router {
         }
     }
 
+    /// Whether code 2, No Data Available, and no commit brought a link to idle last.
+    pub(crate) fn no_data(&self) -> bool
+        ensures { (r : model.Router) → IsShown r self.now → result ≡ r.no_data }
+    {
+        self.machine.no_data
+    }
+
     /// The bytes that it holds: received that are no whole unit yet, and to be pulled.
     pub(crate) fn room(&self)
         ensures { HasRoom (held_by self.now) }
@@ -157,6 +165,7 @@ impl Router {
     pub fn receive(&mut self, piece: &[u8], now: u64) -> usize
         ensures shown { ReceivesSo now piece.now result self.old self.new }
         ensures leads { (wanting : Option ℕ) × LeadsOn (model.Receives now wanting piece.now) self.old self.new }
+        ensures within { result ≤ length piece.now }
     {
         self.machine.tell(now);
         let mut rest = piece;

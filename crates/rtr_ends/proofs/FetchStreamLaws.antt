@@ -1,0 +1,420 @@
+-- One connection of a router over a reader and a writer, from call to call.
+use Rattle.std.specs.Prelude.{◌≡◌, ℕ, ◌+◌, ◌-◌, ◌*◌, ◌<◌, ◌≤◌, Bool, true, false, not, ◌&&◌, min, List, [], ◌∷◌, ◌++◌, length, take, drop, Option, Some, None, Result, Ok, Err, if◌then◌else◌, ⊤, refl}
+use Rattle.std.proofs.Common.{sym, ap, ◌∙◌, subst, arith, append_assoc}
+use Rattle.std.proofs.Math.Seq.{take-add}
+use Rattle.std.proofs.lemmas.Bool.{and_parts}
+use Rattle.std.proofs.lemmas.List.{append-nil, length-append, length-take, take-append-drop, take-append-le, take_all}
+use Rattle.std.specs.List.{AllByRecursion}
+use Rattle.std.specs.Io.KnownBytes.{Appends, Consumes, IsAtEnd, Keeps}
+use Rattle.std.proofs.KnownBytes.{Appends-nil, Appends-trans, Consumes-kept, Consumes-nil, Consumes-trans}
+use Rattle.rtr_pdu.specs.Device.{GoesOutInPart}
+use Rattle.rtr_pdu.specs.Judging.{Judgement, Begins, Whole, Faulty, judge}
+use Rattle.rtr_pdu.specs.Payloads.{AreBytes}
+use Rattle.rtr_pdu.specs.declared.device.WriteFailed.{WriteFailed as Failed}
+use Rattle.rtr_ends.specs.Cache.{finds_memory, is_none}
+use Rattle.rtr_ends.specs.Consumed.{came}
+use Rattle.rtr_ends.specs.Feeding.{Fed, feed}
+use Rattle.rtr_ends.specs.FetchStream.{AllAsked, Awaits, FetchEnds, FetchReads, FetchedAs, IsFetchCall, IsReached, StillAsks, Taken, TakenPart, is_asking, pulled_by, reached_by, since}
+use Rattle.rtr_ends.specs.Router.{Router, Link, Closed, Idle, Asked, Answering, Ended, Call, Connects, Receives, Pulls, Closes, AsksNow, Ticks, Noted, Receiving, ask, clocked, close, connects_at, emptied, expired, is_closed, is_reading, lacks, may_lack, on_unit, played, reads, receives, router_byte, router_pulled, router_stops, with_bytes}
+use Rattle.rtr_ends.specs.Shown.{IsShown, Leads, LeadsOn, Received, ReceivesSo}
+use Rattle.rtr_ends.specs.Transcript.{At, AskReset, AskSerial, is_over, is_serial, later}
+use Rattle.rtr_ends.specs.declared.fetching.Fetched.{Fetched}
+use Rattle.rtr_ends.specs.declared.fetching.Fetched.TheVariants as outcomes
+use Rattle.rtr_ends.specs.declared.link.End.TheVariants as ends
+use Rattle.rtr_ends.specs.declared.router.Router as code
+use Rattle.rtr_ends.specs.declared.streams.StreamFault.{StreamFault}
+use Rattle.rtr_ends.specs.declared.streams.StreamFault.TheVariants.{ReadFailed, WriteFailed, Memory}
+use Rattle.rtr_ends.proofs.FeedingLaws.{feed_keeps, goes_on, stopped}
+use Rattle.rtr_ends.proofs.RouterSteps.{clocked_keeps, unit_keeps}
+use Rattle.rtr_ends.proofs.ServeStreamLaws.{drop_none, part_after, rest_most}
+use Rattle.rtr_ends.proofs.TableLaws.{false_true}
+
+-- What is pulled into room stands at its front.
+pub pulled_front : (out room now : List ℕ) (count : ℕ) → (count ≡ min (length room) (length out)) × (now ≡ take (length room) out ++ drop (length out) room) → take count now ≡ take (length room) out
+pulled_front out room now count h =
+    let l = length-take (length room) out in
+    ap (take count) h.1 ∙ take-append-le count (take (length room) out) (drop (length out) room) (omega (arith, l, h.0)) ∙ take_all count (take (length room) out) (omega (arith, l, h.0))
+
+none_out : (out room now : List ℕ) (count : ℕ) → (count ≡ min (length room) (length out)) × (now ≡ take (length room) out ++ drop (length out) room) → count ≡ 0 → 0 < length room → out ≡ []
+none_out [] room now count h none size = refl
+none_out (b ∷ out) room now count h none size = absurd (let c = h.0 in omega (arith, c, none, size))
+
+-- The clock puts nothing out.
+clock_out : (now : ℕ) (r : Router) → r.out ≡ [] → (clocked now r).out ≡ []
+unfolding clocked
+clock_out now r none = by_test (is_over r.version (later r.now now))
+  where
+    told : Router
+    told = record r { now = later r.now now }
+
+    by_link : (l : Link) → (expired l told).out ≡ []
+    by_link Closed = none
+    by_link Idle = none
+    by_link (Ended end) = none
+    by_link (Asked AskReset) = none
+    by_link (Asked (AskSerial session serial)) = refl
+    by_link (Answering a) = by_serial (is_serial (Some a.question))
+      where
+        by_serial : (b : Bool) → (if b then record (emptied told) { link = Ended ends.Expired; out = [] } else emptied told).out ≡ []
+        by_serial true = refl
+        by_serial false = none
+
+    by_test : (b : Bool) → (if b then expired r.link told else told).out ≡ []
+    by_test true = by_link r.link
+    by_test false = none
+
+-- A router that has nothing to be pulled, and takes nothing, puts nothing out; and reads no more where there was a piece.
+pub none_received : (now : ℕ) (wanting : Option ℕ) (piece : List ℕ) (r : Router) → r.out ≡ [] → 0 ≡ length piece - length (receives now wanting piece r).rest
+    → ((receives now wanting piece r).machine.router.out ≡ []) × (0 < length piece → is_reading (receives now wanting piece r).machine.router.link ≡ false)
+unfolding receives
+none_received now wanting [] r out none = (clock_out now r out, λ some. absurd (omega (arith, some)))
+none_received now wanting (b ∷ piece) r out none = by_test (router_stops (clocked now r)) refl
+  where
+    start : Receiving
+    start = record { router = clocked now r; items = At now ∷ []; wanting = wanting }
+
+    stops : Receiving → Bool
+    stops m = router_stops m.router
+
+    fed_on : Fed Receiving
+    fed_on = feed (λ m. router_stops m.router) router_byte start (b ∷ piece)
+
+    not_reading : (b : Bool) → not (b && true) ≡ true → b ≡ false
+    not_reading true h = false_true h
+    not_reading false h = refl
+
+    by_test : (s : Bool) → router_stops (clocked now r) ≡ s → (fed_on.machine.router.out ≡ []) × (0 < length (b ∷ piece) → is_reading fed_on.machine.router.link ≡ false)
+    by_test true is =
+        let e = stopped (λ m. router_stops m.router) router_byte start b piece is in
+        let silent : is_none (clocked now r).out ≡ true = ap is_none (clock_out now r out) in (
+          ap (λ (f : Fed Receiving). f.machine.router.out) e ∙ clock_out now r out,
+          λ some. ap (λ (f : Fed Receiving). is_reading f.machine.router.link) e ∙ not_reading (is_reading (clocked now r).link) (ap (λ x. not (is_reading (clocked now r).link && x)) (sym silent) ∙ is),
+        )
+    by_test false is =
+        let rest = rest_most (λ m. router_stops m.router) router_byte (router_byte start b) piece in
+        let on = ap (λ (f : Fed Receiving). length f.rest) (goes_on (λ m. router_stops m.router) router_byte start b piece is) in
+        absurd (omega (arith, none, rest, on))
+
+-- A connection stays open while bytes come.
+open_link : (l : Link) → is_reading l ≡ true → is_closed l ≡ false
+open_link Closed h = false_true h
+open_link Idle h = refl
+open_link (Asked question) h = refl
+open_link (Answering a) h = refl
+open_link (Ended end) h = refl
+
+open_after : (memory : Bool) (bytes : List ℕ) (r : Router) (j : Judgement) → is_reading r.link ≡ true → is_closed (with_bytes memory bytes r j).router.link ≡ false
+open_after memory bytes r Begins h = open_link r.link h
+open_after memory bytes r (Faulty fault) h = refl
+open_after memory bytes r (Whole u) h = by_memory (may_lack r.link u r && not memory)
+  where
+    by_memory : (b : Bool) → is_closed (if b then lacks u (record r { held = [] }) else reads u (record r { held = [] })).router.link ≡ false
+    by_memory true = refl
+    by_memory false = (unit_keeps r.link u (record r { held = [] }) refl h).connected
+
+byte_open : (b : ℕ) (rest : List ℕ) (m : Receiving) → router_stops m.router ≡ false → is_closed m.router.link ≡ false → is_closed (router_byte m b).router.link ≡ false
+unfolding router_byte
+byte_open b rest m on h = open_after (finds_memory m.wanting) (m.router.held ++ b ∷ []) m.router (judge 1 (not m.router.agreed) (m.router.held ++ b ∷ [])) (and_parts (is_reading m.router.link) (is_none m.router.out) (goes (is_reading m.router.link && is_none m.router.out) on)).0
+  where
+    goes : (b : Bool) → not b ≡ false → b ≡ true
+    goes true h = refl
+    goes false h = false_true (sym h)
+
+receives_open : (now : ℕ) (wanting : Option ℕ) (piece : List ℕ) (r : Router) → is_closed r.link ≡ false → is_closed (receives now wanting piece r).machine.router.link ≡ false
+unfolding receives
+receives_open now wanting piece r h =
+    feed_keeps (λ m. router_stops m.router) router_byte (λ rest m. is_closed m.router.link ≡ false) byte_open (record { router = clocked now r; items = At now ∷ []; wanting = wanting }) piece ((clocked_keeps now r).closed_on ∙ h)
+
+pub stays_open : (now : ℕ) (calls turns : List Call) → AllByRecursion (IsFetchCall now) turns → is_closed (played (since turns now calls)).router.link ≡ false
+unfolding connects_at router_pulled
+stays_open now calls [] h = refl
+stays_open now calls (Receives at wanting piece ∷ turns) h = receives_open at wanting piece (played (since turns now calls)).router (stays_open now calls turns h.1)
+stays_open now calls (Pulls most ∷ turns) h = stays_open now calls turns h.1
+stays_open now calls (Connects at ∷ turns) h = absurd h.0
+stays_open now calls (Closes at ∷ turns) h = absurd h.0
+stays_open now calls (AsksNow ∷ turns) h = absurd h.0
+stays_open now calls (Ticks at ∷ turns) h = absurd h.0
+
+-- What router.pull tells
+abbrev PullsBytes : (room now : List ℕ) (count : ℕ) → code.Router → Type 0
+PullsBytes room now count old = (r : Router) → IsShown r old → (count ≡ min (length room) (length r.out)) × (now ≡ take (length room) r.out ++ drop (length r.out) room)
+
+-- Nothing has happened.
+pub starts : (now : ℕ) (calls : List Call) (before : Option (List ℕ)) (v : code.Router) → Leads calls v → TakenPart now calls [] before before v
+starts now calls before v leads = record { more = []; each = tt; leads = leads; came_is = sym (append-nil (came calls)); sent = []; pulled_is = sym (append-nil (pulled_by calls)); out = Appends-nil before }
+
+module _ (now : ℕ) (calls : List Call) (had has : Option (List ℕ)) (old : code.Router) where
+  -- Bytes are pulled, and go out.
+  pub pulls_more : (piece : List ℕ) (p : TakenPart now calls piece had has old) (room bytes : List ℕ) (count : ℕ) (written : Option (List ℕ)) (new : code.Router) → LeadsOn (Pulls (length room)) old new → PullsBytes room bytes count old
+      → Appends has written (take count bytes) → TakenPart now calls piece had written new
+  pulls_more piece p room bytes count written new on tells out = record {
+    more = Pulls (length room) ∷ p.more;
+    each = (tt, p.each);
+    leads = (on (p.more ++ calls) p.leads).leads;
+    came_is = append-nil (came (p.more ++ calls)) ∙ p.came_is;
+    sent = p.sent ++ take count bytes;
+    pulled_is = ap (λ x. x ++ take (length room) (played (p.more ++ calls)).router.out) p.pulled_is
+        ∙ append_assoc (pulled_by calls) p.sent (take (length room) (played (p.more ++ calls)).router.out)
+        ∙ ap (λ x. pulled_by calls ++ (p.sent ++ x)) (sym (pulled_front (played (p.more ++ calls)).router.out room bytes count (tells (played (p.more ++ calls)).router p.leads)));
+    out = Appends-trans had has written p.sent (take count bytes) p.out out;
+  }
+
+  -- Nothing is pulled where nothing is to be pulled.
+  pub pulls_none : (piece : List ℕ) (p : TakenPart now calls piece had has old) (room bytes : List ℕ) (count : ℕ) (new : code.Router) → LeadsOn (Pulls (length room)) old new → PullsBytes room bytes count old
+      → count ≡ 0 → 0 < length room → (q : TakenPart now calls piece had has new) × ((played (q.more ++ calls)).router.out ≡ [])
+  unfolding pulls_more router_pulled
+  pulls_none piece p room bytes count new on tells none size =
+      let out = none_out (played (p.more ++ calls)).router.out room bytes count (tells (played (p.more ++ calls)).router p.leads) none size in
+      (pulls_more piece p room bytes count has new on tells (subst (λ n. Appends has has (take n bytes)) (sym none) (Appends-nil has)), ap (drop (length room)) out ∙ drop_none (length room))
+
+  -- Bytes are handed in.
+  pub receives_more : (piece : List ℕ) (p : TakenPart now calls piece had has old) (slice : List ℕ) (count : ℕ) (new : code.Router) → AreBytes slice → ReceivesSo now slice count old new → TakenPart now calls (piece ++ take count slice) had has new
+  receives_more piece p slice count new bytes so =
+      let s = so.1 (played (p.more ++ calls)).router p.leads in
+      record {
+        more = Receives now so.0 slice ∷ p.more;
+        each = ((refl, bytes), p.each);
+        leads = s.shown;
+        came_is = (λ i. p.came_is i ++ take (sym s.count_is i) slice) ∙ append_assoc (came calls) piece (take count slice);
+        sent = p.sent;
+        pulled_is = p.pulled_is;
+        out = p.out;
+      }
+
+  -- None of them is taken.
+  pub receives_none : (piece : List ℕ) (p : TakenPart now calls piece had has old) (slice : List ℕ) (count : ℕ) (new : code.Router) → (played (p.more ++ calls)).router.out ≡ [] → AreBytes slice → ReceivesSo now slice count old new → count ≡ 0
+      → Taken now calls (piece ++ slice) had has (Ok tt) new
+  unfolding receives_more
+  receives_none piece p slice count new out bytes so none =
+      let q = receives_more piece p slice count new bytes so in
+      let s = so.1 (played (p.more ++ calls)).router p.leads in
+      let stops = none_received now so.0 slice (played (p.more ++ calls)).router out (sym none ∙ s.count_is) in
+      record {
+        more = q.more;
+        each = q.each;
+        leads = q.leads;
+        unread = slice;
+        came_is = ap (λ x. x ++ slice) (q.came_is ∙ ap (λ n. came calls ++ (piece ++ take n slice)) none ∙ ap (λ x. came calls ++ x) (append-nil piece)) ∙ append_assoc (came calls) piece slice;
+        sent = q.sent;
+        pulled_is = q.pulled_is;
+        takes = (stops.0, stops.1, q.out);
+      }
+
+module _ (now : ℕ) (calls : List Call) (had has : Option (List ℕ)) (old mid : code.Router) (piece room bytes : List ℕ) (at count : ℕ) (p : TakenPart now calls (take at piece) had has old) (on : LeadsOn (Pulls (length room)) old mid)
+    (tells : PullsBytes room bytes count old) where
+  -- The writer failed at bytes that were pulled.
+  pub fails_at : (written : Option (List ℕ)) (e : Failed) → GoesOutInPart has written (take count bytes) → Taken now calls piece had written (Err e) mid
+  unfolding pulls_more
+  fails_at written e part =
+      let silent : TakenPart now calls (take at piece) None None old = record { more = p.more; each = p.each; leads = p.leads; came_is = p.came_is; sent = p.sent; pulled_is = p.pulled_is; out = tt } in
+      let q = pulls_more now calls None None old (take at piece) silent room bytes count None mid on tells tt in
+      record {
+        more = q.more;
+        each = q.each;
+        leads = q.leads;
+        unread = drop at piece;
+        came_is = ap (λ x. x ++ drop at piece) q.came_is ∙ append_assoc (came calls) (take at piece) (drop at piece) ∙ ap (λ x. came calls ++ x) (take-append-drop at piece);
+        sent = q.sent;
+        pulled_is = q.pulled_is;
+        takes = part_after had has written p.sent (take count bytes) p.out part;
+      }
+
+  module _ (none : count ≡ 0) (size : 0 < length room) (slice : List ℕ) (taken : ℕ) (new : code.Router) (are : AreBytes (drop at piece)) (is : slice ≡ drop at piece) (so : ReceivesSo now slice taken mid new) where
+    quiet : (q : TakenPart now calls (take at piece) had has mid) × ((played (q.more ++ calls)).router.out ≡ [])
+    quiet = pulls_none now calls had has old (take at piece) p room bytes count mid on tells none size
+
+    -- What is left of a piece is handed in, of which so much is taken.
+    pub takes_on : TakenPart now calls (take (at + taken) piece) had has new
+    takes_on =
+        subst (λ x. TakenPart now calls x had has new) (sym (take-add at taken piece))
+        (receives_more now calls had has mid (take at piece) quiet.0 (drop at piece) taken new are (subst (λ x. ReceivesSo now x taken mid new) is so))
+
+    -- None of it is taken.
+    pub takes_end : taken ≡ 0 → Taken now calls piece had has (Ok tt) new
+    takes_end stop =
+        subst (λ x. Taken now calls x had has (Ok tt) new) (take-append-drop at piece)
+        (receives_none now calls had has mid (take at piece) quiet.0 (drop at piece) taken new quiet.1 are (subst (λ x. ReceivesSo now x taken mid new) is so) stop)
+
+-- the calls of one list and of another
+all_append : {X : Type 0} (P : X → Type 0) (xs ys : List X) → AllByRecursion P xs → AllByRecursion P ys → AllByRecursion P (xs ++ ys)
+all_append P [] ys h k = k
+all_append P (x ∷ xs) ys h k = (h.0, all_append P xs ys h.1 k)
+
+no_rest : (xs : List ℕ) (b : Bool) → b ≡ true → (0 < length xs → b ≡ false) → xs ≡ []
+no_rest [] b is h = refl
+no_rest (x ∷ xs) b is h = false_true (sym (h (omega arith)) ∙ is)
+
+module _ (now : ℕ) (calls : List Call) (before : Option (List ℕ)) (had : Option (List ℕ)) where
+  -- a router that was connected, all of whose bytes so far are consumed, and whose pulled bytes have gone out
+  pub record Pending (left : Option (List ℕ)) (reads : ℕ) (has : Option (List ℕ)) (router : code.Router) : Type 0 where
+    pub turns : List Call
+    pub each : AllByRecursion (IsFetchCall now) turns
+    pub leads : Leads (since turns now calls) router
+    pub consumed : Consumes before left (came (since turns now calls))
+    pub few : length (came (since turns now calls)) ≤ 4096 * reads
+    pub out : Appends had has (pulled_by (since turns now calls))
+
+  module _ (left : Option (List ℕ)) (reads : ℕ) (has : Option (List ℕ)) (router : code.Router) where
+    -- A piece was read and taken.
+    module _ (w : Pending left reads has router) (piece : List ℕ) (after : Option (List ℕ)) (written : Option (List ℕ)) (new : code.Router) (more : ℕ) (read : Consumes left after piece) (size : reads ≤ more) (fits : length piece + 4096 * reads ≤ 4096 * more) where
+      came_all : (x : List Call) (unread : List ℕ) → came x ++ unread ≡ came (since w.turns now calls) ++ piece → Consumes before after (came x ++ unread) × (length (came x ++ unread) ≤ 4096 * more)
+      came_all x unread is = (
+        subst (Consumes before after) (sym is) (Consumes-trans before left after (came (since w.turns now calls)) piece w.consumed read),
+        (let l = length-append (came (since w.turns now calls)) piece in omega (arith, ap length is, l, w.few, fits)),
+      )
+
+      -- The writer failed.
+      pub fails_there : (e : Failed) → Taken now (since w.turns now calls) piece has written (Err e) new → FetchedAs now calls before after more had written (Err WriteFailed) new
+      fails_there e t =
+          let joined = sym (append_assoc t.more w.turns (Connects now ∷ calls)) in
+          let all = came_all (t.more ++ since w.turns now calls) t.unread t.came_is in (
+            record {
+              turns = t.more ++ w.turns;
+              each = all_append (IsFetchCall now) t.more w.turns t.each w.each;
+              unread = t.unread;
+              consumed = subst (λ x. Consumes before after (came x ++ t.unread)) joined all.0;
+              few = subst (λ x. length (came x ++ t.unread) ≤ 4096 * more) joined all.1;
+              ends = subst (λ x. GoesOutInPart had written (pulled_by x)) joined (subst (GoesOutInPart had written) (sym t.pulled_is) (part_after had has written (pulled_by (since w.turns now calls)) t.sent w.out t.takes));
+            },
+            subst (λ x. Leads x new) joined t.leads,
+          )
+
+      -- It is taken.
+      pub awaits_on : Taken now (since w.turns now calls) piece has written (Ok tt) new → Awaits now calls before after more had written new
+      awaits_on t =
+          let joined = sym (append_assoc t.more w.turns (Connects now ∷ calls)) in
+          let all = came_all (t.more ++ since w.turns now calls) t.unread t.came_is in
+          record {
+            turns = t.more ++ w.turns;
+            each = all_append (IsFetchCall now) t.more w.turns t.each w.each;
+            leads = subst (λ x. Leads x new) joined t.leads;
+            unread = t.unread;
+            consumed = subst (λ x. Consumes before after (came x ++ t.unread)) joined all.0;
+            few = subst (λ x. length (came x ++ t.unread) ≤ 4096 * more) joined all.1;
+            all_read = subst (λ x. 0 < length t.unread → is_reading (played x).router.link ≡ false) joined t.takes.1;
+            asked = subst (λ x. AllAsked x had written) joined
+                (t.takes.0, subst (Appends had written) (sym t.pulled_is) (Appends-trans had has written (pulled_by (since w.turns now calls)) t.sent w.out t.takes.2));
+          }
+
+    module _ (w : Awaits now calls before left reads had has router) where
+      abbrev led_to : Router
+      led_to = (played (since w.turns now calls)).router
+
+      ends_as : (more : ℕ) (result : Result Fetched StreamFault) → reads ≤ more → FetchEnds (since w.turns now calls) w.unread left had has result → FetchedAs now calls before left more had has result router
+      ends_as more result most ends = (
+        record {
+          turns = w.turns;
+          each = w.each;
+          unread = w.unread;
+          consumed = w.consumed;
+          few = (let f = w.few in omega (arith, f, most));
+          ends = ends;
+        },
+        w.leads,
+      )
+
+      -- No question is outstanding.
+      pub reached_there : (more : ℕ) (fetched : Fetched) → reads ≤ more → ((r : Router) → IsShown r router → Some fetched ≡ reached_by r.link r.no_data) → FetchedAs now calls before left more had has (Ok fetched) router
+      reached_there more fetched most told = ends_as more (Ok fetched) most (by_link led_to.link led_to.no_data refl refl (told led_to w.leads))
+        where
+          same : {x : Fetched} → Some fetched ≡ Some x → x ≡ fetched
+          same h = cc
+
+          none : ◌≡◌ {A = Option Fetched} (Some fetched) None → ⊥
+          none h = cc
+
+          by_link : (l : Link) (b : Bool) → led_to.link ≡ l → led_to.no_data ≡ b → Some fetched ≡ reached_by l b → FetchEnds (since w.turns now calls) w.unread left had has (Ok fetched)
+          by_link Idle true il ib h =
+              subst (λ x. FetchEnds (since w.turns now calls) w.unread left had has (Ok x)) (same h) (w.asked, no_rest w.unread (is_reading led_to.link) (ap is_reading il) w.all_read, il, ib)
+          by_link Idle false il ib h =
+              subst (λ x. FetchEnds (since w.turns now calls) w.unread left had has (Ok x)) (same h) (w.asked, no_rest w.unread (is_reading led_to.link) (ap is_reading il) w.all_read, il, ib)
+          by_link (Ended end) b il ib h = subst (λ x. FetchEnds (since w.turns now calls) w.unread left had has (Ok x)) (same h) (w.asked, il)
+          by_link Closed b il ib h = absurd (none h)
+          by_link (Asked question) b il ib h = absurd (none h)
+          by_link (Answering answer) b il ib h = absurd (none h)
+
+      -- One is.
+      module _ (told : (r : Router) → IsShown r router → ◌≡◌ {A = Option Fetched} None (reached_by r.link r.no_data)) where
+        asks : is_asking led_to.link ≡ true
+        asks = by_link led_to.link led_to.no_data (stays_open now calls w.turns w.each) (told led_to w.leads)
+          where
+            none : {x : Fetched} → ◌≡◌ {A = Option Fetched} None (Some x) → ⊥
+            none h = cc
+
+            by_link : (l : Link) (b : Bool) → is_closed l ≡ false → ◌≡◌ {A = Option Fetched} None (reached_by l b) → is_asking l ≡ true
+            by_link Closed b open_so h = false_true (sym open_so)
+            by_link Idle b open_so h = absurd (none h)
+            by_link (Ended end) b open_so h = absurd (none h)
+            by_link (Asked question) b open_so h = refl
+            by_link (Answering answer) b open_so h = refl
+
+        reads_so : is_reading led_to.link ≡ true
+        reads_so = by_link led_to.link asks
+          where
+            by_link : (l : Link) → is_asking l ≡ true → is_reading l ≡ true
+            by_link Closed h = h
+            by_link Idle h = refl
+            by_link (Ended end) h = h
+            by_link (Asked question) h = refl
+            by_link (Answering answer) h = refl
+
+        pub all_consumed : w.unread ≡ []
+        all_consumed = no_rest w.unread (is_reading led_to.link) reads_so w.all_read
+
+        still : StillAsks (since w.turns now calls) w.unread
+        still = (all_consumed, asks)
+
+        came_is : came (since w.turns now calls) ++ w.unread ≡ came (since w.turns now calls)
+        came_is = ap (λ x. came (since w.turns now calls) ++ x) all_consumed ∙ append-nil (came (since w.turns now calls))
+
+        pub pends : Pending left reads has router
+        pends = record {
+          turns = w.turns;
+          each = w.each;
+          leads = w.leads;
+          consumed = subst (Consumes before left) came_is w.consumed;
+          few = subst (λ x. length x ≤ 4096 * reads) came_is w.few;
+          out = w.asked.1;
+        }
+
+        -- So many reads were made as were allowed.
+        pub limit_there : (more : ℕ) → reads ≤ more → FetchedAs now calls before left more had has (Ok outcomes.Limit) router
+        limit_there more most = ends_as more (Ok outcomes.Limit) most (w.asked, still)
+
+        ends_after : (after : Option (List ℕ)) (more : ℕ) (result : Result Fetched StreamFault) → reads ≤ more → Consumes before after (came (since w.turns now calls) ++ w.unread) → FetchEnds (since w.turns now calls) w.unread after had has result
+            → FetchedAs now calls before after more had has result router
+        ends_after after more result most consumed ends = (
+          record {
+            turns = w.turns;
+            each = w.each;
+            unread = w.unread;
+            consumed = consumed;
+            few = (let f = w.few in omega (arith, f, most));
+            ends = ends;
+          },
+          w.leads,
+        )
+
+        -- The input has ended.
+        pub input_ends : (after : Option (List ℕ)) (count more : ℕ) (buf : List ℕ) → count ≡ 0 → reads ≤ more → 0 < length buf → Consumes left after (take count buf) × (count ≡ 0 → 0 < length buf → IsAtEnd after)
+            → FetchedAs now calls before after more had has (Ok outcomes.PeerClosed) router
+        input_ends after count more buf none most room read =
+            ends_after after more (Ok outcomes.PeerClosed) most
+            (subst (Consumes before after) (append-nil (came (since w.turns now calls) ++ w.unread)) (Consumes-trans before left after (came (since w.turns now calls) ++ w.unread) [] w.consumed (subst (λ n. Consumes left after (take n buf)) none read.0)))
+            (w.asked, still, read.1 none room)
+
+        -- The reader failed.
+        pub read_fails_there : (after : Option (List ℕ)) (more : ℕ) → Keeps left after → reads ≤ more → FetchedAs now calls before after more had has (Err ReadFailed) router
+        read_fails_there after more kept most = ends_after after more (Err ReadFailed) most (Consumes-kept before left after (came (since w.turns now calls) ++ w.unread) w.consumed kept) (w.asked, still)
+
+-- A router that was connected just now has read nothing.
+abbrev pub pends_first : (now : ℕ) (calls : List Call) (before had : Option (List ℕ)) (router : code.Router) → Leads (Connects now ∷ calls) router → Pending now calls before had before 0 had router
+pends_first now calls before had router leads = record { turns = []; each = tt; leads = leads; consumed = Consumes-nil before; few = omega arith; out = Appends-nil had }
+
+-- What was reached is told of any reads.
+pub reads_reached : (limit before now : ℕ) (fetched : Fetched) → IsReached fetched → before ≤ now → now ≤ before + limit → FetchReads limit before now (Ok fetched)
+reads_reached limit before now outcomes.Committed h least most = (least, most)
+reads_reached limit before now outcomes.NoData h least most = (least, most)
+reads_reached limit before now (outcomes.Ended end) h least most = (least, most)
+reads_reached limit before now outcomes.PeerClosed h least most = absurd h
+reads_reached limit before now outcomes.Limit h least most = absurd h

@@ -1,0 +1,137 @@
+//! One connection of a router over a reader and a writer.
+ghost use Rattle.std.specs.Prelude.{◌≡◌, ◌-◌, ◌<◌, ◌≤◌, List, ◌∷◌, length, IfSome};
+ghost use Rattle.rtr_pdu.specs.Counted.{calls_of, device_of};
+ghost use Rattle.rtr_ends.specs.FetchStream.{FetchReads, FetchedAs, Fetches, IsReached, Taken, reached_by};
+ghost use Rattle.rtr_ends.specs.Router as model;
+ghost use Rattle.rtr_ends.specs.Shown.{IsShown, Leads};
+ghost use Rattle.rtr_ends.specs.Streams.{FailsSo, WritesSo, fault_of};
+
+use crate::link::{End, Link};
+use crate::router::Router;
+use crate::streams::{StreamFault, write_bytes};
+use rtr_pdu::{Counted, WriteFailed};
+use std::io::{Read, Write};
+
+/// What a router fetched.
+#[derive(Clone, Copy, Debug, PartialEq, Eq)]
+pub enum Fetched {
+    /// A version was committed.
+    Committed,
+    /// The cache has no data (RFC 8210 section 12, code 2).
+    NoData,
+    /// The link ended so.
+    Ended(End),
+    /// The input ended while a question was outstanding.
+    PeerClosed,
+    /// As often as was allowed was read while a question was outstanding.
+    Limit,
+}
+
+/// Connects a router, writes its questions and reports, and reads, in pieces of at most 4,096 bytes, until no question is outstanding or
+/// the link ends, or the input ends, or a device fails, or `limit` reads were made. Each question goes out in one write where the writer
+/// takes it. The router is told in every case that the connection is closed, and keeps what it has committed by its own rules alone. The
+/// moment `now` is in seconds of the router's clock.
+pub fn fetch_stream<R: Read, W: Write>(
+    router: &mut Router,
+    input: &mut Counted<R>,
+    output: &mut Counted<W>,
+    now: u64,
+    limit: u64,
+) -> Result<Fetched, StreamFault>
+    ensures fetches { (calls : List model.Call) → Leads calls router.old → Fetches now calls (R.remaining (device_of input.old)) (R.remaining (device_of input.new))
+        (calls_of input.new - calls_of input.old) (W.contents (device_of output.old)) (W.contents (device_of output.new)) result router.new }
+    ensures fails { FailsSo input.old input.new output.old output.new (fault_of result) }
+    ensures reads { FetchReads limit (calls_of input.old) (calls_of input.new) result }
+{
+    router.connect(now);
+    let result = fetch(router, input, output, now, limit);
+    router.closed(now);
+    result
+}
+
+/// Asks and reads on an open connection.
+fn fetch<R: Read, W: Write>(
+    router: &mut Router,
+    input: &mut Counted<R>,
+    output: &mut Counted<W>,
+    now: u64,
+    limit: u64,
+) -> Result<Fetched, StreamFault>
+    ensures fetches { (calls : List model.Call) → Leads (model.Connects now ∷ calls) router.old → FetchedAs now calls (R.remaining (device_of input.old)) (R.remaining (device_of input.new))
+        (calls_of input.new - calls_of input.old) (W.contents (device_of output.old)) (W.contents (device_of output.new)) result router.new }
+    ensures fails { FailsSo input.old input.new output.old output.new (fault_of result) }
+    ensures reads { FetchReads limit (calls_of input.old) (calls_of input.new) result }
+{
+    let mut buffer = [0u8; 4096];
+    let mut room = [0u8; 4096];
+    match take(router, &[], now, &mut room, output) {
+        Err(WriteFailed) => return Err(StreamFault::WriteFailed),
+        Ok(()) => {}
+    }
+    for _turn in 0..limit {
+        match reached(router) {
+            Some(fetched) => return Ok(fetched),
+            None => {}
+        }
+        match input.read(&mut buffer) {
+            Ok(0) => return Ok(Fetched::PeerClosed),
+            Ok(n) => match take(router, &buffer[..n], now, &mut room, output) {
+                Err(WriteFailed) => return Err(StreamFault::WriteFailed),
+                Ok(()) => {}
+            },
+            Err(_) => return Err(StreamFault::ReadFailed),
+        }
+    }
+    match reached(router) {
+        Some(fetched) => Ok(fetched),
+        None => Ok(Fetched::Limit),
+    }
+}
+
+/// What the router has come to, where no question is outstanding.
+fn reached(router: &Router) -> Option<Fetched>
+    ensures is { (r : model.Router) → IsShown r router.now → result ≡ reached_by r.link r.no_data }
+    ensures kind { IfSome result (λ fetched. IsReached fetched) }
+{
+    match router.link() {
+        Link::Idle => {
+            if router.no_data() {
+                Some(Fetched::NoData)
+            } else {
+                Some(Fetched::Committed)
+            }
+        }
+        Link::Ended(end) => Some(Fetched::Ended(end)),
+        Link::Asked => None,
+        Link::Answering => None,
+        Link::Closed => None,
+    }
+}
+
+/// Hands in a piece that was read, and writes what is to be pulled before it and between its units, as long as the link goes on.
+fn take<W: Write>(
+    router: &mut Router,
+    piece: &[u8],
+    now: u64,
+    room: &mut [u8],
+    output: &mut Counted<W>,
+) -> Result<(), WriteFailed>
+    requires { 0 < length room.old }
+    ensures takes { (calls : List model.Call) → Leads calls router.old →
+        Taken now calls piece.now (W.contents (device_of output.old)) (W.contents (device_of output.new)) result router.new }
+    ensures fails { WritesSo output.old output.new result }
+{
+    let mut at = 0;
+    loop {
+        let ready = router.pull(room);
+        if ready > 0 {
+            write_bytes(&room[..ready], output)?;
+        } else {
+            let taken = router.receive(&piece[at..], now);
+            if taken == 0 {
+                return Ok(());
+            }
+            at += taken;
+        }
+    }
+}

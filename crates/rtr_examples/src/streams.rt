@@ -1,0 +1,10 @@
+use crate::caches::{V, cache_of, whole_answer};
+use rtr_ends::{Cache, Fetched, Link, Router, Served, StreamFault, fetch_stream, serve_stream};
+use rtr_pdu::Counted;
+use std::alloc::Global;
+use std::io;
+use std::io::{ErrorKind, Read, Write};
+use std::process::Abort;
+use std::rc::Rc;
+use std::test::Fail;
+use vrps::{Serial, VersionLog};
