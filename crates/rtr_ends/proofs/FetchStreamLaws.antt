@@ -1,5 +1,5 @@
 -- One connection of a router over a reader and a writer, from call to call.
-use Rattle.std.specs.Prelude.{◌≡◌, ℕ, ◌+◌, ◌-◌, ◌*◌, ◌<◌, ◌≤◌, Bool, true, false, not, ◌&&◌, min, List, [], ◌∷◌, ◌++◌, length, take, drop, Option, Some, None, Result, Ok, Err, if◌then◌else◌, ⊤, refl}
+use Rattle.std.specs.Prelude.{◌≡◌, ℕ, ◌+◌, ◌-◌, ◌*◌, ◌<◌, ◌≤◌, Bool, true, false, not, ◌&&◌, min, List, [], ◌∷◌, ◌++◌, length, take, drop, Option, Some, None, Result, Ok, Err, if◌then◌else◌, refl}
 use Rattle.std.proofs.Common.{sym, ap, ◌∙◌, subst, arith, append_assoc}
 use Rattle.std.proofs.Math.Seq.{take-add}
 use Rattle.std.proofs.lemmas.Bool.{and_parts}
@@ -15,15 +15,15 @@ use Rattle.rtr_ends.specs.Cache.{finds_memory, is_none}
 use Rattle.rtr_ends.specs.Consumed.{came}
 use Rattle.rtr_ends.specs.Feeding.{Fed, feed}
 use Rattle.rtr_ends.specs.FetchStream.{AllAsked, Awaits, FetchEnds, FetchReads, FetchedAs, IsFetchCall, IsReached, StillAsks, Taken, TakenPart, is_asking, pulled_by, reached_by, since}
-use Rattle.rtr_ends.specs.Router.{Router, Link, Closed, Idle, Asked, Answering, Ended, Call, Connects, Receives, Pulls, Closes, AsksNow, Ticks, Noted, Receiving, ask, clocked, close, connects_at, emptied, expired, is_closed, is_reading, lacks, may_lack, on_unit, played, reads, receives, router_byte, router_pulled, router_stops, with_bytes}
-use Rattle.rtr_ends.specs.Shown.{IsShown, Leads, LeadsOn, Received, ReceivesSo}
+use Rattle.rtr_ends.specs.Router.{Router, Link, Closed, Idle, Asked, Answering, Ended, Call, Connects, Receives, Pulls, Closes, AsksNow, Ticks, Receiving, clocked, connects_at, emptied, expired, is_closed, is_reading, lacks, may_lack, played, reads, receives, router_byte, router_pulled, router_stops, with_bytes}
+use Rattle.rtr_ends.specs.Shown.{IsShown, Leads, LeadsOn, ReceivesSo}
 use Rattle.rtr_ends.specs.Transcript.{At, AskReset, AskSerial, is_over, is_serial, later}
 use Rattle.rtr_ends.specs.declared.fetching.Fetched.{Fetched}
 use Rattle.rtr_ends.specs.declared.fetching.Fetched.TheVariants as outcomes
 use Rattle.rtr_ends.specs.declared.link.End.TheVariants as ends
 use Rattle.rtr_ends.specs.declared.router.Router as code
 use Rattle.rtr_ends.specs.declared.streams.StreamFault.{StreamFault}
-use Rattle.rtr_ends.specs.declared.streams.StreamFault.TheVariants.{ReadFailed, WriteFailed, Memory}
+use Rattle.rtr_ends.specs.declared.streams.StreamFault.TheVariants.{ReadFailed, WriteFailed}
 use Rattle.rtr_ends.proofs.FeedingLaws.{feed_keeps, goes_on, stopped}
 use Rattle.rtr_ends.proofs.RouterSteps.{clocked_keeps, unit_keeps}
 use Rattle.rtr_ends.proofs.ServeStreamLaws.{drop_none, part_after, rest_most}

@@ -1,5 +1,5 @@
 -- One connection of a cache over a reader and a writer, from call to call.
-use Rattle.std.specs.Prelude.{◌≡◌, ◌⊎◌, ℕ, ◌+◌, ◌-◌, ◌*◌, ◌^◌, ◌<◌, ◌≤◌, ◌==◌, Bool, true, false, not, ◌||◌, min, List, [], ◌∷◌, ◌++◌, length, take, drop, Option, Some, None, Result, Ok, Err, option_map, if◌then◌else◌, ⊤, refl}
+use Rattle.std.specs.Prelude.{◌≡◌, ◌⊎◌, ℕ, ◌+◌, ◌-◌, ◌*◌, ◌^◌, ◌<◌, ◌≤◌, ◌==◌, Bool, true, false, not, ◌||◌, min, List, [], ◌∷◌, ◌++◌, length, take, drop, Option, Some, None, Result, Ok, Err, option_map, if◌then◌else◌, refl}
 use Rattle.std.proofs.Common.{zero, suc, sym, ap, ◌∙◌, subst, arith, append_assoc, inl, inr}
 use Rattle.std.proofs.Math.Seq.{take-add, take-append-add}
 use Rattle.std.proofs.lemmas.Bool.{cases_eq, cases_lt}
@@ -13,12 +13,11 @@ use Rattle.rtr_pdu.specs.Counted.{IsSpent, calls_of}
 use Rattle.rtr_pdu.specs.Device.{GoesOutInPart}
 use Rattle.rtr_pdu.specs.Payloads.{AreBytes}
 use Rattle.rtr_pdu.specs.declared.device.WriteFailed.{WriteFailed as Failed}
-use Rattle.rtr_ends.specs.Cache.{CacheCall, Conn, Gives as Pulled, IsCacheCall, IsServed, Notifies, Publishes, Takes, Taking, conn_byte, conn_pulled, conn_stops, conn_takes, is_none, new_conn, serve, serving}
-use Rattle.rtr_ends.specs.CacheState.{CacheState, GivesBytes, IsLeastFree, ShowsCache, ShowsSlot, TakesPiece, consumed, due_at, is_open_at, peer_at, with_conn}
-use Rattle.rtr_ends.specs.Connection.{Moment}
+use Rattle.rtr_ends.specs.Cache.{CacheCall, Conn, Gives as Pulled, IsCacheCall, IsServed, Notifies, Publishes, Takes, Taking, conn_byte, conn_pulled, conn_stops, conn_takes, is_none}
+use Rattle.rtr_ends.specs.CacheState.{CacheState, GivesBytes, ShowsCache, ShowsSlot, TakesPiece, consumed, due_at, is_open_at, peer_at, with_conn}
 use Rattle.rtr_ends.specs.Feeding.{Fed, feed}
 use Rattle.rtr_ends.specs.Sender.{Gives}
-use Rattle.rtr_ends.specs.ServeStream.{AllOut, Answered, AnswersSo, EndedAs, EndsSo, IsTurn, Partly, ReadsSo, Serves, StandsAt, Waits, ended_within, is_within, stood}
+use Rattle.rtr_ends.specs.ServeStream.{AllOut, Answered, EndedAs, EndsSo, IsTurn, Partly, ReadsSo, Serves, StandsAt, Waits, ended_within, is_within, stood}
 use Rattle.rtr_ends.specs.Timing.{Intervals}
 use Rattle.rtr_ends.specs.declared.cache.Cache.{Cache}
 use Rattle.rtr_ends.specs.declared.serving.Served.{Served}

@@ -6,7 +6,7 @@ use Rattle.rtr_pdu.specs.Device.{GoesOutInPart}
 use Rattle.rtr_pdu.specs.Payloads.{AreBytes}
 use Rattle.rtr_pdu.specs.declared.device.WriteFailed.{WriteFailed as Failed}
 use Rattle.rtr_ends.specs.Consumed.{came}
-use Rattle.rtr_ends.specs.Router.{Router, Link, Closed, Idle, Asked, Answering, Ended, Call, Connects, Receives, Pulls, Closes, AsksNow, Ticks, played, is_reading}
+use Rattle.rtr_ends.specs.Router.{Router, Link, Idle, Asked, Answering, Ended, Call, Connects, Receives, Pulls, Closes, AsksNow, Ticks, played, is_reading}
 use Rattle.rtr_ends.specs.Shown.{Leads, Led}
 use Rattle.rtr_ends.specs.declared.fetching.Fetched.{Fetched}
 use Rattle.rtr_ends.specs.declared.fetching.Fetched.TheVariants as outcomes

@@ -1,6 +1,5 @@
 -- What a stream reads and writes, as its devices count it.
 use Rattle.std.specs.Prelude.{◌≡◌, ℕ, Option, Some, None, Result, Ok, Err}
-use Rattle.std.specs.Io.KnownBytes.{Appends}
 use Rattle.rtr_pdu.specs.declared.counted.Counted.{Counted}
 use Rattle.rtr_pdu.specs.Counted.{failures_of, HasFailed}
 use Rattle.rtr_ends.specs.declared.streams.StreamFault.{StreamFault}

@@ -7,6 +7,8 @@ mod caches;
 #[cfg(test)]
 mod routers;
 #[cfg(test)]
+mod streams;
+#[cfg(test)]
 mod units;
 #[cfg(test)]
 mod worlds;

@@ -1,5 +1,3 @@
-use Rattle.std.specs.Prelude.{◌∷◌}
-use Rattle.rtr_ends.specs.Router.{Closes, Connects}
 use Rattle.rtr_ends.proofs.fetching.fetch_stream.Goals as goal
 
 pub returns-clause-fetches : goal.returns-clause-fetches

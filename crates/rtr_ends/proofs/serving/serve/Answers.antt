@@ -1,5 +1,5 @@
-use Rattle.std.proofs.Common.{◌≡◌, ◌∙◌, sym, subst, arith, length, take}
-use Rattle.std.proofs.lemmas.List.{length-take-le, take_rest}
+use Rattle.std.proofs.Common.{◌∙◌, sym, arith, take}
+use Rattle.std.proofs.lemmas.List.{length-take-le}
 use Rattle.rtr_pdu.proofs.DeviceLaws.{was_counted}
 use Rattle.rtr_ends.proofs.ServeStreamLaws as laws
 use Rattle.rtr_ends.proofs.serving.serve.Goals as goal
