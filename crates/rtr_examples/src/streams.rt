@@ -1,5 +1,7 @@
 use crate::caches::{V, cache_of};
-use rtr_ends::{Cache, End, Fetched, Link, Router, Served, StreamFault, fetch_stream, serve_stream};
+use rtr_ends::{
+    Cache, End, Fetched, Link, Router, Served, StreamFault, fetch_stream, serve_stream,
+};
 use rtr_pdu::Counted;
 use std::alloc::Global;
 use std::cell::RefCell;
@@ -13,10 +15,12 @@ use vrps::{Serial, VersionLog};
 const TWO_QUERIES: &[u8] = b"\x01\x02\x00\x00\x00\x00\x00\x08\x01\x02\x00\x00\x00\x00\x00\x08";
 
 /// 192.0.2.0/24 up to 24 of AS 64496, as serial 5 of session 4660.
-const ANSWER: &[u8] = b"\x01\x03\x12\x34\x00\x00\x00\x08\x01\x04\x00\x00\x00\x00\x00\x14\x01\x18\x18\x00\xc0\x00\x02\x00\x00\x00\xfb\xf0\x01\x07\x12\x34\x00\x00\x00\x18\x00\x00\x00\x05\x00\x00\x0e\x10\x00\x00\x02\x58\x00\x00\x1c\x20";
+const ANSWER: &[u8] =
+    b"\x01\x03\x12\x34\x00\x00\x00\x08\x01\x04\x00\x00\x00\x00\x00\x14\x01\x18\x18\x00\xc0\x00\x02\x00\x00\x00\xfb\xf0\x01\x07\x12\x34\x00\x00\x00\x18\x00\x00\x00\x05\x00\x00\x0e\x10\x00\x00\x02\x58\x00\x00\x1c\x20";
 
 /// Code 2, No Data Available, to a Reset Query.
-const NO_DATA: &[u8] = b"\x01\x0a\x00\x02\x00\x00\x00\x18\x00\x00\x00\x08\x01\x02\x00\x00\x00\x00\x00\x08\x00\x00\x00\x00";
+const NO_DATA: &[u8] =
+    b"\x01\x0a\x00\x02\x00\x00\x00\x18\x00\x00\x00\x08\x01\x02\x00\x00\x00\x00\x00\x08\x00\x00\x00\x00";
 
 /// A reader of so many bytes a call, which fails after so many calls.
 #[derive(Drop)]
@@ -115,7 +119,7 @@ impl Read for Waiting {
     }
 }
 
-fn steps(bytes: &'static [u8], size: usize, calls: u8) -> Counted<Steps> {
+fn stepwise(bytes: &'static [u8], size: usize, calls: u8) -> Counted<Steps> {
     Counted::new(Steps { bytes, size, calls })
 }
 
@@ -135,7 +139,7 @@ fn expect_served<R: Abort>(
     let mut cache = cache_of(alloc, 5, 2, &[&[V]])?;
     let first = cache.open()?;
     cache.close(first);
-    let mut input = steps(input, 8, 9);
+    let mut input = stepwise(input, 8, 9);
     let mut output = list(alloc);
     assert!(rt; serve_stream(&mut cache, &mut input, &mut output, limit) == Ok(served));
     let out = output.device().as_slice();
@@ -152,10 +156,24 @@ fn expect_served<R: Abort>(
 fn a_connection_is_served_to_its_end(rt: HostRuntime) -> Result<(), Fail> {
     let alloc = rt.alloc();
     expect_served(&rt, alloc, TWO_QUERIES, 9, Served::PeerClosed, 2)?;
-    expect_served(&rt, alloc, b"\x01\x02\x00\x00\x00\x00\x00\x08\x01\x02", 9, Served::Truncated, 1)?;
+    expect_served(
+        &rt,
+        alloc,
+        b"\x01\x02\x00\x00\x00\x00\x00\x08\x01\x02",
+        9,
+        Served::Truncated,
+        1,
+    )?;
     expect_served(&rt, alloc, TWO_QUERIES, 1, Served::Limit, 1)?;
     expect_served(&rt, alloc, TWO_QUERIES, 0, Served::Limit, 0)?;
-    expect_served(&rt, alloc, b"\x01\x02\x00\x00\x00\x00\x00\x08\x00\x02\x00\x00\x00\x00\x00\x08", 9, Served::CacheEnded, 1)?;
+    expect_served(
+        &rt,
+        alloc,
+        b"\x01\x02\x00\x00\x00\x00\x00\x08\x00\x02\x00\x00\x00\x00\x00\x08",
+        9,
+        Served::CacheEnded,
+        1,
+    )?;
     Ok(())
 }
 
@@ -166,7 +184,11 @@ fn what_was_read_is_answered_before_the_next_read(rt: HostRuntime) -> Result<(),
     let list = Rc::new(alloc, RefCell::new(Vec::new(alloc)))?;
     let bytes = TWO_QUERIES;
     let mut input = Counted::new(Waiting {
-        steps: Steps { bytes, size: 8, calls: 9 },
+        steps: Steps {
+            bytes,
+            size: 8,
+            calls: 9,
+        },
         list: list.clone()?,
     });
     let mut output = Counted::new(SharedEnd { list });
@@ -181,8 +203,11 @@ fn a_device_that_fails_ends_the_connection(rt: HostRuntime) -> Result<(), Fail> 
     let alloc = rt.alloc();
     for room in [0, 1, 51, 52, 103] {
         let mut cache = cache_of(alloc, 5, 2, &[&[V]])?;
-        let mut input = steps(TWO_QUERIES, 16, 9);
-        let mut output = Counted::new(Narrow { taken: Vec::new(alloc), room });
+        let mut input = stepwise(TWO_QUERIES, 16, 9);
+        let mut output = Counted::new(Narrow {
+            taken: Vec::new(alloc),
+            room,
+        });
         let served = serve_stream(&mut cache, &mut input, &mut output, 9);
         assert!(rt; served == Err(StreamFault::WriteFailed));
         assert!(rt; output.failures() == 1 && input.failures() == 0);
@@ -190,7 +215,7 @@ fn a_device_that_fails_ends_the_connection(rt: HostRuntime) -> Result<(), Fail> 
         assert!(rt; out.len() == room && out.get(..room.min(52)) == ANSWER.get(..room.min(52)));
     }
     let mut cache = cache_of(alloc, 5, 2, &[&[V]])?;
-    let mut input = steps(TWO_QUERIES, 8, 1);
+    let mut input = stepwise(TWO_QUERIES, 8, 1);
     let mut output = list(alloc);
     let served = serve_stream(&mut cache, &mut input, &mut output, 9);
     assert!(rt; served == Err(StreamFault::ReadFailed));
@@ -208,7 +233,7 @@ fn expect_fetched<R: Abort>(
     limit: u64,
     fetched: Result<Fetched, StreamFault>,
 ) {
-    let mut input = steps(bytes, 20, 5);
+    let mut input = stepwise(bytes, 20, 5);
     let mut output = list(alloc);
     assert!(rt; fetch_stream(router, &mut input, &mut output, 100, limit) == fetched);
     assert!(rt; output.calls() == 1);
@@ -220,7 +245,7 @@ fn a_router_fetches(rt: HostRuntime) -> Result<(), Fail> {
     let alloc = rt.alloc();
     let mut router = Router::new(alloc);
     let reset = TWO_QUERIES.get(..8);
-    let mut input = steps(NO_DATA, 4096, 9);
+    let mut input = stepwise(NO_DATA, 4096, 9);
     let mut output = list(alloc);
     assert!(rt; fetch_stream(&mut router, &mut input, &mut output, 100, 9) == Ok(Fetched::NoData));
     assert!(rt; reset == Some(output.device().as_slice()));
@@ -238,7 +263,7 @@ fn a_router_fetches(rt: HostRuntime) -> Result<(), Fail> {
 fn a_link_that_ends_is_told(rt: HostRuntime) -> Result<(), Fail> {
     let alloc = rt.alloc();
     let mut router = Router::new(alloc);
-    let mut input = steps(TWO_QUERIES, 4096, 9);
+    let mut input = stepwise(TWO_QUERIES, 4096, 9);
     let mut output = list(alloc);
     let fetched = fetch_stream(&mut router, &mut input, &mut output, 100, 9);
     assert!(rt; fetched == Ok(Fetched::Ended(End::Reported(0))));
@@ -250,16 +275,19 @@ fn a_link_that_ends_is_told(rt: HostRuntime) -> Result<(), Fail> {
 fn a_fetch_that_fails_leaves_the_table(rt: HostRuntime) -> Result<(), Fail> {
     let alloc = rt.alloc();
     let mut router = Router::new(alloc);
-    expect_fetched(&rt, &mut router, alloc, ANSWER, 9, Ok(Fetched::Committed));
-    let mut input = steps(ANSWER, 8, 2);
+    let mut input = stepwise(ANSWER, 8, 2);
     let mut output = list(alloc);
     let fetched = fetch_stream(&mut router, &mut input, &mut output, 100, 9);
     assert!(rt; fetched == Err(StreamFault::ReadFailed));
-    assert!(rt; router.committed() == Some((4660, Serial(5))));
-    let mut narrow = Counted::new(Narrow { taken: Vec::new(alloc), room: 3 });
+    assert!(rt; input.failures() == 1 && router.table().is_empty());
+    expect_fetched(&rt, &mut router, alloc, ANSWER, 9, Ok(Fetched::Committed));
+    let mut narrow = Counted::new(Narrow {
+        taken: Vec::new(alloc),
+        room: 3,
+    });
     let fetched = fetch_stream(&mut router, &mut input, &mut narrow, 100, 9);
     assert!(rt; fetched == Err(StreamFault::WriteFailed));
-    assert!(rt; router.table().len() == 1);
-    expect_fetched(&rt, &mut router, alloc, ANSWER, 9, Ok(Fetched::Committed));
+    assert!(rt; narrow.device().taken.as_slice() == b"\x01\x01\x12".as_slice());
+    assert!(rt; router.committed() == Some((4660, Serial(5))));
     Ok(())
 }
