@@ -69,6 +69,11 @@ refused 7 at 16
 0103123400000008
 01071234000000180000000500000e100000025800001c20
 010a00030000001800000008010800000000000800000000
+committed 4660 5
+[{"asn":64496,"maxLength":24,"prefix":"192.0.2.0/24"}]
+served 1
+committed 4660 5
+valid
 END
 cmp -s told wanted || { diff told wanted >&2; exit 1; }
 grep -q '^point new$' errors || exit 1

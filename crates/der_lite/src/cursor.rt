@@ -9,8 +9,7 @@ ghost use Rattle.der_lite.specs.Place.{place_of};
 
 use crate::content::{ia5_text, is_bit_string, is_integer};
 use crate::head::read_head;
-use crate::tag;
-use crate::{Bits, DerFault, DerFaultKind, Moment};
+use crate::{Bits, DerFault, DerFaultKind, Moment, tag};
 use std::marker::Model;
 
 /// Reads the elements that stand in an enclosing one, in order.

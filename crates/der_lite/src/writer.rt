@@ -7,8 +7,7 @@ ghost use Rattle.der_lite.specs.Moments.{is_moment, moment_text};
 ghost use Rattle.der_lite.specs.Values.{unsigned_bytes};
 ghost use Rattle.der_lite.specs.Writing.{Adds};
 
-use crate::tag;
-use crate::{Bits, Moment};
+use crate::{Bits, Moment, tag};
 use std::alloc::{AllocError, Global};
 use std::marker::Model;
 

@@ -27,7 +27,7 @@ struct Form {
     lists: &'static [&'static str],
 }
 
-static FORMS: [Form; 7] = [
+static FORMS: [Form; 10] = [
     Form {
         name: "roa",
         options: &[],
@@ -61,6 +61,24 @@ static FORMS: [Form; 7] = [
     Form {
         name: "route",
         options: &["vrps"],
+        words: &["PREFIX", "ORIGIN"],
+        lists: &[],
+    },
+    Form {
+        name: "serve",
+        options: &["port", "session", "start", "vrps", "connections"],
+        words: &[],
+        lists: &[],
+    },
+    Form {
+        name: "fetch",
+        options: &["port"],
+        words: &[],
+        lists: &[],
+    },
+    Form {
+        name: "loop",
+        options: &["session", "start", "vrps"],
         words: &["PREFIX", "ORIGIN"],
         lists: &[],
     },
@@ -134,6 +152,28 @@ pub enum Order<'a> {
     },
     /// The state of the route that PREFIX and ORIGIN name.
     Route {
+        vrps: &'a str,
+        prefix: &'a str,
+        origin: &'a str,
+    },
+    /// So many connections on a port of this machine, served one after the other by a cache whose one version, under the serial `start`, is
+    /// the list of the file `vrps`.
+    Serve {
+        port: u16,
+        session: u16,
+        start: u32,
+        vrps: &'a str,
+        connections: u32,
+    },
+    /// What a router fetches from a cache on a port of this machine.
+    Fetch {
+        port: u16,
+    },
+    /// Both ends over a connection of this machine: what the router fetches from a cache of the list of the file `vrps`, and then the state of
+    /// the route that PREFIX and ORIGIN name.
+    Loop {
+        session: u16,
+        start: u32,
         vrps: &'a str,
         prefix: &'a str,
         origin: &'a str,
@@ -226,6 +266,32 @@ fn route_order<'a>(found: &ArgMatches<'a>) -> Result<Order<'a>, WordsFault> {
     })
 }
 
+fn serve_order<'a>(found: &ArgMatches<'a>) -> Result<Order<'a>, WordsFault> {
+    Ok(Order::Serve {
+        port: number_16(found, "port")?,
+        session: number_16(found, "session")?,
+        start: number_32(found, "start")?,
+        vrps: value(found, "vrps")?,
+        connections: number_32(found, "connections")?,
+    })
+}
+
+fn fetch_order<'a>(found: &ArgMatches<'a>) -> Result<Order<'a>, WordsFault> {
+    Ok(Order::Fetch {
+        port: number_16(found, "port")?,
+    })
+}
+
+fn loop_order<'a>(found: &ArgMatches<'a>) -> Result<Order<'a>, WordsFault> {
+    Ok(Order::Loop {
+        session: number_16(found, "session")?,
+        start: number_32(found, "start")?,
+        vrps: value(found, "vrps")?,
+        prefix: value(found, "PREFIX")?,
+        origin: value(found, "ORIGIN")?,
+    })
+}
+
 fn world_order<'a>(found: &ArgMatches<'a>) -> Result<Order<'a>, WordsFault> {
     Ok(Order::World {
         file: value(found, "FILE")?,
@@ -243,6 +309,9 @@ pub fn read_words(alloc: Global, words: &[String]) -> Result<Order<'_>, WordsFau
         Some(("units", found)) => units_order(found),
         Some(("answer", found)) => answer_order(found),
         Some(("route", found)) => route_order(found),
+        Some(("serve", found)) => serve_order(found),
+        Some(("fetch", found)) => fetch_order(found),
+        Some(("loop", found)) => loop_order(found),
         Some(("world", found)) => world_order(found),
         _ => Err(WordsFault::NoOrder),
     }

@@ -53,7 +53,7 @@ impl From<AllocError> for AnswerFault {
 }
 
 /// A cache that has published this set alone, under this serial.
-fn cache_with(
+pub(crate) fn cache_with(
     alloc: Global,
     session: u16,
     serial: u32,

@@ -11,6 +11,7 @@ pub mod roas;
 pub mod routing;
 pub mod runner;
 pub mod scripts;
+pub mod streaming;
 pub mod units;
 
 use std::process::ExitCode;

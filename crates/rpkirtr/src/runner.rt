@@ -2,19 +2,23 @@
 ghost use Rattle.std.specs.Prelude.{◌≡◌, ◌≤◌, ◌⊎◌, codes, IfOk};
 ghost use Rattle.std.specs.Io.KnownBytes.{Appends};
 
-use crate::answering::{AnswerFault, Answered, answer_lines};
+use crate::answering::{AnswerFault, Answered, answer_lines, cache_with};
 use crate::directories::{Directory, read_directories};
 use crate::manifests::print_manifest;
 use crate::offering::{offer_directory, tell_answer};
 use crate::playing::play;
 use crate::roas::print_roa;
-use crate::routing::{print_state, read_route};
+use crate::routing::{print_state, read_route, word_of};
+use crate::streaming::{
+    connected, dial, fetch_all, fetch_in_turns, listen, serve_all, tell_committed, tell_fetched,
+};
 use crate::units::{UnitsEnd, print_units};
 use der_lite::Moment;
 use orders::{Order, WordsFault, read_words};
 use payload_lists::{ListFault, read_list, write_list};
 use payloads::{PayloadFault, decode_manifest, decode_roa};
 use points::Repository;
+use rtr_ends::{Fetched, StreamFault};
 use std::alloc::{AllocError, Global};
 use std::io::{BufWriter, ErrorKind, Write};
 use std::net::Net;
@@ -130,6 +134,21 @@ fn run<R: Files + Net + AllocGlobal + Clone + Drop, O: Write, E: Write>(
             prefix,
             origin,
         } => route(rt, vrps, prefix, origin, out),
+        Order::Serve {
+            port,
+            session,
+            start,
+            vrps,
+            connections,
+        } => serve(rt, port, (session, start), vrps, connections, out),
+        Order::Fetch { port } => fetch(rt, port, out),
+        Order::Loop {
+            session,
+            start,
+            vrps,
+            prefix,
+            origin,
+        } => both_ends(rt, (session, start), vrps, (prefix, origin), out),
         Order::World { file } => world(rt, file, out),
     }
 }
@@ -301,6 +320,69 @@ fn route<R: Files + AllocGlobal, O: Write>(
         return refuse("list", out);
     };
     print_state(rt.alloc(), &set, &route, out)?;
+    Ok(0)
+}
+
+/// The command `serve`: serves so many connections on a port of this machine, by a cache that has published the list of the file `vrps`
+/// under the session and the serial of `name`. A connection that failed is served too, and gives the status.
+fn serve<R: Files + Net + AllocGlobal, O: Write>(
+    rt: &R,
+    port: u16,
+    name: (u16, u32),
+    vrps: &str,
+    connections: u32,
+    out: &mut O,
+) -> Result<u8, ProgramFault>
+    ensures { IfOk result (λ s. s ≤ 1) }
+{
+    let listener = listen(rt, port)?;
+    let Some(set) = read_set(rt, vrps)? else {
+        return refuse("list", out);
+    };
+    let mut cache = cache_with(rt.alloc(), name.0, name.1, set)?;
+    let first = serve_all(&listener, &mut cache, connections)?;
+    writeln!(out, "served {connections}")?;
+    match first {
+        None => Ok(0),
+        Some(StreamFault::Memory) => Err(ProgramFault::Memory),
+        Some(_) => Err(ProgramFault::Device),
+    }
+}
+
+/// The command `fetch`: what a router fetches from a cache on a port of this machine.
+fn fetch<R: Net + AllocGlobal, O: Write>(rt: &R, port: u16, out: &mut O) -> Result<u8, ProgramFault>
+    ensures { IfOk result (λ s. s ≤ 1) }
+{
+    let stream = dial(rt, port)?;
+    let (router, fetched) = fetch_all(rt.alloc(), stream)?;
+    tell_fetched(rt.alloc(), &router, fetched, out)
+}
+
+/// The command `loop`: both ends in this process over a connection of this machine. The cache has published the list of the file `vrps`
+/// under the session and the serial of `name`; what the router judges is the route of two words.
+fn both_ends<R: Files + Net + AllocGlobal, O: Write>(
+    rt: &R,
+    name: (u16, u32),
+    vrps: &str,
+    words: (&str, &str),
+    out: &mut O,
+) -> Result<u8, ProgramFault>
+    ensures { IfOk result (λ s. s ≤ 1) }
+{
+    let Some(route) = read_route(words.0, words.1) else {
+        return refuse("word", out);
+    };
+    let (near, far) = connected(rt)?;
+    let Some(set) = read_set(rt, vrps)? else {
+        return refuse("list", out);
+    };
+    let mut cache = cache_with(rt.alloc(), name.0, name.1, set)?;
+    let (router, fetched) = fetch_in_turns(rt.alloc(), &mut cache, near, far)?;
+    if fetched != Fetched::Committed {
+        return tell_fetched(rt.alloc(), &router, fetched, out);
+    }
+    tell_committed(&router, out)?;
+    writeln!(out, "{}", word_of(router.route_state(&route)))?;
     Ok(0)
 }
 

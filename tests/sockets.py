@@ -1,0 +1,209 @@
+#!/usr/bin/env python3
+"""The commands serve, fetch and loop over sockets of this machine.
+
+usage: tests/sockets.py PROGRAM
+
+The other end of each connection stands here, or is the program itself. It exits with 1 where something differs, and says what."""
+import os
+import socket
+import subprocess
+import sys
+import tempfile
+import threading
+import time
+
+BAD, DEVICE = "rpkirtr: bad words\n", "rpkirtr: device failed\n"
+ENTRY = '{"asn":64496,"maxLength":24,"prefix":"192.0.2.0/24"}'
+RESET = bytes.fromhex("0102000000000008")
+QUERY = bytes.fromhex("010112340000000c00000005")
+BEGIN, END = bytes.fromhex("0103123400000008"), bytes.fromhex("01071234000000180000000500000e100000025800001c20")
+ANSWER = BEGIN + bytes.fromhex("010400000000001401181800c00002000000fbf0") + END
+NO_DATA = bytes.fromhex("010a000200000018000000080102000000000008" + "00000000")
+
+program, failed = "", 0
+
+
+def differs(what, found, wanted):
+    global failed
+    if found != wanted:
+        failed += 1
+        print(f"{what}: {found} in place of {wanted}"[:2000])
+
+
+def expect(words, status, output, errors=""):
+    ran = subprocess.run([program, *words.split(" ")], stdin=subprocess.DEVNULL, stdout=subprocess.PIPE, stderr=subprocess.PIPE, timeout=60)
+    differs(words, (ran.returncode, ran.stdout.decode(), ran.stderr.decode()), (status, output, errors))
+
+
+def free_port():
+    with socket.socket() as it:
+        it.bind(("127.0.0.1", 0))
+        return it.getsockname()[1]
+
+
+def receive(peer, count):
+    """So many bytes, or those before the end."""
+    found = b""
+    while len(found) < count and (piece := peer.recv(count - len(found))):
+        found += piece
+    return found
+
+
+def dial(port):
+    for _turn in range(200):
+        try:
+            return socket.create_connection(("127.0.0.1", port), timeout=20)
+        except ConnectionRefusedError:
+            time.sleep(0.02)
+    sys.exit("no listener")
+
+
+def served(clients, status=0, output=None, errors="", extra=""):
+    """Serves so many clients, one after the other."""
+    port = free_port()
+    words = f"serve --port {port} --session 4660 --start 5 --vrps v.json --connections {len(clients)}{extra}"
+    with subprocess.Popen([program, *words.split(" ")], stdin=subprocess.DEVNULL, stdout=subprocess.PIPE, stderr=subprocess.PIPE) as ran:
+        for client in clients:
+            with dial(port) as peer:
+                client(peer)
+        out, err = ran.communicate(timeout=60)
+    differs(words, (ran.returncode, out.decode(), err.decode()), (status, f"served {len(clients)}\n" if output is None else output, errors))
+
+
+def asks_once(peer):
+    peer.sendall(RESET)
+    peer.shutdown(socket.SHUT_WR)
+    differs("the answer to a Reset Query", receive(peer, 1000), ANSWER)
+
+
+def waits_for_its_answers(peer):
+    peer.sendall(RESET[:3])
+    time.sleep(0.02)
+    peer.sendall(RESET[3:])
+    differs("the first answer", receive(peer, len(ANSWER)), ANSWER)
+    peer.sendall(QUERY)
+    differs("the second answer", receive(peer, len(BEGIN + END)), BEGIN + END)
+
+
+def asks_twice_at_once(peer):
+    peer.sendall(RESET + QUERY)
+    peer.shutdown(socket.SHUT_WR)
+    differs("two answers", receive(peer, 1000), ANSWER + BEGIN + END)
+
+
+def closes_within_a_unit(peer):
+    peer.sendall(RESET[:5])
+
+
+def sends_what_no_router_sends(peer):
+    peer.sendall(bytes.fromhex("0108000000000008"))
+    differs("the report", receive(peer, 1000), bytes.fromhex("010a00030000001800000008010800000000000800000000"))
+
+
+def serves():
+    served([])
+    served([asks_once])
+    served([waits_for_its_answers, closes_within_a_unit, asks_twice_at_once, sends_what_no_router_sends, asks_once])
+    expect("serve --port 0 --session 4660 --start 5 --vrps v.json --connections 0", 0, "served 0\n")
+    expect("serve --port 0 --session 4660 --start 5 --vrps gone --connections 0", 3, "", DEVICE)
+    expect("serve --port 0 --session 4660 --start 5 --vrps bad --connections 0", 1, "refused list\n")
+    for words in ("--port 65536 --session 1", "--port 0 --session 65536", "--port -1 --session 1", "--port 00 --session 1", "--session 1"):
+        expect(f"serve {words} --start 5 --vrps v.json --connections 0", 2, "", BAD)
+    expect("serve --port 0 --session 1 --start 4294967296 --vrps v.json --connections 0", 2, "", BAD)
+    expect("serve --port 0 --session 1 --start 5 --vrps v.json --connections 4294967296", 2, "", BAD)
+    with socket.socket() as taken:
+        taken.bind(("127.0.0.1", 0))
+        taken.listen()
+        expect(f"serve --port {taken.getsockname()[1]} --session 4660 --start 5 --vrps bad --connections 0", 3, "", DEVICE)
+
+
+def fetched(reply, status, output, errors="", question=RESET):
+    """Fetches from a cache that reads a question and sends these bytes, with the end of the connection behind them."""
+    with socket.socket() as listener:
+        listener.bind(("127.0.0.1", 0))
+        listener.listen()
+        listener.settimeout(20)
+
+        def answer():
+            peer, _address = listener.accept()
+            with peer:
+                differs("the question, in one piece", peer.recv(1000), question)
+                peer.sendall(reply)
+                peer.shutdown(socket.SHUT_WR)
+                while peer.recv(1000):
+                    pass
+
+        other = threading.Thread(target=answer)
+        other.start()
+        expect(f"fetch --port {listener.getsockname()[1]}", status, output, errors)
+        other.join(20)
+
+
+def fetches():
+    fetched(ANSWER, 0, f"committed 4660 5\n[{ENTRY}]\n")
+    fetched(BEGIN + END, 0, "committed 4660 5\n[]\n")
+    fetched(NO_DATA, 1, "no-data\n")
+    fetched(bytes.fromhex("010a00010000001000000000") + bytes(4), 1, "ended 2\n")
+    fetched(bytes.fromhex("0104000000000000"), 1, "ended 1\n")
+    fetched(bytes.fromhex("010a000000000010ffffffff00000000"), 1, "ended 3\n")
+    fetched(b"", 1, "closed\n")
+    for end in (1, 8, 51):
+        fetched(ANSWER[:end], 1, "closed\n")
+    expect(f"fetch --port {free_port()}", 3, "", DEVICE)
+    for words in ("fetch", "fetch --port", "fetch --port x", "fetch --port 65536", "fetch --port 1 --port 1", "fetch 1"):
+        expect(words, 2, "", BAD)
+
+
+def both():
+    """The program serves itself."""
+    port = free_port()
+    words = f"serve --port {port} --session 4660 --start 5 --vrps many.json --connections 2"
+    with subprocess.Popen([program, *words.split(" ")], stdin=subprocess.DEVNULL, stdout=subprocess.PIPE) as ran:
+        dial(port).close()
+        expect(f"fetch --port {port}", 0, f"committed 4660 5\n{MANY}\n")
+        differs(words, (ran.communicate(timeout=60)[0].decode(), ran.returncode), ("served 2\n", 0))
+
+
+def loops():
+    for route, state in (("192.0.2.0/24 64496", "valid"), ("192.0.2.0/25 64496", "invalid"), ("198.51.100.0/24 none", "not-found")):
+        expect(f"loop --session 4660 --start 5 --vrps v.json {route}", 0, f"committed 4660 5\n{state}\n")
+    expect("loop --session 1 --start 4294967295 --vrps many.json 10.0.7.0/24 1", 0, "committed 1 4294967295\nvalid\n")
+    expect("loop --session 1 --start 5 --vrps gone 10.0.0.0/33 1", 1, "refused word\n")
+    expect("loop --session 1 --start 5 --vrps gone 10.0.0.0/8 1", 3, "", DEVICE)
+    expect("loop --session 1 --start 5 --vrps bad 10.0.0.0/8 1", 1, "refused list\n")
+    expect("loop --session 1 --start 5 --vrps bad 10.0.0.0/8", 2, "", BAD)
+
+
+def closed_streams():
+    """Where standard streams are closed, no socket takes what is printed for them."""
+    with socket.socket() as listener:
+        listener.bind(("127.0.0.1", 0))
+        listener.listen()
+        listener.settimeout(20)
+        for closed in ("0<&-", "1>&-", "2>&-", "0<&- 1>&- 2>&-"):
+            ran = subprocess.Popen(["sh", "-c", f'exec "$0" fetch --port {listener.getsockname()[1]} {closed}', program], stdin=subprocess.DEVNULL, stdout=subprocess.PIPE, stderr=subprocess.PIPE)
+            try:
+                peer, _address = listener.accept()
+                with peer:
+                    peer.sendall(ANSWER)
+                    peer.shutdown(socket.SHUT_WR)
+                    differs(f"what a cache receives, {closed}", receive(peer, 1000), RESET)
+            except TimeoutError:
+                differs(f"a connection, {closed}", "none", "one")
+            ran.communicate(timeout=60)
+            differs(f"status, {closed}", ran.returncode, 3 if "1>&-" in closed else 0)
+
+
+MANY = "[" + ",".join('{"asn":1,"maxLength":24,"prefix":"10.%d.%d.0/24"}' % (n // 256, n % 256) for n in range(5000)) + "]"
+
+if __name__ == "__main__":
+    program = os.path.abspath(sys.argv[1])
+    with tempfile.TemporaryDirectory() as folder:
+        os.chdir(folder)
+        for name, text in (("v.json", f"[{ENTRY}]"), ("many.json", MANY), ("bad", "{}")):
+            with open(name, "w", encoding="utf-8") as it:
+                it.write(text)
+        for part in (serves, fetches, both, loops, closed_streams):
+            part()
+        os.chdir("/")
+    sys.exit(1 if failed else 0)

@@ -1,0 +1,7 @@
+#!/usr/bin/env bash
+# The commands over sockets: tests/sockets.py has the other ends.
+set -u
+top=$(cd "$(dirname "${BASH_SOURCE[0]}")/.." && pwd) || exit 1
+"$top/run" roa /dev/null >/dev/null 2>&1
+[ $? -eq 1 ] || exit 1
+exec python3 "$top/tests/sockets.py" "$top/crates/rpkirtr/out/rpkirtr"
