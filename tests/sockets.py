@@ -6,6 +6,7 @@ usage: tests/sockets.py PROGRAM
 The other end of each connection stands here, or is the program itself. It exits with 1 where something differs, and says what."""
 import os
 import socket
+import struct
 import subprocess
 import sys
 import tempfile
@@ -17,7 +18,8 @@ ENTRY = '{"asn":64496,"maxLength":24,"prefix":"192.0.2.0/24"}'
 RESET = bytes.fromhex("0102000000000008")
 QUERY = bytes.fromhex("010112340000000c00000005")
 BEGIN, END = bytes.fromhex("0103123400000008"), bytes.fromhex("01071234000000180000000500000e100000025800001c20")
-ANSWER = BEGIN + bytes.fromhex("010400000000001401181800c00002000000fbf0") + END
+ANNOUNCED = bytes.fromhex("010400000000001401181800c00002000000fbf0")
+ANSWER = BEGIN + ANNOUNCED + END
 NO_DATA = bytes.fromhex("010a000200000018000000080102000000000008" + "00000000")
 
 program, failed = "", 0
@@ -100,7 +102,33 @@ def sends_what_no_router_sends(peer):
     differs("the report", receive(peer, 1000), bytes.fromhex("010a00030000001800000008010800000000000800000000"))
 
 
+def in_two_pieces(size):
+    def asks(peer):
+        peer.setsockopt(socket.IPPROTO_TCP, socket.TCP_NODELAY, 1)
+        peer.sendall(RESET[:size])
+        time.sleep(0.01)
+        peer.sendall(RESET[size:])
+        differs(f"the answer to a query in pieces of {size} and {8 - size}", receive(peer, len(ANSWER)), ANSWER)
+
+    return asks
+
+
+def sends_rubbish(peer):
+    peer.sendall(bytes(range(200, 256)))
+    differs("the code of the report", receive(peer, 1000)[:4], bytes.fromhex("010a0004"))
+
+
+def hangs_up(peer):
+    """Resets the connection in the middle of an answer."""
+    peer.sendall(RESET)
+    receive(peer, 4)
+    peer.setsockopt(socket.SOL_SOCKET, socket.SO_LINGER, struct.pack("ii", 1, 0))
+
+
 def serves():
+    served([in_two_pieces(size) for size in range(1, 8)])
+    served([sends_rubbish, asks_once])
+    served([hangs_up, asks_once], 3, errors=DEVICE)
     served([])
     served([asks_once])
     served([waits_for_its_answers, closes_within_a_unit, asks_twice_at_once, sends_what_no_router_sends, asks_once])
@@ -117,8 +145,8 @@ def serves():
         expect(f"serve --port {taken.getsockname()[1]} --session 4660 --start 5 --vrps bad --connections 0", 3, "", DEVICE)
 
 
-def fetched(reply, status, output, errors="", question=RESET):
-    """Fetches from a cache that reads a question and sends these bytes, with the end of the connection behind them."""
+def fetched(reply, status, output, errors="", cut=0):
+    """Fetches from a cache that reads a question and sends these bytes, those before the cut first, and then the end of the connection."""
     with socket.socket() as listener:
         listener.bind(("127.0.0.1", 0))
         listener.listen()
@@ -127,8 +155,11 @@ def fetched(reply, status, output, errors="", question=RESET):
         def answer():
             peer, _address = listener.accept()
             with peer:
-                differs("the question, in one piece", peer.recv(1000), question)
-                peer.sendall(reply)
+                differs("the question, in one piece", peer.recv(1000), RESET)
+                peer.setsockopt(socket.IPPROTO_TCP, socket.TCP_NODELAY, 1)
+                peer.sendall(reply[:cut])
+                time.sleep(0.005 if cut else 0)
+                peer.sendall(reply[cut:])
                 peer.shutdown(socket.SHUT_WR)
                 while peer.recv(1000):
                     pass
@@ -147,8 +178,12 @@ def fetches():
     fetched(bytes.fromhex("0104000000000000"), 1, "ended 1\n")
     fetched(bytes.fromhex("010a000000000010ffffffff00000000"), 1, "ended 3\n")
     fetched(b"", 1, "closed\n")
-    for end in (1, 8, 51):
+    for cut in range(1, len(ANSWER)):
+        fetched(ANSWER, 0, f"committed 4660 5\n[{ENTRY}]\n", cut=cut)
+    for end in range(1, len(ANSWER), 5):
         fetched(ANSWER[:end], 1, "closed\n")
+    for units in ((1, 0, 2), (2, 0, 1), (0, 1, 1, 2), (1, 2, 0)):
+        fetched(b"".join((BEGIN, ANNOUNCED, END)[it] for it in units), 1, "ended 1\n")
     expect(f"fetch --port {free_port()}", 3, "", DEVICE)
     for words in ("fetch", "fetch --port", "fetch --port x", "fetch --port 65536", "fetch --port 1 --port 1", "fetch 1"):
         expect(words, 2, "", BAD)
