@@ -226,7 +226,14 @@ def closed_streams():
             except TimeoutError:
                 differs(f"a connection, {closed}", "none", "one")
             ran.communicate(timeout=60)
-            differs(f"status, {closed}", ran.returncode, 3 if "1>&-" in closed else 0)
+            differs(f"status of fetch, {closed}", ran.returncode, 3 if "1>&-" in closed else 0)
+    for closed in ("0<&-", "1>&-", "2>&-", "0<&- 1>&-", "0<&- 1>&- 2>&-"):
+        port = free_port()
+        script = f'exec "$0" serve --port {port} --session 4660 --start 5 --vrps v.json --connections 1 {closed}'
+        with subprocess.Popen(["sh", "-c", script, program], stdin=subprocess.DEVNULL, stdout=subprocess.DEVNULL, stderr=subprocess.DEVNULL) as ran:
+            with dial(port) as peer:
+                asks_once(peer)
+        differs(f"status of serve, {closed}", ran.returncode, 3 if "1>&-" in closed else 0)
 
 
 MANY = "[" + ",".join('{"asn":1,"maxLength":24,"prefix":"10.%d.%d.0/24"}' % (n // 256, n % 256) for n in range(5000)) + "]"
