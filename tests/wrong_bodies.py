@@ -244,6 +244,13 @@ def tried(crate, edits):
     return found
 
 
+def in_parts(crate, edits):
+    """The edits that are tried one after the other. Each function of a program takes long, over all libraries below it, and little of a check serves
+    the next: so a program's edits are shared out. Those of a library stay together, as the first check reads its proofs."""
+    size = 8 if crate.is_program else max(1, len(edits))
+    return [edits[at : at + size] for at in range(0, len(edits), size)]
+
+
 def edits_of(crate, words):
     """The edits of a crate that the words name."""
     crate.homes, folder = homes_of(crate), f"{crate.folder}/wrong"
@@ -277,8 +284,11 @@ def main(words):
         return 1
     tasks = {}
     for crate in wanted:
-        work = crate.count(rb"\n") * (2 + len(edits[crate.name]))
-        tasks[crate.name, "edits"] = ([], work, RT.need(crate), lambda given, jobs, it=crate: tried(it, edits[it.name]))
+        parts = in_parts(crate, edits[crate.name])
+        for number, part in enumerate(parts):
+            work = crate.count(rb"\n") * (2 + len(part)) * (8 if crate.is_program else 1)
+            # (a task of this second word gets one job)
+            tasks[f"{crate.name} {number}", "edits"] = ([], work, RT.need(crate), lambda given, jobs, of=crate, it=part: tried(of, it))
     found = [it for some in RT.in_lanes(tasks).values() for it in some]
     for edit, is_well, what in sorted(found, key=lambda it: it[0].label):
         print(f"wrong body {edit.label}: {what}")
