@@ -1,7 +1,7 @@
 //! ROAs by hand.
 
 use der_lite::{Bits, DerWriter};
-use payloads::{PayloadFault, Roa, RoaEntry, decode_roa};
+use payloads::{PayloadFault, Roa, RoaEntry, decode_roa, encode_roa};
 use prefixes::{Asn, IpPrefix, Prefix, PrefixFault, V4, Vrp};
 use std::alloc::Global;
 use std::process::Abort;
@@ -141,26 +141,52 @@ fn tells_the_first_fault(rt: HostRuntime) {
             "at {payload:?}"
         );
     }
-    let whole = ONE_PREFIX.as_slice();
-    for cut in 0..25usize {
-        assert!(rt; fault(alloc, &whole[..cut]) == Some((1, 0)), "{cut} bytes");
+    for payload in whole() {
+        for cut in 0..payload.len() {
+            let (front, _) = payload.split_at(cut);
+            assert!(rt;
+                fault(alloc, front) == Some((1, 0)),
+                "{cut} bytes of {payload:?}"
+            );
+        }
+    }
+}
+
+/// Payloads that are each changed in every byte, and cut behind every byte.
+fn whole() -> [&'static [u8]; 3] {
+    [
+        ONE_PREFIX.as_slice(),
+        NO_BITS.as_slice(),
+        WITH_MAXIMUM.as_slice(),
+    ]
+}
+
+/// Whether a payload is taken and is what its ROA is written as, or has a fault that is told inside it.
+fn is_judged(alloc: Global, payload: &[u8]) -> Result<bool, Fail> {
+    match decode_roa(alloc, payload) {
+        Ok(roa) => Ok(encode_roa(alloc, &roa)?.as_slice() == payload),
+        Err(PayloadFault::At(fault)) => {
+            Ok(fault.kind.number() < 20 && fault.offset <= payload.len())
+        }
+        Err(PayloadFault::Memory) => Ok(false),
     }
 }
 
 #[test]
-fn tells_faults_inside_the_payload(rt: HostRuntime) {
+fn judges_payloads_with_one_other_byte(rt: HostRuntime) -> Result<(), Fail> {
     let alloc = rt.alloc();
-    for index in 0..29usize {
-        for byte in 0..=255u8 {
-            let mut payload = *WITH_MAXIMUM;
-            payload[index] = byte;
-            let inside = match fault(alloc, &payload) {
-                None => true,
-                Some((number, offset)) => number > 0 && number < 20 && offset <= 29,
-            };
-            assert!(rt; inside, "{byte} at {index}");
+    for payload in whole() {
+        for at in 0..payload.len() {
+            for byte in 0..=255u8 {
+                let mut changed = Vec::from_slice(alloc, payload)?;
+                if let Some(place) = changed.get_mut(at) {
+                    *place = byte;
+                }
+                assert!(rt; is_judged(alloc, changed.as_slice())?, "{byte} at {at}");
+            }
         }
     }
+    Ok(())
 }
 
 /// The entries of these prefixes and maxima.

@@ -290,19 +290,30 @@ const HOSTILE: &[(&[u8], usize, &[u8], End)] = &[
 #[test]
 fn hostile_units_are_refused(rt: HostRuntime) {
     for (bytes, taken, report, end) in HOSTILE {
-        let mut router = asked(&rt, rt.alloc(), 0);
-        let mut count = 0usize;
-        for _ in 0..3 {
-            if let Some(rest) = bytes.get(count..) {
-                count = count.saturating_add(router.receive(rest, 0));
-            }
+        for cut in 0..bytes.len() {
+            let mut router = asked(&rt, rt.alloc(), 0);
+            assert!(rt;
+                taken_of(&mut router, bytes, cut) == *taken,
+                "{cut} of {bytes:?}"
+            );
+            assert!(rt; router.link() == Link::Ended(*end));
+            expect_pulled(&rt, &mut router, report);
+            assert!(rt; router.receive(RESPONSE, 0) == 0);
+            expect_nothing(&rt, &router);
         }
-        assert!(rt; count == *taken);
-        assert!(rt; router.link() == Link::Ended(*end));
-        expect_pulled(&rt, &mut router, report);
-        assert!(rt; router.receive(RESPONSE, 0) == 0);
-        expect_nothing(&rt, &router);
     }
+}
+
+/// How many bytes a router takes where they come in two pieces, and what it leaves comes again.
+fn taken_of(router: &mut Router, bytes: &[u8], cut: usize) -> usize {
+    let (front, _) = bytes.split_at(cut);
+    let mut count = router.receive(front, 0);
+    for _ in 0..3 {
+        if let Some(rest) = bytes.get(count..) {
+            count = count.saturating_add(router.receive(rest, 0));
+        }
+    }
+    count
 }
 
 /// The links of the protocol's table.
