@@ -324,7 +324,7 @@ def cited_by(house):
         for it in file.definitions:
             for pair in cited(it.comment, of):
                 places[pair].append(f"`{it.name}` in {link(file.path)}")
-    for crate in crates() + ["payload_examples", "set_examples", "rtr_examples"]:
+    for crate in crates() + ["payload_examples", "set_examples", "rtr_examples", "memory_examples"]:
         for path in sorted(glob.glob(f"{TOP}/crates/{crate}/src/*.rt")):
             found = comments(path)
             of = subject(found[0][1] if found else "", crate)
