@@ -16,7 +16,7 @@ const RESET: [u8; 8] = [1, 2, 0, 0, 0, 0, 0, 8];
 
 const RESPONSE: [u8; 8] = [1, 3, 0x12, 0x34, 0, 0, 0, 8];
 
-const V_UNIT: [u8; 20] = [
+pub(crate) const V_UNIT: [u8; 20] = [
     1, 4, 0, 0, 0, 0, 0, 20, 1, 24, 24, 0, 192, 0, 2, 0, 0, 0, 0xfb, 0xf0,
 ];
 

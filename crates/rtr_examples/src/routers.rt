@@ -306,8 +306,7 @@ fn hostile_units_are_refused(rt: HostRuntime) {
 
 /// How many bytes a router takes where they come in two pieces, and what it leaves comes again.
 fn taken_of(router: &mut Router, bytes: &[u8], cut: usize) -> usize {
-    let (front, _) = bytes.split_at(cut);
-    let mut count = router.receive(front, 0);
+    let mut count = bytes.get(..cut).map_or(0, |front| router.receive(front, 0));
     for _ in 0..3 {
         if let Some(rest) = bytes.get(count..) {
             count = count.saturating_add(router.receive(rest, 0));

@@ -72,6 +72,37 @@ impl Write for Narrow {
     }
 }
 
+/// A writer that takes so many bytes a call, and after so many calls none: it fails, or says that it took none.
+#[derive(Drop)]
+struct Stalling {
+    taken: Vec<u8>,
+    size: usize,
+    calls: u8,
+    fails: bool,
+}
+
+impl Write for Stalling {
+    fn write(&mut self, buf: &[u8]) -> io::Result<usize> {
+        if self.calls == 0 {
+            return if self.fails {
+                Err(io::Error::from(ErrorKind::BrokenPipe))
+            } else {
+                Ok(0)
+            };
+        }
+        self.calls -= 1;
+        let count = self.size.min(buf.len());
+        match buf.get(..count) {
+            Some(front) if self.taken.extend_from_slice(front).is_ok() => Ok(count),
+            _ => Err(io::Error::from(ErrorKind::OutOfMemory)),
+        }
+    }
+
+    fn flush(&mut self) -> io::Result<()> {
+        Ok(())
+    }
+}
+
 /// A writer into a list that a reader sees too.
 #[derive(Drop)]
 struct SharedEnd {
@@ -221,6 +252,62 @@ fn a_device_that_fails_ends_the_connection(rt: HostRuntime) -> Result<(), Fail> 
     assert!(rt; served == Err(StreamFault::ReadFailed));
     assert!(rt; StreamFault::ReadFailed.number() == 1);
     assert!(rt; output.device().as_slice() == ANSWER);
+    Ok(())
+}
+
+/// What changed since serial 5 of session 4660? Asked twice: nothing changed.
+const SINCE_TWICE: &[u8] =
+    b"\x01\x01\x12\x34\x00\x00\x00\x0c\x00\x00\x00\x05\x01\x01\x12\x34\x00\x00\x00\x0c\x00\x00\x00\x05";
+
+const UNCHANGED_TWICE: &[u8] =
+    b"\x01\x03\x12\x34\x00\x00\x00\x08\x01\x07\x12\x34\x00\x00\x00\x18\x00\x00\x00\x05\x00\x00\x0e\x10\x00\x00\x02\x58\x00\x00\x1c\x20\x01\x03\x12\x34\x00\x00\x00\x08\x01\x07\x12\x34\x00\x00\x00\x18\x00\x00\x00\x05\x00\x00\x0e\x10\x00\x00\x02\x58\x00\x00\x1c\x20";
+
+#[test]
+fn each_read_may_fail(rt: HostRuntime) -> Result<(), Fail> {
+    let alloc = rt.alloc();
+    for calls in 0..5u8 {
+        let mut cache = cache_of(alloc, 5, 2, &[&[V]])?;
+        let first = cache.open()?;
+        cache.close(first);
+        let mut input = stepwise(SINCE_TWICE, 5, calls);
+        let mut output = list(alloc);
+        let served = serve_stream(&mut cache, &mut input, &mut output, 9);
+        assert!(rt; served == Err(StreamFault::ReadFailed));
+        // Each answer of 32 bytes follows the 12 bytes of its query.
+        let answered = usize::from(calls) * 5 / 12 * 32;
+        assert!(rt;
+            UNCHANGED_TWICE.get(..answered) == Some(output.device().as_slice()),
+            "{calls}"
+        );
+        assert!(rt; cache.open()? == first);
+    }
+    Ok(())
+}
+
+#[test]
+fn each_write_may_fail_or_take_nothing(rt: HostRuntime) -> Result<(), Fail> {
+    let alloc = rt.alloc();
+    for (calls, fails) in (0..=10u8).flat_map(|calls| [(calls, true), (calls, false)]) {
+        let mut cache = cache_of(alloc, 5, 2, &[&[V]])?;
+        let first = cache.open()?;
+        cache.close(first);
+        let mut input = stepwise(SINCE_TWICE, 24, 9);
+        let mut output = Counted::new(Stalling {
+            taken: Vec::new(alloc),
+            size: 7,
+            calls,
+            fails,
+        });
+        let served = serve_stream(&mut cache, &mut input, &mut output, 9);
+        // Each answer of 32 bytes takes five calls.
+        let whole = usize::from(calls / 5) * 32 + usize::from(calls % 5) * 7;
+        assert!(rt; served.is_err() == (whole < 64), "{calls}");
+        assert!(rt;
+            UNCHANGED_TWICE.get(..whole) == Some(output.device().taken.as_slice()),
+            "{calls}"
+        );
+        assert!(rt; cache.open()? == first);
+    }
     Ok(())
 }
 

@@ -1,4 +1,6 @@
+use crate::caches::V_UNIT;
 use arrayvec::ArrayVec;
+use prefixes::{Asn, IpPrefix, Vrp};
 use rtr_pdu::{
     Counted, Next, ReadFault, Unit, UnitFault, UnitReader, encode, read_all, read_unit, write_unit,
 };
@@ -314,24 +316,25 @@ fn end_and_failure_of_a_reader(rt: HostRuntime) {
 
 #[test]
 fn units_to_a_writer(rt: HostRuntime) -> Result<(), Fail> {
-    let query = Unit::SerialQuery {
-        session: 0x1234,
-        serial: 5,
+    let vrp = Vrp::new(IpPrefix::parse("192.0.2.0/24")?, 24, Asn(64496))?;
+    let unit = Unit::Prefix {
+        announce: true,
+        vrp,
     };
     let mut whole = Counted::new(Vec::new(rt.alloc()));
-    assert!(rt; write_unit(&query, &mut whole).is_ok());
-    assert!(rt; whole.device().as_slice() == SERIAL_QUERY.as_slice());
+    assert!(rt; write_unit(&unit, &mut whole).is_ok());
+    assert!(rt; whole.device().as_slice() == V_UNIT.as_slice());
     assert!(rt; (whole.calls(), whole.failures()) == (1, 0));
-    for calls in [12u8, 5, 0] {
+    for calls in 0..=20u8 {
         let mut out = Counted::new(Narrow {
             taken: Vec::new(rt.alloc()),
             calls,
             is_flushed: false,
         });
-        let written = write_unit(&query, &mut out);
-        assert!(rt; written.is_ok() == (calls == 12));
-        assert!(rt; out.device().taken.as_slice() == &SERIAL_QUERY[..usize::from(calls)]);
-        assert!(rt; out.failures() == (if calls == 12 { 0 } else { 1 }));
+        let written = write_unit(&unit, &mut out);
+        assert!(rt; written.is_ok() == (calls == 20));
+        assert!(rt; V_UNIT.get(..usize::from(calls)) == Some(out.device().taken.as_slice()));
+        assert!(rt; out.failures() == (if calls == 20 { 0 } else { 1 }));
     }
     Ok(())
 }
