@@ -1,0 +1,289 @@
+#!/usr/bin/env python3
+"""Real peers over loopback: routers that ask our cache, and caches that our router asks.
+
+usage: tests/peers.py PROGRAM
+
+For each peer that is installed its own view of its table is read and compared with the list that was served: after a Reset Query, after
+the cache was started again with the next serial and another list, after it was started with another session, and, where the peer is the
+cache, after it changed its list. It prints a
+table of what was tried, and exits with 1 where a view differs. All is bounded in time, on ports of 127.0.0.1 that the system chose."""
+import contextlib
+import json
+import os
+import pwd
+import re
+import shutil
+import socket
+import subprocess
+import sys
+import tempfile
+import time
+
+FIRST = [("192.0.2.0/24", 24, 64496), ("198.51.100.0/24", 26, 64497), ("203.0.113.0/25", 25, 0), ("2001:db8::/32", 48, 64498)]
+SECOND = [("192.0.2.0/24", 25, 64496), ("198.51.100.0/24", 26, 64499), ("2001:db8::/32", 48, 64498), ("2001:db8:1::/48", 48, 4200000000)]
+
+# How long a peer may take until its table is the one that is served, in seconds.
+PATIENCE = 15
+
+
+def free_port():
+    with socket.create_server(("127.0.0.1", 0)) as it:
+        return it.getsockname()[1]
+
+
+def write(name, text):
+    with open(name, "w") as it:
+        it.write(text)
+    return os.path.abspath(name)
+
+
+def said(*words, seconds=10):
+    """What a command prints, or nothing where it failed or took too long."""
+    try:
+        return subprocess.run(words, stdin=subprocess.DEVNULL, stdout=subprocess.PIPE, stderr=subprocess.STDOUT, text=True, timeout=seconds).stdout
+    except subprocess.TimeoutExpired:
+        return ""
+
+
+@contextlib.contextmanager
+def running(*words):
+    """A program in the background, which is ended behind the block. Its output goes to a file of its name."""
+    with open(f"{os.path.basename(words[0])}.log", "a") as log:
+        it = subprocess.Popen(words, stdin=subprocess.DEVNULL, stdout=log, stderr=log)
+        try:
+            yield it
+        finally:
+            it.terminate()
+            try:
+                it.wait(5)
+            except subprocess.TimeoutExpired:
+                it.kill()
+                it.wait()
+
+
+class Ours:
+    """The program."""
+
+    def __init__(self, program):
+        self.program = program
+
+    def serving(self, port, session, start, records):
+        entries = [{"asn": asn, "maxLength": longest, "prefix": prefix} for prefix, longest, asn in records]
+        name = write("list.json", json.dumps(entries))
+        words = ["serve", "--port", port, "--session", session, "--start", start, "--vrps", name, "--connections", 9]
+        return running(self.program, *map(str, words))
+
+    def fetched(self, port):
+        """The records that a router of ours commits, or None."""
+        told = said(self.program, "fetch", "--port", str(port))
+        found = re.fullmatch(r"committed \d+ \d+\n(\[.*\])\n", told)
+        return sorted((it["prefix"], it["maxLength"], it["asn"]) for it in json.loads(found[1])) if found else None
+
+
+def awaited(view, records):
+    """Whether a view comes to these records within the patience, and what it showed last."""
+    end = time.time() + PATIENCE
+    while True:
+        shown = view()
+        if shown == sorted(records) or time.time() > end:
+            return shown == sorted(records), shown
+        time.sleep(0.3)
+
+
+def records_in(pattern, text):
+    """The records of a text: prefix, longest length, AS."""
+    # (rtrclient prints an AS above 2147483647 as a negative number)
+    return sorted((f"{prefix}/{length}", int(longest), int(asn) % 2**32) for prefix, length, longest, asn in re.findall(pattern, text))
+
+
+# ---- routers
+
+
+def rtrclient(port):
+    """rtr-tools: asks once and writes what it holds."""
+
+    def view():
+        with contextlib.suppress(FileNotFoundError):
+            os.remove("rtrclient.csv")
+        said("rtrclient", "-e", "-t", "csv", "-o", "rtrclient.csv", "tcp", "127.0.0.1", str(port))
+        with contextlib.suppress(FileNotFoundError), open("rtrclient.csv") as it:
+            return records_in(r"(\S+), (\d+), (\d+), (-?\d+)", it.read())
+
+    return contextlib.nullcontext(view)
+
+
+def rtrdump(port):
+    """StayRTR's client: asks once and writes what it holds."""
+
+    def view():
+        with contextlib.suppress(FileNotFoundError):
+            os.remove("rtrdump.json")
+        said("rtrdump", "-connect", f"127.0.0.1:{port}", "-rtr.version", "1", "-file", "rtrdump.json")
+        with contextlib.suppress(FileNotFoundError), open("rtrdump.json") as it:
+            return sorted((it["prefix"], it["maxLength"], it["asn"]) for it in json.load(it)["roas"])
+
+    return contextlib.nullcontext(view)
+
+
+BIRD = """log stderr all;
+router id 127.0.0.1;
+roa4 table r4;
+roa6 table r6;
+protocol device {{}}
+protocol rpki cache {{
+    roa4 {{ table r4; }};
+    roa6 {{ table r6; }};
+    remote 127.0.0.1 port {port};
+    retry keep 1;
+    refresh keep 2;
+    expire keep 600;
+}}
+"""
+
+
+@contextlib.contextmanager
+def bird(port):
+    name = write("bird.conf", BIRD.format(port=port))
+    with running("bird", "-f", "-c", name, "-s", "bird.ctl", "-P", "bird.pid"):
+        tables = lambda: "".join(said("birdc", "-s", "bird.ctl", "show", "route", "table", it) for it in ("r4", "r6"))
+        yield lambda: records_in(r"(?m)^(\S+)/(\d+)-(\d+) AS(\d+)", tables())
+
+
+FRR = """log stdout
+rpki
+ rpki polling_period 2
+ rpki retry_interval 1
+ rpki cache 127.0.0.1 {port} preference 1
+exit
+"""
+
+
+@contextlib.contextmanager
+def frr(port):
+    name = write("frr.conf", FRR.format(port=port))
+    os.makedirs("frr", exist_ok=True)
+    with contextlib.suppress(KeyError, PermissionError):
+        shutil.chown("frr", "frr", "frr")
+    place = os.path.abspath("frr")
+    words = ["-M", "rpki", "-f", name, "-p", "0", "-n", "-S", "-Z", "--vty_socket", place, "-i", f"{place}/bgpd.pid", "-A", "127.0.0.1", "-P", "0"]
+    with running("/usr/lib/frr/bgpd", *words):
+        view = lambda: said("vtysh", "--vty_socket", place, "-d", "bgpd", "-c", "show rpki prefix-table")
+        yield lambda: records_in(r"(?m)^(\S+)\s+(\d+) -\s+(\d+)\s+(\d+)", view())
+
+
+OPENBGPD = """AS 64500
+router-id 127.0.0.1
+listen on 127.0.0.1 port {bgp}
+socket "{place}/openbgpd.sock"
+rtr 127.0.0.1 {{
+    port {port}
+}}
+"""
+
+
+@contextlib.contextmanager
+def openbgpd(port):
+    place = os.getcwd()
+    name = write("openbgpd.conf", OPENBGPD.format(bgp=free_port(), place=place, port=port))
+    os.chmod(name, 0o600)
+    # (where no service manager made the folder that it locks itself into)
+    os.makedirs(pwd.getpwnam("_openbgpd").pw_dir, exist_ok=True)
+    with running("/usr/sbin/bgpd", "-d", "-f", name):
+        # (it tells how many of each family it holds, and no more)
+        def view():
+            found = re.search(r"(?m)^ROA\s+RPKI ROA\s+(\d+)\s+(\d+)", said("bgpctl", "-s", f"{place}/openbgpd.sock", "show", "sets"))
+            return (int(found[1]), int(found[2])) if found else None
+
+        yield view
+
+
+def counted(records):
+    """How many records of each family."""
+    return sum(":" not in it[0] for it in records), sum(":" in it[0] for it in records)
+
+
+def asked_by(ours, name, peer, tells_counts):
+    """Lets a router fill its table from our cache, from one that was started again with the next serial of its session, and from one of
+    another session."""
+    port, cells = free_port(), []
+    with contextlib.ExitStack() as stack:
+        view = None
+        for at, (session, start, records) in enumerate([(4660, 5, FIRST), (4660, 6, SECOND), (8738, 9, FIRST)]):
+            if at in WAITS.get(name, []):
+                cells.append("waits")
+                continue
+            with ours.serving(port, session, start, records):
+                time.sleep(0.3)
+                view = view or stack.enter_context(peer(port))
+                cells.append(compared(name, view, records, tells_counts))
+    return cells
+
+
+# Where these peers keep the table that they have for longer than a test can wait: FRR (librtr) connects again after the retry interval of
+# the cache, 600 seconds; OpenBGPD goes on with the session that is gone until its table expires.
+WAITS = {"frr": [1, 2], "openbgpd": [2]}
+
+
+def compared(name, view, records, tells_counts):
+    if tells_counts:
+        is_well, shown = awaited(lambda: [view()], [counted(records)])
+    else:
+        is_well, shown = awaited(view, records)
+    if not is_well:
+        print(f"{name}: {shown} in place of {records}")
+    return "agrees" if is_well else "DIFFERS"
+
+
+# ---- caches
+
+
+def exported(records):
+    roas = [{"prefix": prefix, "maxLength": longest, "asn": f"AS{asn}"} for prefix, longest, asn in records]
+    return json.dumps({"metadata": {"buildtime": "2026-01-01T00:00:00Z"}, "roas": roas})
+
+
+def stayrtr(ours):
+    """StayRTR as a cache: our router holds its list, and the new one where it changed."""
+    port, name = free_port(), write("stayrtr.json", exported(FIRST))
+    words = ["-bind", f"127.0.0.1:{port}", "-cache", name, "-checktime=false", "-metrics.addr", "", "-refresh", "1"]
+    view = lambda: ours.fetched(port)
+    with running("stayrtr", *words):
+        cells = [compared("stayrtr", view, FIRST, False)]
+        write(name, exported(SECOND))
+        cells.append(compared("stayrtr", view, SECOND, False))
+    with running("stayrtr", *words):
+        cells.append(compared("stayrtr", view, SECOND, False))
+    return cells
+
+
+ROUTERS = {
+    "rtrclient": ("rtr-tools", "rtrclient", rtrclient, False),
+    "rtrdump": ("stayrtr", "rtrdump", rtrdump, False),
+    "bird": ("bird2", "bird", bird, False),
+    "frr": ("frr-rpki-rtrlib", "/usr/lib/frr/bgpd", frr, False),
+    "openbgpd": ("openbgpd", "/usr/sbin/bgpd", openbgpd, True),
+}
+
+
+def main(program):
+    ours, rows = Ours(os.path.abspath(program)), []
+    with tempfile.TemporaryDirectory() as folder:
+        os.chmod(folder, 0o755)
+        os.chdir(folder)
+        for name, (package, command, peer, tells_counts) in ROUTERS.items():
+            if shutil.which(command):
+                rows.append((name, "router", *asked_by(ours, name, peer, tells_counts)))
+            else:
+                print(f"skipped: {package} is not installed")
+        if shutil.which("stayrtr"):
+                rows.append(("stayrtr", "cache", *stayrtr(ours)))
+        else:
+            print("skipped: stayrtr is not installed")
+        os.chdir("/")
+    for row in [("peer", "is a", "Reset Query", "next serial", "new session"), *rows]:
+        print("".join(f"{it:<14}" for it in row).rstrip())
+    return 1 if any("DIFFERS" in row for row in rows) else 0
+
+
+if __name__ == "__main__":
+    sys.exit(main(sys.argv[1]))

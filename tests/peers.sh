@@ -1,0 +1,15 @@
+#!/usr/bin/env bash
+# Real peers from Debian's packages over loopback: tests/peers.py has them. What is not installed is passed over, and told; with --install
+# it is installed by apt-get first. This is no part of ./test.
+set -u
+top=$(cd "$(dirname "${BASH_SOURCE[0]}")/.." && pwd) || exit 1
+if [ "${1:-}" = --install ]; then
+    { apt-get update && DEBIAN_FRONTEND=noninteractive apt-get install -y --no-install-recommends \
+        rtr-tools stayrtr bird2 frr frr-rpki-rtrlib openbgpd; } >/dev/null || exit 1
+elif [ $# -gt 0 ]; then
+    echo 'usage: tests/peers.sh [--install]' >&2
+    exit 2
+fi
+"$top/run" roa /dev/null >/dev/null 2>&1
+[ $? -eq 1 ] || exit 1
+exec timeout 300 python3 "$top/tests/peers.py" "$top/crates/rpkirtr/out/rpkirtr"
