@@ -22,6 +22,7 @@ PROMISES = [
     ("Units in any cutting", ["rtr_pdu::UnitReader::next", "rtr_pdu::encode", "rtr_pdu::laws::one_split"]),
     ("A cache's replies", ["rtr_ends::Cache::receive", "rtr_ends::Cache::pull", "rtr_ends::laws::serves_history"]),
     ("What a router commits", ["rtr_ends::Router::receive", "rtr_ends::laws::router_keeps", "rtr_ends::laws::acts_exactly"]),
+    ("From what is offered to the state of a route", ["feed::route_from_payloads"]),
     ("The headline, after every list of events", ["rtr_world::World::run", "rtr_world::laws::headline"]),
     ("Catching up", ["rtr_world::World::catch_up"]),
 ]
@@ -324,7 +325,7 @@ def cited_by(house):
         for it in file.definitions:
             for pair in cited(it.comment, of):
                 places[pair].append(f"`{it.name}` in {link(file.path)}")
-    for crate in crates() + ["payload_examples", "set_examples", "rtr_examples", "memory_examples"]:
+    for crate in crates() + ["payload_examples", "set_examples", "rtr_examples", "memory_examples", "feed_examples"]:
         for path in sorted(glob.glob(f"{TOP}/crates/{crate}/src/*.rt")):
             found = comments(path)
             of = subject(found[0][1] if found else "", crate)

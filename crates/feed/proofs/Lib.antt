@@ -1,0 +1,7 @@
+pub mod Sets
+pub mod Taking
+pub mod Using
+pub mod Streams
+pub mod Serving
+pub mod Transcripts
+pub mod Fetching

@@ -1,0 +1,66 @@
+//! Why there is no state of a route.
+ghost use Rattle.std.specs.Prelude.{◌≡◌};
+
+use points::PointFault;
+use std::alloc::AllocError;
+use vrps::SetFault;
+
+/// Why there is no state of a route. Each has a fixed number.
+#[derive(Clone, Copy, Debug, PartialEq, Eq)]
+pub enum FeedFault {
+    /// 1: an offer is refused, for another cause than want of memory: its index, from 0, and the fault. All offers before it were taken.
+    Point(usize, PointFault),
+    /// 2: over 16,777,215 different payloads are in use.
+    TooMany,
+    /// 3: want of memory.
+    Memory,
+}
+
+impl FeedFault {
+    ghost use Rattle.feed.specs.Feed.{feed_fault_number};
+    ghost use Rattle.feed.specs.Loopback.{told_at};
+
+    /// What the fault of the offer of this index is told as.
+    pub(crate) fn at(i: usize, fault: PointFault) -> FeedFault
+        ensures { result ≡ told_at i fault }
+    {
+        match fault {
+            PointFault::Memory => FeedFault::Memory,
+            fault => FeedFault::Point(i, fault),
+        }
+    }
+
+    /// The number by which the fault is printed, 1 to 3.
+    pub fn number(&self) -> u8
+        ensures { result ≡ feed_fault_number self.now }
+    {
+        match self {
+            FeedFault::Point(_, _) => 1,
+            FeedFault::TooMany => 2,
+            FeedFault::Memory => 3,
+        }
+    }
+}
+
+impl From<AllocError> for FeedFault {
+    ghost use Rattle.feed.specs.declared.fault.FeedFault.TheVariants.{Memory};
+
+    ghost from_gives = { λ _ fault. fault ≡ Memory };
+
+    fn from(_error: AllocError) -> FeedFault {
+        FeedFault::Memory
+    }
+}
+
+impl From<SetFault> for FeedFault {
+    ghost use Rattle.feed.specs.Loopback.{told_of_set};
+
+    ghost from_gives = { λ refused fault. fault ≡ told_of_set refused };
+
+    fn from(refused: SetFault) -> FeedFault {
+        match refused {
+            SetFault::TooMany => FeedFault::TooMany,
+            SetFault::Memory => FeedFault::Memory,
+        }
+    }
+}

@@ -1,0 +1,43 @@
+//! The state of a route from what is offered.
+ghost use Rattle.std.specs.Prelude.{IfOk, IfErr};
+ghost use Rattle.feed.specs.Feed.{IsFed, IsRefused};
+
+use crate::loopback::{answer_with, router_with};
+use crate::offers::take_all;
+use crate::{FeedFault, Offer};
+use der_lite::Moment;
+use prefixes::Route;
+use std::alloc::Global;
+use vrps::{OriginState, VrpSet};
+
+/// The state of a route, and what was sent for it.
+#[derive(Drop)]
+pub struct Fed {
+    /// The state of the route at the router (RFC 6811 section 2).
+    pub state: OriginState,
+    /// All that the cache sent to the router.
+    pub wire: Vec<u8>,
+}
+
+/// The state of a route at a new router that asks a cache for all, where the cache has published what is in use at a moment after all
+/// these offers, made at that moment to publication points that had accepted nothing, in their order. An offer that is the same as what
+/// its point holds is no fault. The set is published as serial 0 of session 1, with the intervals that RFC 8210 section 6 recommends.
+/// The router is handed the cache's bytes in pieces of at most 4,096.
+///
+/// The first offer that is refused decides, or that meets want of memory; then too many payloads; then want of memory.
+pub fn route_from_payloads(
+    alloc: Global,
+    offers: &[Offer<'_>],
+    now: Moment,
+    route: &Route,
+) -> Result<Fed, FeedFault>
+    ensures fed { IfOk result (λ fed. IsFed now offers.now route.now fed) }
+    ensures refused { IfErr result (λ fault. IsRefused now offers.now fault) }
+{
+    let repository = take_all(alloc, offers, now)?;
+    let set = VrpSet::from_list(repository.payloads(now)?)?;
+    let wire = answer_with(alloc, set)?;
+    let router = router_with(alloc, wire.as_slice())?;
+    let state = router.route_state(route);
+    Ok(Fed { state, wire })
+}

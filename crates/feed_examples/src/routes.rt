@@ -1,0 +1,167 @@
+//! From offers by hand to the state of a route.
+
+use der_lite::Moment;
+use feed::{Fed, FeedFault, Offer, route_from_payloads};
+use points::{FileIn, PointFault};
+use prefixes::{IpPrefix, Route};
+use std::alloc::Global;
+use std::process::Abort;
+use std::test::Fail;
+use vrps::OriginState;
+
+/// The payload of a ROA: AS64496 and 192.0.2.0/24.
+const ROA: &[u8] =
+    b"\x30\x17\x02\x03\x00\xfb\xf0\x30\x10\x30\x0e\x04\x02\x00\x01\x30\x08\x30\x06\x03\x04\x00\xc0\x00\x02";
+
+/// The payload of a manifest: number 1, 20250101000000Z to 20250102000000Z, the file `a.roa` with the
+/// SHA-256 of that ROA.
+const MANIFEST: &[u8] =
+    b"0^\x02\x01\x01\x18\x0f20250101000000Z\x18\x0f20250102000000Z\x06\x09`\x86H\x01e\x03\x04\x02\x010,0*\x16\x05a.roa\x03!\x00\xda2\xbf\xbe\x0d\x8e\xea\x0f];V\x02<U\xd1\xc2:\xa9\x1d\xf5\x023\xf8\x9c2P\x86\xb2\xb2\x06\xd5\xa2";
+
+const FILES: &[FileIn<'static>] = &[FileIn {
+    name: "a.roa",
+    object: ROA,
+    content: ROA,
+}];
+
+const BEGUN: &str = "20250101000000Z";
+
+/// The answer with 192.0.2.0/24 up to 24 of AS 64496, as serial 0 of session 1 (RFC 8210 sections 5.5, 5.6 and 5.8).
+const ANSWER: &[u8] =
+    b"\x01\x03\x00\x01\x00\x00\x00\x08\x01\x04\x00\x00\x00\x00\x00\x14\x01\x18\x18\x00\xc0\x00\x02\x00\x00\x00\xfb\xf0\x01\x07\x00\x01\x00\x00\x00\x18\x00\x00\x00\x00\x00\x00\x0e\x10\x00\x00\x02\x58\x00\x00\x1c\x20";
+
+/// The same without a record.
+const EMPTY: &[u8] =
+    b"\x01\x03\x00\x01\x00\x00\x00\x08\x01\x07\x00\x01\x00\x00\x00\x18\x00\x00\x00\x00\x00\x00\x0e\x10\x00\x00\x02\x58\x00\x00\x1c\x20";
+
+fn offer<'a>(name: &'a str, files: &'a [FileIn<'a>]) -> Offer<'a> {
+    Offer {
+        name,
+        manifest: MANIFEST,
+        files,
+    }
+}
+
+/// What comes of these offers at a moment for a route of AS 64496.
+fn fed(
+    alloc: Global,
+    offers: &[Offer],
+    now: &str,
+    prefix: &str,
+) -> Result<Result<Fed, FeedFault>, Fail> {
+    let Some(now) = Moment::parse(now) else {
+        return Err(Fail::from("moment"));
+    };
+    let route = Route {
+        prefix: IpPrefix::parse(prefix)?,
+        origin: Some(64496),
+    };
+    Ok(route_from_payloads(alloc, offers, now, &route))
+}
+
+/// Checks the state, and what was sent.
+fn expect_fed<R: Abort>(
+    rt: &R,
+    alloc: Global,
+    offers: &[Offer],
+    prefix: &str,
+    state: OriginState,
+    wire: &[u8],
+) -> Result<(), Fail> {
+    let Ok(fed) = fed(alloc, offers, BEGUN, prefix)? else {
+        return Err(Fail::from("refused"));
+    };
+    assert!(rt; fed.state == state);
+    assert!(rt; fed.wire.as_slice() == wire);
+    Ok(())
+}
+
+/// Checks the fault, and its number.
+fn expect_refused<R: Abort>(
+    rt: &R,
+    alloc: Global,
+    offers: &[Offer],
+    now: &str,
+    fault: FeedFault,
+    number: u8,
+) -> Result<(), Fail> {
+    let Err(refused) = fed(alloc, offers, now, "192.0.2.0/24")? else {
+        return Err(Fail::from("fed"));
+    };
+    assert!(rt; refused == fault);
+    assert!(rt; refused.number() == number);
+    Ok(())
+}
+
+#[test]
+fn a_route_has_its_state(rt: HostRuntime) -> Result<(), Fail> {
+    let alloc = rt.alloc();
+    let one = offer("one", FILES);
+    expect_fed(
+        &rt,
+        alloc,
+        &[one],
+        "192.0.2.0/24",
+        OriginState::Valid,
+        ANSWER,
+    )?;
+    expect_fed(
+        &rt,
+        alloc,
+        &[one],
+        "192.0.2.0/25",
+        OriginState::Invalid,
+        ANSWER,
+    )?;
+    expect_fed(
+        &rt,
+        alloc,
+        &[],
+        "192.0.2.0/24",
+        OriginState::NotFound,
+        EMPTY,
+    )?;
+    Ok(())
+}
+
+#[test]
+fn the_same_offer_again_is_no_fault(rt: HostRuntime) -> Result<(), Fail> {
+    let alloc = rt.alloc();
+    let again = [offer("one", FILES), offer("one", &[])];
+    expect_fed(
+        &rt,
+        alloc,
+        &again,
+        "192.0.2.0/24",
+        OriginState::Valid,
+        ANSWER,
+    )?;
+    let elsewhere = [offer("one", FILES), offer("two", FILES)];
+    expect_fed(
+        &rt,
+        alloc,
+        &elsewhere,
+        "192.0.2.0/24",
+        OriginState::Valid,
+        ANSWER,
+    )?;
+    Ok(())
+}
+
+#[test]
+fn the_first_refused_offer_is_told(rt: HostRuntime) -> Result<(), Fail> {
+    let alloc = rt.alloc();
+    let one = offer("one", FILES);
+    let stale = FeedFault::Point(0, PointFault::Stale);
+    expect_refused(&rt, alloc, &[one], "20250102000001Z", stale, 1)?;
+    let missing = FeedFault::Point(1, PointFault::Missing(0));
+    let none = offer("two", &[]);
+    expect_refused(&rt, alloc, &[one, none, none], BEGUN, missing, 1)?;
+    Ok(())
+}
+
+#[test]
+fn faults_have_their_numbers(rt: HostRuntime) {
+    assert!(rt; FeedFault::TooMany.number() == 2);
+    assert!(rt; FeedFault::Memory.number() == 3);
+}
