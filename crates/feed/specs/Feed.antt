@@ -1,5 +1,5 @@
 -- From offers to publication points to the state of a route, by way of a cache and a router (RFC 9286, RFC 8210, RFC 6811).
-use Rattle.std.specs.Prelude.{◌≡◌, ◌↔◌, ◌⊎◌, ℕ, ◌<◌, List, [], ◌∷◌, ◌++◌, length, Some, Ok, IsTrue, ⊤}
+use Rattle.std.specs.Prelude.{◌≡◌, ◌↔◌, ◌⊎◌, ℕ, ◌<◌, ◌≤◌, List, [], ◌∷◌, ◌++◌, length, Some, Ok, IsTrue, ⊤}
 use Rattle.der_lite.specs.Moments.{CivilMoment}
 use Rattle.prefixes.specs.Payload.{Payload}
 use Rattle.prefixes.specs.declared.route.Route.{Route}
@@ -53,10 +53,11 @@ cache_of set = record { session = 1; start = 0; sets = set ∷ [] }
 unfoldable pub answer_bytes : VrpSet → List ℕ
 answer_bytes set = replies 1 default_intervals (Read (cache_of set) ResetQuery (sent ResetQuery) ∷ [])
 
--- The state of the route is that over the payloads in use, and what the cache sent is its answer with them.
+-- The state of the route is that over the payloads in use, which a set can hold, and what the cache sent is its answer with them.
 pub record IsFed (now : CivilMoment) (offers : List Offer) (route : Route) (fed : Fed) : Type 0 where
   pub set : VrpSet
   pub used : IsUsed now offers set
+  pub within_limit : size set ≤ 16777215
   pub wire : fed.wire.items ≡ answer_bytes set
   pub state_is : fed.state ≡ state set route
 

@@ -17,6 +17,7 @@ returns-clause-fed c =
     record {
       set = c.in_ok-set.set;
       used = is_used c.args.now c.args.offers.now c.in_ok-repository.repository c.in_ok-payloads.field-0.items c.in_ok-set.set c.in_ok-repository.ensures.taken c.in_ok-payloads.ensures c.in_ok-set.ensures.ok;
+      within_limit = c.in_ok-wire.ensures.within_limit.within_limit;
       wire = sent;
       state_is = state_over c.in_ok-set.set c.in_ok-router.router c.args.route.now c.route_state-state.result table c.route_state-state.ensures;
     }
