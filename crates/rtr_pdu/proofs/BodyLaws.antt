@@ -104,29 +104,29 @@ module _ (any : Bool) (bytes : List ℕ) (each : AreBytes bytes) (b : IsBody any
   -- a Serial Notify, told by its parts
   pub read_0 : (session serial : ℕ) → type_of bytes ≡ 0 → session ≡ number_at 2 2 bytes → serial ≡ number_at 4 8 bytes → IsRead any bytes (SerialNotify session serial)
   read_0 session serial k s n =
-      is_read _ _ (reads_0 1 (as_read 1 any bytes) (frame 0 k) (len 12 (b.sized.at_0 k))) (λ i. SerialNotify ((at_place 2 1 ∙ sym s) i) ((at_place 4 7 ∙ sym n) i))
+      is_read _ _ (reads_0 1 (as_read 1 any bytes) (frame 0 k) (len 12 (b.sized.at_notify k))) (λ i. SerialNotify ((at_place 2 1 ∙ sym s) i) ((at_place 4 7 ∙ sym n) i))
 
   -- a Serial Query
   pub read_1 : (session serial : ℕ) → type_of bytes ≡ 1 → session ≡ number_at 2 2 bytes → serial ≡ number_at 4 8 bytes → IsRead any bytes (SerialQuery session serial)
   read_1 session serial k s n =
-      is_read _ _ (reads_1 1 (as_read 1 any bytes) (frame 1 k) (len 12 (b.sized.at_1 k))) (λ i. SerialQuery ((at_place 2 1 ∙ sym s) i) ((at_place 4 7 ∙ sym n) i))
+      is_read _ _ (reads_1 1 (as_read 1 any bytes) (frame 1 k) (len 12 (b.sized.at_query k))) (λ i. SerialQuery ((at_place 2 1 ∙ sym s) i) ((at_place 4 7 ∙ sym n) i))
 
   -- a Reset Query
   pub read_2 : type_of bytes ≡ 2 → IsRead any bytes ResetQuery
-  read_2 k = record { reads = reads_2 1 (as_read 1 any bytes) (frame 2 k) (len 8 (b.sized.at_2 k)); shortest = short }
+  read_2 k = record { reads = reads_2 1 (as_read 1 any bytes) (frame 2 k) (len 8 (b.sized.at_reset_query k)); shortest = short }
 
   -- a Cache Reset
   pub read_8 : type_of bytes ≡ 8 → IsRead any bytes CacheReset
-  read_8 k = record { reads = reads_8 1 (as_read 1 any bytes) (frame 8 k) (len 8 (b.sized.at_8 k)); shortest = short }
+  read_8 k = record { reads = reads_8 1 (as_read 1 any bytes) (frame 8 k) (len 8 (b.sized.at_cache_reset k)); shortest = short }
 
   -- a Cache Response
   pub read_3 : (session : ℕ) → type_of bytes ≡ 3 → session ≡ number_at 2 2 bytes → IsRead any bytes (CacheResponse session)
-  read_3 session k s = is_read _ _ (reads_3 1 (as_read 1 any bytes) (frame 3 k) (len 8 (b.sized.at_3 k))) (ap CacheResponse (at_place 2 1 ∙ sym s))
+  read_3 session k s = is_read _ _ (reads_3 1 (as_read 1 any bytes) (frame 3 k) (len 8 (b.sized.at_response k))) (ap CacheResponse (at_place 2 1 ∙ sym s))
 
   -- End of Data
   pub read_7 : (session serial refresh retry expire : ℕ) → type_of bytes ≡ 7 → session ≡ number_at 2 2 bytes → serial ≡ number_at 4 8 bytes → refresh ≡ number_at 4 12 bytes → retry ≡ number_at 4 16 bytes → expire ≡ number_at 4 20 bytes → IsRead any bytes (EndOfData session serial refresh retry expire)
   read_7 session serial refresh retry expire k s n x y z =
-      is_read _ _ (reads_7 1 (as_read 1 any bytes) (frame 7 k) (len 24 (b.sized.at_7 k)))
+      is_read _ _ (reads_7 1 (as_read 1 any bytes) (frame 7 k) (len 24 (b.sized.at_end_of_data k)))
       (λ i. EndOfData ((at_place 2 1 ∙ sym s) i) ((at_place 4 7 ∙ sym n) i) ((at_place 4 11 ∙ sym x) i) ((at_place 4 15 ∙ sym y) i) ((at_place 4 19 ∙ sym z) i))
 
   -- bytes of a unit that is no notify
@@ -163,21 +163,21 @@ module _ (any : Bool) (bytes : List ℕ) (each : AreBytes bytes) (b : IsBody any
   -- an IPv4 Prefix
   pub read_4 : (announce : Bool) (v : Payload) → type_of bytes ≡ 4 → announce ≡ is_odd (slice_index bytes 8) → v ≡ v4_in bytes → IsRecord 32 bytes → IsRead any bytes (Prefix announce v)
   read_4 announce v k a e sound =
-      is_read _ _ (subst (λ x. Reads 1 (Prefix (is_odd (slice_index bytes 8)) (v4_in bytes)) x) (sym (as_it_is (omega (arith, k)))) (reads_4 1 bytes (plain 4 k (omega arith)) (b.sized.at_4 k) sound)) (λ i. Prefix (sym a i) (sym e i))
+      is_read _ _ (subst (λ x. Reads 1 (Prefix (is_odd (slice_index bytes 8)) (v4_in bytes)) x) (sym (as_it_is (omega (arith, k)))) (reads_4 1 bytes (plain 4 k (omega arith)) (b.sized.at_v4 k) sound)) (λ i. Prefix (sym a i) (sym e i))
 
   -- an IPv6 Prefix
   pub read_6 : (announce : Bool) (v : Payload) → type_of bytes ≡ 6 → announce ≡ is_odd (slice_index bytes 8) → v ≡ v6_in bytes → IsRecord 128 bytes → IsRead any bytes (Prefix announce v)
   read_6 announce v k a e sound =
-      is_read _ _ (subst (λ x. Reads 1 (Prefix (is_odd (slice_index bytes 8)) (v6_in bytes)) x) (sym (as_it_is (omega (arith, k)))) (reads_6 1 bytes (plain 6 k (omega arith)) (b.sized.at_6 k) sound)) (λ i. Prefix (sym a i) (sym e i))
+      is_read _ _ (subst (λ x. Reads 1 (Prefix (is_odd (slice_index bytes 8)) (v6_in bytes)) x) (sym (as_it_is (omega (arith, k)))) (reads_6 1 bytes (plain 6 k (omega arith)) (b.sized.at_v6 k) sound)) (λ i. Prefix (sym a i) (sym e i))
 
   -- a Router Key
   pub read_9 : (x : Key) → type_of bytes ≡ 9 → x ≡ key_in bytes → IsRead any bytes (RouterKey x)
-  read_9 x k e = is_read _ _ (subst (λ y. Reads 1 (RouterKey (key_in bytes)) y) (sym (as_it_is (omega (arith, k)))) (reads_9 1 bytes (plain 9 k (omega arith)) (b.sized.at_9 k) b.sized.most)) (ap RouterKey (sym e))
+  read_9 x k e = is_read _ _ (subst (λ y. Reads 1 (RouterKey (key_in bytes)) y) (sym (as_it_is (omega (arith, k)))) (reads_9 1 bytes (plain 9 k (omega arith)) (b.sized.at_key k) b.sized.most)) (ap RouterKey (sym e))
 
   -- an Error Report
   pub read_10 : (r : Report) → type_of bytes ≡ 10 → r ≡ report_in bytes → IsReport bytes → IsRead any bytes (ErrorReport r)
   read_10 r k e sound =
-      is_read _ _ (subst (λ y. Reads 1 (ErrorReport (report_in bytes)) y) (sym (as_it_is (omega (arith, k)))) (reads_10 1 bytes (plain 10 k (omega arith)) (b.sized.at_10 k) b.sized.most sound)) (ap ErrorReport (sym e))
+      is_read _ _ (subst (λ y. Reads 1 (ErrorReport (report_in bytes)) y) (sym (as_it_is (omega (arith, k)))) (reads_10 1 bytes (plain 10 k (omega arith)) (b.sized.at_report k) b.sized.most sound)) (ap ErrorReport (sym e))
 
   -- an IPv4 Prefix without a payload
   pub bad_4 : type_of bytes ≡ 4 → ¬ (IsRecord 32 bytes) → IsFaulty any bytes faults.Record

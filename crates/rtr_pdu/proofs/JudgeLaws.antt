@@ -1,6 +1,5 @@
 -- Bytes are the beginning of a unit, begin with a unit, or show a fault. A fault that shows stays, whatever follows.
-use Rattle.std.specs.Prelude.{◌≡◌, ◌⊎◌, ℕ, ◌+◌, ◌-◌, ◌/◌, ◌%◌, ◌<◌, ◌≤◌, ◌^◌, Bool, true, false, not, ◌&&◌, ◌||◌, ◌==◌, nat_lt, nat_le, List, [], ◌∷◌, ◌++◌, length, take, drop, slice_index, Option, Some, None, if◌then◌else◌, refl}
-use Rattle.std.specs.List.{list_any}
+use Rattle.std.specs.Prelude.{◌≡◌, ◌⊎◌, ℕ, ◌+◌, ◌-◌, ◌/◌, ◌%◌, ◌<◌, ◌≤◌, ◌^◌, Bool, true, false, not, ◌&&◌, ◌||◌, ◌==◌, nat_lt, nat_le, List, ◌++◌, length, take, drop, slice_index, Option, Some, None, if◌then◌else◌, refl}
 use Rattle.std.proofs.Common.{sym, ap, ◌∙◌, subst, arith, inl, inr}
 use Rattle.std.proofs.lemmas.List.{length-drop, length-append, drop-append-le, take-append-le, get_or_append_left}
 use Rattle.std.proofs.lemmas.Bool.{cases_eq, and_parts, or_cases, cases_Bool, cases_lt}
@@ -13,7 +12,8 @@ use Rattle.rtr_pdu.specs.declared.unit.Unit.{Unit}
 use Rattle.rtr_pdu.specs.declared.unit.UnitFault.{UnitFault}
 use Rattle.rtr_pdu.specs.declared.unit.UnitFault.TheVariants as faults
 use Rattle.rtr_pdu.specs.Unit.{Reads}
-use Rattle.rtr_pdu.specs.Stream.{version_of, type_of, length_of, is_type, has_length, header_fault, IsWhole, IsRecord, IsReport, Shows}
+use Rattle.rtr_pdu.specs.Kind.{is_type, has_length}
+use Rattle.rtr_pdu.specs.Stream.{version_of, type_of, length_of, header_fault, IsWhole, IsRecord, IsReport, Shows}
 use Rattle.rtr_pdu.proofs.ModeLaws.{type_of-append, length_of-append, not_short}
 use Rattle.rtr_pdu.specs.Payloads.{AreBytes}
 use Rattle.rtr_pdu.specs.Reading.{number_at, IsSized}
@@ -64,23 +64,11 @@ pub data Kinds (type len : ℕ) : Type 0 where
   report : type ≡ 10 → 16 ≤ len → Kinds type len
 
 -- one test of several
-one_of : {P : Type 0} (type k len l : ℕ) (more : Bool) → (type ≡ k → len ≡ l → P) → (more ≡ true → P) → ((type == k && len == l) || more) ≡ true → P
-one_of type k len l more here later h =
-    elim (or_cases (type == k && len == l) more h) [
-      | inl both ↦ (let p = and_parts (type == k) (len == l) both in here (is_same type k p.0) (is_same len l p.1))
+one_of : {P : Type 0} (type k : ℕ) (fits more : Bool) → (type ≡ k → fits ≡ true → P) → (more ≡ true → P) → ((type == k && fits) || more) ≡ true → P
+one_of type k fits more here later h =
+    elim (or_cases (type == k && fits) more h) [
+      | inl both ↦ (let p = and_parts (type == k) fits both in here (is_same type k p.0) p.1)
       | inr other ↦ later other
-    ]
-
--- the types with a least length
-abbrev last_two : ℕ → ℕ → Bool
-last_two type len = (type == 9 && nat_le 32 len) || (type == 10 && nat_le 16 len)
-
--- one of the last two
-two_kinds : (type len : ℕ) → last_two type len ≡ true → Kinds type len
-two_kinds type len h =
-    elim (or_cases (type == 9 && nat_le 32 len) (type == 10 && nat_le 16 len) h) [
-      | inl nine ↦ (let p = and_parts (type == 9) (nat_le 32 len) nine in key (is_same type 9 p.0) (is_least 32 len p.1))
-      | inr ten ↦ (let p = and_parts (type == 10) (nat_le 16 len) ten in report (is_same type 10 p.0) (is_least 16 len p.1))
     ]
 
 -- false is not true
@@ -90,18 +78,16 @@ false_true h = absurd (let e : false ≡ true = h in cc)
 -- A type with a length of its own is one of the ten.
 pub kinds_of : (type len : ℕ) → has_length type len ≡ true → Kinds type len
 kinds_of type len h =
-    elim (or_cases (list_any (λ (e : ℕ × ℕ). type == e.0 && len == e.1) ((0, 12) ∷ (1, 12) ∷ (2, 8) ∷ (3, 8) ∷ (4, 20) ∷ (6, 32) ∷ (7, 24) ∷ (8, 8) ∷ [])) (last_two type len) h) [
-      | inr two ↦ two_kinds type len two
-      | inl fixed ↦
-          one_of type 0 len 12 _ notify
-          (one_of type 1 len 12 _ query
-          (one_of type 2 len 8 _ reset_query
-          (one_of type 3 len 8 _ response
-          (one_of type 4 len 20 _ v4
-          (one_of type 6 len 32 _ v6
-          (one_of type 7 len 24 _ end_of_data
-          (one_of type 8 len 8 _ cache_reset false_true))))))) fixed
-    ]
+    one_of type 0 (len == 12) _ (λ k e. notify k (is_same len 12 e))
+    (one_of type 1 (len == 12) _ (λ k e. query k (is_same len 12 e))
+    (one_of type 2 (len == 8) _ (λ k e. reset_query k (is_same len 8 e))
+    (one_of type 3 (len == 8) _ (λ k e. response k (is_same len 8 e))
+    (one_of type 4 (len == 20) _ (λ k e. v4 k (is_same len 20 e))
+    (one_of type 6 (len == 32) _ (λ k e. v6 k (is_same len 32 e))
+    (one_of type 7 (len == 24) _ (λ k e. end_of_data k (is_same len 24 e))
+    (one_of type 8 (len == 8) _ (λ k e. cache_reset k (is_same len 8 e))
+    (one_of type 9 (nat_le 32 len) _ (λ k e. key k (is_least 32 len e))
+    (one_of type 10 (nat_le 16 len) _ (λ k e. report k (is_least 16 len e)) false_true))))))))) h
 
 -- each length is that of a header or more
 least_length : (t l : ℕ) → Kinds t l → 8 ≤ l
@@ -117,22 +103,9 @@ least_length t l (key k e) = omega (arith, e)
 least_length t l (report k e) = omega (arith, e)
 
 -- what the test of a length is at one type
-only : (b : Bool) → ((b || false) || false) ≡ true → b ≡ true
+only : (b : Bool) → (b || false) ≡ true → b ≡ true
 only true h = refl
 only false h = h
-
--- the same behind the table
-or_none : (b : Bool) → (b || false) ≡ true → b ≡ true
-or_none true h = refl
-or_none false h = h
-
--- a type is at most 10
-high_type : (type : ℕ) → is_type type ≡ true → type ≤ 10
-high_type type h = grind (arith, nat_tests)
-
--- there is no type 5
-not_five : (type : ℕ) → is_type type ≡ true → type ≡ 5 → ⊥
-not_five type h e = let k : is_type 5 ≡ true = ap (λ n. is_type n) (sym e) ∙ h in false_true k
 
 -- A type has one length, but for the two that have a least one.
 pub sized_of : (type len : ℕ) → is_type type ≡ true → has_length type len ≡ true → len ≤ 4096 → IsSized type len
@@ -141,18 +114,17 @@ sized_of type len kind has most =
     record {
       eight = least_length type len (kinds_of type len has);
       most = most;
-      high = high_type type kind;
-      not_5 = not_five type kind;
-      at_0 = λ e. is_same len 12 (only (len == 12) (tested 0 e));
-      at_1 = λ e. is_same len 12 (only (len == 12) (tested 1 e));
-      at_2 = λ e. is_same len 8 (only (len == 8) (tested 2 e));
-      at_3 = λ e. is_same len 8 (only (len == 8) (tested 3 e));
-      at_4 = λ e. is_same len 20 (only (len == 20) (tested 4 e));
-      at_6 = λ e. is_same len 32 (only (len == 32) (tested 6 e));
-      at_7 = λ e. is_same len 24 (only (len == 24) (tested 7 e));
-      at_8 = λ e. is_same len 8 (only (len == 8) (tested 8 e));
-      at_9 = λ e. is_least 32 len (or_none (nat_le 32 len) (tested 9 e));
-      at_10 = λ e. is_least 16 len (tested 10 e);
+      known = kind;
+      at_notify = λ e. is_same len 12 (only (len == 12) (tested 0 e));
+      at_query = λ e. is_same len 12 (only (len == 12) (tested 1 e));
+      at_reset_query = λ e. is_same len 8 (only (len == 8) (tested 2 e));
+      at_response = λ e. is_same len 8 (only (len == 8) (tested 3 e));
+      at_v4 = λ e. is_same len 20 (only (len == 20) (tested 4 e));
+      at_v6 = λ e. is_same len 32 (only (len == 32) (tested 6 e));
+      at_end_of_data = λ e. is_same len 24 (only (len == 24) (tested 7 e));
+      at_cache_reset = λ e. is_same len 8 (only (len == 8) (tested 8 e));
+      at_key = λ e. is_least 32 len (only (nat_le 32 len) (tested 9 e));
+      at_report = λ e. is_least 16 len (only (nat_le 16 len) (tested 10 e));
     }
 
 -- facts that can be decided
@@ -335,15 +307,15 @@ module _ (version : ℕ) where
   Shows-append front more faults.Truncated h = absurd h
   Shows-append front more faults.ErrorReport h =
       let w = h.0 in
-      let long = (header_sized front w.1 w.0).at_10 h.1 in
+      let long = (header_sized front w.1 w.0).at_report h.1 in
       (whole-append front more w, type_of-append front more w.1 ∙ h.1, λ good. h.2 (report_front front more (omega (arith, long, w.2)) w.2 good))
   Shows-append front more faults.Record h =
       let w = h.0 in (
         whole-append front more w,
         elim h.1 [
-          | inl four ↦ (let long = (header_sized front w.1 w.0).at_4 four.0 in
+          | inl four ↦ (let long = (header_sized front w.1 w.0).at_v4 four.0 in
               inl (type_of-append front more w.1 ∙ four.0, λ good. four.1 (record_front 32 front more (omega (arith, long, w.2)) good)))
-          | inr six ↦ (let long = (header_sized front w.1 w.0).at_6 six.0 in
+          | inr six ↦ (let long = (header_sized front w.1 w.0).at_v6 six.0 in
               inr (type_of-append front more w.1 ∙ six.0, λ good. six.1 (record_front 128 front more (omega (arith, long, w.2)) good)))
         ],
       )

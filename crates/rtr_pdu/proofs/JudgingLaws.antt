@@ -10,7 +10,8 @@ use Rattle.rtr_pdu.specs.declared.unit.UnitFault.{UnitFault}
 use Rattle.rtr_pdu.specs.declared.unit.UnitFault.TheVariants as faults
 use Rattle.rtr_pdu.specs.Judging.{unit_in, has_record, has_report, body_fault, Judgement, Begins, Whole, Faulty, by_body, by_header, judge}
 use Rattle.rtr_pdu.specs.Payloads.{AreBytes}
-use Rattle.rtr_pdu.specs.Stream.{as_read, version_of, type_of, length_of, is_type, has_length, header_fault, IsPartial, IsWhole, IsRecord, IsReport, Shows}
+use Rattle.rtr_pdu.specs.Kind.{is_type, has_length}
+use Rattle.rtr_pdu.specs.Stream.{as_read, version_of, type_of, length_of, header_fault, IsPartial, IsWhole, IsRecord, IsReport, Shows}
 use Rattle.rtr_pdu.specs.Unit.{spelled, Reads}
 use Rattle.rtr_pdu.proofs.JudgeLaws.{chain, false_true, judged, IsJudged}
 use Rattle.rtr_pdu.proofs.ModeLaws.{length-as_read}

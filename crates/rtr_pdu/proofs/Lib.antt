@@ -3,6 +3,7 @@ pub mod DeviceLaws
 pub mod FirstLaws
 pub mod JudgeLaws
 pub mod JudgingLaws
+pub mod KindLaws
 pub mod ModeLaws
 pub mod NextLaws
 pub mod ReadLaws

@@ -7,7 +7,8 @@ use Rattle.rtr_pdu.specs.declared.unit.UnitFault.{UnitFault}
 use Rattle.rtr_pdu.specs.declared.unit.UnitFault.TheVariants as faults
 use Rattle.rtr_pdu.specs.declared.unit.Next.{Next}
 use Rattle.rtr_pdu.specs.declared.unit.Next.TheVariants as next
-use Rattle.rtr_pdu.specs.Stream.{as_read, version_of, type_of, length_of, is_type, has_length, header_fault, IsPartial, IsWhole, Shows}
+use Rattle.rtr_pdu.specs.Kind.{is_type, has_length}
+use Rattle.rtr_pdu.specs.Stream.{as_read, version_of, type_of, length_of, header_fault, IsPartial, IsWhole, Shows}
 use Rattle.rtr_pdu.proofs.ModeLaws.{length-as_read, as_read-append, length_of-append}
 use Rattle.rtr_pdu.proofs.JudgeLaws.{chain, header_fault-append, short_none}
 use Rattle.rtr_pdu.proofs.SplitLaws.{shortest_8}

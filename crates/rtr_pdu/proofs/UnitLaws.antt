@@ -13,7 +13,8 @@ use Rattle.rtr_pdu.proofs.ModeLaws.{not_short}
 use Rattle.rtr_pdu.specs.declared.unit.Unit.{Unit}
 use Rattle.rtr_pdu.specs.declared.unit.Unit.TheVariants.{SerialNotify, SerialQuery, ResetQuery, CacheResponse, Prefix, EndOfData, CacheReset, RouterKey, ErrorReport}
 use Rattle.rtr_pdu.specs.Unit.{Ignored, header, prefix_bytes, IsUnit, spelled, flag}
-use Rattle.rtr_pdu.specs.Stream.{type_of, length_of, version_of, header_fault, is_type, has_length, IsReport}
+use Rattle.rtr_pdu.specs.Stream.{type_of, length_of, version_of, header_fault, IsReport}
+use Rattle.rtr_pdu.specs.Kind.{is_type, has_length}
 use Rattle.rtr_pdu.specs.declared.unit.UnitFault.TheVariants as faults
 use Rattle.std.specs.Str.{IsUtf8}
 use Rattle.std.proofs.lemmas.List.{append-nil, length-append}
@@ -188,7 +189,7 @@ module _ (version : ℕ) where
       let size : length ((r.copy ++ big_bytes 4 (length r.text)) ++ r.text) ≡ length r.copy + 4 + length r.text =
       length-append (r.copy ++ big_bytes 4 (length r.text)) r.text ∙ ap (λ n. n + length r.text) (length-append r.copy (big_bytes 4 (length r.text))) in
       record {
-        fault = sound bytes (omega arith) (same_version version) refl (ap (has_length 10) len ∙ enough 16 (16 + length r.copy + length r.text) (omega arith)) (omega (arith, len, fits.1));
+        fault = sound bytes (omega arith) (same_version version) refl (ap (has_length 10) len ∙ ap (λ b. b || false) (enough 16 (16 + length r.copy + length r.text) (omega arith))) (omega (arith, len, fits.1));
         len = len ∙ (omega (arith, size));
         eight = omega arith;
       }

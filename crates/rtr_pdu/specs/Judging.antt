@@ -6,27 +6,29 @@ use Rattle.rtr_pdu.specs.declared.unit.Unit.{Unit}
 use Rattle.rtr_pdu.specs.declared.unit.Unit.TheVariants.{SerialNotify, SerialQuery, ResetQuery, CacheResponse, Prefix, EndOfData, CacheReset, RouterKey, ErrorReport}
 use Rattle.rtr_pdu.specs.declared.unit.UnitFault.{UnitFault}
 use Rattle.rtr_pdu.specs.declared.unit.UnitFault.TheVariants as faults
+use Rattle.rtr_pdu.specs.declared.kind.Kind.TheVariants as kinds
+use Rattle.rtr_pdu.specs.Kind.{fixed_len}
 use Rattle.rtr_pdu.specs.Payloads.{AreBytes}
 use Rattle.rtr_pdu.specs.Reading.{number_at, is_odd, v4_in, v6_in}
-use Rattle.rtr_pdu.specs.Stream.{as_read, type_of, length_of, header_fault, IsPartial, Shows}
+use Rattle.rtr_pdu.specs.Stream.{as_read, length_of, is_of, header_fault, IsPartial, Shows}
 use Rattle.rtr_pdu.specs.Unit.{Reads}
 
 -- What bytes are read as, by their type: a front of them, if they begin with a unit
 abbrev pub unit_in : List ℕ → Unit
 unit_in bytes =
-    if type_of bytes == 0 then SerialNotify (number_at 2 2 bytes) (number_at 4 8 bytes)
-    else if type_of bytes == 1 then SerialQuery (number_at 2 2 bytes) (number_at 4 8 bytes)
-    else if type_of bytes == 2 then ResetQuery
-    else if type_of bytes == 3 then CacheResponse (number_at 2 2 bytes)
-    else if type_of bytes == 4 then Prefix (is_odd (slice_index bytes 8)) (v4_in bytes)
-    else if type_of bytes == 6 then Prefix (is_odd (slice_index bytes 8)) (v6_in bytes)
-    else if type_of bytes == 7 then EndOfData (number_at 2 2 bytes) (number_at 4 8 bytes) (number_at 4 12 bytes) (number_at 4 16 bytes) (number_at 4 20 bytes)
-    else if type_of bytes == 8 then CacheReset
-    else if type_of bytes == 9 then RouterKey (record {
+    if is_of kinds.SerialNotify bytes then SerialNotify (number_at 2 2 bytes) (number_at 4 8 bytes)
+    else if is_of kinds.SerialQuery bytes then SerialQuery (number_at 2 2 bytes) (number_at 4 8 bytes)
+    else if is_of kinds.ResetQuery bytes then ResetQuery
+    else if is_of kinds.CacheResponse bytes then CacheResponse (number_at 2 2 bytes)
+    else if is_of kinds.Ipv4Prefix bytes then Prefix (is_odd (slice_index bytes 8)) (v4_in bytes)
+    else if is_of kinds.Ipv6Prefix bytes then Prefix (is_odd (slice_index bytes 8)) (v6_in bytes)
+    else if is_of kinds.EndOfData bytes then EndOfData (number_at 2 2 bytes) (number_at 4 8 bytes) (number_at 4 12 bytes) (number_at 4 16 bytes) (number_at 4 20 bytes)
+    else if is_of kinds.CacheReset bytes then CacheReset
+    else if is_of kinds.RouterKey bytes then RouterKey (record {
       announce = is_odd (slice_index bytes 2);
       identifier = take 20 (drop 8 bytes);
       asn = number_at 4 28 bytes;
-      info = take (length_of bytes - 32) (drop 32 bytes);
+      info = take (length_of bytes - fixed_len kinds.RouterKey) (drop 32 bytes);
     })
     else ErrorReport (record {
       code = number_at 2 2 bytes;
@@ -45,14 +47,14 @@ abbrev pub has_report : List ℕ → Bool
 has_report bytes =
     let copy = number_at 4 8 bytes in
     let text = number_at 4 (12 + copy) bytes in
-    16 + copy + text == length_of bytes && is_utf8 (take text (drop (16 + copy) bytes))
+    fixed_len kinds.ErrorReport + copy + text == length_of bytes && is_utf8 (take text (drop (16 + copy) bytes))
 
 -- The fault of a whole unit, behind a header without a fault
 abbrev pub body_fault : List ℕ → Option UnitFault
 body_fault bytes =
-    if type_of bytes == 4 && not (has_record 32 bytes) then Some faults.Record
-    else if type_of bytes == 6 && not (has_record 128 bytes) then Some faults.Record
-    else if type_of bytes == 10 && not (has_report bytes) then Some faults.ErrorReport
+    if is_of kinds.Ipv4Prefix bytes && not (has_record 32 bytes) then Some faults.Record
+    else if is_of kinds.Ipv6Prefix bytes && not (has_record 128 bytes) then Some faults.Record
+    else if is_of kinds.ErrorReport bytes && not (has_report bytes) then Some faults.ErrorReport
     else None
 
 -- Bytes of a stream, from the beginning of a unit on, are the beginning of a unit in which no fault shows yet, or begin with a

@@ -2,6 +2,7 @@ pub mod Counted
 pub mod Device
 pub mod Fault
 pub mod Judging
+pub mod Kind
 pub mod Payloads
 pub mod Reader
 pub mod Reading

@@ -1,8 +1,10 @@
 -- What the bytes of a whole unit say.
-use Rattle.std.specs.Prelude.{◌≡◌, ℕ, ◌+◌, ◌-◌, ◌%◌, ◌≤◌, Bool, ◌==◌, List, ◌++◌, length, take, drop, slice_index}
+use Rattle.std.specs.Prelude.{◌≡◌, ℕ, ◌+◌, ◌-◌, ◌%◌, ◌≤◌, Bool, true, ◌==◌, List, ◌++◌, length, take, drop, slice_index}
 use Rattle.byteorder.specs.Endian.{big_number}
 use Rattle.prefixes.specs.Payload.{Payload}
 use Rattle.prefixes.specs.declared.prefix.IpPrefix.TheVariants.{V4, V6}
+use Rattle.rtr_pdu.specs.declared.kind.Kind.TheVariants as kinds
+use Rattle.rtr_pdu.specs.Kind.{kind_number, fixed_len, is_type}
 use Rattle.rtr_pdu.specs.Payloads.{Report, Key}
 use Rattle.rtr_pdu.specs.Stream.{as_read, type_of, length_of, IsWhole}
 
@@ -51,18 +53,17 @@ report_in bytes = record {
 pub record IsSized (type len : ℕ) : Type 0 where
   pub eight : 8 ≤ len
   pub most : len ≤ 4096
-  pub high : type ≤ 10
-  pub not_5 : ¬ (type ≡ 5)
-  pub at_0 : type ≡ 0 → len ≡ 12
-  pub at_1 : type ≡ 1 → len ≡ 12
-  pub at_2 : type ≡ 2 → len ≡ 8
-  pub at_3 : type ≡ 3 → len ≡ 8
-  pub at_4 : type ≡ 4 → len ≡ 20
-  pub at_6 : type ≡ 6 → len ≡ 32
-  pub at_7 : type ≡ 7 → len ≡ 24
-  pub at_8 : type ≡ 8 → len ≡ 8
-  pub at_9 : type ≡ 9 → 32 ≤ len
-  pub at_10 : type ≡ 10 → 16 ≤ len
+  pub known : is_type type ≡ true
+  pub at_notify : type ≡ kind_number kinds.SerialNotify → len ≡ fixed_len kinds.SerialNotify
+  pub at_query : type ≡ kind_number kinds.SerialQuery → len ≡ fixed_len kinds.SerialQuery
+  pub at_reset_query : type ≡ kind_number kinds.ResetQuery → len ≡ fixed_len kinds.ResetQuery
+  pub at_response : type ≡ kind_number kinds.CacheResponse → len ≡ fixed_len kinds.CacheResponse
+  pub at_v4 : type ≡ kind_number kinds.Ipv4Prefix → len ≡ fixed_len kinds.Ipv4Prefix
+  pub at_v6 : type ≡ kind_number kinds.Ipv6Prefix → len ≡ fixed_len kinds.Ipv6Prefix
+  pub at_end_of_data : type ≡ kind_number kinds.EndOfData → len ≡ fixed_len kinds.EndOfData
+  pub at_cache_reset : type ≡ kind_number kinds.CacheReset → len ≡ fixed_len kinds.CacheReset
+  pub at_key : type ≡ kind_number kinds.RouterKey → fixed_len kinds.RouterKey ≤ len
+  pub at_report : type ≡ kind_number kinds.ErrorReport → fixed_len kinds.ErrorReport ≤ len
 
 -- A unit of version 1 has come whole, and no more than it.
 pub record IsBody (any : Bool) (bytes : List ℕ) : Type 0 where

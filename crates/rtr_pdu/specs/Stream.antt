@@ -1,12 +1,14 @@
 -- A stream of bytes as units (RFC 8210 sections 5 and 12).
-use Rattle.std.specs.Prelude.{◌≡◌, ◌⊎◌, ℕ, ◌+◌, ◌-◌, ◌/◌, ◌%◌, ◌^◌, ◌<◌, ◌≤◌, Bool, true, false, not, ◌&&◌, ◌||◌, ◌==◌, nat_lt, nat_le, List, [], ◌∷◌, ◌++◌, length, take, drop, slice_index, Option, Some, None, if◌then◌else◌, MatchOption}
-use Rattle.std.specs.List.{list_any}
+use Rattle.std.specs.Prelude.{◌≡◌, ◌⊎◌, ℕ, ◌+◌, ◌-◌, ◌/◌, ◌%◌, ◌^◌, ◌<◌, ◌≤◌, Bool, true, false, not, ◌&&◌, ◌==◌, nat_lt, nat_le, List, [], ◌∷◌, ◌++◌, length, take, drop, slice_index, Option, Some, None, if◌then◌else◌, MatchOption}
 use Rattle.std.specs.Str.{IsUtf8}
 use Rattle.byteorder.specs.Endian.{big_number}
 use Rattle.rtr_pdu.specs.declared.unit.Unit.{Unit}
 use Rattle.rtr_pdu.specs.declared.unit.Unit.TheVariants.{SerialNotify}
 use Rattle.rtr_pdu.specs.declared.unit.UnitFault.{UnitFault}
 use Rattle.rtr_pdu.specs.declared.unit.UnitFault.TheVariants as faults
+use Rattle.rtr_pdu.specs.declared.kind.Kind.{Kind}
+use Rattle.rtr_pdu.specs.declared.kind.Kind.TheVariants as kinds
+use Rattle.rtr_pdu.specs.Kind.{kind_number, fixed_len, is_type, has_length}
 use Rattle.rtr_pdu.specs.Payloads.{AreBytes}
 use Rattle.rtr_pdu.specs.Unit.{IsUnit, Reads, unit_bytes}
 
@@ -20,16 +22,13 @@ type_of bytes = slice_index bytes 1
 abbrev pub length_of : List ℕ → ℕ
 length_of bytes = big_number 4 (drop 4 bytes)
 
--- the types whose units have one length, with that length
-abbrev pub fixed_lengths : List (ℕ × ℕ)
-fixed_lengths = (0, 12) ∷ (1, 12) ∷ (2, 8) ∷ (3, 8) ∷ (4, 20) ∷ (6, 32) ∷ (7, 24) ∷ (8, 8) ∷ []
+-- The header shows this type.
+abbrev pub IsOf : Kind → List ℕ → Type 0
+IsOf kind bytes = type_of bytes ≡ kind_number kind
 
-abbrev pub is_type : ℕ → Bool
-is_type type = nat_le type 10 && not (type == 5)
-
-abbrev pub has_length : ℕ → ℕ → Bool
-has_length type len =
-    list_any (λ e. type == e.0 && len == e.1) fixed_lengths || ((type == 9 && nat_le 32 len) || (type == 10 && nat_le 16 len))
+-- `IsOf` as a test
+abbrev pub is_of : Kind → List ℕ → Bool
+is_of kind bytes = type_of bytes == kind_number kind
 
 -- The first fault of a header with these bytes of version, type and length, where units of this version are expected
 abbrev pub fault_of : ℕ → ℕ → ℕ → ℕ → Option UnitFault
@@ -63,13 +62,13 @@ abbrev pub IsReport : List ℕ → Type 0
 IsReport bytes =
     let copy = big_number 4 (drop 8 bytes) in
     let text = big_number 4 (drop (12 + copy) bytes) in
-    (16 + copy + text ≡ length_of bytes) × IsUtf8 (take text (drop (16 + copy) bytes))
+    (fixed_len kinds.ErrorReport + copy + text ≡ length_of bytes) × IsUtf8 (take text (drop (16 + copy) bytes))
 
 -- This fault, and none before it, shows at the front of the bytes. That the input ends is no fault of bytes.
 abbrev pub Shows : ℕ → List ℕ → UnitFault → Type 0
 Shows version bytes faults.Record =
-    IsWhole version bytes × (((type_of bytes ≡ 4) × ¬ (IsRecord 32 bytes)) ⊎ ((type_of bytes ≡ 6) × ¬ (IsRecord 128 bytes)))
-Shows version bytes faults.ErrorReport = IsWhole version bytes × (type_of bytes ≡ 10) × ¬ (IsReport bytes)
+    IsWhole version bytes × ((IsOf kinds.Ipv4Prefix bytes × ¬ (IsRecord 32 bytes)) ⊎ (IsOf kinds.Ipv6Prefix bytes × ¬ (IsRecord 128 bytes)))
+Shows version bytes faults.ErrorReport = IsWhole version bytes × IsOf kinds.ErrorReport bytes × ¬ (IsReport bytes)
 Shows version bytes faults.Truncated = ⊥
 Shows version bytes fault = header_fault version bytes ≡ Some fault
 
@@ -82,7 +81,7 @@ end_fault (b ∷ rest) None = Some faults.Truncated
 -- A router that has not agreed on a version yet (any) reads a Serial Notify, told by its type and its length, whatever its
 -- version (section 7). So it reads the bytes with the expected version in such a header.
 abbrev pub is_notify_header : List ℕ → Bool
-is_notify_header bytes = nat_le 8 (length bytes) && (type_of bytes == 0 && length_of bytes == 12)
+is_notify_header bytes = nat_le 8 (length bytes) && (is_of kinds.SerialNotify bytes && length_of bytes == fixed_len kinds.SerialNotify)
 
 unfoldable pub as_read : ℕ → Bool → List ℕ → List ℕ
 as_read version any bytes = if any && is_notify_header bytes then version ∷ drop 1 bytes else bytes

@@ -6,7 +6,10 @@ use Rattle.byteorder.specs.Endian.{big_bytes}
 use Rattle.prefixes.specs.Payload.{IsPayload}
 use Rattle.prefixes.specs.declared.prefix.IpPrefix.{IpPrefix}
 use Rattle.prefixes.specs.declared.prefix.IpPrefix.TheVariants.{V4, V6}
+use Rattle.rtr_pdu.specs.Kind.{kind_number, fixed_len}
 use Rattle.rtr_pdu.specs.Payloads.{AreBytes}
+use Rattle.rtr_pdu.specs.declared.kind.Kind.{Kind}
+use Rattle.rtr_pdu.specs.declared.kind.Kind.TheVariants as kinds
 use Rattle.rtr_pdu.specs.declared.unit.Unit.{Unit}
 use Rattle.rtr_pdu.specs.declared.unit.Unit.TheVariants.{SerialNotify, SerialQuery, ResetQuery, CacheResponse, Prefix, EndOfData, CacheReset, RouterKey, ErrorReport}
 
@@ -33,27 +36,33 @@ zeros = record { header = 0; flags = 0; byte = 0 }
 abbrev pub header : ℕ → ℕ → ℕ → ℕ → List ℕ
 header version kind field len = version ∷ kind ∷ big_bytes 2 field ++ big_bytes 4 len
 
+-- The same of a unit whose type has one length
+abbrev pub fixed_header : ℕ → Kind → ℕ → List ℕ
+fixed_header version kind field = header version (kind_number kind) field (fixed_len kind)
+
 -- An IPv4 or IPv6 Prefix (sections 5.6 and 5.7): flags, length, maximum, zero, address, AS
 abbrev pub prefix_bytes : ℕ → Bool → IpPrefix → ℕ → ℕ → Ignored → List ℕ
 prefix_bytes version announce (V4 p) max_len asn z =
-    header version 4 z.header 20 ++ (flag announce + 2 * z.flags) ∷ p.len ∷ max_len ∷ z.byte ∷ big_bytes 4 p.addr ++ big_bytes 4 asn
+    fixed_header version kinds.Ipv4Prefix z.header ++ (flag announce + 2 * z.flags) ∷ p.len ∷ max_len ∷ z.byte ∷ big_bytes 4 p.addr ++ big_bytes 4 asn
 prefix_bytes version announce (V6 p) max_len asn z =
-    header version 6 z.header 32 ++ (flag announce + 2 * z.flags) ∷ p.len ∷ max_len ∷ z.byte ∷ big_bytes 16 p.addr ++ big_bytes 4 asn
+    fixed_header version kinds.Ipv6Prefix z.header ++ (flag announce + 2 * z.flags) ∷ p.len ∷ max_len ∷ z.byte ∷ big_bytes 16 p.addr ++ big_bytes 4 asn
 
 -- The bytes of a unit of this protocol version, with what is ignored (sections 5.2 to 5.11)
 abbrev pub spelled : ℕ → Unit → Ignored → List ℕ
-spelled version (SerialNotify session serial) z = header version 0 session 12 ++ big_bytes 4 serial
-spelled version (SerialQuery session serial) z = header version 1 session 12 ++ big_bytes 4 serial
-spelled version ResetQuery z = header version 2 z.header 8
-spelled version (CacheResponse session) z = header version 3 session 8
+spelled version (SerialNotify session serial) z = fixed_header version kinds.SerialNotify session ++ big_bytes 4 serial
+spelled version (SerialQuery session serial) z = fixed_header version kinds.SerialQuery session ++ big_bytes 4 serial
+spelled version ResetQuery z = fixed_header version kinds.ResetQuery z.header
+spelled version (CacheResponse session) z = fixed_header version kinds.CacheResponse session
 spelled version (Prefix announce v) z = prefix_bytes version announce v.prefix v.max_len v.asn z
 spelled version (EndOfData session serial refresh retry expire) z =
-    header version 7 session 24 ++ big_bytes 4 serial ++ big_bytes 4 refresh ++ big_bytes 4 retry ++ big_bytes 4 expire
-spelled version CacheReset z = header version 8 z.header 8
+    fixed_header version kinds.EndOfData session ++ big_bytes 4 serial ++ big_bytes 4 refresh ++ big_bytes 4 retry ++ big_bytes 4 expire
+spelled version CacheReset z = fixed_header version kinds.CacheReset z.header
 spelled version (RouterKey k) z =
-    version ∷ 9 ∷ (flag k.announce + 2 * z.flags) ∷ z.byte ∷ big_bytes 4 (32 + length k.info) ++ k.identifier ++ big_bytes 4 k.asn ++ k.info
+    version ∷ kind_number kinds.RouterKey ∷ (flag k.announce + 2 * z.flags) ∷ z.byte ∷ big_bytes 4 (fixed_len kinds.RouterKey + length k.info) ++ k.identifier ++ big_bytes 4 k.asn
+    ++ k.info
 spelled version (ErrorReport r) z =
-    header version 10 r.code (16 + length r.copy + length r.text) ++ big_bytes 4 (length r.copy) ++ r.copy ++ big_bytes 4 (length r.text) ++ r.text
+    header version (kind_number kinds.ErrorReport) r.code (fixed_len kinds.ErrorReport + length r.copy + length r.text) ++ big_bytes 4 (length r.copy)
+    ++ r.copy ++ big_bytes 4 (length r.text) ++ r.text
 
 -- The numbers fit their fields, a record is a payload, and the whole has at most 4,096 bytes.
 abbrev pub IsUnit : Unit → Type 0

@@ -3,6 +3,7 @@
 
 mod counted;
 mod device;
+mod kind;
 pub mod laws;
 mod reader;
 mod reading;
@@ -12,6 +13,7 @@ mod writing;
 
 pub use counted::Counted;
 pub use device::{ReadFault, WriteFailed, read_unit, write_unit};
+pub use kind::Kind;
 pub use reader::UnitReader;
 pub use stream::read_all;
 pub use unit::{ErrorReport, Next, RouterKey, Unit, UnitFault};

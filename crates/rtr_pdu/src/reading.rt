@@ -1,27 +1,26 @@
 //! Units from bytes.
-ghost use Rattle.std.specs.Prelude.{◌≡◌, ◌==◌, ◌&&◌, if◌then◌else◌, ◌+◌, ◌≤◌, length, IfOk, IfErr, IfSome, IfNone};
-ghost use Rattle.rtr_pdu.specs.Stream.{has_length, fault_of, header_fault, as_read, type_of, length_of, IsRecord, IsReport};
+ghost use Rattle.std.specs.Prelude.{◌≡◌, ◌==◌, ◌&&◌, true, not, nat_lt, Some, None, if◌then◌else◌, ◌+◌, ◌≤◌, length, IfOk, IfErr, IfSome, IfNone};
+ghost use Rattle.rtr_pdu.specs.Kind.{kind_number, fixed_len, may_have, is_type};
+ghost use Rattle.rtr_pdu.specs.Stream.{fault_of, header_fault, as_read, type_of, length_of, IsOf, IsRecord, IsReport};
 ghost use Rattle.rtr_pdu.specs.Reading.{number_at, v4_in, v6_in, key_in, report_in, IsBody};
 ghost use Rattle.rtr_pdu.specs.Reader.{IsRead, IsFaulty};
 
+use crate::kind::Kind;
 use crate::unit::{ErrorReport, RouterKey, Unit, UnitFault};
 use byteorder::{BigEndian, ByteOrder};
 use prefixes::{Asn, IpPrefix, Prefix, V4, V6, Vrp};
 use std::str;
 
-/// Whether units of this type may have this length.
-fn is_length_of(kind: u8, len: u32) -> bool
-    ensures { result ≡ has_length kind len }
+/// The fault of the length of a unit of this type.
+fn judge_len(kind: Kind, len: u32) -> Option<UnitFault>
+    ensures { result ≡ (if not (may_have kind len) then Some UnitFault.Length else if nat_lt 4096 len then Some UnitFault.TooLong else None) }
 {
-    match kind {
-        0 | 1 => len == 12,
-        2 | 3 | 8 => len == 8,
-        4 => len == 20,
-        6 => len == 32,
-        7 => len == 24,
-        9 => len >= 32,
-        10 => len >= 16,
-        _ => false,
+    if !kind.may_have(len) {
+        Some(UnitFault::Length)
+    } else if len > 4096 {
+        Some(UnitFault::TooLong)
+    } else {
+        None
     }
 }
 
@@ -31,22 +30,19 @@ fn judge_header(version: u8, kind: u8, len: u32) -> Option<UnitFault>
 {
     if version != 1 {
         Some(UnitFault::Version)
-    } else if kind > 10 || kind == 5 {
-        Some(UnitFault::Type)
-    } else if !is_length_of(kind, len) {
-        Some(UnitFault::Length)
-    } else if len > 4096 {
-        Some(UnitFault::TooLong)
+    } else if let Some(known) = Kind::from_number(kind) {
+        judge_len(known, len)
     } else {
-        None
+        Some(UnitFault::Type)
     }
 }
 
 /// The version that a header counts as showing.
 fn shown_version(any: bool, version: u8, kind: u8, len: u32) -> u8
-    ensures { result ≡ (if any && (kind == 0 && len == 12) then 1 else version) }
+    ensures { result ≡ (if any && (kind == kind_number Kind.SerialNotify && len == fixed_len Kind.SerialNotify) then 1 else version) }
 {
-    if any && kind == 0 && len == 12 {
+    let notify = Kind::SerialNotify;
+    if any && kind == notify.number() && len == notify.fixed_len() {
         1
     } else {
         version
@@ -155,61 +151,71 @@ fn report(bytes: &[u8]) -> Option<ErrorReport>
     }
 }
 
+/// The type of a unit whose header has no fault.
+fn kind_of(bytes: &[u8]) -> Kind
+    requires two { 2 ≤ length bytes.now }
+    requires known { is_type (type_of bytes.now) ≡ true }
+    ensures { IsOf result bytes.now }
+{
+    match Kind::from_number(bytes[1]) {
+        Some(kind) => kind,
+        None => unreachable!(),
+    }
+}
+
+/// The End of Data in bytes of its length.
+fn end_of_data(bytes: &[u8]) -> Unit
+    requires { length bytes.now ≡ 24 }
+    ensures { result ≡ Unit.EndOfData (number_at 2 2 bytes.now) (number_at 4 8 bytes.now) (number_at 4 12 bytes.now) (number_at 4 16 bytes.now) (number_at 4 20 bytes.now) }
+{
+    Unit::EndOfData {
+        session: number_16(bytes, 2),
+        serial: number_32(bytes, 8),
+        refresh: number_32(bytes, 12),
+        retry: number_32(bytes, 16),
+        expire: number_32(bytes, 20),
+    }
+}
+
 /// Reads a unit that has come whole, behind a header without a fault.
 pub fn read(any: bool, bytes: &[u8]) -> Result<Unit, UnitFault>
     requires { IsBody any bytes.now }
     ensures ok { IfOk result (λ unit. IsRead any bytes.now unit) }
     ensures err { IfErr result (λ fault. IsFaulty any bytes.now fault) }
 {
-    match bytes[1] {
-        4 => match v4_record(bytes) {
+    match kind_of(bytes) {
+        Kind::SerialNotify => Ok(Unit::SerialNotify {
+            session: number_16(bytes, 2),
+            serial: number_32(bytes, 8),
+        }),
+        Kind::SerialQuery => Ok(Unit::SerialQuery {
+            session: number_16(bytes, 2),
+            serial: number_32(bytes, 8),
+        }),
+        Kind::ResetQuery => Ok(Unit::ResetQuery),
+        Kind::CacheResponse => Ok(Unit::CacheResponse {
+            session: number_16(bytes, 2),
+        }),
+        Kind::Ipv4Prefix => match v4_record(bytes) {
             Some(vrp) => Ok(Unit::Prefix {
                 announce: bytes[8] % 2 == 1,
                 vrp,
             }),
             None => Err(UnitFault::Record),
         },
-        6 => match v6_record(bytes) {
+        Kind::Ipv6Prefix => match v6_record(bytes) {
             Some(vrp) => Ok(Unit::Prefix {
                 announce: bytes[8] % 2 == 1,
                 vrp,
             }),
             None => Err(UnitFault::Record),
         },
-        9 => Ok(Unit::RouterKey(key(bytes))),
-        10 => match report(bytes) {
+        Kind::EndOfData => Ok(end_of_data(bytes)),
+        Kind::CacheReset => Ok(Unit::CacheReset),
+        Kind::RouterKey => Ok(Unit::RouterKey(key(bytes))),
+        Kind::ErrorReport => match report(bytes) {
             Some(report) => Ok(Unit::ErrorReport(report)),
             None => Err(UnitFault::ErrorReport),
         },
-        _ => Ok(plain(any, bytes)),
-    }
-}
-
-/// Reads a unit of a type with no body, or with a body of numbers.
-fn plain(any: bool, bytes: &[u8]) -> Unit
-    requires body { IsBody any bytes.now }
-    requires other { ¬ (type_of bytes.now ≡ 4) × ¬ (type_of bytes.now ≡ 6) × ¬ (type_of bytes.now ≡ 9) × ¬ (type_of bytes.now ≡ 10) }
-    ensures { IsRead any bytes.now result }
-{
-    let session = number_16(bytes, 2);
-    match bytes[1] {
-        0 => Unit::SerialNotify {
-            session,
-            serial: number_32(bytes, 8),
-        },
-        1 => Unit::SerialQuery {
-            session,
-            serial: number_32(bytes, 8),
-        },
-        2 => Unit::ResetQuery,
-        3 => Unit::CacheResponse { session },
-        7 => Unit::EndOfData {
-            session,
-            serial: number_32(bytes, 8),
-            refresh: number_32(bytes, 12),
-            retry: number_32(bytes, 16),
-            expire: number_32(bytes, 20),
-        },
-        _ => Unit::CacheReset,
     }
 }

@@ -2,8 +2,10 @@
 ghost use Rattle.std.specs.Prelude.{◌≡◌, ◌+◌, ◌≤◌, ◌∷◌, ◌++◌, length};
 ghost use Rattle.arrayvec.specs.ArrayVec.{array_vec_len};
 ghost use Rattle.byteorder.specs.Endian.{big_bytes};
-ghost use Rattle.rtr_pdu.specs.Unit.{IsUnit, header, unit_bytes, flag};
+ghost use Rattle.rtr_pdu.specs.Kind.{kind_number};
+ghost use Rattle.rtr_pdu.specs.Unit.{IsUnit, header, fixed_header, unit_bytes, flag};
 
+use crate::kind::Kind;
 use crate::unit::{ErrorReport, RouterKey, Unit};
 use arrayvec::ArrayVec;
 use prefixes::{IpPrefix, Vrp};
@@ -21,14 +23,22 @@ fn put(buffer: &mut ArrayVec<u8, 4096>, bytes: &[u8])
 }
 
 /// Begins a unit in an empty buffer.
-fn put_header(buffer: &mut ArrayVec<u8, 4096>, kind: u8, field: u16, len: u32)
-    ensures items { buffer.new.items ≡ header 1 kind field len }
+fn put_header(buffer: &mut ArrayVec<u8, 4096>, kind: Kind, field: u16, len: u32)
+    ensures items { buffer.new.items ≡ header 1 (kind_number kind) field len }
     ensures len { array_vec_len buffer.new ≡ 8 }
 {
     buffer.clear();
-    put(buffer, &[1, kind]);
+    put(buffer, &[1, kind.number()]);
     put(buffer, &field.to_be_bytes());
     put(buffer, &len.to_be_bytes());
+}
+
+/// The same of a unit whose type has one length.
+fn put_fixed(buffer: &mut ArrayVec<u8, 4096>, kind: Kind, field: u16)
+    ensures items { buffer.new.items ≡ fixed_header 1 kind field }
+    ensures len { array_vec_len buffer.new ≡ 8 }
+{
+    put_header(buffer, kind, field, kind.fixed_len());
 }
 
 fn put_number(buffer: &mut ArrayVec<u8, 4096>, number: u32)
@@ -49,7 +59,7 @@ fn put_end_of_data(
 )
     ensures { buffer.new.items ≡ unit_bytes 1 (Unit.EndOfData session serial refresh retry expire) }
 {
-    put_header(buffer, 7, session, 24);
+    put_fixed(buffer, Kind::EndOfData, session);
     put_number(buffer, serial);
     put_number(buffer, refresh);
     put_number(buffer, retry);
@@ -87,22 +97,22 @@ pub fn encode_prefix(announce: bool, vrp: &Vrp, buffer: &mut ArrayVec<u8, 4096>)
     let asn = vrp.asn().0;
     match vrp.prefix() {
         IpPrefix::V4(p) => {
-            put_header(buffer, 4, 0, 20);
+            put_fixed(buffer, Kind::Ipv4Prefix, 0);
             let addr = (p.addr() as u32).to_be_bytes();
             put_record(buffer, announce, p.len(), max_len, &addr, asn);
         }
         IpPrefix::V6(p) => {
-            put_header(buffer, 6, 0, 32);
+            put_fixed(buffer, Kind::Ipv6Prefix, 0);
             let addr = p.addr().to_be_bytes();
             put_record(buffer, announce, p.len(), max_len, &addr, asn);
         }
     }
 }
 
-fn put_serial(kind: u8, session: u16, serial: u32, buffer: &mut ArrayVec<u8, 4096>)
-    ensures { buffer.new.items ≡ header 1 kind session 12 ++ big_bytes 4 serial }
+fn put_serial(kind: Kind, session: u16, serial: u32, buffer: &mut ArrayVec<u8, 4096>)
+    ensures { buffer.new.items ≡ fixed_header 1 kind session ++ big_bytes 4 serial }
 {
-    put_header(buffer, kind, session, 12);
+    put_fixed(buffer, kind, session);
     put_number(buffer, serial);
 }
 
@@ -112,8 +122,9 @@ fn put_key(key: &RouterKey, buffer: &mut ArrayVec<u8, 4096>)
 {
     let info = key.info();
     buffer.clear();
-    put(buffer, &[1, 9, flag_of(key.announce()), 0]);
-    put_number(buffer, 32 + info.len() as u32);
+    let kind = Kind::RouterKey;
+    put(buffer, &[1, kind.number(), flag_of(key.announce()), 0]);
+    put_number(buffer, kind.fixed_len() + info.len() as u32);
     put(buffer, key.identifier());
     put_number(buffer, key.asn());
     put(buffer, info);
@@ -125,12 +136,9 @@ fn put_report(report: &ErrorReport, buffer: &mut ArrayVec<u8, 4096>)
 {
     let copy = report.copy();
     let text = report.text();
-    put_header(
-        buffer,
-        10,
-        report.code(),
-        16 + copy.len() as u32 + text.len() as u32,
-    );
+    let kind = Kind::ErrorReport;
+    let len = kind.fixed_len() + copy.len() as u32 + text.len() as u32;
+    put_header(buffer, kind, report.code(), len);
     put_number(buffer, copy.len() as u32);
     put(buffer, copy);
     put_number(buffer, text.len() as u32);
@@ -144,10 +152,20 @@ pub fn encode(unit: &Unit, buffer: &mut ArrayVec<u8, 4096>)
     ensures unit { IsUnit unit.now }
 {
     match unit {
-        Unit::SerialNotify { session, serial } => put_serial(0, *session, *serial, buffer),
-        Unit::SerialQuery { session, serial } => put_serial(1, *session, *serial, buffer),
-        Unit::ResetQuery => put_header(buffer, 2, 0, 8),
-        Unit::CacheResponse { session } => put_header(buffer, 3, *session, 8),
+        Unit::SerialNotify { session, serial } => put_serial(
+            Kind::SerialNotify,
+            *session,
+            *serial,
+            buffer,
+        ),
+        Unit::SerialQuery { session, serial } => put_serial(
+            Kind::SerialQuery,
+            *session,
+            *serial,
+            buffer,
+        ),
+        Unit::ResetQuery => put_fixed(buffer, Kind::ResetQuery, 0),
+        Unit::CacheResponse { session } => put_fixed(buffer, Kind::CacheResponse, *session),
         Unit::Prefix { announce, vrp } => encode_prefix(*announce, vrp, buffer),
         Unit::EndOfData {
             session,
@@ -156,7 +174,7 @@ pub fn encode(unit: &Unit, buffer: &mut ArrayVec<u8, 4096>)
             retry,
             expire,
         } => put_end_of_data(*session, *serial, *refresh, *retry, *expire, buffer),
-        Unit::CacheReset => put_header(buffer, 8, 0, 8),
+        Unit::CacheReset => put_fixed(buffer, Kind::CacheReset, 0),
         Unit::RouterKey(key) => put_key(key, buffer),
         Unit::ErrorReport(report) => put_report(report, buffer),
     }

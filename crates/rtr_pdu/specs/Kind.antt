@@ -1,0 +1,55 @@
+-- The types of units (RFC 8210 section 5): their numbers and lengths.
+use Rattle.std.specs.Prelude.{ℕ, Bool, true, false, ◌&&◌, ◌==◌, nat_le, List, [], ◌∷◌, if◌then◌else◌}
+use Rattle.std.specs.List.{list_any}
+use Rattle.rtr_pdu.specs.declared.kind.Kind.{Kind}
+use Rattle.rtr_pdu.specs.declared.kind.Kind.TheVariants as kinds
+
+-- The number that stands for a type in a header
+abbrev pub kind_number : Kind → ℕ
+kind_number kinds.SerialNotify = 0
+kind_number kinds.SerialQuery = 1
+kind_number kinds.ResetQuery = 2
+kind_number kinds.CacheResponse = 3
+kind_number kinds.Ipv4Prefix = 4
+kind_number kinds.Ipv6Prefix = 6
+kind_number kinds.EndOfData = 7
+kind_number kinds.CacheReset = 8
+kind_number kinds.RouterKey = 9
+kind_number kinds.ErrorReport = 10
+
+-- The types that there are
+abbrev pub all_kinds : List Kind
+all_kinds =
+    kinds.SerialNotify ∷ kinds.SerialQuery ∷ kinds.ResetQuery ∷ kinds.CacheResponse ∷ kinds.Ipv4Prefix
+    ∷ kinds.Ipv6Prefix ∷ kinds.EndOfData ∷ kinds.CacheReset ∷ kinds.RouterKey ∷ kinds.ErrorReport ∷ []
+
+-- How many bytes each unit of a type has
+abbrev pub fixed_len : Kind → ℕ
+fixed_len kinds.SerialNotify = 12
+fixed_len kinds.SerialQuery = 12
+fixed_len kinds.ResetQuery = 8
+fixed_len kinds.CacheResponse = 8
+fixed_len kinds.Ipv4Prefix = 20
+fixed_len kinds.Ipv6Prefix = 32
+fixed_len kinds.EndOfData = 24
+fixed_len kinds.CacheReset = 8
+fixed_len kinds.RouterKey = 32
+fixed_len kinds.ErrorReport = 16
+
+-- Behind these a Router Key has its key, and an Error Report its copy and its text. All others have no more.
+abbrev pub varies : Kind → Bool
+varies kinds.RouterKey = true
+varies kinds.ErrorReport = true
+varies _ = false
+
+-- A unit of this type may have this length.
+abbrev pub may_have : Kind → ℕ → Bool
+may_have kind len = if varies kind then nat_le (fixed_len kind) len else len == fixed_len kind
+
+-- A type with this number there is.
+abbrev pub is_type : ℕ → Bool
+is_type type = list_any (λ kind. type == kind_number kind) all_kinds
+
+-- A unit whose type has this number may have this length.
+abbrev pub has_length : ℕ → ℕ → Bool
+has_length type len = list_any (λ kind. type == kind_number kind && may_have kind len) all_kinds

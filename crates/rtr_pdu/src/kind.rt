@@ -1,0 +1,83 @@
+//! The types of units.
+ghost use Rattle.std.specs.Prelude.{◌≡◌, false, IfSome, IfNone};
+ghost use Rattle.rtr_pdu.specs.Kind.{kind_number, fixed_len, may_have, is_type};
+
+/// The type of a unit (RFC 8210 section 5).
+#[derive(Clone, Copy, Debug, PartialEq, Eq)]
+pub enum Kind {
+    /// A Serial Notify (RFC 8210 section 5.2).
+    SerialNotify = 0,
+    /// A Serial Query (RFC 8210 section 5.3).
+    SerialQuery = 1,
+    /// A Reset Query (RFC 8210 section 5.4).
+    ResetQuery = 2,
+    /// A Cache Response (RFC 8210 section 5.5).
+    CacheResponse = 3,
+    /// An IPv4 Prefix (RFC 8210 section 5.6).
+    Ipv4Prefix = 4,
+    /// An IPv6 Prefix (RFC 8210 section 5.7).
+    Ipv6Prefix = 6,
+    /// An End of Data (RFC 8210 section 5.8).
+    EndOfData = 7,
+    /// A Cache Reset (RFC 8210 section 5.9).
+    CacheReset = 8,
+    /// A Router Key (RFC 8210 section 5.10).
+    RouterKey = 9,
+    /// An Error Report (RFC 8210 section 5.11).
+    ErrorReport = 10,
+}
+
+impl Kind {
+    /// The type that this number in a header stands for, or `None` where there is none.
+    pub fn from_number(number: u8) -> Option<Kind>
+        ensures some { IfSome result (λ kind. kind_number kind ≡ number) }
+        ensures none { IfNone result (is_type number ≡ false) }
+    {
+        match number {
+            0 => Some(Kind::SerialNotify),
+            1 => Some(Kind::SerialQuery),
+            2 => Some(Kind::ResetQuery),
+            3 => Some(Kind::CacheResponse),
+            4 => Some(Kind::Ipv4Prefix),
+            6 => Some(Kind::Ipv6Prefix),
+            7 => Some(Kind::EndOfData),
+            8 => Some(Kind::CacheReset),
+            9 => Some(Kind::RouterKey),
+            10 => Some(Kind::ErrorReport),
+            _ => None,
+        }
+    }
+
+    /// The number that stands for the type in a header.
+    pub fn number(self) -> u8
+        ensures { result ≡ kind_number self }
+    {
+        self as u8
+    }
+
+    /// How many bytes each unit of the type has: of a Router Key without its key, of an Error Report without its copy and
+    /// its text, and of all others the whole.
+    pub fn fixed_len(self) -> u32
+        ensures { result ≡ fixed_len self }
+    {
+        match self {
+            Kind::SerialNotify | Kind::SerialQuery => 12,
+            Kind::ResetQuery | Kind::CacheResponse | Kind::CacheReset => 8,
+            Kind::Ipv4Prefix => 20,
+            Kind::Ipv6Prefix => 32,
+            Kind::EndOfData => 24,
+            Kind::RouterKey => 32,
+            Kind::ErrorReport => 16,
+        }
+    }
+
+    /// Whether a unit of the type may have this length in bytes.
+    pub fn may_have(self, len: u32) -> bool
+        ensures { result ≡ may_have self len }
+    {
+        match self {
+            Kind::RouterKey | Kind::ErrorReport => len >= self.fixed_len(),
+            _ => len == self.fixed_len(),
+        }
+    }
+}
