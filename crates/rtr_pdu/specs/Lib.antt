@@ -1,3 +1,4 @@
+pub mod Code
 pub mod Counted
 pub mod Device
 pub mod Fault

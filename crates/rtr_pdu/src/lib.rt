@@ -3,6 +3,7 @@
 
 mod counted;
 mod device;
+pub mod error_code;
 mod kind;
 pub mod laws;
 mod reader;

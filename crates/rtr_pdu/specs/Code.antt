@@ -1,0 +1,29 @@
+-- The error codes of Error Reports (RFC 8210 section 12).
+use Rattle.std.specs.Prelude.{ℕ}
+
+abbrev pub CORRUPT_DATA : ℕ
+CORRUPT_DATA = 0
+
+abbrev pub INTERNAL_ERROR : ℕ
+INTERNAL_ERROR = 1
+
+abbrev pub NO_DATA_AVAILABLE : ℕ
+NO_DATA_AVAILABLE = 2
+
+abbrev pub INVALID_REQUEST : ℕ
+INVALID_REQUEST = 3
+
+abbrev pub UNSUPPORTED_VERSION : ℕ
+UNSUPPORTED_VERSION = 4
+
+abbrev pub UNSUPPORTED_TYPE : ℕ
+UNSUPPORTED_TYPE = 5
+
+abbrev pub UNKNOWN_WITHDRAWAL : ℕ
+UNKNOWN_WITHDRAWAL = 6
+
+abbrev pub DUPLICATE_ANNOUNCEMENT : ℕ
+DUPLICATE_ANNOUNCEMENT = 7
+
+abbrev pub UNEXPECTED_VERSION : ℕ
+UNEXPECTED_VERSION = 8
