@@ -3,6 +3,7 @@ use Rattle.std.specs.Prelude.{◌≡◌, ℕ, ◌==◌, Bool, true, false, List,
 use Rattle.std.specs.List.{AllByRecursion}
 use Rattle.vrps.specs.Instance.{Instance, IsInstance}
 use Rattle.vrps.specs.Steps.{HoldsSteps, Steps}
+use Rattle.rtr_pdu.specs.Code.{INTERNAL_ERROR}
 use Rattle.rtr_pdu.specs.Stream.{Splits}
 use Rattle.rtr_pdu.specs.declared.unit.Unit.{Unit}
 use Rattle.rtr_pdu.specs.declared.unit.Unit.TheVariants.{ErrorReport}
@@ -62,7 +63,7 @@ pub record HasExchanged (i : Instance) (c : ℕ) (bytes given : List ℕ) (cache
 
 -- an Error Report of code 1, Internal Error
 abbrev pub is_internal_error : Unit → Bool
-is_internal_error (ErrorReport r) = r.code == 1
+is_internal_error (ErrorReport r) = r.code == INTERNAL_ERROR
 is_internal_error u = false
 
 -- The lines of the units by which the bytes are split, none of which is an Internal Error.

@@ -9,7 +9,7 @@ ghost use Rattle.rpkirtr.specs.Serves.{HasExchanged, HasLines, HasServed, Serves
 use crate::hexadecimal::push_hex;
 use hex::FromHexError;
 use rtr_ends::{Cache, Conn, Timing};
-use rtr_pdu::{Next, Unit, UnitBuffer, UnitReader, encode};
+use rtr_pdu::{Next, Unit, UnitBuffer, UnitReader, encode, error_code};
 use std::alloc::{AllocError, Global};
 use vrps::{Serial, VersionLog, VrpSet};
 
@@ -110,7 +110,7 @@ fn is_internal_error(unit: &Unit) -> bool
     ensures { result ≡ is_internal_error unit.now }
 {
     match unit {
-        Unit::ErrorReport(report) => report.code() == 1,
+        Unit::ErrorReport(report) => report.code() == error_code::INTERNAL_ERROR,
         _ => false,
     }
 }

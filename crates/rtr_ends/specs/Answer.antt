@@ -4,6 +4,7 @@ use Rattle.std.specs.List.{flat_map}
 use Rattle.vrps.specs.Change.{between}
 use Rattle.vrps.specs.Instance.{Instance, Version, versions, with_serial}
 use Rattle.vrps.specs.VrpSet.{VrpSet, listing}
+use Rattle.rtr_pdu.specs.Code.{CORRUPT_DATA, NO_DATA_AVAILABLE, INVALID_REQUEST}
 use Rattle.rtr_pdu.specs.Unit.{unit_bytes}
 use Rattle.rtr_pdu.specs.declared.unit.Unit.{Unit}
 use Rattle.rtr_pdu.specs.declared.unit.Unit.TheVariants.{SerialQuery, ResetQuery, CacheResponse, Prefix, EndOfData, CacheReset, ErrorReport}
@@ -45,7 +46,7 @@ response session t now records =
 
 -- To a Reset Query: all of the current version (section 8.1). Where nothing is published: No Data Available (section 8.4).
 abbrev pub whole_answer : ℕ → Intervals → List Version → List Unit
-whole_answer session t [] = report 2 (sent ResetQuery) ∷ []
+whole_answer session t [] = report NO_DATA_AVAILABLE (sent ResetQuery) ∷ []
 whole_answer session t (now ∷ older) = response session t now (announcements now.set)
 
 -- What leads from a version that is kept to the current one, withdrawals first (section 8.2), or a Cache Reset (section 8.3)
@@ -57,7 +58,7 @@ step_answer session t now (Some before) =
 
 -- To a Serial Query of this session: the newest version of that serial among the current one and the keep versions before it
 abbrev pub serial_answer : ℕ → ℕ → Intervals → ℕ → List Version → List Unit
-serial_answer session keep t serial [] = report 2 (sent (SerialQuery session serial)) ∷ []
+serial_answer session keep t serial [] = report NO_DATA_AVAILABLE (sent (SerialQuery session serial)) ∷ []
 serial_answer session keep t serial (now ∷ older) = step_answer session t now (with_serial serial (now ∷ take keep older))
 
 -- The answer to a unit, as the cache was when the unit was read. Another session than the cache's: Corrupt Data; an Error
@@ -66,6 +67,6 @@ abbrev pub answer : Instance → ℕ → Intervals → Unit → Reply
 answer i keep t ResetQuery = and_on (whole_answer i.session t (versions i))
 answer i keep t (SerialQuery session serial) =
     if session == i.session then and_on (serial_answer i.session keep t serial (versions i))
-    else and_end (report 0 (sent (SerialQuery session serial)) ∷ [])
+    else and_end (report CORRUPT_DATA (sent (SerialQuery session serial)) ∷ [])
 answer i keep t (ErrorReport r) = and_end []
-answer i keep t u = and_end (report 3 (sent u) ∷ [])
+answer i keep t u = and_end (report INVALID_REQUEST (sent u) ∷ [])

@@ -2,7 +2,9 @@
 use Rattle.std.specs.Prelude.{◌≡◌, ◌⊎◌, ℕ, ◌≤◌, Bool, true, false, not, ◌||◌, ◌&&◌, ◌==◌, List, [], ◌∷◌, ◌++◌, length, take, drop, Option, IsTrue, MatchBool, if◌then◌else◌, ⊤}
 use Rattle.vrps.specs.Instance.{Instance, IsInstance, Version, versions}
 use Rattle.vrps.specs.VrpSet.{VrpSet}
-use Rattle.rtr_pdu.specs.Stream.{IsPartial, IsShortest, Shows, Splits, type_of}
+use Rattle.rtr_pdu.specs.declared.kind.Kind.TheVariants as kinds
+use Rattle.rtr_pdu.specs.Code.{CORRUPT_DATA, INTERNAL_ERROR, UNSUPPORTED_VERSION, UNSUPPORTED_TYPE, UNEXPECTED_VERSION}
+use Rattle.rtr_pdu.specs.Stream.{IsPartial, IsShortest, Shows, Splits, is_of}
 use Rattle.rtr_pdu.specs.Unit.{Reads}
 use Rattle.rtr_pdu.specs.declared.unit.Unit.{Unit}
 use Rattle.rtr_pdu.specs.declared.unit.Unit.TheVariants.{SerialNotify, SerialQuery, ResetQuery}
@@ -41,14 +43,14 @@ is_query u = false
 
 -- The code of a fault (section 12): the version, before and after agreement; the type; corrupt data
 abbrev pub fault_code : Bool → UnitFault → ℕ
-fault_code agreed faults.Version = if agreed then 8 else 4
-fault_code agreed faults.«Type» = 5
-fault_code agreed fault = 0
+fault_code agreed faults.Version = if agreed then UNEXPECTED_VERSION else UNSUPPORTED_VERSION
+fault_code agreed faults.«Type» = UNSUPPORTED_TYPE
+fault_code agreed fault = CORRUPT_DATA
 
 -- The report on a fault copies the bytes as they came. There is none on a unit of type 10, nor where the input ends in a unit.
 abbrev pub fault_report : Bool → UnitFault → List ℕ → List Unit
 fault_report agreed faults.Truncated bytes = []
-fault_report agreed fault bytes = if type_of bytes == 10 then [] else report (fault_code agreed fault) bytes ∷ []
+fault_report agreed fault bytes = if is_of kinds.ErrorReport bytes then [] else report (fault_code agreed fault) bytes ∷ []
 
 -- A Serial Notify of the current version, where there is one (section 5.2)
 abbrev pub notice : ℕ → List Version → List Unit
@@ -58,7 +60,7 @@ notice session (now ∷ older) = SerialNotify session now.serial ∷ []
 -- What the cache sends at a moment. Want of memory is an Internal Error, and ends the connection.
 abbrev pub reply : ℕ → Intervals → Bool → Moment → Reply
 reply keep t agreed (Read cache unit bytes) = answer cache keep t unit
-reply keep t agreed (Wanting cache unit bytes) = and_end (report 1 [] ∷ [])
+reply keep t agreed (Wanting cache unit bytes) = and_end (report INTERNAL_ERROR [] ∷ [])
 reply keep t agreed (Fault fault bytes) = and_end (fault_report agreed fault bytes)
 reply keep t agreed (Notify cache) = and_on (notice cache.session (versions cache))
 reply keep t agreed (Pull count) = and_on []

@@ -3,6 +3,7 @@ use Rattle.std.specs.Prelude.{◌≡◌, ℕ, ◌-◌, ◌≤◌, Bool, true, fa
 use Rattle.std.specs.List.{list_any}
 use Rattle.vrps.specs.Instance.{Instance, versions}
 use Rattle.vrps.specs.Stores.{newest}
+use Rattle.rtr_pdu.specs.Code.{INTERNAL_ERROR}
 use Rattle.rtr_pdu.specs.Reader.{fresh}
 use Rattle.rtr_pdu.specs.declared.unit.Unit.{Unit}
 use Rattle.rtr_pdu.specs.declared.unit.UnitFault.{UnitFault}
@@ -60,7 +61,7 @@ pub record Answers (t : Intervals) (i : Instance) (r : Reply) (agree : Bool) (ol
 
 -- Want of memory is an Internal Error, and ends the connection.
 abbrev pub no_memory : Reply
-no_memory = and_end (report 1 [] ∷ [])
+no_memory = and_end (report INTERNAL_ERROR [] ∷ [])
 
 abbrev pub since_reply : ℕ → Intervals → Instance → Bool → ℕ → Reply
 since_reply keep t i memory serial = if memory then and_on (serial_answer i.session keep t serial (versions i)) else no_memory

@@ -3,8 +3,10 @@ use Rattle.std.specs.Prelude.{◌≡◌, ℕ, Bool, true, false, not, ◌&&◌, 
 use Rattle.prefixes.specs.Payload.{Payload}
 use Rattle.vrps.specs.Serial.{is_before}
 use Rattle.vrps.specs.VrpSet.{VrpSet, empty, has, size}
+use Rattle.rtr_pdu.specs.declared.kind.Kind.TheVariants as kinds
+use Rattle.rtr_pdu.specs.Code.{CORRUPT_DATA, NO_DATA_AVAILABLE, UNKNOWN_WITHDRAWAL, DUPLICATE_ANNOUNCEMENT}
 use Rattle.rtr_pdu.specs.Judging.{Judgement, Begins, Whole, Faulty, judge}
-use Rattle.rtr_pdu.specs.Stream.{type_of}
+use Rattle.rtr_pdu.specs.Stream.{is_of}
 use Rattle.rtr_pdu.specs.declared.unit.Unit.{Unit}
 use Rattle.rtr_pdu.specs.declared.unit.Unit.TheVariants.{SerialNotify, CacheResponse, Prefix, EndOfData, CacheReset, RouterKey, ErrorReport}
 use Rattle.rtr_pdu.specs.declared.unit.UnitFault.{UnitFault}
@@ -84,9 +86,9 @@ pub data Staged : Type 0 where
 -- it is in the base, or was announced already.
 abbrev pub stage : VrpSet → Begun → Bool → Payload → Staged
 stage base a false v =
-    if has base v && not (is_listed v a.withdrawn) then Stays (record a { withdrawn = v ∷ a.withdrawn }) else Wrong 6
+    if has base v && not (is_listed v a.withdrawn) then Stays (record a { withdrawn = v ∷ a.withdrawn }) else Wrong UNKNOWN_WITHDRAWAL
 stage base a true v =
-    if has base v || is_listed v a.announced then Wrong 7
+    if has base v || is_listed v a.announced then Wrong DUPLICATE_ANNOUNCEMENT
     else if nat_lt 16777215 (size (led_to base a.withdrawn (v ∷ a.announced))) then Over
     else Stays (record a { announced = v ∷ a.announced })
 
@@ -109,8 +111,8 @@ commit a version r = record r {
 -- a Serial Query empties; all but 2 end the link.
 abbrev pub told_off : Question → ℕ → Router → Router
 told_off question code r =
-    if code == 2 then record r { link = Idle; due = Some (sum_of r.now (retry_of r.version)); no_data = true }
-    else if code == 0 && is_serial (Some question) then told code (emptied r)
+    if code == NO_DATA_AVAILABLE then record r { link = Idle; due = Some (sum_of r.now (retry_of r.version)); no_data = true }
+    else if code == CORRUPT_DATA && is_serial (Some question) then told code (emptied r)
     else told code r
 
 -- A unit is read on a link, with memory.
@@ -121,7 +123,7 @@ on_unit Idle (SerialNotify session serial) r =
     if is_strange r session then fails (SerialNotify session serial) r
     else if is_news r.version serial then ask r
     else r
-on_unit Idle (ErrorReport e) r = if e.code == 2 then r else told e.code r
+on_unit Idle (ErrorReport e) r = if e.code == NO_DATA_AVAILABLE then r else told e.code r
 on_unit Idle u r = reports 0 u r
 on_unit (Asked question) (SerialNotify session serial) r = if is_strange r session then fails (SerialNotify session serial) r else r
 on_unit (Asked question) (CacheResponse session) r =
@@ -171,7 +173,7 @@ abbrev pub lacks : Unit → Router → Noted
 lacks u r = record { router = record r { link = Ended ends.Memory }; items = Lacks u ∷ [] }
 
 abbrev pub fault_end : Bool → UnitFault → List ℕ → End
-fault_end agreed fault bytes = if type_of bytes == 10 then ends.Malformed else ends.Reported (fault_code agreed fault)
+fault_end agreed fault bytes = if is_of kinds.ErrorReport bytes then ends.Malformed else ends.Reported (fault_code agreed fault)
 
 abbrev pub breaks : UnitFault → List ℕ → Router → Noted
 breaks fault bytes r = record {

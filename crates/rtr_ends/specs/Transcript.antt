@@ -5,6 +5,7 @@ use Rattle.std.specs.List.{list_any}
 use Rattle.std.specs.Ordering.{eq_by_cmp}
 use Rattle.prefixes.specs.Payload.{Payload, vrp_cmp}
 use Rattle.vrps.specs.VrpSet.{VrpSet, empty, has, set_of, union, without}
+use Rattle.rtr_pdu.specs.Code.{CORRUPT_DATA, NO_DATA_AVAILABLE}
 use Rattle.rtr_pdu.specs.declared.unit.Unit.{Unit}
 use Rattle.rtr_pdu.specs.declared.unit.Unit.TheVariants.{SerialNotify, SerialQuery, ResetQuery, CacheResponse, Prefix, EndOfData, CacheReset, RouterKey, ErrorReport}
 use Rattle.rtr_pdu.specs.declared.unit.UnitFault.{UnitFault}
@@ -211,7 +212,7 @@ kept_unit (EndOfData session serial refresh retry expire) items k =
     at_end (under_way items) (record { session = session; serial = serial; moment = moment items; intervals = bounded refresh retry expire }) k
 kept_unit (SerialNotify session serial) items k = emptied_if (has_agreed items && differs (session_of (responded items) k.version) session) k
 kept_unit (CacheResponse session) items k = emptied_if (is_wrong (waiting items) k.version session) k
-kept_unit (ErrorReport r) items k = emptied_if (r.code == 0 && is_serial (outstanding items)) k
+kept_unit (ErrorReport r) items k = emptied_if (r.code == CORRUPT_DATA && is_serial (outstanding items)) k
 kept_unit unit items k = k
 
 -- more than expire has passed since the commit
@@ -259,7 +260,7 @@ due (Reads (EndOfData session serial refresh retry expire) ∷ items) =
     if does_commit (under_way items) session (kept items).table
     then refreshed (kept (Reads (EndOfData session serial refresh retry expire) ∷ items)).version
     else due items
-due (Reads (ErrorReport r) ∷ items) = if r.code == 2 && is_some (outstanding items) then retried items else due items
+due (Reads (ErrorReport r) ∷ items) = if r.code == NO_DATA_AVAILABLE && is_some (outstanding items) then retried items else due items
 due (item ∷ items) = due items
 
 -- A record that acts wrongly in the answer under way, with code 6 or 7 (section 12)

@@ -2,6 +2,7 @@
 ghost use Rattle.std.specs.Prelude.{◌≡◌, ◌&&◌, [], None, false};
 ghost use Rattle.vrps.specs.Origin.{state};
 ghost use Rattle.vrps.specs.VrpSet.{empty};
+ghost use Rattle.rtr_pdu.specs.Code.{CORRUPT_DATA};
 ghost use Rattle.rtr_ends.specs.Answer.{report, sent};
 ghost use Rattle.rtr_ends.specs.Cache.{is_none};
 ghost use Rattle.rtr_ends.specs.Router as model;
@@ -14,7 +15,7 @@ use crate::question::{Question, Version};
 use crate::reports::report_on;
 use crate::staging::Staging;
 use crate::table::Table;
-use rtr_pdu::Unit;
+use rtr_pdu::{Unit, error_code};
 use std::alloc::Global;
 
 /// The state of a link.
@@ -133,10 +134,10 @@ impl Machine {
 
     /// The same with code 0, Corrupt Data, and what is committed is dropped.
     pub fn fails(&mut self, unit: &Unit)
-        ensures { self.new ≡ record self.old { table = empty; version = None; mark = false; state = states.Ended (ends.Reported 0); out = sent (report 0 (sent unit.now)) } }
+        ensures { self.new ≡ record self.old { table = empty; version = None; mark = false; state = states.Ended (ends.Reported CORRUPT_DATA); out = sent (report CORRUPT_DATA (sent unit.now)) } }
     {
         self.empty();
-        self.reports(0, unit);
+        self.reports(error_code::CORRUPT_DATA, unit);
     }
 
     /// Whether bytes are taken: a connection is open, and nothing is to be pulled.

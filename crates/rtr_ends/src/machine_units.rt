@@ -1,6 +1,7 @@
 //! What a router does at a unit (RFC 8210 sections 5, 7, 8 and 12): the rules of each link, unit by unit.
 ghost use Rattle.std.specs.Prelude.{◌≡◌, ◌≤◌, ◌&&◌, ℕ, [], true, Some, Ok};
 ghost use Rattle.vrps.specs.VrpSet.{has, size};
+ghost use Rattle.rtr_pdu.specs.Code.{CORRUPT_DATA};
 ghost use Rattle.rtr_ends.specs.Answer.{report, sent};
 ghost use Rattle.rtr_ends.specs.Router as model;
 ghost use Rattle.rtr_ends.specs.Seen.{seen_question, seen_versions};
@@ -12,7 +13,7 @@ use crate::question::{Question, Version, within};
 use crate::reports::{code_of, fault_unit, type_byte};
 use crate::staging::{Staged, Staging};
 use prefixes::Vrp;
-use rtr_pdu::{Unit, UnitFault};
+use rtr_pdu::{Kind, Unit, UnitFault, error_code};
 use std::mem;
 use vrps::SetFault;
 
@@ -65,16 +66,16 @@ impl Machine {
                     self.ask();
                 }
             }
-            Unit::CacheResponse { .. } => self.reports(0, unit),
-            Unit::Prefix { .. } => self.reports(0, unit),
-            Unit::RouterKey(_) => self.reports(0, unit),
-            Unit::EndOfData { .. } => self.reports(0, unit),
-            Unit::CacheReset => self.reports(0, unit),
-            Unit::SerialQuery { .. } => self.reports(0, unit),
-            Unit::ResetQuery => self.reports(0, unit),
+            Unit::CacheResponse { .. } => self.reports(error_code::CORRUPT_DATA, unit),
+            Unit::Prefix { .. } => self.reports(error_code::CORRUPT_DATA, unit),
+            Unit::RouterKey(_) => self.reports(error_code::CORRUPT_DATA, unit),
+            Unit::EndOfData { .. } => self.reports(error_code::CORRUPT_DATA, unit),
+            Unit::CacheReset => self.reports(error_code::CORRUPT_DATA, unit),
+            Unit::SerialQuery { .. } => self.reports(error_code::CORRUPT_DATA, unit),
+            Unit::ResetQuery => self.reports(error_code::CORRUPT_DATA, unit),
             Unit::ErrorReport(report) => {
                 let code = report.code();
-                if code != 2 {
+                if code != error_code::NO_DATA_AVAILABLE {
                     self.state = State::Ended(End::Told(code));
                 }
             }
@@ -99,18 +100,18 @@ impl Machine {
                     self.begin(question, *session);
                 }
             }
-            Unit::Prefix { .. } => self.reports(0, unit),
-            Unit::RouterKey(_) => self.reports(0, unit),
-            Unit::EndOfData { .. } => self.reports(0, unit),
+            Unit::Prefix { .. } => self.reports(error_code::CORRUPT_DATA, unit),
+            Unit::RouterKey(_) => self.reports(error_code::CORRUPT_DATA, unit),
+            Unit::EndOfData { .. } => self.reports(error_code::CORRUPT_DATA, unit),
             Unit::CacheReset => match question {
                 Question::Serial { .. } => {
                     self.agreed = true;
                     self.asks(Question::Reset);
                 }
-                Question::Reset => self.reports(0, unit),
+                Question::Reset => self.reports(error_code::CORRUPT_DATA, unit),
             },
-            Unit::SerialQuery { .. } => self.reports(0, unit),
-            Unit::ResetQuery => self.reports(0, unit),
+            Unit::SerialQuery { .. } => self.reports(error_code::CORRUPT_DATA, unit),
+            Unit::ResetQuery => self.reports(error_code::CORRUPT_DATA, unit),
             Unit::ErrorReport(report) => {
                 self.agreed = true;
                 self.told_off(question, report.code());
@@ -165,9 +166,9 @@ impl Machine {
     /// A unit that does not belong in an answer.
     fn rejects(&mut self, unit: &Unit) -> Result<(), SetFault>
         ensures ok { result ≡ Ok tt }
-        ensures reports { self.new ≡ record self.old { state = states.Ended (ends.Reported 0); out = sent (report 0 (sent unit.now)) } }
+        ensures reports { self.new ≡ record self.old { state = states.Ended (ends.Reported CORRUPT_DATA); out = sent (report CORRUPT_DATA (sent unit.now)) } }
     {
-        self.reports(0, unit);
+        self.reports(error_code::CORRUPT_DATA, unit);
         Ok(())
     }
 
@@ -245,13 +246,13 @@ impl Machine {
         ensures { Does (model.told_off (seen_question question) code) self.old self.new }
     {
         self.staging = Staging::over(self.alloc, 0);
-        if code == 2 {
+        if code == error_code::NO_DATA_AVAILABLE {
             self.due = Some(self.retry_moment());
             self.no_data = true;
             self.state = State::Idle;
             return;
         }
-        if code == 0 && question.is_serial() {
+        if code == error_code::CORRUPT_DATA && question.is_serial() {
             self.empty();
         }
         self.state = State::Ended(End::Told(code));
@@ -320,7 +321,7 @@ impl Machine {
             None => self.out.clear(),
             Some(unit) => self.out.put(&unit),
         }
-        if type_byte(bytes) == 10 {
+        if type_byte(bytes) == Kind::ErrorReport.number() {
             self.state = State::Ended(End::Malformed);
         } else {
             self.state = State::Ended(End::Reported(code_of(self.agreed, fault)));

@@ -11,7 +11,7 @@ ghost use Rattle.rtr_ends.specs.Timing.{Intervals};
 use crate::reports::{fault_unit, report, report_on};
 use crate::sender::{Sender, Share};
 use crate::timing::Timing;
-use rtr_pdu::{Next, Unit, UnitFault, UnitReader};
+use rtr_pdu::{Next, Unit, UnitFault, UnitReader, error_code};
 use vrps::{Serial, Since, VersionStore};
 
 /// One connection at the cache (RFC 8210 sections 5 to 8). It holds at most 4,096 bytes that came and 4,096 to be sent.
@@ -68,7 +68,7 @@ impl Peer {
             (memory : Bool) × Answers t i (since_reply keep t i memory asked.0) self.old.agreed self.old self.new }
     {
         match store.since(asked) {
-            Err(_) => self.end(&report(1, &[])),
+            Err(_) => self.end(&report(error_code::INTERNAL_ERROR, &[])),
             Ok(Since::Change(change)) => self.sender.answer_step(current, change),
             Ok(Since::Unknown) => self.sender.send(&Unit::CacheReset),
             Ok(Since::NoData) => self.sender.send(&Unit::CacheReset),
@@ -82,14 +82,15 @@ impl Peer {
         ensures { (keep : ℕ) (t : Intervals) (i : Instance) → S.holds keep i store.now → Knows t i self.old.sender →
             (memory : Bool) × Answers t i (read_reply keep t i memory (Unit.SerialQuery session serial)) self.old.agreed self.old self.new }
     {
+        let query = Unit::SerialQuery { session, serial };
         if session != self.sender.session {
-            self.end(&report_on(0, &Unit::SerialQuery { session, serial }));
+            self.end(&report_on(error_code::CORRUPT_DATA, &query));
             return;
         }
         match self.sender.current() {
             None => self
                 .sender
-                .send(&report_on(2, &Unit::SerialQuery { session, serial })),
+                .send(&report_on(error_code::NO_DATA_AVAILABLE, &query)),
             Some(current) => self.answer_since(store, Serial(serial), current),
         }
     }
@@ -111,7 +112,7 @@ impl Peer {
                 self.answer_serial(store, *session, *serial);
             }
             Unit::ErrorReport(_) => self.ended = true,
-            _ => self.end(&report_on(3, unit)),
+            _ => self.end(&report_on(error_code::INVALID_REQUEST, unit)),
         }
     }
 

@@ -6,7 +6,7 @@ ghost use Rattle.rtr_ends.specs.Connection.{fault_code, fault_report};
 ghost use Rattle.rtr_ends.specs.Peer.{maybe};
 
 use arrayvec::ArrayVec;
-use rtr_pdu::{ErrorReport, Unit, UnitFault, encode};
+use rtr_pdu::{ErrorReport, Kind, Unit, UnitFault, encode, error_code};
 
 /// The type byte of bytes, or 0 where they have none.
 pub fn type_byte(bytes: &[u8]) -> u8
@@ -20,9 +20,15 @@ pub fn code_of(agreed: bool, fault: UnitFault) -> u16
     ensures { result ≡ fault_code agreed fault }
 {
     match fault {
-        UnitFault::Version => { if agreed { 8 } else { 4 } }
-        UnitFault::Type => 5,
-        _ => 0,
+        UnitFault::Version => {
+            if agreed {
+                error_code::UNEXPECTED_VERSION
+            } else {
+                error_code::UNSUPPORTED_VERSION
+            }
+        }
+        UnitFault::Type => error_code::UNSUPPORTED_TYPE,
+        _ => error_code::CORRUPT_DATA,
     }
 }
 
@@ -47,7 +53,7 @@ pub fn report_on(code: u16, unit: &Unit) -> Unit
 pub fn fault_unit(agreed: bool, fault: UnitFault, bytes: &[u8]) -> Option<Unit>
     ensures { maybe result ≡ fault_report agreed fault bytes.now }
 {
-    if type_byte(bytes) == 10 {
+    if type_byte(bytes) == Kind::ErrorReport.number() {
         return None;
     }
     match fault {

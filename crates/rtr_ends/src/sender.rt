@@ -8,7 +8,7 @@ ghost use Rattle.rtr_ends.specs.Sender.{Begins, Gives, GivesFrom, Hands, Keeps, 
 use crate::reports::report_on;
 use crate::timing::Timing;
 use arrayvec::ArrayVec;
-use rtr_pdu::{Unit, UnitBuffer, encode, encode_prefix};
+use rtr_pdu::{Unit, UnitBuffer, encode, encode_prefix, error_code};
 use std::rc::Rc;
 use vrps::{Change, Serial, VrpSet};
 
@@ -217,7 +217,7 @@ impl Sender {
         ensures { Sends self.old (whole_answer self.old.session self.old.timing (as_list (newest_of self.old))) self.new }
     {
         match self.ready.take() {
-            None => self.send(&report_on(2, &Unit::ResetQuery)),
+            None => self.send(&report_on(error_code::NO_DATA_AVAILABLE, &Unit::ResetQuery)),
             Some(share) => self.begin(Records::Whole(share)),
         }
     }

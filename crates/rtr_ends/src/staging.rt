@@ -6,6 +6,7 @@ ghost use Rattle.rtr_ends.specs.Transcript.{Begun, base_of};
 use crate::question::Question;
 use crate::table::Table;
 use prefixes::Vrp;
+use rtr_pdu::error_code;
 use std::alloc::{AllocError, Global};
 use vrps::{Change, Gathered, SetFault, VrpSet};
 
@@ -48,14 +49,14 @@ impl Staging {
             → GoesTo base b false vrp.now result self.new }
     {
         if !in_base {
-            return Ok(Staged::Wrong(6));
+            return Ok(Staged::Wrong(error_code::UNKNOWN_WITHDRAWAL));
         }
         match self.withdrawn.insert(*vrp) {
             Ok(true) => {
                 self.count = self.count.saturating_sub(1);
                 Ok(Staged::Stays)
             }
-            Ok(false) => Ok(Staged::Wrong(6)),
+            Ok(false) => Ok(Staged::Wrong(error_code::UNKNOWN_WITHDRAWAL)),
             Err(_) => Err(SetFault::Memory),
         }
     }
@@ -67,11 +68,11 @@ impl Staging {
             → GoesTo base b true vrp.now result self.new }
     {
         if in_base {
-            return Ok(Staged::Wrong(7));
+            return Ok(Staged::Wrong(error_code::DUPLICATE_ANNOUNCEMENT));
         }
         if self.count >= VrpSet::LIMIT {
             if self.announced.contains(vrp) {
-                return Ok(Staged::Wrong(7));
+                return Ok(Staged::Wrong(error_code::DUPLICATE_ANNOUNCEMENT));
             }
             return Err(SetFault::TooMany);
         }
@@ -80,7 +81,7 @@ impl Staging {
                 self.count += 1;
                 Ok(Staged::Stays)
             }
-            Ok(false) => Ok(Staged::Wrong(7)),
+            Ok(false) => Ok(Staged::Wrong(error_code::DUPLICATE_ANNOUNCEMENT)),
             Err(_) => Err(SetFault::Memory),
         }
     }

@@ -3,6 +3,7 @@ use Rattle.std.specs.Prelude.{◌≡◌, ◌⊎◌, ℕ, ◌==◌, true, false, 
 use Rattle.prefixes.specs.Payload.{Payload}
 use Rattle.vrps.specs.Instance.{Instance, named}
 use Rattle.vrps.specs.VrpSet.{VrpSet}
+use Rattle.rtr_pdu.specs.Code.{INTERNAL_ERROR}
 use Rattle.rtr_pdu.specs.declared.unit.Unit.{Unit}
 use Rattle.rtr_pdu.specs.declared.unit.Unit.TheVariants.{SerialNotify, CacheResponse, Prefix, EndOfData, RouterKey}
 use Rattle.rtr_ends.specs.Answer.{answer, report, sent, sent_all}
@@ -59,7 +60,7 @@ pub record IsWanting (w : World) (home : Instance) (question : Question) (units 
   pub cache : Instance
   pub was : WasSo w home cache
   pub takes : takes_memory cache (query question) ≡ true
-  pub are : units ≡ report 1 [] ∷ []
+  pub are : units ≡ report INTERNAL_ERROR [] ∷ []
 
 abbrev pub IsReply : World → Instance → Question → List Unit → Type 0
 IsReply w home question units = IsAnswer w home question units ⊎ IsWanting w home question units
@@ -136,5 +137,5 @@ Between w s link = OneAnswer w s
 abbrev pub IsOfNow : Instance → ℕ → Option ℕ → Link → List ℕ → Type 0
 IsOfNow cache keep wanting (Asked question) due =
     (due ≡ sent_all (answer cache keep timing (query question)).units)
-    ⊎ (IsSome wanting × (takes_memory cache (query question) ≡ true) × (due ≡ sent_all (report 1 [] ∷ [])))
+    ⊎ (IsSome wanting × (takes_memory cache (query question) ≡ true) × (due ≡ sent_all (report INTERNAL_ERROR [] ∷ [])))
 IsOfNow cache keep wanting link due = ⊥

@@ -47,12 +47,12 @@ pub returns-in-ResetQuery : goal.returns-in-ResetQuery
 returns-in-ResetQuery c =
     reports_so c.args.unit.now states.Idle _ _ c.requires (λ w a held. idle_rejects c.args.unit.now (ap foreign_idle c.in-ResetQuery.is) (seen c.args.self.now w a held)) c.reports-in-ResetQuery.ensures
 
-pub returns-then-code-ne2 : goal.returns-then-code-ne2
-returns-then-code-ne2 c =
+pub returns-then-code-ne-NO_DATA_AVAILABLE : goal.returns-then-code-ne-NO_DATA_AVAILABLE
+returns-then-code-ne-NO_DATA_AVAILABLE c =
     told_so c.args.unit.now states.Idle _ c.code-code.result c.requires
-    (λ w a held. rw c.code-code.ensures (idle_told c.in-ErrorReport.report c.args.unit.now c.in-ErrorReport.is (seen c.args.self.now w a held) (no_code _ _ 2 c.code-code.ensures c.if-code-ne2.true)))
+    (λ w a held. rw c.code-code.ensures (idle_told c.in-ErrorReport.report c.args.unit.now c.in-ErrorReport.is (seen c.args.self.now w a held) (no_code _ _ 2 c.code-code.ensures c.if-code-ne-NO_DATA_AVAILABLE.true)))
 
-pub returns-else-code-ne2 : goal.returns-else-code-ne2
-returns-else-code-ne2 c =
+pub returns-else-code-ne-NO_DATA_AVAILABLE : goal.returns-else-code-ne-NO_DATA_AVAILABLE
+returns-else-code-ne-NO_DATA_AVAILABLE c =
     stays_so c.args.unit.now states.Idle _ c.requires
-    (λ w a held. idle_no_data c.in-ErrorReport.report c.args.unit.now c.in-ErrorReport.is (seen c.args.self.now w a held) (is_code _ _ 2 c.code-code.ensures c.if-code-ne2.false))
+    (λ w a held. idle_no_data c.in-ErrorReport.report c.args.unit.now c.in-ErrorReport.is (seen c.args.self.now w a held) (is_code _ _ 2 c.code-code.ensures c.if-code-ne-NO_DATA_AVAILABLE.false))
