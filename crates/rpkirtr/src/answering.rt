@@ -9,7 +9,7 @@ ghost use Rattle.rpkirtr.specs.Serves.{HasExchanged, HasLines, HasServed, Serves
 use crate::hexadecimal::push_hex;
 use hex::FromHexError;
 use rtr_ends::{Cache, Conn, Timing};
-use rtr_pdu::{Next, Unit, UnitBuffer, UnitReader, encode, error_code};
+use rtr_pdu::{MAX_UNIT_LEN, Next, Unit, UnitBuffer, UnitReader, encode, error_code};
 use std::alloc::{AllocError, Global};
 use vrps::{Serial, VersionLog, VrpSet};
 
@@ -77,7 +77,7 @@ fn pull_all(
     requires { (i : Instance) × ((came : List ℕ) × Serves i conn.0 came replies.old.items cache.old) }
     ensures { (i : Instance) (came : List ℕ) → Serves i conn.0 came replies.old.items cache.old → OnOk result (HasServed i conn.0 came replies.new.items cache.new) }
 {
-    let mut buffer = [0u8; 4096];
+    let mut buffer = [0u8; MAX_UNIT_LEN];
     while cache.has_bytes(conn) {
         let count = cache.pull(conn, &mut buffer);
         replies.extend_from_slice(&buffer[..count])?;

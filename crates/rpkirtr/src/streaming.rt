@@ -4,7 +4,7 @@ ghost use Rattle.std.specs.Prelude.{◌≤◌, IfOk};
 use crate::runner::ProgramFault;
 use payload_lists::write_list;
 use rtr_ends::{Cache, Conn, Fetched, Link, Router, StreamFault, fetch_stream, serve_stream};
-use rtr_pdu::Counted;
+use rtr_pdu::{Counted, MAX_UNIT_LEN};
 use std::alloc::Global;
 use std::io;
 use std::io::{Read, Write};
@@ -111,7 +111,7 @@ fn send_question<T: Read + Write>(
     near: &mut T,
     far: &mut T,
 ) -> io::Result<bool> {
-    let mut room = [0u8; 4096];
+    let mut room = [0u8; MAX_UNIT_LEN];
     let count = router.pull(&mut room);
     near.write_all(&room[..count])?;
     far.read_exact(&mut room[..count])?;
@@ -131,7 +131,7 @@ fn send_answer<T: Read + Write>(
     far: &mut T,
     near: &mut T,
 ) -> io::Result<bool> {
-    let mut room = [0u8; 4096];
+    let mut room = [0u8; MAX_UNIT_LEN];
     let count = cache.pull(conn, &mut room);
     far.write_all(&room[..count])?;
     near.read_exact(&mut room[..count])?;

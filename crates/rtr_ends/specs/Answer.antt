@@ -5,7 +5,7 @@ use Rattle.vrps.specs.Change.{between}
 use Rattle.vrps.specs.Instance.{Instance, Version, versions, with_serial}
 use Rattle.vrps.specs.VrpSet.{VrpSet, listing}
 use Rattle.rtr_pdu.specs.Code.{CORRUPT_DATA, NO_DATA_AVAILABLE, INVALID_REQUEST}
-use Rattle.rtr_pdu.specs.Unit.{unit_bytes}
+use Rattle.rtr_pdu.specs.Unit.{REPORT_ROOM, unit_bytes}
 use Rattle.rtr_pdu.specs.declared.unit.Unit.{Unit}
 use Rattle.rtr_pdu.specs.declared.unit.Unit.TheVariants.{SerialQuery, ResetQuery, CacheResponse, Prefix, EndOfData, CacheReset, ErrorReport}
 use Rattle.rtr_ends.specs.Timing.{Intervals}
@@ -31,7 +31,7 @@ sent_all units = flat_map sent units
 
 -- An Error Report with an empty text. What does not fit is left out of the copy (section 5.11).
 abbrev pub report : ℕ → List ℕ → Unit
-report code copy = ErrorReport (record { code = code; copy = take 4080 copy; text = [] })
+report code copy = ErrorReport (record { code = code; copy = take REPORT_ROOM copy; text = [] })
 
 abbrev pub announcements : VrpSet → List Unit
 announcements s = map (λ v. Prefix true v) (listing s)

@@ -2,6 +2,7 @@
 use Rattle.std.specs.Prelude.{◌≡◌, ℕ, ◌+◌, ◌*◌, ◌<◌, ◌≤◌, Bool, true, false, List, [], ◌∷◌, ◌++◌, length, take, Option, Some, None, Result, Ok, Err, if◌then◌else◌, ⊤}
 use Rattle.std.specs.List.{AllByRecursion}
 use Rattle.std.specs.Io.KnownBytes.{Appends, Consumes, IsAtEnd}
+use Rattle.rtr_pdu.specs.Unit.{MAX_UNIT_LEN}
 use Rattle.rtr_pdu.specs.Device.{GoesOutInPart}
 use Rattle.rtr_pdu.specs.Payloads.{AreBytes}
 use Rattle.rtr_pdu.specs.declared.device.WriteFailed.{WriteFailed as Failed}
@@ -81,7 +82,7 @@ pub record FetchesSo (now : ℕ) (calls : List Call) (before left : Option (List
   pub each : AllByRecursion (IsFetchCall now) turns
   pub unread : List ℕ
   pub consumed : Consumes before left (came (since turns now calls) ++ unread)
-  pub few : length (came (since turns now calls) ++ unread) ≤ 4096 * reads
+  pub few : length (came (since turns now calls) ++ unread) ≤ MAX_UNIT_LEN * reads
   pub ends : FetchEnds (since turns now calls) unread left had has result
 
 -- Its connection is still to be closed.
@@ -134,6 +135,6 @@ pub record Awaits (now : ℕ) (calls : List Call) (before left : Option (List �
   pub leads : Leads (since turns now calls) router
   pub unread : List ℕ
   pub consumed : Consumes before left (came (since turns now calls) ++ unread)
-  pub few : length (came (since turns now calls) ++ unread) ≤ 4096 * reads
+  pub few : length (came (since turns now calls) ++ unread) ≤ MAX_UNIT_LEN * reads
   pub all_read : 0 < length unread → is_reading (played (since turns now calls)).router.link ≡ false
   pub asked : AllAsked (since turns now calls) had has

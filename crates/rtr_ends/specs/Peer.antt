@@ -3,6 +3,7 @@ use Rattle.std.specs.Prelude.{◌≡◌, ℕ, ◌-◌, ◌≤◌, Bool, true, fa
 use Rattle.std.specs.List.{list_any}
 use Rattle.vrps.specs.Instance.{Instance, versions}
 use Rattle.vrps.specs.Stores.{newest}
+use Rattle.rtr_pdu.specs.Unit.{MAX_UNIT_LEN}
 use Rattle.rtr_pdu.specs.Code.{INTERNAL_ERROR}
 use Rattle.rtr_pdu.specs.Reader.{fresh}
 use Rattle.rtr_pdu.specs.declared.unit.Unit.{Unit}
@@ -31,8 +32,8 @@ held_by p = record { received = length p.reader.held; ready = ready_in p.sender 
 
 -- They are at most 4,096 each.
 pub record HasRoom (h : Held) : Type 0 where
-  pub received : h.received ≤ 4096
-  pub ready : h.ready ≤ 4096
+  pub received : h.received ≤ MAX_UNIT_LEN
+  pub ready : h.ready ≤ MAX_UNIT_LEN
 
 -- The machine's connection is shown by this one, at a cache with these intervals and this instance.
 pub record ShowsPeer (t : Intervals) (i : Instance) (o : Conn) (p : Peer) : Type 0 where

@@ -1,7 +1,7 @@
 -- What a connection at the cache has to send: the unit in its buffer, and what is left of an answer under way.
 use Rattle.std.specs.Prelude.{◌≡◌, Bool, true, false, ℕ, ◌+◌, ◌-◌, ◌≤◌, List, [], ◌∷◌, ◌++◌, length, take, drop, min, Option, Some, None}
 use Rattle.vrps.specs.Instance.{Version}
-use Rattle.rtr_pdu.specs.Unit.{IsUnit}
+use Rattle.rtr_pdu.specs.Unit.{MAX_UNIT_LEN, IsUnit}
 use Rattle.rtr_pdu.specs.declared.unit.Unit.{Unit}
 use Rattle.rtr_pdu.specs.declared.unit.Unit.TheVariants.{CacheResponse, EndOfData}
 use Rattle.rtr_ends.specs.declared.sender.Records.{Records}
@@ -54,7 +54,7 @@ newest_of s = newest_in s.ready s.answer
 
 -- Where no more was ready than a unit has, no more is.
 abbrev pub KeepsRoom : Sender → Sender → Type 0
-KeepsRoom old new = ready_in old ≤ 4096 → ready_in new ≤ 4096
+KeepsRoom old new = ready_in old ≤ MAX_UNIT_LEN → ready_in new ≤ MAX_UNIT_LEN
 
 -- the rest stays
 pub record Stays (old new : Sender) : Type 0 where
@@ -75,7 +75,7 @@ pub record Begins (old : Sender) (records : Records) (new : Sender) : Type 0 whe
   pub ready : new.ready ≡ old.ready
   pub answer : new.answer ≡ Some (record { records = records; place = 0 })
   pub due : due_of new ≡ sent_all (CacheResponse old.session ∷ units_in records ++ EndOfData old.session (serial_in records) old.timing.refresh old.timing.retry old.timing.expire ∷ [])
-  pub room : ready_in new ≤ 4096
+  pub room : ready_in new ≤ MAX_UNIT_LEN
 
 -- the records of an answer that has ended
 pub record Keeps (old : Sender) (records : Records) (new : Sender) : Type 0 where

@@ -3,6 +3,7 @@ use Rattle.std.specs.Prelude.{◌≡◌, ℕ, ◌+◌, ◌*◌, ◌<◌, ◌≤�
 use Rattle.std.specs.List.{AllByRecursion}
 use Rattle.std.specs.Io.KnownBytes.{Appends, Consumes, IsAtEnd}
 use Rattle.vrps.specs.Instance.{Instance, IsInstance}
+use Rattle.rtr_pdu.specs.Unit.{MAX_UNIT_LEN}
 use Rattle.rtr_pdu.specs.Device.{GoesOutInPart}
 use Rattle.rtr_pdu.specs.Payloads.{AreBytes}
 use Rattle.rtr_pdu.specs.declared.device.WriteFailed.{WriteFailed as Failed}
@@ -67,7 +68,7 @@ pub record Serves (m : CacheState) (before left : Option (List ℕ)) (reads : �
   pub served : IsInstance m.cache → IsServed m.keep m.timing m.cache (stood m calls)
   pub unread : List ℕ
   pub consumed : Consumes before left ((stood m calls).came ++ unread)
-  pub few : length ((stood m calls).came ++ unread) ≤ 4096 * reads
+  pub few : length ((stood m calls).came ++ unread) ≤ MAX_UNIT_LEN * reads
   pub ends : EndsSo (stood m calls) unread left had has result
 
 -- and its connection still stands under this number
@@ -114,6 +115,6 @@ pub record Waits {S : Type 0} (holds : ℕ → Instance → S → Type 0) (m : C
   pub turns : AllByRecursion IsTurn calls
   pub stands : StandsAt holds m c calls cache
   pub consumed : Consumes before left (stood m calls).came
-  pub few : length (stood m calls).came ≤ 4096 * reads
+  pub few : length (stood m calls).came ≤ MAX_UNIT_LEN * reads
   pub goes_on : (stood m calls).conn.state.ended ≡ false
   pub all_out : AllOut (stood m calls) had has

@@ -9,7 +9,7 @@ ghost use Rattle.rtr_ends.specs.Streams.{FailsSo, WritesSo, fault_of};
 use crate::link::{End, Link};
 use crate::router::Router;
 use crate::streams::{StreamFault, write_bytes};
-use rtr_pdu::{Counted, WriteFailed};
+use rtr_pdu::{Counted, MAX_UNIT_LEN, WriteFailed};
 use std::io::{Read, Write};
 
 /// What a router fetched.
@@ -62,8 +62,8 @@ fn fetch<R: Read, W: Write>(
     ensures fails { FailsSo input.old input.new output.old output.new (fault_of result) }
     ensures reads { FetchReads limit (calls_of input.old) (calls_of input.new) result }
 {
-    let mut buffer = [0u8; 4096];
-    let mut room = [0u8; 4096];
+    let mut buffer = [0u8; MAX_UNIT_LEN];
+    let mut room = [0u8; MAX_UNIT_LEN];
     match take(router, &[], now, &mut room, output) {
         Err(WriteFailed) => return Err(StreamFault::WriteFailed),
         Ok(()) => {}

@@ -3,7 +3,7 @@ ghost use Rattle.std.specs.Prelude.{◌≡◌, ◌≤◌, ◌==◌, [], ◌++◌
 ghost use Rattle.rtr_ends.specs.Answer.{sent};
 ghost use Rattle.rtr_ends.specs.Cache.{is_none};
 
-use rtr_pdu::{Unit, UnitBuffer, encode};
+use rtr_pdu::{MAX_UNIT_LEN, Unit, UnitBuffer, encode};
 use std::marker::Model;
 
 /// The bytes of one unit that are still to be pulled. It takes no memory.
@@ -45,7 +45,7 @@ impl Outbox {
     /// How many bytes are to be pulled.
     pub fn len(&self) -> usize
         ensures count { result ≡ length self.now }
-        ensures fits { result ≤ 4096 }
+        ensures fits { result ≤ MAX_UNIT_LEN }
     {
         self.unit.len() - self.pulled
     }

@@ -6,7 +6,7 @@ ghost use Rattle.rtr_ends.specs.Connection.{fault_code, fault_report};
 ghost use Rattle.rtr_ends.specs.Peer.{maybe};
 
 use arrayvec::ArrayVec;
-use rtr_pdu::{ErrorReport, Kind, Unit, UnitFault, encode, error_code};
+use rtr_pdu::{ErrorReport, Kind, REPORT_ROOM, Unit, UnitFault, encode, error_code};
 
 /// The type byte of bytes, or 0 where they have none.
 pub fn type_byte(bytes: &[u8]) -> u8
@@ -36,7 +36,7 @@ pub fn code_of(agreed: bool, fault: UnitFault) -> u16
 pub fn report(code: u16, copy: &[u8]) -> Unit
     ensures { result ≡ report code copy.now }
 {
-    let room = copy.len().min(4080);
+    let room = copy.len().min(REPORT_ROOM);
     Unit::ErrorReport(ErrorReport::new(code, &copy[..room], ""))
 }
 

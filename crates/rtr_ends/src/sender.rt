@@ -8,7 +8,7 @@ ghost use Rattle.rtr_ends.specs.Sender.{Begins, Gives, GivesFrom, Hands, Keeps, 
 use crate::reports::report_on;
 use crate::timing::Timing;
 use arrayvec::ArrayVec;
-use rtr_pdu::{Unit, UnitBuffer, encode, encode_prefix, error_code};
+use rtr_pdu::{MAX_UNIT_LEN, Unit, UnitBuffer, encode, encode_prefix, error_code};
 use std::rc::Rc;
 use vrps::{Change, Serial, VrpSet};
 
@@ -101,7 +101,7 @@ impl Sender {
         ensures session { result.session ≡ session }
         ensures timing { result.timing ≡ timing }
         ensures newest { newest_of result ≡ option_map version_of ready }
-        ensures room { ready_in result ≤ 4096 }
+        ensures room { ready_in result ≤ MAX_UNIT_LEN }
     {
         Sender {
             session,

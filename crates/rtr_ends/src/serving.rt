@@ -9,7 +9,7 @@ ghost use Rattle.rtr_ends.specs.Streams.{FailsSo, WritesSo, fault_of};
 
 use crate::cache::{Cache, Conn};
 use crate::streams::{StreamFault, write_bytes};
-use rtr_pdu::{Counted, WriteFailed};
+use rtr_pdu::{Counted, MAX_UNIT_LEN, WriteFailed};
 use std::io::{Read, Write};
 use vrps::VersionStore;
 
@@ -65,7 +65,7 @@ fn serve<S: VersionStore, R: Read, W: Write>(
     ensures fails { FailsSo input.old input.new output.old output.new (fault_of result) }
     ensures reads { ReadsSo limit (calls_of input.old) (calls_of input.new) result }
 {
-    let mut buffer = [0u8; 4096];
+    let mut buffer = [0u8; MAX_UNIT_LEN];
     let mut room = [0u8; 32768];
     for _turn in 0..limit {
         match input.read(&mut buffer) {

@@ -6,6 +6,7 @@ use Rattle.prefixes.specs.declared.prefix.IpPrefix.TheVariants.{V4, V6}
 use Rattle.rtr_pdu.specs.declared.kind.Kind.TheVariants as kinds
 use Rattle.rtr_pdu.specs.Kind.{kind_number, fixed_len, is_type}
 use Rattle.rtr_pdu.specs.Payloads.{Report, Key}
+use Rattle.rtr_pdu.specs.Unit.{MAX_UNIT_LEN}
 use Rattle.rtr_pdu.specs.Stream.{as_read, type_of, length_of, IsWhole}
 
 -- the number of n bytes at place i
@@ -49,10 +50,10 @@ report_in bytes = record {
   text = drop (16 + number_at 4 8 bytes) bytes;
 }
 
--- The lengths of the types, within 4,096
+-- The lengths of the types, within that of the longest unit
 pub record IsSized (type len : ℕ) : Type 0 where
   pub eight : 8 ≤ len
-  pub most : len ≤ 4096
+  pub most : len ≤ MAX_UNIT_LEN
   pub known : is_type type ≡ true
   pub at_notify : type ≡ kind_number kinds.SerialNotify → len ≡ fixed_len kinds.SerialNotify
   pub at_query : type ≡ kind_number kinds.SerialQuery → len ≡ fixed_len kinds.SerialQuery

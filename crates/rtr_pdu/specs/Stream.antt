@@ -10,7 +10,7 @@ use Rattle.rtr_pdu.specs.declared.kind.Kind.{Kind}
 use Rattle.rtr_pdu.specs.declared.kind.Kind.TheVariants as kinds
 use Rattle.rtr_pdu.specs.Kind.{kind_number, fixed_len, is_type, has_length}
 use Rattle.rtr_pdu.specs.Payloads.{AreBytes}
-use Rattle.rtr_pdu.specs.Unit.{IsUnit, Reads, unit_bytes}
+use Rattle.rtr_pdu.specs.Unit.{MAX_UNIT_LEN, IsUnit, Reads, unit_bytes}
 
 -- The fields of a header: version, type, and the length of the whole unit
 abbrev pub version_of : List ℕ → ℕ
@@ -36,7 +36,7 @@ fault_of version shown type len =
     if not (shown == version) then Some faults.Version
     else if not (is_type type) then Some faults.«Type»
     else if not (has_length type len) then Some faults.Length
-    else if nat_lt 4096 len then Some faults.TooLong
+    else if nat_lt MAX_UNIT_LEN len then Some faults.TooLong
     else None
 
 -- A header that is still to come has no fault.

@@ -1,6 +1,6 @@
 -- What a unit's bytes are (RFC 8210 section 5). Numbers are big-endian. Where the standard says "zero", the field is zero when
 -- sent and ignored when received.
-use Rattle.std.specs.Prelude.{◌≡◌, ℕ, ◌+◌, ◌*◌, ◌<◌, ◌≤◌, ◌^◌, Bool, List, ◌∷◌, ◌++◌, length, if◌then◌else◌, ⊤}
+use Rattle.std.specs.Prelude.{◌≡◌, ℕ, ◌+◌, ◌-◌, ◌*◌, ◌<◌, ◌≤◌, ◌^◌, Bool, List, ◌∷◌, ◌++◌, length, if◌then◌else◌, ⊤}
 use Rattle.std.specs.Str.{IsUtf8}
 use Rattle.byteorder.specs.Endian.{big_bytes}
 use Rattle.prefixes.specs.Payload.{IsPayload}
@@ -12,6 +12,18 @@ use Rattle.rtr_pdu.specs.declared.kind.Kind.{Kind}
 use Rattle.rtr_pdu.specs.declared.kind.Kind.TheVariants as kinds
 use Rattle.rtr_pdu.specs.declared.unit.Unit.{Unit}
 use Rattle.rtr_pdu.specs.declared.unit.Unit.TheVariants.{SerialNotify, SerialQuery, ResetQuery, CacheResponse, Prefix, EndOfData, CacheReset, RouterKey, ErrorReport}
+
+-- The most bytes that a unit has
+abbrev pub MAX_UNIT_LEN : ℕ
+MAX_UNIT_LEN = 4096
+
+-- The most bytes of copy and text of an Error Report together
+abbrev pub REPORT_ROOM : ℕ
+REPORT_ROOM = MAX_UNIT_LEN - fixed_len kinds.ErrorReport
+
+-- The most bytes of the key of a Router Key
+abbrev pub KEY_ROOM : ℕ
+KEY_ROOM = MAX_UNIT_LEN - fixed_len kinds.RouterKey
 
 -- The lowest flag bit: 1 for an announcement, 0 for a withdrawal
 abbrev pub flag : Bool → ℕ
@@ -64,7 +76,7 @@ spelled version (ErrorReport r) z =
     header version (kind_number kinds.ErrorReport) r.code (fixed_len kinds.ErrorReport + length r.copy + length r.text) ++ big_bytes 4 (length r.copy)
     ++ r.copy ++ big_bytes 4 (length r.text) ++ r.text
 
--- The numbers fit their fields, a record is a payload, and the whole has at most 4,096 bytes.
+-- The numbers fit their fields, a record is a payload, and the whole is no longer than the longest unit.
 abbrev pub IsUnit : Unit → Type 0
 IsUnit (SerialNotify session serial) = (session < 2 ^ 16) × (serial < 2 ^ 32)
 IsUnit (SerialQuery session serial) = (session < 2 ^ 16) × (serial < 2 ^ 32)
@@ -75,8 +87,8 @@ IsUnit (EndOfData session serial refresh retry expire) =
     (session < 2 ^ 16) × (serial < 2 ^ 32) × (refresh < 2 ^ 32) × (retry < 2 ^ 32) × (expire < 2 ^ 32)
 IsUnit CacheReset = ⊤
 IsUnit (RouterKey k) =
-    (length k.identifier ≡ 20) × (k.asn < 2 ^ 32) × (length k.info ≤ 4064) × AreBytes k.identifier × AreBytes k.info
-IsUnit (ErrorReport r) = (r.code < 2 ^ 16) × (length r.copy + length r.text ≤ 4080) × IsUtf8 r.text × AreBytes r.copy
+    (length k.identifier ≡ 20) × (k.asn < 2 ^ 32) × (length k.info ≤ KEY_ROOM) × AreBytes k.identifier × AreBytes k.info
+IsUnit (ErrorReport r) = (r.code < 2 ^ 16) × (length r.copy + length r.text ≤ REPORT_ROOM) × IsUtf8 r.text × AreBytes r.copy
 
 -- These bytes are read as this unit, whatever stands where zeros are sent.
 pub record Reads (version : ℕ) (u : Unit) (bytes : List ℕ) : Type 0 where

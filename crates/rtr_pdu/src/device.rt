@@ -9,7 +9,7 @@ ghost use Rattle.rtr_pdu.specs.Unit.{IsUnit, unit_bytes};
 use crate::counted::Counted;
 use crate::reader::UnitReader;
 use crate::reading::number_32;
-use crate::unit::{Next, Unit, UnitFault};
+use crate::unit::{MAX_UNIT_LEN, Next, Unit, UnitFault};
 use crate::writing::encode;
 use arrayvec::ArrayVec;
 use std::io::{Read, Write};
@@ -90,7 +90,7 @@ fn missing(held: &[u8]) -> usize
     requires { IsPartial 1 (as_read 1 false held.now) }
     ensures value { result ≡ wanted held.now }
     ensures some { 0 < result }
-    ensures most { result ≤ 4096 }
+    ensures most { result ≤ MAX_UNIT_LEN }
 {
     if held.len() < 8 {
         8 - held.len()
@@ -106,7 +106,7 @@ pub fn read_unit<R: Read>(input: &mut Counted<R>) -> Result<Option<Unit>, ReadFa
     ensures counts { CountsRead input.old input.new result }
 {
     let mut reader = UnitReader::for_cache();
-    let mut bytes = [0u8; 4096];
+    let mut bytes = [0u8; MAX_UNIT_LEN];
     loop {
         let size = missing(reader.held());
         match input.read(&mut bytes[..size]) {

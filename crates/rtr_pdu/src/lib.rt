@@ -17,5 +17,7 @@ pub use device::{ReadFault, WriteFailed, read_unit, write_unit};
 pub use kind::Kind;
 pub use reader::UnitReader;
 pub use stream::read_all;
-pub use unit::{ErrorReport, Next, RouterKey, Unit, UnitFault};
+pub use unit::{
+    ErrorReport, KEY_ROOM, MAX_UNIT_LEN, Next, REPORT_ROOM, RouterKey, Unit, UnitFault,
+};
 pub use writing::{UnitBuffer, encode, encode_prefix};

@@ -6,14 +6,14 @@ ghost use Rattle.rtr_pdu.specs.Reader.{Advances, Takes, IsReader, fresh, after_a
 ghost use Rattle.rtr_pdu.specs.Reading.{filled, unfilled};
 
 use crate::reading::{judge, number_32, read};
-use crate::unit::{Next, UnitFault};
+use crate::unit::{MAX_UNIT_LEN, Next, UnitFault};
 use crate::writing::UnitBuffer;
 use arrayvec::ArrayVec;
 use std::marker::Model;
 
 /// Moves bytes of the piece to the buffer until it has this size.
-fn fill(buffer: &mut ArrayVec<u8, 4096>, piece: &mut &[u8], size: usize)
-    requires { size ≤ 4096 }
+fn fill(buffer: &mut UnitBuffer, piece: &mut &[u8], size: usize)
+    requires { size ≤ MAX_UNIT_LEN }
     ensures held { buffer.new.items ≡ filled size buffer.old.items piece.old.now }
     ensures rest { piece.new.now ≡ unfilled size buffer.old.items piece.old.now }
 {
@@ -25,7 +25,7 @@ fn fill(buffer: &mut ArrayVec<u8, 4096>, piece: &mut &[u8], size: usize)
 }
 
 /// Takes the body of a unit whose header has no fault.
-fn finish(any: bool, buffer: &mut ArrayVec<u8, 4096>, piece: &mut &[u8]) -> Next
+fn finish(any: bool, buffer: &mut UnitBuffer, piece: &mut &[u8]) -> Next
     requires sound { header_fault 1 (as_read 1 any buffer.old.items) ≡ None }
     requires header { 8 ≤ array_vec_len buffer.old }
     requires within { array_vec_len buffer.old ≤ length_of (as_read 1 any buffer.old.items) }
@@ -43,7 +43,7 @@ fn finish(any: bool, buffer: &mut ArrayVec<u8, 4096>, piece: &mut &[u8]) -> Next
 }
 
 /// Takes what there is of a unit.
-fn advance(any: bool, buffer: &mut ArrayVec<u8, 4096>, piece: &mut &[u8]) -> Next
+fn advance(any: bool, buffer: &mut UnitBuffer, piece: &mut &[u8]) -> Next
     requires { IsPartial 1 (as_read 1 any buffer.old.items) }
     ensures { Advances any buffer.old.items piece.old.now result piece.new.now buffer.new.items }
 {
@@ -156,7 +156,7 @@ impl UnitReader {
     pub fn held(&self) -> &[u8]
         ensures held { result.now ≡ self.now.held }
         ensures reader { IsReader self.now }
-        ensures fits { length result.now ≤ 4096 }
+        ensures fits { length result.now ≤ MAX_UNIT_LEN }
     {
         self.buffer.as_slice()
     }

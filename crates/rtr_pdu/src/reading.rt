@@ -6,18 +6,18 @@ ghost use Rattle.rtr_pdu.specs.Reading.{number_at, v4_in, v6_in, key_in, report_
 ghost use Rattle.rtr_pdu.specs.Reader.{IsRead, IsFaulty};
 
 use crate::kind::Kind;
-use crate::unit::{ErrorReport, RouterKey, Unit, UnitFault};
+use crate::unit::{ErrorReport, MAX_UNIT_LEN, RouterKey, Unit, UnitFault};
 use byteorder::{BigEndian, ByteOrder};
 use prefixes::{Asn, IpPrefix, Prefix, V4, V6, Vrp};
 use std::str;
 
 /// The fault of the length of a unit of this type.
 fn judge_len(kind: Kind, len: u32) -> Option<UnitFault>
-    ensures { result ≡ (if not (may_have kind len) then Some UnitFault.Length else if nat_lt 4096 len then Some UnitFault.TooLong else None) }
+    ensures { result ≡ (if not (may_have kind len) then Some UnitFault.Length else if nat_lt MAX_UNIT_LEN len then Some UnitFault.TooLong else None) }
 {
     if !kind.may_have(len) {
         Some(UnitFault::Length)
-    } else if len > 4096 {
+    } else if len > MAX_UNIT_LEN as u32 {
         Some(UnitFault::TooLong)
     } else {
         None
@@ -113,7 +113,7 @@ fn v6_record(bytes: &[u8]) -> Option<Vrp>
 /// The key of a Router Key.
 fn key(bytes: &[u8]) -> RouterKey
     requires low { 32 ≤ length bytes.now }
-    requires high { length bytes.now ≤ 4096 }
+    requires high { length bytes.now ≤ MAX_UNIT_LEN }
     ensures { result ≡ key_in bytes.now }
 {
     let mut identifier = [0u8; 20];
@@ -129,7 +129,7 @@ fn key(bytes: &[u8]) -> RouterKey
 /// The report of an Error Report.
 fn report(bytes: &[u8]) -> Option<ErrorReport>
     requires low { 16 ≤ length bytes.now }
-    requires high { length bytes.now ≤ 4096 }
+    requires high { length bytes.now ≤ MAX_UNIT_LEN }
     requires exact { length bytes.now ≡ length_of bytes.now }
     ensures some { IfSome result (λ r. (r ≡ report_in bytes.now) × IsReport bytes.now) }
     ensures none { IfNone result (¬ (IsReport bytes.now)) }

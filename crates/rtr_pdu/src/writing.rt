@@ -6,16 +6,16 @@ ghost use Rattle.rtr_pdu.specs.Kind.{kind_number};
 ghost use Rattle.rtr_pdu.specs.Unit.{IsUnit, header, fixed_header, unit_bytes, flag};
 
 use crate::kind::Kind;
-use crate::unit::{ErrorReport, RouterKey, Unit};
+use crate::unit::{ErrorReport, MAX_UNIT_LEN, RouterKey, Unit};
 use arrayvec::ArrayVec;
 use prefixes::{IpPrefix, Vrp};
 
-/// Room for the longest unit, of 4,096 bytes.
-pub type UnitBuffer = ArrayVec<u8, 4096>;
+/// Room for the longest unit.
+pub type UnitBuffer = ArrayVec<u8, MAX_UNIT_LEN>;
 
 /// Appends bytes.
-fn put(buffer: &mut ArrayVec<u8, 4096>, bytes: &[u8])
-    requires { array_vec_len buffer.old + length bytes.now ≤ 4096 }
+fn put(buffer: &mut UnitBuffer, bytes: &[u8])
+    requires { array_vec_len buffer.old + length bytes.now ≤ MAX_UNIT_LEN }
     ensures items { buffer.new.items ≡ buffer.old.items ++ bytes.now }
     ensures len { array_vec_len buffer.new ≡ array_vec_len buffer.old + length bytes.now }
 {
@@ -23,7 +23,7 @@ fn put(buffer: &mut ArrayVec<u8, 4096>, bytes: &[u8])
 }
 
 /// Begins a unit in an empty buffer.
-fn put_header(buffer: &mut ArrayVec<u8, 4096>, kind: Kind, field: u16, len: u32)
+fn put_header(buffer: &mut UnitBuffer, kind: Kind, field: u16, len: u32)
     ensures items { buffer.new.items ≡ header 1 (kind_number kind) field len }
     ensures len { array_vec_len buffer.new ≡ 8 }
 {
@@ -34,15 +34,15 @@ fn put_header(buffer: &mut ArrayVec<u8, 4096>, kind: Kind, field: u16, len: u32)
 }
 
 /// The same of a unit whose type has one length.
-fn put_fixed(buffer: &mut ArrayVec<u8, 4096>, kind: Kind, field: u16)
+fn put_fixed(buffer: &mut UnitBuffer, kind: Kind, field: u16)
     ensures items { buffer.new.items ≡ fixed_header 1 kind field }
     ensures len { array_vec_len buffer.new ≡ 8 }
 {
     put_header(buffer, kind, field, kind.fixed_len());
 }
 
-fn put_number(buffer: &mut ArrayVec<u8, 4096>, number: u32)
-    requires { array_vec_len buffer.old + 4 ≤ 4096 }
+fn put_number(buffer: &mut UnitBuffer, number: u32)
+    requires { array_vec_len buffer.old + 4 ≤ MAX_UNIT_LEN }
     ensures items { buffer.new.items ≡ buffer.old.items ++ big_bytes 4 number }
     ensures len { array_vec_len buffer.new ≡ array_vec_len buffer.old + 4 }
 {
@@ -55,7 +55,7 @@ fn put_end_of_data(
     refresh: u32,
     retry: u32,
     expire: u32,
-    buffer: &mut ArrayVec<u8, 4096>,
+    buffer: &mut UnitBuffer,
 )
     ensures { buffer.new.items ≡ unit_bytes 1 (Unit.EndOfData session serial refresh retry expire) }
 {
@@ -72,15 +72,8 @@ fn flag_of(announce: bool) -> u8
     if announce { 1 } else { 0 }
 }
 
-fn put_record(
-    buffer: &mut ArrayVec<u8, 4096>,
-    announce: bool,
-    len: u8,
-    max_len: u8,
-    addr: &[u8],
-    asn: u32,
-)
-    requires { array_vec_len buffer.old + length addr.now + 8 ≤ 4096 }
+fn put_record(buffer: &mut UnitBuffer, announce: bool, len: u8, max_len: u8, addr: &[u8], asn: u32)
+    requires { array_vec_len buffer.old + length addr.now + 8 ≤ MAX_UNIT_LEN }
     ensures { buffer.new.items ≡ buffer.old.items ++ flag announce ∷ len ∷ max_len ∷ 0 ∷ addr.now ++ big_bytes 4 asn }
 {
     put(buffer, &[flag_of(announce), len, max_len, 0]);
@@ -89,7 +82,7 @@ fn put_record(
 }
 
 /// Writes a Prefix of version 1 (RFC 8210 sections 5.6 and 5.7), as `encode` does, and makes no `Unit` of it.
-pub fn encode_prefix(announce: bool, vrp: &Vrp, buffer: &mut ArrayVec<u8, 4096>)
+pub fn encode_prefix(announce: bool, vrp: &Vrp, buffer: &mut UnitBuffer)
     ensures bytes { buffer.new.items ≡ unit_bytes 1 (Unit.Prefix announce vrp.now) }
     ensures unit { IsUnit (Unit.Prefix announce vrp.now) }
 {
@@ -109,14 +102,14 @@ pub fn encode_prefix(announce: bool, vrp: &Vrp, buffer: &mut ArrayVec<u8, 4096>)
     }
 }
 
-fn put_serial(kind: Kind, session: u16, serial: u32, buffer: &mut ArrayVec<u8, 4096>)
+fn put_serial(kind: Kind, session: u16, serial: u32, buffer: &mut UnitBuffer)
     ensures { buffer.new.items ≡ fixed_header 1 kind session ++ big_bytes 4 serial }
 {
     put_fixed(buffer, kind, session);
     put_number(buffer, serial);
 }
 
-fn put_key(key: &RouterKey, buffer: &mut ArrayVec<u8, 4096>)
+fn put_key(key: &RouterKey, buffer: &mut UnitBuffer)
     ensures bytes { buffer.new.items ≡ unit_bytes 1 (Unit.RouterKey key.now) }
     ensures unit { IsUnit (Unit.RouterKey key.now) }
 {
@@ -130,7 +123,7 @@ fn put_key(key: &RouterKey, buffer: &mut ArrayVec<u8, 4096>)
     put(buffer, info);
 }
 
-fn put_report(report: &ErrorReport, buffer: &mut ArrayVec<u8, 4096>)
+fn put_report(report: &ErrorReport, buffer: &mut UnitBuffer)
     ensures bytes { buffer.new.items ≡ unit_bytes 1 (Unit.ErrorReport report.now) }
     ensures unit { IsUnit (Unit.ErrorReport report.now) }
 {
@@ -147,7 +140,7 @@ fn put_report(report: &ErrorReport, buffer: &mut ArrayVec<u8, 4096>)
 
 /// Writes a unit of version 1 (RFC 8210 section 5), with zeros where the standard says zero. The buffer then holds the
 /// bytes of the unit and no others, and they are read as this unit.
-pub fn encode(unit: &Unit, buffer: &mut ArrayVec<u8, 4096>)
+pub fn encode(unit: &Unit, buffer: &mut UnitBuffer)
     ensures bytes { buffer.new.items ≡ unit_bytes 1 unit.now }
     ensures unit { IsUnit unit.now }
 {

@@ -5,6 +5,7 @@ use Rattle.vrps.specs.Instance.{Instance}
 use Rattle.vrps.specs.Serial.{serial_at}
 use Rattle.vrps.specs.Steps.{HoldsSteps, Steps}
 use Rattle.vrps.specs.declared.serial.Serial.{Serial}
+use Rattle.rtr_pdu.specs.Unit.{MAX_UNIT_LEN}
 use Rattle.rtr_ends.specs.Cache.{Conn}
 use Rattle.rtr_ends.specs.CacheState.{CacheState, ShowsCache}
 use Rattle.rtr_ends.specs.Router.{new_router}
@@ -124,7 +125,7 @@ Happens w at event s Now (Err error) = Refused w event s Now
 
 -- A part of the bytes due is sent, or memory is wanting.
 abbrev pub SendsSome : World → (ℕ → Option Conn) → ℕ → Side → Conn → (Side → Type 0) → Result ℕ AllocError → Type 0
-SendsSome w at most s o Now (Ok count) = (count ≡ min (min most 4096) (length o.state.due)) × Now (sends_from w.keep count s (Some o))
+SendsSome w at most s o Now (Ok count) = (count ≡ min (min most MAX_UNIT_LEN) (length o.state.due)) × Now (sends_from w.keep count s (Some o))
 SendsSome w at most s o Now (Err error) = (part : Side) × (cut 0 part ≡ cut 0 s) × Now part
 
 -- a side of which nothing is known

@@ -6,17 +6,19 @@ ghost use Rattle.rtr_world.specs.World as model;
 
 use crate::side::Side;
 use rtr_ends::{Cache, Conn};
+use rtr_pdu::MAX_UNIT_LEN;
 use std::alloc::AllocError;
 use vrps::VersionLog;
 
-/// The most bytes that are pulled at once: as many as an end has ready.
-const CHUNK: usize = 4096;
-
-/// At most so many, and at most as many as are pulled at once.
+/// At most so many bytes, and at most as many as an end has ready, which are those of one unit.
 fn chunk(most: u64) -> usize
-    ensures { result ≡ min most 4096 }
+    ensures { result ≡ min most MAX_UNIT_LEN }
 {
-    if most < 4096 { most as usize } else { CHUNK }
+    if most < MAX_UNIT_LEN as u64 {
+        most as usize
+    } else {
+        MAX_UNIT_LEN
+    }
 }
 
 impl Side {
@@ -26,7 +28,7 @@ impl Side {
             Begins w at (model.RouterSends most) s (λ t. AloneAt w at t self.old self.new) result }
     {
         rtr_ends::laws::router_has_room(&self.router);
-        let mut room = [0; CHUNK];
+        let mut room = [0; MAX_UNIT_LEN];
         let room = &mut room[..chunk(most)];
         let count = self.router.pull(room);
         if count == 0 {
@@ -61,7 +63,7 @@ impl Side {
         ensures conn { self.new.conn ≡ self.old.conn }
         ensures few { IfOk result (λ count. count ≤ most) }
     {
-        let mut room = [0; CHUNK];
+        let mut room = [0; MAX_UNIT_LEN];
         let room = &mut room[..chunk(most)];
         let count = cache.pull(conn, room).min(room.len());
         self.down.put(room, count)?;
