@@ -4,6 +4,7 @@ use Rattle.std.proofs.Common.{Global, sym, ap, ◌∙◌, subst, append-nil}
 use Rattle.std.specs.List.{AllByRecursion}
 use Rattle.vrps.specs.Instance.{Instance}
 use Rattle.vrps.specs.Steps.{HoldsSteps, Steps}
+use Rattle.rtr_pdu.specs.declared.version.Version.TheVariants.{V1}
 use Rattle.rtr_pdu.specs.Payloads.{AreBytes}
 use Rattle.rtr_pdu.specs.Stream.{AreRead, IsPartial, Splits, any_after, as_read}
 use Rattle.rtr_pdu.specs.Unit.{IsUnit}
@@ -25,21 +26,21 @@ use Rattle.rpkirtr.specs.declared.answering.Answered.{Answered}
 use Rattle.rtr_ends.proofs.AnswerUnits.{agreed_on, replies_fit}
 
 -- units as they are sent are split into themselves
-read_sent : (units : List Unit) → AllByRecursion IsUnit units → AreRead 1 false units (sent_all units)
+read_sent : (units : List Unit) → AllByRecursion IsUnit units → AreRead V1 false units (sent_all units)
 unfolding as_read
 read_sent [] h = refl
-read_sent (u ∷ units) h = (sent u, sent_all units, refl, written_is_read 1 u h.0, read_sent units h.1)
+read_sent (u ∷ units) h = (sent u, sent_all units, refl, written_is_read V1 u h.0, read_sent units h.1)
 
-splits_sent : (units : List Unit) → AllByRecursion IsUnit units → Splits 1 false (sent_all units) units [] None
+splits_sent : (units : List Unit) → AllByRecursion IsUnit units → Splits V1 false (sent_all units) units [] None
 splits_sent units h = record { front = sent_all units; whole = sym (append-nil (sent_all units)); read = read_sent units h; after = none_after units }
   where
-    none_after : (units : List Unit) → IsPartial 1 (as_read 1 (any_after false units) [])
-    none_after units = partial_empty (any_after false units)
+    none_after : (units : List Unit) → IsPartial V1 (as_read V1 (any_after false units) [])
+    none_after units = partial_empty V1 (any_after false units)
 
 -- the lines tell these units
 same_units : (bytes text : List ℕ) (units : List Unit) → HasLines bytes text → bytes ≡ sent_all units → AllByRecursion IsUnit units → (text ≡ lines_of units) × AllByRecursion (λ u. is_internal_error u ≡ false) units
 same_units bytes text units h e fit =
-    let same = one_split 1 false bytes h.units units h.rest [] h.fault None h.splits (subst (λ x. Splits 1 false x units [] None) (sym e) (splits_sent units fit)) in
+    let same = one_split V1 false bytes h.units units h.rest [] h.fault None h.splits (subst (λ x. Splits V1 false x units [] None) (sym e) (splits_sent units fit)) in
     (h.lines_are ∙ ap lines_of same.units_are, subst (AllByRecursion (λ u. is_internal_error u ≡ false)) same.units_are h.sound)
 
 not_both : (b : Bool) → b ≡ true → b ≡ false → ⊥

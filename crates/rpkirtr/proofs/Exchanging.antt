@@ -8,6 +8,7 @@ use Rattle.std.proofs.Math.Seq.{take-append_seam}
 use Rattle.std.proofs.lemmas.List.{length-append, length-drop, length-take-le, take-append-drop, take_min}
 use Rattle.vrps.specs.Instance.{Instance}
 use Rattle.vrps.specs.Steps.{HoldsSteps, Steps}
+use Rattle.rtr_pdu.specs.declared.version.Version.TheVariants.{V1}
 use Rattle.rtr_pdu.specs.Judging.{Judgement, Begins, Whole, Faulty, judge}
 use Rattle.rtr_pdu.specs.Payloads.{AreBytes}
 use Rattle.rtr_ends.specs.Cache.{Conn, Gives, Taking, Takes, conn_byte, conn_pulled, conn_stops, conn_takes, finds_memory, is_none, moment_of, and_moment}
@@ -89,7 +90,7 @@ module _ (i : Instance) (c : ℕ) where
 
   own_byte : (m : Taking) (b : ℕ) → AllByRecursion (IsOwn i) m.moments → AllByRecursion (IsOwn i) (conn_byte 1 default_intervals i m b).moments
   unfolding conn_byte
-  own_byte m b h = own_moment (finds_memory m.wanting) (m.conn.held ++ b ∷ []) (judge 1 false (m.conn.held ++ b ∷ [])) m.moments h
+  own_byte m b h = own_moment (finds_memory m.wanting) (m.conn.held ++ b ∷ []) (judge V1 false (m.conn.held ++ b ∷ [])) m.moments h
 
   own_taken : (wanting : Option ℕ) (piece : List ℕ) (o : Conn) → AllByRecursion (IsOwn i) (conn_takes 1 default_intervals i wanting piece o).machine.moments
   unfolding conn_takes

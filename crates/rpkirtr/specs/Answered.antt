@@ -2,6 +2,7 @@
 use Rattle.std.specs.Prelude.{◌≡◌, ℕ, ◌-◌, Bool, false, List, [], ◌∷◌, ◌++◌, length, string_bytes, Option, Some, None, MatchBool, ⊤}
 use Rattle.std.specs.List.{AllByRecursion}
 use Rattle.vrps.specs.Instance.{Instance}
+use Rattle.rtr_pdu.specs.declared.version.Version.TheVariants.{V1}
 use Rattle.rtr_pdu.specs.Stream.{Splits}
 use Rattle.rtr_pdu.specs.declared.unit.Unit.{Unit}
 use Rattle.rtr_pdu.specs.declared.unit.UnitFault.{UnitFault}
@@ -44,7 +45,7 @@ pub record LeavesOff (bytes : List ℕ) (left : Option ℕ) : Type 0 where
   pub units : List Unit
   pub rest : List ℕ
   pub fault : Option UnitFault
-  pub splits : Splits 1 false bytes units rest fault
+  pub splits : Splits V1 false bytes units rest fault
   pub left_is : left ≡ offset_of (length bytes) rest fault
 
 -- A line tells each unit of the replies. What is left is nothing where the connection has ended.

@@ -3,6 +3,7 @@ use Rattle.std.specs.Prelude.{◌≡◌, ℕ, ◌==◌, Bool, true, false, List,
 use Rattle.std.specs.List.{AllByRecursion}
 use Rattle.vrps.specs.Instance.{Instance, IsInstance}
 use Rattle.vrps.specs.Steps.{HoldsSteps, Steps}
+use Rattle.rtr_pdu.specs.declared.version.Version.TheVariants.{V1}
 use Rattle.rtr_pdu.specs.Code.{INTERNAL_ERROR}
 use Rattle.rtr_pdu.specs.Stream.{Splits}
 use Rattle.rtr_pdu.specs.declared.unit.Unit.{Unit}
@@ -71,6 +72,6 @@ pub record HasLines (bytes : List ℕ) (lines : List ℕ) : Type 0 where
   pub units : List Unit
   pub rest : List ℕ
   pub fault : Option UnitFault
-  pub splits : Splits 1 false bytes units rest fault
+  pub splits : Splits V1 false bytes units rest fault
   pub sound : AllByRecursion (λ u. is_internal_error u ≡ false) units
   pub lines_are : lines ≡ lines_of units

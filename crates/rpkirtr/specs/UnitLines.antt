@@ -6,6 +6,7 @@ use Rattle.std.specs.Io.KnownBytes.{Appends}
 use Rattle.hex.specs.Hex.{encode_lower}
 use Rattle.prefixes.specs.Payload.{Payload}
 use Rattle.prefixes.specs.Text.{written_text}
+use Rattle.rtr_pdu.specs.declared.version.Version.TheVariants.{V1}
 use Rattle.rtr_pdu.specs.Fault.{fault_number}
 use Rattle.rtr_pdu.specs.Stream.{Splits, end_fault}
 use Rattle.rtr_pdu.specs.declared.unit.Unit.{Unit}
@@ -55,6 +56,6 @@ pub record TellsUnits (bytes : List ℕ) (old new : Option (List ℕ)) (end : Un
   pub units : List Unit
   pub rest : List ℕ
   pub fault : Option UnitFault
-  pub splits : Splits 1 false bytes units rest fault
+  pub splits : Splits V1 false bytes units rest fault
   pub printed : Appends old new (flat_map unit_line units)
   pub follows : Follows (length bytes - length rest) rest fault end

@@ -6,6 +6,7 @@ use Rattle.std.proofs.lemmas.Bool.{and_parts}
 use Rattle.std.proofs.lemmas.List.{append-nil}
 use Rattle.std.specs.List.{AllByRecursion}
 use Rattle.vrps.specs.VrpSet.{VrpSet}
+use Rattle.rtr_pdu.specs.declared.version.Version.TheVariants.{V1}
 use Rattle.rtr_pdu.specs.Judging.{Judgement, Begins, Whole, Faulty, judge, unit_in}
 use Rattle.rtr_pdu.specs.Payloads.{AreBytes}
 use Rattle.rtr_pdu.specs.Stream.{AreRead, IsPartial, Shows, Splits, any_after, as_read, is_notify}
@@ -34,14 +35,14 @@ use Rattle.rtr_ends.proofs.TableLaws.{false_true}
 record Live (r : Router) (items : List Item) (bytes : List ℕ) : Type 0 where
   pub front : List ℕ
   pub whole : bytes ≡ front ++ r.held
-  pub read : AreRead 1 true (units_in items) front
+  pub read : AreRead V1 true (units_in items) front
   pub any_is : any_after true (units_in items) ≡ not (has_agreed items)
   pub sound : fault_in items ≡ None
-  pub partial : IsPartial 1 (as_read 1 (not (has_agreed items)) r.held)
+  pub partial : IsPartial V1 (as_read V1 (not (has_agreed items)) r.held)
   pub each : AreBytes r.held
 
 abbrev Split : List Item → List ℕ → Type 0
-Split items bytes = (rest : List ℕ) × Splits 1 true bytes (units_in items) rest (fault_in items)
+Split items bytes = (rest : List ℕ) × Splits V1 true bytes (units_in items) rest (fault_in items)
 
 record Comes (r : Router) (items : List Item) (bytes : List ℕ) : Type 0 where
   pub tells : Tells r items
@@ -50,10 +51,10 @@ record Comes (r : Router) (items : List Item) (bytes : List ℕ) : Type 0 where
   pub none_held : is_closed r.link ≡ true → r.held ≡ []
   pub none_out : is_closed r.link ≡ true → r.out ≡ []
 
-live_splits : (r : Router) (items : List Item) (bytes : List ℕ) → Live r items bytes → Splits 1 true bytes (units_in items) r.held (fault_in items)
+live_splits : (r : Router) (items : List Item) (bytes : List ℕ) → Live r items bytes → Splits V1 true bytes (units_in items) r.held (fault_in items)
 live_splits r items bytes l =
-    subst (λ f. Splits 1 true bytes (units_in items) r.held f) (sym l.sound)
-    (record { front = l.front; whole = l.whole; read = l.read; after = subst (λ b. IsPartial 1 (as_read 1 b r.held)) (sym l.any_is) l.partial })
+    subst (λ f. Splits V1 true bytes (units_in items) r.held f) (sym l.sound)
+    (record { front = l.front; whole = l.whole; read = l.read; after = subst (λ b. IsPartial V1 (as_read V1 b r.held)) (sym l.any_is) l.partial })
 
 live_split : (r : Router) (items : List Item) (bytes : List ℕ) → Live r items bytes → Split items bytes
 live_split r items bytes l = (r.held, live_splits r items bytes l)
@@ -161,15 +162,15 @@ more_whole bytes front held b e = ap (λ x. x ++ b ∷ []) e ∙ append_assoc fr
 
 -- These bytes were read as a unit, or memory for it was wanting.
 record UnitRead (u : Unit) (items : List Item) (bytes : List ℕ) : Type 0 where
-  pub read : AreRead 1 true (units_in items ++ u ∷ []) bytes
+  pub read : AreRead V1 true (units_in items ++ u ∷ []) bytes
   pub sound : fault_in items ≡ None
 
 -- Nothing follows it yet.
 unit_split : (u : Unit) (items later : List Item) (bytes : List ℕ) → UnitRead u items bytes → units_in later ≡ units_in items ++ u ∷ [] → fault_in later ≡ fault_in items → Split later bytes
 unit_split u items later bytes h us fs = (
   [],
-  subst (λ f. Splits 1 true bytes (units_in later) [] f) (sym (fs ∙ h.sound))
-      (record { front = bytes; whole = sym (append-nil bytes); read = subst (λ x. AreRead 1 true x bytes) (sym us) h.read; after = partial_empty (any_after true (units_in later)) }),
+  subst (λ f. Splits V1 true bytes (units_in later) [] f) (sym (fs ∙ h.sound))
+      (record { front = bytes; whole = sym (append-nil bytes); read = subst (λ x. AreRead V1 true x bytes) (sym us) h.read; after = partial_empty V1 (any_after true (units_in later)) }),
 )
 
 -- the router after a unit
@@ -178,10 +179,10 @@ read_live : (r n : Router) (u : Unit) (items later : List Item) (bytes : List �
 read_live r n u items later bytes none h any us fs agreed = record {
   front = bytes;
   whole = sym (append-nil bytes) ∙ ap (λ x. bytes ++ x) (sym none);
-  read = subst (λ x. AreRead 1 true x bytes) (sym us) h.read;
+  read = subst (λ x. AreRead V1 true x bytes) (sym us) h.read;
   any_is = ap (any_after true) us ∙ any_after-push true (units_in items) u ∙ ap (λ b. b && is_notify u) any ∙ agreed_more u items ∙ ap not (sym agreed);
   sound = fs ∙ h.sound;
-  partial = subst (λ x. IsPartial 1 (as_read 1 (not (has_agreed later)) x)) (sym none) (partial_empty (not (has_agreed later)));
+  partial = subst (λ x. IsPartial V1 (as_read V1 (not (has_agreed later)) x)) (sym none) (partial_empty V1 (not (has_agreed later)));
   each = subst (λ x. AreBytes x) (sym none) none_bytes;
 }
 
@@ -224,8 +225,8 @@ reads_come r u items bytes none live before h any tells = record {
 
 -- the next byte, as it is judged
 bytes_come : (memory : Bool) (b : ℕ) (r : Router) (items : List Item) (bytes : List ℕ) → b < 256 → is_reading r.link ≡ true → r.out ≡ [] → Tells r items → Live r items bytes
-    → let n : Noted = with_bytes memory (r.held ++ b ∷ []) r (judge 1 (not r.agreed) (r.held ++ b ∷ [])) in Comes n.router (n.items ++ items) (bytes ++ b ∷ [])
-bytes_come memory b r items bytes byte live none t l = by_case (judge_case 1 (not r.agreed) seen)
+    → let n : Noted = with_bytes memory (r.held ++ b ∷ []) r (judge V1 (not r.agreed) (r.held ++ b ∷ [])) in Comes n.router (n.items ++ items) (bytes ++ b ∷ [])
+bytes_come memory b r items bytes byte live none t l = by_case (judge_case V1 (not r.agreed) seen)
   where
     seen : List ℕ
     seen = r.held ++ b ∷ []
@@ -236,8 +237,8 @@ bytes_come memory b r items bytes byte live none t l = by_case (judge_case 1 (no
     each : AreBytes seen
     each = more_bytes r.held b l.each byte
 
-    part : IsPartial 1 (as_read 1 (not r.agreed) r.held)
-    part = subst (λ x. IsPartial 1 (as_read 1 x r.held)) any_so l.partial
+    part : IsPartial V1 (as_read V1 (not r.agreed) r.held)
+    part = subst (λ x. IsPartial V1 (as_read V1 x r.held)) any_so l.partial
 
     NowComes : Judgement → Type 0
     NowComes j = let n : Noted = with_bytes memory seen r j in Comes n.router (n.items ++ items) (bytes ++ b ∷ [])
@@ -245,7 +246,7 @@ bytes_come memory b r items bytes byte live none t l = by_case (judge_case 1 (no
     added : (j : Judgement) → let n : Noted = with_bytes memory seen r j in Tells n.router (n.items ++ items)
     added j = (bytes_add memory seen r j items live none t).tells
 
-    begins : IsPartial 1 (as_read 1 (not r.agreed) seen) → NowComes Begins
+    begins : IsPartial V1 (as_read V1 (not r.agreed) seen) → NowComes Begins
     begins partial =
         let goes : Live (record r { held = seen }) items (bytes ++ b ∷ []) = record {
           front = l.front;
@@ -253,7 +254,7 @@ bytes_come memory b r items bytes byte live none t l = by_case (judge_case 1 (no
           read = l.read;
           any_is = l.any_is;
           sound = l.sound;
-          partial = subst (λ x. IsPartial 1 (as_read 1 x seen)) (sym any_so) partial;
+          partial = subst (λ x. IsPartial V1 (as_read V1 x seen)) (sym any_so) partial;
           each = each;
         } in
         record {
@@ -264,7 +265,7 @@ bytes_come memory b r items bytes byte live none t l = by_case (judge_case 1 (no
           none_out = λ c. absurd (reads_so r.link live c);
         }
 
-    shows : (fault : UnitFault) → Shows 1 (as_read 1 (not r.agreed) seen) fault → NowComes (Faulty fault)
+    shows : (fault : UnitFault) → Shows V1 (as_read V1 (not r.agreed) seen) fault → NowComes (Faulty fault)
     shows fault h = record {
       tells = added (Faulty fault);
       live = λ live. false_true live;
@@ -274,21 +275,21 @@ bytes_come memory b r items bytes byte live none t l = by_case (judge_case 1 (no
           front = l.front;
           whole = more_whole bytes l.front r.held b l.whole;
           read = l.read;
-          after = subst (λ x. Shows 1 (as_read 1 x seen) fault) (sym (l.any_is ∙ any_so)) h;
+          after = subst (λ x. Shows V1 (as_read V1 x seen) fault) (sym (l.any_is ∙ any_so)) h;
         },
       );
       none_held = λ c. false_true c;
       none_out = λ c. false_true c;
     }
 
-    unit_read : (u : Unit) → units.Reads 1 u (as_read 1 (not r.agreed) seen) → UnitRead u items (bytes ++ b ∷ [])
+    unit_read : (u : Unit) → units.Reads V1 u (as_read V1 (not r.agreed) seen) → UnitRead u items (bytes ++ b ∷ [])
     unit_read u h = record {
-      read = subst (λ x. AreRead 1 true (units_in items ++ u ∷ []) x) (sym (more_whole bytes l.front r.held b l.whole))
-          (AreRead-push true (units_in items) l.front seen u l.read (subst (λ x. units.Reads 1 u (as_read 1 x seen)) (sym (l.any_is ∙ any_so)) h));
+      read = subst (λ x. AreRead V1 true (units_in items ++ u ∷ []) x) (sym (more_whole bytes l.front r.held b l.whole))
+          (AreRead-push V1 true (units_in items) l.front seen u l.read (subst (λ x. units.Reads V1 u (as_read V1 x seen)) (sym (l.any_is ∙ any_so)) h));
       sound = l.sound;
     }
 
-    reads_it : (u : Unit) → units.Reads 1 u (as_read 1 (not r.agreed) seen) → NowComes (Whole u)
+    reads_it : (u : Unit) → units.Reads V1 u (as_read V1 (not r.agreed) seen) → NowComes (Whole u)
     reads_it u h = by_memory (may_lack r.link u r && not memory) (added (Whole u))
       where
         hand : Router
@@ -308,16 +309,16 @@ bytes_come memory b r items bytes byte live none t l = by_case (judge_case 1 (no
         by_memory false tells =
             reads_come hand u items (bytes ++ b ∷ []) refl live (record { kept_is = t.kept_is; due_is = t.due_is; now_is = t.now_is; link = t.link }) (unit_read u h) l.any_is tells
 
-    so : (j : Judgement) → judge 1 (not r.agreed) seen ≡ j → NowComes j → NowComes (judge 1 (not r.agreed) seen)
+    so : (j : Judgement) → judge V1 (not r.agreed) seen ≡ j → NowComes j → NowComes (judge V1 (not r.agreed) seen)
     so j e h = subst NowComes (sym e) h
 
-    by_case : judging.Case 1 (as_read 1 (not r.agreed) seen) (judge 1 (not r.agreed) seen) → NowComes (judge 1 (not r.agreed) seen)
+    by_case : judging.Case V1 (as_read V1 (not r.agreed) seen) (judge V1 (not r.agreed) seen) → NowComes (judge V1 (not r.agreed) seen)
     by_case (judging.begins e partial) = so Begins e (begins partial)
     by_case (judging.shows fault e h) = so (Faulty fault) e (shows fault h)
     by_case (judging.whole e w sound) =
-        so (Whole (unit_in (as_read 1 (not r.agreed) seen))) e
-        (reads_it (unit_in (as_read 1 (not r.agreed) seen))
-        ((whole_exactly 1 (not r.agreed) seen (unit_in (as_read 1 (not r.agreed) seen)) (omega arith) each (next_size 1 (not r.agreed) r.held b part w)).0 e))
+        so (Whole (unit_in V1 (as_read V1 (not r.agreed) seen))) e
+        (reads_it (unit_in V1 (as_read V1 (not r.agreed) seen))
+        ((whole_exactly V1 (not r.agreed) seen (unit_in V1 (as_read V1 (not r.agreed) seen)) each (next_size V1 (not r.agreed) r.held b part w)).0 e))
 
 -- a piece, byte by byte
 abbrev MComes : Receiving → List Item → List ℕ → Type 0
@@ -327,7 +328,7 @@ byte_comes : (m : Receiving) (b : ℕ) (items : List Item) (bytes : List ℕ) �
 unfolding router_byte
 byte_comes m b items bytes byte goes_on c =
     let parts = and_parts (is_reading m.router.link) (is_none m.router.out) (not_true (is_reading m.router.link && is_none m.router.out) goes_on) in
-    let n : Noted = with_bytes (finds_memory m.wanting) (m.router.held ++ b ∷ []) m.router (judge 1 (not m.router.agreed) (m.router.held ++ b ∷ [])) in
+    let n : Noted = with_bytes (finds_memory m.wanting) (m.router.held ++ b ∷ []) m.router (judge V1 (not m.router.agreed) (m.router.held ++ b ∷ [])) in
     subst (λ x. Comes n.router x (bytes ++ b ∷ [])) (sym (append_assoc n.items m.items items))
     (bytes_come (finds_memory m.wanting) b m.router (m.items ++ items) bytes byte parts.0 (none_is m.router.out parts.1) c.tells (c.live parts.0))
 
@@ -395,16 +396,16 @@ record Quiet (items later : List Item) : Type 0 where
   pub agreed : has_agreed later ≡ has_agreed items
 
 quiet_split : (items later : List Item) (bytes : List ℕ) → Quiet items later → Split items bytes → Split later bytes
-quiet_split items later bytes q s = (s.0, subst₂ (λ us f. Splits 1 true bytes us s.0 f) (sym q.units) (sym q.fault) s.1)
+quiet_split items later bytes q s = (s.0, subst₂ (λ us f. Splits V1 true bytes us s.0 f) (sym q.units) (sym q.fault) s.1)
 
 quiet_live : (r n : Router) (items later : List Item) (bytes : List ℕ) → Quiet items later → n.held ≡ r.held → Live r items bytes → Live n later bytes
 quiet_live r n items later bytes q held l = record {
   front = l.front;
   whole = l.whole ∙ ap (λ x. l.front ++ x) (sym held);
-  read = subst (λ us. AreRead 1 true us l.front) (sym q.units) l.read;
+  read = subst (λ us. AreRead V1 true us l.front) (sym q.units) l.read;
   any_is = ap (any_after true) q.units ∙ l.any_is ∙ ap not (sym q.agreed);
   sound = q.fault ∙ l.sound;
-  partial = subst₂ (λ b x. IsPartial 1 (as_read 1 (not b) x)) (sym q.agreed) (sym held) l.partial;
+  partial = subst₂ (λ b x. IsPartial V1 (as_read V1 (not b) x)) (sym q.agreed) (sym held) l.partial;
   each = subst (λ x. AreBytes x) (sym held) l.each;
 }
 
@@ -487,7 +488,7 @@ connect_comes now r items bytes c tells =
       read = refl;
       any_is = refl;
       sound = refl;
-      partial = subst (λ x. IsPartial 1 (as_read 1 true x)) (sym shut.held) (partial_empty true);
+      partial = subst (λ x. IsPartial V1 (as_read V1 true x)) (sym shut.held) (partial_empty V1 true);
       each = subst (λ x. AreBytes x) (sym shut.held) none_bytes;
     } in
     record {
@@ -547,7 +548,7 @@ new_comes : Comes (played []).router (played []).items (came [])
 new_comes = record {
   tells = new_tells;
   live = λ h. false_true h;
-  split = ([], record { front = []; whole = refl; read = refl; after = partial_empty true });
+  split = ([], record { front = []; whole = refl; read = refl; after = partial_empty V1 true });
   none_held = λ h. refl;
   none_out = λ h. refl;
 }

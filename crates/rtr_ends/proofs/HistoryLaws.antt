@@ -3,6 +3,7 @@ use Rattle.std.proofs.Common.{◌≡◌, ◌∙◌, sym, ap, refl, subst, arith,
 use Rattle.std.specs.Bool.{MatchBool}
 use Rattle.std.proofs.lemmas.List.{take-append-drop}
 use Rattle.std.proofs.lemmas.List.Concat.{flat_map-append}
+use Rattle.rtr_pdu.specs.declared.version.Version.TheVariants.{V1}
 use Rattle.rtr_pdu.specs.Stream.{IsPartial, Shows, Splits, as_read}
 use Rattle.rtr_pdu.specs.Unit.{Reads}
 use Rattle.rtr_pdu.specs.declared.unit.Unit.{Unit}
@@ -63,7 +64,7 @@ sent_so_far keep t c (Notify cache ∷ later) bytes h =
 pub pulled_are_replies : PulledAreReplies
 pulled_are_replies keep t i moments bytes h = sent_so_far keep t (opened i) moments bytes h
 
-read_plainly : (bytes : List ℕ) → as_read 1 false bytes ≡ bytes
+read_plainly : (bytes : List ℕ) → as_read V1 false bytes ≡ bytes
 unfolding as_read
 read_plainly bytes = refl
 
@@ -76,7 +77,7 @@ record Nothing (moments : List Moment) (bytes : List ℕ) : Type 0 where
   pub units_are : units_of moments ≡ []
 
 at_end : (c : Connection) (bytes : List ℕ) → c.ended ≡ true → MayHold c bytes → bytes ≡ []
-at_end c bytes e h = subst (λ b. MatchBool b (bytes ≡ []) (IsPartial 1 bytes × ((bytes ≡ []) ⊎ ((c.due ≡ []) ⊎ (c.notified ≡ true))))) e h
+at_end c bytes e h = subst (λ b. MatchBool b (bytes ≡ []) (IsPartial V1 bytes × ((bytes ≡ []) ⊎ ((c.due ≡ []) ⊎ (c.notified ≡ true))))) e h
 
 quiet : (keep : ℕ) (t : Intervals) (c : Connection) (moments : List Moment) (bytes : List ℕ) → c.ended ≡ true → IsHistory keep t c moments bytes → Nothing moments bytes
 quiet keep t c [] bytes e h = record { bytes_are = at_end c bytes e h; units_are = refl }
@@ -89,39 +90,39 @@ quiet keep t c (Fault fault bytes' ∷ later) bytes e h = absurd (not_both c.end
 quiet keep t c (Notify cache ∷ later) bytes e h = absurd (not_both c.ended e h.0.0)
 
 abbrev HasSplit : List ℕ → List Unit → Type 0
-HasSplit bytes units = (rest : List ℕ) × (fault : Option UnitFault) × Splits 1 false bytes units rest fault
+HasSplit bytes units = (rest : List ℕ) × (fault : Option UnitFault) × Splits V1 false bytes units rest fault
 
 -- Nothing but the beginning of a unit
-only_rest : (bytes : List ℕ) → IsPartial 1 bytes → HasSplit bytes []
-only_rest bytes h = (bytes, None, record { front = []; whole = refl; read = refl; after = subst (λ x. IsPartial 1 x) (sym (read_plainly bytes)) h })
+only_rest : (bytes : List ℕ) → IsPartial V1 bytes → HasSplit bytes []
+only_rest bytes h = (bytes, None, record { front = []; whole = refl; read = refl; after = subst (λ x. IsPartial V1 x) (sym (read_plainly bytes)) h })
 
 -- a unit, and then more
-with_unit : (unit : Unit) (front rest bytes : List ℕ) (units : List Unit) → bytes ≡ front ++ rest → Reads 1 unit front → HasSplit rest units → HasSplit bytes (unit ∷ units)
+with_unit : (unit : Unit) (front rest bytes : List ℕ) (units : List Unit) → bytes ≡ front ++ rest → Reads V1 unit front → HasSplit rest units → HasSplit bytes (unit ∷ units)
 with_unit unit front rest bytes units e r (left, fault, s) = (
   left,
   fault,
   record {
     front = front ++ s.front;
     whole = e ∙ ap (λ x. front ++ x) s.whole ∙ sym (append_assoc front s.front left);
-    read = (front, s.front, refl, subst (λ x. Reads 1 unit x) (sym (read_plainly front)) r, s.read);
+    read = (front, s.front, refl, subst (λ x. Reads V1 unit x) (sym (read_plainly front)) r, s.read);
     after = s.after;
   },
 )
 
-empty_partial : IsPartial 1 []
+empty_partial : IsPartial V1 []
 empty_partial = (refl, inl (omega arith))
 
 -- where the connection ends or goes on without a byte more
-at_last : (P : Type 0) (ended : Bool) (bytes : List ℕ) → MatchBool ended (bytes ≡ []) (IsPartial 1 bytes × P) → HasSplit bytes []
-at_last P true bytes h = only_rest bytes (subst (λ x. IsPartial 1 x) (sym h) empty_partial)
+at_last : (P : Type 0) (ended : Bool) (bytes : List ℕ) → MatchBool ended (bytes ≡ []) (IsPartial V1 bytes × P) → HasSplit bytes []
+at_last P true bytes h = only_rest bytes (subst (λ x. IsPartial V1 x) (sym h) empty_partial)
 at_last P false bytes h = only_rest bytes h.0
 
 -- a fault, and then nothing
-with_fault : (fault : UnitFault) (front rest bytes : List ℕ) (later : List Moment) → bytes ≡ front ++ rest → Shows 1 front fault → Nothing later rest → HasSplit bytes (units_of later)
+with_fault : (fault : UnitFault) (front rest bytes : List ℕ) (later : List Moment) → bytes ≡ front ++ rest → Shows V1 front fault → Nothing later rest → HasSplit bytes (units_of later)
 with_fault fault front rest bytes later e h none =
     let whole : bytes ≡ front = e ∙ ap (λ x. front ++ x) none.bytes_are ∙ append-nil front in
     subst (λ units. HasSplit bytes units) (sym none.units_are)
-    (bytes, Some fault, record { front = []; whole = refl; read = refl; after = subst (λ x. Shows 1 x fault) (sym (read_plainly bytes ∙ whole)) h })
+    (bytes, Some fault, record { front = []; whole = refl; read = refl; after = subst (λ x. Shows V1 x fault) (sym (read_plainly bytes ∙ whole)) h })
 
 split_of : (keep : ℕ) (t : Intervals) (c : Connection) (moments : List Moment) (bytes : List ℕ) → IsHistory keep t c moments bytes → HasSplit bytes (units_of moments)
 split_of keep t c [] bytes h = at_last _ c.ended bytes h

@@ -6,6 +6,7 @@ use Rattle.std.proofs.lemmas.Bool.{and_parts, or_parts}
 use Rattle.std.proofs.lemmas.Bool.Decides.{nat_tests}
 use Rattle.prefixes.specs.Payload.{Payload}
 use Rattle.vrps.specs.VrpSet.{VrpSet, empty, has, size}
+use Rattle.rtr_pdu.specs.declared.version.Version.TheVariants.{V1}
 use Rattle.rtr_pdu.specs.Judging.{Judgement, Begins, Whole, Faulty, judge}
 use Rattle.rtr_pdu.specs.Payloads.{Report}
 use Rattle.rtr_pdu.specs.declared.unit.Unit.{Unit}
@@ -363,9 +364,9 @@ unfolding router_byte
 byte_tells m b items goes_on t =
     let parts = and_parts (is_reading m.router.link) (is_none m.router.out) (not_true (is_reading m.router.link && is_none m.router.out) goes_on) in
     let bytes : List ℕ = m.router.held ++ b ∷ [] in
-    let j : Judgement = judge 1 (not m.router.agreed) (m.router.held ++ b ∷ []) in
-    let n : Noted = with_bytes (finds_memory m.wanting) (m.router.held ++ b ∷ []) m.router (judge 1 (not m.router.agreed) (m.router.held ++ b ∷ [])) in
-    let added = bytes_add (finds_memory m.wanting) (m.router.held ++ b ∷ []) m.router (judge 1 (not m.router.agreed) (m.router.held ++ b ∷ [])) (m.items ++ items) parts.0 (none_is m.router.out parts.1) t in
+    let j : Judgement = judge V1 (not m.router.agreed) (m.router.held ++ b ∷ []) in
+    let n : Noted = with_bytes (finds_memory m.wanting) (m.router.held ++ b ∷ []) m.router (judge V1 (not m.router.agreed) (m.router.held ++ b ∷ [])) in
+    let added = bytes_add (finds_memory m.wanting) (m.router.held ++ b ∷ []) m.router (judge V1 (not m.router.agreed) (m.router.held ++ b ∷ [])) (m.items ++ items) parts.0 (none_is m.router.out parts.1) t in
     subst (λ x. Tells n.router x) (sym (append_assoc n.items m.items items)) added.tells
 
 abbrev by_stop : Receiving → ℕ → List ℕ → Bool → Fed Receiving

@@ -8,6 +8,7 @@ use Rattle.vrps.specs.Instance.{Instance, Version, versions, versions_from, with
 use Rattle.vrps.specs.Serial.{serial_at}
 use Rattle.vrps.specs.VrpSet.{VrpSet}
 use Rattle.vrps.specs.Stores.{newest}
+use Rattle.rtr_pdu.specs.declared.version.Version.TheVariants.{V1}
 use Rattle.rtr_pdu.specs.Judging.{Faulty, Whole}
 use Rattle.rtr_pdu.specs.Reader.{Gives as ReaderGives, IsReader, Reader, Takes, fresh}
 use Rattle.rtr_pdu.specs.Stream.{as_read, IsPartial}
@@ -71,14 +72,14 @@ module _ (keep : ℕ) (t : Intervals) (i : Instance) (o : Conn) where
   abbrev own : Reader
   own = record { held = o.held; any = false; later = false; fault = None }
 
-  took : (r : Reader) (piece rest : List ℕ) (answer : _) (new : Reader) → r ≡ own → Takes r piece answer rest new → Takes own piece answer rest new
-  took r piece rest answer new e h = subst (λ x. Takes x piece answer rest new) e h
+  took : (r : Reader) (piece rest : List ℕ) (answer : _) (new : Reader) → r ≡ own → Takes V1 r piece answer rest new → Takes V1 own piece answer rest new
+  took r piece rest answer new e h = subst (λ x. Takes V1 x piece answer rest new) e h
 
-  pub receives_more : (piece rest : List ℕ) (p : Peer) (reader : Reader) → conn_stops o ≡ false → ShowsPeer t i o p → Takes p.reader piece next.NeedMore rest reader → Receives keep t i o piece (length piece) (record p { reader = reader })
+  pub receives_more : (piece rest : List ℕ) (p : Peer) (reader : Reader) → conn_stops o ≡ false → ShowsPeer t i o p → Takes V1 p.reader piece next.NeedMore rest reader → Receives keep t i o piece (length piece) (record p { reader = reader })
   receives_more piece rest p reader runs shows h =
       let k = took p.reader piece rest next.NeedMore reader shows.reader h in
       let all : piece ≡ k.taken = k.piece_is ∙ ap (λ x. k.taken ++ x) k.gives.2 ∙ append-nil k.taken in
-      let part : IsPartial 1 (as_read 1 false (o.held ++ piece)) = subst (λ x. IsPartial 1 (as_read 1 false (o.held ++ x))) (sym all) k.gives.1 in
+      let part : IsPartial V1 (as_read V1 false (o.held ++ piece)) = subst (λ x. IsPartial V1 (as_read V1 false (o.held ++ x))) (sym all) k.gives.1 in
       let is = takes_more keep t i o None piece runs part in
       let now : reader ≡ record { held = o.held ++ piece; any = false; later = false; fault = None } = k.gives.3 ∙ ap (λ x. record { held = o.held ++ x; any = false; later = false; fault = None }) (sym all) in
       record {
@@ -90,7 +91,7 @@ module _ (keep : ℕ) (t : Intervals) (i : Instance) (o : Conn) where
           ended = shows.ended;
           due = shows.due;
           knows = shows.knows;
-          room = record { received = omega (arith, ap (λ (r : Reader). length r.held) now, partial_most (o.held ++ piece) part); ready = shows.room.ready };
+          room = record { received = omega (arith, ap (λ (r : Reader). length r.held) now, partial_most V1 (o.held ++ piece) part); ready = shows.room.ready };
         });
         consumed_is = subst (λ f. length piece ≡ length piece - length f.rest) (sym is) (omega arith);
       }
@@ -139,15 +140,15 @@ module _ (keep : ℕ) (t : Intervals) (i : Instance) (o : Conn) where
   moment_shown false u bytes mid new reader agreed room a =
       record { reader = a.reader ∙ reader; agreed = a.agreed ∙ ap (λ x. x || is_query u) agreed; ended = a.ended; due = a.due; knows = a.knows; room = fresh_room new (a.reader ∙ reader) (a.room room) }
 
-  pub receives_unit : (piece rest : List ℕ) (u : Unit) (p new : Peer) (reader : Reader) → conn_stops o ≡ false → ShowsPeer t i o p → IsReader p.reader → Takes p.reader piece (next.Unit u) rest reader
+  pub receives_unit : (piece rest : List ℕ) (u : Unit) (p new : Peer) (reader : Reader) → conn_stops o ≡ false → ShowsPeer t i o p → IsReader V1 p.reader → Takes V1 p.reader piece (next.Unit u) rest reader
       → ((memory : Bool) × Answers t i (read_reply keep t i memory u) (p.agreed || is_query u) (record p { reader = reader }) new) → Receives keep t i o piece (length piece - length rest) new
   receives_unit piece rest u p new reader runs shows stands h a = by_memory a.0 (takes_memory i u) refl a.1
     where
-      k : Takes own piece (next.Unit u) rest reader
+      k : Takes V1 own piece (next.Unit u) rest reader
       k = took p.reader piece rest (next.Unit u) reader shows.reader h
 
-      part : IsPartial 1 (as_read 1 false o.held)
-      part = subst (λ r. IsReader r) shows.reader stands
+      part : IsPartial V1 (as_read V1 false o.held)
+      part = subst (λ r. IsReader V1 r) shows.reader stands
 
       after_unit : Option ℕ → Taking
       after_unit w = with_judged keep t i (start keep t i o w) (o.held ++ k.taken) (Whole u)
@@ -182,17 +183,17 @@ module _ (keep : ℕ) (t : Intervals) (i : Instance) (o : Conn) where
             consumed_is = subst (λ f. length piece - length rest ≡ length piece - length f.rest) (sym all) refl;
           }
 
-  pub receives_fault : (piece rest : List ℕ) (fault : UnitFault) (p new : Peer) (reader : Reader) → conn_stops o ≡ false → ShowsPeer t i o p → IsReader p.reader → Takes p.reader piece (next.Fault fault) rest reader
+  pub receives_fault : (piece rest : List ℕ) (fault : UnitFault) (p new : Peer) (reader : Reader) → conn_stops o ≡ false → ShowsPeer t i o p → IsReader V1 p.reader → Takes V1 p.reader piece (next.Fault fault) rest reader
       → Fails (record p { reader = reader }) fault new → Receives keep t i o piece (length piece - length rest) new
   receives_fault piece rest fault p new reader runs shows stands h f = by_gives k.gives
     where
-      k : Takes own piece (next.Fault fault) rest reader
+      k : Takes V1 own piece (next.Fault fault) rest reader
       k = took p.reader piece rest (next.Fault fault) reader shows.reader h
 
-      part : IsPartial 1 (as_read 1 false o.held)
-      part = subst (λ r. IsReader r) shows.reader stands
+      part : IsPartial V1 (as_read V1 false o.held)
+      part = subst (λ r. IsReader V1 r) shows.reader stands
 
-      by_gives : ReaderGives own k.taken (next.Fault fault) rest reader → Receives keep t i o piece (length piece - length rest) new
+      by_gives : ReaderGives V1 own k.taken (next.Fault fault) rest reader → Receives keep t i o piece (length piece - length rest) new
       by_gives (inr again) = absurd (let e : ◌≡◌ {A = Option UnitFault} None (Some fault) = again.0 in cc)
       by_gives (inl first) =
           let all : conn_takes keep t i None piece o ≡ record { machine = with_judged keep t i (start keep t i o None) (o.held ++ k.taken) (Faulty fault); rest = rest } =

@@ -3,6 +3,7 @@ use Rattle.std.specs.Prelude.{◌≡◌, ℕ, true, false, List, [], ◌++◌, O
 use Rattle.std.proofs.Common.{sym, ap, ◌∙◌}
 use Rattle.std.proofs.lemmas.List.{append-nil}
 use Rattle.vrps.specs.Instance.{Instance}
+use Rattle.rtr_pdu.specs.declared.version.Version.TheVariants.{V1}
 use Rattle.rtr_pdu.specs.Judging.{Faulty, Whole}
 use Rattle.rtr_pdu.specs.Reader.{IsFaulty, IsRead}
 use Rattle.rtr_pdu.specs.Stream.{as_read, IsPartial}
@@ -32,14 +33,14 @@ module _ (keep : ℕ) (t : Intervals) (i : Instance) where
   start o wanting = record { conn = o; moments = []; wanting = wanting }
 
   -- All of the beginning of a unit is held,
-  pub takes_more : (o : Conn) (wanting : Option ℕ) (piece : List ℕ) → conn_stops o ≡ false → IsPartial 1 (as_read 1 false (o.held ++ piece))
+  pub takes_more : (o : Conn) (wanting : Option ℕ) (piece : List ℕ) → conn_stops o ≡ false → IsPartial V1 (as_read V1 false (o.held ++ piece))
       → conn_takes keep t i wanting piece o ≡ record { machine = start (record o { held = o.held ++ piece }) wanting; rest = [] }
   unfolding conn_takes conn_machine
   takes_more o wanting piece runs part =
       ap (fed conn_machine (start o wanting)) (sym (append-nil piece)) ∙ more_taken conn_machine (start o wanting) runs piece [] part
 
   -- or a unit is taken, and the connection stops behind it,
-  pub takes_unit : (o : Conn) (wanting : Option ℕ) (next : Taking) (taken rest : List ℕ) (u : Unit) → conn_stops o ≡ false → IsPartial 1 (as_read 1 false o.held) → IsRead false (o.held ++ taken) u
+  pub takes_unit : (o : Conn) (wanting : Option ℕ) (next : Taking) (taken rest : List ℕ) (u : Unit) → conn_stops o ≡ false → IsPartial V1 (as_read V1 false o.held) → IsRead V1 false (o.held ++ taken) u
       → ((held : List ℕ) → with_judged keep t i (start (record o { held = held }) wanting) (o.held ++ taken) (Whole u) ≡ next) → conn_stops next.conn ≡ true → conn_takes keep t i wanting (taken ++ rest) o ≡ record { machine = next; rest = rest }
   unfolding conn_takes conn_machine
   takes_unit o wanting next taken rest u runs part read after stop =
@@ -47,7 +48,7 @@ module _ (keep : ℕ) (t : Intervals) (i : Instance) where
       ∙ ap (λ m. fed conn_machine m rest) (after (o.held ++ but_last taken)) ∙ none_taken conn_machine next rest stop
 
   -- or bytes that show a fault are,
-  pub takes_fault : (o : Conn) (wanting : Option ℕ) (next : Taking) (taken rest : List ℕ) (fault : UnitFault) → conn_stops o ≡ false → IsPartial 1 (as_read 1 false o.held) → IsFaulty false (o.held ++ taken) fault
+  pub takes_fault : (o : Conn) (wanting : Option ℕ) (next : Taking) (taken rest : List ℕ) (fault : UnitFault) → conn_stops o ≡ false → IsPartial V1 (as_read V1 false o.held) → IsFaulty V1 false (o.held ++ taken) fault
       → ((held : List ℕ) → with_judged keep t i (start (record o { held = held }) wanting) (o.held ++ taken) (Faulty fault) ≡ next) → conn_stops next.conn ≡ true → conn_takes keep t i wanting (taken ++ rest) o ≡ record { machine = next; rest = rest }
   unfolding conn_takes conn_machine
   takes_fault o wanting next taken rest fault runs part faulty after stop =

@@ -1,5 +1,6 @@
 -- What a router takes byte by byte is what its reader takes unit by unit.
 use Rattle.std.specs.Prelude.{◌≡◌, ℕ, suc, Bool, true, false, not, List, [], ◌++◌, Option, Some, None, refl}
+use Rattle.rtr_pdu.specs.declared.version.Version.TheVariants.{V1}
 use Rattle.rtr_pdu.specs.Judging.{Whole, Faulty}
 use Rattle.rtr_pdu.specs.Reader.{IsFaulty, IsRead}
 use Rattle.rtr_pdu.specs.Stream.{IsPartial, as_read}
@@ -38,18 +39,18 @@ stopped r items wanting piece stop = units.none_taken router_machine (taking r i
 
 module _ (r : Router) (taken rest : List ℕ) (on : router_stops r ≡ false) (items : List Item) (wanting : Option ℕ) where
   -- A reader asks for more.
-  pub more_taken : IsPartial 1 (as_read 1 (not r.agreed) (r.held ++ taken)) → fed r items wanting (taken ++ []) ≡ fed (record r { held = r.held ++ taken }) items wanting []
+  pub more_taken : IsPartial V1 (as_read V1 (not r.agreed) (r.held ++ taken)) → fed r items wanting (taken ++ []) ≡ fed (record r { held = r.held ++ taken }) items wanting []
   unfolding router_machine
   more_taken part = units.more_taken router_machine (taking r items wanting) on taken [] part
 
   -- It gives a unit.
-  pub unit_taken : IsPartial 1 (as_read 1 (not r.agreed) r.held) → (u : Unit) → IsRead (not r.agreed) (r.held ++ taken) u
+  pub unit_taken : IsPartial V1 (as_read V1 (not r.agreed) r.held) → (u : Unit) → IsRead V1 (not r.agreed) (r.held ++ taken) u
       → fed r items wanting (taken ++ rest) ≡ feed stops router_byte (with_judged (taking (record r { held = r.held ++ but_last taken }) items wanting) (r.held ++ taken) (Whole u)) rest
   unfolding router_machine
   unit_taken part u read = units.unit_taken router_machine (taking r items wanting) on taken rest u part read
 
   -- It shows a fault.
-  pub fault_taken : IsPartial 1 (as_read 1 (not r.agreed) r.held) → (fault : UnitFault) → IsFaulty (not r.agreed) (r.held ++ taken) fault
+  pub fault_taken : IsPartial V1 (as_read V1 (not r.agreed) r.held) → (fault : UnitFault) → IsFaulty V1 (not r.agreed) (r.held ++ taken) fault
       → fed r items wanting (taken ++ rest) ≡ feed stops router_byte (with_judged (taking r items wanting) (r.held ++ taken) (Faulty fault)) rest
   unfolding router_machine
   fault_taken part fault faulty = units.fault_taken router_machine (taking r items wanting) on taken rest fault part faulty

@@ -7,6 +7,7 @@ use Rattle.std.specs.Str.{chars, is_utf8}
 use Rattle.prefixes.specs.Payload.{Payload}
 use Rattle.vrps.specs.VrpSet.{VrpSet, empty, has, set_of, size, without}
 use Rattle.vrps.proofs.SetLaws.{same_set, has-empty, has-union, has-without, size-set_of}
+use Rattle.rtr_pdu.specs.declared.version.Version.TheVariants.{V1}
 use Rattle.rtr_pdu.specs.Judging.{Judgement, Begins, Whole, Faulty, judge}
 use Rattle.rtr_pdu.specs.Payloads.{Key, Report}
 use Rattle.rtr_pdu.specs.Stream.{as_read}
@@ -575,7 +576,7 @@ begun_so (Faulty fault) h = false_true h
 -- Behind the bytes held, each of these leaves the beginning of a unit.
 abbrev all_begin : Bool → List ℕ → List ℕ → Bool
 all_begin any held [] = true
-all_begin any held (b ∷ bytes) = is_begun (judge 1 any (held ++ b ∷ [])) && all_begin any (held ++ b ∷ []) bytes
+all_begin any held (b ∷ bytes) = is_begun (judge V1 any (held ++ b ∷ [])) && all_begin any (held ++ b ∷ []) bytes
 
 abbrev holding : Receiving → List ℕ → Receiving
 holding m held = record m { router = record m.router { held = held } }
@@ -583,7 +584,7 @@ holding m held = record m { router = record m.router { held = held } }
 abbrev fed : Receiving → List ℕ → Fed Receiving
 fed m piece = feed (λ n. router_stops n.router) router_byte m piece
 
-begins_at : (m : Receiving) (b : ℕ) → judge 1 (not m.router.agreed) (m.router.held ++ b ∷ []) ≡ Begins → router_byte m b ≡ holding m (m.router.held ++ b ∷ [])
+begins_at : (m : Receiving) (b : ℕ) → judge V1 (not m.router.agreed) (m.router.held ++ b ∷ []) ≡ Begins → router_byte m b ≡ holding m (m.router.held ++ b ∷ [])
 unfolding router_byte
 begins_at m b h = ap (λ j. with_judged m (m.router.held ++ b ∷ []) j) h
 
@@ -593,7 +594,7 @@ are_held : (m : Receiving) (bytes : List ℕ) (k : ℕ) → router_stops m.route
 are_held m bytes zero on h = λ i. record { machine = holding m (sym (append-nil m.router.held) i); rest = [] }
 are_held m [] (suc k) on h = λ i. record { machine = holding m (sym (append-nil m.router.held) i); rest = [] }
 are_held m (b ∷ bytes) (suc k) on h =
-    let parts = and_parts (is_begun (judge 1 (not m.router.agreed) (m.router.held ++ b ∷ []))) (all_begin (not m.router.agreed) (m.router.held ++ b ∷ []) bytes) h in
+    let parts = and_parts (is_begun (judge V1 (not m.router.agreed) (m.router.held ++ b ∷ []))) (all_begin (not m.router.agreed) (m.router.held ++ b ∷ []) bytes) h in
     let next : Receiving = holding m (m.router.held ++ b ∷ []) in
     feed_on (λ n. router_stops n.router) router_byte m next (b ∷ []) (take k bytes)
     (λ i. elim (on i) [ true ↦ record { machine = m; rest = b ∷ [] } | false ↦ record { machine = begins_at m b (begun_so _ parts.0) i; rest = [] } ])

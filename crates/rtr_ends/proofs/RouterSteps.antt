@@ -5,6 +5,7 @@ use Rattle.std.proofs.Common.{sym, ap, ◌∙◌, subst, inl, inr}
 use Rattle.std.proofs.Math.Bool.{and-false}
 use Rattle.std.proofs.lemmas.Bool.{and_parts}
 use Rattle.vrps.specs.VrpSet.{VrpSet}
+use Rattle.rtr_pdu.specs.declared.version.Version.TheVariants.{V1}
 use Rattle.rtr_pdu.specs.Judging.{Whole, Faulty}
 use Rattle.rtr_pdu.specs.Reader as reader
 use Rattle.rtr_pdu.specs.Reader.{Reader, IsReader, after_agreed, fresh}
@@ -150,21 +151,21 @@ wanted_shifted : (w : Option ℕ) (f : Fed Receiving) → IsWanting w f → IsWa
 wanted_shifted None f h = tt
 wanted_shifted (Some unit) f h = h
 
-module _ (old : code.Router) (piece rest : List ℕ) (takes : (is_reading (seen_link old.machine.state [] []) && is_none old.machine.out) ≡ true) (is_reader : IsReader old.reader) where
+module _ (old : code.Router) (piece rest : List ℕ) (takes : (is_reading (seen_link old.machine.state [] []) && is_none old.machine.out) ≡ true) (is_reader : IsReader V1 old.reader) where
   on : (r : Router) → IsShown r old → router_stops r ≡ false
   on r s = stops_of old.machine r s.machine ∙ ap not takes
 
   reads_so : (r : Router) (s : IsShown r old) → old.reader ≡ reading r.agreed r.held
   reads_so r s = s.reader (reads_of r (on r s))
 
-  part_so : (r : Router) (s : IsShown r old) → IsPartial 1 (as_read 1 (not r.agreed) r.held)
-  part_so r s = let h : IsReader (reading r.agreed r.held) = subst (λ x. IsReader x) (reads_so r s) is_reader in h
+  part_so : (r : Router) (s : IsShown r old) → IsPartial V1 (as_read V1 (not r.agreed) r.held)
+  part_so r s = let h : IsReader V1 (reading r.agreed r.held) = subst (λ x. IsReader V1 x) (reads_so r s) is_reader in h
 
-  takes_so : (answer : Next) (new : Reader) (r : Router) (s : IsShown r old) → reader.Takes old.reader piece answer rest new → reader.Takes (reading r.agreed r.held) piece answer rest new
-  takes_so answer new r s t = subst (λ x. reader.Takes x piece answer rest new) (reads_so r s) t
+  takes_so : (answer : Next) (new : Reader) (r : Router) (s : IsShown r old) → reader.Takes V1 old.reader piece answer rest new → reader.Takes V1 (reading r.agreed r.held) piece answer rest new
+  takes_so answer new r s t = subst (λ x. reader.Takes V1 x piece answer rest new) (reads_so r s) t
 
   -- a unit
-  module _ (u : Unit) (new : Reader) (t : reader.Takes old.reader piece (next.Unit u) rest new) (m : Machine) where
+  module _ (u : Unit) (new : Reader) (t : reader.Takes V1 old.reader piece (next.Unit u) rest new) (m : Machine) where
     abbrev agreed_reader : Reader
     agreed_reader = if m.agreed then after_agreed new else new
 
@@ -237,7 +238,7 @@ module _ (old : code.Router) (piece rest : List ℕ) (takes : (is_reading (seen_
             )
 
   -- more is asked for
-  pub more_goes : (new : Reader) → reader.Takes old.reader piece next.NeedMore rest new → Takes false old piece (record old { reader = new }) rest
+  pub more_goes : (new : Reader) → reader.Takes V1 old.reader piece next.NeedMore rest new → Takes false old piece (record old { reader = new }) rest
   more_goes new t = (None, λ r s. (held_so r s, shown_held r s, ends r s))
     where
       held_so : (r : Router) → IsShown r old → Router
@@ -258,7 +259,7 @@ module _ (old : code.Router) (piece rest : List ℕ) (takes : (is_reading (seen_
           record { router_is = ap (λ f. f.machine.router) whole; rest_is = ap (λ f. f.rest) whole ∙ sym x.gives.2; wanted = tt }
 
   -- a fault
-  pub fault_goes : (fault : UnitFault) (new : Reader) (bytes : List ℕ) (m : Machine) → reader.Takes old.reader piece (next.Fault fault) rest new → bytes ≡ new.held → Does (λ r. (breaks fault bytes r).router) old.machine m
+  pub fault_goes : (fault : UnitFault) (new : Reader) (bytes : List ℕ) (m : Machine) → reader.Takes V1 old.reader piece (next.Fault fault) rest new → bytes ≡ new.held → Does (λ r. (breaks fault bytes r).router) old.machine m
       → Takes false old piece (record { machine = m; reader = new }) rest
   fault_goes fault new bytes m t is does = (None, λ r s. ((breaks fault bytes r).router, shown_broken r s, ends r s))
     where

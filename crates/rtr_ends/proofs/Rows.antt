@@ -6,6 +6,7 @@ use Rattle.prefixes.specs.declared.prefix.IpPrefix.TheVariants.{V4, V6}
 use Rattle.vrps.specs.Instance.{Instance, IsInstance}
 use Rattle.vrps.specs.VrpSet.{VrpSet, set_of, empty}
 use Rattle.vrps.proofs.SetLaws.{listing-set_of, listing-without-set_of}
+use Rattle.rtr_pdu.specs.declared.version.Version.TheVariants.{V1}
 use Rattle.rtr_pdu.specs.Unit.{Reads, zeros}
 use Rattle.rtr_pdu.specs.declared.unit.Unit.{Unit}
 use Rattle.rtr_pdu.specs.declared.unit.Unit.TheVariants.{SerialQuery, ResetQuery, CacheReset, Prefix}
@@ -207,5 +208,5 @@ two_queries is = (
     stays : IsLater (cache 5 []) (cache 5 [])
     stays = record { session = refl; start = refl; more = []; sets = refl }
 
-    reads : Reads 1 ResetQuery reset_bytes
+    reads : Reads V1 ResetQuery reset_bytes
     reads = record { fits = tt; ignored = zeros; bits = record { header = omega arith; flags = omega arith; byte = omega arith }; bytes_are = refl }

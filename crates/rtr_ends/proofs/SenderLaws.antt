@@ -12,6 +12,7 @@ use Rattle.vrps.specs.Instance.{Version}
 use Rattle.vrps.specs.VrpSet.{VrpSet, listing}
 use Rattle.vrps.specs.declared.change.Change.{Change}
 use Rattle.vrps.specs.declared.serial.Serial.{Serial}
+use Rattle.rtr_pdu.specs.declared.version.Version.TheVariants.{V1}
 use Rattle.rtr_pdu.specs.declared.unit.Unit.{Unit}
 use Rattle.rtr_pdu.specs.declared.unit.Unit.TheVariants.{CacheResponse, EndOfData, Prefix, ResetQuery}
 use Rattle.rtr_pdu.specs.Unit.{IsUnit}
@@ -34,12 +35,12 @@ both_none (x ∷ xs) ys e = absurd (let h : x ∷ (xs ++ ys) ≡ [] = e in cc)
 -- units have bytes
 none_sent : (units : List Unit) → sent_all units ≡ [] → units ≡ []
 none_sent [] e = refl
-none_sent (u ∷ units) e = absurd (some_sent 1 u (both_none (sent u) (sent_all units) e).0)
+none_sent (u ∷ units) e = absurd (some_sent V1 u (both_none (sent u) (sent_all units) e).0)
 
 -- Of a unit at most 4,096 bytes are ready.
 pub unit_ready : (s : Sender) (u : Unit) → IsUnit u → s.pulled ≡ 0 → s.buffer.items ≡ sent u → ready_in s ≤ 4096
 unfolding ready_in
-unit_ready s u fits start bytes = let is : drop s.pulled s.buffer.items ≡ sent u = λ i. drop (start i) (bytes i) in omega (arith, ap length is, sent_most 1 u fits)
+unit_ready s u fits start bytes = let is : drop s.pulled s.buffer.items ≡ sent u = λ i. drop (start i) (bytes i) in omega (arith, ap length is, sent_most V1 u fits)
 
 -- an answer under way has bytes
 some_left : (units : List Unit) (session serial : ℕ) (t : Intervals) → is_none (sent_all (units ++ EndOfData session serial t.refresh t.retry t.expire ∷ [])) ≡ false

@@ -9,6 +9,7 @@ use Rattle.vrps.specs.Instance.{Instance, IsInstance}
 use Rattle.vrps.specs.Store.{is_current, published}
 use Rattle.vrps.specs.VrpSet.{VrpSet}
 use Rattle.vrps.proofs.VersionLaws.{published_is_instance}
+use Rattle.rtr_pdu.specs.declared.version.Version.TheVariants.{V1}
 use Rattle.rtr_pdu.specs.Judging.{Judgement, Begins, Whole, Faulty, judge, unit_in}
 use Rattle.rtr_pdu.specs.Payloads.{AreBytes}
 use Rattle.rtr_pdu.specs.Stream.{as_read, IsPartial, IsShortest, Shows}
@@ -29,7 +30,7 @@ use Rattle.rtr_ends.proofs.HistoryLaws.{pulled_are_replies}
 use Rattle.rtr_ends.proofs.TableLaws.{false_true}
 
 -- at a cache bytes are read as they stand
-as_they_stand : (bytes : List ℕ) → as_read 1 false bytes ≡ bytes
+as_they_stand : (bytes : List ℕ) → as_read V1 false bytes ≡ bytes
 unfolding as_read
 as_they_stand bytes = refl
 
@@ -101,16 +102,16 @@ module _ (keep : ℕ) (t : Intervals) where
   holds_none : (c : Connection) → MayHold c []
   holds_none c = by_end c.ended
     where
-      by_end : (b : Bool) → MatchBool b (◌≡◌ {A = List ℕ} [] []) (IsPartial 1 [] × ((◌≡◌ {A = List ℕ} [] []) ⊎ ((c.due ≡ []) ⊎ (c.notified ≡ true))))
+      by_end : (b : Bool) → MatchBool b (◌≡◌ {A = List ℕ} [] []) (IsPartial V1 [] × ((◌≡◌ {A = List ℕ} [] []) ⊎ ((c.due ≡ []) ⊎ (c.notified ≡ true))))
       by_end true = refl
-      by_end false = (subst (λ x. IsPartial 1 x) (as_they_stand []) (partial_empty false), inl refl)
+      by_end false = (subst (λ x. IsPartial V1 x) (as_they_stand []) (partial_empty V1 false), inl refl)
 
   -- what is held on a connection that goes on is the beginning of a unit
-  holds_part : (c : Connection) (held : List ℕ) → c.ended ≡ false → MayHold c held → IsPartial 1 held
-  holds_part c held is h = (subst (λ b. MatchBool b (held ≡ []) (IsPartial 1 held × ((held ≡ []) ⊎ ((c.due ≡ []) ⊎ (c.notified ≡ true))))) is h).0
+  holds_part : (c : Connection) (held : List ℕ) → c.ended ≡ false → MayHold c held → IsPartial V1 held
+  holds_part c held is h = (subst (λ b. MatchBool b (held ≡ []) (IsPartial V1 held × ((held ≡ []) ⊎ ((c.due ≡ []) ⊎ (c.notified ≡ true))))) is h).0
 
-  holds_open : (c : Connection) (held : List ℕ) → c.ended ≡ false → IsPartial 1 held → (held ≡ []) ⊎ ((c.due ≡ []) ⊎ (c.notified ≡ true)) → MayHold c held
-  holds_open c held is part h = subst (λ b. MatchBool b (held ≡ []) (IsPartial 1 held × ((held ≡ []) ⊎ ((c.due ≡ []) ⊎ (c.notified ≡ true))))) (sym is) (part, h)
+  holds_open : (c : Connection) (held : List ℕ) → c.ended ≡ false → IsPartial V1 held → (held ≡ []) ⊎ ((c.due ≡ []) ⊎ (c.notified ≡ true)) → MayHold c held
+  holds_open c held is part h = subst (λ b. MatchBool b (held ≡ []) (IsPartial V1 held × ((held ≡ []) ⊎ ((c.due ≡ []) ⊎ (c.notified ≡ true))))) (sym is) (part, h)
 
   module _ (opened_at : Instance) where
     -- a moment that the last of these bytes brings
@@ -152,7 +153,7 @@ module _ (keep : ℕ) (t : Intervals) where
 
       stands_byte : (m : Taking) (b : ℕ) (came : List ℕ) → b < 256 → conn_stops m.conn ≡ false → Stands i before m came given → Stands i before (conn_byte keep t i m b) (came ++ b ∷ []) given
       unfolding conn_byte
-      stands_byte m b came byte runs s = by_case (judge_case 1 false bytes)
+      stands_byte m b came byte runs s = by_case (judge_case V1 false bytes)
         where
           bytes : List ℕ
           bytes = m.conn.held ++ b ∷ []
@@ -167,16 +168,16 @@ module _ (keep : ℕ) (t : Intervals) where
           at_rest : m.conn.state.due ≡ []
           at_rest = none m.conn.state.due tests.1
 
-          part : IsPartial 1 (as_read 1 false m.conn.held)
-          part = subst (λ x. IsPartial 1 x) (sym (as_they_stand m.conn.held)) (holds_part m.conn.state m.conn.held tests.0 s.goes.holds)
+          part : IsPartial V1 (as_read V1 false m.conn.held)
+          part = subst (λ x. IsPartial V1 x) (sym (as_they_stand m.conn.held)) (holds_part m.conn.state m.conn.held tests.0 s.goes.holds)
 
           each : AreBytes bytes
           each = more_bytes m.conn.held b s.goes.bytes byte
 
-          shortest : IsShortest 1 false bytes
-          shortest = next_shortest 1 false m.conn.held b part
+          shortest : IsShortest V1 false bytes
+          shortest = next_shortest V1 false m.conn.held b part
 
-          begins : judge 1 false bytes ≡ Begins → IsPartial 1 bytes → Stands i before (next m b Begins) (came ++ b ∷ []) given
+          begins : judge V1 false bytes ≡ Begins → IsPartial V1 bytes → Stands i before (next m b Begins) (came ++ b ∷ []) given
           begins j partial = record {
             goes = record {
               used = s.goes.used;
@@ -190,12 +191,12 @@ module _ (keep : ℕ) (t : Intervals) where
             later = s.later;
           }
 
-          shows : (fault : UnitFault) → Shows 1 bytes fault → Stands i before (next m b (Faulty fault)) (came ++ b ∷ []) given
+          shows : (fault : UnitFault) → Shows V1 bytes fault → Stands i before (next m b (Faulty fault)) (came ++ b ∷ []) given
           shows fault h =
               stands_moment m b came (Faulty fault) (Fault fault bytes) refl
               (tests.0, at_rest, s.goes.cache, same_later m.conn.state.cache, (h, shortest)) refl refl s.goes.cache s.later s
 
-          reads : (u : Unit) → Reads 1 u bytes → Stands i before (next m b (Whole u)) (came ++ b ∷ []) given
+          reads : (u : Unit) → Reads V1 u bytes → Stands i before (next m b (Whole u)) (came ++ b ∷ []) given
           reads u h = by_memory (takes_memory i u && not (finds_memory m.wanting)) refl
             where
               by_memory : (w : Bool) → (takes_memory i u && not (finds_memory m.wanting)) ≡ w → Stands i before (next m b (Whole u)) (came ++ b ∷ []) given
@@ -206,17 +207,17 @@ module _ (keep : ℕ) (t : Intervals) where
                   stands_moment m b came (Whole u) (Read i u bytes) (ap (λ x. Some (if x then Wanting i u bytes else Read i u bytes)) e)
                   (tests.0, at_rest, is, s.later, h) refl refl is (same_later i) s
 
-          so : (j : Judgement) → judge 1 false bytes ≡ j → Stands i before (next m b j) (came ++ b ∷ []) given → Stands i before (next m b (judge 1 false bytes)) (came ++ b ∷ []) given
+          so : (j : Judgement) → judge V1 false bytes ≡ j → Stands i before (next m b j) (came ++ b ∷ []) given → Stands i before (next m b (judge V1 false bytes)) (came ++ b ∷ []) given
           so j e h = subst (λ x. Stands i before (next m b x) (came ++ b ∷ []) given) (sym e) h
 
-          by_case : judging.Case 1 (as_read 1 false bytes) (judge 1 false bytes) → Stands i before (next m b (judge 1 false bytes)) (came ++ b ∷ []) given
-          by_case (judging.begins e partial) = so Begins e (begins e (subst (λ x. IsPartial 1 x) (as_they_stand bytes) partial))
-          by_case (judging.shows fault e h) = so (Faulty fault) e (shows fault (subst (λ x. Shows 1 x fault) (as_they_stand bytes) h))
+          by_case : judging.Case V1 (as_read V1 false bytes) (judge V1 false bytes) → Stands i before (next m b (judge V1 false bytes)) (came ++ b ∷ []) given
+          by_case (judging.begins e partial) = so Begins e (begins e (subst (λ x. IsPartial V1 x) (as_they_stand bytes) partial))
+          by_case (judging.shows fault e h) = so (Faulty fault) e (shows fault (subst (λ x. Shows V1 x fault) (as_they_stand bytes) h))
           by_case (judging.whole e w sound) =
-              let u : Unit = unit_in (as_read 1 false bytes) in
-              so (Whole (unit_in (as_read 1 false bytes))) e
-              (reads (unit_in (as_read 1 false bytes)) (subst (λ x. Reads 1 (unit_in (as_read 1 false bytes)) x) (as_they_stand bytes)
-              ((whole_exactly 1 false bytes (unit_in (as_read 1 false bytes)) (omega arith) each (next_size 1 false m.conn.held b part w)).0 e)))
+              let u : Unit = unit_in V1 (as_read V1 false bytes) in
+              so (Whole (unit_in V1 (as_read V1 false bytes))) e
+              (reads (unit_in V1 (as_read V1 false bytes)) (subst (λ x. Reads V1 (unit_in V1 (as_read V1 false bytes)) x) (as_they_stand bytes)
+              ((whole_exactly V1 false bytes (unit_in V1 (as_read V1 false bytes)) each (next_size V1 false m.conn.held b part w)).0 e)))
 
       -- a piece, byte by byte
       abbrev step : Taking → ℕ → Taking
@@ -278,7 +279,7 @@ module _ (keep : ℕ) (t : Intervals) where
         still : (count : ℕ) (c : Connection) (held : List ℕ) → MayHold c held → MayHold (record c { due = drop count c.due }) held
         still count c held h = by_end c.ended h
           where
-            by_end : (b : Bool) → MatchBool b (held ≡ []) (IsPartial 1 held × ((held ≡ []) ⊎ ((c.due ≡ []) ⊎ (c.notified ≡ true)))) → MatchBool b (held ≡ []) (IsPartial 1 held × ((held ≡ []) ⊎ ((drop count c.due ≡ []) ⊎ (c.notified ≡ true))))
+            by_end : (b : Bool) → MatchBool b (held ≡ []) (IsPartial V1 held × ((held ≡ []) ⊎ ((c.due ≡ []) ⊎ (c.notified ≡ true)))) → MatchBool b (held ≡ []) (IsPartial V1 held × ((held ≡ []) ⊎ ((drop count c.due ≡ []) ⊎ (c.notified ≡ true))))
             by_end true h = h
             by_end false h = (h.0, rests count c held h.1)
 

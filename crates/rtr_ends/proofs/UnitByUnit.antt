@@ -3,6 +3,7 @@
 use Rattle.std.specs.Prelude.{◌≡◌, ℕ, Bool, true, false, List, [], ◌∷◌, ◌++◌, refl}
 use Rattle.std.proofs.Common.{sym, ap, ◌∙◌, subst, arith, append_assoc}
 use Rattle.std.proofs.lemmas.List.{append-nil, length-append}
+use Rattle.rtr_pdu.specs.declared.version.Version.TheVariants.{V1}
 use Rattle.rtr_pdu.specs.Judging.{Judgement, Begins, Whole, Faulty, judge}
 use Rattle.rtr_pdu.specs.Reader.{IsFaulty, IsRead}
 use Rattle.rtr_pdu.specs.Stream.{IsPartial, IsShortest, as_read}
@@ -25,7 +26,7 @@ pub record ByteMachine (M : Type 0) : Type 0 where
   pub own : (m : M) → holding m (held m) ≡ m
   pub same_stop : (m : M) (bytes : List ℕ) → stops (holding m bytes) ≡ stops m
   pub begun : (m : M) (bytes more : List ℕ) → judged (holding m bytes) more Begins ≡ holding m more
-  pub byte : (m : M) (bytes : List ℕ) (b : ℕ) → step (holding m bytes) b ≡ judged (holding m bytes) (bytes ++ b ∷ []) (judge 1 (any m) (bytes ++ b ∷ []))
+  pub byte : (m : M) (bytes : List ℕ) (b : ℕ) → step (holding m bytes) b ≡ judged (holding m bytes) (bytes ++ b ∷ []) (judge V1 (any m) (bytes ++ b ∷ []))
 
 -- all of a list but its last
 abbrev pub but_last : List ℕ → List ℕ
@@ -53,7 +54,7 @@ module _ {M : Type 0} (w : ByteMachine M) where
 
   module _ (m : M) (on : w.stops m ≡ false) where
     -- one byte
-    byte_taken : (held : List ℕ) (b : ℕ) (piece : List ℕ) (j : Judgement) → judge 1 (w.any m) (held ++ b ∷ []) ≡ j
+    byte_taken : (held : List ℕ) (b : ℕ) (piece : List ℕ) (j : Judgement) → judge V1 (w.any m) (held ++ b ∷ []) ≡ j
         → fed (w.holding m held) (b ∷ piece) ≡ fed (w.judged (w.holding m held) (held ++ b ∷ []) j) piece
     byte_taken held b piece j is =
         goes_on w.stops w.step (w.holding m held) b piece (w.same_stop m held ∙ on)
@@ -61,7 +62,7 @@ module _ {M : Type 0} (w : ByteMachine M) where
 
     -- Behind these bytes each beginning of those is one of a unit.
     abbrev AllBegin : List ℕ → List ℕ → Type 0
-    AllBegin held front = (x y : List ℕ) → front ≡ x ++ y → judge 1 (w.any m) (held ++ x) ≡ Begins
+    AllBegin held front = (x y : List ℕ) → front ≡ x ++ y → judge V1 (w.any m) (held ++ x) ≡ Begins
 
     -- Such bytes are held.
     begin_held : (held front rest : List ℕ) → AllBegin held front → fed (w.holding m held) (front ++ rest) ≡ fed (w.holding m (held ++ front)) rest
@@ -69,25 +70,25 @@ module _ {M : Type 0} (w : ByteMachine M) where
     begin_held held (b ∷ front) rest all =
         byte_taken held b (front ++ rest) Begins (all (b ∷ []) front refl)
         ∙ ap (λ n. fed n (front ++ rest)) (w.begun m held (held ++ b ∷ []))
-        ∙ begin_held (held ++ b ∷ []) front rest (λ x y e. ap (judge 1 (w.any m)) (append_assoc held (b ∷ []) x) ∙ all (b ∷ x) y (ap (λ z. b ∷ z) e))
+        ∙ begin_held (held ++ b ∷ []) front rest (λ x y e. ap (judge V1 (w.any m)) (append_assoc held (b ∷ []) x) ∙ all (b ∷ x) y (ap (λ z. b ∷ z) e))
         ∙ ap (λ h. fed (w.holding m h) rest) (append_assoc held (b ∷ []) front)
 
     -- what comes before a byte of shortest bytes begins
-    fronts_begin : (held front : List ℕ) (b : ℕ) → IsShortest 1 (w.any m) ((held ++ front) ++ b ∷ []) → AllBegin held front
+    fronts_begin : (held front : List ℕ) (b : ℕ) → IsShortest V1 (w.any m) ((held ++ front) ++ b ∷ []) → AllBegin held front
     fronts_begin held front b shortest x y e =
-        (begins_exactly 1 (w.any m) (held ++ x)).1
+        (begins_exactly V1 (w.any m) (held ++ x)).1
         (shortest (held ++ x) (y ++ b ∷ []) (ap (λ z. (held ++ z) ++ b ∷ []) e ∙ ap (λ z. z ++ b ∷ []) (sym (append_assoc held x y)) ∙ append_assoc (held ++ x) y (b ∷ [])) (omega (arith, length-append y (b ∷ []))))
 
     -- The beginning of a unit is held,
-    pub more_taken : (taken rest : List ℕ) → IsPartial 1 (as_read 1 (w.any m) (w.held m ++ taken)) → fed m (taken ++ rest) ≡ fed (w.holding m (w.held m ++ taken)) rest
+    pub more_taken : (taken rest : List ℕ) → IsPartial V1 (as_read V1 (w.any m) (w.held m ++ taken)) → fed m (taken ++ rest) ≡ fed (w.holding m (w.held m ++ taken)) rest
     more_taken taken rest part =
-        ap (λ n. fed n (taken ++ rest)) (sym (w.own m)) ∙ begin_held (w.held m) taken rest (fronts_begin (w.held m) taken 0 (next_shortest 1 (w.any m) (w.held m ++ taken) 0 part))
+        ap (λ n. fed n (taken ++ rest)) (sym (w.own m)) ∙ begin_held (w.held m) taken rest (fronts_begin (w.held m) taken 0 (next_shortest V1 (w.any m) (w.held m ++ taken) 0 part))
 
     -- and where bytes are judged otherwise, and none before them are, they are taken to the last.
-    shown_taken : (taken rest : List ℕ) (j : Judgement) → IsPartial 1 (as_read 1 (w.any m) (w.held m)) → (j ≡ Begins → ⊥) → IsShortest 1 (w.any m) (w.held m ++ taken) → judge 1 (w.any m) (w.held m ++ taken) ≡ j
+    shown_taken : (taken rest : List ℕ) (j : Judgement) → IsPartial V1 (as_read V1 (w.any m) (w.held m)) → (j ≡ Begins → ⊥) → IsShortest V1 (w.any m) (w.held m ++ taken) → judge V1 (w.any m) (w.held m ++ taken) ≡ j
         → fed m (taken ++ rest) ≡ fed (w.judged (w.holding m (w.held m ++ but_last taken)) (w.held m ++ taken) j) rest
     shown_taken [] rest j part other shortest is =
-        absurd (other (sym is ∙ ap (judge 1 (w.any m)) (append-nil (w.held m)) ∙ (begins_exactly 1 (w.any m) (w.held m)).1 part))
+        absurd (other (sym is ∙ ap (judge V1 (w.any m)) (append-nil (w.held m)) ∙ (begins_exactly V1 (w.any m) (w.held m)).1 part))
     shown_taken (c ∷ taken) rest j part other shortest is =
         let front : List ℕ = but_last (c ∷ taken) in
         let b : ℕ = last_or c taken in
@@ -96,8 +97,8 @@ module _ {M : Type 0} (w : ByteMachine M) where
         ap (λ n. fed n (c ∷ taken ++ rest)) (sym (w.own m))
         ∙ ap (λ z. fed (w.holding m (w.held m)) (z ++ rest)) cut
         ∙ ap (fed (w.holding m (w.held m))) (append_assoc (but_last (c ∷ taken)) (last_or c taken ∷ []) rest)
-        ∙ begin_held (w.held m) (but_last (c ∷ taken)) (last_or c taken ∷ rest) (fronts_begin (w.held m) (but_last (c ∷ taken)) (last_or c taken) (subst (IsShortest 1 (w.any m)) whole shortest))
-        ∙ byte_taken (w.held m ++ but_last (c ∷ taken)) (last_or c taken) rest j (ap (judge 1 (w.any m)) (sym whole) ∙ is)
+        ∙ begin_held (w.held m) (but_last (c ∷ taken)) (last_or c taken ∷ rest) (fronts_begin (w.held m) (but_last (c ∷ taken)) (last_or c taken) (subst (IsShortest V1 (w.any m)) whole shortest))
+        ∙ byte_taken (w.held m ++ but_last (c ∷ taken)) (last_or c taken) rest j (ap (judge V1 (w.any m)) (sym whole) ∙ is)
         ∙ ap (λ z. fed (w.judged (w.holding m (w.held m ++ but_last (c ∷ taken))) z j) rest) (sym whole)
 
     not_unit : (u : Unit) → Whole u ≡ Begins → ⊥
@@ -107,13 +108,13 @@ module _ {M : Type 0} (w : ByteMachine M) where
     not_fault fault e = cc
 
     -- So is a unit,
-    pub unit_taken : (taken rest : List ℕ) (u : Unit) → IsPartial 1 (as_read 1 (w.any m) (w.held m)) → IsRead (w.any m) (w.held m ++ taken) u
+    pub unit_taken : (taken rest : List ℕ) (u : Unit) → IsPartial V1 (as_read V1 (w.any m) (w.held m)) → IsRead V1 (w.any m) (w.held m ++ taken) u
         → fed m (taken ++ rest) ≡ fed (w.judged (w.holding m (w.held m ++ but_last taken)) (w.held m ++ taken) (Whole u)) rest
     unit_taken taken rest u part read =
-        shown_taken taken rest (Whole u) part (not_unit u) read.shortest (reads_judged 1 (w.any m) (w.held m ++ taken) u read.reads)
+        shown_taken taken rest (Whole u) part (not_unit u) read.shortest (reads_judged V1 (w.any m) (w.held m ++ taken) u read.reads)
 
     -- and so are bytes that show a fault.
-    pub fault_taken : (taken rest : List ℕ) (fault : UnitFault) → IsPartial 1 (as_read 1 (w.any m) (w.held m)) → IsFaulty (w.any m) (w.held m ++ taken) fault
+    pub fault_taken : (taken rest : List ℕ) (fault : UnitFault) → IsPartial V1 (as_read V1 (w.any m) (w.held m)) → IsFaulty V1 (w.any m) (w.held m ++ taken) fault
         → fed m (taken ++ rest) ≡ fed (w.judged (w.holding m (w.held m ++ but_last taken)) (w.held m ++ taken) (Faulty fault)) rest
     fault_taken taken rest fault part faulty =
-        shown_taken taken rest (Faulty fault) part (not_fault fault) faulty.shortest (shows_judged 1 (w.any m) (w.held m ++ taken) fault faulty.shows)
+        shown_taken taken rest (Faulty fault) part (not_fault fault) faulty.shortest (shows_judged V1 (w.any m) (w.held m ++ taken) fault faulty.shows)

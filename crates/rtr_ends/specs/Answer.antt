@@ -4,6 +4,7 @@ use Rattle.std.specs.List.{flat_map}
 use Rattle.vrps.specs.Change.{between}
 use Rattle.vrps.specs.Instance.{Instance, Version, versions, with_serial}
 use Rattle.vrps.specs.VrpSet.{VrpSet, listing}
+use Rattle.rtr_pdu.specs.declared.version.Version.TheVariants.{V1}
 use Rattle.rtr_pdu.specs.Code.{CORRUPT_DATA, NO_DATA_AVAILABLE, INVALID_REQUEST}
 use Rattle.rtr_pdu.specs.Unit.{REPORT_ROOM, unit_bytes}
 use Rattle.rtr_pdu.specs.declared.unit.Unit.{Unit}
@@ -23,7 +24,7 @@ and_end units = record { units = units; goes_on = false }
 
 -- A unit as it is sent, in protocol version 1
 abbrev pub sent : Unit → List ℕ
-sent u = unit_bytes 1 u
+sent u = unit_bytes V1 u
 
 -- the bytes of units, one after the other
 abbrev pub sent_all : List Unit → List ℕ

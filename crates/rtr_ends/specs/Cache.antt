@@ -4,6 +4,7 @@ use Rattle.std.specs.List.{AllByRecursion}
 use Rattle.vrps.specs.Instance.{Instance, IsInstance}
 use Rattle.vrps.specs.Store.{published}
 use Rattle.vrps.specs.VrpSet.{VrpSet, IsVrpSet}
+use Rattle.rtr_pdu.specs.declared.version.Version.TheVariants.{V1}
 use Rattle.rtr_pdu.specs.Judging.{Judgement, Begins, Whole, Faulty, judge}
 use Rattle.rtr_pdu.specs.Payloads.{AreBytes}
 use Rattle.rtr_ends.specs.Connection.{Connection, Moment, Read, Wanting, Fault, Notify, Pull, IsHistory, opened, after, after_all, is_published, pulled, replies, takes_memory}
@@ -63,7 +64,7 @@ with_judged keep t i m bytes judgement =
 
 -- the next byte
 unfoldable pub conn_byte : ℕ → Intervals → Instance → Taking → ℕ → Taking
-conn_byte keep t i m b = with_judged keep t i m (m.conn.held ++ b ∷ []) (judge 1 false (m.conn.held ++ b ∷ []))
+conn_byte keep t i m b = with_judged keep t i m (m.conn.held ++ b ∷ []) (judge V1 false (m.conn.held ++ b ∷ []))
 
 -- A piece is handed in; memory is wanting at this unit of it, if at any.
 unfoldable pub conn_takes : ℕ → Intervals → Instance → Option ℕ → List ℕ → Conn → Fed Taking
@@ -141,7 +142,7 @@ ConnTakes =
 -- It stops only where a unit ends, or a fault shows.
 abbrev pub ConnStops : Type 0
 ConnStops =
-    (keep : ℕ) (t : Intervals) (i : Instance) (m : Taking) (b : ℕ) → judge 1 false (m.conn.held ++ b ∷ []) ≡ Begins →
+    (keep : ℕ) (t : Intervals) (i : Instance) (m : Taking) (b : ℕ) → judge V1 false (m.conn.held ++ b ∷ []) ≡ Begins →
     conn_stops (conn_byte keep t i m b).conn ≡ conn_stops m.conn
 
 -- What happened on a connection is its history: what came by it is what was consumed, what was pulled is what was given, and

@@ -2,6 +2,7 @@
 use Rattle.std.specs.Prelude.{◌≡◌, ◌⊎◌, ℕ, ◌≤◌, Bool, true, false, not, ◌||◌, ◌&&◌, ◌==◌, List, [], ◌∷◌, ◌++◌, length, take, drop, Option, IsTrue, MatchBool, if◌then◌else◌, ⊤}
 use Rattle.vrps.specs.Instance.{Instance, IsInstance, Version, versions}
 use Rattle.vrps.specs.VrpSet.{VrpSet}
+use Rattle.rtr_pdu.specs.declared.version.Version.TheVariants.{V1}
 use Rattle.rtr_pdu.specs.declared.kind.Kind.TheVariants as kinds
 use Rattle.rtr_pdu.specs.Code.{CORRUPT_DATA, INTERNAL_ERROR, UNSUPPORTED_VERSION, UNSUPPORTED_TYPE, UNEXPECTED_VERSION}
 use Rattle.rtr_pdu.specs.Stream.{IsPartial, IsShortest, Shows, Splits, is_of}
@@ -91,9 +92,9 @@ takes_memory i u = false
 
 -- A moment is what it says of its bytes and of the cache.
 abbrev pub IsMoment : Moment → Type 0
-IsMoment (Read cache unit bytes) = Reads 1 unit bytes
-IsMoment (Wanting cache unit bytes) = Reads 1 unit bytes × IsTrue (takes_memory cache unit)
-IsMoment (Fault fault bytes) = Shows 1 bytes fault × IsShortest 1 false bytes
+IsMoment (Read cache unit bytes) = Reads V1 unit bytes
+IsMoment (Wanting cache unit bytes) = Reads V1 unit bytes × IsTrue (takes_memory cache unit)
+IsMoment (Fault fault bytes) = Shows V1 bytes fault × IsShortest V1 false bytes
 IsMoment (Notify cache) = IsTrue (is_published cache)
 IsMoment (Pull count) = ⊤
 
@@ -148,7 +149,7 @@ after keep t c m =
 -- unit in which no fault shows. A notify may be due in the middle of a unit.
 abbrev pub MayHold : Connection → List ℕ → Type 0
 MayHold c bytes =
-    MatchBool c.ended (bytes ≡ []) (IsPartial 1 bytes × ((bytes ≡ []) ⊎ ((c.due ≡ []) ⊎ (c.notified ≡ true))))
+    MatchBool c.ended (bytes ≡ []) (IsPartial V1 bytes × ((bytes ≡ []) ⊎ ((c.due ≡ []) ⊎ (c.notified ≡ true))))
 
 -- These moments, in their order, are the history of a connection on which these bytes came: each may come where it stands, and
 -- the bytes are those that came by them and what may be left.
@@ -185,4 +186,4 @@ units_of (m ∷ later) = units_of later
 abbrev pub HistorySplits : Type 0
 HistorySplits =
     (keep : ℕ) (t : Intervals) (i : Instance) (moments : List Moment) (bytes : List ℕ) → IsHistory keep t (opened i) moments bytes →
-    (rest : List ℕ) × (fault : Option UnitFault) × Splits 1 false bytes (units_of moments) rest fault
+    (rest : List ℕ) × (fault : Option UnitFault) × Splits V1 false bytes (units_of moments) rest fault

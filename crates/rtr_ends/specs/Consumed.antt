@@ -1,6 +1,7 @@
 -- What a router consumed on its latest connection, and the split of it in its transcript (RFC 8210 sections 5, 7 and 12).
 use Rattle.std.specs.Prelude.{◌≡◌, ℕ, ◌-◌, true, List, [], ◌∷◌, ◌++◌, length, take, Option, Some, None, ⊤}
 use Rattle.std.specs.List.{AllByRecursion}
+use Rattle.rtr_pdu.specs.declared.version.Version.TheVariants.{V1}
 use Rattle.rtr_pdu.specs.Payloads.{AreBytes}
 use Rattle.rtr_pdu.specs.Stream.{Splits}
 use Rattle.rtr_pdu.specs.declared.unit.Unit.{Unit}
@@ -45,7 +46,7 @@ IsCall call = ⊤
 -- none shows, and what follows the units is held. A closed link holds nothing, and nothing is to be pulled from it.
 pub record IsSplit (r : Router) (items : List Item) (bytes : List ℕ) : Type 0 where
   pub rest : List ℕ
-  pub split : Splits 1 true bytes (units_in items) rest (fault_in items)
+  pub split : Splits V1 true bytes (units_in items) rest (fault_in items)
   pub held : is_reading r.link ≡ true → rest ≡ r.held
   pub sound : is_reading r.link ≡ true → fault_in items ≡ None
   pub none_held : is_closed r.link ≡ true → r.held ≡ []

@@ -3,6 +3,7 @@ use Rattle.std.specs.Prelude.{◌≡◌, ℕ, Bool, true, false, not, ◌&&◌, 
 use Rattle.prefixes.specs.Payload.{Payload}
 use Rattle.vrps.specs.Serial.{is_before}
 use Rattle.vrps.specs.VrpSet.{VrpSet, empty, has, size}
+use Rattle.rtr_pdu.specs.declared.version.Version.TheVariants.{V1}
 use Rattle.rtr_pdu.specs.declared.kind.Kind.TheVariants as kinds
 use Rattle.rtr_pdu.specs.Code.{CORRUPT_DATA, NO_DATA_AVAILABLE, UNKNOWN_WITHDRAWAL, DUPLICATE_ANNOUNCEMENT}
 use Rattle.rtr_pdu.specs.Judging.{Judgement, Begins, Whole, Faulty, judge}
@@ -210,7 +211,7 @@ with_judged m bytes judgement = with_read m judgement (with_bytes (finds_memory 
 
 -- The next byte. Until a version is agreed on, a notify of any version is read (section 7).
 unfoldable pub router_byte : Receiving → ℕ → Receiving
-router_byte m b = with_judged m (m.router.held ++ b ∷ []) (judge 1 (not m.router.agreed) (m.router.held ++ b ∷ []))
+router_byte m b = with_judged m (m.router.held ++ b ∷ []) (judge V1 (not m.router.agreed) (m.router.held ++ b ∷ []))
 
 -- The clock, judged first wherever a moment is told: what has expired is emptied. A Serial Query that is outstanding then ends the
 -- link (section 6).
@@ -312,7 +313,7 @@ RouterTakes =
 -- It stops only where a unit ends, or a fault shows.
 abbrev pub RouterStops : Type 0
 RouterStops =
-    (m : Receiving) (b : ℕ) → judge 1 (not m.router.agreed) (m.router.held ++ b ∷ []) ≡ Begins →
+    (m : Receiving) (b : ℕ) → judge V1 (not m.router.agreed) (m.router.held ++ b ∷ []) ≡ Begins →
     router_stops (router_byte m b).router ≡ router_stops m.router
 
 -- What the transcript says of a link with this agreement and session of its connection, over this table: a closed link has no

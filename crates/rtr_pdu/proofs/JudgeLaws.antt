@@ -8,6 +8,8 @@ use Rattle.std.proofs.lemmas.Str.{IsUtf8-from_is_utf8, is_utf8-from_IsUtf8}
 use Rattle.std.specs.Str.{IsUtf8, is_utf8}
 use Rattle.byteorder.specs.Endian.{big_number}
 use Rattle.byteorder.specs.Numbers.{big_from-append}
+use Rattle.rtr_pdu.specs.Version.{version_number}
+use Rattle.rtr_pdu.specs.declared.version.Version.{Version}
 use Rattle.rtr_pdu.specs.declared.unit.Unit.{Unit}
 use Rattle.rtr_pdu.specs.declared.unit.UnitFault.{UnitFault}
 use Rattle.rtr_pdu.specs.declared.unit.UnitFault.TheVariants as faults
@@ -76,8 +78,8 @@ pub false_true : {P : Type 0} → false ≡ true → P
 false_true h = absurd (let e : false ≡ true = h in cc)
 
 -- A type with a length of its own is one of the ten.
-pub kinds_of : (type len : ℕ) → has_length type len ≡ true → Kinds type len
-kinds_of type len h =
+pub kinds_of : (version : Version) (type len : ℕ) → has_length version type len ≡ true → Kinds type len
+kinds_of version type len h =
     one_of type 0 (len == 12) _ (λ k e. notify k (is_same len 12 e))
     (one_of type 1 (len == 12) _ (λ k e. query k (is_same len 12 e))
     (one_of type 2 (len == 8) _ (λ k e. reset_query k (is_same len 8 e))
@@ -108,11 +110,11 @@ only true h = refl
 only false h = h
 
 -- A type has one length, but for the two that have a least one.
-pub sized_of : (type len : ℕ) → is_type type ≡ true → has_length type len ≡ true → len ≤ 4096 → IsSized type len
-sized_of type len kind has most =
-    let tested : (k : ℕ) → type ≡ k → has_length k len ≡ true = λ k e. ap (λ t. has_length t len) (sym e) ∙ has in
+pub sized_of : (version : Version) (type len : ℕ) → is_type version type ≡ true → has_length version type len ≡ true → len ≤ 4096 → IsSized version type len
+sized_of version type len kind has most =
+    let tested : (k : ℕ) → type ≡ k → has_length version k len ≡ true = λ k e. ap (λ t. has_length version t len) (sym e) ∙ has in
     record {
-      eight = least_length type len (kinds_of type len has);
+      eight = least_length type len (kinds_of version type len has);
       most = most;
       known = kind;
       at_notify = λ e. is_same len 12 (only (len == 12) (tested 0 e));
@@ -169,8 +171,8 @@ record_decided width bytes =
     three (inl p) (inl q) (inr n) = inr (λ h. n h.2)
 
 -- whether an Error Report holds a report
-pub report_decided : (bytes : List ℕ) → Decided (IsReport bytes)
-report_decided bytes =
+pub report_decided : (version : Version) (bytes : List ℕ) → Decided (IsReport version bytes)
+report_decided version bytes =
     both_decided (same_decided (16 + number_at 4 8 bytes + number_at 4 (12 + number_at 4 8 bytes) bytes) (length_of bytes))
     (utf8_decided (take (number_at 4 (12 + number_at 4 8 bytes) bytes) (drop (16 + number_at 4 8 bytes) bytes)))
 
@@ -189,8 +191,8 @@ record_front width front more l h =
     (omega (arith, a, b, h.0), omega (arith, b, h.1), (λ i. sym n i % 2 ^ (width - sym a i)) ∙ h.2)
 
 -- a report in the whole is one in the front that has its length
-report_front : (front more : List ℕ) → 16 ≤ length front → length_of front ≤ length front → IsReport (front ++ more) → IsReport front
-report_front front more l size h =
+report_front : (version : Version) (front more : List ℕ) → 16 ≤ length front → length_of front ≤ length front → IsReport version (front ++ more) → IsReport version front
+report_front version front more l size h =
     let copy = number-append 4 8 front more (omega (arith, l)) in
     let len = length_of-append front more (omega (arith, l)) in
     let room : 12 + number_at 4 8 front + 4 ≤ length front = omega (arith, h.0, copy, len, size) in
@@ -210,17 +212,17 @@ pub none_some : (o : Option UnitFault) (fault : UnitFault) → o ≡ None → o 
 none_some o fault a b = let e : ◌≡◌ {A = Option UnitFault} None (Some fault) = sym a ∙ b in cc
 
 -- what a header without a fault tells
-pub record IsHeader (version : ℕ) (bytes : List ℕ) : Type 0 where
-  pub version_is : version_of bytes ≡ version
-  pub kind : is_type (type_of bytes) ≡ true
-  pub has : has_length (type_of bytes) (length_of bytes) ≡ true
+pub record IsHeader (version : Version) (bytes : List ℕ) : Type 0 where
+  pub version_is : version_of bytes ≡ version_number version
+  pub kind : is_type version (type_of bytes) ≡ true
+  pub has : has_length version (type_of bytes) (length_of bytes) ≡ true
   pub high : length_of bytes ≤ 4096
 
-module _ (version : ℕ) where
+module _ (version : Version) where
   pub is_header : (bytes : List ℕ) → 8 ≤ length bytes → header_fault version bytes ≡ None → IsHeader version bytes
   is_header bytes eight h =
-      let t = chain_none (nat_lt (length bytes) 8) (version_of bytes == version) (is_type (type_of bytes)) (has_length (type_of bytes) (length_of bytes)) (nat_lt 4096 (length_of bytes)) h (not_short (length bytes) eight) in
-      record { version_is = is_same (version_of bytes) version t.0; kind = t.1; has = t.2; high = is_most 4096 (length_of bytes) t.3 }
+      let t = chain_none (nat_lt (length bytes) 8) (version_of bytes == version_number version) (is_type version (type_of bytes)) (has_length version (type_of bytes) (length_of bytes)) (nat_lt 4096 (length_of bytes)) h (not_short (length bytes) eight) in
+      record { version_is = is_same (version_of bytes) (version_number version) t.0; kind = t.1; has = t.2; high = is_most 4096 (length_of bytes) t.3 }
 
   -- a header has no fault, or shows the one that it has
   abbrev HasFault : List ℕ → Type 0
@@ -235,7 +237,7 @@ module _ (version : ℕ) where
   header_cases bytes false true true true false h = inl h
 
   pub header_judged : (bytes : List ℕ) → (header_fault version bytes ≡ None) ⊎ HasFault bytes
-  header_judged bytes = header_cases bytes (nat_lt (length bytes) 8) (version_of bytes == version) (is_type (type_of bytes)) (has_length (type_of bytes) (length_of bytes)) (nat_lt 4096 (length_of bytes)) refl
+  header_judged bytes = header_cases bytes (nat_lt (length bytes) 8) (version_of bytes == version_number version) (is_type version (type_of bytes)) (has_length version (type_of bytes) (length_of bytes)) (nat_lt 4096 (length_of bytes)) refl
 
   -- A whole unit behind a header without a fault is read, or shows a fault.
   abbrev pub IsJudged : List ℕ → Type 0
@@ -263,7 +265,7 @@ module _ (version : ℕ) where
         | inr bad ↦ inl (faults.Record, (w, inr (k, bad)))
       ]
   unit_judged bytes each w size h (report k l) =
-      elim (report_decided bytes) [
+      elim (report_decided version bytes) [
         | inl good ↦ inr (_, reads_10 version bytes (record { each = each; version_is = h.version_is; type_is = k; size = size; eight = w.1 }) (omega (arith, size, l)) (omega (arith, size, h.high)) good)
         | inr bad ↦ inl (faults.ErrorReport, (w, k, bad))
       ]
@@ -271,7 +273,7 @@ module _ (version : ℕ) where
   pub judged : (bytes : List ℕ) → AreBytes bytes → IsWhole version bytes → length bytes ≡ length_of bytes → IsJudged bytes
   judged bytes each w size =
       let h = is_header bytes w.1 w.0 in
-      unit_judged bytes each w size h (kinds_of (type_of bytes) (length_of bytes) h.has)
+      unit_judged bytes each w size h (kinds_of version (type_of bytes) (length_of bytes) h.has)
 
   -- A front of 8 bytes or more has the header of the whole.
   pub header_fault-append : (front more : List ℕ) → 8 ≤ length front → header_fault version (front ++ more) ≡ header_fault version front
@@ -279,19 +281,19 @@ module _ (version : ℕ) where
       let long : 8 ≤ length (front ++ more) = omega (arith, length-append front more, h) in
       let short = not_short (length (front ++ more)) long ∙ sym (not_short (length front) h) in
       let first = get_or_append_left front more 0 0 (omega (arith, h)) in
-      λ i. chain (short i) (first i == version) (is_type (type_of-append front more h i)) (has_length (type_of-append front more h i) (length_of-append front more h i)) (nat_lt 4096 (length_of-append front more h i))
+      λ i. chain (short i) (first i == version_number version) (is_type version (type_of-append front more h i)) (has_length version (type_of-append front more h i) (length_of-append front more h i)) (nat_lt 4096 (length_of-append front more h i))
 
   pub short_none : (bytes : List ℕ) → length bytes < 8 → header_fault version bytes ≡ None
   short_none bytes h =
       let short : nat_lt (length bytes) 8 ≡ true = grind (arith, nat_tests) in
-      ap (λ b. chain b (version_of bytes == version) (is_type (type_of bytes)) (has_length (type_of bytes) (length_of bytes)) (nat_lt 4096 (length_of bytes))) short
+      ap (λ b. chain b (version_of bytes == version_number version) (is_type version (type_of bytes)) (has_length version (type_of bytes) (length_of bytes)) (nat_lt 4096 (length_of bytes))) short
 
   pub fault_long : (bytes : List ℕ) (fault : UnitFault) → header_fault version bytes ≡ Some fault → 8 ≤ length bytes
   fault_long bytes fault h =
       elim (cases_lt (length bytes) 8) [ inl less ↦ absurd (none_some (header_fault version bytes) fault (short_none bytes less) h) | inr long ↦ long ]
 
-  pub header_sized : (bytes : List ℕ) → 8 ≤ length bytes → header_fault version bytes ≡ None → IsSized (type_of bytes) (length_of bytes)
-  header_sized bytes long none = let h = is_header bytes long none in sized_of (type_of bytes) (length_of bytes) h.kind h.has h.high
+  pub header_sized : (bytes : List ℕ) → 8 ≤ length bytes → header_fault version bytes ≡ None → IsSized version (type_of bytes) (length_of bytes)
+  header_sized bytes long none = let h = is_header bytes long none in sized_of version (type_of bytes) (length_of bytes) h.kind h.has h.high
 
   whole-append : (front more : List ℕ) → IsWhole version front → IsWhole version (front ++ more)
   whole-append front more w =
@@ -308,7 +310,7 @@ module _ (version : ℕ) where
   Shows-append front more faults.ErrorReport h =
       let w = h.0 in
       let long = (header_sized front w.1 w.0).at_report h.1 in
-      (whole-append front more w, type_of-append front more w.1 ∙ h.1, λ good. h.2 (report_front front more (omega (arith, long, w.2)) w.2 good))
+      (whole-append front more w, type_of-append front more w.1 ∙ h.1, λ good. h.2 (report_front version front more (omega (arith, long, w.2)) w.2 good))
   Shows-append front more faults.Record h =
       let w = h.0 in (
         whole-append front more w,

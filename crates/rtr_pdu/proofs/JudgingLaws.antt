@@ -5,6 +5,8 @@ use Rattle.std.proofs.lemmas.Bool.{and_parts, cases_lt}
 use Rattle.std.proofs.lemmas.Bool.Decides.{nat_tests}
 use Rattle.std.proofs.lemmas.List.{append-nil, length-append}
 use Rattle.std.proofs.lemmas.Str.{IsUtf8-from_is_utf8, is_utf8-from_IsUtf8}
+use Rattle.rtr_pdu.specs.Version.{version_number}
+use Rattle.rtr_pdu.specs.declared.version.Version.{Version}
 use Rattle.rtr_pdu.specs.declared.unit.Unit.{Unit}
 use Rattle.rtr_pdu.specs.declared.unit.UnitFault.{UnitFault}
 use Rattle.rtr_pdu.specs.declared.unit.UnitFault.TheVariants as faults
@@ -56,14 +58,14 @@ record_true width bytes h = λ i. le_true _ _ h.0 i && (le_true _ _ h.1 i && eq_
 record_false : (width : ℕ) (bytes : List ℕ) → ¬ (IsRecord width bytes) → has_record width bytes ≡ false
 record_false width bytes h = not_passed (has_record width bytes) (λ t. h (record_of width bytes t))
 
-report_of : (bytes : List ℕ) → has_report bytes ≡ true → IsReport bytes
-report_of bytes h = let parts = and_parts _ _ h in (eq_of _ _ parts.0, IsUtf8-from_is_utf8 _ parts.1)
+report_of : (version : Version) (bytes : List ℕ) → has_report version bytes ≡ true → IsReport version bytes
+report_of version bytes h = let parts = and_parts _ _ h in (eq_of _ _ parts.0, IsUtf8-from_is_utf8 _ parts.1)
 
-report_true : (bytes : List ℕ) → IsReport bytes → has_report bytes ≡ true
-report_true bytes h = λ i. eq_true _ _ h.0 i && is_utf8-from_IsUtf8 _ h.1 i
+report_true : (version : Version) (bytes : List ℕ) → IsReport version bytes → has_report version bytes ≡ true
+report_true version bytes h = λ i. eq_true _ _ h.0 i && is_utf8-from_IsUtf8 _ h.1 i
 
-report_false : (bytes : List ℕ) → ¬ (IsReport bytes) → has_report bytes ≡ false
-report_false bytes h = not_passed (has_report bytes) (λ t. h (report_of bytes t))
+report_false : (version : Version) (bytes : List ℕ) → ¬ (IsReport version bytes) → has_report version bytes ≡ false
+report_false version bytes h = not_passed (has_report version bytes) (λ t. h (report_of version bytes t))
 
 -- the fault of a body, by its tests
 abbrev by_tests : Bool → Bool → Bool → Bool → Bool → Bool → Option UnitFault
@@ -98,7 +100,7 @@ same_fault a b h = cc
 none_is : (a : UnitFault) → None ≡ Some a → ⊥
 none_is a h = let e : ◌≡◌ {A = Option UnitFault} None (Some a) = h in cc
 
-module _ (version : ℕ) where
+module _ (version : Version) where
   -- a fault of a header shows
   header_shows : (seen : List ℕ) (a b c d e : Bool) (fault : UnitFault) → header_fault version seen ≡ chain a b c d e → chain a b c d e ≡ Some fault → Shows version seen fault
   header_shows seen true b c d e fault is h = absurd (none_is fault h)
@@ -110,32 +112,32 @@ module _ (version : ℕ) where
 
   shows_header : (seen : List ℕ) (fault : UnitFault) → header_fault version seen ≡ Some fault → Shows version seen fault
   shows_header seen fault h =
-      header_shows seen (nat_lt (length seen) 8) (version_of seen == version) (is_type (type_of seen)) (has_length (type_of seen) (length_of seen)) (nat_lt 4096 (length_of seen)) fault refl h
+      header_shows seen (nat_lt (length seen) 8) (version_of seen == version_number version) (is_type version (type_of seen)) (has_length version (type_of seen) (length_of seen)) (nat_lt 4096 (length_of seen)) fault refl h
 
   -- a fault of a body shows
-  shows_body : (seen : List ℕ) (fault : UnitFault) → IsWhole version seen → body_fault seen ≡ Some fault → Shows version seen fault
+  shows_body : (seen : List ℕ) (fault : UnitFault) → IsWhole version seen → body_fault version seen ≡ Some fault → Shows version seen fault
   shows_body seen fault w h =
-      elim (body_case (type_of seen == 4) (has_record 32 seen) (type_of seen == 6) (has_record 128 seen) (type_of seen == 10) (has_report seen)) [
+      elim (body_case (type_of seen == 4) (has_record 32 seen) (type_of seen == 6) (has_record 128 seen) (type_of seen == 10) (has_report version seen)) [
         | no_bad e ↦ absurd (none_is fault (sym e ∙ h))
         | bad_v4 e kind bad ↦ subst (λ f. Shows version seen f) (same_fault faults.Record fault (sym e ∙ h)) (w, inl (eq_of _ _ kind, λ good. false_true (sym bad ∙ record_true 32 seen good)))
         | bad_v6 e kind bad ↦ subst (λ f. Shows version seen f) (same_fault faults.Record fault (sym e ∙ h)) (w, inr (eq_of _ _ kind, λ good. false_true (sym bad ∙ record_true 128 seen good)))
-        | bad_report e kind bad ↦ subst (λ f. Shows version seen f) (same_fault faults.ErrorReport fault (sym e ∙ h)) (w, eq_of _ _ kind, λ good. false_true (sym bad ∙ report_true seen good))
+        | bad_report e kind bad ↦ subst (λ f. Shows version seen f) (same_fault faults.ErrorReport fault (sym e ∙ h)) (w, eq_of _ _ kind, λ good. false_true (sym bad ∙ report_true version seen good))
       ]
 
   -- what has not come whole is judged a beginning
-  partial_begins : (seen : List ℕ) → IsPartial version seen → by_header seen (header_fault version seen) ≡ Begins
-  partial_begins seen h = ap (by_header seen) h.0 ∙ short (nat_lt (length seen) 8) (nat_lt (length seen) (length_of seen)) (elim h.1 [ inl less ↦ inl (lt_true _ _ less) | inr less ↦ inr (lt_true _ _ less) ])
+  partial_begins : (seen : List ℕ) → IsPartial version seen → by_header version seen (header_fault version seen) ≡ Begins
+  partial_begins seen h = ap (by_header version seen) h.0 ∙ short (nat_lt (length seen) 8) (nat_lt (length seen) (length_of seen)) (elim h.1 [ inl less ↦ inl (lt_true _ _ less) | inr less ↦ inr (lt_true _ _ less) ])
     where
-      short : (a b : Bool) → (a ≡ true) ⊎ (b ≡ true) → (if a then Begins else if b then Begins else by_body seen (body_fault seen)) ≡ Begins
+      short : (a b : Bool) → (a ≡ true) ⊎ (b ≡ true) → (if a then Begins else if b then Begins else by_body version seen (body_fault version seen)) ≡ Begins
       short true b h = refl
       short false true h = refl
       short false false (inl h) = absurd (false_true h)
       short false false (inr h) = absurd (false_true h)
 
   -- what has come whole is judged by its body
-  whole_judged : (seen : List ℕ) → IsWhole version seen → by_header seen (header_fault version seen) ≡ by_body seen (body_fault seen)
+  whole_judged : (seen : List ℕ) → IsWhole version seen → by_header version seen (header_fault version seen) ≡ by_body version seen (body_fault version seen)
   whole_judged seen w =
-      ap (by_header seen) w.0 ∙ (λ i. if lt_false (length seen) 8 w.1 i then Begins else if lt_false (length seen) (length_of seen) w.2 i then Begins else by_body seen (body_fault seen))
+      ap (by_header version seen) w.0 ∙ (λ i. if lt_false (length seen) 8 w.1 i then Begins else if lt_false (length seen) (length_of seen) w.2 i then Begins else by_body version seen (body_fault version seen))
 
   -- either is the case behind a header without a fault
   sizes : (seen : List ℕ) → header_fault version seen ≡ None → IsPartial version seen ⊎ IsWhole version seen
@@ -149,19 +151,19 @@ module _ (version : ℕ) where
   pub data Case (seen : List ℕ) (j : Judgement) : Type 0 where
     begins : j ≡ Begins → IsPartial version seen → Case seen j
     shows : (fault : UnitFault) → j ≡ Faulty fault → Shows version seen fault → Case seen j
-    whole : j ≡ Whole (unit_in seen) → IsWhole version seen → body_fault seen ≡ None → Case seen j
+    whole : j ≡ Whole (unit_in version seen) → IsWhole version seen → body_fault version seen ≡ None → Case seen j
 
-  by_body_case : (seen : List ℕ) (o : Option UnitFault) → body_fault seen ≡ o → IsWhole version seen → by_header seen (header_fault version seen) ≡ by_body seen o → Case seen (by_header seen (header_fault version seen))
+  by_body_case : (seen : List ℕ) (o : Option UnitFault) → body_fault version seen ≡ o → IsWhole version seen → by_header version seen (header_fault version seen) ≡ by_body version seen o → Case seen (by_header version seen (header_fault version seen))
   by_body_case seen None h w is = whole is w h
   by_body_case seen (Some fault) h w is = shows fault is (shows_body seen fault w h)
 
-  by_size_case : (seen : List ℕ) → IsPartial version seen ⊎ IsWhole version seen → Case seen (by_header seen (header_fault version seen))
+  by_size_case : (seen : List ℕ) → IsPartial version seen ⊎ IsWhole version seen → Case seen (by_header version seen (header_fault version seen))
   by_size_case seen (inl part) = begins (partial_begins seen part) part
-  by_size_case seen (inr w) = by_body_case seen (body_fault seen) refl w (whole_judged seen w)
+  by_size_case seen (inr w) = by_body_case seen (body_fault version seen) refl w (whole_judged seen w)
 
-  header_case : (seen : List ℕ) (o : Option UnitFault) → header_fault version seen ≡ o → Case seen (by_header seen (header_fault version seen))
+  header_case : (seen : List ℕ) (o : Option UnitFault) → header_fault version seen ≡ o → Case seen (by_header version seen (header_fault version seen))
   header_case seen None h = by_size_case seen (sizes seen h)
-  header_case seen (Some fault) h = shows fault (ap (by_header seen) h) (shows_header seen fault h)
+  header_case seen (Some fault) h = shows fault (ap (by_header version seen) h) (shows_header seen fault h)
 
   pub judge_case : (any : Bool) (bytes : List ℕ) → Case (as_read version any bytes) (judge version any bytes)
   unfolding judge
@@ -170,24 +172,24 @@ module _ (version : ℕ) where
   -- a fault that shows is judged
   pub shows_judged : (any : Bool) (bytes : List ℕ) (fault : UnitFault) → Shows version (as_read version any bytes) fault → judge version any bytes ≡ Faulty fault
   unfolding judge
-  shows_judged any bytes faults.Version h = ap (by_header (as_read version any bytes)) h
-  shows_judged any bytes faults.«Type» h = ap (by_header (as_read version any bytes)) h
-  shows_judged any bytes faults.Length h = ap (by_header (as_read version any bytes)) h
-  shows_judged any bytes faults.TooLong h = ap (by_header (as_read version any bytes)) h
+  shows_judged any bytes faults.Version h = ap (by_header version (as_read version any bytes)) h
+  shows_judged any bytes faults.«Type» h = ap (by_header version (as_read version any bytes)) h
+  shows_judged any bytes faults.Length h = ap (by_header version (as_read version any bytes)) h
+  shows_judged any bytes faults.TooLong h = ap (by_header version (as_read version any bytes)) h
   shows_judged any bytes faults.Truncated h = absurd h
-  shows_judged any bytes faults.Record h = whole_judged (as_read version any bytes) h.0 ∙ ap (by_body (as_read version any bytes)) (in_record (as_read version any bytes) h.1)
+  shows_judged any bytes faults.Record h = whole_judged (as_read version any bytes) h.0 ∙ ap (by_body version (as_read version any bytes)) (in_record (as_read version any bytes) h.1)
     where
       second : (a b c d e f : Bool) → c ≡ true → d ≡ false → by_tests a b c d e f ≡ Some faults.Record
       second true true c d e f p q = λ i. if p i && not (q i) then Some faults.Record else if e && not f then Some faults.ErrorReport else None
       second true false c d e f p q = refl
       second false b c d e f p q = λ i. if p i && not (q i) then Some faults.Record else if e && not f then Some faults.ErrorReport else None
 
-      in_record : (seen : List ℕ) → ((type_of seen ≡ 4) × ¬ (IsRecord 32 seen)) ⊎ ((type_of seen ≡ 6) × ¬ (IsRecord 128 seen)) → body_fault seen ≡ Some faults.Record
-      in_record seen (inl four) = λ i. by_tests (eq_true _ _ four.0 i) (record_false 32 seen four.1 i) (type_of seen == 6) (has_record 128 seen) (type_of seen == 10) (has_report seen)
-      in_record seen (inr six) = second (type_of seen == 4) (has_record 32 seen) (type_of seen == 6) (has_record 128 seen) (type_of seen == 10) (has_report seen) (eq_true _ _ six.0) (record_false 128 seen six.1)
+      in_record : (seen : List ℕ) → ((type_of seen ≡ 4) × ¬ (IsRecord 32 seen)) ⊎ ((type_of seen ≡ 6) × ¬ (IsRecord 128 seen)) → body_fault version seen ≡ Some faults.Record
+      in_record seen (inl four) = λ i. by_tests (eq_true _ _ four.0 i) (record_false 32 seen four.1 i) (type_of seen == 6) (has_record 128 seen) (type_of seen == 10) (has_report version seen)
+      in_record seen (inr six) = second (type_of seen == 4) (has_record 32 seen) (type_of seen == 6) (has_record 128 seen) (type_of seen == 10) (has_report version seen) (eq_true _ _ six.0) (record_false 128 seen six.1)
   shows_judged any bytes faults.ErrorReport h =
       whole_judged (as_read version any bytes) h.0
-      ∙ (λ i. by_body (as_read version any bytes) (by_tests (h.1 i == 4) (has_record 32 (as_read version any bytes)) (h.1 i == 6) (has_record 128 (as_read version any bytes)) (h.1 i == 10) (report_false (as_read version any bytes) h.2 i)))
+      ∙ (λ i. by_body version (as_read version any bytes) (by_tests (h.1 i == 4) (has_record 32 (as_read version any bytes)) (h.1 i == 6) (has_record 128 (as_read version any bytes)) (h.1 i == 10) (report_false version (as_read version any bytes) h.2 i)))
 
   pub begins_exactly : (any : Bool) (bytes : List ℕ) → (judge version any bytes ≡ Begins) ↔ IsPartial version (as_read version any bytes)
   unfolding judge
@@ -195,7 +197,7 @@ module _ (version : ℕ) where
     λ e. elim (judge_case any bytes) [
       | begins is part ↦ part
       | shows fault is h ↦ absurd (not_faulty fault (sym e ∙ is))
-      | whole is w h ↦ absurd (not_whole (unit_in (as_read version any bytes)) (sym e ∙ is))
+      | whole is w h ↦ absurd (not_whole (unit_in version (as_read version any bytes)) (sym e ∙ is))
     ],
     back,
   )
@@ -214,7 +216,7 @@ module _ (version : ℕ) where
     λ e. elim (judge_case any bytes) [
       | begins is part ↦ absurd (not_begins (sym is ∙ e))
       | shows other is h ↦ subst (λ f. Shows version (as_read version any bytes) f) (same other (sym is ∙ e)) h
-      | whole is w h ↦ absurd (not_whole (unit_in (as_read version any bytes)) (sym is ∙ e))
+      | whole is w h ↦ absurd (not_whole (unit_in version (as_read version any bytes)) (sym is ∙ e))
     ],
     shows_judged any bytes fault,
   )
@@ -236,19 +238,19 @@ module _ (version : ℕ) where
       let is : as_read version any bytes ≡ spelled version u r.ignored ++ [] = r.bytes_are ∙ sym (append-nil (spelled version u r.ignored)) in
       let seen : List ℕ = spelled version u r.ignored ++ [] in
       let w : IsWhole version (spelled version u r.ignored ++ []) = (o.fault, omega (arith, o.eight, length-append (spelled version u r.ignored) []), omega (arith, o.len, length-append (spelled version u r.ignored) [])) in
-      ap (λ x. by_header x (header_fault version x)) is ∙ whole_judged (spelled version u r.ignored ++ []) w
-      ∙ sound (body_fault (spelled version u r.ignored ++ [])) w refl ∙ ap Whole (unit_in-spelled version u r.ignored [] r.fits)
+      ap (λ x. by_header version x (header_fault version x)) is ∙ whole_judged (spelled version u r.ignored ++ []) w
+      ∙ sound (body_fault version (spelled version u r.ignored ++ [])) w refl ∙ ap Whole (unit_in-spelled version u r.ignored [] r.fits)
     where
-      sound : (f : Option UnitFault) → IsWhole version (spelled version u r.ignored ++ []) → body_fault (spelled version u r.ignored ++ []) ≡ f → by_body (spelled version u r.ignored ++ []) (body_fault (spelled version u r.ignored ++ [])) ≡ Whole (unit_in (spelled version u r.ignored ++ []))
-      sound None w e = ap (by_body (spelled version u r.ignored ++ [])) e
+      sound : (f : Option UnitFault) → IsWhole version (spelled version u r.ignored ++ []) → body_fault version (spelled version u r.ignored ++ []) ≡ f → by_body version (spelled version u r.ignored ++ []) (body_fault version (spelled version u r.ignored ++ [])) ≡ Whole (unit_in version (spelled version u r.ignored ++ []))
+      sound None w e = ap (by_body version (spelled version u r.ignored ++ [])) e
       sound (Some fault) w e = absurd (not_shown version u r.ignored [] r.fits fault (shows_body (spelled version u r.ignored ++ []) fault w e))
 
-  pub whole_exactly : (any : Bool) (bytes : List ℕ) (u : Unit) → version < 256 → AreBytes bytes → length bytes ≡ length_of (as_read version any bytes) → (judge version any bytes ≡ Whole u) ↔ Reads version u (as_read version any bytes)
-  whole_exactly any bytes u byte each size = (
+  pub whole_exactly : (any : Bool) (bytes : List ℕ) (u : Unit) → AreBytes bytes → length bytes ≡ length_of (as_read version any bytes) → (judge version any bytes ≡ Whole u) ↔ Reads version u (as_read version any bytes)
+  whole_exactly any bytes u each size = (
     λ e. elim (judge_case any bytes) [
       | begins is part ↦ absurd (not_begins (sym is ∙ e))
       | shows fault is h ↦ absurd (not_faulty fault (sym is ∙ e))
-      | whole is w h ↦ of_judged e (judged version (as_read version any bytes) (AreBytes-as_read version byte any bytes each) w (length-as_read version any bytes ∙ size))
+      | whole is w h ↦ of_judged e (judged version (as_read version any bytes) (AreBytes-as_read version any bytes each) w (length-as_read version any bytes ∙ size))
     ],
     reads_judged any bytes u,
   )

@@ -13,3 +13,4 @@ pub mod RunLaws
 pub mod SplitLaws
 pub mod StreamLaws
 pub mod UnitLaws
+pub mod VersionLaws

@@ -5,6 +5,8 @@ use Rattle.std.proofs.lemmas.List.{length-append, length-drop, get_or_append_lef
 use Rattle.std.proofs.lemmas.Bool.Decides.{nat_tests}
 use Rattle.byteorder.specs.Endian.{big_number}
 use Rattle.byteorder.specs.Numbers.{big_from-append}
+use Rattle.rtr_pdu.specs.Version.{version_number}
+use Rattle.rtr_pdu.specs.declared.version.Version.{Version}
 use Rattle.rtr_pdu.specs.Stream.{type_of, length_of, is_notify_header, as_read}
 
 -- the header of what begins with 8 bytes
@@ -36,22 +38,22 @@ test_long : (any : Bool) (bytes : List ℕ) → (any && is_notify_header bytes) 
 test_long true bytes h = grind (arith, nat_tests)
 test_long false bytes h = grind (arith, nat_tests)
 
-module _ (version : ℕ) where
+module _ (version : Version) where
   -- the version of what begins with a byte is changed at the front
   changed-append : (b : Bool) (front more : List ℕ) → 8 ≤ length front
-      → (if b then version ∷ drop 1 (front ++ more) else (front ++ more)) ≡ (if b then version ∷ drop 1 front else front) ++ more
-  changed-append true front more h = ap (λ x. version ∷ x) (drop-append-le 1 front more (omega arith))
+      → (if b then version_number version ∷ drop 1 (front ++ more) else (front ++ more)) ≡ (if b then version_number version ∷ drop 1 front else front) ++ more
+  changed-append true front more h = ap (λ x. version_number version ∷ x) (drop-append-le 1 front more (omega arith))
   changed-append false front more h = refl
 
   -- What begins with 8 bytes is read as they are read, and then as it stands.
   pub as_read-append : (any : Bool) (front more : List ℕ) → 8 ≤ length front → as_read version any (front ++ more) ≡ as_read version any front ++ more
   unfolding as_read
   as_read-append any front more h =
-      ap (λ b. if any && b then version ∷ drop 1 (front ++ more) else (front ++ more)) (is_notify_header-append front more h)
+      ap (λ b. if any && b then version_number version ∷ drop 1 (front ++ more) else (front ++ more)) (is_notify_header-append front more h)
       ∙ changed-append (any && is_notify_header front) front more h
 
   -- a changed version changes no length
-  changed_length : (b : Bool) (bytes : List ℕ) → (b ≡ true → 0 < length bytes) → length (if b then version ∷ drop 1 bytes else bytes) ≡ length bytes
+  changed_length : (b : Bool) (bytes : List ℕ) → (b ≡ true → 0 < length bytes) → length (if b then version_number version ∷ drop 1 bytes else bytes) ≡ length bytes
   changed_length true [] h = absurd (omega (arith, h refl))
   changed_length true (x ∷ xs) h = refl
   changed_length false bytes h = refl

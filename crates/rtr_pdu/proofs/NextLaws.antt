@@ -4,6 +4,8 @@ use Rattle.std.proofs.Common.{sym, ap, ◌∙◌, subst, arith, inl, inr}
 use Rattle.std.proofs.lemmas.Bool.{cases_lt}
 use Rattle.std.proofs.lemmas.List.{append-nil, length-append}
 use Rattle.prefixes.specs.declared.prefix.IpPrefix.TheVariants.{V4, V6}
+use Rattle.rtr_pdu.specs.Version.{version_number}
+use Rattle.rtr_pdu.specs.declared.version.Version.{Version}
 use Rattle.rtr_pdu.specs.declared.unit.Unit.{Unit}
 use Rattle.rtr_pdu.specs.declared.unit.Unit.TheVariants.{SerialNotify, SerialQuery, ResetQuery, CacheResponse, Prefix, EndOfData, CacheReset, RouterKey, ErrorReport}
 use Rattle.rtr_pdu.specs.Judging.{Begins, Whole, judge}
@@ -16,13 +18,13 @@ use Rattle.rtr_pdu.proofs.SplitLaws.{shortest_8, shortest_whole}
 use Rattle.rtr_pdu.proofs.StreamLaws.{written_is_read}
 use Rattle.rtr_pdu.proofs.UnitLaws.{opens}
 
-module _ (version : ℕ) where
+module _ (version : Version) where
   -- What is read of bytes of the expected version is what stands there.
-  own_version : (any : Bool) (rest : List ℕ) → as_read version any (version ∷ rest) ≡ version ∷ rest
+  own_version : (any : Bool) (rest : List ℕ) → as_read version any (version_number version ∷ rest) ≡ version_number version ∷ rest
   unfolding as_read
-  own_version any rest = either (any && is_notify_header (version ∷ rest))
+  own_version any rest = either (any && is_notify_header (version_number version ∷ rest))
     where
-      either : (b : Bool) → (if b then version ∷ rest else (version ∷ rest)) ≡ version ∷ rest
+      either : (b : Bool) → (if b then version_number version ∷ rest else (version_number version ∷ rest)) ≡ version_number version ∷ rest
       either true = refl
       either false = refl
 
@@ -32,12 +34,12 @@ module _ (version : ℕ) where
   none_as_read false = refl
 
   -- the first byte of a unit
-  begins_with : (u : Unit) (z : Ignored) → spelled version u z ≡ version ∷ drop 1 (spelled version u z)
+  begins_with : (u : Unit) (z : Ignored) → spelled version u z ≡ version_number version ∷ drop 1 (spelled version u z)
   begins_with (SerialNotify session serial) z = refl
   begins_with (SerialQuery session serial) z = refl
   begins_with ResetQuery z = refl
   begins_with (CacheResponse session) z = refl
-  begins_with (Prefix announce v) z = elim v.prefix as (λ p. prefix_bytes version announce p v.max_len v.asn z ≡ version ∷ drop 1 (prefix_bytes version announce p v.max_len v.asn z)) [ V4 p ↦ refl | V6 p ↦ refl ]
+  begins_with (Prefix announce v) z = elim v.prefix as (λ p. prefix_bytes version announce p v.max_len v.asn z ≡ version_number version ∷ drop 1 (prefix_bytes version announce p v.max_len v.asn z)) [ V4 p ↦ refl | V6 p ↦ refl ]
   begins_with (EndOfData session serial refresh retry expire) z = refl
   begins_with CacheReset z = refl
   begins_with (RouterKey k) z = refl
@@ -52,7 +54,7 @@ module _ (version : ℕ) where
 
   -- A unit has a byte.
   pub some_sent : (u : Unit) → unit_bytes version u ≡ [] → ⊥
-  some_sent u e = let h : [] ≡ version ∷ drop 1 (unit_bytes version u) = sym e ∙ begins_with u zeros in cc
+  some_sent u e = let h : [] ≡ version_number version ∷ drop 1 (unit_bytes version u) = sym e ∙ begins_with u zeros in cc
 
   -- A unit has at most 4,096 bytes.
   pub sent_most : (u : Unit) → IsUnit u → length (unit_bytes version u) ≤ 4096
@@ -80,7 +82,7 @@ module _ (version : ℕ) where
   part_as_read : (any : Bool) (u : Unit) (part rest : List ℕ) (b : ℕ) → part ++ b ∷ rest ≡ unit_bytes version u → as_read version any part ≡ part
   part_as_read any u [] rest b e = none_as_read any
   part_as_read any u (x ∷ part) rest b e =
-      let first : x ≡ version = (let h : x ∷ (part ++ b ∷ rest) ≡ version ∷ drop 1 (unit_bytes version u) = e ∙ begins_with u zeros in cc) in
+      let first : x ≡ version_number version = (let h : x ∷ (part ++ b ∷ rest) ≡ version_number version ∷ drop 1 (unit_bytes version u) = e ∙ begins_with u zeros in cc) in
       ap (λ v. as_read version any (v ∷ part)) first ∙ own_version any part ∙ ap (λ v. v ∷ part) (sym first)
 
   -- So it is judged.

@@ -9,6 +9,8 @@ use Rattle.std.specs.Int.{byte_at, bytes_high_first}
 use Rattle.std.specs.Str.{IsUtf8}
 use Rattle.byteorder.specs.Endian.{big_from, big_bytes, big_number}
 use Rattle.byteorder.specs.Numbers.{big_from-cons, big_from-lt}
+use Rattle.rtr_pdu.specs.Version.{version_number}
+use Rattle.rtr_pdu.specs.declared.version.Version.{Version}
 use Rattle.rtr_pdu.specs.Payloads.{AreBytes}
 use Rattle.rtr_pdu.specs.Reading.{number_at, is_odd, v4_in, v6_in, key_in, report_in}
 use Rattle.rtr_pdu.specs.declared.unit.Unit.TheVariants.{SerialNotify, SerialQuery, ResetQuery, CacheResponse, Prefix, EndOfData, CacheReset, RouterKey, ErrorReport}
@@ -129,21 +131,21 @@ bits_header : (bytes : List ℕ) → AreBytes bytes → AreBits (with_header (nu
 bits_header bytes each = record { header = number_fits bytes each 2 2; flags = omega arith; byte = omega arith }
 
 -- a whole unit of a type
-pub record IsFrame (version kind : ℕ) (bytes : List ℕ) : Type 0 where
+pub record IsFrame (version : Version) (kind : ℕ) (bytes : List ℕ) : Type 0 where
   pub each : AreBytes bytes
-  pub version_is : version_of bytes ≡ version
+  pub version_is : version_of bytes ≡ version_number version
   pub type_is : type_of bytes ≡ kind
   pub size : length bytes ≡ length_of bytes
   pub eight : 8 ≤ length bytes
 
-module _ (version : ℕ) where
+module _ (version : Version) where
   frame_is : (kind : ℕ) (bytes : List ℕ) (f : IsFrame version kind bytes) → bytes ≡ header version kind (number_at 2 2 bytes) (length bytes) ++ drop 8 bytes
   frame_is kind bytes f =
       let len : big_bytes 4 (number_at 4 4 bytes) ≡ big_bytes 4 (length bytes) = ap (big_bytes 4) (sym f.size) in
       drop_more bytes 0 0 (omega (arith, f.eight)) ∙ (λ i. f.version_is i ∷ drop_more bytes 1 0 (omega (arith, f.eight)) i)
-      ∙ (λ i. version ∷ f.type_is i ∷ number_then bytes f.each 2 2 (omega (arith, f.eight)) i)
-      ∙ (λ i. version ∷ kind ∷ big_bytes 2 (number_at 2 2 bytes) ++ number_then bytes f.each 4 4 (omega (arith, f.eight)) i)
-      ∙ (λ i. version ∷ kind ∷ big_bytes 2 (number_at 2 2 bytes) ++ (len i ++ drop 8 bytes))
+      ∙ (λ i. version_number version ∷ f.type_is i ∷ number_then bytes f.each 2 2 (omega (arith, f.eight)) i)
+      ∙ (λ i. version_number version ∷ kind ∷ big_bytes 2 (number_at 2 2 bytes) ++ number_then bytes f.each 4 4 (omega (arith, f.eight)) i)
+      ∙ (λ i. version_number version ∷ kind ∷ big_bytes 2 (number_at 2 2 bytes) ++ (len i ++ drop 8 bytes))
 
   frame_of : (kind len : ℕ) (bytes : List ℕ) (f : IsFrame version kind bytes) → length bytes ≡ len → bytes ≡ header version kind (number_at 2 2 bytes) len ++ drop 8 bytes
   frame_of kind len bytes f e = frame_is kind bytes f ∙ ap (λ n. header version kind (number_at 2 2 bytes) n ++ drop 8 bytes) e
@@ -255,14 +257,14 @@ module _ (version : ℕ) where
         bits = bits_flagged bytes 2 3 f.each;
         bytes_are =
             drop_more bytes 0 0 (omega (arith, f.eight)) ∙ (λ i. f.version_is i ∷ drop_more bytes 1 0 (omega (arith, f.eight)) i)
-            ∙ (λ i. version ∷ f.type_is i ∷ drop_more bytes 2 0 (omega (arith, f.eight)) i)
-            ∙ (λ i. version ∷ 9 ∷ sym (flag_parts (slice_index bytes 2)) i ∷ drop_more bytes 3 0 (omega (arith, f.eight)) i)
-            ∙ ap (λ x. version ∷ 9 ∷ (flag (is_odd (slice_index bytes 2)) + 2 * (slice_index bytes 2 / 2)) ∷ slice_index bytes 3 ∷ x)
+            ∙ (λ i. version_number version ∷ f.type_is i ∷ drop_more bytes 2 0 (omega (arith, f.eight)) i)
+            ∙ (λ i. version_number version ∷ 9 ∷ sym (flag_parts (slice_index bytes 2)) i ∷ drop_more bytes 3 0 (omega (arith, f.eight)) i)
+            ∙ ap (λ x. version_number version ∷ 9 ∷ (flag (is_odd (slice_index bytes 2)) + 2 * (slice_index bytes 2 / 2)) ∷ slice_index bytes 3 ∷ x)
             (number_then bytes f.each 4 4 (omega (arith, f.eight)) ∙ (λ i. len i ++ body i));
       }
 
   -- an Error Report
-  pub reads_10 : (bytes : List ℕ) → IsFrame version 10 bytes → 16 ≤ length bytes → length bytes ≤ 4096 → IsReport bytes → Reads version (ErrorReport (report_in bytes)) bytes
+  pub reads_10 : (bytes : List ℕ) → IsFrame version 10 bytes → 16 ≤ length bytes → length bytes ≤ 4096 → IsReport version bytes → Reads version (ErrorReport (report_in bytes)) bytes
   reads_10 bytes f low high sound =
       let c : ℕ = number_at 4 8 bytes in
       let t : ℕ = number_at 4 (12 + number_at 4 8 bytes) bytes in

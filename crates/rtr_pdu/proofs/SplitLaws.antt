@@ -3,6 +3,9 @@ use Rattle.std.specs.Prelude.{◌≡◌, ◌⊎◌, ℕ, ◌+◌, ◌<◌, ◌�
 use Rattle.std.proofs.Common.{sym, ap, ◌∙◌, subst, arith, append_assoc, inl, inr, zero, suc}
 use Rattle.std.proofs.lemmas.List.{length-drop, length-take-le, length-append, take-append-drop}
 use Rattle.std.proofs.lemmas.Bool.{cases_lt}
+use Rattle.rtr_pdu.specs.Version.{version_number}
+use Rattle.rtr_pdu.proofs.VersionLaws.{is_byte}
+use Rattle.rtr_pdu.specs.declared.version.Version.{Version}
 use Rattle.rtr_pdu.specs.declared.unit.Unit.{Unit}
 use Rattle.rtr_pdu.specs.declared.unit.UnitFault.{UnitFault}
 use Rattle.rtr_pdu.specs.Unit.{Reads}
@@ -12,11 +15,11 @@ use Rattle.rtr_pdu.proofs.ModeLaws.{as_read-append, length-as_read, length_of-ap
 use Rattle.rtr_pdu.proofs.ReadLaws.{AreBytes-drop, AreBytes-take}
 use Rattle.rtr_pdu.proofs.JudgeLaws.{header_judged, header_sized, judged, header_fault-append, Shows-append, short_none}
 
-module _ (version : ℕ) (byte : version < 256) where
+module _ (version : Version) where
   -- a changed version is a byte too
-  changed_bytes : (b : Bool) (bytes : List ℕ) → AreBytes bytes → AreBytes (if b then version ∷ drop 1 bytes else bytes)
+  changed_bytes : (b : Bool) (bytes : List ℕ) → AreBytes bytes → AreBytes (if b then version_number version ∷ drop 1 bytes else bytes)
   changed_bytes false bytes each i = each i
-  changed_bytes true bytes each zero = byte
+  changed_bytes true bytes each zero = is_byte version
   changed_bytes true bytes each (suc i) = AreBytes-drop 1 bytes each i
 
   -- What is read of bytes are bytes.
@@ -114,10 +117,10 @@ module _ (version : ℕ) (byte : version < 256) where
 
 -- Each list of bytes has a split.
 pub each_splits : EachSplits
-each_splits version any stream byte each = split_within version byte (suc (length stream)) any stream each (omega arith)
+each_splits version any stream each = split_within version (suc (length stream)) any stream each (omega arith)
 
 -- Bytes that are as long as they say have no shorter beginning that ends a unit or shows a fault, nor have 8 bytes.
-module _ (version : ℕ) where
+module _ (version : Version) where
   -- the first 8 bytes
   pub shortest_8 : (any : Bool) (bytes : List ℕ) → length bytes ≤ 8 → IsShortest version any bytes
   shortest_8 any bytes size front back e more =

@@ -5,6 +5,7 @@ use Rattle.std.proofs.Math.Seq.{drop-append_seam}
 use Rattle.std.proofs.lemmas.List.{length-append}
 use Rattle.prefixes.specs.Payload.{Payload, IsPayload}
 use Rattle.prefixes.specs.declared.prefix.IpPrefix.TheVariants.{V4, V6}
+use Rattle.rtr_pdu.specs.declared.version.Version.{Version}
 use Rattle.rtr_pdu.specs.declared.unit.Unit.{Unit}
 use Rattle.rtr_pdu.specs.declared.unit.Unit.TheVariants.{SerialNotify, SerialQuery, ResetQuery, CacheResponse, Prefix, EndOfData, CacheReset, RouterKey, ErrorReport}
 use Rattle.rtr_pdu.specs.declared.unit.UnitFault.{UnitFault}
@@ -17,26 +18,26 @@ use Rattle.rtr_pdu.specs.Judging.{unit_in}
 use Rattle.rtr_pdu.proofs.UnitLaws.{unit_in-spelled, opens, is_report, back}
 
 -- The body of a unit has no fault.
-record IsSound (bytes : List ℕ) : Type 0 where
+record IsSound (version : Version) (bytes : List ℕ) : Type 0 where
   v4 : type_of bytes ≡ 4 → IsRecord 32 bytes
   v6 : type_of bytes ≡ 6 → IsRecord 128 bytes
-  report : type_of bytes ≡ 10 → IsReport bytes
+  report : type_of bytes ≡ 10 → IsReport version bytes
 
 -- a unit of another type has no body that may have a fault
 abbrev may_fault : ℕ → Bool
 may_fault kind = kind == 4 || (kind == 6 || kind == 10)
 
 -- so it has none
-no_fault : (bytes : List ℕ) (kind : ℕ) → type_of bytes ≡ kind → may_fault kind ≡ false → IsSound bytes
-no_fault bytes kind e none =
+no_fault : (version : Version) (bytes : List ℕ) (kind : ℕ) → type_of bytes ≡ kind → may_fault kind ≡ false → IsSound version bytes
+no_fault version bytes kind e none =
     let other : (n : ℕ) → may_fault n ≡ true → type_of bytes ≡ n → ⊥ = λ n may h. false_true (sym none ∙ ap (λ k. may_fault k) (sym e ∙ h) ∙ may) in
     record { v4 = λ h. absurd (other 4 refl h); v6 = λ h. absurd (other 6 refl h); report = λ h. absurd (other 10 refl h) }
 
-module _ (version : ℕ) where
+module _ (version : Version) where
   -- a unit of a type whose body may have a fault has none
-  sound_prefix : (a : Bool) (v : Payload) (z : Ignored) (rest : List ℕ) → IsPayload v → IsSound (spelled version (Prefix a v) z ++ rest)
+  sound_prefix : (a : Bool) (v : Payload) (z : Ignored) (rest : List ℕ) → IsPayload v → IsSound version (spelled version (Prefix a v) z ++ rest)
   sound_prefix a v z rest fits =
-      elim v.prefix as (λ p. IsPayload (record v { prefix = p }) → IsSound (prefix_bytes version a p v.max_len v.asn z ++ rest)) [
+      elim v.prefix as (λ p. IsPayload (record v { prefix = p }) → IsSound version (prefix_bytes version a p v.max_len v.asn z ++ rest)) [
         | V4 p ↦ λ fits. record {
           v4 = λ e. (fits.not_shorter, fits.in_family, ap (λ n. n % 2 ^ (32 - p.len)) (back 4 p.addr fits.prefix.address) ∙ fits.prefix.no_host_bits);
           v6 = λ e. absurd (omega (arith, e));
@@ -50,23 +51,23 @@ module _ (version : ℕ) where
       ] fits
 
   -- no unit has a fault in its body
-  sound_unit : (u : Unit) (z : Ignored) (rest : List ℕ) → IsUnit u → IsSound (spelled version u z ++ rest)
+  sound_unit : (u : Unit) (z : Ignored) (rest : List ℕ) → IsUnit u → IsSound version (spelled version u z ++ rest)
   sound_unit (Prefix a v) z rest fits = sound_prefix a v z rest fits
   sound_unit (ErrorReport r) z rest fits =
       record { v4 = λ e. absurd (omega (arith, e)); v6 = λ e. absurd (omega (arith, e)); report = λ e. is_report version r z rest fits }
-  sound_unit (SerialNotify s n) z rest fits = no_fault (spelled version (SerialNotify s n) z ++ rest) 0 refl refl
-  sound_unit (SerialQuery s n) z rest fits = no_fault (spelled version (SerialQuery s n) z ++ rest) 1 refl refl
-  sound_unit ResetQuery z rest fits = no_fault (spelled version ResetQuery z ++ rest) 2 refl refl
-  sound_unit (CacheResponse s) z rest fits = no_fault (spelled version (CacheResponse s) z ++ rest) 3 refl refl
-  sound_unit (EndOfData s n a b c) z rest fits = no_fault (spelled version (EndOfData s n a b c) z ++ rest) 7 refl refl
-  sound_unit CacheReset z rest fits = no_fault (spelled version CacheReset z ++ rest) 8 refl refl
-  sound_unit (RouterKey k) z rest fits = no_fault (spelled version (RouterKey k) z ++ rest) 9 refl refl
+  sound_unit (SerialNotify s n) z rest fits = no_fault version (spelled version (SerialNotify s n) z ++ rest) 0 refl refl
+  sound_unit (SerialQuery s n) z rest fits = no_fault version (spelled version (SerialQuery s n) z ++ rest) 1 refl refl
+  sound_unit ResetQuery z rest fits = no_fault version (spelled version ResetQuery z ++ rest) 2 refl refl
+  sound_unit (CacheResponse s) z rest fits = no_fault version (spelled version (CacheResponse s) z ++ rest) 3 refl refl
+  sound_unit (EndOfData s n a b c) z rest fits = no_fault version (spelled version (EndOfData s n a b c) z ++ rest) 7 refl refl
+  sound_unit CacheReset z rest fits = no_fault version (spelled version CacheReset z ++ rest) 8 refl refl
+  sound_unit (RouterKey k) z rest fits = no_fault version (spelled version (RouterKey k) z ++ rest) 9 refl refl
 
   -- A fault of the header, or one behind a header without a fault
   abbrev InBody : List ℕ → UnitFault → Type 0
   InBody bytes fault =
       IsWhole version bytes × (((fault ≡ faults.Record) × (((type_of bytes ≡ 4) × ¬ (IsRecord 32 bytes)) ⊎ ((type_of bytes ≡ 6) × ¬ (IsRecord 128 bytes))))
-      ⊎ ((fault ≡ faults.ErrorReport) × (type_of bytes ≡ 10) × ¬ (IsReport bytes)))
+      ⊎ ((fault ≡ faults.ErrorReport) × (type_of bytes ≡ 10) × ¬ (IsReport version bytes)))
 
   -- each fault is one of these
   kinds : (bytes : List ℕ) (fault : UnitFault) → Shows version bytes fault → (header_fault version bytes ≡ Some fault) ⊎ InBody bytes fault
@@ -146,7 +147,7 @@ module _ (version : ℕ) where
       let first : spelled version u a.ignored ++ s ≡ spelled version v b.ignored ++ t = ap (λ x. x ++ s) (sym a.bytes_are) ∙ e ∙ ap (λ x. x ++ t) b.bytes_are in
       let lengths : length (spelled version u a.ignored) ≡ length (spelled version v b.ignored) =
       sym (opens version u a.ignored s a.fits).len ∙ ap (λ x. length_of x) first ∙ (opens version v b.ignored t b.fits).len in (
-        sym (unit_in-spelled version u a.ignored s a.fits) ∙ ap (λ x. unit_in x) first ∙ unit_in-spelled version v b.ignored t b.fits,
+        sym (unit_in-spelled version u a.ignored s a.fits) ∙ ap (λ x. unit_in version x) first ∙ unit_in-spelled version v b.ignored t b.fits,
         sym (drop-append_seam (spelled version u a.ignored) s) ∙ (λ i. drop (lengths i) (first i)) ∙ drop-append_seam (spelled version v b.ignored) t,
       )
 

@@ -6,6 +6,8 @@ use Rattle.byteorder.specs.Endian.{big_bytes, big_number}
 use Rattle.byteorder.specs.Numbers.{big_number-reads_back}
 use Rattle.prefixes.specs.Payload.{Payload, IsPayload}
 use Rattle.prefixes.specs.declared.prefix.IpPrefix.TheVariants.{V4, V6}
+use Rattle.rtr_pdu.specs.Version.{version_number}
+use Rattle.rtr_pdu.specs.declared.version.Version.{Version}
 use Rattle.rtr_pdu.specs.Judging.{unit_in}
 use Rattle.rtr_pdu.specs.Payloads.{Report}
 use Rattle.rtr_pdu.specs.Reading.{number_at, is_odd}
@@ -66,15 +68,15 @@ module _ (xs ys zs rest : List ℕ) where
   third_of_row n k e f = ap (take k) (after_second n e) ∙ ap (λ m. take m (zs ++ rest)) (sym f) ∙ take-append_seam zs rest
 
 -- The header of a unit has no fault, and tells its length.
-pub record Opens (version : ℕ) (front bytes : List ℕ) : Type 0 where
+pub record Opens (version : Version) (front bytes : List ℕ) : Type 0 where
   pub fault : header_fault version bytes ≡ None
   pub len : length_of bytes ≡ length front
   pub eight : 8 ≤ length front
 
-module _ (version : ℕ) where
-  in_prefix : (a : Bool) (v : Payload) (z : Ignored) (rest : List ℕ) → IsPayload v → unit_in (spelled version (Prefix a v) z ++ rest) ≡ Prefix a v
+module _ (version : Version) where
+  in_prefix : (a : Bool) (v : Payload) (z : Ignored) (rest : List ℕ) → IsPayload v → unit_in version (spelled version (Prefix a v) z ++ rest) ≡ Prefix a v
   in_prefix a v z rest fits =
-      elim v.prefix as (λ p. IsPayload (record v { prefix = p }) → unit_in (spelled version (Prefix a (record v { prefix = p })) z ++ rest) ≡ Prefix a (record v { prefix = p })) [
+      elim v.prefix as (λ p. IsPayload (record v { prefix = p }) → unit_in version (spelled version (Prefix a (record v { prefix = p })) z ++ rest) ≡ Prefix a (record v { prefix = p })) [
         | V4 p ↦ λ fits i. Prefix (odd_flag a z.flags i) (record { prefix = V4 (record { addr = back 4 p.addr fits.prefix.address i; len = p.len }); max_len = v.max_len; asn = back 4 v.asn fits.asn i })
         | V6 p ↦ λ fits i. Prefix (odd_flag a z.flags i) (record { prefix = V6 (record { addr = back 16 p.addr fits.prefix.address i; len = p.len }); max_len = v.max_len; asn = back 4 v.asn fits.asn i })
       ] fits
@@ -113,10 +115,10 @@ module _ (version : ℕ) where
     report_len : length_of report_bytes ≡ 16 + length r.copy + length r.text
     report_len = back 4 (16 + length r.copy + length r.text) (omega (arith, fits.1))
 
-    pub is_report : IsReport report_bytes
+    pub is_report : IsReport version report_bytes
     is_report = (omega (arith, copy_len, text_len, report_len), subst (λ t. IsUtf8 t) (sym text_found) fits.2)
 
-  pub unit_in-spelled : (u : Unit) (z : Ignored) (rest : List ℕ) → IsUnit u → unit_in (spelled version u z ++ rest) ≡ u
+  pub unit_in-spelled : (u : Unit) (z : Ignored) (rest : List ℕ) → IsUnit u → unit_in version (spelled version u z ++ rest) ≡ u
   unit_in-spelled (SerialNotify session serial) z rest fits = λ i. SerialNotify (back 2 session fits.0 i) (back 4 serial fits.1 i)
   unit_in-spelled (SerialQuery session serial) z rest fits = λ i. SerialQuery (back 2 session fits.0 i) (back 4 serial fits.1 i)
   unit_in-spelled ResetQuery z rest fits = refl
@@ -143,7 +145,7 @@ module _ (version : ℕ) where
     text = text_found r z rest fits i;
   })
 
-  sound : (bytes : List ℕ) → 8 ≤ length bytes → (version_of bytes == version) ≡ true → is_type (type_of bytes) ≡ true → has_length (type_of bytes) (length_of bytes) ≡ true → length_of bytes ≤ 4096 → header_fault version bytes ≡ None
+  sound : (bytes : List ℕ) → 8 ≤ length bytes → (version_of bytes == version_number version) ≡ true → is_type version (type_of bytes) ≡ true → has_length version (type_of bytes) (length_of bytes) ≡ true → length_of bytes ≤ 4096 → header_fault version bytes ≡ None
   sound bytes eight version kind len long =
       λ i. if not_short (length bytes) eight i then None
       else if not (version i) then Some faults.Version
@@ -153,8 +155,8 @@ module _ (version : ℕ) where
       else None
 
   -- the same of a unit whose bytes are before others
-  opens_with : (front rest : List ℕ) → 8 ≤ length front → (version_of (front ++ rest) == version) ≡ true → is_type (type_of (front ++ rest)) ≡ true
-      → has_length (type_of (front ++ rest)) (length_of (front ++ rest)) ≡ true → length_of (front ++ rest) ≡ length front → length front ≤ 4096 → Opens version front (front ++ rest)
+  opens_with : (front rest : List ℕ) → 8 ≤ length front → (version_of (front ++ rest) == version_number version) ≡ true → is_type version (type_of (front ++ rest)) ≡ true
+      → has_length version (type_of (front ++ rest)) (length_of (front ++ rest)) ≡ true → length_of (front ++ rest) ≡ length front → length front ≤ 4096 → Opens version front (front ++ rest)
   opens_with front rest eight version kind has len long = record {
     fault = sound (front ++ rest) (omega (arith, length-append front rest)) version kind has (omega (arith, len));
     len = len;
@@ -162,24 +164,24 @@ module _ (version : ℕ) where
   }
 
   pub opens : (u : Unit) (z : Ignored) (rest : List ℕ) → IsUnit u → Opens version (spelled version u z) (spelled version u z ++ rest)
-  opens (SerialNotify session serial) z rest fits = opens_with (spelled version (SerialNotify session serial) z) rest (omega arith) (same_version version) refl refl refl (omega arith)
-  opens (SerialQuery session serial) z rest fits = opens_with (spelled version (SerialQuery session serial) z) rest (omega arith) (same_version version) refl refl refl (omega arith)
-  opens ResetQuery z rest fits = opens_with (spelled version ResetQuery z) rest (omega arith) (same_version version) refl refl refl (omega arith)
-  opens (CacheResponse session) z rest fits = opens_with (spelled version (CacheResponse session) z) rest (omega arith) (same_version version) refl refl refl (omega arith)
+  opens (SerialNotify session serial) z rest fits = opens_with (spelled version (SerialNotify session serial) z) rest (omega arith) (same_version (version_number version)) refl refl refl (omega arith)
+  opens (SerialQuery session serial) z rest fits = opens_with (spelled version (SerialQuery session serial) z) rest (omega arith) (same_version (version_number version)) refl refl refl (omega arith)
+  opens ResetQuery z rest fits = opens_with (spelled version ResetQuery z) rest (omega arith) (same_version (version_number version)) refl refl refl (omega arith)
+  opens (CacheResponse session) z rest fits = opens_with (spelled version (CacheResponse session) z) rest (omega arith) (same_version (version_number version)) refl refl refl (omega arith)
   opens (Prefix a v) z rest fits =
       elim v.prefix as (λ p. Opens version (prefix_bytes version a p v.max_len v.asn z) (prefix_bytes version a p v.max_len v.asn z ++ rest)) [
-        | V4 p ↦ opens_with (prefix_bytes version a (V4 p) v.max_len v.asn z) rest (omega arith) (same_version version) refl refl refl (omega arith)
-        | V6 p ↦ opens_with (prefix_bytes version a (V6 p) v.max_len v.asn z) rest (omega arith) (same_version version) refl refl refl (omega arith)
+        | V4 p ↦ opens_with (prefix_bytes version a (V4 p) v.max_len v.asn z) rest (omega arith) (same_version (version_number version)) refl refl refl (omega arith)
+        | V6 p ↦ opens_with (prefix_bytes version a (V6 p) v.max_len v.asn z) rest (omega arith) (same_version (version_number version)) refl refl refl (omega arith)
       ]
-  opens (EndOfData session serial refresh retry expire) z rest fits = opens_with (spelled version (EndOfData session serial refresh retry expire) z) rest (omega arith) (same_version version) refl refl refl (omega arith)
-  opens CacheReset z rest fits = opens_with (spelled version CacheReset z) rest (omega arith) (same_version version) refl refl refl (omega arith)
+  opens (EndOfData session serial refresh retry expire) z rest fits = opens_with (spelled version (EndOfData session serial refresh retry expire) z) rest (omega arith) (same_version (version_number version)) refl refl refl (omega arith)
+  opens CacheReset z rest fits = opens_with (spelled version CacheReset z) rest (omega arith) (same_version (version_number version)) refl refl refl (omega arith)
   opens (RouterKey k) z rest fits =
       let bytes = spelled version (RouterKey k) z ++ rest in
       let len : length_of bytes ≡ 32 + length k.info = back 4 (32 + length k.info) (omega (arith, fits.2)) in
       let size : length ((k.identifier ++ big_bytes 4 k.asn) ++ k.info) ≡ 24 + length k.info =
       length-append (k.identifier ++ big_bytes 4 k.asn) k.info ∙ ap (λ n. n + length k.info) (length-append k.identifier (big_bytes 4 k.asn) ∙ ap (λ n. n + 4) fits.0) in
       record {
-        fault = sound bytes (omega arith) (same_version version) refl (ap (has_length 9) len ∙ ap (λ b. b || false) (enough 32 (32 + length k.info) (omega arith))) (omega (arith, len, fits.2));
+        fault = sound bytes (omega arith) (same_version (version_number version)) refl (ap (has_length version 9) len ∙ ap (λ b. b || false) (enough 32 (32 + length k.info) (omega arith))) (omega (arith, len, fits.2));
         len = len ∙ (omega (arith, size));
         eight = omega arith;
       }
@@ -189,7 +191,7 @@ module _ (version : ℕ) where
       let size : length ((r.copy ++ big_bytes 4 (length r.text)) ++ r.text) ≡ length r.copy + 4 + length r.text =
       length-append (r.copy ++ big_bytes 4 (length r.text)) r.text ∙ ap (λ n. n + length r.text) (length-append r.copy (big_bytes 4 (length r.text))) in
       record {
-        fault = sound bytes (omega arith) (same_version version) refl (ap (has_length 10) len ∙ ap (λ b. b || false) (enough 16 (16 + length r.copy + length r.text) (omega arith))) (omega (arith, len, fits.1));
+        fault = sound bytes (omega arith) (same_version (version_number version)) refl (ap (has_length version 10) len ∙ ap (λ b. b || false) (enough 16 (16 + length r.copy + length r.text) (omega arith))) (omega (arith, len, fits.1));
         len = len ∙ (omega (arith, size));
         eight = omega arith;
       }

@@ -1,6 +1,7 @@
 -- One unit from a reader, and one to a writer (RFC 8210 section 5).
 use Rattle.std.specs.Prelude.{◌≡◌, ℕ, ◌+◌, ◌-◌, ◌<◌, ◌≤◌, false, nat_lt, List, [], ◌∷◌, ◌++◌, length, take, Option, Some, None, Result, Ok, Err, if◌then◌else◌, ⊤}
 use Rattle.std.specs.Io.KnownBytes.{Appends, Consumes, IsAtEnd}
+use Rattle.rtr_pdu.specs.declared.version.Version.{Version}
 use Rattle.rtr_pdu.specs.declared.unit.Unit.{Unit}
 use Rattle.rtr_pdu.specs.declared.unit.UnitFault.{UnitFault}
 use Rattle.rtr_pdu.specs.declared.unit.UnitFault.TheVariants as faults
@@ -13,18 +14,18 @@ use Rattle.rtr_pdu.specs.Reader.{IsFaulty, IsRead}
 
 -- What these bytes are, and that they are the last ones where it is told that the input ends: a unit and no more, or nothing,
 -- or the beginning of a unit, or what shows a fault and no more
-abbrev pub Answers : List ℕ → Option (List ℕ) → Result (Option Unit) ReadFault → Type 0
-Answers bytes left (Ok (Some u)) = IsRead false bytes u
-Answers bytes left (Ok None) = (bytes ≡ []) × IsAtEnd left
-Answers bytes left (Err (read_faults.Fault faults.Truncated)) = IsPartial 1 (as_read 1 false bytes) × (0 < length bytes) × IsAtEnd left
-Answers bytes left (Err (read_faults.Fault fault)) = IsFaulty false bytes fault
-Answers bytes left (Err read_faults.ReadFailed) = IsPartial 1 (as_read 1 false bytes)
+abbrev pub Answers : Version → List ℕ → Option (List ℕ) → Result (Option Unit) ReadFault → Type 0
+Answers version bytes left (Ok (Some u)) = IsRead version false bytes u
+Answers version bytes left (Ok None) = (bytes ≡ []) × IsAtEnd left
+Answers version bytes left (Err (read_faults.Fault faults.Truncated)) = IsPartial version (as_read version false bytes) × (0 < length bytes) × IsAtEnd left
+Answers version bytes left (Err (read_faults.Fault fault)) = IsFaulty version false bytes fault
+Answers version bytes left (Err read_faults.ReadFailed) = IsPartial version (as_read version false bytes)
 
 -- Of what a reader at a cache had left, what this answer tells of was read, in at most one call for each byte and one more.
-pub record ReadsUnit (before left : Option (List ℕ)) (calls now : ℕ) (answer : Result (Option Unit) ReadFault) : Type 0 where
+pub record ReadsUnit (version : Version) (before left : Option (List ℕ)) (calls now : ℕ) (answer : Result (Option Unit) ReadFault) : Type 0 where
   pub bytes : List ℕ
   pub consumed : Consumes before left bytes
-  pub answers : Answers bytes left answer
+  pub answers : Answers version bytes left answer
   pub calls_most : now ≤ calls + length bytes + 1
 
 -- No failure was counted and some call was; where the answer is that the reader failed, it did.
@@ -34,17 +35,17 @@ CountsRead old new answer = (failures_of new ≡ failures_of old) × (calls_of o
 
 -- What this answer, after these bytes were read, says of the split of what there was, where this is left: its first unit, and then
 -- the units of what is left; or no unit, and this fault at its end; or nothing at all
-abbrev pub SaysOfSplit : List ℕ → List ℕ → Result (Option Unit) ReadFault → Type 0
-SaysOfSplit bytes left (Ok (Some u)) =
-    (units : List Unit) (rest : List ℕ) (fault : Option UnitFault) → Splits 1 false left units rest fault → Splits 1 false (bytes ++ left) (u ∷ units) rest fault
-SaysOfSplit bytes left (Ok None) = bytes ++ left ≡ []
-SaysOfSplit bytes left (Err (read_faults.Fault fault)) =
-    (shown : Option UnitFault) × Splits 1 false (bytes ++ left) [] (bytes ++ left) shown × (end_fault (bytes ++ left) shown ≡ Some fault)
-SaysOfSplit bytes left (Err read_faults.ReadFailed) = ⊤
+abbrev pub SaysOfSplit : Version → List ℕ → List ℕ → Result (Option Unit) ReadFault → Type 0
+SaysOfSplit version bytes left (Ok (Some u)) =
+    (units : List Unit) (rest : List ℕ) (fault : Option UnitFault) → Splits version false left units rest fault → Splits version false (bytes ++ left) (u ∷ units) rest fault
+SaysOfSplit version bytes left (Ok None) = bytes ++ left ≡ []
+SaysOfSplit version bytes left (Err (read_faults.Fault fault)) =
+    (shown : Option UnitFault) × Splits version false (bytes ++ left) [] (bytes ++ left) shown × (end_fault (bytes ++ left) shown ≡ Some fault)
+SaysOfSplit version bytes left (Err read_faults.ReadFailed) = ⊤
 
 -- An answer tells the first unit or fault of the split, where the reader's bytes are known.
 abbrev pub TellsFirst : Type 0
-TellsFirst = (bytes left : List ℕ) (answer : Result (Option Unit) ReadFault) → Answers bytes (Some left) answer → SaysOfSplit bytes left answer
+TellsFirst = (version : Version) (bytes left : List ℕ) (answer : Result (Option Unit) ReadFault) → Answers version bytes (Some left) answer → SaysOfSplit version bytes left answer
 
 -- A beginning of these bytes has gone out, and not all of them.
 abbrev pub GoesOutInPart : Option (List ℕ) → Option (List ℕ) → List ℕ → Type 0

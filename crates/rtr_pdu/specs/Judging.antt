@@ -1,7 +1,8 @@
 -- What bytes are, byte by byte: the beginning of a unit, a unit, or a fault (RFC 8210 sections 5 and 12).
-use Rattle.std.specs.Prelude.{◌≡◌, ◌↔◌, ℕ, ◌+◌, ◌-◌, ◌/◌, ◌%◌, ◌^◌, ◌<◌, Bool, not, ◌&&◌, ◌==◌, nat_lt, nat_le, List, length, take, drop, slice_index, Option, Some, None, if◌then◌else◌}
+use Rattle.std.specs.Prelude.{◌≡◌, ◌↔◌, ℕ, ◌+◌, ◌-◌, ◌/◌, ◌%◌, ◌^◌, Bool, not, ◌&&◌, ◌==◌, nat_lt, nat_le, List, length, take, drop, slice_index, Option, Some, None, if◌then◌else◌}
 use Rattle.std.specs.Str.{is_utf8}
 use Rattle.byteorder.specs.Endian.{big_number}
+use Rattle.rtr_pdu.specs.declared.version.Version.{Version}
 use Rattle.rtr_pdu.specs.declared.unit.Unit.{Unit}
 use Rattle.rtr_pdu.specs.declared.unit.Unit.TheVariants.{SerialNotify, SerialQuery, ResetQuery, CacheResponse, Prefix, EndOfData, CacheReset, RouterKey, ErrorReport}
 use Rattle.rtr_pdu.specs.declared.unit.UnitFault.{UnitFault}
@@ -14,8 +15,8 @@ use Rattle.rtr_pdu.specs.Stream.{as_read, length_of, is_of, header_fault, IsPart
 use Rattle.rtr_pdu.specs.Unit.{Reads}
 
 -- What bytes are read as, by their type: a front of them, if they begin with a unit
-abbrev pub unit_in : List ℕ → Unit
-unit_in bytes =
+abbrev pub unit_in : Version → List ℕ → Unit
+unit_in version bytes =
     if is_of kinds.SerialNotify bytes then SerialNotify (number_at 2 2 bytes) (number_at 4 8 bytes)
     else if is_of kinds.SerialQuery bytes then SerialQuery (number_at 2 2 bytes) (number_at 4 8 bytes)
     else if is_of kinds.ResetQuery bytes then ResetQuery
@@ -28,7 +29,7 @@ unit_in bytes =
       announce = is_odd (slice_index bytes 2);
       identifier = take 20 (drop 8 bytes);
       asn = number_at 4 28 bytes;
-      info = take (length_of bytes - fixed_len kinds.RouterKey) (drop 32 bytes);
+      info = take (length_of bytes - fixed_len version kinds.RouterKey) (drop 32 bytes);
     })
     else ErrorReport (record {
       code = number_at 2 2 bytes;
@@ -43,18 +44,18 @@ has_record width bytes =
     && (nat_le (slice_index bytes 10) width && big_number (width / 8) (drop 12 bytes) % 2 ^ (width - slice_index bytes 9) == 0)
 
 -- `IsReport` as a test
-abbrev pub has_report : List ℕ → Bool
-has_report bytes =
+abbrev pub has_report : Version → List ℕ → Bool
+has_report version bytes =
     let copy = number_at 4 8 bytes in
     let text = number_at 4 (12 + copy) bytes in
-    fixed_len kinds.ErrorReport + copy + text == length_of bytes && is_utf8 (take text (drop (16 + copy) bytes))
+    fixed_len version kinds.ErrorReport + copy + text == length_of bytes && is_utf8 (take text (drop (16 + copy) bytes))
 
 -- The fault of a whole unit, behind a header without a fault
-abbrev pub body_fault : List ℕ → Option UnitFault
-body_fault bytes =
+abbrev pub body_fault : Version → List ℕ → Option UnitFault
+body_fault version bytes =
     if is_of kinds.Ipv4Prefix bytes && not (has_record 32 bytes) then Some faults.Record
     else if is_of kinds.Ipv6Prefix bytes && not (has_record 128 bytes) then Some faults.Record
-    else if is_of kinds.ErrorReport bytes && not (has_report bytes) then Some faults.ErrorReport
+    else if is_of kinds.ErrorReport bytes && not (has_report version bytes) then Some faults.ErrorReport
     else None
 
 -- Bytes of a stream, from the beginning of a unit on, are the beginning of a unit in which no fault shows yet, or begin with a
@@ -64,34 +65,34 @@ pub data Judgement : Type 0 where
   Whole : Unit → Judgement
   Faulty : UnitFault → Judgement
 
-abbrev pub by_body : List ℕ → Option UnitFault → Judgement
-by_body bytes None = Whole (unit_in bytes)
-by_body bytes (Some fault) = Faulty fault
+abbrev pub by_body : Version → List ℕ → Option UnitFault → Judgement
+by_body version bytes None = Whole (unit_in version bytes)
+by_body version bytes (Some fault) = Faulty fault
 
-abbrev pub by_header : List ℕ → Option UnitFault → Judgement
-by_header bytes (Some fault) = Faulty fault
-by_header bytes None =
+abbrev pub by_header : Version → List ℕ → Option UnitFault → Judgement
+by_header version bytes (Some fault) = Faulty fault
+by_header version bytes None =
     if nat_lt (length bytes) 8 then Begins
     else if nat_lt (length bytes) (length_of bytes) then Begins
-    else by_body bytes (body_fault bytes)
+    else by_body version bytes (body_fault version bytes)
 
 -- What bytes are where units of this version are expected, at a cache and at a router (any)
-unfoldable pub judge : ℕ → Bool → List ℕ → Judgement
-judge version any bytes = let seen = as_read version any bytes in by_header seen (header_fault version seen)
+unfoldable pub judge : Version → Bool → List ℕ → Judgement
+judge version any bytes = let seen = as_read version any bytes in by_header version seen (header_fault version seen)
 
 -- They are judged the beginning of a unit exactly where they are one.
 abbrev pub BeginsExactly : Type 0
-BeginsExactly = (version : ℕ) (any : Bool) (bytes : List ℕ) → (judge version any bytes ≡ Begins) ↔ IsPartial version (as_read version any bytes)
+BeginsExactly = (version : Version) (any : Bool) (bytes : List ℕ) → (judge version any bytes ≡ Begins) ↔ IsPartial version (as_read version any bytes)
 
 -- They are judged to show a fault exactly where it shows.
 abbrev pub FaultyExactly : Type 0
 FaultyExactly =
-    (version : ℕ) (any : Bool) (bytes : List ℕ) (fault : UnitFault) →
+    (version : Version) (any : Bool) (bytes : List ℕ) (fault : UnitFault) →
     (judge version any bytes ≡ Faulty fault) ↔ Shows version (as_read version any bytes) fault
 
 -- Bytes of the length that their header tells are judged a unit exactly where they are it.
 abbrev pub WholeExactly : Type 0
 WholeExactly =
-    (version : ℕ) (any : Bool) (bytes : List ℕ) (u : Unit) → version < 256 → AreBytes bytes →
+    (version : Version) (any : Bool) (bytes : List ℕ) (u : Unit) → AreBytes bytes →
     length bytes ≡ length_of (as_read version any bytes) →
     (judge version any bytes ≡ Whole u) ↔ Reads version u (as_read version any bytes)

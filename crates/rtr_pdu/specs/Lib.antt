@@ -11,3 +11,4 @@ pub mod Rows
 pub mod Run
 pub mod Stream
 pub mod Unit
+pub mod Version

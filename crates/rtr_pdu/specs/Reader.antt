@@ -1,5 +1,6 @@
 -- A reader of units of version 1, as contracts see it.
 use Rattle.std.specs.Prelude.{◌≡◌, ◌⊎◌, ℕ, ◌<◌, Bool, true, false, nat_lt, List, [], ◌++◌, length, Option, Some, None, if◌then◌else◌, MatchOption}
+use Rattle.rtr_pdu.specs.declared.version.Version.{Version}
 use Rattle.rtr_pdu.specs.declared.unit.Unit.{Unit}
 use Rattle.rtr_pdu.specs.declared.unit.UnitFault.{UnitFault}
 use Rattle.rtr_pdu.specs.declared.unit.UnitFault.TheVariants as faults
@@ -24,56 +25,56 @@ fault_size faults.Truncated bytes = length bytes
 fault_size _ bytes = 8
 
 -- This fault shows in these bytes, and not in fewer.
-pub record IsFaulty (any : Bool) (bytes : List ℕ) (fault : UnitFault) : Type 0 where
-  pub shows : Shows 1 (as_read 1 any bytes) fault
-  pub shortest : IsShortest 1 any bytes
-  pub size : length bytes ≡ fault_size fault (as_read 1 any bytes)
+pub record IsFaulty (version : Version) (any : Bool) (bytes : List ℕ) (fault : UnitFault) : Type 0 where
+  pub shows : Shows version (as_read version any bytes) fault
+  pub shortest : IsShortest version any bytes
+  pub size : length bytes ≡ fault_size fault (as_read version any bytes)
 
 -- These bytes are this unit, and no fewer are one.
-pub record IsRead (any : Bool) (bytes : List ℕ) (u : Unit) : Type 0 where
-  pub reads : Reads 1 u (as_read 1 any bytes)
-  pub shortest : IsShortest 1 any bytes
+pub record IsRead (version : Version) (any : Bool) (bytes : List ℕ) (u : Unit) : Type 0 where
+  pub reads : Reads version u (as_read version any bytes)
+  pub shortest : IsShortest version any bytes
 
 -- What these bytes of a unit are, where this is left of the piece
-abbrev pub Judges : Bool → List ℕ → Next → List ℕ → Type 0
-Judges any bytes (next.Unit u) rest = IsRead any bytes u
-Judges any bytes next.NeedMore rest = IsPartial 1 (as_read 1 any bytes) × (rest ≡ [])
-Judges any bytes (next.Fault fault) rest = IsFaulty any bytes fault
+abbrev pub Judges : Version → Bool → List ℕ → Next → List ℕ → Type 0
+Judges version any bytes (next.Unit u) rest = IsRead version any bytes u
+Judges version any bytes next.NeedMore rest = IsPartial version (as_read version any bytes) × (rest ≡ [])
+Judges version any bytes (next.Fault fault) rest = IsFaulty version any bytes fault
 
 -- Behind these bytes some of the piece are taken, and this is left.
-pub record Advances (any : Bool) (held piece : List ℕ) (answer : Next) (rest now : List ℕ) : Type 0 where
+pub record Advances (version : Version) (any : Bool) (held piece : List ℕ) (answer : Next) (rest now : List ℕ) : Type 0 where
   pub taken : List ℕ
   pub piece_is : piece ≡ taken ++ rest
   pub now_is : now ≡ held ++ taken
-  pub judged : Judges any now answer rest
+  pub judged : Judges version any now answer rest
 
 -- What holds of each reader
-abbrev pub Stands : Bool → List ℕ → UnitFault → Type 0
-Stands any bytes faults.Truncated = IsPartial 1 (as_read 1 any bytes) × (0 < length bytes)
-Stands any bytes fault = IsFaulty any bytes fault
+abbrev pub Stands : Version → Bool → List ℕ → UnitFault → Type 0
+Stands version any bytes faults.Truncated = IsPartial version (as_read version any bytes) × (0 < length bytes)
+Stands version any bytes fault = IsFaulty version any bytes fault
 
 -- It holds the beginning of a unit, or a fault and the bytes that show it.
-abbrev pub IsReader : Reader → Type 0
-IsReader r = MatchOption r.fault (IsPartial 1 (as_read 1 r.any r.held)) (Stands r.any r.held)
+abbrev pub IsReader : Version → Reader → Type 0
+IsReader version r = MatchOption r.fault (IsPartial version (as_read version r.any r.held)) (Stands version r.any r.held)
 
 -- A reader that holds nothing
 abbrev pub fresh : Bool → Reader
 fresh any = record { held = []; any = any; later = any; fault = None }
 
 -- The reader after an answer for which this was taken
-abbrev pub Gives : Reader → List ℕ → Next → List ℕ → Reader → Type 0
-Gives old taken (next.Unit u) rest new = (old.fault ≡ None) × IsRead old.any (old.held ++ taken) u × (new ≡ fresh old.later)
-Gives old taken next.NeedMore rest new =
-    (old.fault ≡ None) × IsPartial 1 (as_read 1 old.any (old.held ++ taken)) × (rest ≡ []) × (new ≡ record old { held = old.held ++ taken })
-Gives old taken (next.Fault fault) rest new =
-    ((old.fault ≡ None) × IsFaulty old.any (old.held ++ taken) fault × (new ≡ record old { held = old.held ++ taken; fault = Some fault }))
+abbrev pub Gives : Version → Reader → List ℕ → Next → List ℕ → Reader → Type 0
+Gives version old taken (next.Unit u) rest new = (old.fault ≡ None) × IsRead version old.any (old.held ++ taken) u × (new ≡ fresh old.later)
+Gives version old taken next.NeedMore rest new =
+    (old.fault ≡ None) × IsPartial version (as_read version old.any (old.held ++ taken)) × (rest ≡ []) × (new ≡ record old { held = old.held ++ taken })
+Gives version old taken (next.Fault fault) rest new =
+    ((old.fault ≡ None) × IsFaulty version old.any (old.held ++ taken) fault × (new ≡ record old { held = old.held ++ taken; fault = Some fault }))
     ⊎ ((old.fault ≡ Some fault) × (taken ≡ []) × (new ≡ old))
 
 -- A call of `next`: what it takes stands at the front of the piece, and nothing else changes.
-pub record Takes (old : Reader) (piece : List ℕ) (answer : Next) (rest : List ℕ) (new : Reader) : Type 0 where
+pub record Takes (version : Version) (old : Reader) (piece : List ℕ) (answer : Next) (rest : List ℕ) (new : Reader) : Type 0 where
   pub taken : List ℕ
   pub piece_is : piece ≡ taken ++ rest
-  pub gives : Gives old taken answer rest new
+  pub gives : Gives version old taken answer rest new
 
 -- A header that has not come whole is read as after agreement.
 abbrev pub after_agreed : Reader → Reader

@@ -3,6 +3,7 @@ use Rattle.std.specs.Prelude.{◌≡◌, ℕ, ◌+◌, ◌-◌, ◌%◌, ◌≤�
 use Rattle.byteorder.specs.Endian.{big_number}
 use Rattle.prefixes.specs.Payload.{Payload}
 use Rattle.prefixes.specs.declared.prefix.IpPrefix.TheVariants.{V4, V6}
+use Rattle.rtr_pdu.specs.declared.version.Version.{Version}
 use Rattle.rtr_pdu.specs.declared.kind.Kind.TheVariants as kinds
 use Rattle.rtr_pdu.specs.Kind.{kind_number, fixed_len, is_type}
 use Rattle.rtr_pdu.specs.Payloads.{Report, Key}
@@ -51,26 +52,26 @@ report_in bytes = record {
 }
 
 -- The lengths of the types, within that of the longest unit
-pub record IsSized (type len : ℕ) : Type 0 where
+pub record IsSized (version : Version) (type len : ℕ) : Type 0 where
   pub eight : 8 ≤ len
   pub most : len ≤ MAX_UNIT_LEN
-  pub known : is_type type ≡ true
-  pub at_notify : type ≡ kind_number kinds.SerialNotify → len ≡ fixed_len kinds.SerialNotify
-  pub at_query : type ≡ kind_number kinds.SerialQuery → len ≡ fixed_len kinds.SerialQuery
-  pub at_reset_query : type ≡ kind_number kinds.ResetQuery → len ≡ fixed_len kinds.ResetQuery
-  pub at_response : type ≡ kind_number kinds.CacheResponse → len ≡ fixed_len kinds.CacheResponse
-  pub at_v4 : type ≡ kind_number kinds.Ipv4Prefix → len ≡ fixed_len kinds.Ipv4Prefix
-  pub at_v6 : type ≡ kind_number kinds.Ipv6Prefix → len ≡ fixed_len kinds.Ipv6Prefix
-  pub at_end_of_data : type ≡ kind_number kinds.EndOfData → len ≡ fixed_len kinds.EndOfData
-  pub at_cache_reset : type ≡ kind_number kinds.CacheReset → len ≡ fixed_len kinds.CacheReset
-  pub at_key : type ≡ kind_number kinds.RouterKey → fixed_len kinds.RouterKey ≤ len
-  pub at_report : type ≡ kind_number kinds.ErrorReport → fixed_len kinds.ErrorReport ≤ len
+  pub known : is_type version type ≡ true
+  pub at_notify : type ≡ kind_number kinds.SerialNotify → len ≡ fixed_len version kinds.SerialNotify
+  pub at_query : type ≡ kind_number kinds.SerialQuery → len ≡ fixed_len version kinds.SerialQuery
+  pub at_reset_query : type ≡ kind_number kinds.ResetQuery → len ≡ fixed_len version kinds.ResetQuery
+  pub at_response : type ≡ kind_number kinds.CacheResponse → len ≡ fixed_len version kinds.CacheResponse
+  pub at_v4 : type ≡ kind_number kinds.Ipv4Prefix → len ≡ fixed_len version kinds.Ipv4Prefix
+  pub at_v6 : type ≡ kind_number kinds.Ipv6Prefix → len ≡ fixed_len version kinds.Ipv6Prefix
+  pub at_end_of_data : type ≡ kind_number kinds.EndOfData → len ≡ fixed_len version kinds.EndOfData
+  pub at_cache_reset : type ≡ kind_number kinds.CacheReset → len ≡ fixed_len version kinds.CacheReset
+  pub at_key : type ≡ kind_number kinds.RouterKey → fixed_len version kinds.RouterKey ≤ len
+  pub at_report : type ≡ kind_number kinds.ErrorReport → fixed_len version kinds.ErrorReport ≤ len
 
 -- A unit of version 1 has come whole, and no more than it.
-pub record IsBody (any : Bool) (bytes : List ℕ) : Type 0 where
-  pub whole : IsWhole 1 (as_read 1 any bytes)
-  pub exact : length bytes ≡ length_of (as_read 1 any bytes)
-  pub sized : IsSized (type_of bytes) (length bytes)
+pub record IsBody (version : Version) (any : Bool) (bytes : List ℕ) : Type 0 where
+  pub whole : IsWhole version (as_read version any bytes)
+  pub exact : length bytes ≡ length_of (as_read version any bytes)
+  pub sized : IsSized version (type_of bytes) (length bytes)
 
 -- What was held, filled up from a piece to a size
 abbrev pub filled : ℕ → List ℕ → List ℕ → List ℕ

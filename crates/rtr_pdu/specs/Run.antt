@@ -1,32 +1,33 @@
 -- A reader that is told of agreement reads a stream.
 use Rattle.std.specs.Prelude.{◌≡◌, ℕ, Bool, List, ◌++◌, Option, Some, None}
+use Rattle.rtr_pdu.specs.declared.version.Version.{Version}
 use Rattle.rtr_pdu.specs.declared.unit.Unit.{Unit}
 use Rattle.rtr_pdu.specs.declared.unit.UnitFault.{UnitFault}
 use Rattle.rtr_pdu.specs.Stream.{as_read, any_after, AreRead, IsPartial, Splits, SameSplit}
 use Rattle.rtr_pdu.specs.Reader.{Reader}
 
 -- Of this stream these units were read, and the reader has the rest.
-pub record HasRead (any : Bool) (stream : List ℕ) (units : List Unit) (r : Reader) : Type 0 where
+pub record HasRead (version : Version) (any : Bool) (stream : List ℕ) (units : List Unit) (r : Reader) : Type 0 where
   pub front : List ℕ
   pub whole : stream ≡ front ++ r.held
-  pub read : AreRead 1 any units front
+  pub read : AreRead version any units front
   pub any_is : r.any ≡ any_after any units
   pub later_is : r.later ≡ any_after any units
   pub sound : r.fault ≡ None
-  pub partial : IsPartial 1 (as_read 1 r.any r.held)
+  pub partial : IsPartial version (as_read version r.any r.held)
 
 -- The same, or a fault was found.
-abbrev pub HasFed : Bool → List ℕ → List Unit → Reader → Option UnitFault → Type 0
-HasFed any stream units r None = HasRead any stream units r
-HasFed any stream units r (Some fault) = (rest : List ℕ) × Splits 1 any stream units rest (Some fault)
+abbrev pub HasFed : Version → Bool → List ℕ → List Unit → Reader → Option UnitFault → Type 0
+HasFed version any stream units r None = HasRead version any stream units r
+HasFed version any stream units r (Some fault) = (rest : List ℕ) × Splits version any stream units rest (Some fault)
 
 -- The stream has this split, and no other.
-pub record HasOnly (any : Bool) (stream : List ℕ) (units : List Unit) (fault : Option UnitFault) : Type 0 where
+pub record HasOnly (version : Version) (any : Bool) (stream : List ℕ) (units : List Unit) (fault : Option UnitFault) : Type 0 where
   pub rest : List ℕ
-  pub split : Splits 1 any stream units rest fault
-  pub only : (others : List Unit) (left : List ℕ) (other : Option UnitFault) → Splits 1 any stream others left other → SameSplit units others rest left fault other
+  pub split : Splits version any stream units rest fault
+  pub only : (others : List Unit) (left : List ℕ) (other : Option UnitFault) → Splits version any stream others left other → SameSplit units others rest left fault other
 
 -- On from where a reader began a piece: whatever it had read then, this is left of the piece.
-abbrev pub GoesOn : List Unit → Reader → List ℕ → List Unit → Reader → List ℕ → Type 0
-GoesOn before began piece units r rest =
-    (any : Bool) (stream : List ℕ) → HasRead any stream before began → (done : List ℕ) × HasRead any done units r × (done ++ rest ≡ stream ++ piece)
+abbrev pub GoesOn : Version → List Unit → Reader → List ℕ → List Unit → Reader → List ℕ → Type 0
+GoesOn version before began piece units r rest =
+    (any : Bool) (stream : List ℕ) → HasRead version any stream before began → (done : List ℕ) × HasRead version any done units r × (done ++ rest ≡ stream ++ piece)

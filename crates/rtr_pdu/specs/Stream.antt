@@ -2,6 +2,9 @@
 use Rattle.std.specs.Prelude.{◌≡◌, ◌⊎◌, ℕ, ◌+◌, ◌-◌, ◌/◌, ◌%◌, ◌^◌, ◌<◌, ◌≤◌, Bool, true, false, not, ◌&&◌, ◌==◌, nat_lt, nat_le, List, [], ◌∷◌, ◌++◌, length, take, drop, slice_index, Option, Some, None, if◌then◌else◌, MatchOption}
 use Rattle.std.specs.Str.{IsUtf8}
 use Rattle.byteorder.specs.Endian.{big_number}
+use Rattle.rtr_pdu.specs.Version.{version_number}
+use Rattle.rtr_pdu.specs.declared.version.Version.{Version}
+use Rattle.rtr_pdu.specs.declared.version.Version.TheVariants.{V1}
 use Rattle.rtr_pdu.specs.declared.unit.Unit.{Unit}
 use Rattle.rtr_pdu.specs.declared.unit.Unit.TheVariants.{SerialNotify}
 use Rattle.rtr_pdu.specs.declared.unit.UnitFault.{UnitFault}
@@ -31,24 +34,24 @@ abbrev pub is_of : Kind → List ℕ → Bool
 is_of kind bytes = type_of bytes == kind_number kind
 
 -- The first fault of a header with these bytes of version, type and length, where units of this version are expected
-abbrev pub fault_of : ℕ → ℕ → ℕ → ℕ → Option UnitFault
+abbrev pub fault_of : Version → ℕ → ℕ → ℕ → Option UnitFault
 fault_of version shown type len =
-    if not (shown == version) then Some faults.Version
-    else if not (is_type type) then Some faults.«Type»
-    else if not (has_length type len) then Some faults.Length
+    if not (shown == version_number version) then Some faults.Version
+    else if not (is_type version type) then Some faults.«Type»
+    else if not (has_length version type len) then Some faults.Length
     else if nat_lt MAX_UNIT_LEN len then Some faults.TooLong
     else None
 
 -- A header that is still to come has no fault.
-abbrev pub header_fault : ℕ → List ℕ → Option UnitFault
+abbrev pub header_fault : Version → List ℕ → Option UnitFault
 header_fault version bytes = if nat_lt (length bytes) 8 then None else fault_of version (version_of bytes) (type_of bytes) (length_of bytes)
 
 -- A unit has not come whole, and its header, as far as it has come, has no fault.
-abbrev pub IsPartial : ℕ → List ℕ → Type 0
+abbrev pub IsPartial : Version → List ℕ → Type 0
 IsPartial version bytes = (header_fault version bytes ≡ None) × ((length bytes < 8) ⊎ (length bytes < length_of bytes))
 
 -- A unit has come whole, behind a header without a fault.
-abbrev pub IsWhole : ℕ → List ℕ → Type 0
+abbrev pub IsWhole : Version → List ℕ → Type 0
 IsWhole version bytes = (header_fault version bytes ≡ None) × (8 ≤ length bytes) × (length_of bytes ≤ length bytes)
 
 -- The bytes of a prefix unit hold a payload: its maximum is from its length to the width, and no host bit is set.
@@ -58,17 +61,17 @@ IsRecord width bytes =
     × (big_number (width / 8) (drop 12 bytes) % 2 ^ (width - slice_index bytes 9) ≡ 0)
 
 -- The two lengths in an Error Report and 16 add up to its length, and its text is UTF-8.
-abbrev pub IsReport : List ℕ → Type 0
-IsReport bytes =
+abbrev pub IsReport : Version → List ℕ → Type 0
+IsReport version bytes =
     let copy = big_number 4 (drop 8 bytes) in
     let text = big_number 4 (drop (12 + copy) bytes) in
-    (fixed_len kinds.ErrorReport + copy + text ≡ length_of bytes) × IsUtf8 (take text (drop (16 + copy) bytes))
+    (fixed_len version kinds.ErrorReport + copy + text ≡ length_of bytes) × IsUtf8 (take text (drop (16 + copy) bytes))
 
 -- This fault, and none before it, shows at the front of the bytes. That the input ends is no fault of bytes.
-abbrev pub Shows : ℕ → List ℕ → UnitFault → Type 0
+abbrev pub Shows : Version → List ℕ → UnitFault → Type 0
 Shows version bytes faults.Record =
     IsWhole version bytes × ((IsOf kinds.Ipv4Prefix bytes × ¬ (IsRecord 32 bytes)) ⊎ (IsOf kinds.Ipv6Prefix bytes × ¬ (IsRecord 128 bytes)))
-Shows version bytes faults.ErrorReport = IsWhole version bytes × IsOf kinds.ErrorReport bytes × ¬ (IsReport bytes)
+Shows version bytes faults.ErrorReport = IsWhole version bytes × IsOf kinds.ErrorReport bytes × ¬ (IsReport version bytes)
 Shows version bytes faults.Truncated = ⊥
 Shows version bytes fault = header_fault version bytes ≡ Some fault
 
@@ -81,10 +84,10 @@ end_fault (b ∷ rest) None = Some faults.Truncated
 -- A router that has not agreed on a version yet (any) reads a Serial Notify, told by its type and its length, whatever its
 -- version (section 7). So it reads the bytes with the expected version in such a header.
 abbrev pub is_notify_header : List ℕ → Bool
-is_notify_header bytes = nat_le 8 (length bytes) && (is_of kinds.SerialNotify bytes && length_of bytes == fixed_len kinds.SerialNotify)
+is_notify_header bytes = nat_le 8 (length bytes) && (is_of kinds.SerialNotify bytes && length_of bytes == fixed_len V1 kinds.SerialNotify)
 
-unfoldable pub as_read : ℕ → Bool → List ℕ → List ℕ
-as_read version any bytes = if any && is_notify_header bytes then version ∷ drop 1 bytes else bytes
+unfoldable pub as_read : Version → Bool → List ℕ → List ℕ
+as_read version any bytes = if any && is_notify_header bytes then version_number version ∷ drop 1 bytes else bytes
 
 -- There is no agreement while Serial Notifies alone are read.
 abbrev pub is_notify : Unit → Bool
@@ -96,14 +99,14 @@ any_after any [] = any
 any_after any (u ∷ units) = any_after (any && is_notify u) units
 
 -- These units are read from these bytes, one after the other, to the last byte.
-abbrev pub AreRead : ℕ → Bool → List Unit → List ℕ → Type 0
+abbrev pub AreRead : Version → Bool → List Unit → List ℕ → Type 0
 AreRead version any [] bytes = bytes ≡ []
 AreRead version any (u ∷ units) bytes =
     (front : List ℕ) × (back : List ℕ) × (bytes ≡ front ++ back)
     × Reads version u (as_read version any front) × AreRead version (any && is_notify u) units back
 
 -- The stream begins with these units. What follows is the beginning of a unit in which no fault shows yet, or shows this fault.
-pub record Splits (version : ℕ) (any : Bool) (stream : List ℕ) (units : List Unit) (rest : List ℕ) (fault : Option UnitFault) : Type 0 where
+pub record Splits (version : Version) (any : Bool) (stream : List ℕ) (units : List Unit) (rest : List ℕ) (fault : Option UnitFault) : Type 0 where
   pub front : List ℕ
   pub whole : stream ≡ front ++ rest
   pub read : AreRead version any units front
@@ -118,27 +121,27 @@ pub record SameSplit (units others : List Unit) (rest left : List ℕ) (fault ot
 -- A stream is split into units in one way, at the cache and at a router (any).
 abbrev pub OneSplit : Type 0
 OneSplit =
-    (version : ℕ) (any : Bool) (stream : List ℕ) (units others : List Unit) (rest left : List ℕ) (fault other : Option UnitFault) →
+    (version : Version) (any : Bool) (stream : List ℕ) (units others : List Unit) (rest left : List ℕ) (fault other : Option UnitFault) →
     Splits version any stream units rest fault → Splits version any stream others left other →
     SameSplit units others rest left fault other
 
 -- Each list of bytes has a split.
 abbrev pub EachSplits : Type 0
 EachSplits =
-    (version : ℕ) (any : Bool) (stream : List ℕ) → version < 256 → AreBytes stream →
+    (version : Version) (any : Bool) (stream : List ℕ) → AreBytes stream →
     (units : List Unit) × (rest : List ℕ) × (fault : Option UnitFault) × Splits version any stream units rest fault
 
 -- No shorter beginning of these bytes ends a unit or shows a fault.
-abbrev pub IsShortest : ℕ → Bool → List ℕ → Type 0
+abbrev pub IsShortest : Version → Bool → List ℕ → Type 0
 IsShortest version any bytes =
     (front : List ℕ) (back : List ℕ) → bytes ≡ front ++ back → 0 < length back → IsPartial version (as_read version any front)
 
 -- What is encoded is read again.
 abbrev pub WrittenIsRead : Type 0
-WrittenIsRead = (version : ℕ) (u : Unit) → IsUnit u → Reads version u (unit_bytes version u)
+WrittenIsRead = (version : Version) (u : Unit) → IsUnit u → Reads version u (unit_bytes version u)
 
 -- No unit's bytes begin another's: where two stand at the front of the same bytes, they are the same, and so is what follows.
 abbrev pub NoBeginning : Type 0
 NoBeginning =
-    (version : ℕ) (u v : Unit) (front other back rest : List ℕ) → Reads version u front → Reads version v other → front ++ back ≡ other ++ rest →
+    (version : Version) (u v : Unit) (front other back rest : List ℕ) → Reads version u front → Reads version v other → front ++ back ≡ other ++ rest →
     (u ≡ v) × (back ≡ rest)

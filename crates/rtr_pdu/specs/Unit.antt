@@ -6,6 +6,9 @@ use Rattle.byteorder.specs.Endian.{big_bytes}
 use Rattle.prefixes.specs.Payload.{IsPayload}
 use Rattle.prefixes.specs.declared.prefix.IpPrefix.{IpPrefix}
 use Rattle.prefixes.specs.declared.prefix.IpPrefix.TheVariants.{V4, V6}
+use Rattle.rtr_pdu.specs.Version.{version_number}
+use Rattle.rtr_pdu.specs.declared.version.Version.{Version}
+use Rattle.rtr_pdu.specs.declared.version.Version.TheVariants.{V1}
 use Rattle.rtr_pdu.specs.Kind.{kind_number, fixed_len}
 use Rattle.rtr_pdu.specs.Payloads.{AreBytes}
 use Rattle.rtr_pdu.specs.declared.kind.Kind.{Kind}
@@ -19,11 +22,11 @@ MAX_UNIT_LEN = 4096
 
 -- The most bytes of copy and text of an Error Report together
 abbrev pub REPORT_ROOM : ℕ
-REPORT_ROOM = MAX_UNIT_LEN - fixed_len kinds.ErrorReport
+REPORT_ROOM = MAX_UNIT_LEN - fixed_len V1 kinds.ErrorReport
 
 -- The most bytes of the key of a Router Key
 abbrev pub KEY_ROOM : ℕ
-KEY_ROOM = MAX_UNIT_LEN - fixed_len kinds.RouterKey
+KEY_ROOM = MAX_UNIT_LEN - fixed_len V1 kinds.RouterKey
 
 -- The lowest flag bit: 1 for an announcement, 0 for a withdrawal
 abbrev pub flag : Bool → ℕ
@@ -45,22 +48,22 @@ abbrev pub zeros : Ignored
 zeros = record { header = 0; flags = 0; byte = 0 }
 
 -- The header: version, type, two bytes by type, and the length of the whole unit
-abbrev pub header : ℕ → ℕ → ℕ → ℕ → List ℕ
-header version kind field len = version ∷ kind ∷ big_bytes 2 field ++ big_bytes 4 len
+abbrev pub header : Version → ℕ → ℕ → ℕ → List ℕ
+header version kind field len = version_number version ∷ kind ∷ big_bytes 2 field ++ big_bytes 4 len
 
 -- The same of a unit whose type has one length
-abbrev pub fixed_header : ℕ → Kind → ℕ → List ℕ
-fixed_header version kind field = header version (kind_number kind) field (fixed_len kind)
+abbrev pub fixed_header : Version → Kind → ℕ → List ℕ
+fixed_header version kind field = header version (kind_number kind) field (fixed_len version kind)
 
 -- An IPv4 or IPv6 Prefix (sections 5.6 and 5.7): flags, length, maximum, zero, address, AS
-abbrev pub prefix_bytes : ℕ → Bool → IpPrefix → ℕ → ℕ → Ignored → List ℕ
+abbrev pub prefix_bytes : Version → Bool → IpPrefix → ℕ → ℕ → Ignored → List ℕ
 prefix_bytes version announce (V4 p) max_len asn z =
     fixed_header version kinds.Ipv4Prefix z.header ++ (flag announce + 2 * z.flags) ∷ p.len ∷ max_len ∷ z.byte ∷ big_bytes 4 p.addr ++ big_bytes 4 asn
 prefix_bytes version announce (V6 p) max_len asn z =
     fixed_header version kinds.Ipv6Prefix z.header ++ (flag announce + 2 * z.flags) ∷ p.len ∷ max_len ∷ z.byte ∷ big_bytes 16 p.addr ++ big_bytes 4 asn
 
 -- The bytes of a unit of this protocol version, with what is ignored (sections 5.2 to 5.11)
-abbrev pub spelled : ℕ → Unit → Ignored → List ℕ
+abbrev pub spelled : Version → Unit → Ignored → List ℕ
 spelled version (SerialNotify session serial) z = fixed_header version kinds.SerialNotify session ++ big_bytes 4 serial
 spelled version (SerialQuery session serial) z = fixed_header version kinds.SerialQuery session ++ big_bytes 4 serial
 spelled version ResetQuery z = fixed_header version kinds.ResetQuery z.header
@@ -70,10 +73,10 @@ spelled version (EndOfData session serial refresh retry expire) z =
     fixed_header version kinds.EndOfData session ++ big_bytes 4 serial ++ big_bytes 4 refresh ++ big_bytes 4 retry ++ big_bytes 4 expire
 spelled version CacheReset z = fixed_header version kinds.CacheReset z.header
 spelled version (RouterKey k) z =
-    version ∷ kind_number kinds.RouterKey ∷ (flag k.announce + 2 * z.flags) ∷ z.byte ∷ big_bytes 4 (fixed_len kinds.RouterKey + length k.info) ++ k.identifier ++ big_bytes 4 k.asn
+    version_number version ∷ kind_number kinds.RouterKey ∷ (flag k.announce + 2 * z.flags) ∷ z.byte ∷ big_bytes 4 (fixed_len version kinds.RouterKey + length k.info) ++ k.identifier ++ big_bytes 4 k.asn
     ++ k.info
 spelled version (ErrorReport r) z =
-    header version (kind_number kinds.ErrorReport) r.code (fixed_len kinds.ErrorReport + length r.copy + length r.text) ++ big_bytes 4 (length r.copy)
+    header version (kind_number kinds.ErrorReport) r.code (fixed_len version kinds.ErrorReport + length r.copy + length r.text) ++ big_bytes 4 (length r.copy)
     ++ r.copy ++ big_bytes 4 (length r.text) ++ r.text
 
 -- The numbers fit their fields, a record is a payload, and the whole is no longer than the longest unit.
@@ -91,12 +94,12 @@ IsUnit (RouterKey k) =
 IsUnit (ErrorReport r) = (r.code < 2 ^ 16) × (length r.copy + length r.text ≤ REPORT_ROOM) × IsUtf8 r.text × AreBytes r.copy
 
 -- These bytes are read as this unit, whatever stands where zeros are sent.
-pub record Reads (version : ℕ) (u : Unit) (bytes : List ℕ) : Type 0 where
+pub record Reads (version : Version) (u : Unit) (bytes : List ℕ) : Type 0 where
   pub fits : IsUnit u
   pub ignored : Ignored
   pub bits : AreBits ignored
   pub bytes_are : bytes ≡ spelled version u ignored
 
 -- The bytes that are sent for a unit
-abbrev pub unit_bytes : ℕ → Unit → List ℕ
+abbrev pub unit_bytes : Version → Unit → List ℕ
 unit_bytes version u = spelled version u zeros

@@ -10,6 +10,7 @@ use crate::counted::Counted;
 use crate::reader::UnitReader;
 use crate::reading::number_32;
 use crate::unit::{MAX_UNIT_LEN, Next, Unit, UnitFault};
+use crate::version::Version;
 use crate::writing::encode;
 use arrayvec::ArrayVec;
 use std::io::{Read, Write};
@@ -63,11 +64,11 @@ fn write_bytes<W: Write>(bytes: &[u8], out: &mut Counted<W>) -> Result<(), Write
 /// Writes the bytes of a unit of version 1 (RFC 8210 section 5), all in one call where the writer takes them. Where it
 /// fails, a beginning of them has gone out.
 pub fn write_unit<W: Write>(unit: &Unit, out: &mut Counted<W>) -> Result<(), WriteFailed>
-    ensures ok { IfOk result (λ _. Appends (W.contents (device_of out.old)) (W.contents (device_of out.new)) (unit_bytes 1 unit.now)
+    ensures ok { IfOk result (λ _. Appends (W.contents (device_of out.old)) (W.contents (device_of out.new)) (unit_bytes Version.V1 unit.now)
         × (failures_of out.new ≡ failures_of out.old)) }
-    ensures err { IfErr result (λ _. GoesOutInPart (W.contents (device_of out.old)) (W.contents (device_of out.new)) (unit_bytes 1 unit.now)
+    ensures err { IfErr result (λ _. GoesOutInPart (W.contents (device_of out.old)) (W.contents (device_of out.new)) (unit_bytes Version.V1 unit.now)
         × HasFailed out.old out.new) }
-    ensures calls { calls_of out.new ≤ calls_of out.old + length (unit_bytes 1 unit.now) }
+    ensures calls { calls_of out.new ≤ calls_of out.old + length (unit_bytes Version.V1 unit.now) }
     ensures unit { IsUnit unit.now }
 {
     let mut buffer = ArrayVec::new();
@@ -87,7 +88,7 @@ fn end(fault: Option<UnitFault>) -> Result<Option<Unit>, ReadFault>
 
 /// How many bytes are wanted of a unit: to the end of its header, or of the whole.
 fn missing(held: &[u8]) -> usize
-    requires { IsPartial 1 (as_read 1 false held.now) }
+    requires { IsPartial Version.V1 (as_read Version.V1 false held.now) }
     ensures value { result ≡ wanted held.now }
     ensures some { 0 < result }
     ensures most { result ≤ MAX_UNIT_LEN }
@@ -102,7 +103,7 @@ fn missing(held: &[u8]) -> usize
 /// Reads one unit of version 1 as a cache reads it, and nothing after it: `None` where the input ends before a first
 /// byte.
 pub fn read_unit<R: Read>(input: &mut Counted<R>) -> Result<Option<Unit>, ReadFault>
-    ensures reads { ReadsUnit (R.remaining (device_of input.old)) (R.remaining (device_of input.new)) (calls_of input.old) (calls_of input.new) result }
+    ensures reads { ReadsUnit Version.V1 (R.remaining (device_of input.old)) (R.remaining (device_of input.new)) (calls_of input.old) (calls_of input.new) result }
     ensures counts { CountsRead input.old input.new result }
 {
     let mut reader = UnitReader::for_cache();

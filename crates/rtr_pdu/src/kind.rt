@@ -2,6 +2,8 @@
 ghost use Rattle.std.specs.Prelude.{◌≡◌, false, IfSome, IfNone};
 ghost use Rattle.rtr_pdu.specs.Kind.{kind_number, fixed_len, may_have, is_type};
 
+use crate::version::Version;
+
 /// The type of a unit (RFC 8210 section 5).
 #[derive(Clone, Copy, Debug, PartialEq, Eq)]
 pub enum Kind {
@@ -28,10 +30,10 @@ pub enum Kind {
 }
 
 impl Kind {
-    /// The type that this number in a header stands for, or `None` where there is none.
-    pub fn from_number(number: u8) -> Option<Kind>
+    /// The type that this number stands for in a header of this version, or `None` where there is none.
+    pub fn from_number(version: Version, number: u8) -> Option<Kind>
         ensures some { IfSome result (λ kind. kind_number kind ≡ number) }
-        ensures none { IfNone result (is_type number ≡ false) }
+        ensures none { IfNone result (is_type version number ≡ false) }
     {
         match number {
             0 => Some(Kind::SerialNotify),
@@ -42,7 +44,9 @@ impl Kind {
             6 => Some(Kind::Ipv6Prefix),
             7 => Some(Kind::EndOfData),
             8 => Some(Kind::CacheReset),
-            9 => Some(Kind::RouterKey),
+            9 => match version {
+                Version::V1 => Some(Kind::RouterKey),
+            },
             10 => Some(Kind::ErrorReport),
             _ => None,
         }
@@ -57,27 +61,29 @@ impl Kind {
 
     /// How many bytes each unit of the type has: of a Router Key without its key, of an Error Report without its copy and
     /// its text, and of all others the whole.
-    pub fn fixed_len(self) -> u32
-        ensures { result ≡ fixed_len self }
+    pub fn fixed_len(self, version: Version) -> u32
+        ensures { result ≡ fixed_len version self }
     {
         match self {
             Kind::SerialNotify | Kind::SerialQuery => 12,
             Kind::ResetQuery | Kind::CacheResponse | Kind::CacheReset => 8,
             Kind::Ipv4Prefix => 20,
             Kind::Ipv6Prefix => 32,
-            Kind::EndOfData => 24,
+            Kind::EndOfData => match version {
+                Version::V1 => 24,
+            },
             Kind::RouterKey => 32,
             Kind::ErrorReport => 16,
         }
     }
 
     /// Whether a unit of the type may have this length in bytes.
-    pub fn may_have(self, len: u32) -> bool
-        ensures { result ≡ may_have self len }
+    pub fn may_have(self, version: Version, len: u32) -> bool
+        ensures { result ≡ may_have version self len }
     {
         match self {
-            Kind::RouterKey | Kind::ErrorReport => len >= self.fixed_len(),
-            _ => len == self.fixed_len(),
+            Kind::RouterKey | Kind::ErrorReport => len >= self.fixed_len(version),
+            _ => len == self.fixed_len(version),
         }
     }
 }

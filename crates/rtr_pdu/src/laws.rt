@@ -8,7 +8,7 @@ pub fn one_split()
     ensures { OneSplit }
 {}
 
-/// Each list of bytes has a split, for each version below 256.
+/// Each list of bytes has a split, for each version.
 pub fn each_splits()
     ensures { EachSplits }
 {}

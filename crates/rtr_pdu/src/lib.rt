@@ -10,6 +10,7 @@ mod reader;
 mod reading;
 mod stream;
 mod unit;
+mod version;
 mod writing;
 
 pub use counted::Counted;
@@ -20,4 +21,5 @@ pub use stream::read_all;
 pub use unit::{
     ErrorReport, KEY_ROOM, MAX_UNIT_LEN, Next, REPORT_ROOM, RouterKey, Unit, UnitFault,
 };
+pub use version::Version;
 pub use writing::{UnitBuffer, encode, encode_prefix};

@@ -7,6 +7,7 @@ ghost use Rattle.rtr_pdu.specs.Reading.{filled, unfilled};
 
 use crate::reading::{judge, number_32, read};
 use crate::unit::{MAX_UNIT_LEN, Next, UnitFault};
+use crate::version::Version;
 use crate::writing::UnitBuffer;
 use arrayvec::ArrayVec;
 use std::marker::Model;
@@ -25,35 +26,35 @@ fn fill(buffer: &mut UnitBuffer, piece: &mut &[u8], size: usize)
 }
 
 /// Takes the body of a unit whose header has no fault.
-fn finish(any: bool, buffer: &mut UnitBuffer, piece: &mut &[u8]) -> Next
-    requires sound { header_fault 1 (as_read 1 any buffer.old.items) ≡ None }
+fn finish(version: Version, any: bool, buffer: &mut UnitBuffer, piece: &mut &[u8]) -> Next
+    requires sound { header_fault version (as_read version any buffer.old.items) ≡ None }
     requires header { 8 ≤ array_vec_len buffer.old }
-    requires within { array_vec_len buffer.old ≤ length_of (as_read 1 any buffer.old.items) }
-    ensures { Advances any buffer.old.items piece.old.now result piece.new.now buffer.new.items }
+    requires within { array_vec_len buffer.old ≤ length_of (as_read version any buffer.old.items) }
+    ensures { Advances version any buffer.old.items piece.old.now result piece.new.now buffer.new.items }
 {
     let size = number_32(buffer.as_slice(), 4) as usize;
     fill(buffer, piece, size);
     if buffer.len() < size {
         return Next::NeedMore;
     }
-    match read(any, buffer.as_slice()) {
+    match read(version, any, buffer.as_slice()) {
         Ok(unit) => Next::Unit(unit),
         Err(fault) => Next::Fault(fault),
     }
 }
 
 /// Takes what there is of a unit.
-fn advance(any: bool, buffer: &mut UnitBuffer, piece: &mut &[u8]) -> Next
-    requires { IsPartial 1 (as_read 1 any buffer.old.items) }
-    ensures { Advances any buffer.old.items piece.old.now result piece.new.now buffer.new.items }
+fn advance(version: Version, any: bool, buffer: &mut UnitBuffer, piece: &mut &[u8]) -> Next
+    requires { IsPartial version (as_read version any buffer.old.items) }
+    ensures { Advances version any buffer.old.items piece.old.now result piece.new.now buffer.new.items }
 {
     fill(buffer, piece, 8);
     if buffer.len() < 8 {
         return Next::NeedMore;
     }
-    match judge(any, buffer.as_slice()) {
+    match judge(version, any, buffer.as_slice()) {
         Some(fault) => Next::Fault(fault),
-        None => finish(any, buffer, piece),
+        None => finish(version, any, buffer, piece),
     }
 }
 
@@ -73,12 +74,13 @@ pub struct UnitReader {
 
 impl Model for UnitReader {
     ghost use Rattle.rtr_pdu.specs.Reader.{Reader, IsReader};
+    ghost use Rattle.rtr_pdu.specs.declared.version.Version.TheVariants.{V1};
 
     ghost Value = { Reader };
 
     ghost view = { λ r. record { held = r.buffer.items; any = r.any; later = r.later; fault = r.fault } };
 
-    ghost invariant = { λ r. IsReader (record { held = r.buffer.items; any = r.any; later = r.later; fault = r.fault }) };
+    ghost invariant = { λ r. IsReader V1 (record { held = r.buffer.items; any = r.any; later = r.later; fault = r.fault }) };
 }
 
 impl UnitReader {
@@ -120,13 +122,13 @@ impl UnitReader {
     /// Takes bytes from the front of the piece: to the end of the first unit, or as many as show a fault, or else all.
     /// A fault of a header is answered at its 8 bytes, one of what follows at the whole unit.
     pub fn next(&mut self, piece: &mut &[u8]) -> Next
-        ensures takes { Takes self.old piece.old.now result piece.new.now self.new }
-        ensures reader { IsReader self.old }
+        ensures takes { Takes Version.V1 self.old piece.old.now result piece.new.now self.new }
+        ensures reader { IsReader Version.V1 self.old }
     {
         if let Some(fault) = self.fault {
             return Next::Fault(fault);
         }
-        match advance(self.any, &mut self.buffer, piece) {
+        match advance(Version::V1, self.any, &mut self.buffer, piece) {
             Next::Unit(unit) => {
                 self.buffer.clear();
                 self.any = self.later;
@@ -155,7 +157,7 @@ impl UnitReader {
     /// whole unit.
     pub fn held(&self) -> &[u8]
         ensures held { result.now ≡ self.now.held }
-        ensures reader { IsReader self.now }
+        ensures reader { IsReader Version.V1 self.now }
         ensures fits { length result.now ≤ MAX_UNIT_LEN }
     {
         self.buffer.as_slice()

@@ -3,19 +3,21 @@ ghost use Rattle.std.specs.Prelude.{◌≡◌, ◌==◌, ◌&&◌, true, not, na
 ghost use Rattle.rtr_pdu.specs.Kind.{kind_number, fixed_len, may_have, is_type};
 ghost use Rattle.rtr_pdu.specs.Stream.{fault_of, header_fault, as_read, type_of, length_of, IsOf, IsRecord, IsReport};
 ghost use Rattle.rtr_pdu.specs.Reading.{number_at, v4_in, v6_in, key_in, report_in, IsBody};
+ghost use Rattle.rtr_pdu.specs.Version.{version_number};
 ghost use Rattle.rtr_pdu.specs.Reader.{IsRead, IsFaulty};
 
 use crate::kind::Kind;
 use crate::unit::{ErrorReport, MAX_UNIT_LEN, RouterKey, Unit, UnitFault};
+use crate::version::Version;
 use byteorder::{BigEndian, ByteOrder};
 use prefixes::{Asn, IpPrefix, Prefix, V4, V6, Vrp};
 use std::str;
 
 /// The fault of the length of a unit of this type.
-fn judge_len(kind: Kind, len: u32) -> Option<UnitFault>
-    ensures { result ≡ (if not (may_have kind len) then Some UnitFault.Length else if nat_lt MAX_UNIT_LEN len then Some UnitFault.TooLong else None) }
+fn judge_len(version: Version, kind: Kind, len: u32) -> Option<UnitFault>
+    ensures { result ≡ (if not (may_have version kind len) then Some UnitFault.Length else if nat_lt MAX_UNIT_LEN len then Some UnitFault.TooLong else None) }
 {
-    if !kind.may_have(len) {
+    if !kind.may_have(version, len) {
         Some(UnitFault::Length)
     } else if len > MAX_UNIT_LEN as u32 {
         Some(UnitFault::TooLong)
@@ -25,38 +27,39 @@ fn judge_len(kind: Kind, len: u32) -> Option<UnitFault>
 }
 
 /// The first fault of a header that shows this version.
-fn judge_header(version: u8, kind: u8, len: u32) -> Option<UnitFault>
-    ensures { result ≡ fault_of 1 version kind len }
+fn judge_header(version: Version, shown: u8, kind: u8, len: u32) -> Option<UnitFault>
+    ensures { result ≡ fault_of version shown kind len }
 {
-    if version != 1 {
+    if shown != version.number() {
         Some(UnitFault::Version)
-    } else if let Some(known) = Kind::from_number(kind) {
-        judge_len(known, len)
+    } else if let Some(known) = Kind::from_number(version, kind) {
+        judge_len(version, known, len)
     } else {
         Some(UnitFault::Type)
     }
 }
 
 /// The version that a header counts as showing.
-fn shown_version(any: bool, version: u8, kind: u8, len: u32) -> u8
-    ensures { result ≡ (if any && (kind == kind_number Kind.SerialNotify && len == fixed_len Kind.SerialNotify) then 1 else version) }
+fn shown_version(version: Version, any: bool, shown: u8, kind: u8, len: u32) -> u8
+    ensures { result ≡ (if any && (kind == kind_number Kind.SerialNotify && len == fixed_len version Kind.SerialNotify) then version_number version else shown) }
 {
     let notify = Kind::SerialNotify;
-    if any && kind == notify.number() && len == notify.fixed_len() {
-        1
+    if any && kind == notify.number() && len == notify.fixed_len(version) {
+        version.number()
     } else {
-        version
+        shown
     }
 }
 
 /// The fault of a whole header.
-pub fn judge(any: bool, bytes: &[u8]) -> Option<UnitFault>
+pub fn judge(version: Version, any: bool, bytes: &[u8]) -> Option<UnitFault>
     requires { 8 ≤ length bytes.now }
-    ensures { result ≡ header_fault 1 (as_read 1 any bytes.now) }
+    ensures { result ≡ header_fault version (as_read version any bytes.now) }
 {
     let kind = bytes[1];
     let len = number_32(bytes, 4);
-    judge_header(shown_version(any, bytes[0], kind, len), kind, len)
+    let shown = shown_version(version, any, bytes[0], kind, len);
+    judge_header(version, shown, kind, len)
 }
 
 fn number_16(bytes: &[u8], at: usize) -> u16
@@ -127,12 +130,12 @@ fn key(bytes: &[u8]) -> RouterKey
 }
 
 /// The report of an Error Report.
-fn report(bytes: &[u8]) -> Option<ErrorReport>
+fn report(version: Version, bytes: &[u8]) -> Option<ErrorReport>
     requires low { 16 ≤ length bytes.now }
     requires high { length bytes.now ≤ MAX_UNIT_LEN }
     requires exact { length bytes.now ≡ length_of bytes.now }
-    ensures some { IfSome result (λ r. (r ≡ report_in bytes.now) × IsReport bytes.now) }
-    ensures none { IfNone result (¬ (IsReport bytes.now)) }
+    ensures some { IfSome result (λ r. (r ≡ report_in bytes.now) × IsReport version bytes.now) }
+    ensures none { IfNone result (¬ (IsReport version bytes.now)) }
 {
     let copy_len = number_32(bytes, 8) as usize;
     if copy_len > bytes.len() - 16 {
@@ -152,12 +155,12 @@ fn report(bytes: &[u8]) -> Option<ErrorReport>
 }
 
 /// The type of a unit whose header has no fault.
-fn kind_of(bytes: &[u8]) -> Kind
+fn kind_of(version: Version, bytes: &[u8]) -> Kind
     requires two { 2 ≤ length bytes.now }
-    requires known { is_type (type_of bytes.now) ≡ true }
+    requires known { is_type version (type_of bytes.now) ≡ true }
     ensures { IsOf result bytes.now }
 {
-    match Kind::from_number(bytes[1]) {
+    match Kind::from_number(version, bytes[1]) {
         Some(kind) => kind,
         None => unreachable!(),
     }
@@ -178,12 +181,12 @@ fn end_of_data(bytes: &[u8]) -> Unit
 }
 
 /// Reads a unit that has come whole, behind a header without a fault.
-pub fn read(any: bool, bytes: &[u8]) -> Result<Unit, UnitFault>
-    requires { IsBody any bytes.now }
-    ensures ok { IfOk result (λ unit. IsRead any bytes.now unit) }
-    ensures err { IfErr result (λ fault. IsFaulty any bytes.now fault) }
+pub fn read(version: Version, any: bool, bytes: &[u8]) -> Result<Unit, UnitFault>
+    requires { IsBody version any bytes.now }
+    ensures ok { IfOk result (λ unit. IsRead version any bytes.now unit) }
+    ensures err { IfErr result (λ fault. IsFaulty version any bytes.now fault) }
 {
-    match kind_of(bytes) {
+    match kind_of(version, bytes) {
         Kind::SerialNotify => Ok(Unit::SerialNotify {
             session: number_16(bytes, 2),
             serial: number_32(bytes, 8),
@@ -213,7 +216,7 @@ pub fn read(any: bool, bytes: &[u8]) -> Result<Unit, UnitFault>
         Kind::EndOfData => Ok(end_of_data(bytes)),
         Kind::CacheReset => Ok(Unit::CacheReset),
         Kind::RouterKey => Ok(Unit::RouterKey(key(bytes))),
-        Kind::ErrorReport => match report(bytes) {
+        Kind::ErrorReport => match report(version, bytes) {
             Some(report) => Ok(Unit::ErrorReport(report)),
             None => Err(UnitFault::ErrorReport),
         },

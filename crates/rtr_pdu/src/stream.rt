@@ -7,6 +7,7 @@ ghost use Rattle.rtr_pdu.specs.Reader.{fresh, told};
 
 use crate::reader::UnitReader;
 use crate::unit::{Next, Unit, UnitFault};
+use crate::version::Version;
 use std::alloc::{AllocError, Global};
 
 /// Whether the unit is a Serial Notify.
@@ -34,8 +35,8 @@ fn feed(
     units: &mut Vec<Unit>,
     piece: &[u8],
 ) -> Result<Option<UnitFault>, AllocError>
-    ensures { IfOk result (λ fault. (any : Bool) (stream : List ℕ) → HasRead any stream units.old.items reader.old
-        → HasFed any (stream ++ piece.now) units.new.items reader.new fault) }
+    ensures { IfOk result (λ fault. (any : Bool) (stream : List ℕ) → HasRead Version.V1 any stream units.old.items reader.old
+        → HasFed Version.V1 any (stream ++ piece.now) units.new.items reader.new fault) }
 {
     let mut rest = piece;
     loop {
@@ -70,7 +71,7 @@ pub fn read_all(
     pieces: &[Vec<u8>],
 ) -> Result<(Vec<Unit>, Option<UnitFault>), AllocError>
     // Nothing else is read from the same bytes, however they are cut.
-    ensures { IfOk result (λ found. HasOnly router (flat_map (λ piece. piece.items) pieces.now) found.0.items found.1) }
+    ensures { IfOk result (λ found. HasOnly Version.V1 router (flat_map (λ piece. piece.items) pieces.now) found.0.items found.1) }
 {
     let mut reader = reader_at(router);
     let mut units = Vec::new(alloc);

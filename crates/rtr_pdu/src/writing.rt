@@ -7,6 +7,7 @@ ghost use Rattle.rtr_pdu.specs.Unit.{IsUnit, header, fixed_header, unit_bytes, f
 
 use crate::kind::Kind;
 use crate::unit::{ErrorReport, MAX_UNIT_LEN, RouterKey, Unit};
+use crate::version::Version;
 use arrayvec::ArrayVec;
 use prefixes::{IpPrefix, Vrp};
 
@@ -23,22 +24,22 @@ fn put(buffer: &mut UnitBuffer, bytes: &[u8])
 }
 
 /// Begins a unit in an empty buffer.
-fn put_header(buffer: &mut UnitBuffer, kind: Kind, field: u16, len: u32)
-    ensures items { buffer.new.items ≡ header 1 (kind_number kind) field len }
+fn put_header(buffer: &mut UnitBuffer, version: Version, kind: Kind, field: u16, len: u32)
+    ensures items { buffer.new.items ≡ header version (kind_number kind) field len }
     ensures len { array_vec_len buffer.new ≡ 8 }
 {
     buffer.clear();
-    put(buffer, &[1, kind.number()]);
+    put(buffer, &[version.number(), kind.number()]);
     put(buffer, &field.to_be_bytes());
     put(buffer, &len.to_be_bytes());
 }
 
 /// The same of a unit whose type has one length.
-fn put_fixed(buffer: &mut UnitBuffer, kind: Kind, field: u16)
-    ensures items { buffer.new.items ≡ fixed_header 1 kind field }
+fn put_fixed(buffer: &mut UnitBuffer, version: Version, kind: Kind, field: u16)
+    ensures items { buffer.new.items ≡ fixed_header version kind field }
     ensures len { array_vec_len buffer.new ≡ 8 }
 {
-    put_header(buffer, kind, field, kind.fixed_len());
+    put_header(buffer, version, kind, field, kind.fixed_len(version));
 }
 
 fn put_number(buffer: &mut UnitBuffer, number: u32)
@@ -50,6 +51,7 @@ fn put_number(buffer: &mut UnitBuffer, number: u32)
 }
 
 fn put_end_of_data(
+    version: Version,
     session: u16,
     serial: u32,
     refresh: u32,
@@ -57,9 +59,9 @@ fn put_end_of_data(
     expire: u32,
     buffer: &mut UnitBuffer,
 )
-    ensures { buffer.new.items ≡ unit_bytes 1 (Unit.EndOfData session serial refresh retry expire) }
+    ensures { buffer.new.items ≡ unit_bytes version (Unit.EndOfData session serial refresh retry expire) }
 {
-    put_fixed(buffer, Kind::EndOfData, session);
+    put_fixed(buffer, version, Kind::EndOfData, session);
     put_number(buffer, serial);
     put_number(buffer, refresh);
     put_number(buffer, retry);
@@ -81,94 +83,104 @@ fn put_record(buffer: &mut UnitBuffer, announce: bool, len: u8, max_len: u8, add
     put_number(buffer, asn);
 }
 
-/// Writes a Prefix of version 1 (RFC 8210 sections 5.6 and 5.7), as `encode` does, and makes no `Unit` of it.
-pub fn encode_prefix(announce: bool, vrp: &Vrp, buffer: &mut UnitBuffer)
-    ensures bytes { buffer.new.items ≡ unit_bytes 1 (Unit.Prefix announce vrp.now) }
+fn put_prefix(version: Version, announce: bool, vrp: &Vrp, buffer: &mut UnitBuffer)
+    ensures bytes { buffer.new.items ≡ unit_bytes version (Unit.Prefix announce vrp.now) }
     ensures unit { IsUnit (Unit.Prefix announce vrp.now) }
 {
     let max_len = vrp.max_len();
     let asn = vrp.asn().0;
     match vrp.prefix() {
         IpPrefix::V4(p) => {
-            put_fixed(buffer, Kind::Ipv4Prefix, 0);
+            put_fixed(buffer, version, Kind::Ipv4Prefix, 0);
             let addr = (p.addr() as u32).to_be_bytes();
             put_record(buffer, announce, p.len(), max_len, &addr, asn);
         }
         IpPrefix::V6(p) => {
-            put_fixed(buffer, Kind::Ipv6Prefix, 0);
+            put_fixed(buffer, version, Kind::Ipv6Prefix, 0);
             let addr = p.addr().to_be_bytes();
             put_record(buffer, announce, p.len(), max_len, &addr, asn);
         }
     }
 }
 
-fn put_serial(kind: Kind, session: u16, serial: u32, buffer: &mut UnitBuffer)
-    ensures { buffer.new.items ≡ fixed_header 1 kind session ++ big_bytes 4 serial }
-{
-    put_fixed(buffer, kind, session);
-    put_number(buffer, serial);
-}
-
-fn put_key(key: &RouterKey, buffer: &mut UnitBuffer)
-    ensures bytes { buffer.new.items ≡ unit_bytes 1 (Unit.RouterKey key.now) }
+fn put_key(version: Version, key: &RouterKey, buffer: &mut UnitBuffer)
+    ensures bytes { buffer.new.items ≡ unit_bytes version (Unit.RouterKey key.now) }
     ensures unit { IsUnit (Unit.RouterKey key.now) }
 {
     let info = key.info();
     buffer.clear();
     let kind = Kind::RouterKey;
-    put(buffer, &[1, kind.number(), flag_of(key.announce()), 0]);
-    put_number(buffer, kind.fixed_len() + info.len() as u32);
+    put(
+        buffer,
+        &[version.number(), kind.number(), flag_of(key.announce()), 0],
+    );
+    put_number(buffer, kind.fixed_len(version) + info.len() as u32);
     put(buffer, key.identifier());
     put_number(buffer, key.asn());
     put(buffer, info);
 }
 
-fn put_report(report: &ErrorReport, buffer: &mut UnitBuffer)
-    ensures bytes { buffer.new.items ≡ unit_bytes 1 (Unit.ErrorReport report.now) }
+fn put_report(version: Version, report: &ErrorReport, buffer: &mut UnitBuffer)
+    ensures bytes { buffer.new.items ≡ unit_bytes version (Unit.ErrorReport report.now) }
     ensures unit { IsUnit (Unit.ErrorReport report.now) }
 {
     let copy = report.copy();
     let text = report.text();
     let kind = Kind::ErrorReport;
-    let len = kind.fixed_len() + copy.len() as u32 + text.len() as u32;
-    put_header(buffer, kind, report.code(), len);
+    let len = kind.fixed_len(version) + copy.len() as u32 + text.len() as u32;
+    put_header(buffer, version, kind, report.code(), len);
     put_number(buffer, copy.len() as u32);
     put(buffer, copy);
     put_number(buffer, text.len() as u32);
     put(buffer, text);
 }
 
-/// Writes a unit of version 1 (RFC 8210 section 5), with zeros where the standard says zero. The buffer then holds the
-/// bytes of the unit and no others, and they are read as this unit.
-pub fn encode(unit: &Unit, buffer: &mut UnitBuffer)
-    ensures bytes { buffer.new.items ≡ unit_bytes 1 unit.now }
+fn put_unit(version: Version, unit: &Unit, buffer: &mut UnitBuffer)
+    ensures bytes { buffer.new.items ≡ unit_bytes version unit.now }
     ensures unit { IsUnit unit.now }
 {
     match unit {
-        Unit::SerialNotify { session, serial } => put_serial(
-            Kind::SerialNotify,
-            *session,
-            *serial,
-            buffer,
-        ),
-        Unit::SerialQuery { session, serial } => put_serial(
-            Kind::SerialQuery,
-            *session,
-            *serial,
-            buffer,
-        ),
-        Unit::ResetQuery => put_fixed(buffer, Kind::ResetQuery, 0),
-        Unit::CacheResponse { session } => put_fixed(buffer, Kind::CacheResponse, *session),
-        Unit::Prefix { announce, vrp } => encode_prefix(*announce, vrp, buffer),
+        Unit::SerialNotify { session, serial } => {
+            put_fixed(buffer, version, Kind::SerialNotify, *session);
+            put_number(buffer, *serial);
+        }
+        Unit::SerialQuery { session, serial } => {
+            put_fixed(buffer, version, Kind::SerialQuery, *session);
+            put_number(buffer, *serial);
+        }
+        Unit::ResetQuery => put_fixed(buffer, version, Kind::ResetQuery, 0),
+        Unit::CacheResponse { session } => {
+            put_fixed(buffer, version, Kind::CacheResponse, *session);
+        }
+        Unit::Prefix { announce, vrp } => put_prefix(version, *announce, vrp, buffer),
         Unit::EndOfData {
             session,
             serial,
             refresh,
             retry,
             expire,
-        } => put_end_of_data(*session, *serial, *refresh, *retry, *expire, buffer),
-        Unit::CacheReset => put_fixed(buffer, Kind::CacheReset, 0),
-        Unit::RouterKey(key) => put_key(key, buffer),
-        Unit::ErrorReport(report) => put_report(report, buffer),
+        } => put_end_of_data(
+            version, *session, *serial, *refresh, *retry, *expire, buffer,
+        ),
+        Unit::CacheReset => put_fixed(buffer, version, Kind::CacheReset, 0),
+        Unit::RouterKey(key) => put_key(version, key, buffer),
+        Unit::ErrorReport(report) => put_report(version, report, buffer),
     }
+}
+
+/// Writes a unit of version 1 (RFC 8210 section 5), with zeros where the standard says zero. The buffer then holds the
+/// bytes of the unit and no others, and they are read as this unit.
+pub fn encode(unit: &Unit, buffer: &mut UnitBuffer)
+    ensures bytes { buffer.new.items ≡ unit_bytes Version.V1 unit.now }
+    ensures unit { IsUnit unit.now }
+{
+    put_unit(Version::V1, unit, buffer);
+}
+
+/// Writes a Prefix of version 1 (RFC 8210 sections 5.6 and 5.7), as `encode` does, and makes no `Unit` of it.
+pub fn encode_prefix(announce: bool, vrp: &Vrp, buffer: &mut UnitBuffer)
+    ensures bytes { buffer.new.items ≡ unit_bytes Version.V1 (Unit.Prefix announce vrp.now) }
+    ensures unit { IsUnit (Unit.Prefix announce vrp.now) }
+{
+    put_prefix(Version::V1, announce, vrp, buffer);
 }

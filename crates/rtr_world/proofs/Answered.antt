@@ -4,6 +4,7 @@ use Rattle.std.proofs.Common.{sym, ap, ◌∙◌, subst, append_assoc}
 use Rattle.std.proofs.lemmas.Bool.{and_parts}
 use Rattle.std.proofs.lemmas.List.{take-append-drop}
 use Rattle.vrps.specs.Instance.{Instance}
+use Rattle.rtr_pdu.specs.declared.version.Version.TheVariants.{V1}
 use Rattle.rtr_pdu.specs.Judging.{judge}
 use Rattle.rtr_pdu.specs.declared.unit.Unit.{Unit}
 use Rattle.rtr_pdu.specs.declared.unit.Unit.TheVariants.{SerialNotify, Prefix}
@@ -71,7 +72,7 @@ module _ (all : List Instance) (i : Instance) (seen : Option Seen) (conn : Optio
   NotedSo n items = ReadsSo n.router.link (n.items ++ items)
 
   byte_read : (down : List ℕ) (r : Router) (b : ℕ) (memory : Bool) (items : List Item) (h : Seen) (f : Flow all i h r conn up (b ∷ down)) → is_reading r.link ≡ true → ReadsSo r.link items
-      → ByteCase (not r.agreed) r.held b (down ++ (conn_due conn ++ f.lost)) f.coming → NotedSo (with_bytes memory (r.held ++ b ∷ []) r (judge 1 (not r.agreed) (r.held ++ b ∷ []))) items
+      → ByteCase (not r.agreed) r.held b (down ++ (conn_due conn ++ f.lost)) f.coming → NotedSo (with_bytes memory (r.held ++ b ∷ []) r (judge V1 (not r.agreed) (r.held ++ b ∷ []))) items
   byte_read down r b memory items h f live so (partly e s) = subst (λ j. NotedSo (with_bytes memory (r.held ++ b ∷ []) r j) items) (sym e) so
   byte_read down r b memory items h f live so (wholly u more is e fit s) =
       subst (λ j. NotedSo (with_bytes memory (r.held ++ b ∷ []) r j) items) (sym e) (by_memory (may_lack r.link u r && not memory))
@@ -99,7 +100,7 @@ module _ (all : List Instance) (i : Instance) (seen : Option Seen) (conn : Optio
   byte_so items b down m on g =
       let parts = and_parts (is_reading m.router.link) (is_none m.router.out) (not_true (is_reading m.router.link && is_none m.router.out) on) in
       let l = live_of m.router.link all i seen m.router conn up (b ∷ down) g.good.link parts.0 in
-      let n : Noted = with_bytes (finds_memory m.wanting) (m.router.held ++ b ∷ []) m.router (judge 1 (not m.router.agreed) (m.router.held ++ b ∷ [])) in
+      let n : Noted = with_bytes (finds_memory m.wanting) (m.router.held ++ b ∷ []) m.router (judge V1 (not m.router.agreed) (m.router.held ++ b ∷ [])) in
       subst (λ x. ReadsSo n.router.link x) (sym (append_assoc n.items m.items items))
       (byte_read down m.router b (finds_memory m.wanting) (m.items ++ items) l.0 l.2 parts.0 g.reads_so (byte_case (not m.router.agreed) m.router.held b (down ++ (conn_due conn ++ l.2.lost)) l.2.coming l.2.downward))
 

@@ -6,6 +6,7 @@ use Rattle.std.proofs.lemmas.Bool.{and_parts, or_parts}
 use Rattle.std.proofs.lemmas.List.{append-nil}
 use Rattle.vrps.specs.Instance.{Instance, versions, versions_from}
 use Rattle.vrps.specs.VrpSet.{VrpSet}
+use Rattle.rtr_pdu.specs.declared.version.Version.TheVariants.{V1}
 use Rattle.rtr_pdu.specs.Judging.{Judgement, Begins, Whole, Faulty, judge}
 use Rattle.rtr_pdu.specs.Unit.{IsUnit}
 use Rattle.rtr_pdu.specs.declared.unit.Unit.{Unit}
@@ -93,7 +94,7 @@ module _ (all : List Instance) (i : Instance) (p : Present all i) (keep : ℕ) (
 
   -- it reads a byte
   byte_live : (m : Taking) (b : ℕ) (bs : List ℕ) (h : Seen) (f : Flow all i h r (Some m.conn) (b ∷ bs) down) → home ≡ Some h → m.conn.state.due ≡ [] → is_reading r.link ≡ true → TableAt all r.version r.table
-      → ByteCase false m.conn.held b (bs ++ r.out) f.wanted → (memory : Bool) → Live all i home r (Some (with_moment keep timing (m.conn.held ++ b ∷ []) m.conn (moment_of i memory (m.conn.held ++ b ∷ []) (judge 1 false (m.conn.held ++ b ∷ []))))) bs down
+      → ByteCase false m.conn.held b (bs ++ r.out) f.wanted → (memory : Bool) → Live all i home r (Some (with_moment keep timing (m.conn.held ++ b ∷ []) m.conn (moment_of i memory (m.conn.held ++ b ∷ []) (judge V1 false (m.conn.held ++ b ∷ []))))) bs down
   byte_live m b bs h f eh eo live table (partly e s) memory =
       let op : Open i h r.out (b ∷ bs) f.wanted f.lost m.conn = f.open_at in
       subst (λ j. Live all i home r (Some (with_moment keep timing (m.conn.held ++ b ∷ []) m.conn (moment_of i memory (m.conn.held ++ b ∷ []) j))) bs down) (sym e) (
@@ -146,12 +147,12 @@ module _ (all : List Instance) (i : Instance) (p : Present all i) (keep : ℕ) (
       due = none_is m.conn.state.due (or_parts m.conn.state.ended (not (is_none m.conn.state.due)) goes_on).1
 
       by_link : (live : Bool) → is_reading r.link ≡ live
-          → GoodLink all i home r.link r (Some (with_moment keep timing (m.conn.held ++ b ∷ []) m.conn (moment_of i (finds_memory m.wanting) (m.conn.held ++ b ∷ []) (judge 1 false (m.conn.held ++ b ∷ []))))) bs down
-      by_link false dead = dead_link r.link all i home r (Some m.conn) (Some (with_moment keep timing (m.conn.held ++ b ∷ []) m.conn (moment_of i (finds_memory m.wanting) (m.conn.held ++ b ∷ []) (judge 1 false (m.conn.held ++ b ∷ []))))) (b ∷ bs) bs down down dead g.link
+          → GoodLink all i home r.link r (Some (with_moment keep timing (m.conn.held ++ b ∷ []) m.conn (moment_of i (finds_memory m.wanting) (m.conn.held ++ b ∷ []) (judge V1 false (m.conn.held ++ b ∷ []))))) bs down
+      by_link false dead = dead_link r.link all i home r (Some m.conn) (Some (with_moment keep timing (m.conn.held ++ b ∷ []) m.conn (moment_of i (finds_memory m.wanting) (m.conn.held ++ b ∷ []) (judge V1 false (m.conn.held ++ b ∷ []))))) (b ∷ bs) bs down down dead g.link
       by_link true live =
           let l = live_of r.link all i home r (Some m.conn) (b ∷ bs) down g.link live in
           let op : Open i l.0 r.out (b ∷ bs) l.2.wanted l.2.lost m.conn = l.2.open_at in
-          live_link all i home (Some (with_moment keep timing (m.conn.held ++ b ∷ []) m.conn (moment_of i (finds_memory m.wanting) (m.conn.held ++ b ∷ []) (judge 1 false (m.conn.held ++ b ∷ []))))) bs down r r.link refl live
+          live_link all i home (Some (with_moment keep timing (m.conn.held ++ b ∷ []) m.conn (moment_of i (finds_memory m.wanting) (m.conn.held ++ b ∷ []) (judge V1 false (m.conn.held ++ b ∷ []))))) bs down r r.link refl live
           (byte_live m b bs l.0 l.2 l.1 due live g.table (byte_case false m.conn.held b (bs ++ r.out) l.2.wanted op.upward) (finds_memory m.wanting))
 
   abbrev by_stop : Taking → ℕ → List ℕ → Bool → Fed Taking
@@ -185,7 +186,7 @@ module _ (all : List Instance) (i : Instance) (p : Present all i) (keep : ℕ) (
 
   byte_counts : (wanting : Option ℕ) (m : Taking) (b : ℕ) → (wanting ≡ None → m.wanting ≡ None) → wanting ≡ None → (conn_byte keep timing i m b).wanting ≡ None
   unfolding conn_byte
-  byte_counts wanting m b same none = ap (counted (judge 1 false (m.conn.held ++ b ∷ []))) (same none) ∙ none_counted (judge 1 false (m.conn.held ++ b ∷ []))
+  byte_counts wanting m b same none = ap (counted (judge V1 false (m.conn.held ++ b ∷ []))) (same none) ∙ none_counted (judge V1 false (m.conn.held ++ b ∷ []))
 
   byte_now : (old : List ℕ) (wanting : Option ℕ) (m : Taking) (b : ℕ) (bs : List ℕ) → conn_stops m.conn ≡ false → is_reading r.link ≡ true → (wanting ≡ None → m.wanting ≡ None) → GoodC m.conn (b ∷ bs) → DueNow old wanting m.conn → DueNow old wanting (conn_byte keep timing i m b).conn
   unfolding conn_byte
@@ -203,7 +204,7 @@ module _ (all : List Instance) (i : Instance) (p : Present all i) (keep : ℕ) (
       memory : Bool
       memory = finds_memory m.wanting
 
-      by_case : ByteCase false m.conn.held b (bs ++ r.out) l.2.wanted → DueNow old wanting (with_moment keep timing bytes m.conn (moment_of i memory bytes (judge 1 false bytes)))
+      by_case : ByteCase false m.conn.held b (bs ++ r.out) l.2.wanted → DueNow old wanting (with_moment keep timing bytes m.conn (moment_of i memory bytes (judge V1 false bytes)))
       by_case (partly e s) = subst (λ j. DueNow old wanting (with_moment keep timing bytes m.conn (moment_of i memory bytes j))) (sym e) now
       by_case (wholly u more is e fit s) =
           subst (λ j. DueNow old wanting (with_moment keep timing bytes m.conn (moment_of i memory bytes j))) (sym e) (inr (subst (λ x. IsOfNow i keep wanting x (read (takes_memory i u && not memory)).due) (sym w.asks) (by_memory (takes_memory i u && not memory) refl)))

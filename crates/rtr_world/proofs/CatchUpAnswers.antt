@@ -5,6 +5,7 @@ use Rattle.std.proofs.lemmas.Bool.{and_parts}
 use Rattle.vrps.specs.Instance.{Instance, Version, versions_from, with_serial}
 use Rattle.vrps.specs.Serial.{serial_at}
 use Rattle.vrps.specs.VrpSet.{VrpSet}
+use Rattle.rtr_pdu.specs.declared.version.Version.TheVariants.{V1}
 use Rattle.rtr_pdu.specs.Judging.{judge}
 use Rattle.rtr_pdu.specs.Unit.{IsUnit}
 use Rattle.rtr_pdu.specs.declared.unit.Unit.{Unit}
@@ -98,11 +99,11 @@ module _ (keep : ℕ) (i : Instance) (u : Unit) (fits : IsUnit u) (wanting : Opt
   byte_comes : (rest : List ℕ) (m : Taking) (b : ℕ) → m.conn.held ++ b ∷ rest ≡ sent u → m.conn.state.due ≡ [] → m.conn.state.ended ≡ false → m.wanting ≡ wanting → Reads rest (conn_byte keep timing i m b)
   unfolding conn_byte
   byte_comes [] m b whole due on same =
-      let is = ap (judge 1 false) whole ∙ judge_sent 1 false u fits in
+      let is = ap (judge V1 false) whole ∙ judge_sent V1 false u fits in
       subst (λ j. Reads [] (with_judged keep timing i m (m.conn.held ++ b ∷ []) j)) (sym is) (inr (refl, byte_whole m (m.conn.held ++ b ∷ []) same))
   byte_comes (c ∷ rest) m b whole due on same =
       let begun : (m.conn.held ++ b ∷ []) ++ c ∷ rest ≡ sent u = append_assoc m.conn.held (b ∷ []) (c ∷ rest) ∙ whole in
-      let is = judge_part 1 false u (m.conn.held ++ b ∷ []) rest c fits begun in
+      let is = judge_part V1 false u (m.conn.held ++ b ∷ []) rest c fits begun in
       subst (λ j. Reads (c ∷ rest) (with_judged keep timing i m (m.conn.held ++ b ∷ []) j)) (sym is)
       (inl (record { next = c; more = rest; rest_is = refl; whole = begun; due = due; on = on; same = same }))
 
@@ -119,7 +120,7 @@ module _ (keep : ℕ) (i : Instance) (u : Unit) (fits : IsUnit u) (wanting : Opt
       absurd (let e : true ≡ false = sym (stops (omega (arith, some))) ∙ on in cc)
 
   start : (bytes : List ℕ) (o : Conn) → bytes ≡ sent u → o.held ≡ [] → o.state.due ≡ [] → o.state.ended ≡ false → Reads bytes (record { conn = o; moments = []; wanting = wanting })
-  start [] o e held due on = absurd (some_sent 1 u (sym e))
+  start [] o e held due on = absurd (some_sent V1 u (sym e))
   start (b ∷ bytes) o e held due on = inl (record { next = b; more = bytes; rest_is = refl; whole = ap (λ x. x ++ b ∷ bytes) held ∙ e; due = due; on = on; same = refl })
 
   pub is_read : (bytes : List ℕ) (o : Conn) → bytes ≡ sent u → o.held ≡ [] → o.state.due ≡ [] → o.state.ended ≡ false

@@ -7,6 +7,7 @@ use Rattle.std.proofs.lemmas.List.{length-append}
 use Rattle.prefixes.specs.Payload.{Payload}
 use Rattle.vrps.specs.Instance.{Instance}
 use Rattle.vrps.specs.VrpSet.{VrpSet, empty}
+use Rattle.rtr_pdu.specs.declared.version.Version.TheVariants.{V1}
 use Rattle.rtr_pdu.specs.Judging.{Judgement, Begins, Whole, Faulty, judge}
 use Rattle.rtr_pdu.specs.declared.unit.Unit.{Unit}
 use Rattle.rtr_pdu.specs.declared.unit.Unit.TheVariants.{CacheResponse, Prefix, EndOfData, CacheReset, ErrorReport}
@@ -36,7 +37,7 @@ none_left held units s = by_part s.partial
     none (u ∷ units) e = by_bytes (sent u) refl e
       where
         by_bytes : (bytes : List ℕ) → sent u ≡ bytes → [] ≡ bytes ++ sent_all units → u ∷ units ≡ []
-        by_bytes [] is e = absurd (some_sent 1 u is)
+        by_bytes [] is e = absurd (some_sent V1 u is)
         by_bytes (b ∷ bytes) is e = cc
 
     by_part : (held ≡ []) ⊎ BegunUnit held units → (units ≡ []) × (held ≡ [])
@@ -161,10 +162,10 @@ module _ (all : List Instance) (h : Seen) (q : Question) (lacking stays : Type 0
   wants may true lack e = false_true (sym (and-false may) ∙ e)
   wants may false lack e = lack refl
 
-  bytes_read : (rest : List ℕ) (r : Router) (b : ℕ) (memory : Bool) → (memory ≡ false → lacking) → is_reading r.link ≡ true → Phase (b ∷ rest) r → Phase rest (with_bytes memory (r.held ++ b ∷ []) r (judge 1 (not r.agreed) (r.held ++ b ∷ []))).router
+  bytes_read : (rest : List ℕ) (r : Router) (b : ℕ) (memory : Bool) → (memory ≡ false → lacking) → is_reading r.link ≡ true → Phase (b ∷ rest) r → Phase rest (with_bytes memory (r.held ++ b ∷ []) r (judge V1 (not r.agreed) (r.held ++ b ∷ []))).router
   bytes_read rest r b memory lack live (waits units is none f t s replies lacked shown) = by_case (byte_case (not r.agreed) r.held b rest units s)
     where
-      by_case : ByteCase (not r.agreed) r.held b rest units → Phase rest (with_bytes memory (r.held ++ b ∷ []) r (judge 1 (not r.agreed) (r.held ++ b ∷ []))).router
+      by_case : ByteCase (not r.agreed) r.held b rest units → Phase rest (with_bytes memory (r.held ++ b ∷ []) r (judge V1 (not r.agreed) (r.held ++ b ∷ []))).router
       by_case (partly e s) = subst (λ j. Phase rest (with_bytes memory (r.held ++ b ∷ []) r j).router) (sym e) (waits units is none f t s replies lacked shown)
       by_case (wholly u more units_are e fit s) =
           let k : Router = record r { held = [] } in
@@ -174,7 +175,7 @@ module _ (all : List Instance) (h : Seen) (q : Question) (lacking stays : Type 0
           (λ e. lacked (units_are ∙ e)) (subst Shown units_are shown))))
   bytes_read rest r b memory lack live (goes_on a units serial set is none own s leads o) = by_case (byte_case (not r.agreed) r.held b rest units s)
     where
-      by_case : ByteCase (not r.agreed) r.held b rest units → Phase rest (with_bytes memory (r.held ++ b ∷ []) r (judge 1 (not r.agreed) (r.held ++ b ∷ []))).router
+      by_case : ByteCase (not r.agreed) r.held b rest units → Phase rest (with_bytes memory (r.held ++ b ∷ []) r (judge V1 (not r.agreed) (r.held ++ b ∷ []))).router
       by_case (partly e s) = subst (λ j. Phase rest (with_bytes memory (r.held ++ b ∷ []) r j).router) (sym e) (goes_on a units serial set is none own s leads o)
       by_case (wholly u more units_are e fit s) =
           subst (λ j. Phase rest (with_bytes memory (r.held ++ b ∷ []) r j).router) (sym e)
@@ -232,7 +233,7 @@ module _ (all : List Instance) (h : Seen) (q : Question) (lacking stays : Type 0
   unfolding router_byte
   goes_byte b rest m on g =
       let parts = and_parts (is_reading m.router.link) (is_none m.router.out) (not_true (is_reading m.router.link && is_none m.router.out) on) in
-      (bytes_read rest m.router b (finds_memory m.wanting) (may_want m.wanting g.1) parts.0 g.0, counted_on (judge 1 (not m.router.agreed) (m.router.held ++ b ∷ [])) m.wanting g.1)
+      (bytes_read rest m.router b (finds_memory m.wanting) (may_want m.wanting g.1) parts.0 g.0, counted_on (judge V1 (not m.router.agreed) (m.router.held ++ b ∷ [])) m.wanting g.1)
 
   pub reply_read : (now : ℕ) (wanting : Option ℕ) (bytes : List ℕ) (r : Router) → HasMemory wanting → Phase bytes (clocked now r) → WasRead (receives now wanting bytes r).rest (receives now wanting bytes r).machine.router
   unfolding receives

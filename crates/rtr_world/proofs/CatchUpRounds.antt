@@ -6,6 +6,7 @@ use Rattle.std.proofs.Math.ListN.{drop_of_length-le}
 use Rattle.std.proofs.Math.Nat.{le-min}
 use Rattle.std.proofs.lemmas.List.{take_all}
 use Rattle.vrps.specs.VrpSet.{VrpSet}
+use Rattle.rtr_pdu.specs.declared.version.Version.TheVariants.{V1}
 use Rattle.rtr_pdu.specs.Unit.{IsUnit}
 use Rattle.rtr_pdu.specs.declared.unit.Unit.{Unit}
 use Rattle.rtr_pdu.proofs.NextLaws.{sent_most, some_sent}
@@ -106,7 +107,7 @@ module _ (w : World) (p : Present (instances w) w.present) (h : Seen) where
     some_bytes q table (u ∷ units) r e = by_bytes (sent u) refl e
       where
         by_bytes : (bytes : List ℕ) → sent u ≡ bytes → bytes ++ sent_all units ≡ [] → ⊥
-        by_bytes [] is e = some_sent 1 u is
+        by_bytes [] is e = some_sent V1 u is
         by_bytes (b ∷ bytes) is e = cc
 
     -- the cache reads
@@ -257,14 +258,14 @@ module _ (w : World) (p : Present (instances w) w.present) (h : Seen) where
     asks_few : (q : Question) (most : ℕ) (s : Side) → IsAll most → Asks w p h q s → length s.router.out ≤ most
     asks_few q most s enough a =
         let k = a.knows in
-        let few = sent_most 1 (query q) (query_unit (instances w) h.session q s.router.version s.router.table k.fits k.table_at) in
+        let few = sent_most V1 (query q) (query_unit (instances w) h.session q s.router.version s.router.table k.fits k.table_at) in
         let size = ap length a.out in
         omega (arith, enough, few, size)
 
     sent_few : (q : Question) (most : ℕ) (s : Side) → IsAll most → Sent w p h q s → length s.up ≤ most
     sent_few q most s enough a =
         let k = a.knows in
-        let few = sent_most 1 (query q) (query_unit (instances w) h.session q s.router.version s.router.table k.fits k.table_at) in
+        let few = sent_most V1 (query q) (query_unit (instances w) h.session q s.router.version s.router.table k.fits k.table_at) in
         let size = ap length a.up in
         omega (arith, enough, few, size)
 

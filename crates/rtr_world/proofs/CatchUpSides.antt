@@ -5,6 +5,7 @@ use Rattle.std.proofs.lemmas.Bool.{and_parts}
 use Rattle.std.proofs.lemmas.List.{take-append-drop}
 use Rattle.vrps.specs.Instance.{Instance}
 use Rattle.vrps.specs.VrpSet.{VrpSet, empty}
+use Rattle.rtr_pdu.specs.declared.version.Version.TheVariants.{V1}
 use Rattle.rtr_pdu.specs.Judging.{judge}
 use Rattle.rtr_ends.specs.declared.link.End.TheVariants as ends
 use Rattle.rtr_ends.specs.Cache.{Conn, is_none, finds_memory}
@@ -103,7 +104,7 @@ seen_made keep i home seen h he se is =
 
 module _ (all : List Instance) (i : Instance) (p : Present all i) (keep : ℕ) (home : Option Instance) (seen : Option Seen) (is_seen : IsSeen keep home seen) (conn : Option Conn) (up : List ℕ) where
   byte_current : (down : List ℕ) (r : Router) (b : ℕ) (memory : Bool) (h : Seen) (m : Made i h) (f : Flow all i h r conn up (b ∷ down)) → is_reading r.link ≡ true → TableAt all r.version r.table → IsCurrent i r
-      → ByteCase (not r.agreed) r.held b (down ++ (conn_due conn ++ f.lost)) f.coming → IsCurrent i (with_bytes memory (r.held ++ b ∷ []) r (judge 1 (not r.agreed) (r.held ++ b ∷ []))).router
+      → ByteCase (not r.agreed) r.held b (down ++ (conn_due conn ++ f.lost)) f.coming → IsCurrent i (with_bytes memory (r.held ++ b ∷ []) r (judge V1 (not r.agreed) (r.held ++ b ∷ []))).router
   byte_current down r b memory h m f live table c (partly e s) = subst (λ j. IsCurrent i (with_bytes memory (r.held ++ b ∷ []) r j).router) (sym e) c
   byte_current down r b memory h m f live table c (wholly u more is e fit s) =
       subst (λ j. IsCurrent i (with_bytes memory (r.held ++ b ∷ []) r j).router) (sym e) (by_memory (may_lack r.link u r && not memory))

@@ -7,6 +7,7 @@ use Rattle.vrps.specs.Instance.{Instance, Version, versions_from, with_serial}
 use Rattle.vrps.specs.Serial.{serial_at}
 use Rattle.vrps.specs.VrpSet.{VrpSet, IsVrpSet, listing, without}
 use Rattle.vrps.proofs.Listed.{part_is_set, size_of_listing}
+use Rattle.rtr_pdu.specs.declared.version.Version.TheVariants.{V1}
 use Rattle.rtr_pdu.specs.Unit.{IsUnit}
 use Rattle.rtr_pdu.specs.declared.unit.Unit.{Unit}
 use Rattle.rtr_pdu.specs.declared.unit.Unit.TheVariants.{EndOfData, Prefix, SerialQuery}
@@ -19,7 +20,7 @@ bytes_of : (units : List Unit) → AllByRecursion IsUnit units → length (sent_
 bytes_of [] fit = omega arith
 bytes_of (u ∷ units) fit =
     let rest = bytes_of units fit.1 in
-    let first = sent_most 1 u fit.0 in
+    let first = sent_most V1 u fit.0 in
     let both = length-append (sent u) (sent_all units) in
     omega (arith, rest, first, both)
 

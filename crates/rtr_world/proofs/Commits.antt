@@ -4,6 +4,7 @@ use Rattle.std.proofs.Common.{sym, ap, ◌∙◌, subst, arith, append_assoc}
 use Rattle.std.proofs.lemmas.Bool.{and_parts}
 use Rattle.vrps.specs.Instance.{Instance}
 use Rattle.vrps.specs.VrpSet.{VrpSet}
+use Rattle.rtr_pdu.specs.declared.version.Version.TheVariants.{V1}
 use Rattle.rtr_pdu.specs.Judging.{judge}
 use Rattle.rtr_pdu.specs.declared.unit.Unit.{Unit}
 use Rattle.rtr_pdu.specs.declared.unit.Unit.TheVariants.{EndOfData}
@@ -131,7 +132,7 @@ module _ (keep : ℕ) (past : List Instance) (i : Instance) (home : Option Insta
 
   -- a byte is read
   byte_read : (seen : Option Seen) (down : List ℕ) (r : Router) (b : ℕ) (memory : Bool) (items : List Item) (h : Seen) (f : Flow (i ∷ past) i h r conn up (b ∷ down)) → is_reading r.link ≡ true → r.out ≡ [] → Tells r items
-      → ByteCase (not r.agreed) r.held b (down ++ (conn_due conn ++ f.lost)) f.coming → Adds past i h (with_bytes memory (r.held ++ b ∷ []) r (judge 1 (not r.agreed) (r.held ++ b ∷ []))) items
+      → ByteCase (not r.agreed) r.held b (down ++ (conn_due conn ++ f.lost)) f.coming → Adds past i h (with_bytes memory (r.held ++ b ∷ []) r (judge V1 (not r.agreed) (r.held ++ b ∷ []))) items
   byte_read seen down r b memory items h f live none t (partly e s) = subst (λ j. Adds past i h (with_bytes memory (r.held ++ b ∷ []) r j) items) (sym e) (nothing refl)
   byte_read seen down r b memory items h f live none t (wholly u more is e fit s) =
       subst (λ j. Adds past i h (with_bytes memory (r.held ++ b ∷ []) r j) items) (sym e) (by_memory (may_lack r.link u r && not memory))
@@ -180,7 +181,7 @@ module _ (keep : ℕ) (past : List Instance) (i : Instance) (home : Option Insta
   goes_byte items places tail b rest m on g =
       let parts = and_parts (is_reading m.router.link) (is_none m.router.out) (not_true (is_reading m.router.link && is_none m.router.out) on) in
       let l = live_of m.router.link (i ∷ past) i g.seen m.router conn up (b ∷ rest ++ tail) g.good.link parts.0 in
-      let n : Noted = with_bytes (finds_memory m.wanting) (m.router.held ++ b ∷ []) m.router (judge 1 (not m.router.agreed) (m.router.held ++ b ∷ [])) in
+      let n : Noted = with_bytes (finds_memory m.wanting) (m.router.held ++ b ∷ []) m.router (judge V1 (not m.router.agreed) (m.router.held ++ b ∷ [])) in
       adds_goes items places (rest ++ tail) m n (router_byte m b).wanting g.seen l.0 l.1
       (byte_read g.seen (rest ++ tail) m.router b (finds_memory m.wanting) (m.items ++ items) l.0 l.2 parts.0 (none_is m.router.out parts.1) g.tells
       (byte_case (not m.router.agreed) m.router.held b ((rest ++ tail) ++ (conn_due conn ++ l.2.lost)) l.2.coming l.2.downward))

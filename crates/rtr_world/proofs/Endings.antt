@@ -5,6 +5,7 @@ use Rattle.std.proofs.lemmas.Bool.{and_parts}
 use Rattle.std.proofs.lemmas.List.{take-append-drop}
 use Rattle.std.specs.List.{AllByRecursion}
 use Rattle.vrps.specs.Instance.{Instance}
+use Rattle.rtr_pdu.specs.declared.version.Version.TheVariants.{V1}
 use Rattle.rtr_pdu.specs.Judging.{judge}
 use Rattle.rtr_pdu.specs.declared.unit.Unit.{Unit}
 use Rattle.rtr_ends.specs.declared.link.End.TheVariants as ends
@@ -77,7 +78,7 @@ module _ (all : List Instance) (i : Instance) (keep : ℕ) (home : Option Instan
   LawfulNoted n items = LawfulLink n.router.link (n.items ++ items) home
 
   byte_read : (down : List ℕ) (r : Router) (b : ℕ) (memory : Bool) (items : List Item) (h : Seen) (f : Flow all i h r conn up (b ∷ down)) → seen ≡ Some h → is_reading r.link ≡ true → Tells r items
-      → ByteCase (not r.agreed) r.held b (down ++ (conn_due conn ++ f.lost)) f.coming → LawfulNoted (with_bytes memory (r.held ++ b ∷ []) r (judge 1 (not r.agreed) (r.held ++ b ∷ []))) items
+      → ByteCase (not r.agreed) r.held b (down ++ (conn_due conn ++ f.lost)) f.coming → LawfulNoted (with_bytes memory (r.held ++ b ∷ []) r (judge V1 (not r.agreed) (r.held ++ b ∷ []))) items
   byte_read down r b memory items h f eh live t (partly e s) =
       subst (λ j. LawfulNoted (with_bytes memory (r.held ++ b ∷ []) r j) items) (sym e) (lawful_on r.link items home (reading_on r.link live))
   byte_read down r b memory items h f eh live t (wholly u more is e fit s) =
@@ -110,7 +111,7 @@ module _ (all : List Instance) (i : Instance) (keep : ℕ) (home : Option Instan
   byte_lawful items b down m on g =
       let parts = and_parts (is_reading m.router.link) (is_none m.router.out) (not_true (is_reading m.router.link && is_none m.router.out) on) in
       let l = live_of m.router.link all i seen m.router conn up (b ∷ down) g.good.link parts.0 in
-      let n : Noted = with_bytes (finds_memory m.wanting) (m.router.held ++ b ∷ []) m.router (judge 1 (not m.router.agreed) (m.router.held ++ b ∷ [])) in
+      let n : Noted = with_bytes (finds_memory m.wanting) (m.router.held ++ b ∷ []) m.router (judge V1 (not m.router.agreed) (m.router.held ++ b ∷ [])) in
       subst (λ x. LawfulLink n.router.link x home) (sym (append_assoc n.items m.items items))
       (byte_read down m.router b (finds_memory m.wanting) (m.items ++ items) l.0 l.2 l.1 parts.0 g.tells (byte_case (not m.router.agreed) m.router.held b (down ++ (conn_due conn ++ l.2.lost)) l.2.coming l.2.downward))
 

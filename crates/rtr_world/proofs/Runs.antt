@@ -3,6 +3,7 @@ use Rattle.std.specs.Prelude.{◌≡◌, ℕ, Bool, true, false, not, ◌&&◌, 
 use Rattle.std.proofs.Common.{◌∙◌, sym, ap}
 use Rattle.std.specs.List.{AllByRecursion}
 use Rattle.vrps.specs.Instance.{Instance}
+use Rattle.rtr_pdu.specs.declared.version.Version.TheVariants.{V1}
 use Rattle.rtr_pdu.specs.Judging.{Judgement, Begins, Whole, Faulty, judge}
 use Rattle.rtr_ends.specs.Cache.{finds_memory}
 use Rattle.rtr_ends.specs.Router.{Router, Link, Closed, Idle, Asked, Answering, Ended, Call, Connects, Receives, Pulls, Closes, AsksNow, Ticks, called, asked_by, on_unit, may_lack, reads, lacks, with_bytes, router_stops, router_byte, clocked, is_closed, is_due, is_idle, asks, asks_if, connects_at, closed_at, ticks_at, receives}
@@ -67,8 +68,8 @@ receives_of_call : (now : ℕ) (wanting : Option ℕ) (piece : List ℕ) (r : Ro
 unfolding receives router_byte
 receives_of_call now wanting piece r =
     feed_keeps (λ m. router_stops m.router) router_byte (λ rest m. AreOfCall m.items)
-    (λ b rest m on h. both_of_call (with_bytes (finds_memory m.wanting) (m.router.held ++ b ∷ []) m.router (judge 1 (not m.router.agreed) (m.router.held ++ b ∷ []))).items m.items
-    (read_of_call (finds_memory m.wanting) (m.router.held ++ b ∷ []) m.router (judge 1 (not m.router.agreed) (m.router.held ++ b ∷ []))) h)
+    (λ b rest m on h. both_of_call (with_bytes (finds_memory m.wanting) (m.router.held ++ b ∷ []) m.router (judge V1 (not m.router.agreed) (m.router.held ++ b ∷ []))).items m.items
+    (read_of_call (finds_memory m.wanting) (m.router.held ++ b ∷ []) m.router (judge V1 (not m.router.agreed) (m.router.held ++ b ∷ []))) h)
     (record { router = clocked now r; items = At now ∷ []; wanting = wanting }) piece (tt, tt)
 
 asks_of_call : (b : Bool) (r : Router) → AreOfCall (asks_if b r).items

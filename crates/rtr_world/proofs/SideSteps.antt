@@ -4,6 +4,7 @@ use Rattle.std.proofs.Common.{sym, ap, ◌∙◌, subst, inl}
 use Rattle.std.proofs.lemmas.Bool.{and_parts}
 use Rattle.vrps.specs.Instance.{Instance}
 use Rattle.vrps.specs.VrpSet.{empty}
+use Rattle.rtr_pdu.specs.declared.version.Version.TheVariants.{V1}
 use Rattle.rtr_pdu.specs.Judging.{judge}
 use Rattle.rtr_pdu.specs.declared.unit.Unit.{Unit}
 use Rattle.rtr_pdu.specs.declared.unit.Unit.TheVariants.{SerialNotify}
@@ -77,7 +78,7 @@ module _ (all : List Instance) (i : Instance) (home : Option Seen) (conn : Optio
 
   -- it reads a byte
   byte_read : (down : List ℕ) (r : Router) (b : ℕ) (memory : Bool) (h : Seen) (f : Flow all i h r conn up (b ∷ down)) → home ≡ Some h → is_reading r.link ≡ true → r.out ≡ [] → TableAt all r.version r.table → r.mark ≡ false
-      → ByteCase (not r.agreed) r.held b (down ++ (conn_due conn ++ f.lost)) f.coming → GoodRouter all i home conn up down (with_bytes memory (r.held ++ b ∷ []) r (judge 1 (not r.agreed) (r.held ++ b ∷ []))).router
+      → ByteCase (not r.agreed) r.held b (down ++ (conn_due conn ++ f.lost)) f.coming → GoodRouter all i home conn up down (with_bytes memory (r.held ++ b ∷ []) r (judge V1 (not r.agreed) (r.held ++ b ∷ []))).router
   byte_read down r b memory h f eh live none table mark (partly e s) =
       let k : Router = record r { held = r.held ++ b ∷ [] } in
       subst (λ j. GoodRouter all i home conn up down (with_bytes memory (r.held ++ b ∷ []) r j).router) (sym e) (record {

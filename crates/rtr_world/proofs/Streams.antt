@@ -4,6 +4,7 @@ use Rattle.std.proofs.Common.{sym, ap, ◌∙◌, subst, arith, append_assoc, in
 use Rattle.std.specs.List.{AllByRecursion}
 use Rattle.std.proofs.lemmas.List.{append_cancel_left}
 use Rattle.std.proofs.lemmas.List.Concat.{flat_map-append}
+use Rattle.rtr_pdu.specs.declared.version.Version.TheVariants.{V1}
 use Rattle.rtr_pdu.specs.Judging.{Begins, Whole, judge}
 use Rattle.rtr_pdu.specs.Payloads.{AreBytes}
 use Rattle.rtr_pdu.specs.Unit.{IsUnit}
@@ -37,7 +38,7 @@ record Next (held : List ℕ) (b : ℕ) (after : List ℕ) (units : List Unit) :
   goes_on : after ≡ rest ++ sent_all more
 
 next_fresh : (b : ℕ) (after : List ℕ) (u : Unit) (more : List Unit) (bytes : List ℕ) → sent u ≡ bytes → b ∷ after ≡ bytes ++ sent_all more → Next [] b after (u ∷ more)
-next_fresh b after u more [] e h = absurd (some_sent 1 u e)
+next_fresh b after u more [] e h = absurd (some_sent V1 u e)
 next_fresh b after u more (c ∷ cs) e h =
     let same : b ≡ c = cc in
     record { first = u; more = more; is = refl; rest = cs; begins = ap (λ x. x ∷ cs) same ∙ sym e; goes_on = cc }
@@ -60,17 +61,17 @@ next held b after units h (inr p) = next_begun held b after units h p
 
 -- After the next byte no unit is whole, or the first one is.
 pub data ByteCase (any : Bool) (held : List ℕ) (b : ℕ) (after : List ℕ) (units : List Unit) : Type 0 where
-  partly : judge 1 any (held ++ b ∷ []) ≡ Begins → Stream (held ++ b ∷ []) after units → ByteCase any held b after units
-  wholly : (u : Unit) (more : List Unit) → units ≡ u ∷ more → judge 1 any (held ++ b ∷ []) ≡ Whole u → IsUnit u → Stream [] after more → ByteCase any held b after units
+  partly : judge V1 any (held ++ b ∷ []) ≡ Begins → Stream (held ++ b ∷ []) after units → ByteCase any held b after units
+  wholly : (u : Unit) (more : List Unit) → units ≡ u ∷ more → judge V1 any (held ++ b ∷ []) ≡ Whole u → IsUnit u → Stream [] after more → ByteCase any held b after units
 
 case_of : (any : Bool) (held : List ℕ) (b : ℕ) (after : List ℕ) (units : List Unit) (u : Unit) (more : List Unit) (rest : List ℕ) → held ++ b ∷ after ≡ sent_all units → AllByRecursion IsUnit units → units ≡ u ∷ more → held ++ b ∷ rest ≡ sent u → after ≡ rest ++ sent_all more → ByteCase any held b after units
 case_of any held b after units u more [] h fit is begins on =
     let fits : AllByRecursion IsUnit (u ∷ more) = subst (AllByRecursion IsUnit) is fit in
-    wholly u more is (ap (judge 1 any) begins ∙ judge_sent 1 any u fits.0) fits.0 (record { whole = on; partial = inl refl; fit = fits.1 })
+    wholly u more is (ap (judge V1 any) begins ∙ judge_sent V1 any u fits.0) fits.0 (record { whole = on; partial = inl refl; fit = fits.1 })
 case_of any held b after units u more (c ∷ rest) h fit is begins on =
     let fits : AllByRecursion IsUnit (u ∷ more) = subst (AllByRecursion IsUnit) is fit in
     let begun : (held ++ b ∷ []) ++ c ∷ rest ≡ sent u = append_assoc held (b ∷ []) (c ∷ rest) ∙ begins in
-    partly (judge_part 1 any u (held ++ b ∷ []) rest c fits.0 begun) (record {
+    partly (judge_part V1 any u (held ++ b ∷ []) rest c fits.0 begun) (record {
       whole = append_assoc held (b ∷ []) after ∙ h;
       partial = inr (record { first = u; more = more; is = is; byte = c; rest = rest; begins = begun });
       fit = fit;

@@ -3,6 +3,7 @@ use Rattle.std.specs.Prelude.{◌≡◌, ℕ, Bool, true, false, not, ◌&&◌, 
 use Rattle.std.proofs.Common.{sym, ap, ◌∙◌, subst}
 use Rattle.std.specs.List.{AllByRecursion}
 use Rattle.vrps.specs.Instance.{Instance}
+use Rattle.rtr_pdu.specs.declared.version.Version.TheVariants.{V1}
 use Rattle.rtr_pdu.specs.Judging.{Judgement, Begins, Whole, Faulty, judge}
 use Rattle.rtr_pdu.specs.Stream.{type_of}
 use Rattle.rtr_pdu.specs.declared.unit.Unit.{Unit}
@@ -125,7 +126,7 @@ goes_byte : (b : ℕ) (rest : List ℕ) (m : Receiving) → router_stops m.route
 unfolding router_byte
 goes_byte b rest m on g =
     let bytes : List ℕ = m.router.held ++ b ∷ [] in
-    let j : Judgement = judge 1 (not m.router.agreed) (m.router.held ++ b ∷ []) in
+    let j : Judgement = judge V1 (not m.router.agreed) (m.router.held ++ b ∷ []) in
     record {
       free = subst (λ x. Free (with_bytes (finds_memory x) bytes m.router j).router.link) (sym g.none) (byte_free bytes m.router j g.free);
       none = ap (counted j) g.none ∙ none_counted j;

@@ -3,6 +3,7 @@ use Rattle.std.proofs.Common.{◌≡◌, length, take, drop, ◌++◌, arith, su
 use Rattle.std.proofs.lemmas.List.{take-append-le, length-take-le, length-append, length-drop}
 use Rattle.std.specs.Io.KnownBytes.{Consumes}
 use Rattle.std.proofs.KnownBytes.{Consumes-trans}
+use Rattle.rtr_pdu.specs.declared.version.Version.TheVariants.{V1}
 use Rattle.rtr_pdu.proofs.DeviceLaws as laws
 use Rattle.rtr_pdu.proofs.device.read_unit.Goals as goal
 
@@ -13,7 +14,7 @@ returns-in-Unit-clause-reads g c =
     let room : length c.read.new.buf ≡ c.missing-size.result = c.read.auto.buf ∙ length-take-le c.missing-size.result c.loop-reader.bytes (omega (arith, c.missing-size.ensures.most, size)) in
     let few = laws.within c.in-Ok.n c.missing-size.result c.loop-reader.reader.held c.held.result.now c.read.new.buf _ room c.missing-size.ensures.value c.held.ensures.held c.in-Ok.ensures.bound piece in
     let one = laws.was_counted c.in-Ok.ensures.counted c.in-Ok.ensures.spent in
-    laws.gives_unit _ _ _ _ _ _ _ _ _ _ sound mode c.in-Unit.ensures.reader few front (subst (Consumes _ _) (sym piece) c.in-Ok.ensures.bytes.0) most one.0 _ c.in-Unit.ensures.takes
+    laws.gives_unit V1 _ _ _ _ _ _ _ _ _ _ sound mode c.in-Unit.ensures.reader few front (subst (Consumes _ _) (sym piece) c.in-Ok.ensures.bytes.0) most one.0 _ c.in-Unit.ensures.takes
 
 pub returns-in-Fault-clause-reads : goal.returns-in-Fault-clause-reads
 returns-in-Fault-clause-reads g c =
@@ -22,23 +23,23 @@ returns-in-Fault-clause-reads g c =
     let room : length c.read.new.buf ≡ c.missing-size.result = c.read.auto.buf ∙ length-take-le c.missing-size.result c.loop-reader.bytes (omega (arith, c.missing-size.ensures.most, size)) in
     let few = laws.within c.in-Ok.n c.missing-size.result c.loop-reader.reader.held c.held.result.now c.read.new.buf _ room c.missing-size.ensures.value c.held.ensures.held c.in-Ok.ensures.bound piece in
     let one = laws.was_counted c.in-Ok.ensures.counted c.in-Ok.ensures.spent in
-    laws.gives_fault _ _ _ _ _ _ _ _ _ _ sound mode c.in-Fault.ensures.reader few front (subst (Consumes _ _) (sym piece) c.in-Ok.ensures.bytes.0) most one.0 _ c.in-Fault.ensures.takes
+    laws.gives_fault V1 _ _ _ _ _ _ _ _ _ _ sound mode c.in-Fault.ensures.reader few front (subst (Consumes _ _) (sym piece) c.in-Ok.ensures.bytes.0) most one.0 _ c.in-Fault.ensures.takes
 
 pub loop-reader-smaller : goal.loop-reader-smaller
 loop-reader-smaller g c =
     let (sound, mode, fails, least, most, front, size) = c.loop-reader.invariant in
     let piece = take-append-le c.in-Ok.n c.read.new.buf (drop c.missing-size.result c.loop-reader.bytes) c.in-Ok.ensures.bound.0 in
     let held : c.next.new.self.held ≡ c.loop-reader.reader.held ++ take c.in-Ok.n c.read.new.buf =
-    ap (λ r. r.held) (laws.holds_more _ _ _ _ c.in-NeedMore.ensures.takes) ∙ ap (λ x. c.loop-reader.reader.held ++ x) piece in
+    ap (λ r. r.held) (laws.holds_more V1 _ _ _ _ c.in-NeedMore.ensures.takes) ∙ ap (λ x. c.loop-reader.reader.held ++ x) piece in
     let came = length-append c.loop-reader.reader.held (take c.in-Ok.n c.read.new.buf) in
-    let least = laws.partial_most c.loop-reader.reader.held (laws.begins c.loop-reader.reader sound mode c.in-NeedMore.ensures.reader) in
+    let least = laws.partial_most V1 c.loop-reader.reader.held (laws.begins V1 c.loop-reader.reader sound mode c.in-NeedMore.ensures.reader) in
     omega (arith, ap length held, came, c.in-Ok.ensures.bound.1, least, c.in-Ok.n-test.1)
 
 pub loop-reader-preserved : goal.loop-reader-preserved
 loop-reader-preserved g c =
     let (sound, mode, fails, least, most, front, size) = c.loop-reader.invariant in
     let piece = take-append-le c.in-Ok.n c.read.new.buf (drop c.missing-size.result c.loop-reader.bytes) c.in-Ok.ensures.bound.0 in
-    let new = laws.holds_more _ _ _ _ c.in-NeedMore.ensures.takes in
+    let new = laws.holds_more V1 _ _ _ _ c.in-NeedMore.ensures.takes in
     let held : c.next.new.self.held ≡ c.loop-reader.reader.held ++ take c.in-Ok.n c.read.new.buf = ap (λ r. r.held) new ∙ ap (λ x. c.loop-reader.reader.held ++ x) piece in
     let came = length-append c.loop-reader.reader.held (take c.in-Ok.n c.read.new.buf) in
     let room : length c.read.new.buf ≡ c.missing-size.result = c.read.auto.buf ∙ length-take-le c.missing-size.result c.loop-reader.bytes (omega (arith, c.missing-size.ensures.most, size)) in

@@ -1,4 +1,5 @@
 use Rattle.std.proofs.Common.{sym, subst, true}
+use Rattle.rtr_pdu.specs.declared.version.Version.TheVariants.{V1}
 use Rattle.rtr_pdu.proofs.RunLaws.{takes_some}
 use Rattle.rtr_ends.specs.Shown.{Takes}
 use Rattle.rtr_ends.proofs.RouterSteps.{fault_goes, more_goes, unit_goes}
@@ -10,7 +11,7 @@ returns-in-Unit-clause-takes c =
     (unit_goes c.args.self.now c.args.piece.now.now c.next.new.piece.now c.requires c.next.ensures.reader c.in-Unit.unit c.next.new.self c.in-Unit.ensures.takes c.read-lacks.new.self c.read-lacks.result c.read-lacks.ensures)
 
 pub returns-in-Unit-clause-less : goal.returns-in-Unit-clause-less
-returns-in-Unit-clause-less c h = takes_some c.args.self.now.reader c.args.piece.now.now c.next.new.piece.now c.in-Unit.unit c.next.new.self c.next.ensures.reader c.in-Unit.ensures.takes
+returns-in-Unit-clause-less c h = takes_some V1 c.args.self.now.reader c.args.piece.now.now c.next.new.piece.now c.in-Unit.unit c.next.new.self c.next.ensures.reader c.in-Unit.ensures.takes
 
 pub returns-in-NeedMore-clause-takes : goal.returns-in-NeedMore-clause-takes
 returns-in-NeedMore-clause-takes c = more_goes c.args.self.now c.args.piece.now.now c.next.new.piece.now c.requires c.next.ensures.reader c.next.new.self c.in-NeedMore.ensures.takes
