@@ -278,6 +278,12 @@ def believe_page(house):
 SECTIONS = re.compile(r"(RFC \d+|X\.690)(?:,? sections?)?,? (\d[\d., andto]*)|\bsections? (\d[\d., andto]*)|(RFC \d+|X\.690)|^(\d+\.\d+[\d., andto]*):")
 
 
+def between(first, last):
+    """The sections from one to another of the same depth, as 5.2 to 5.11."""
+    (above, dot, low), (other, _, high) = first.rpartition("."), last.rpartition(".")
+    return [f"{above}{dot}{it}" for it in range(int(low), int(high) + 1)] if above == other else []
+
+
 def cited(text, standard):
     """The sections that a text cites, as pairs of a standard and a section, '' for the whole of it."""
     found = set()
@@ -288,8 +294,8 @@ def cited(text, standard):
             continue
         numbers = re.findall(r"\d+(?:\.\d+)*|to", of or alone or first)
         for at, number in enumerate(numbers):
-            if number == "to" and 0 < at < len(numbers) - 1 and "." not in numbers[at - 1] + numbers[at + 1]:
-                found |= {(standard, str(k)) for k in range(int(numbers[at - 1]), int(numbers[at + 1]) + 1)}
+            if number == "to" and 0 < at < len(numbers) - 1:
+                found |= {(standard, it) for it in between(numbers[at - 1], numbers[at + 1])}
             elif number != "to":
                 found.add((standard, number))
     return found

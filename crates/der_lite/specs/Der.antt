@@ -15,7 +15,7 @@ abbrev pub base_256 : ℕ → ℕ → List ℕ
 base_256 zero n = []
 base_256 (suc count) n = base_256 count (n / 256) ++ (n % 256) ∷ []
 
--- 8.1.3 and 10.1: the length of a content in the fewest bytes. Below 128 it is one byte;
+-- X.690 sections 8.1.3 and 10.1: the length of a content in the fewest bytes. Below 128 it is one byte;
 -- otherwise 128 and the count of its bytes, and then these.
 unfoldable pub length_bytes : ℕ → List ℕ
 length_bytes n =
@@ -25,7 +25,7 @@ length_bytes n =
     else if nat_lt n (256 ^ 3) then 131 ∷ base_256 3 n
     else 132 ∷ base_256 4 n
 
--- 8.1.2: the tags of elements, which are universal but for the last, [0] of a constructed context
+-- X.690 section 8.1.2: the tags of elements, which are universal but for the last, [0] of a constructed context
 abbrev pub INTEGER : ℕ
 INTEGER = 2
 
@@ -50,7 +50,7 @@ SEQUENCE = 48
 abbrev pub EXPLICIT_0 : ℕ
 EXPLICIT_0 = 160
 
--- 8.1.1: the tag, the length of the content, the content
+-- X.690 section 8.1.1: the tag, the length of the content, the content
 abbrev pub tlv : ℕ → List ℕ → List ℕ
 tlv tag content = tag ∷ length_bytes (length content) ++ content
 
@@ -59,17 +59,17 @@ pub record Tlv (tag : ℕ) (content bytes : List ℕ) : Type 0 where
   pub short : length content < 2 ^ 32
   pub spelled : bytes ≡ tlv tag content
 
--- 8.3.3: the whole number of a content, in two's complement
+-- X.690 section 8.3.3: the whole number of a content, in two's complement
 abbrev pub twos_complement : List ℕ → ℤ
 twos_complement bytes = if nat_lt (slice_index bytes 0) 128 then pos (number bytes) else pos (number bytes) -ℤ pos (256 ^ length bytes)
 
--- 8.3.1 and 8.3.2: one byte or more, of which the first nine bits are neither all 0 nor all 1
+-- X.690 sections 8.3.1 and 8.3.2: one byte or more, of which the first nine bits are neither all 0 nor all 1
 abbrev pub is_integer : List ℕ → Bool
 is_integer [] = false
 is_integer (first ∷ []) = true
 is_integer (first ∷ second ∷ more) = not (first == 0 && nat_lt second 128) && not (first == 255 && nat_le 128 second)
 
--- 8.3: the content spells this whole number, in the fewest bytes
+-- X.690 section 8.3: the content spells this whole number, in the fewest bytes
 pub record IntSpells (n : ℤ) (bytes : List ℕ) : Type 0 where
   pub value : twos_complement bytes ≡ n
   pub fewest : is_integer bytes ≡ true
@@ -85,7 +85,7 @@ abbrev pub bits_of : List ℕ → List Bool
 bits_of [] = []
 bits_of (byte ∷ bytes) = bits_of_byte byte ++ bits_of bytes
 
--- 8.6.2 and 11.2: the count of unused bits, below 8, then the bits and that many zeros; without bits, the count 0 alone
+-- X.690 sections 8.6.2 and 11.2: the count of unused bits, below 8, then the bits and that many zeros; without bits, the count 0 alone
 pub record BitsSpell (bits : List Bool) (bytes : List ℕ) : Type 0 where
   pub unused : ℕ
   pub body : List ℕ
@@ -114,7 +114,7 @@ abbrev pub told_length : List ℕ → ℕ
 told_length [] = 0
 told_length (first ∷ more) = if nat_lt first 128 then first else number more
 
--- 10.1: they are the one spelling of this length
+-- X.690 section 10.1: they are the one spelling of this length
 abbrev pub is_length : List ℕ → Bool
 is_length part = bytes_eq part (length_bytes (told_length part))
 
@@ -148,7 +148,7 @@ is_bit_string (unused ∷ first ∷ more) = nat_lt unused 8 && slice_index (firs
 abbrev pub bit_count : List ℕ → ℕ
 bit_count content = 8 * (length content - 1) - slice_index content 0
 
--- 8.23: each byte is an ASCII character
+-- X.690 section 8.23: each byte is an ASCII character
 abbrev pub is_ia5 : List ℕ → Bool
 is_ia5 [] = true
 is_ia5 (byte ∷ bytes) = nat_lt byte 128 && is_ia5 bytes

@@ -71,7 +71,7 @@ moment_digits m =
     decimals 4 m.year ++ decimals 2 m.month ++ decimals 2 m.day
     ++ decimals 2 m.hour ++ decimals 2 m.minute ++ decimals 2 m.second
 
--- X.690, 11.7, in the form of RFC 5280, 4.1.2.5.2: the digits and Z, without a fraction of a second
+-- X.690 section 11.7, in the form of RFC 5280 section 4.1.2.5.2: the digits and Z, without a fraction of a second
 unfoldable pub moment_text : CivilMoment → List ℕ
 moment_text m = moment_digits m ++ 90 ∷ []
 

@@ -3,7 +3,7 @@ use Rattle.std.specs.Prelude.{ℕ, ◌+◌, ◌-◌, ◌^◌, ◌||◌, Bool, no
 use Rattle.der_lite.specs.Der.{number, base_256, is_integer, IntSpells, bits_of, bit_count}
 use Rattle.der_lite.specs.Grammar.{Content, primitive}
 
--- 8.3.3: the highest bit of an integer's content is its sign
+-- X.690 section 8.3.3: the highest bit of an integer's content is its sign
 abbrev pub is_negative : List ℕ → Bool
 is_negative content = nat_le 128 (slice_index content 0)
 
@@ -15,7 +15,7 @@ between_rules least most fault content = (4, not (is_integer content)) ∷ (faul
 abbrev pub integer_between : ℕ → ℕ → ℕ → Content ℕ
 integer_between least most fault = primitive (λ n content. IntSpells (pos n) content) (between_rules least most fault)
 
--- 8.3.2: the content of a number below 2^32 in the fewest bytes, of which the highest bit is a sign
+-- X.690 section 8.3.2: the content of a number below 2^32 in the fewest bytes, of which the highest bit is a sign
 unfoldable pub unsigned_bytes : ℕ → List ℕ
 unsigned_bytes n =
     if nat_lt n (2 ^ 7) then base_256 1 n

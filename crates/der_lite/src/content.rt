@@ -6,7 +6,7 @@ ghost use Rattle.der_lite.specs.Values.{is_negative};
 
 use crate::length::number;
 
-/// A bit string: bytes, of which the lowest bits of the last one are not used (X.690, 8.6).
+/// A bit string: bytes, of which the lowest bits of the last one are not used (X.690 section 8.6).
 #[derive(Clone, Copy, Debug, PartialEq, Eq)]
 pub struct Bits<'a> {
     /// How many bits of the last byte are not used, 0 to 7. Without bytes it is 0.
@@ -15,7 +15,7 @@ pub struct Bits<'a> {
     pub bytes: &'a [u8],
 }
 
-/// Whether the content is that of an INTEGER: a whole number in the fewest bytes (X.690, 8.3).
+/// Whether the content is that of an INTEGER: a whole number in the fewest bytes (X.690 section 8.3).
 pub fn is_integer(content: &[u8]) -> bool
     ensures { result ≡ is_integer_of content.now }
 {
@@ -27,7 +27,7 @@ pub fn is_integer(content: &[u8]) -> bool
     }
 }
 
-/// Whether the content is a bit string whose unused bits are zero (X.690, 8.6 and 11.2).
+/// Whether the content is a bit string whose unused bits are zero (X.690 sections 8.6 and 11.2).
 pub(crate) fn is_bit_string(content: &[u8]) -> bool
     ensures { result ≡ is_bit_string_of content.now }
 {
@@ -38,7 +38,7 @@ pub(crate) fn is_bit_string(content: &[u8]) -> bool
     }
 }
 
-/// The content as a text, if it is one of ASCII alone (X.690, 8.23).
+/// The content as a text, if it is one of ASCII alone (X.690 section 8.23).
 pub(crate) fn ia5_text(content: &[u8]) -> Option<&str>
     ensures { option_map (λ text. text.now) result ≡ (if is_ia5 content.now then Some content.now else None) }
 {
@@ -51,7 +51,7 @@ pub(crate) fn ia5_text(content: &[u8]) -> Option<&str>
     }
 }
 
-/// The number of an INTEGER's content, if it is not negative and below 2^32 (X.690, 8.3.3).
+/// The number of an INTEGER's content, if it is not negative and below 2^32 (X.690 section 8.3.3).
 pub fn unsigned(content: &[u8]) -> Option<u32>
     requires { IsTrue (is_integer_of content.now) }
     ensures { result ≡ (if is_negative content.now || nat_lt 4294967295 (number_of content.now) then None else Some (number_of content.now)) }

@@ -79,7 +79,7 @@ impl<'a> Cursor<'a> {
         }
     }
 
-    /// A cursor over the members of the SEQUENCE (tag 48) that stands here (X.690, 8.9).
+    /// A cursor over the members of the SEQUENCE (tag 48) that stands here (X.690 section 8.9).
     pub fn sequence(&mut self) -> Result<Cursor<'a>, DerFault>
         ensures { Gives (λ c. c) result self.old self.new (element_at SEQUENCE self.old) }
     {
@@ -89,7 +89,7 @@ impl<'a> Cursor<'a> {
     }
 
     /// The content of the INTEGER (tag 2) that stands here, in two's complement, the highest byte
-    /// first (X.690, 8.3). `BadContent` if it is empty or not in the fewest bytes.
+    /// first (X.690 section 8.3). `BadContent` if it is empty or not in the fewest bytes.
     #[tactic(auto, unfolding(crate::specs::Reading::content_at))]
     pub fn integer(&mut self) -> Result<&'a [u8], DerFault>
         ensures exact { Gives (λ content. content.now) result self.old self.new (integer_at self.old) }
@@ -103,7 +103,7 @@ impl<'a> Cursor<'a> {
         Ok(content.rest)
     }
 
-    /// The bits of the BIT STRING (tag 3) that stands here (X.690, 8.6 and 11.2). `BadContent` if
+    /// The bits of the BIT STRING (tag 3) that stands here (X.690 sections 8.6 and 11.2). `BadContent` if
     /// the count of unused bits is missing, above 7, or not 0 where no bytes follow, or if an
     /// unused bit is set.
     #[tactic(auto, unfolding(crate::specs::Reading::content_at))]
@@ -124,7 +124,7 @@ impl<'a> Cursor<'a> {
         Err(self.bad_content())
     }
 
-    /// The content of the OCTET STRING (tag 4) that stands here (X.690, 8.7).
+    /// The content of the OCTET STRING (tag 4) that stands here (X.690 section 8.7).
     #[tactic(auto, unfolding(crate::specs::Reading::content_at))]
     pub fn octets(&mut self) -> Result<&'a [u8], DerFault>
         ensures { Gives (λ content. content.now) result self.old self.new (octets_at self.old) }
@@ -135,7 +135,7 @@ impl<'a> Cursor<'a> {
     }
 
     /// The content of the OBJECT IDENTIFIER (tag 6) that stands here, which is not judged: it is
-    /// only there to be compared (X.690, 8.19).
+    /// only there to be compared (X.690 section 8.19).
     #[tactic(auto, unfolding(crate::specs::Reading::content_at))]
     pub fn oid(&mut self) -> Result<&'a [u8], DerFault>
         ensures { Gives (λ content. content.now) result self.old self.new (oid_at self.old) }
@@ -145,7 +145,7 @@ impl<'a> Cursor<'a> {
         Ok(content.rest)
     }
 
-    /// The text of the IA5String (tag 22) that stands here (X.690, 8.23). `BadContent` if a byte is
+    /// The text of the IA5String (tag 22) that stands here (X.690 section 8.23). `BadContent` if a byte is
     /// 128 or above.
     #[tactic(auto, unfolding(crate::specs::Reading::content_at))]
     pub fn ia5(&mut self) -> Result<&'a str, DerFault>
@@ -162,8 +162,8 @@ impl<'a> Cursor<'a> {
         }
     }
 
-    /// The moment of the GeneralizedTime (tag 24) that stands here, `YYYYMMDDHHMMSSZ` (X.690, 8.25
-    /// and 11.7; RFC 5280, 4.1.2.5.2). `BadContent` if the content has another form, or its numbers
+    /// The moment of the GeneralizedTime (tag 24) that stands here, `YYYYMMDDHHMMSSZ` (X.690 sections 8.25
+    /// and 11.7; RFC 5280 section 4.1.2.5.2). `BadContent` if the content has another form, or its numbers
     /// are no real date and time of the years 1970 to 9999.
     #[tactic(auto, unfolding(crate::specs::Reading::time_at, crate::specs::Reading::content_at, crate::specs::Moments::moment_in))]
     pub fn time(&mut self) -> Result<Moment, DerFault>

@@ -8,10 +8,10 @@ ghost use Rattle.der_lite.specs.Cursors.{kind_number};
 pub enum DerFaultKind {
     /// 1: the tag, the length or the content does not stand before the end of the enclosing element.
     Truncated,
-    /// 2: an element of another tag stands here (X.690, 8.1.2).
+    /// 2: an element of another tag stands here (X.690 section 8.1.2).
     WrongTag,
     /// 3: the length is indefinite, has more than four bytes, or is not in the fewest bytes
-    /// (X.690, 8.1.3 and 10.1).
+    /// (X.690 sections 8.1.3 and 10.1).
     BadLength,
     /// 4: the content is none of this type.
     BadContent,

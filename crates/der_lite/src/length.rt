@@ -1,4 +1,4 @@
-//! The length bytes of an element (X.690, 8.1.3 and 10.1).
+//! The length bytes of an element (X.690 sections 8.1.3 and 10.1).
 
 ghost use Rattle.std.specs.Prelude.{◌≡◌, ◌<◌, ◌≤◌, ◌^◌, ◌∷◌, length};
 ghost use Rattle.der_lite.specs.Der.{announced as announced_by, number as number_of, told_length, is_length as is_length_of};

@@ -46,7 +46,7 @@ impl Model for Moment {
 }
 
 impl Moment {
-    /// The moment of which this is the text, `YYYYMMDDHHMMSSZ` (X.690, 11.7; RFC 5280, 4.1.2.5.2).
+    /// The moment of which this is the text, `YYYYMMDDHHMMSSZ` (X.690 section 11.7; RFC 5280 section 4.1.2.5.2).
     /// `None` if there is none: the text has another form, or its numbers are no real date and time
     /// of the years 1970 to 9999.
     pub fn parse(text: &str) -> Option<Moment>
@@ -208,7 +208,7 @@ impl PartialOrd for Moment {
     }
 }
 
-/// The text, `YYYYMMDDHHMMSSZ` (X.690, 11.7; RFC 5280, 4.1.2.5.2).
+/// The text, `YYYYMMDDHHMMSSZ` (X.690 section 11.7; RFC 5280 section 4.1.2.5.2).
 impl Display for Moment {
     ghost output = { λ m. Some (moment_text m) };
 

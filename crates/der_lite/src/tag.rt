@@ -1,4 +1,4 @@
-//! The tags of elements (X.690, 8.1.2).
+//! The tags of elements (X.690 section 8.1.2).
 
 pub(crate) const INTEGER: u8 = 2;
 

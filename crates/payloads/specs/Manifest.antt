@@ -1,4 +1,4 @@
--- The payload of a manifest (RFC 9286, section 4), and the first fault of bytes that spell none.
+-- The payload of a manifest (RFC 9286 section 4), and the first fault of bytes that spell none.
 use Rattle.std.specs.Prelude.{◌≡◌, ℕ, ◌-◌, ◌&&◌, ◌||◌, Bool, not, nat_lt, nat_le, ◌==◌, bytes_eq, List, [], ◌∷◌, length, slice_index, take, drop, pos}
 use Rattle.std.specs.List.{list_all, list_any}
 use Rattle.der_lite.specs.Place.{place_of}
@@ -10,7 +10,7 @@ use Rattle.der_lite.specs.Values.{is_negative}
 use Rattle.der_lite.specs.Fields.{valued}
 use Rattle.payloads.specs.Roa.{no_rules, first_head}
 
--- ---- 4.2.1: the fields before the list
+-- ---- RFC 9286 section 4.2.1: the fields before the list
 
 -- a whole number in the fewest bytes, not negative
 pub record NumberSpells (n content : List ℕ) : Type 0 where
@@ -54,7 +54,7 @@ algorithm_rules content = (15, not (bytes_eq content sha_256)) ∷ []
 unfoldable pub hash_algorithm : Element (Unit {0})
 hash_algorithm = element OBJECT_IDENTIFIER (head_rules OBJECT_IDENTIFIER) (primitive AlgorithmSpells algorithm_rules)
 
--- ---- 4.2.2: names and hashes
+-- ---- RFC 9286 section 4.2.2: names and hashes
 
 -- a listed file: its name and its hash
 pub record ListedFile : Type 0 where
@@ -127,7 +127,7 @@ file_and_hash before = element SEQUENCE (head_rules SEQUENCE) (constructed (too_
 unfoldable pub file_list : Element (List ListedFile)
 file_list = element SEQUENCE (head_rules SEQUENCE) (constructed no_rules (each file_and_hash) no_rules)
 
--- ---- 4.2: Manifest
+-- ---- RFC 9286 section 4.2: Manifest
 
 -- the number, thisUpdate, nextUpdate, the list
 pub record ManifestValue : Type 0 where
@@ -149,7 +149,7 @@ behind_next = member hash_algorithm (λ _. last file_list)
 abbrev pub behind_this : CivilMoment → Members (CivilMoment × (Unit {0} × List ListedFile))
 behind_this this = member (next_update this) (λ next. behind_next)
 
--- 4.2.1: version [0] is left out
+-- RFC 9286 section 4.2.1: version [0] is left out
 abbrev pub manifest_members : Members ManifestValue
 manifest_members = valued manifest_parts (member manifest_number (λ n. member this_update behind_this))
 

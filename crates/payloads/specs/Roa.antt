@@ -18,15 +18,15 @@ use Rattle.payloads.specs.RoaEntries.{is_not_above}
 abbrev pub no_rules : {A : Type 0} → A → List (ℕ × Bool)
 no_rules _ = []
 
--- 4.1: version [0] is left out. Its tag (160) at the place of the first member is VersionPresent.
+-- RFC 9582 section 4.1: version [0] is left out. Its tag (160) at the place of the first member is VersionPresent.
 abbrev pub first_head : List ℕ → List (ℕ × Bool)
 first_head bytes = (1, is_truncated bytes) ∷ (6, tag_of bytes == EXPLICIT_0) ∷ head_rules INTEGER bytes
 
--- 4.2: asID INTEGER (0..4294967295)
+-- RFC 9582 section 4.2: asID INTEGER (0..4294967295)
 unfoldable pub as_id : Element ℕ
 as_id = element INTEGER first_head (integer_between 0 4294967295 7)
 
--- ---- 4.3.1: ROAIPAddressFamily
+-- ---- RFC 9582 section 4.3.1: ROAIPAddressFamily
 
 -- the number of an address family (IANA)
 abbrev pub family_number : AddressFamily → ℕ
@@ -54,7 +54,7 @@ FamilySpells family content = content ≡ 0 ∷ family_number family ∷ []
 unfoldable pub address_family : Option AddressFamily → Element AddressFamily
 address_family before = element OCTET_STRING (head_rules OCTET_STRING) (primitive FamilySpells (family_rules before))
 
--- ---- 4.3.2: ROAIPAddress
+-- ---- RFC 9582 section 4.3.2: ROAIPAddress
 
 -- how many bits an address of the family has
 abbrev pub family_width : AddressFamily → ℕ
@@ -112,7 +112,7 @@ entry_members family = valued entry_parts (member (address family) (λ prefix. o
 unfoldable pub ip_address : AddressFamily → ℕ → Option RoaEntry → Element RoaEntry
 ip_address family count before = element SEQUENCE (head_rules SEQUENCE) (constructed (too_many_rules count) (entry_members family) (order_rules before))
 
--- ---- 4.3: ipAddrBlocks
+-- ---- RFC 9582 section 4.3: ipAddrBlocks
 
 -- there is a member
 abbrev pub not_empty : List ℕ → List (ℕ × Bool)

@@ -16,7 +16,7 @@ use Rattle.payloads.specs.RoaValues.{RoaValue}
 abbrev pub bytes_of_bits : ℕ → ℕ
 bytes_of_bits count = (count + 7) / 8
 
--- 4.3.2.1: how many bits of the last byte are not used, and the first bytes of an address that has so many
+-- RFC 9582 section 4.3.2.1: how many bits of the last byte are not used, and the first bytes of an address that has so many
 abbrev pub first_bytes : ℕ → Block → List ℕ
 first_bytes octets block = (8 * bytes_of_bits block.len - block.len) ∷ take (bytes_of_bits block.len) (base_256 octets block.addr)
 
@@ -24,12 +24,12 @@ first_bytes octets block = (8 * bytes_of_bits block.len - block.len) ∷ take (b
 unfoldable pub address_content : IpPrefix → List ℕ
 address_content prefix = first_bytes (width_of prefix / 8) (block_of prefix)
 
--- 4.3.2.2: maxLength INTEGER OPTIONAL
+-- RFC 9582 section 4.3.2.2: maxLength INTEGER OPTIONAL
 abbrev pub maximum_bytes : Option ℕ → List ℕ
 maximum_bytes None = []
 maximum_bytes (Some maximum) = tlv INTEGER (unsigned_bytes maximum)
 
--- 4.3.2: address and maxLength
+-- RFC 9582 section 4.3.2: address and maxLength
 unfoldable pub entry_bytes : RoaEntry → List ℕ
 entry_bytes entry = tlv SEQUENCE (tlv BIT_STRING (address_content entry.prefix) ++ maximum_bytes entry.max_len)
 
@@ -45,11 +45,11 @@ abbrev pub list_bytes : AddressFamily → List RoaEntry → List ℕ
 list_bytes family [] = []
 list_bytes family (entry ∷ entries) = (if is_of family entry.prefix then entry_bytes entry else []) ++ list_bytes family entries
 
--- 4.3.1: addressFamily and the list of its addresses; nothing where the list is empty
+-- RFC 9582 section 4.3.1: addressFamily and the list of its addresses; nothing where the list is empty
 unfoldable pub family_bytes : AddressFamily → List ℕ → List ℕ
 family_bytes family list = if length list == 0 then [] else tlv SEQUENCE (tlv OCTET_STRING (0 ∷ family_number family ∷ []) ++ tlv SEQUENCE list)
 
--- 4.3: IPv4, and then IPv6
+-- RFC 9582 section 4.3: IPv4, and then IPv6
 abbrev pub families_bytes : List RoaEntry → List ℕ
 families_bytes entries = family_bytes Ipv4 (list_bytes Ipv4 entries) ++ family_bytes Ipv6 (list_bytes Ipv6 entries)
 

@@ -1,4 +1,4 @@
--- Which offers to a publication point are acceptable, and how each is judged (RFC 9286, sections 4.2.1 and 6).
+-- Which offers to a publication point are acceptable, and how each is judged (RFC 9286 sections 4.2.1 and 6).
 use Rattle.std.specs.Prelude.{◌≡◌, ◌≢◌, ◌⊎◌, ℕ, suc, ◌<◌, Bool, true, false, not, nat_le, bytes_eq, if◌then◌else◌, List, [], ◌∷◌, ◌++◌, ◌+◌, length, Option, Some, None, IsTrue, ⊤}
 use Rattle.std.specs.List.{All, AllPairs, Contains}
 use Rattle.sha2.specs.Sha256.{sha256}
@@ -13,7 +13,7 @@ use Rattle.points.specs.Accepted.{Accepted}
 
 -- ---- what is acceptable
 
--- 4.2.1: the number and thisUpdate are above the accepted ones
+-- RFC 9286 section 4.2.1: the number and thisUpdate are above the accepted ones
 abbrev pub IsAbove : Option Accepted → ManifestValue → Type 0
 IsAbove None m = ⊤
 IsAbove (Some last) m =
@@ -23,7 +23,7 @@ IsAbove (Some last) m =
 abbrev pub ShareNoName : List FileIn → Type 0
 ShareNoName files = AllPairs (λ file other. file.name.now ≢ other.name.now) files
 
--- 6.4 and 6.5: the listed name has a file with the hash that is listed, and the content of a ROA is spelled
+-- RFC 9286 sections 6.4 and 6.5: the listed name has a file with the hash that is listed, and the content of a ROA is spelled
 pub record Serves (files : List FileIn) (listed : ListedFile) : Type 0 where
   pub file : FileIn
   pub among : Contains files file
@@ -31,7 +31,7 @@ pub record Serves (files : List FileIn) (listed : ListedFile) : Type 0 where
   pub hashed : sha256 file.object.now ≡ listed.hash
   pub spelled : IsTrue (is_roa_name listed.name) → (roa : RoaValue) × RoaSpells roa file.content.now
 
--- The manifest is spelled and current (6.3), above the accepted one, and each file that it lists is there.
+-- The manifest is spelled and current (RFC 9286 section 6.3), above the accepted one, and each file that it lists is there.
 pub record Acceptable (before : Option Accepted) (bytes : List ℕ) (files : List FileIn) (now : CivilMoment) : Type 0 where
   pub manifest : ManifestValue
   pub spelled : ManifestSpells manifest bytes

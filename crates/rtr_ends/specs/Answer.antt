@@ -30,7 +30,7 @@ sent u = unit_bytes V1 u
 abbrev pub sent_all : List Unit → List ℕ
 sent_all units = flat_map sent units
 
--- An Error Report with an empty text. What does not fit is left out of the copy (section 5.11).
+-- An Error Report with an empty text. What does not fit is left out of the copy (RFC 8210 section 5.11).
 abbrev pub report : ℕ → List ℕ → Unit
 report code copy = ErrorReport (record { code = code; copy = take REPORT_ROOM copy; text = [] })
 
@@ -40,17 +40,17 @@ announcements s = map (λ v. Prefix true v) (listing s)
 abbrev pub withdrawals : VrpSet → List Unit
 withdrawals s = map (λ v. Prefix false v) (listing s)
 
--- Cache Response, these records, and End of Data of this version (section 8.1)
+-- Cache Response, these records, and End of Data of this version (RFC 8210 section 8.1)
 abbrev pub response : ℕ → Intervals → Version → List Unit → List Unit
 response session t now records =
     CacheResponse session ∷ records ++ EndOfData session now.serial t.refresh t.retry t.expire ∷ []
 
--- To a Reset Query: all of the current version (section 8.1). Where nothing is published: No Data Available (section 8.4).
+-- To a Reset Query: all of the current version (RFC 8210 section 8.1). Where nothing is published: No Data Available (RFC 8210 section 8.4).
 abbrev pub whole_answer : ℕ → Intervals → List Version → List Unit
 whole_answer session t [] = report NO_DATA_AVAILABLE (sent ResetQuery) ∷ []
 whole_answer session t (now ∷ older) = response session t now (announcements now.set)
 
--- What leads from a version that is kept to the current one, withdrawals first (section 8.2), or a Cache Reset (section 8.3)
+-- What leads from a version that is kept to the current one, withdrawals first (RFC 8210 section 8.2), or a Cache Reset (RFC 8210 section 8.3)
 abbrev pub step_answer : ℕ → Intervals → Version → Option Version → List Unit
 step_answer session t now None = CacheReset ∷ []
 step_answer session t now (Some before) =

@@ -36,13 +36,13 @@ bytes_of (Fault fault bytes) = bytes
 bytes_of (Notify cache) = []
 bytes_of (Pull count) = []
 
--- A query that is read is the agreement on the version (section 7).
+-- A query that is read is the agreement on the version (RFC 8210 section 7).
 abbrev pub is_query : Unit → Bool
 is_query (SerialQuery session serial) = true
 is_query ResetQuery = true
 is_query u = false
 
--- The code of a fault (section 12): the version, before and after agreement; the type; corrupt data
+-- The code of a fault (RFC 8210 section 12): the version, before and after agreement; the type; corrupt data
 abbrev pub fault_code : Bool → UnitFault → ℕ
 fault_code agreed faults.Version = if agreed then UNEXPECTED_VERSION else UNSUPPORTED_VERSION
 fault_code agreed faults.«Type» = UNSUPPORTED_TYPE
@@ -53,7 +53,7 @@ abbrev pub fault_report : Bool → UnitFault → List ℕ → List Unit
 fault_report agreed faults.Truncated bytes = []
 fault_report agreed fault bytes = if is_of kinds.ErrorReport bytes then [] else report (fault_code agreed fault) bytes ∷ []
 
--- A Serial Notify of the current version, where there is one (section 5.2)
+-- A Serial Notify of the current version, where there is one (RFC 8210 section 5.2)
 abbrev pub notice : ℕ → List Version → List Unit
 notice session [] = []
 notice session (now ∷ older) = SerialNotify session now.serial ∷ []

@@ -209,12 +209,12 @@ with_read m judgement n = record { router = n.router; items = n.items ++ m.items
 abbrev pub with_judged : Receiving → List ℕ → Judgement → Receiving
 with_judged m bytes judgement = with_read m judgement (with_bytes (finds_memory m.wanting) bytes m.router judgement)
 
--- The next byte. Until a version is agreed on, a notify of any version is read (section 7).
+-- The next byte. Until a version is agreed on, a notify of any version is read (RFC 8210 section 7).
 unfoldable pub router_byte : Receiving → ℕ → Receiving
 router_byte m b = with_judged m (m.router.held ++ b ∷ []) (judge V1 (not m.router.agreed) (m.router.held ++ b ∷ []))
 
 -- The clock, judged first wherever a moment is told: what has expired is emptied. A Serial Query that is outstanding then ends the
--- link (section 6).
+-- link (RFC 8210 section 6).
 abbrev pub expired : Link → Router → Router
 expired (Asked (AskSerial session serial)) r = record (emptied r) { link = Ended ends.Expired; out = [] }
 expired (Answering a) r = if is_serial (Some a.question) then record (emptied r) { link = Ended ends.Expired; out = [] } else emptied r

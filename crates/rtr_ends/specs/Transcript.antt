@@ -12,7 +12,7 @@ use Rattle.rtr_pdu.specs.declared.unit.UnitFault.{UnitFault}
 use Rattle.rtr_ends.specs.Commit.{Commits}
 use Rattle.rtr_ends.specs.Timing.{Intervals, intervals}
 
--- A question: for all, or for what changed since a version (sections 5.3 and 5.4)
+-- A question: for all, or for what changed since a version (RFC 8210 sections 5.3 and 5.4)
 pub data Question : Type 0 where
   AskReset : Question
   AskSerial : (session : ℕ) → (serial : ℕ) → Question
@@ -77,7 +77,7 @@ with_record announce v None = None
 with_record false v (Some a) = Some (record a { withdrawn = v ∷ a.withdrawn })
 with_record true v (Some a) = Some (record a { announced = v ∷ a.announced })
 
--- A Cache Response to the question that waits, then records, Router Keys and notifies alone (section 8.1)
+-- A Cache Response to the question that waits, then records, Router Keys and notifies alone (RFC 8210 section 8.1)
 abbrev pub under_way : List Item → Option Begun
 under_way [] = None
 under_way (Reads (CacheResponse session) ∷ items) = begun (waiting items) session
@@ -95,7 +95,7 @@ question_of None waits = waits
 abbrev pub outstanding : List Item → Option Question
 outstanding items = question_of (under_way items) (waiting items)
 
--- A version is agreed on: a unit other than a notify was read on this connection (section 7).
+-- A version is agreed on: a unit other than a notify was read on this connection (RFC 8210 section 7).
 abbrev pub has_agreed : List Item → Bool
 has_agreed [] = false
 has_agreed (Opened ∷ items) = false
@@ -154,14 +154,14 @@ pub record Kept : Type 0 where
 abbrev pub nothing : Kept
 nothing = record { version = None; table = empty }
 
--- Intervals are brought to the nearest bound of their range (section 6).
+-- Intervals are brought to the nearest bound of their range (RFC 8210 section 6).
 abbrev pub within : ℕ → ℕ → ℕ → ℕ
 within low high n = if nat_lt n low then low else if nat_lt high n then high else n
 
 abbrev pub bounded : ℕ → ℕ → ℕ → Intervals
 bounded refresh retry expire = intervals (within 1 86400 refresh) (within 1 7200 retry) (within 600 172800 expire)
 
--- A Reset Query is answered on an empty table, a Serial Query on the one that is held (sections 5.3, 5.4).
+-- A Reset Query is answered on an empty table, a Serial Query on the one that is held (RFC 8210 sections 5.3 and 5.4).
 abbrev pub base_of : Question → VrpSet → VrpSet
 base_of AskReset table = empty
 base_of (AskSerial session serial) table = table
@@ -237,7 +237,7 @@ is_commit items = false
 abbrev pub sum_of : ℕ → ℕ → ℕ
 sum_of a b = if nat_lt 18446744073709551615 (a + b) then 18446744073709551615 else a + b
 
--- the retry interval, where nothing is committed the one that the standard recommends (section 6)
+-- the retry interval, where nothing is committed the one that the standard recommends (RFC 8210 section 6)
 abbrev pub retry_of : Option Committed → ℕ
 retry_of None = 600
 retry_of (Some version) = version.intervals.retry
@@ -263,7 +263,7 @@ due (Reads (EndOfData session serial refresh retry expire) ∷ items) =
 due (Reads (ErrorReport r) ∷ items) = if r.code == NO_DATA_AVAILABLE && is_some (outstanding items) then retried items else due items
 due (item ∷ items) = due items
 
--- A record that acts wrongly in the answer under way, with code 6 or 7 (section 12)
+-- A record that acts wrongly in the answer under way, with code 6 or 7 (RFC 8210 section 12)
 abbrev pub acts_wrongly : Option Begun → VrpSet → Bool → Payload → Bool
 acts_wrongly None table announce v = false
 acts_wrongly (Some a) table false v = not (has (base_of a.question table) v && not (is_listed v a.withdrawn))
@@ -282,7 +282,7 @@ abbrev pub choose : Option Committed → Bool → Question
 choose (Some version) false = AskSerial version.session version.serial
 choose version mark = AskReset
 
--- The question that is put next: after a Cache Reset a Reset Query (section 5.9)
+-- The question that is put next: after a Cache Reset a Reset Query (RFC 8210 section 5.9)
 abbrev pub next_question : List Item → Question
 next_question (Reads CacheReset ∷ items) = AskReset
 next_question items = choose (kept items).version (marked items)

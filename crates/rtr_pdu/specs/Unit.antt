@@ -55,14 +55,14 @@ header version kind field len = version_number version ∷ kind ∷ big_bytes 2 
 abbrev pub fixed_header : Version → Kind → ℕ → List ℕ
 fixed_header version kind field = header version (kind_number kind) field (fixed_len version kind)
 
--- An IPv4 or IPv6 Prefix (sections 5.6 and 5.7): flags, length, maximum, zero, address, AS
+-- An IPv4 or IPv6 Prefix (RFC 8210 sections 5.6 and 5.7): flags, length, maximum, zero, address, AS
 abbrev pub prefix_bytes : Version → Bool → IpPrefix → ℕ → ℕ → Ignored → List ℕ
 prefix_bytes version announce (V4 p) max_len asn z =
     fixed_header version kinds.Ipv4Prefix z.header ++ (flag announce + 2 * z.flags) ∷ p.len ∷ max_len ∷ z.byte ∷ big_bytes 4 p.addr ++ big_bytes 4 asn
 prefix_bytes version announce (V6 p) max_len asn z =
     fixed_header version kinds.Ipv6Prefix z.header ++ (flag announce + 2 * z.flags) ∷ p.len ∷ max_len ∷ z.byte ∷ big_bytes 16 p.addr ++ big_bytes 4 asn
 
--- The bytes of a unit of this protocol version, with what is ignored (sections 5.2 to 5.11)
+-- The bytes of a unit of this protocol version, with what is ignored (RFC 8210 sections 5.2 to 5.11)
 abbrev pub spelled : Version → Unit → Ignored → List ℕ
 spelled version (SerialNotify session serial) z = fixed_header version kinds.SerialNotify session ++ big_bytes 4 serial
 spelled version (SerialQuery session serial) z = fixed_header version kinds.SerialQuery session ++ big_bytes 4 serial

@@ -30,7 +30,7 @@ abbrev pub published : VrpSet → Instance → Instance
 published set i = if is_current i.sets set then i else record i { sets = set ∷ i.sets }
 
 -- What a cache knows of a version that is asked for by its serial: nothing is published; it is not kept; or the change from it
--- to the current version (sections 8.2 to 8.4)
+-- to the current version (RFC 8210 sections 8.2 to 8.4)
 pub data Since : Type 0 where
   NoData : Since
   Unknown : Since
