@@ -5,7 +5,7 @@ use Rattle.std.specs.Bool.{⊤}
 use Rattle.std.specs.List.{AllByRecursion}
 use Rattle.std.proofs.lemmas.List.Concat.{flat_map-append}
 use Rattle.rtr_pdu.specs.declared.version.Version.TheVariants.{V1}
-use Rattle.rtr_pdu.specs.Reader.{Reader, Takes, fresh}
+use Rattle.rtr_pdu.specs.Reader.{Reader, ReaderTakes, fresh}
 use Rattle.rtr_pdu.specs.Stream.{IsPartial, Shows, Splits, as_read}
 use Rattle.rtr_pdu.specs.declared.unit.Next.{Next}
 use Rattle.rtr_pdu.specs.declared.unit.Next.TheVariants as next
@@ -29,7 +29,7 @@ pub read_none : (P : List Unit → Type 0) (bytes : List ℕ) → P [] → Read 
 read_none P bytes h = record { units = []; front = []; whole = refl; kept = h; goes_on = λ more rest fault splits. splits }
 
 -- a unit, and then more
-unit_then : (taken left : List ℕ) (u : Unit) (new : Reader) (t : Takes V1 (fresh false) left (next.Unit u) taken new) (more : List Unit) (rest : List ℕ) (fault : Option UnitFault) → Splits V1 false taken more rest fault → Splits V1 false left (u ∷ more) rest fault
+unit_then : (taken left : List ℕ) (u : Unit) (new : Reader) (t : ReaderTakes V1 (fresh false) left (next.Unit u) taken new) (more : List Unit) (rest : List ℕ) (fault : Option UnitFault) → Splits V1 false taken more rest fault → Splits V1 false left (u ∷ more) rest fault
 unit_then taken left u new t more rest fault s = record {
   front = t.taken ++ s.front;
   whole = t.piece_is ∙ ap (λ x. t.taken ++ x) s.whole ∙ sym (append_assoc t.taken s.front rest);
@@ -37,9 +37,9 @@ unit_then taken left u new t more rest fault s = record {
   after = s.after;
 }
 
-pub read_more : (P Q : List Unit → Type 0) (bytes left rest : List ℕ) (u : Unit) (old new : Reader) → old ≡ fresh false → Takes V1 old left (next.Unit u) rest new → (r : Read P bytes left) → (P r.units → Q (r.units ++ u ∷ [])) → (new ≡ fresh false) × Read Q bytes rest
+pub read_more : (P Q : List Unit → Type 0) (bytes left rest : List ℕ) (u : Unit) (old new : Reader) → old ≡ fresh false → ReaderTakes V1 old left (next.Unit u) rest new → (r : Read P bytes left) → (P r.units → Q (r.units ++ u ∷ [])) → (new ≡ fresh false) × Read Q bytes rest
 read_more P Q bytes left rest u old new is takes r keeps =
-    let t : Takes V1 (fresh false) left (next.Unit u) rest new = subst (λ x. Takes V1 x left (next.Unit u) rest new) is takes in (
+    let t : ReaderTakes V1 (fresh false) left (next.Unit u) rest new = subst (λ x. ReaderTakes V1 x left (next.Unit u) rest new) is takes in (
       t.gives.2,
       record {
         units = r.units ++ u ∷ [];
@@ -53,9 +53,9 @@ read_more P Q bytes left rest u old new is takes r keeps =
     )
 
 -- a unit has bytes
-pub read_less : (left rest : List ℕ) (u : Unit) (old new : Reader) → old ≡ fresh false → Takes V1 old left (next.Unit u) rest new → length rest < length left
+pub read_less : (left rest : List ℕ) (u : Unit) (old new : Reader) → old ≡ fresh false → ReaderTakes V1 old left (next.Unit u) rest new → length rest < length left
 read_less left rest u old new is takes =
-    let t : Takes V1 (fresh false) left (next.Unit u) rest new = subst (λ x. Takes V1 x left (next.Unit u) rest new) is takes in
+    let t : ReaderTakes V1 (fresh false) left (next.Unit u) rest new = subst (λ x. ReaderTakes V1 x left (next.Unit u) rest new) is takes in
     let some : 8 ≤ length t.taken = long_front V1 false u t.taken t.gives.1.reads in omega (arith, ap length t.piece_is, length-append t.taken rest, some)
 
 pub read_most : (P : List Unit → Type 0) (bytes left : List ℕ) → Read P bytes left → length left ≤ length bytes
@@ -77,27 +77,27 @@ ends_with P bytes left fault r s = record {
 no_fault : (fault : UnitFault) → ◌≡◌ {A = Option UnitFault} None (Some fault) → ⊥
 no_fault fault e = cc
 
-pub ends_fault : (P : List Unit → Type 0) (bytes left rest : List ℕ) (fault : UnitFault) (old new : Reader) → old ≡ fresh false → Takes V1 old left (next.Fault fault) rest new → Read P bytes left → Ends P bytes left (Some fault)
+pub ends_fault : (P : List Unit → Type 0) (bytes left rest : List ℕ) (fault : UnitFault) (old new : Reader) → old ≡ fresh false → ReaderTakes V1 old left (next.Fault fault) rest new → Read P bytes left → Ends P bytes left (Some fault)
 ends_fault P bytes left rest fault old new is takes r =
-    let t : Takes V1 (fresh false) left (next.Fault fault) rest new = subst (λ x. Takes V1 x left (next.Fault fault) rest new) is takes in
+    let t : ReaderTakes V1 (fresh false) left (next.Fault fault) rest new = subst (λ x. ReaderTakes V1 x left (next.Fault fault) rest new) is takes in
     let shows : Shows V1 (as_read V1 false (t.taken ++ rest)) fault = elim t.gives [ inl found ↦ later_shows V1 false t.taken rest fault found.1.shows | inr again ↦ absurd (no_fault fault again.0) ] in
     ends_with P bytes left (Some fault) r (record { front = []; whole = refl; read = refl; after = subst (λ x. Shows V1 (as_read V1 false x) fault) (sym t.piece_is) shows })
 
 -- it is all held
-all_held : (left rest : List ℕ) (new : Reader) (t : Takes V1 (fresh false) left next.NeedMore rest new) → (left ≡ t.taken) × (left ≡ new.held)
+all_held : (left rest : List ℕ) (new : Reader) (t : ReaderTakes V1 (fresh false) left next.NeedMore rest new) → (left ≡ t.taken) × (left ≡ new.held)
 all_held left rest new t =
     let e : left ≡ t.taken = t.piece_is ∙ ap (λ x. t.taken ++ x) t.gives.2 ∙ append-nil t.taken in (e, e ∙ ap (λ r. r.held) (sym t.gives.3))
 
-pub ends_partly : (P : List Unit → Type 0) (bytes left rest : List ℕ) (old new : Reader) → old ≡ fresh false → Takes V1 old left next.NeedMore rest new → Read P bytes left → Ends P bytes left None
+pub ends_partly : (P : List Unit → Type 0) (bytes left rest : List ℕ) (old new : Reader) → old ≡ fresh false → ReaderTakes V1 old left next.NeedMore rest new → Read P bytes left → Ends P bytes left None
 ends_partly P bytes left rest old new is takes r =
-    let t : Takes V1 (fresh false) left next.NeedMore rest new = subst (λ x. Takes V1 x left next.NeedMore rest new) is takes in
+    let t : ReaderTakes V1 (fresh false) left next.NeedMore rest new = subst (λ x. ReaderTakes V1 x left next.NeedMore rest new) is takes in
     ends_with P bytes left None r (record { front = []; whole = refl; read = refl; after = subst (λ x. IsPartial V1 (as_read V1 false x)) (sym (all_held left rest new t).0) t.gives.1 })
 
-pub held_is : (left rest : List ℕ) (old new : Reader) → old ≡ fresh false → Takes V1 old left next.NeedMore rest new → left ≡ new.held
-held_is left rest old new is takes = (all_held left rest new (subst (λ x. Takes V1 x left next.NeedMore rest new) is takes)).1
+pub held_is : (left rest : List ℕ) (old new : Reader) → old ≡ fresh false → ReaderTakes V1 old left next.NeedMore rest new → left ≡ new.held
+held_is left rest old new is takes = (all_held left rest new (subst (λ x. ReaderTakes V1 x left next.NeedMore rest new) is takes)).1
 
 -- whatever it is, but no unit
-pub ends_there : (P : List Unit → Type 0) (bytes left rest : List ℕ) (answer : Next) (old new : Reader) → ((u : Unit) → answer ≡ next.Unit u → ⊥) → old ≡ fresh false → Takes V1 old left answer rest new → Read P bytes left → (fault : Option UnitFault) × Ends P bytes left fault
+pub ends_there : (P : List Unit → Type 0) (bytes left rest : List ℕ) (answer : Next) (old new : Reader) → ((u : Unit) → answer ≡ next.Unit u → ⊥) → old ≡ fresh false → ReaderTakes V1 old left answer rest new → Read P bytes left → (fault : Option UnitFault) × Ends P bytes left fault
 ends_there P bytes left rest (next.Unit u) old new other is takes r = absurd (other u refl)
 ends_there P bytes left rest (next.Fault fault) old new other is takes r = (Some fault, ends_fault P bytes left rest fault old new is takes r)
 ends_there P bytes left rest next.NeedMore old new other is takes r = (None, ends_partly P bytes left rest old new is takes r)
@@ -114,17 +114,17 @@ offset_some size (b ∷ rest) h = refl
 abbrev pub Any : List Unit → Type 0
 Any units = ⊤
 
-pub leaves_fault : (bytes left rest : List ℕ) (fault : UnitFault) (old new : Reader) → old ≡ fresh false → Takes V1 old left (next.Fault fault) rest new → Read Any bytes left → LeavesOff bytes None
+pub leaves_fault : (bytes left rest : List ℕ) (fault : UnitFault) (old new : Reader) → old ≡ fresh false → ReaderTakes V1 old left (next.Fault fault) rest new → Read Any bytes left → LeavesOff bytes None
 leaves_fault bytes left rest fault old new is takes r =
     let e = ends_fault Any bytes left rest fault old new is takes r in
     record { units = e.units; rest = left; fault = Some fault; splits = e.splits; left_is = sym (offset_fault (length bytes) left fault) }
 
-pub leaves_none : (bytes left rest : List ℕ) (old new : Reader) → old ≡ fresh false → Takes V1 old left next.NeedMore rest new → Read Any bytes left → new.held ≡ [] → LeavesOff bytes None
+pub leaves_none : (bytes left rest : List ℕ) (old new : Reader) → old ≡ fresh false → ReaderTakes V1 old left next.NeedMore rest new → Read Any bytes left → new.held ≡ [] → LeavesOff bytes None
 leaves_none bytes left rest old new is takes r none =
     let e = ends_partly Any bytes left rest old new is takes r in
     record { units = e.units; rest = left; fault = None; splits = e.splits; left_is = ap (λ x. offset_of (length bytes) x None) (sym (held_is left rest old new is takes ∙ none)) }
 
-pub leaves_some : (bytes left rest : List ℕ) (old new : Reader) → old ≡ fresh false → Takes V1 old left next.NeedMore rest new → Read Any bytes left → 0 < length new.held → LeavesOff bytes (Some (length bytes - length left))
+pub leaves_some : (bytes left rest : List ℕ) (old new : Reader) → old ≡ fresh false → ReaderTakes V1 old left next.NeedMore rest new → Read Any bytes left → 0 < length new.held → LeavesOff bytes (Some (length bytes - length left))
 leaves_some bytes left rest old new is takes r some =
     let e = ends_partly Any bytes left rest old new is takes r in
     record { units = e.units; rest = left; fault = None; splits = e.splits; left_is = sym (offset_some (length bytes) left (subst (λ x. 0 < length x) (sym (held_is left rest old new is takes)) some)) }

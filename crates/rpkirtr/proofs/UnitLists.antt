@@ -5,7 +5,7 @@ use Rattle.std.specs.Io.KnownBytes.{Appends}
 use Rattle.std.proofs.KnownBytes.{Appends-nil, Appends-trans}
 use Rattle.std.proofs.lemmas.List.Concat.{flat_map-append}
 use Rattle.rtr_pdu.specs.declared.version.Version.TheVariants.{V1}
-use Rattle.rtr_pdu.specs.Device.{Answers}
+use Rattle.rtr_pdu.specs.Device.{ReadAnswers}
 use Rattle.rtr_pdu.specs.declared.device.ReadFault.{ReadFault}
 use Rattle.rtr_pdu.specs.declared.device.ReadFault.TheVariants as read_faults
 use Rattle.rtr_pdu.specs.Fault.{fault_number}
@@ -31,7 +31,7 @@ pub told_none : (bytes : List ℕ) (a : Option (List ℕ)) → Told bytes bytes 
 told_none bytes a = record { units = []; front = []; whole = refl; printed = Appends-nil a; goes_on = λ more rest fault splits. splits }
 
 -- one unit more
-pub told_more : (bytes left read next : List ℕ) (a b c : Option (List ℕ)) (u : Unit) (found : Option Unit) → Told bytes left a b → left ≡ read ++ next → found ≡ Some u → Answers V1 read (Some next) (Ok found) → Appends b c (unit_line u)
+pub told_more : (bytes left read next : List ℕ) (a b c : Option (List ℕ)) (u : Unit) (found : Option Unit) → Told bytes left a b → left ≡ read ++ next → found ≡ Some u → ReadAnswers V1 read (Some next) (Ok found) → Appends b c (unit_line u)
     → Told bytes next a c
 told_more bytes left read next a b c u found t parts e answers line = record {
   units = t.units ++ u ∷ [];
@@ -43,13 +43,13 @@ told_more bytes left read next a b c u found t parts e answers line = record {
   goes_on = λ more rest fault splits.
       subst (λ (us : List Unit). Splits V1 false bytes us rest fault) (sym (append_assoc t.units (u ∷ []) more))
       (t.goes_on (u ∷ more) rest fault
-      (subst (λ (x : List ℕ). Splits V1 false x (u ∷ more) rest fault) (sym parts) (tells_first V1 read next (Ok (Some u)) (subst (λ (x : Option Unit). Answers V1 read (Some next) (Ok x)) e answers) more rest fault splits)));
+      (subst (λ (x : List ℕ). Splits V1 false x (u ∷ more) rest fault) (sym parts) (tells_first V1 read next (Ok (Some u)) (subst (λ (x : Option Unit). ReadAnswers V1 read (Some next) (Ok x)) e answers) more rest fault splits)));
 }
 
 -- a unit has bytes
-pub told_less : (left read next : List ℕ) (u : Unit) (found : Option Unit) → left ≡ read ++ next → found ≡ Some u → Answers V1 read (Some next) (Ok found) → length next < length left
+pub told_less : (left read next : List ℕ) (u : Unit) (found : Option Unit) → left ≡ read ++ next → found ≡ Some u → ReadAnswers V1 read (Some next) (Ok found) → length next < length left
 told_less left read next u found parts e answers =
-    let is : IsRead V1 false read u = subst (λ (x : Option Unit). Answers V1 read (Some next) (Ok x)) e answers in
+    let is : IsRead V1 false read u = subst (λ (x : Option Unit). ReadAnswers V1 read (Some next) (Ok x)) e answers in
     let some : 8 ≤ length read = long_front V1 false u read is.reads in omega (arith, ap length parts, length-append read next, some)
 
 -- what is left is no more than all
@@ -57,9 +57,9 @@ pub told_most : (bytes left : List ℕ) (a b : Option (List ℕ)) → Told bytes
 told_most bytes left a b t = omega (arith, ap length t.whole, length-append t.front left)
 
 -- the bytes end behind the units
-pub told_whole : (bytes left read next : List ℕ) (a b : Option (List ℕ)) (found : Option Unit) → Told bytes left a b → left ≡ read ++ next → found ≡ None → Answers V1 read (Some next) (Ok found) → TellsUnits bytes a b Whole
+pub told_whole : (bytes left read next : List ℕ) (a b : Option (List ℕ)) (found : Option Unit) → Told bytes left a b → left ≡ read ++ next → found ≡ None → ReadAnswers V1 read (Some next) (Ok found) → TellsUnits bytes a b Whole
 told_whole bytes left read next a b found t parts e answers =
-    let none : left ≡ [] = parts ∙ tells_first V1 read next (Ok None) (subst (λ (x : Option Unit). Answers V1 read (Some next) (Ok x)) e answers) in
+    let none : left ≡ [] = parts ∙ tells_first V1 read next (Ok None) (subst (λ (x : Option Unit). ReadAnswers V1 read (Some next) (Ok x)) e answers) in
     let end : Splits V1 false left [] [] None =
     subst (λ (x : List ℕ). Splits V1 false x [] [] None) (sym none) (record { front = []; whole = refl; read = refl; after = partial_empty V1 false }) in record {
       units = t.units;
@@ -71,10 +71,10 @@ told_whole bytes left read next a b found t parts e answers =
     }
 
 -- what is left shows a fault, or is the beginning of a unit
-pub told_fault : (bytes left read next : List ℕ) (a b : Option (List ℕ)) (fault : UnitFault) (found : ReadFault) → Told bytes left a b → left ≡ read ++ next → found ≡ read_faults.Fault fault → Answers V1 read (Some next) (Err found)
+pub told_fault : (bytes left read next : List ℕ) (a b : Option (List ℕ)) (fault : UnitFault) (found : ReadFault) → Told bytes left a b → left ≡ read ++ next → found ≡ read_faults.Fault fault → ReadAnswers V1 read (Some next) (Err found)
     → TellsUnits bytes a b (Refused (fault_number fault) (length bytes - length left))
 told_fault bytes left read next a b fault found t parts e answers =
-    let (shown, splits, ends) = tells_first V1 read next (Err (read_faults.Fault fault)) (subst (λ (x : ReadFault). Answers V1 read (Some next) (Err x)) e answers) in record {
+    let (shown, splits, ends) = tells_first V1 read next (Err (read_faults.Fault fault)) (subst (λ (x : ReadFault). ReadAnswers V1 read (Some next) (Err x)) e answers) in record {
       units = t.units;
       rest = left;
       fault = shown;

@@ -10,7 +10,7 @@ use Rattle.vrps.specs.VrpSet.{VrpSet}
 use Rattle.vrps.specs.Stores.{newest}
 use Rattle.rtr_pdu.specs.declared.version.Version.TheVariants.{V1}
 use Rattle.rtr_pdu.specs.Judging.{Faulty, Whole}
-use Rattle.rtr_pdu.specs.Reader.{Gives as ReaderGives, IsReader, Reader, Takes, fresh}
+use Rattle.rtr_pdu.specs.Reader.{ReaderGives, IsReader, Reader, ReaderTakes, fresh}
 use Rattle.rtr_pdu.specs.Stream.{as_read, IsPartial}
 use Rattle.rtr_pdu.specs.declared.unit.Next.TheVariants as next
 use Rattle.rtr_pdu.specs.declared.unit.Unit.{Unit}
@@ -72,10 +72,10 @@ module _ (keep : ℕ) (t : Intervals) (i : Instance) (o : Conn) where
   abbrev own : Reader
   own = record { held = o.held; any = false; later = false; fault = None }
 
-  took : (r : Reader) (piece rest : List ℕ) (answer : _) (new : Reader) → r ≡ own → Takes V1 r piece answer rest new → Takes V1 own piece answer rest new
-  took r piece rest answer new e h = subst (λ x. Takes V1 x piece answer rest new) e h
+  took : (r : Reader) (piece rest : List ℕ) (answer : _) (new : Reader) → r ≡ own → ReaderTakes V1 r piece answer rest new → ReaderTakes V1 own piece answer rest new
+  took r piece rest answer new e h = subst (λ x. ReaderTakes V1 x piece answer rest new) e h
 
-  pub receives_more : (piece rest : List ℕ) (p : Peer) (reader : Reader) → conn_stops o ≡ false → ShowsPeer t i o p → Takes V1 p.reader piece next.NeedMore rest reader → Receives keep t i o piece (length piece) (record p { reader = reader })
+  pub receives_more : (piece rest : List ℕ) (p : Peer) (reader : Reader) → conn_stops o ≡ false → ShowsPeer t i o p → ReaderTakes V1 p.reader piece next.NeedMore rest reader → Receives keep t i o piece (length piece) (record p { reader = reader })
   receives_more piece rest p reader runs shows h =
       let k = took p.reader piece rest next.NeedMore reader shows.reader h in
       let all : piece ≡ k.taken = k.piece_is ∙ ap (λ x. k.taken ++ x) k.gives.2 ∙ append-nil k.taken in
@@ -140,11 +140,11 @@ module _ (keep : ℕ) (t : Intervals) (i : Instance) (o : Conn) where
   moment_shown false u bytes mid new reader agreed room a =
       record { reader = a.reader ∙ reader; agreed = a.agreed ∙ ap (λ x. x || is_query u) agreed; ended = a.ended; due = a.due; knows = a.knows; room = fresh_room new (a.reader ∙ reader) (a.room room) }
 
-  pub receives_unit : (piece rest : List ℕ) (u : Unit) (p new : Peer) (reader : Reader) → conn_stops o ≡ false → ShowsPeer t i o p → IsReader V1 p.reader → Takes V1 p.reader piece (next.Unit u) rest reader
+  pub receives_unit : (piece rest : List ℕ) (u : Unit) (p new : Peer) (reader : Reader) → conn_stops o ≡ false → ShowsPeer t i o p → IsReader V1 p.reader → ReaderTakes V1 p.reader piece (next.Unit u) rest reader
       → ((memory : Bool) × Answers t i (read_reply keep t i memory u) (p.agreed || is_query u) (record p { reader = reader }) new) → Receives keep t i o piece (length piece - length rest) new
   receives_unit piece rest u p new reader runs shows stands h a = by_memory a.0 (takes_memory i u) refl a.1
     where
-      k : Takes V1 own piece (next.Unit u) rest reader
+      k : ReaderTakes V1 own piece (next.Unit u) rest reader
       k = took p.reader piece rest (next.Unit u) reader shows.reader h
 
       part : IsPartial V1 (as_read V1 false o.held)
@@ -183,11 +183,11 @@ module _ (keep : ℕ) (t : Intervals) (i : Instance) (o : Conn) where
             consumed_is = subst (λ f. length piece - length rest ≡ length piece - length f.rest) (sym all) refl;
           }
 
-  pub receives_fault : (piece rest : List ℕ) (fault : UnitFault) (p new : Peer) (reader : Reader) → conn_stops o ≡ false → ShowsPeer t i o p → IsReader V1 p.reader → Takes V1 p.reader piece (next.Fault fault) rest reader
+  pub receives_fault : (piece rest : List ℕ) (fault : UnitFault) (p new : Peer) (reader : Reader) → conn_stops o ≡ false → ShowsPeer t i o p → IsReader V1 p.reader → ReaderTakes V1 p.reader piece (next.Fault fault) rest reader
       → Fails (record p { reader = reader }) fault new → Receives keep t i o piece (length piece - length rest) new
   receives_fault piece rest fault p new reader runs shows stands h f = by_gives k.gives
     where
-      k : Takes V1 own piece (next.Fault fault) rest reader
+      k : ReaderTakes V1 own piece (next.Fault fault) rest reader
       k = took p.reader piece rest (next.Fault fault) reader shows.reader h
 
       part : IsPartial V1 (as_read V1 false o.held)

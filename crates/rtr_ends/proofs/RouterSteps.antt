@@ -161,11 +161,11 @@ module _ (old : code.Router) (piece rest : List ℕ) (takes : (is_reading (seen_
   part_so : (r : Router) (s : IsShown r old) → IsPartial V1 (as_read V1 (not r.agreed) r.held)
   part_so r s = let h : IsReader V1 (reading r.agreed r.held) = subst (λ x. IsReader V1 x) (reads_so r s) is_reader in h
 
-  takes_so : (answer : Next) (new : Reader) (r : Router) (s : IsShown r old) → reader.Takes V1 old.reader piece answer rest new → reader.Takes V1 (reading r.agreed r.held) piece answer rest new
-  takes_so answer new r s t = subst (λ x. reader.Takes V1 x piece answer rest new) (reads_so r s) t
+  takes_so : (answer : Next) (new : Reader) (r : Router) (s : IsShown r old) → reader.ReaderTakes V1 old.reader piece answer rest new → reader.ReaderTakes V1 (reading r.agreed r.held) piece answer rest new
+  takes_so answer new r s t = subst (λ x. reader.ReaderTakes V1 x piece answer rest new) (reads_so r s) t
 
   -- a unit
-  module _ (u : Unit) (new : Reader) (t : reader.Takes V1 old.reader piece (next.Unit u) rest new) (m : Machine) where
+  module _ (u : Unit) (new : Reader) (t : reader.ReaderTakes V1 old.reader piece (next.Unit u) rest new) (m : Machine) where
     abbrev agreed_reader : Reader
     agreed_reader = if m.agreed then after_agreed new else new
 
@@ -238,7 +238,7 @@ module _ (old : code.Router) (piece rest : List ℕ) (takes : (is_reading (seen_
             )
 
   -- more is asked for
-  pub more_goes : (new : Reader) → reader.Takes V1 old.reader piece next.NeedMore rest new → Takes false old piece (record old { reader = new }) rest
+  pub more_goes : (new : Reader) → reader.ReaderTakes V1 old.reader piece next.NeedMore rest new → Takes false old piece (record old { reader = new }) rest
   more_goes new t = (None, λ r s. (held_so r s, shown_held r s, ends r s))
     where
       held_so : (r : Router) → IsShown r old → Router
@@ -259,7 +259,7 @@ module _ (old : code.Router) (piece rest : List ℕ) (takes : (is_reading (seen_
           record { router_is = ap (λ f. f.machine.router) whole; rest_is = ap (λ f. f.rest) whole ∙ sym x.gives.2; wanted = tt }
 
   -- a fault
-  pub fault_goes : (fault : UnitFault) (new : Reader) (bytes : List ℕ) (m : Machine) → reader.Takes V1 old.reader piece (next.Fault fault) rest new → bytes ≡ new.held → Does (λ r. (breaks fault bytes r).router) old.machine m
+  pub fault_goes : (fault : UnitFault) (new : Reader) (bytes : List ℕ) (m : Machine) → reader.ReaderTakes V1 old.reader piece (next.Fault fault) rest new → bytes ≡ new.held → Does (λ r. (breaks fault bytes r).router) old.machine m
       → Takes false old piece (record { machine = m; reader = new }) rest
   fault_goes fault new bytes m t is does = (None, λ r s. ((breaks fault bytes r).router, shown_broken r s, ends r s))
     where

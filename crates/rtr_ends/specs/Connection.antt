@@ -5,7 +5,7 @@ use Rattle.vrps.specs.VrpSet.{VrpSet}
 use Rattle.rtr_pdu.specs.declared.version.Version.TheVariants.{V1}
 use Rattle.rtr_pdu.specs.declared.kind.Kind.TheVariants as kinds
 use Rattle.rtr_pdu.specs.Code.{CORRUPT_DATA, INTERNAL_ERROR, UNSUPPORTED_VERSION, UNSUPPORTED_TYPE, UNEXPECTED_VERSION}
-use Rattle.rtr_pdu.specs.Stream.{IsPartial, IsShortest, Shows, Splits, is_of}
+use Rattle.rtr_pdu.specs.Stream.{IsPartial, IsShortest, Shows, Splits, is_kind}
 use Rattle.rtr_pdu.specs.Unit.{Reads}
 use Rattle.rtr_pdu.specs.declared.unit.Unit.{Unit}
 use Rattle.rtr_pdu.specs.declared.unit.Unit.TheVariants.{SerialNotify, SerialQuery, ResetQuery}
@@ -51,7 +51,7 @@ fault_code agreed fault = CORRUPT_DATA
 -- The report on a fault copies the bytes as they came. There is none on a unit of type 10, nor where the input ends in a unit.
 abbrev pub fault_report : Bool → UnitFault → List ℕ → List Unit
 fault_report agreed faults.Truncated bytes = []
-fault_report agreed fault bytes = if is_of kinds.ErrorReport bytes then [] else report (fault_code agreed fault) bytes ∷ []
+fault_report agreed fault bytes = if is_kind kinds.ErrorReport bytes then [] else report (fault_code agreed fault) bytes ∷ []
 
 -- A Serial Notify of the current version, where there is one (RFC 8210 section 5.2)
 abbrev pub notice : ℕ → List Version → List Unit

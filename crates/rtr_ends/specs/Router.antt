@@ -7,7 +7,7 @@ use Rattle.rtr_pdu.specs.declared.version.Version.TheVariants.{V1}
 use Rattle.rtr_pdu.specs.declared.kind.Kind.TheVariants as kinds
 use Rattle.rtr_pdu.specs.Code.{CORRUPT_DATA, NO_DATA_AVAILABLE, UNKNOWN_WITHDRAWAL, DUPLICATE_ANNOUNCEMENT}
 use Rattle.rtr_pdu.specs.Judging.{Judgement, Begins, Whole, Faulty, judge}
-use Rattle.rtr_pdu.specs.Stream.{is_of}
+use Rattle.rtr_pdu.specs.Stream.{is_kind}
 use Rattle.rtr_pdu.specs.declared.unit.Unit.{Unit}
 use Rattle.rtr_pdu.specs.declared.unit.Unit.TheVariants.{SerialNotify, CacheResponse, Prefix, EndOfData, CacheReset, RouterKey, ErrorReport}
 use Rattle.rtr_pdu.specs.declared.unit.UnitFault.{UnitFault}
@@ -174,7 +174,7 @@ abbrev pub lacks : Unit → Router → Noted
 lacks u r = record { router = record r { link = Ended ends.Memory }; items = Lacks u ∷ [] }
 
 abbrev pub fault_end : Bool → UnitFault → List ℕ → End
-fault_end agreed fault bytes = if is_of kinds.ErrorReport bytes then ends.Malformed else ends.Reported (fault_code agreed fault)
+fault_end agreed fault bytes = if is_kind kinds.ErrorReport bytes then ends.Malformed else ends.Reported (fault_code agreed fault)
 
 abbrev pub breaks : UnitFault → List ℕ → Router → Noted
 breaks fault bytes r = record {

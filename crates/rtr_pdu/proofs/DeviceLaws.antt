@@ -14,8 +14,8 @@ use Rattle.rtr_pdu.specs.declared.unit.Next.TheVariants as next
 use Rattle.rtr_pdu.specs.declared.device.ReadFault.TheVariants as read_faults
 use Rattle.rtr_pdu.specs.Stream.{as_read, length_of, header_fault, IsPartial, IsShortest}
 use Rattle.rtr_pdu.specs.Unit.{spelled}
-use Rattle.rtr_pdu.specs.Reader.{Reader, IsReader, IsRead, IsFaulty, Takes}
-use Rattle.rtr_pdu.specs.Device.{Answers, ReadsUnit, wanted}
+use Rattle.rtr_pdu.specs.Reader.{Reader, IsReader, IsRead, IsFaulty, ReaderTakes}
+use Rattle.rtr_pdu.specs.Device.{ReadAnswers, ReadsUnit, wanted}
 use Rattle.rtr_pdu.proofs.JudgeLaws.{header_fault-append, header_sized}
 use Rattle.rtr_pdu.proofs.ModeLaws.{length_of-append, not_short}
 use Rattle.rtr_pdu.proofs.ReaderLaws.{standing_none}
@@ -107,13 +107,13 @@ module _ (version : Version) where
     few taken = let size = length-append r.held taken in omega (arith, size, most, one)
 
     -- a unit
-    pub gives_unit : (u : Unit) → Takes version r piece (next.Unit u) rest new → ReadsUnit version before left calls now (Ok (Some u))
+    pub gives_unit : (u : Unit) → ReaderTakes version r piece (next.Unit u) rest new → ReadsUnit version before left calls now (Ok (Some u))
     gives_unit u t =
         let read : IsRead version false (r.held ++ t.taken) u = subst (λ b. IsRead version b (r.held ++ t.taken) u) mode t.gives.1 in
         record { bytes = r.held ++ t.taken; consumed = joined t.taken t.piece_is (unit_whole (r.held ++ t.taken) u read); answers = read; calls_most = few t.taken }
 
     -- a fault
-    pub gives_fault : (fault : UnitFault) → Takes version r piece (next.Fault fault) rest new → ReadsUnit version before left calls now (Err (read_faults.Fault fault))
+    pub gives_fault : (fault : UnitFault) → ReaderTakes version r piece (next.Fault fault) rest new → ReadsUnit version before left calls now (Err (read_faults.Fault fault))
     gives_fault fault t =
         elim t.gives [
           | inr again ↦ absurd (let e : ◌≡◌ {A = Option UnitFault} None (Some fault) = sym sound ∙ again.0 in cc)
@@ -127,7 +127,7 @@ module _ (version : Version) where
               })
         ]
       where
-        told : (bytes : List ℕ) (fault : UnitFault) → IsFaulty version false bytes fault → Answers version bytes left (Err (read_faults.Fault fault))
+        told : (bytes : List ℕ) (fault : UnitFault) → IsFaulty version false bytes fault → ReadAnswers version bytes left (Err (read_faults.Fault fault))
         told bytes faults.Truncated bad = absurd bad.shows
         told bytes faults.Version bad = bad
         told bytes faults.«Type» bad = bad
@@ -137,7 +137,7 @@ module _ (version : Version) where
         told bytes faults.ErrorReport bad = bad
 
   -- All of the piece is held where more is wanted.
-  pub holds_more : (r new : Reader) (piece rest : List ℕ) → Takes version r piece next.NeedMore rest new → new ≡ record r { held = r.held ++ piece }
+  pub holds_more : (r new : Reader) (piece rest : List ℕ) → ReaderTakes version r piece next.NeedMore rest new → new ≡ record r { held = r.held ++ piece }
   holds_more r new piece rest t =
       let is : t.taken ≡ piece = sym (t.piece_is ∙ ap (λ x. t.taken ++ x) t.gives.2 ∙ append-nil t.taken) in
       t.gives.3 ∙ ap (λ x. record r { held = r.held ++ x }) is

@@ -3,7 +3,7 @@ use Rattle.std.specs.Prelude.{◌≡◌, ℕ, Bool, true, false, ◌||◌, ◌==
 use Rattle.rtr_pdu.specs.declared.version.Version.{Version}
 use Rattle.rtr_pdu.specs.declared.kind.Kind.{Kind}
 use Rattle.rtr_pdu.specs.declared.kind.Kind.TheVariants as kinds
-use Rattle.rtr_pdu.specs.Kind.{kind_number, may_have, is_type, has_length}
+use Rattle.rtr_pdu.specs.Kind.{type_number, may_have, is_type, has_length}
 
 -- nothing else
 or_nothing : (b : Bool) → (b || false) ≡ b
@@ -11,7 +11,7 @@ or_nothing true = refl
 or_nothing false = refl
 
 -- A type with the number of a type there is.
-pub known_type : (version : Version) (kind : Kind) → is_type version (kind_number kind) ≡ true
+pub known_type : (version : Version) (kind : Kind) → is_type version (type_number kind) ≡ true
 known_type version kinds.SerialNotify = refl
 known_type version kinds.SerialQuery = refl
 known_type version kinds.ResetQuery = refl
@@ -24,7 +24,7 @@ known_type version kinds.RouterKey = refl
 known_type version kinds.ErrorReport = refl
 
 -- The type with its number may have the same lengths.
-pub known_length : (version : Version) (kind : Kind) (len : ℕ) → has_length version (kind_number kind) len ≡ may_have version kind len
+pub known_length : (version : Version) (kind : Kind) (len : ℕ) → has_length version (type_number kind) len ≡ may_have version kind len
 known_length version kinds.SerialNotify len = or_nothing (len == 12)
 known_length version kinds.SerialQuery len = or_nothing (len == 12)
 known_length version kinds.ResetQuery len = or_nothing (len == 8)

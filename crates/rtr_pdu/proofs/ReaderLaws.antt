@@ -15,7 +15,7 @@ use Rattle.rtr_pdu.proofs.ModeLaws.{length-as_read, as_read-append, length_of-ap
 use Rattle.rtr_pdu.proofs.JudgeLaws.{chain, header_fault-append, short_none}
 use Rattle.rtr_pdu.proofs.SplitLaws.{shortest_8}
 use Rattle.rtr_pdu.specs.Reading.{filled, unfilled}
-use Rattle.rtr_pdu.specs.Reader.{fault_size, IsFaulty, Advances, Stands}
+use Rattle.rtr_pdu.specs.Reader.{fault_size, IsFaulty, Advances, ReaderStands}
 
 -- a fault of a header is one of four
 abbrev in_header : UnitFault → Bool
@@ -184,7 +184,7 @@ module _ (version : Version) where
   partial_short any bytes h = let short : length (as_read version any bytes) < 8 = omega (arith, length-as_read version any bytes, h) in (short_none version (as_read version any bytes) short, inl short)
 
   -- with less than a header held, agreement changes nothing
-  stands_short : (a b : Bool) (bytes : List ℕ) (fault : UnitFault) → length bytes < 8 → Stands version a bytes fault → Stands version b bytes fault
+  stands_short : (a b : Bool) (bytes : List ℕ) (fault : UnitFault) → length bytes < 8 → ReaderStands version a bytes fault → ReaderStands version b bytes fault
   stands_short a b bytes faults.Truncated short h = (partial_short b bytes short, h.1)
   stands_short a b bytes faults.Version short h = absurd (omega (arith, short, h.size))
   stands_short a b bytes faults.«Type» short h = absurd (omega (arith, short, h.size))
@@ -195,7 +195,7 @@ module _ (version : Version) where
 
   -- where a reader stands
   abbrev Standing : Option UnitFault → Bool → List ℕ → Type 0
-  Standing fault any bytes = MatchOption fault (IsPartial version (as_read version any bytes)) (Stands version any bytes)
+  Standing fault any bytes = MatchOption fault (IsPartial version (as_read version any bytes)) (ReaderStands version any bytes)
 
   -- with less than a header held, agreement changes nothing
   pub standing_short : (fault : Option UnitFault) (a b : Bool) (bytes : List ℕ) → length bytes < 8 → Standing fault a bytes → Standing fault b bytes

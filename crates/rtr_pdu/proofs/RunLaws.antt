@@ -15,8 +15,8 @@ use Rattle.rtr_pdu.proofs.ModeLaws.{as_read-append, length-as_read}
 use Rattle.rtr_pdu.proofs.StreamLaws.{not_partial, one_split}
 use Rattle.rtr_pdu.proofs.JudgeLaws.{Shows-append, fault_long}
 use Rattle.rtr_pdu.proofs.ReaderLaws.{partial_empty, standing_none}
-use Rattle.rtr_pdu.specs.Reader.{Reader, Takes, IsReader, fresh, after_agreed, told}
-use Rattle.rtr_pdu.specs.Run.{HasRead, HasFed, HasOnly, GoesOn}
+use Rattle.rtr_pdu.specs.Reader.{Reader, ReaderTakes, IsReader, fresh, after_agreed, told}
+use Rattle.rtr_pdu.specs.Run.{HasRead, HasFed, HasOnly, ReadsOn}
 
 -- the mode after one unit more
 pub any_after-push : (any : Bool) (units : List Unit) (u : Unit) → any_after any (units ++ u ∷ []) ≡ (any_after any units && is_notify u)
@@ -71,7 +71,7 @@ module _ (version : Version) where
 
   -- all of the piece is taken
   pub reads_more : (any : Bool) (stream : List ℕ) (units : List Unit) (r : Reader) (piece rest : List ℕ) (new : Reader)
-      → HasRead version any stream units r → Takes version r piece next.NeedMore rest new → HasRead version any (stream ++ piece) units new
+      → HasRead version any stream units r → ReaderTakes version r piece next.NeedMore rest new → HasRead version any (stream ++ piece) units new
   reads_more any stream units r piece rest new h t =
       let is : piece ≡ t.taken = t.piece_is ∙ ap (λ x. t.taken ++ x) t.gives.2 ∙ append-nil t.taken in
       let whole : stream ++ piece ≡ h.front ++ (r.held ++ t.taken) = (λ i. h.whole i ++ is i) ∙ append_assoc h.front r.held t.taken in
@@ -87,7 +87,7 @@ module _ (version : Version) where
 
   -- a unit is read, and the reader told of agreement
   pub reads_unit : (any : Bool) (stream : List ℕ) (units : List Unit) (r : Reader) (piece rest : List ℕ) (u : Unit) (new later : Reader)
-      → HasRead version any stream units r → (t : Takes version r piece (next.Unit u) rest new) → later ≡ told u new → HasRead version any (stream ++ t.taken) (units ++ u ∷ []) later
+      → HasRead version any stream units r → (t : ReaderTakes version r piece (next.Unit u) rest new) → later ≡ told u new → HasRead version any (stream ++ t.taken) (units ++ u ∷ []) later
   reads_unit any stream units r piece rest u new later h t e =
       let after : later ≡ fresh (r.later && is_notify u) = e ∙ ap (λ x. told u x) t.gives.2 ∙ told_fresh (is_notify u) r.later in
       let mode : (r.later && is_notify u) ≡ any_after any (units ++ u ∷ []) = ap (λ b. b && is_notify u) h.later_is ∙ sym (any_after-push any units u) in
@@ -110,7 +110,7 @@ module _ (version : Version) where
       not_partial version u r.ignored [] r.fits (subst (λ x. IsPartial version x) is part)
 
   -- A unit leaves less of the piece.
-  pub takes_some : (r : Reader) (piece rest : List ℕ) (u : Unit) (new : Reader) → IsReader version r → Takes version r piece (next.Unit u) rest new → length rest < length piece
+  pub takes_some : (r : Reader) (piece rest : List ℕ) (u : Unit) (new : Reader) → IsReader version r → ReaderTakes version r piece (next.Unit u) rest new → length rest < length piece
   takes_some r piece rest u new h t =
       let part = standing_none version r.fault r.any r.held t.gives.0 h in
       some_byte t.taken piece rest t.piece_is (λ e. no_unit_yet r.any r.held t.taken u e part t.gives.1.reads)
@@ -133,7 +133,7 @@ module _ (version : Version) where
 
   -- A fault is that of a split.
   pub reads_fault : (any : Bool) (stream : List ℕ) (units : List Unit) (r : Reader) (piece rest : List ℕ) (fault : UnitFault) (new : Reader)
-      → HasRead version any stream units r → Takes version r piece (next.Fault fault) rest new → Splits version any (stream ++ piece) units (r.held ++ piece) (Some fault)
+      → HasRead version any stream units r → ReaderTakes version r piece (next.Fault fault) rest new → Splits version any (stream ++ piece) units (r.held ++ piece) (Some fault)
   reads_fault any stream units r piece rest fault new h t =
       elim t.gives [
         | inr again ↦ absurd (let e : ◌≡◌ {A = Option UnitFault} None (Some fault) = sym h.sound ∙ again.0 in cc)
@@ -154,21 +154,21 @@ module _ (version : Version) where
 
   -- a unit more of the piece
   pub goes_unit : (before : List Unit) (began : Reader) (piece : List ℕ) (units : List Unit) (r : Reader) (rest left : List ℕ) (u : Unit) (new later : Reader)
-      → GoesOn version before began piece units r rest → Takes version r rest (next.Unit u) left new → later ≡ told u new → GoesOn version before began piece (units ++ u ∷ []) later left
+      → ReadsOn version before began piece units r rest → ReaderTakes version r rest (next.Unit u) left new → later ≡ told u new → ReadsOn version before began piece (units ++ u ∷ []) later left
   goes_unit before began piece units r rest left u new later g t e any stream h =
       let so = g any stream h in
       (so.0 ++ t.taken, reads_unit any so.0 units r rest left u new later so.1 t e, append_assoc so.0 t.taken left ∙ ap (λ x. so.0 ++ x) (sym t.piece_is) ∙ so.2)
 
   -- the piece ends without a fault
   pub goes_more : (before : List Unit) (began : Reader) (piece : List ℕ) (units : List Unit) (r : Reader) (rest left : List ℕ) (new : Reader)
-      → GoesOn version before began piece units r rest → Takes version r rest next.NeedMore left new → (any : Bool) (stream : List ℕ) → HasRead version any stream before began → HasRead version any (stream ++ piece) units new
+      → ReadsOn version before began piece units r rest → ReaderTakes version r rest next.NeedMore left new → (any : Bool) (stream : List ℕ) → HasRead version any stream before began → HasRead version any (stream ++ piece) units new
   goes_more before began piece units r rest left new g t any stream h =
       let so = g any stream h in
       subst (λ x. HasRead version any x units new) so.2 (reads_more any so.0 units r rest left new so.1 t)
 
   -- the piece ends with a fault
   pub goes_fault : (before : List Unit) (began : Reader) (piece : List ℕ) (units : List Unit) (r : Reader) (rest left : List ℕ) (fault : UnitFault) (new : Reader)
-      → GoesOn version before began piece units r rest → Takes version r rest (next.Fault fault) left new → (any : Bool) (stream : List ℕ) → HasRead version any stream before began → HasFed version any (stream ++ piece) units new (Some fault)
+      → ReadsOn version before began piece units r rest → ReaderTakes version r rest (next.Fault fault) left new → (any : Bool) (stream : List ℕ) → HasRead version any stream before began → HasFed version any (stream ++ piece) units new (Some fault)
   goes_fault before began piece units r rest left fault new g t any stream h =
       let so = g any stream h in
       (r.held ++ rest, subst (λ x. Splits version any x units (r.held ++ rest) (Some fault)) so.2 (reads_fault any so.0 units r rest left fault new so.1 t))

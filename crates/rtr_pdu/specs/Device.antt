@@ -14,18 +14,18 @@ use Rattle.rtr_pdu.specs.Reader.{IsFaulty, IsRead}
 
 -- What these bytes are, and that they are the last ones where it is told that the input ends: a unit and no more, or nothing,
 -- or the beginning of a unit, or what shows a fault and no more
-abbrev pub Answers : Version → List ℕ → Option (List ℕ) → Result (Option Unit) ReadFault → Type 0
-Answers version bytes left (Ok (Some u)) = IsRead version false bytes u
-Answers version bytes left (Ok None) = (bytes ≡ []) × IsAtEnd left
-Answers version bytes left (Err (read_faults.Fault faults.Truncated)) = IsPartial version (as_read version false bytes) × (0 < length bytes) × IsAtEnd left
-Answers version bytes left (Err (read_faults.Fault fault)) = IsFaulty version false bytes fault
-Answers version bytes left (Err read_faults.ReadFailed) = IsPartial version (as_read version false bytes)
+abbrev pub ReadAnswers : Version → List ℕ → Option (List ℕ) → Result (Option Unit) ReadFault → Type 0
+ReadAnswers version bytes left (Ok (Some u)) = IsRead version false bytes u
+ReadAnswers version bytes left (Ok None) = (bytes ≡ []) × IsAtEnd left
+ReadAnswers version bytes left (Err (read_faults.Fault faults.Truncated)) = IsPartial version (as_read version false bytes) × (0 < length bytes) × IsAtEnd left
+ReadAnswers version bytes left (Err (read_faults.Fault fault)) = IsFaulty version false bytes fault
+ReadAnswers version bytes left (Err read_faults.ReadFailed) = IsPartial version (as_read version false bytes)
 
 -- Of what a reader at a cache had left, what this answer tells of was read, in at most one call for each byte and one more.
 pub record ReadsUnit (version : Version) (before left : Option (List ℕ)) (calls now : ℕ) (answer : Result (Option Unit) ReadFault) : Type 0 where
   pub bytes : List ℕ
   pub consumed : Consumes before left bytes
-  pub answers : Answers version bytes left answer
+  pub answers : ReadAnswers version bytes left answer
   pub calls_most : now ≤ calls + length bytes + 1
 
 -- No failure was counted and some call was; where the answer is that the reader failed, it did.
@@ -45,7 +45,7 @@ SaysOfSplit version bytes left (Err read_faults.ReadFailed) = ⊤
 
 -- An answer tells the first unit or fault of the split, where the reader's bytes are known.
 abbrev pub TellsFirst : Type 0
-TellsFirst = (version : Version) (bytes left : List ℕ) (answer : Result (Option Unit) ReadFault) → Answers version bytes (Some left) answer → SaysOfSplit version bytes left answer
+TellsFirst = (version : Version) (bytes left : List ℕ) (answer : Result (Option Unit) ReadFault) → ReadAnswers version bytes (Some left) answer → SaysOfSplit version bytes left answer
 
 -- A beginning of these bytes has gone out, and not all of them.
 abbrev pub GoesOutInPart : Option (List ℕ) → Option (List ℕ) → List ℕ → Type 0

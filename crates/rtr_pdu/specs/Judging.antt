@@ -11,21 +11,21 @@ use Rattle.rtr_pdu.specs.declared.kind.Kind.TheVariants as kinds
 use Rattle.rtr_pdu.specs.Kind.{fixed_len}
 use Rattle.rtr_pdu.specs.Payloads.{AreBytes}
 use Rattle.rtr_pdu.specs.Reading.{number_at, is_odd, v4_in, v6_in}
-use Rattle.rtr_pdu.specs.Stream.{as_read, length_of, is_of, header_fault, IsPartial, Shows}
+use Rattle.rtr_pdu.specs.Stream.{as_read, length_of, is_kind, header_fault, IsPartial, Shows}
 use Rattle.rtr_pdu.specs.Unit.{Reads}
 
 -- What bytes are read as, by their type: a front of them, if they begin with a unit
 abbrev pub unit_in : Version → List ℕ → Unit
 unit_in version bytes =
-    if is_of kinds.SerialNotify bytes then SerialNotify (number_at 2 2 bytes) (number_at 4 8 bytes)
-    else if is_of kinds.SerialQuery bytes then SerialQuery (number_at 2 2 bytes) (number_at 4 8 bytes)
-    else if is_of kinds.ResetQuery bytes then ResetQuery
-    else if is_of kinds.CacheResponse bytes then CacheResponse (number_at 2 2 bytes)
-    else if is_of kinds.Ipv4Prefix bytes then Prefix (is_odd (slice_index bytes 8)) (v4_in bytes)
-    else if is_of kinds.Ipv6Prefix bytes then Prefix (is_odd (slice_index bytes 8)) (v6_in bytes)
-    else if is_of kinds.EndOfData bytes then EndOfData (number_at 2 2 bytes) (number_at 4 8 bytes) (number_at 4 12 bytes) (number_at 4 16 bytes) (number_at 4 20 bytes)
-    else if is_of kinds.CacheReset bytes then CacheReset
-    else if is_of kinds.RouterKey bytes then RouterKey (record {
+    if is_kind kinds.SerialNotify bytes then SerialNotify (number_at 2 2 bytes) (number_at 4 8 bytes)
+    else if is_kind kinds.SerialQuery bytes then SerialQuery (number_at 2 2 bytes) (number_at 4 8 bytes)
+    else if is_kind kinds.ResetQuery bytes then ResetQuery
+    else if is_kind kinds.CacheResponse bytes then CacheResponse (number_at 2 2 bytes)
+    else if is_kind kinds.Ipv4Prefix bytes then Prefix (is_odd (slice_index bytes 8)) (v4_in bytes)
+    else if is_kind kinds.Ipv6Prefix bytes then Prefix (is_odd (slice_index bytes 8)) (v6_in bytes)
+    else if is_kind kinds.EndOfData bytes then EndOfData (number_at 2 2 bytes) (number_at 4 8 bytes) (number_at 4 12 bytes) (number_at 4 16 bytes) (number_at 4 20 bytes)
+    else if is_kind kinds.CacheReset bytes then CacheReset
+    else if is_kind kinds.RouterKey bytes then RouterKey (record {
       announce = is_odd (slice_index bytes 2);
       identifier = take 20 (drop 8 bytes);
       asn = number_at 4 28 bytes;
@@ -53,9 +53,9 @@ has_report version bytes =
 -- The fault of a whole unit, behind a header without a fault
 abbrev pub body_fault : Version → List ℕ → Option UnitFault
 body_fault version bytes =
-    if is_of kinds.Ipv4Prefix bytes && not (has_record 32 bytes) then Some faults.Record
-    else if is_of kinds.Ipv6Prefix bytes && not (has_record 128 bytes) then Some faults.Record
-    else if is_of kinds.ErrorReport bytes && not (has_report version bytes) then Some faults.ErrorReport
+    if is_kind kinds.Ipv4Prefix bytes && not (has_record 32 bytes) then Some faults.Record
+    else if is_kind kinds.Ipv6Prefix bytes && not (has_record 128 bytes) then Some faults.Record
+    else if is_kind kinds.ErrorReport bytes && not (has_report version bytes) then Some faults.ErrorReport
     else None
 
 -- Bytes of a stream, from the beginning of a unit on, are the beginning of a unit in which no fault shows yet, or begin with a

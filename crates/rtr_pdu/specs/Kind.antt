@@ -6,17 +6,17 @@ use Rattle.rtr_pdu.specs.declared.kind.Kind.{Kind}
 use Rattle.rtr_pdu.specs.declared.kind.Kind.TheVariants as kinds
 
 -- The number that stands for a type in a header
-abbrev pub kind_number : Kind → ℕ
-kind_number kinds.SerialNotify = 0
-kind_number kinds.SerialQuery = 1
-kind_number kinds.ResetQuery = 2
-kind_number kinds.CacheResponse = 3
-kind_number kinds.Ipv4Prefix = 4
-kind_number kinds.Ipv6Prefix = 6
-kind_number kinds.EndOfData = 7
-kind_number kinds.CacheReset = 8
-kind_number kinds.RouterKey = 9
-kind_number kinds.ErrorReport = 10
+abbrev pub type_number : Kind → ℕ
+type_number kinds.SerialNotify = 0
+type_number kinds.SerialQuery = 1
+type_number kinds.ResetQuery = 2
+type_number kinds.CacheResponse = 3
+type_number kinds.Ipv4Prefix = 4
+type_number kinds.Ipv6Prefix = 6
+type_number kinds.EndOfData = 7
+type_number kinds.CacheReset = 8
+type_number kinds.RouterKey = 9
+type_number kinds.ErrorReport = 10
 
 -- The types that there are in a version
 abbrev pub all_kinds : Version → List Kind
@@ -49,8 +49,8 @@ may_have version kind len = if varies kind then nat_le (fixed_len version kind) 
 
 -- A type with this number there is.
 abbrev pub is_type : Version → ℕ → Bool
-is_type version type = list_any (λ kind. type == kind_number kind) (all_kinds version)
+is_type version type = list_any (λ kind. type == type_number kind) (all_kinds version)
 
 -- A unit whose type has this number may have this length.
 abbrev pub has_length : Version → ℕ → ℕ → Bool
-has_length version type len = list_any (λ kind. type == kind_number kind && may_have version kind len) (all_kinds version)
+has_length version type len = list_any (λ kind. type == type_number kind && may_have version kind len) (all_kinds version)

@@ -49,32 +49,32 @@ pub record Advances (version : Version) (any : Bool) (held piece : List ℕ) (an
   pub judged : Judges version any now answer rest
 
 -- What holds of each reader
-abbrev pub Stands : Version → Bool → List ℕ → UnitFault → Type 0
-Stands version any bytes faults.Truncated = IsPartial version (as_read version any bytes) × (0 < length bytes)
-Stands version any bytes fault = IsFaulty version any bytes fault
+abbrev pub ReaderStands : Version → Bool → List ℕ → UnitFault → Type 0
+ReaderStands version any bytes faults.Truncated = IsPartial version (as_read version any bytes) × (0 < length bytes)
+ReaderStands version any bytes fault = IsFaulty version any bytes fault
 
 -- It holds the beginning of a unit, or a fault and the bytes that show it.
 abbrev pub IsReader : Version → Reader → Type 0
-IsReader version r = MatchOption r.fault (IsPartial version (as_read version r.any r.held)) (Stands version r.any r.held)
+IsReader version r = MatchOption r.fault (IsPartial version (as_read version r.any r.held)) (ReaderStands version r.any r.held)
 
 -- A reader that holds nothing
 abbrev pub fresh : Bool → Reader
 fresh any = record { held = []; any = any; later = any; fault = None }
 
 -- The reader after an answer for which this was taken
-abbrev pub Gives : Version → Reader → List ℕ → Next → List ℕ → Reader → Type 0
-Gives version old taken (next.Unit u) rest new = (old.fault ≡ None) × IsRead version old.any (old.held ++ taken) u × (new ≡ fresh old.later)
-Gives version old taken next.NeedMore rest new =
+abbrev pub ReaderGives : Version → Reader → List ℕ → Next → List ℕ → Reader → Type 0
+ReaderGives version old taken (next.Unit u) rest new = (old.fault ≡ None) × IsRead version old.any (old.held ++ taken) u × (new ≡ fresh old.later)
+ReaderGives version old taken next.NeedMore rest new =
     (old.fault ≡ None) × IsPartial version (as_read version old.any (old.held ++ taken)) × (rest ≡ []) × (new ≡ record old { held = old.held ++ taken })
-Gives version old taken (next.Fault fault) rest new =
+ReaderGives version old taken (next.Fault fault) rest new =
     ((old.fault ≡ None) × IsFaulty version old.any (old.held ++ taken) fault × (new ≡ record old { held = old.held ++ taken; fault = Some fault }))
     ⊎ ((old.fault ≡ Some fault) × (taken ≡ []) × (new ≡ old))
 
 -- A call of `next`: what it takes stands at the front of the piece, and nothing else changes.
-pub record Takes (version : Version) (old : Reader) (piece : List ℕ) (answer : Next) (rest : List ℕ) (new : Reader) : Type 0 where
+pub record ReaderTakes (version : Version) (old : Reader) (piece : List ℕ) (answer : Next) (rest : List ℕ) (new : Reader) : Type 0 where
   pub taken : List ℕ
   pub piece_is : piece ≡ taken ++ rest
-  pub gives : Gives version old taken answer rest new
+  pub gives : ReaderGives version old taken answer rest new
 
 -- A header that has not come whole is read as after agreement.
 abbrev pub after_agreed : Reader → Reader

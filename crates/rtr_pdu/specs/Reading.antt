@@ -5,7 +5,7 @@ use Rattle.prefixes.specs.Payload.{Payload}
 use Rattle.prefixes.specs.declared.prefix.IpPrefix.TheVariants.{V4, V6}
 use Rattle.rtr_pdu.specs.declared.version.Version.{Version}
 use Rattle.rtr_pdu.specs.declared.kind.Kind.TheVariants as kinds
-use Rattle.rtr_pdu.specs.Kind.{kind_number, fixed_len, is_type}
+use Rattle.rtr_pdu.specs.Kind.{type_number, fixed_len, is_type}
 use Rattle.rtr_pdu.specs.Payloads.{Report, Key}
 use Rattle.rtr_pdu.specs.Unit.{MAX_UNIT_LEN}
 use Rattle.rtr_pdu.specs.Stream.{as_read, type_of, length_of, IsWhole}
@@ -56,16 +56,16 @@ pub record IsSized (version : Version) (type len : ℕ) : Type 0 where
   pub eight : 8 ≤ len
   pub most : len ≤ MAX_UNIT_LEN
   pub known : is_type version type ≡ true
-  pub at_notify : type ≡ kind_number kinds.SerialNotify → len ≡ fixed_len version kinds.SerialNotify
-  pub at_query : type ≡ kind_number kinds.SerialQuery → len ≡ fixed_len version kinds.SerialQuery
-  pub at_reset_query : type ≡ kind_number kinds.ResetQuery → len ≡ fixed_len version kinds.ResetQuery
-  pub at_response : type ≡ kind_number kinds.CacheResponse → len ≡ fixed_len version kinds.CacheResponse
-  pub at_v4 : type ≡ kind_number kinds.Ipv4Prefix → len ≡ fixed_len version kinds.Ipv4Prefix
-  pub at_v6 : type ≡ kind_number kinds.Ipv6Prefix → len ≡ fixed_len version kinds.Ipv6Prefix
-  pub at_end_of_data : type ≡ kind_number kinds.EndOfData → len ≡ fixed_len version kinds.EndOfData
-  pub at_cache_reset : type ≡ kind_number kinds.CacheReset → len ≡ fixed_len version kinds.CacheReset
-  pub at_key : type ≡ kind_number kinds.RouterKey → fixed_len version kinds.RouterKey ≤ len
-  pub at_report : type ≡ kind_number kinds.ErrorReport → fixed_len version kinds.ErrorReport ≤ len
+  pub at_notify : type ≡ type_number kinds.SerialNotify → len ≡ fixed_len version kinds.SerialNotify
+  pub at_query : type ≡ type_number kinds.SerialQuery → len ≡ fixed_len version kinds.SerialQuery
+  pub at_reset_query : type ≡ type_number kinds.ResetQuery → len ≡ fixed_len version kinds.ResetQuery
+  pub at_response : type ≡ type_number kinds.CacheResponse → len ≡ fixed_len version kinds.CacheResponse
+  pub at_v4 : type ≡ type_number kinds.Ipv4Prefix → len ≡ fixed_len version kinds.Ipv4Prefix
+  pub at_v6 : type ≡ type_number kinds.Ipv6Prefix → len ≡ fixed_len version kinds.Ipv6Prefix
+  pub at_end_of_data : type ≡ type_number kinds.EndOfData → len ≡ fixed_len version kinds.EndOfData
+  pub at_cache_reset : type ≡ type_number kinds.CacheReset → len ≡ fixed_len version kinds.CacheReset
+  pub at_key : type ≡ type_number kinds.RouterKey → fixed_len version kinds.RouterKey ≤ len
+  pub at_report : type ≡ type_number kinds.ErrorReport → fixed_len version kinds.ErrorReport ≤ len
 
 -- A unit of version 1 has come whole, and no more than it.
 pub record IsBody (version : Version) (any : Bool) (bytes : List ℕ) : Type 0 where

@@ -28,6 +28,6 @@ pub record HasOnly (version : Version) (any : Bool) (stream : List ℕ) (units :
   pub only : (others : List Unit) (left : List ℕ) (other : Option UnitFault) → Splits version any stream others left other → SameSplit units others rest left fault other
 
 -- On from where a reader began a piece: whatever it had read then, this is left of the piece.
-abbrev pub GoesOn : Version → List Unit → Reader → List ℕ → List Unit → Reader → List ℕ → Type 0
-GoesOn version before began piece units r rest =
+abbrev pub ReadsOn : Version → List Unit → Reader → List ℕ → List Unit → Reader → List ℕ → Type 0
+ReadsOn version before began piece units r rest =
     (any : Bool) (stream : List ℕ) → HasRead version any stream before began → (done : List ℕ) × HasRead version any done units r × (done ++ rest ≡ stream ++ piece)

@@ -11,7 +11,7 @@ use Rattle.rtr_pdu.specs.declared.unit.UnitFault.{UnitFault}
 use Rattle.rtr_pdu.specs.declared.unit.UnitFault.TheVariants as faults
 use Rattle.rtr_pdu.specs.declared.kind.Kind.{Kind}
 use Rattle.rtr_pdu.specs.declared.kind.Kind.TheVariants as kinds
-use Rattle.rtr_pdu.specs.Kind.{kind_number, fixed_len, is_type, has_length}
+use Rattle.rtr_pdu.specs.Kind.{type_number, fixed_len, is_type, has_length}
 use Rattle.rtr_pdu.specs.Payloads.{AreBytes}
 use Rattle.rtr_pdu.specs.Unit.{MAX_UNIT_LEN, IsUnit, Reads, unit_bytes}
 
@@ -26,12 +26,12 @@ abbrev pub length_of : List ℕ → ℕ
 length_of bytes = big_number 4 (drop 4 bytes)
 
 -- The header shows this type.
-abbrev pub IsOf : Kind → List ℕ → Type 0
-IsOf kind bytes = type_of bytes ≡ kind_number kind
+abbrev pub IsKind : Kind → List ℕ → Type 0
+IsKind kind bytes = type_of bytes ≡ type_number kind
 
--- `IsOf` as a test
-abbrev pub is_of : Kind → List ℕ → Bool
-is_of kind bytes = type_of bytes == kind_number kind
+-- `IsKind` as a test
+abbrev pub is_kind : Kind → List ℕ → Bool
+is_kind kind bytes = type_of bytes == type_number kind
 
 -- The first fault of a header with these bytes of version, type and length, where units of this version are expected
 abbrev pub fault_of : Version → ℕ → ℕ → ℕ → Option UnitFault
@@ -70,8 +70,8 @@ IsReport version bytes =
 -- This fault, and none before it, shows at the front of the bytes. That the input ends is no fault of bytes.
 abbrev pub Shows : Version → List ℕ → UnitFault → Type 0
 Shows version bytes faults.Record =
-    IsWhole version bytes × ((IsOf kinds.Ipv4Prefix bytes × ¬ (IsRecord 32 bytes)) ⊎ (IsOf kinds.Ipv6Prefix bytes × ¬ (IsRecord 128 bytes)))
-Shows version bytes faults.ErrorReport = IsWhole version bytes × IsOf kinds.ErrorReport bytes × ¬ (IsReport version bytes)
+    IsWhole version bytes × ((IsKind kinds.Ipv4Prefix bytes × ¬ (IsRecord 32 bytes)) ⊎ (IsKind kinds.Ipv6Prefix bytes × ¬ (IsRecord 128 bytes)))
+Shows version bytes faults.ErrorReport = IsWhole version bytes × IsKind kinds.ErrorReport bytes × ¬ (IsReport version bytes)
 Shows version bytes faults.Truncated = ⊥
 Shows version bytes fault = header_fault version bytes ≡ Some fault
 
@@ -84,7 +84,7 @@ end_fault (b ∷ rest) None = Some faults.Truncated
 -- A router that has not agreed on a version yet (any) reads a Serial Notify, told by its type and its length, whatever its
 -- version (RFC 8210 section 7). So it reads the bytes with the expected version in such a header.
 abbrev pub is_notify_header : List ℕ → Bool
-is_notify_header bytes = nat_le 8 (length bytes) && (is_of kinds.SerialNotify bytes && length_of bytes == fixed_len V1 kinds.SerialNotify)
+is_notify_header bytes = nat_le 8 (length bytes) && (is_kind kinds.SerialNotify bytes && length_of bytes == fixed_len V1 kinds.SerialNotify)
 
 unfoldable pub as_read : Version → Bool → List ℕ → List ℕ
 as_read version any bytes = if any && is_notify_header bytes then version_number version ∷ drop 1 bytes else bytes

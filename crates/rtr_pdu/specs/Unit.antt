@@ -9,7 +9,7 @@ use Rattle.prefixes.specs.declared.prefix.IpPrefix.TheVariants.{V4, V6}
 use Rattle.rtr_pdu.specs.Version.{version_number}
 use Rattle.rtr_pdu.specs.declared.version.Version.{Version}
 use Rattle.rtr_pdu.specs.declared.version.Version.TheVariants.{V1}
-use Rattle.rtr_pdu.specs.Kind.{kind_number, fixed_len}
+use Rattle.rtr_pdu.specs.Kind.{type_number, fixed_len}
 use Rattle.rtr_pdu.specs.Payloads.{AreBytes}
 use Rattle.rtr_pdu.specs.declared.kind.Kind.{Kind}
 use Rattle.rtr_pdu.specs.declared.kind.Kind.TheVariants as kinds
@@ -53,7 +53,7 @@ header version kind field len = version_number version ∷ kind ∷ big_bytes 2 
 
 -- The same of a unit whose type has one length
 abbrev pub fixed_header : Version → Kind → ℕ → List ℕ
-fixed_header version kind field = header version (kind_number kind) field (fixed_len version kind)
+fixed_header version kind field = header version (type_number kind) field (fixed_len version kind)
 
 -- An IPv4 or IPv6 Prefix (RFC 8210 sections 5.6 and 5.7): flags, length, maximum, zero, address, AS
 abbrev pub prefix_bytes : Version → Bool → IpPrefix → ℕ → ℕ → Ignored → List ℕ
@@ -73,10 +73,10 @@ spelled version (EndOfData session serial refresh retry expire) z =
     fixed_header version kinds.EndOfData session ++ big_bytes 4 serial ++ big_bytes 4 refresh ++ big_bytes 4 retry ++ big_bytes 4 expire
 spelled version CacheReset z = fixed_header version kinds.CacheReset z.header
 spelled version (RouterKey k) z =
-    version_number version ∷ kind_number kinds.RouterKey ∷ (flag k.announce + 2 * z.flags) ∷ z.byte ∷ big_bytes 4 (fixed_len version kinds.RouterKey + length k.info) ++ k.identifier ++ big_bytes 4 k.asn
+    version_number version ∷ type_number kinds.RouterKey ∷ (flag k.announce + 2 * z.flags) ∷ z.byte ∷ big_bytes 4 (fixed_len version kinds.RouterKey + length k.info) ++ k.identifier ++ big_bytes 4 k.asn
     ++ k.info
 spelled version (ErrorReport r) z =
-    header version (kind_number kinds.ErrorReport) r.code (fixed_len version kinds.ErrorReport + length r.copy + length r.text) ++ big_bytes 4 (length r.copy)
+    header version (type_number kinds.ErrorReport) r.code (fixed_len version kinds.ErrorReport + length r.copy + length r.text) ++ big_bytes 4 (length r.copy)
     ++ r.copy ++ big_bytes 4 (length r.text) ++ r.text
 
 -- The numbers fit their fields, a record is a payload, and the whole is no longer than the longest unit.

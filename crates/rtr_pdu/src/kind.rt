@@ -1,6 +1,6 @@
 //! The types of units.
 ghost use Rattle.std.specs.Prelude.{◌≡◌, false, IfSome, IfNone};
-ghost use Rattle.rtr_pdu.specs.Kind.{kind_number, fixed_len, may_have, is_type};
+ghost use Rattle.rtr_pdu.specs.Kind.{type_number, fixed_len, may_have, is_type};
 
 use crate::version::Version;
 
@@ -32,7 +32,7 @@ pub enum Kind {
 impl Kind {
     /// The type that this number stands for in a header of this version, or `None` where there is none.
     pub fn from_number(version: Version, number: u8) -> Option<Kind>
-        ensures some { IfSome result (λ kind. kind_number kind ≡ number) }
+        ensures some { IfSome result (λ kind. type_number kind ≡ number) }
         ensures none { IfNone result (is_type version number ≡ false) }
     {
         match number {
@@ -54,7 +54,7 @@ impl Kind {
 
     /// The number that stands for the type in a header.
     pub fn number(self) -> u8
-        ensures { result ≡ kind_number self }
+        ensures { result ≡ type_number self }
     {
         self as u8
     }

@@ -2,7 +2,7 @@
 ghost use Rattle.std.specs.Prelude.{◌≡◌, ◌≤◌, length, None, true, false};
 ghost use Rattle.arrayvec.specs.ArrayVec.{array_vec_len};
 ghost use Rattle.rtr_pdu.specs.Stream.{as_read, header_fault, length_of, IsPartial};
-ghost use Rattle.rtr_pdu.specs.Reader.{Advances, Takes, IsReader, fresh, after_agreed, at_end, Reader};
+ghost use Rattle.rtr_pdu.specs.Reader.{Advances, ReaderTakes, IsReader, fresh, after_agreed, at_end, Reader};
 ghost use Rattle.rtr_pdu.specs.Reading.{filled, unfilled};
 
 use crate::reading::{judge, number_32, read};
@@ -122,7 +122,7 @@ impl UnitReader {
     /// Takes bytes from the front of the piece: to the end of the first unit, or as many as show a fault, or else all.
     /// A fault of a header is answered at its 8 bytes, one of what follows at the whole unit.
     pub fn next(&mut self, piece: &mut &[u8]) -> Next
-        ensures takes { Takes Version.V1 self.old piece.old.now result piece.new.now self.new }
+        ensures takes { ReaderTakes Version.V1 self.old piece.old.now result piece.new.now self.new }
         ensures reader { IsReader Version.V1 self.old }
     {
         if let Some(fault) = self.fault {

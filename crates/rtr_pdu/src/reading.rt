@@ -1,7 +1,7 @@
 //! Units from bytes.
 ghost use Rattle.std.specs.Prelude.{◌≡◌, ◌==◌, ◌&&◌, true, not, nat_lt, Some, None, if◌then◌else◌, ◌+◌, ◌≤◌, length, IfOk, IfErr, IfSome, IfNone};
-ghost use Rattle.rtr_pdu.specs.Kind.{kind_number, fixed_len, may_have, is_type};
-ghost use Rattle.rtr_pdu.specs.Stream.{fault_of, header_fault, as_read, type_of, length_of, IsOf, IsRecord, IsReport};
+ghost use Rattle.rtr_pdu.specs.Kind.{type_number, fixed_len, may_have, is_type};
+ghost use Rattle.rtr_pdu.specs.Stream.{fault_of, header_fault, as_read, type_of, length_of, IsKind, IsRecord, IsReport};
 ghost use Rattle.rtr_pdu.specs.Reading.{number_at, v4_in, v6_in, key_in, report_in, IsBody};
 ghost use Rattle.rtr_pdu.specs.Version.{version_number};
 ghost use Rattle.rtr_pdu.specs.Reader.{IsRead, IsFaulty};
@@ -41,7 +41,7 @@ fn judge_header(version: Version, shown: u8, kind: u8, len: u32) -> Option<UnitF
 
 /// The version that a header counts as showing.
 fn shown_version(version: Version, any: bool, shown: u8, kind: u8, len: u32) -> u8
-    ensures { result ≡ (if any && (kind == kind_number Kind.SerialNotify && len == fixed_len version Kind.SerialNotify) then version_number version else shown) }
+    ensures { result ≡ (if any && (kind == type_number Kind.SerialNotify && len == fixed_len version Kind.SerialNotify) then version_number version else shown) }
 {
     let notify = Kind::SerialNotify;
     if any && kind == notify.number() && len == notify.fixed_len(version) {
@@ -158,7 +158,7 @@ fn report(version: Version, bytes: &[u8]) -> Option<ErrorReport>
 fn kind_of(version: Version, bytes: &[u8]) -> Kind
     requires two { 2 ≤ length bytes.now }
     requires known { is_type version (type_of bytes.now) ≡ true }
-    ensures { IsOf result bytes.now }
+    ensures { IsKind result bytes.now }
 {
     match Kind::from_number(version, bytes[1]) {
         Some(kind) => kind,

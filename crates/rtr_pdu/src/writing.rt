@@ -2,7 +2,7 @@
 ghost use Rattle.std.specs.Prelude.{◌≡◌, ◌+◌, ◌≤◌, ◌∷◌, ◌++◌, length};
 ghost use Rattle.arrayvec.specs.ArrayVec.{array_vec_len};
 ghost use Rattle.byteorder.specs.Endian.{big_bytes};
-ghost use Rattle.rtr_pdu.specs.Kind.{kind_number};
+ghost use Rattle.rtr_pdu.specs.Kind.{type_number};
 ghost use Rattle.rtr_pdu.specs.Unit.{IsUnit, header, fixed_header, unit_bytes, flag};
 
 use crate::kind::Kind;
@@ -25,7 +25,7 @@ fn put(buffer: &mut UnitBuffer, bytes: &[u8])
 
 /// Begins a unit in an empty buffer.
 fn put_header(buffer: &mut UnitBuffer, version: Version, kind: Kind, field: u16, len: u32)
-    ensures items { buffer.new.items ≡ header version (kind_number kind) field len }
+    ensures items { buffer.new.items ≡ header version (type_number kind) field len }
     ensures len { array_vec_len buffer.new ≡ 8 }
 {
     buffer.clear();

@@ -1,7 +1,7 @@
 use Rattle.std.proofs.Common.{List, refl, subst, sym}
 use Rattle.rtr_pdu.specs.declared.version.Version.TheVariants.{V1}
 use Rattle.rtr_pdu.specs.declared.unit.Unit.{Unit}
-use Rattle.rtr_pdu.specs.Run.{GoesOn}
+use Rattle.rtr_pdu.specs.Run.{ReadsOn}
 use Rattle.rtr_pdu.proofs.RunLaws as laws
 use Rattle.rtr_pdu.proofs.stream.feed.Goals as goal
 
@@ -13,7 +13,7 @@ loop-unit-smaller c = laws.takes_some V1 c.loop-unit.reader c.loop-unit.rest.now
 
 pub loop-unit-preserved : goal.loop-unit-preserved
 loop-unit-preserved c =
-    let P : List Unit → Type 0 = λ x. GoesOn V1 c.args.units.now.items c.args.reader.now c.args.piece.now x c.tell.new.reader c.next.new.piece.now in
+    let P : List Unit → Type 0 = λ x. ReadsOn V1 c.args.units.now.items c.args.reader.now c.args.piece.now x c.tell.new.reader c.next.new.piece.now in
     subst P (sym c.in_ok-push-in-Unit.ensures.items)
     (laws.goes_unit V1 c.args.units.now.items c.args.reader.now c.args.piece.now c.loop-unit.units.items c.loop-unit.reader c.loop-unit.rest.now c.next.new.piece.now c.in-Unit.unit c.next.new.self c.tell.new.reader
     c.loop-unit.invariant c.in-Unit.ensures.takes c.tell.ensures)
