@@ -9,6 +9,7 @@ use Rattle.rtr_pdu.specs.Judging.{Judgement, Begins, Whole, Faulty, judge}
 use Rattle.rtr_pdu.specs.Stream.{NoBeginning, WrittenIsRead}
 use Rattle.rtr_pdu.specs.Unit.{IsUnit}
 use Rattle.rtr_pdu.specs.declared.unit.Unit.TheVariants.{Prefix}
+use Rattle.rtr_pdu.specs.declared.version.Version.TheVariants.{V1}
 use Rattle.rtr_ends.specs.Answer.{sent_all}
 use Rattle.rtr_ends.specs.Cache.{finds_memory}
 use Rattle.rtr_ends.specs.Consumed.{IsCall, came, units_in}
@@ -77,7 +78,7 @@ plain_judged memory bytes r (Faulty fault) = (tt, tt)
 plain_byte : (m : Receiving) (b : ℕ) → AllByRecursion IsPlain m.items → AllByRecursion IsPlain (router_byte m b).items
 unfolding router_byte
 plain_byte m b h =
-    let j = judge 1 (not m.router.agreed) (m.router.held ++ b ∷ []) in
+    let j = judge V1 (not m.router.agreed) (m.router.held ++ b ∷ []) in
     both_plain (with_bytes (finds_memory m.wanting) (m.router.held ++ b ∷ []) m.router j).items m.items (plain_judged (finds_memory m.wanting) (m.router.held ++ b ∷ []) m.router j) h
 
 plain_call : (now : ℕ) (call : Call) (r : Router) → IsFetchCall now call → AllByRecursion IsPlain (called call r).items

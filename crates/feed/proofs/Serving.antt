@@ -15,6 +15,7 @@ use Rattle.rtr_pdu.specs.declared.unit.Unit.{Unit}
 use Rattle.rtr_pdu.specs.declared.unit.Unit.TheVariants.{ResetQuery}
 use Rattle.rtr_pdu.specs.declared.unit.UnitFault.{UnitFault}
 use Rattle.rtr_pdu.specs.declared.unit.UnitFault.TheVariants as faults
+use Rattle.rtr_pdu.specs.declared.version.Version.TheVariants.{V1}
 use Rattle.rtr_ends.specs.Answer.{answer, sent, sent_all}
 use Rattle.rtr_ends.specs.Cache.{CacheCall, Conn, Gives, IsServed, Notifies, Publishes as Publication, Takes, Taking, and_moment, conn_byte, conn_stops, conn_takes, finds_memory, moment_of}
 use Rattle.rtr_ends.specs.CacheState.{CacheState, ShowsCache, without_conns}
@@ -79,7 +80,7 @@ module _ (keep : ℕ) (t : Intervals) (i : Instance) where
 
   own_byte : (m : Taking) (b : ℕ) → AllByRecursion (IsOwn i) m.moments → AllByRecursion (IsOwn i) (conn_byte keep t i m b).moments
   unfolding conn_byte
-  own_byte m b h = own_moment (finds_memory m.wanting) (m.conn.held ++ b ∷ []) (judge 1 false (m.conn.held ++ b ∷ [])) m.moments h
+  own_byte m b h = own_moment (finds_memory m.wanting) (m.conn.held ++ b ∷ []) (judge V1 false (m.conn.held ++ b ∷ [])) m.moments h
 
   own_piece : (wanting : Option ℕ) (piece : List ℕ) (o : Conn) → AllByRecursion (IsOwn i) (conn_takes keep t i wanting piece o).machine.moments
   unfolding conn_takes
@@ -101,15 +102,15 @@ module _ (m : CacheState) where
 -- ---- the replies to one Reset Query
 
 -- A query is split into itself.
-query_splits : WrittenIsRead → Splits 1 false (sent ResetQuery) (ResetQuery ∷ []) [] None
+query_splits : WrittenIsRead → Splits V1 false (sent ResetQuery) (ResetQuery ∷ []) [] None
 unfolding as_read
-query_splits written = record { front = sent ResetQuery; whole = refl; read = (sent ResetQuery, [], refl, written 1 ResetQuery tt, refl); after = (refl, inl (omega arith)) }
+query_splits written = record { front = sent ResetQuery; whole = refl; read = (sent ResetQuery, [], refl, written V1 ResetQuery tt, refl); after = (refl, inl (omega arith)) }
 
 not_both : (b : Bool) → b ≡ true → b ≡ false → ⊥
 not_both b h k = let e : true ≡ false = sym h ∙ k in cc
 
 -- No fault shows where there are no bytes.
-shows_nothing : (fault : UnitFault) → Shows 1 [] fault → ⊥
+shows_nothing : (fault : UnitFault) → Shows V1 [] fault → ⊥
 shows_nothing faults.Version h = cc
 shows_nothing faults.«Type» h = cc
 shows_nothing faults.Length h = cc
@@ -137,9 +138,9 @@ module _ (apart : NoBeginning) (written : WrittenIsRead) (keep : ℕ) (t : Inter
   nothing_more agreed c [] own h = refl
   nothing_more agreed c (Pull count ∷ later) own h =
       nothing_more agreed (after keep t c (Pull count)) later own.1 (subst (λ b. IsHistory keep t (after keep t c (Pull count)) later b) (front_none [] h.1.0 h.1.1).1 h.1.2)
-  nothing_more agreed c (Read cache unit came ∷ later) own h = absurd (never_empty apart written unit (subst (λ b. Reads 1 unit b) (front_none came h.1.0 h.1.1).0 h.0.4))
-  nothing_more agreed c (Wanting cache unit came ∷ later) own h = absurd (never_empty apart written unit (subst (λ b. Reads 1 unit b) (front_none came h.1.0 h.1.1).0 h.0.4.0))
-  nothing_more agreed c (Fault fault came ∷ later) own h = absurd (shows_nothing fault (subst (λ b. Shows 1 b fault) (front_none came h.1.0 h.1.1).0 h.0.4.0))
+  nothing_more agreed c (Read cache unit came ∷ later) own h = absurd (never_empty apart written unit (subst (λ b. Reads V1 unit b) (front_none came h.1.0 h.1.1).0 h.0.4))
+  nothing_more agreed c (Wanting cache unit came ∷ later) own h = absurd (never_empty apart written unit (subst (λ b. Reads V1 unit b) (front_none came h.1.0 h.1.1).0 h.0.4.0))
+  nothing_more agreed c (Fault fault came ∷ later) own h = absurd (shows_nothing fault (subst (λ b. Shows V1 b fault) (front_none came h.1.0 h.1.1).0 h.0.4.0))
   nothing_more agreed c (Notify cache ∷ later) own h = absurd own.0
 
   first_of : (u v : Unit) (us vs : List Unit) → u ∷ us ≡ v ∷ vs → u ≡ v
@@ -153,7 +154,7 @@ module _ (apart : NoBeginning) (written : WrittenIsRead) (keep : ℕ) (t : Inter
       one_reply (after keep t c (Pull count)) later own.1 (subst (λ b. IsHistory keep t (after keep t c (Pull count)) later b) (sym h.1.1) h.1.2) units
   one_reply c (Read cache unit came ∷ later) own h units =
       let is : unit ≡ ResetQuery = first_of unit ResetQuery (units_of later) [] units in
-      let rest : h.1.0 ≡ [] = (apart 1 unit ResetQuery came (sent ResetQuery) h.1.0 [] h.0.4 (written 1 ResetQuery tt) (sym h.1.1)).1 in
+      let rest : h.1.0 ≡ [] = (apart V1 unit ResetQuery came (sent ResetQuery) h.1.0 [] h.0.4 (written V1 ResetQuery tt) (sym h.1.1)).1 in
       let none : replies_from keep t true later ≡ [] = nothing_more true (after keep t c (Read cache unit came)) later own.1 (subst (λ b. IsHistory keep t (after keep t c (Read cache unit came)) later b) rest h.1.2) in
       (λ j. replies_from keep t false (Read (own.0 j) (is j) came ∷ later)) ∙ ap (λ l. (answer i keep t ResetQuery).units ++ l) none ∙ append-nil (answer i keep t ResetQuery).units
   one_reply c (Wanting cache unit came ∷ later) own h units =
@@ -179,7 +180,7 @@ module _ (apart : NoBeginning) (written : WrittenIsRead) (one_split : OneSplit) 
       sym (append-nil (stood m s.calls).came) ∙ ap (λ l. (stood m s.calls).came ++ l) (sym goes_on.0) ∙ sym (append-nil ((stood m s.calls).came ++ s.unread)) ∙ ap (λ l. ((stood m s.calls).came ++ s.unread) ++ l) (sym at_end) ∙ sym s.consumed ∙ query_is in
       let history : IsHistory 1 default_intervals (opened (cache_of set)) (stood m s.calls).moments (sent ResetQuery) = subst (λ b. IsHistory 1 default_intervals (opened (cache_of set)) (stood m s.calls).moments b) came v.history in
       let split = history_splits 1 default_intervals (cache_of set) (stood m s.calls).moments (sent ResetQuery) history in
-      let units : units_of (stood m s.calls).moments ≡ ResetQuery ∷ [] = (one_split 1 false (sent ResetQuery) (units_of (stood m s.calls).moments) (ResetQuery ∷ []) split.0 [] split.1 None split.2 (query_splits written)).units_are in
+      let units : units_of (stood m s.calls).moments ≡ ResetQuery ∷ [] = (one_split V1 false (sent ResetQuery) (units_of (stood m s.calls).moments) (ResetQuery ∷ []) split.0 [] split.1 None split.2 (query_splits written)).units_are in
       let replied = one_reply apart written 1 default_intervals (cache_of set) (opened (cache_of set)) (stood m s.calls).moments (own_calls m s.calls s.turns).1 history units in
       all_out.1 ∙ sym (append-nil (stood m s.calls).given) ∙ ap (λ d. (stood m s.calls).given ++ d) (sym all_out.0) ∙ v.replies ∙ ap sent_all (replied ∙ sym (append-nil (answer (cache_of set) 1 default_intervals ResetQuery).units))
 
