@@ -91,6 +91,7 @@ RUNS = {
     "end_runs::answer_an_old_serial": queried([units(RESPONSE, end(7)) + OPENED, units("0108000000000008") + OPENED], [0]),
     "end_runs::commit_an_answer": ("Idle 1 4660 5\n", ["Ended(Memory) 0\nIdle 1 4660 5\n"]),
     "end_runs::commit_a_change": ("Idle 2 4660 6\n", ["Ended(Memory) 1 4660 5\nIdle 2 4660 6\n"]),
+    "feed_runs::judge_a_route": once("valid\n" + units("0103000100000008", V_UNIT, "010700010000001800000000", end(5)[24:])),
     "world_runs::catch_up": told_before("empty\n", answer="caught up\n4660 5 1\n"),
     "world_runs::catch_up_after_a_restart": told_before("4660 5 1\n", "empty\n", answer="caught up\n8738 9 0\n"),
     "world_runs::step_by_step": (

@@ -22,7 +22,7 @@ const OF_A_LIST: &[u8] =
     b"0^\x02\x01\x01\x18\x0f20250101000000Z\x18\x0f20250102000000Z\x06\x09`\x86H\x01e\x03\x04\x02\x010,0*\x16\x05a.crl\x03!\x00\xbax\x16\xbf\x8f\x01\xcf\xeaAA@\xde]\xae\x22#\xb0\x03a\xa3\x96\x17z\x9c\xb4\x10\xffa\xf2\x00\x15\xad";
 
 /// The same with the file `a.roa`, the ROA of one prefix.
-const FIRST: &[u8] =
+pub(crate) const FIRST: &[u8] =
     b"0^\x02\x01\x01\x18\x0f20250101000000Z\x18\x0f20250102000000Z\x06\x09`\x86H\x01e\x03\x04\x02\x010,0*\x16\x05a.roa\x03!\x00\xda2\xbf\xbe\x0d\x8e\xea\x0f];V\x02<U\xd1\xc2:\xa9\x1d\xf5\x023\xf8\x9c2P\x86\xb2\xb2\x06\xd5\xa2";
 
 /// Decodes a ROA and prints its entries, or the fault.
@@ -157,7 +157,7 @@ fn encode_a_manifest(rt: HostRuntime) -> Result<(), Fail> {
     Ok(())
 }
 
-fn file<'a>(name: &'a str, object: &'a [u8], content: &'a [u8]) -> FileIn<'a> {
+pub(crate) fn file<'a>(name: &'a str, object: &'a [u8], content: &'a [u8]) -> FileIn<'a> {
     FileIn {
         name,
         object,
@@ -209,7 +209,7 @@ fn tell_offered(
     Ok(())
 }
 
-fn moment(text: &str) -> Result<Moment, Fail> {
+pub(crate) fn moment(text: &str) -> Result<Moment, Fail> {
     match Moment::parse(text) {
         Some(moment) => Ok(moment),
         None => Err(Fail::from("moment")),
