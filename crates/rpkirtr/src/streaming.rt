@@ -48,11 +48,13 @@ where
     Ok(first)
 }
 
-/// Serves one connection. It answers how it failed, if it did.
+/// Serves one connection. It answers how it failed, if it did. The last piece of an answer is not held back until the ones before it
+/// are acknowledged.
 fn serve_one<T: Read + Write + OpenStream + Drop>(
     cache: &mut Cache<VersionLog>,
     stream: T,
 ) -> io::Result<Option<StreamFault>> {
+    stream.set_nodelay(true)?;
     let mut output = Counted::new(stream.try_clone()?);
     let mut input = Counted::new(stream);
     Ok(serve_stream(cache, &mut input, &mut output, MOST_READS).err())
