@@ -36,6 +36,7 @@ expect 1 'refused word' route --vrps nothing.json 192.0.2.1/24 64496
 # The blocks of README and of the page of commands, as a shell runs them that is no bash. A block that is no example of `./run` is left out.
 printf '#!/bin/sh\nexec "%s/run" "$@"\n' "$top" >run
 chmod +x run
+ln -s "$top/samples" samples
 blocks() { # blocks FILE
     awk '/^```sh$/ { on = 1; block = ""; next } /^```$/ { if (on && block ~ /\.\/run /) printf "%s", block; on = 0; next } on { block = block $0 "\n" }' "$1"
 }
@@ -44,6 +45,8 @@ sh -e commands.sh >told 2>errors || exit 1
 cat >wanted <<'END'
 0103123400000008
 010400000000001401181800c00002000000fbf0
+010400000000001401181a00c63364000000fbf1
+01060000000000200120300020010db80000000000000000000000000000fbf1
 01071234000000180000000500000e100000025800001c20
 0 empty
 0 caught-up
@@ -54,31 +57,43 @@ cmp -s told wanted || { diff told wanted >&2; exit 1; }
 blocks "$top/docs/COMMANDS.md" >commands.sh
 sh -e commands.sh >told 2>errors || exit 1
 cat >wanted <<'END'
-192.0.2.0/24 24 64496
+198.51.100.0/24 26 64497
+2001:db8::/32 48 64497
 notes 0
 number 01
 this 20250101000000Z
 next 20250102000000Z
 da32bfbe0d8eea0f5d3b56023c55d1c23aa91df50233f89c325086b2b206d5a2 a.roa
-[{"asn":64496,"maxLength":24,"prefix":"192.0.2.0/24"}]
+a2d157e642da46283b7a613fb14f054a1cd41c2f401f60b6acf37899decd2603 b.roa
+[{"asn":64496,"maxLength":24,"prefix":"192.0.2.0/24"},{"asn":64497,"maxLength":26,"prefix":"198.51.100.0/24"},{"asn":64497,"maxLength":48,"prefix":"2001:db8::/32"}]
 valid
 invalid
 cache-response 4660
-cache-reset
-refused 7 at 16
+announce 192.0.2.0/24 24 64496
+end-of-data 4660 5 3600 600 7200
+cache-response 4660
+announce 192.0.2.0/24 24 64496
+refused 7 at 28
 0103123400000008
 01071234000000180000000500000e100000025800001c20
 010a00030000001800000008010800000000000800000000
 committed 4660 5
-[{"asn":64496,"maxLength":24,"prefix":"192.0.2.0/24"}]
+[{"asn":64496,"maxLength":24,"prefix":"192.0.2.0/24"},{"asn":64497,"maxLength":26,"prefix":"198.51.100.0/24"},{"asn":64497,"maxLength":48,"prefix":"2001:db8::/32"}]
 served 1
 committed 4660 5
 valid
 END
 cmp -s told wanted || { diff told wanted >&2; exit 1; }
-grep -q '^point new$' errors || exit 1
+grep -q '^samples/point new$' errors || exit 1
 expect 1 'refused 1 at 0' roa /dev/null
-expect 1 '[]' payloads --now 20250102000001Z point
-grep -q '^point refused 3$' errors || exit 1
+expect 1 '[]' payloads --now 20250102000001Z samples/point
+grep -q '^samples/point refused 3$' errors || exit 1
+# The lists of other programs become the sample's, by the line of the page of commands.
+if command -v jq >/dev/null 2>&1; then
+    grep '^jq -c' "$top/docs/COMMANDS.md" | sed 's/samples.rpki-client.json > list.json/"$1"/' >line.sh
+    for list in rpki-client stayrtr; do
+        sh line.sh "samples/$list.json" | cmp -s - samples/list.json || { echo "$list.json is another list" >&2; exit 1; }
+    done
+fi
 expect 1 'refused 7 at 0' answer --session 4660 --serial 5 --vrps vrps.json 01020000000000
 expect 1 'refused hex' answer --session 4660 --serial 5 --vrps vrps.json 010
