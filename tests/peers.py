@@ -1,16 +1,19 @@
 #!/usr/bin/env python3
-"""Real peers over loopback: routers that ask our cache, and caches that our router asks.
+"""Real peers over loopback: routers that ask our cache, caches that our router asks, and validators of the same signed objects.
 
 usage: tests/peers.py PROGRAM
 
 For each peer that is installed its own view of its table is read and compared with the list that was served: after a Reset Query, after
 the cache was started again with the next serial and another list, after it was started with another session, and, where the peer is the
-cache, after it changed its list. It prints a
+cache, after it changed its list. Validators are given a small repository that is signed here; what is taken out of its objects is handed
+to `payloads`, which must give the same. It prints a
 table of what was tried, and exits with 1 where a view differs. All is bounded in time, on ports of 127.0.0.1 that the system chose."""
 import contextlib
+import ipaddress
 import json
 import os
 import pwd
+import random
 import re
 import shutil
 import socket
@@ -18,6 +21,8 @@ import subprocess
 import sys
 import tempfile
 import time
+
+import repository
 
 FIRST = [("192.0.2.0/24", 24, 64496), ("198.51.100.0/24", 26, 64497), ("203.0.113.0/25", 25, 0), ("2001:db8::/32", 48, 64498)]
 SECOND = [("192.0.2.0/24", 25, 64496), ("198.51.100.0/24", 26, 64499), ("2001:db8::/32", 48, 64498), ("2001:db8:1::/48", 48, 4200000000)]
@@ -256,6 +261,76 @@ def stayrtr(ours):
     return cells
 
 
+def repository_of(folder, records):
+    """Signs a repository of these records below a folder, and answers where it is and where its locator."""
+    os.makedirs(folder)
+    place = f"{folder}/cache/{repository.HOST}"
+    here = os.getcwd()
+    os.chdir(folder)
+    repository.write(".", records, os.path.abspath(f"cache/{repository.HOST}"))
+    os.chdir(here)
+    return os.path.abspath(place), os.path.abspath(f"{folder}/locators")
+
+
+def fort(ours):
+    """FORT as a cache of signed objects: first of one repository, then of another."""
+    cells = []
+    for folder, records in (("first", FIRST), ("second", SECOND)):
+        place, locators = repository_of(f"fort-{folder}", [it for it in records if it[2]])
+        port, kept = free_port(), os.path.dirname(os.path.dirname(place))
+        words = ["--mode=server", "--tal", locators, "--work-offline=true", "--server.address", "127.0.0.1", "--server.port", str(port), "--local-repository", kept]
+        with running("fort", *words):
+            cells.append(compared("fort", lambda: ours.fetched(port), [it for it in records if it[2]], False))
+    return cells[0], "-", cells[1]
+
+
+def unpacked(place, point):
+    """What `payloads` reads, of a folder of signed objects."""
+    os.makedirs(f"{point}/objects")
+    os.makedirs(f"{point}/contents")
+    for file in os.listdir(place):
+        if file.endswith(".cer"):
+            continue
+        to = f"{point}/manifest.der" if file.endswith(".mft") else f"{point}/contents/{file}"
+        if not file.endswith(".crl"):
+            said("openssl", "cms", "-verify", "-noverify", "-inform", "DER", "-in", f"{place}/{file}", "-out", to)
+        if not file.endswith(".mft"):
+            shutil.copy(f"{place}/{file}", f"{point}/objects/{file}")
+
+
+def many(count):
+    """So many records, made by a seed."""
+    chance, found = random.Random(count), {}
+    while len(found) < count:
+        width, length = chance.choice([(32, chance.randrange(8, 25)), (128, chance.randrange(19, 49))])
+        high = chance.randrange(1, 223) if width == 32 else chance.randrange(0x2001, 0x2C0F)
+        address = high << (width - (8 if width == 32 else 16)) | chance.getrandbits(length) << (width - length) >> 8 << 8
+        prefix = ipaddress.ip_network((address >> (width - length) << (width - length), length))
+        found[prefix] = (str(prefix), chance.choice([length, length, min(length + 2, width)]), chance.randrange(64496, 64512))
+    return sorted(found.values())
+
+
+def rpki_client(ours):
+    """rpki-client and `payloads` over the same signed objects of sixteen ROAs."""
+    records = many(200)
+    place, locators = repository_of("validated", records)
+    kept = os.path.dirname(os.path.dirname(place))
+    os.makedirs(f"{kept}/ta/authority")
+    shutil.copy(f"{place}/authority.cer", f"{kept}/ta/authority/authority.cer")
+    os.makedirs("told")
+    subprocess.run(["chmod", "-R", "a+rwX", ".", "told"], check=True)
+    said("rpki-client", "-n", "-j", "-t", f"{locators}/authority.tal", "-d", kept, os.path.abspath("told"), seconds=60)
+    with open("told/json") as it:
+        theirs = sorted((roa["prefix"], roa["maxLength"], roa["asn"]) for roa in json.load(it)["roas"])
+    unpacked(place, "point")
+    now = time.strftime("%Y%m%d%H%M%SZ", time.gmtime())
+    found = json.loads(subprocess.run([ours.program, "payloads", "--now", now, "point"], capture_output=True, text=True, timeout=30).stdout)
+    same = sorted((it["prefix"], it["maxLength"], it["asn"]) for it in found)
+    if not same == theirs == sorted(records):
+        print(f"rpki-client: {len(theirs)} records, ours {len(same)}, signed {len(records)}: {[it for it in theirs if it not in same][:3]}")
+    return "agrees" if same == theirs == sorted(records) else "DIFFERS"
+
+
 ROUTERS = {
     "rtrclient": ("rtr-tools", "rtrclient", rtrclient, False),
     "rtrdump": ("stayrtr", "rtrdump", rtrdump, False),
@@ -279,8 +354,16 @@ def main(program):
                 rows.append(("stayrtr", "cache", *stayrtr(ours)))
         else:
             print("skipped: stayrtr is not installed")
+        if shutil.which("fort"):
+            rows.append(("fort", "cache", *fort(ours)))
+        else:
+            print("skipped: fort-validator is not installed")
+        if shutil.which("rpki-client"):
+            rows.append(("rpki-client", "validator", rpki_client(ours), "-", "-"))
+        else:
+            print("skipped: rpki-client is not installed")
         os.chdir("/")
-    for row in [("peer", "is a", "Reset Query", "next serial", "new session"), *rows]:
+    for row in [("peer", "is a", "first table", "next serial", "new session"), *rows]:
         print("".join(f"{it:<14}" for it in row).rstrip())
     return 1 if any("DIFFERS" in row for row in rows) else 0
 
