@@ -98,10 +98,11 @@ def connected(port):
 
 
 def asked(port, size):
-    """How long a cache on a port takes for its answer, from the query on to the last of so many bytes."""
+    """How long a cache on a port takes for its answer, from the query on to the last of so many bytes. It is left the time to read its list
+    first."""
     room = bytearray(1 << 20)
     with connected(port) as it:
-        time.sleep(0.2)
+        time.sleep(0.2 + size / 8_000_000)
         began = time.time()
         it.sendall(RESET)
         while size > 0:
