@@ -113,7 +113,7 @@ pub next_item : (list : List Value) (i : ℕ) (x : Value) → i < length list �
 next_item list i x h e =
     let cut : drop i list ≡ x ∷ drop (i + 1) list = rw (add-one, drop-cons list i x) (ap (λ y. y ∷ drop (suc i) list) (sym e)) in ap (λ l. items_view l) cut
 
-one_some : {A : Type 0} (a b : A) (o : Option A) → o ≡ Some a → o ≡ Some b → a ≡ b
+pub one_some : {A : Type 0} (a b : A) (o : Option A) → o ≡ Some a → o ≡ Some b → a ≡ b
 one_some a b o e f = let same : Some a ≡ Some b = sym e ∙ f in cc
 
 pub lists : (items : Items) (records : List Payload) (s : VrpSet) → AreEntries items records → s ≡ set_of records → size s ≤ 16777215 → Lists items s

@@ -1,3 +1,4 @@
 pub mod Fault
 pub mod PayloadList
 pub mod Reading
+pub mod Plain

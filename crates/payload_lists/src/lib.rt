@@ -2,5 +2,6 @@
 #![tactic(auto)]
 
 mod listing;
+mod plain;
 
 pub use listing::{ListFault, read_list, write_list};

@@ -7,9 +7,12 @@ ghost use Rattle.vrps.specs.VrpSet.{VrpSet as Vrps, set_of, size};
 ghost use Rattle.payload_lists.specs.Reading.{Makes};
 ghost use Rattle.payload_lists.specs.PayloadList.{AreEntries, IsEntry, IsPayloadList, Lists, entry_text, list_text, text_at, whole_at};
 
+use crate::plain::plain_list;
+use prefixes::laws::one_reading;
 use prefixes::{Asn, IpPrefix, Vrp};
 use serde_json::Value;
 use std::alloc::{AllocError, Global};
+use std::str;
 use vrps::VrpSet;
 
 /// Why bytes give no set. The numbers are fixed.
@@ -57,7 +60,7 @@ fn text<'a>(value: &'a Value, key: &str) -> Option<&'a str>
 }
 
 /// The payload of these numbers and this text, if they make one.
-fn payload(asn: u64, max_len: u64, prefix: &str) -> Option<Vrp>
+pub(crate) fn payload(asn: u64, max_len: u64, prefix: &str) -> Option<Vrp>
     ensures some { IfSome result (λ v. Makes asn max_len prefix.now v) }
     ensures one { IfSome result (λ v. (w : Payload) → Makes asn max_len prefix.now w → w ≡ v) }
     ensures none { IfNone result ((v : Payload) → ¬ (Makes asn max_len prefix.now v)) }
@@ -134,9 +137,8 @@ fn set_of_items(alloc: Global, list: &[Value]) -> Result<VrpSet, ListFault>
     set_from(records)
 }
 
-/// The set of a payload list: a JSON array of objects with exactly the keys `asn`, `maxLength` and `prefix`. Of a key that
-/// stands twice in an object, `serde_json` reads the last.
-pub fn read_list(alloc: Global, bytes: &[u8]) -> Result<VrpSet, ListFault>
+/// The set of a payload list in any form, read as a whole.
+fn read_any(alloc: Global, bytes: &[u8]) -> Result<VrpSet, ListFault>
     ensures ok { IfOk result (λ s. IsPayloadList bytes.now s) }
     ensures no_list { IsErrOf result ListFault.NoList → (s : Vrps) → ¬ (IsPayloadList bytes.now s) }
 {
@@ -149,6 +151,21 @@ pub fn read_list(alloc: Global, bytes: &[u8]) -> Result<VrpSet, ListFault>
         Some(list) => set_of_items(alloc, list.as_slice()),
         None => Err(ListFault::NoList),
     }
+}
+
+/// The set of a payload list: a JSON array of objects with exactly the keys `asn`, `maxLength` and `prefix`. Of a key that
+/// stands twice in an object, `serde_json` reads the last. A list in its plain form is read token by token, any other as a whole.
+pub fn read_list(alloc: Global, bytes: &[u8]) -> Result<VrpSet, ListFault>
+    ensures ok { IfOk result (λ s. IsPayloadList bytes.now s) }
+    ensures no_list { IsErrOf result ListFault.NoList → (s : Vrps) → ¬ (IsPayloadList bytes.now s) }
+{
+    one_reading();
+    if let Ok(text) = str::from_utf8(bytes) {
+        if let Some(records) = plain_list(alloc, text)? {
+            return set_from(records);
+        }
+    }
+    read_any(alloc, bytes)
 }
 
 /// Appends the text of an entry.

@@ -1,10 +1,14 @@
-use Rattle.std.proofs.Common.{subst, sym}
-use Rattle.serde_json.specs.View.{items_view, view}
-use Rattle.payload_lists.specs.PayloadList.{Lists}
-use Rattle.payload_lists.proofs.Entries.{same_list}
+use Rattle.std.proofs.Common.{subst}
+use Rattle.std.specs.Prelude.{IfSome}
+use Rattle.payload_lists.proofs.PlainLists.{IsListed, listed_is, listed_no}
 use Rattle.payload_lists.proofs.listing.read_list.Goals as goal
+
+pub returns-in-Some-clause-ok : goal.returns-in-Some-clause-ok
+returns-in-Some-clause-ok c =
+    let listed = subst (λ o. IfSome o (λ vs. IsListed c.in-Ok.text.now vs.items)) c.in-Some.is c.in_ok-records.ensures in
+    listed_is c.args.bytes.now c.in-Some.records.items c.set_from.result c.in-Ok.ensures.cases.1 (subst (λ t. IsListed t c.in-Some.records.items) c.in-Ok.ensures.cases.0 listed) c.set_from.ensures.ok
 
 pub returns-in-Some-clause-no_list : goal.returns-in-Some-clause-no_list
 returns-in-Some-clause-no_list c e s h =
-    let listed = same_list c.args.bytes.now s (view c.in-Ok.value) (items_view c.in-Some.list.now.items) h c.in-Ok.ensures.ok.1 c.in-Some.ensures in
-    c.set_of_items.ensures.no_list e s (subst (λ l. Lists (items_view l) s) (sym c.as_slice.ensures.value) listed)
+    let listed = subst (λ o. IfSome o (λ vs. IsListed c.in-Ok.text.now vs.items)) c.in-Some.is c.in_ok-records.ensures in
+    listed_no c.one_reading.ensures c.args.bytes.now c.in-Some.records.items (subst (λ t. IsListed t c.in-Some.records.items) c.in-Ok.ensures.cases.0 listed) (c.set_from.ensures.no_list e) s h

@@ -1,0 +1,96 @@
+-- The turns of reading a list in its plain form.
+use Rattle.std.proofs.Common.{◌≡◌, ℕ, suc, ◌-◌, ◌<◌, ◌≤◌, List, ◌∷◌, length, Option, Some, None, option_map, Bor, refl, ap, ◌∙◌, arith}
+use Rattle.std.specs.Prelude.{IfSome, option_and_then}
+use Rattle.serde_json.specs.Find.{as_number, as_str, as_u64}
+use Rattle.payload_lists.specs.Reading.{Makes}
+use Rattle.json.specs.Token.{Token}
+use Rattle.json.specs.Json as json
+use Rattle.json.specs.Json.{Parse, parse_map, read_key, after_end_array, items, members, value}
+use Rattle.json.proofs.Grammar.{value_is, value-begin_object, read_key-shorter, members_more, members_end}
+use Rattle.serde_json.specs.Data.{Data, Members, no_members, object, put}
+use Rattle.serde_json.specs.Read.{of_json, of_members, converted}
+use Rattle.prefixes.specs.Payload.{Payload}
+use Rattle.payload_lists.specs.Plain.{Holds, ReadsMember, ReadsEntry}
+use Rattle.payload_lists.specs.declared.plain.Plain.{Plain}
+
+with_member : (k : List ℕ) (j : json.Json) (d : Data) (old : Members) → of_json j ≡ Some d → (o : Option (json.Members × List Token))
+    → converted (λ ms. of_members ms old) (parse_map (json.member k j) o) ≡ converted (λ ms. of_members ms (put k d old)) o
+with_member k j d old e None = refl
+with_member k j d old e (Some p) = rw e
+
+pub member_is : (old s new : List Token) (k : List ℕ) (t : Token) (j : json.Json) (d : Data) (before : Plain) (result : Option Plain) → read_key old ≡ Some (Some k, s) → s ≡ t ∷ new
+    → ((depth : ℕ) → value depth (t ∷ new) ≡ Some (j, new)) → of_json j ≡ Some d → IfSome result (λ now. (ms : Members) → Holds ms before → Holds (put k d ms) now)
+    → IfSome result (λ now. ReadsMember old new before now)
+member_is old s new k t j d before None key first is made h = tt
+member_is old s new k t j d before (Some now) key first is made h =
+    let less = read_key-shorter old (Some k) s key in
+    let long : length s ≡ suc (length new) = ap length first in (
+      omega (arith, less, long),
+      λ depth n ms some holds. (
+        put k d ms,
+        h ms holds,
+        ap (converted (λ x. of_members x ms)) (members_more (value depth) n k old s new j some key (ap (value depth) first ∙ is depth))
+            ∙ with_member k j d ms made (members (value depth) (n - 1) new),
+      ),
+    )
+
+pub number_read : (s : List ℕ) (new : List Token) (depth : ℕ) → value depth (Token.number s ∷ new) ≡ Some (json.number s, new)
+number_read s new depth = value_is depth (Token.number s ∷ new)
+
+pub string_read : (s : List ℕ) (new : List Token) (depth : ℕ) → value depth (Token.string s ∷ new) ≡ Some (json.string s, new)
+string_read s new depth = value_is depth (Token.string s ∷ new)
+
+-- ---- an entry
+
+converted-object : (o : Option (json.Members × List Token)) → converted of_json (parse_map json.object o) ≡ parse_map object (converted (λ ms. of_members ms no_members) o)
+converted-object None = refl
+converted-object (Some p) = by (of_members p.0 no_members)
+  where
+    by : (x : Option Members) → option_map (λ b. (b, p.1)) (option_map object x) ≡ parse_map object (option_map (λ a. (a, p.1)) x)
+    by None = refl
+    by (Some a) = refl
+
+abbrev pub nothing : Plain
+nothing = record { asn = None; max_len = None; prefix = None }
+
+holds_nothing : Holds no_members nothing
+holds_nothing = record { asn = refl; max_len = refl; prefix = refl; count = refl }
+
+pub members_are : (depth : ℕ) (ts s₁ s₂ s₃ rest : List Token) (p₁ p₂ p₃ : Plain) → ReadsMember ts s₁ nothing p₁ → ReadsMember s₁ s₂ p₁ p₂ → ReadsMember s₂ s₃ p₂ p₃ → read_key s₃ ≡ Some (None, rest)
+    → (ms : Members) × Holds ms p₃ × (converted (λ x. of_members x no_members) (members (value depth) (length ts) ts) ≡ Some (ms, rest))
+members_are depth ts s₁ s₂ s₃ rest p₁ p₂ p₃ one two three end =
+    let n = length ts in
+    let some₁ : 0 < n = omega (arith, one.0) in
+    let some₂ : 0 < n - 1 = omega (arith, one.0, two.0) in
+    let some₃ : 0 < n - 1 - 1 = omega (arith, one.0, two.0, three.0) in
+    let enough : length s₃ ≤ n - 1 - 1 - 1 = omega (arith, one.0, two.0, three.0) in
+    let m₁ = one.1 depth n no_members some₁ holds_nothing in
+    let m₂ = two.1 depth (n - 1) m₁.0 some₂ m₁.1 in
+    let m₃ = three.1 depth (n - 1 - 1) m₂.0 some₃ m₂.1 in
+    (m₃.0, m₃.1, m₁.2 ∙ m₂.2 ∙ m₃.2 ∙ ap (converted (λ x. of_members x m₃.0)) (members_end (value depth) (n - 1 - 1 - 1) s₃ rest enough end))
+
+pub entry_is : (old ts s₁ s₂ s₃ rest : List Token) (p₁ p₂ : Plain) (asn max_len : ℕ) (text : Bor (List ℕ)) (result : Option Payload) → old ≡ Token.begin_object ∷ ts
+    → ReadsMember ts s₁ nothing p₁ → ReadsMember s₁ s₂ p₁ p₂ → ReadsMember s₂ s₃ p₂ (record { asn = Some asn; max_len = Some max_len; prefix = Some text }) → read_key s₃ ≡ Some (None, rest)
+    → IfSome result (λ v. Makes asn max_len text.now v) → IfSome result (λ v. ReadsEntry old rest v)
+entry_is old ts s₁ s₂ s₃ rest p₁ p₂ asn max_len text None first one two three end made = tt
+entry_is old ts s₁ s₂ s₃ rest p₁ p₂ asn max_len text (Some v) first one two three end made =
+    let last = read_key-shorter s₃ None rest end in
+    let long : length old ≡ suc (length ts) = ap length first in (
+      omega (arith, last, long, one.0, two.0, three.0),
+      λ depth some.
+          let m = members_are (depth - 1) ts s₁ s₂ s₃ rest p₁ p₂ _ one two three end in (
+            object m.0,
+            record {
+              members = m.0;
+              is_object = refl;
+              three = m.1.count;
+              asn = ap (λ d. option_and_then as_u64 (option_and_then as_number d)) m.1.asn ∙ ap Some made.asn_is;
+              max_len = ap (λ d. option_and_then as_u64 (option_and_then as_number d)) m.1.max_len ∙ ap Some made.max_len_is;
+              text = text.now;
+              has_text = ap (λ d. option_and_then as_str d) m.1.prefix;
+              prefix = made.prefix;
+              payload = made.payload;
+            },
+            ap (converted of_json) (ap (value depth) first ∙ value-begin_object depth ts some) ∙ converted-object (members (value (depth - 1)) (length ts) ts) ∙ ap (parse_map object) m.2,
+          ),
+    )

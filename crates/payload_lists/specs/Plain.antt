@@ -1,0 +1,38 @@
+-- Steps of reading a list in its plain form, token by token.
+use Rattle.std.specs.Prelude.{◌≡◌, ℕ, suc, ◌+◌, ◌-◌, ◌<◌, List, length, Option, Some, None, option_map, codes}
+use Rattle.json.specs.Token.{Token}
+use Rattle.json.specs.Json.{items, members, value}
+use Rattle.serde_json.specs.Data.{Data, number, string, unsigned, Items, Members}
+use Rattle.serde_json.specs.Find.{get_member}
+use Rattle.serde_json.specs.Read.{of_items, of_json, of_members, converted}
+use Rattle.prefixes.specs.Payload.{Payload}
+use Rattle.payload_lists.specs.PayloadList.{AreEntries, IsEntry, member_count}
+use Rattle.payload_lists.specs.declared.plain.Plain.{Plain}
+
+abbrev pub one_if : {A : Type 0} → Option A → ℕ
+one_if None = 0
+one_if (Some a) = 1
+
+-- The members are those that were read, and no others.
+pub record Holds (ms : Members) (p : Plain) : Type 0 where
+  pub asn : get_member (codes "asn") ms ≡ option_map (λ n. number (unsigned n)) p.asn
+  pub max_len : get_member (codes "maxLength") ms ≡ option_map (λ n. number (unsigned n)) p.max_len
+  pub prefix : get_member (codes "prefix") ms ≡ option_map (λ s. string s.now) p.prefix
+  pub count : member_count ms ≡ one_if p.asn + one_if p.max_len + one_if p.prefix
+
+-- A member was read of these tokens, and these are left.
+abbrev pub ReadsMember : List Token → List Token → Plain → Plain → Type 0
+ReadsMember old new before after =
+    (length new < length old)
+    × ((depth n : ℕ) (ms : Members) → 0 < n → Holds ms before →
+    (more : Members) × Holds more after × (converted (λ x. of_members x ms) (members (value depth) n old) ≡ converted (λ x. of_members x more) (members (value depth) (n - 1) new)))
+
+-- An entry of this payload was read.
+abbrev pub ReadsEntry : List Token → List Token → Payload → Type 0
+ReadsEntry old new v =
+    (length new < length old) × ((depth : ℕ) → 0 < depth → (d : Data) × IsEntry d v × (converted of_json (value depth old) ≡ Some (d, new)))
+
+-- The entries of an array were read to its end.
+abbrev pub ReadsItems : List Token → List Token → List Payload → Type 0
+ReadsItems old new vs =
+    (depth : ℕ) → (ds : Items) × AreEntries ds vs × (converted of_items (items (value (suc depth)) (length old) old) ≡ Some (ds, new))
