@@ -225,8 +225,9 @@ def asked_by(ours, name, peer, tells_counts):
 
 
 # Where these peers keep the table that they have for longer than a test can wait: FRR (librtr) connects again after the retry interval of
-# the cache, 600 seconds; OpenBGPD goes on with the session that is gone until its table expires.
-WAITS = {"frr": [1, 2], "openbgpd": [2]}
+# the cache, 600 seconds, and so does OpenBGPD where no cache listened when it came back at once. To another session OpenBGPD comes over
+# only when its table expires.
+WAITS = {"frr": [1, 2], "openbgpd": [1, 2]}
 
 
 def compared(name, view, records, tells_counts):
