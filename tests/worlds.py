@@ -23,6 +23,9 @@ ORIGINS = [0, 1, 64496, 4294967295]
 MOVES = ["router-sends", "cache-gets", "cache-sends", "router-gets"]
 WEIGHTS = {"move": 60, "round": 14, "connect": 4, "ask": 5, "notify": 5, "publish": 4, "show": 6, "route": 3, "catch-up": 2, "cut": 3, "tick": 3, "restart": 0.4, "router-restart": 0.6}
 
+# The events that name a router and no more, and change nothing that is kept here.
+ALONE = ["connect", "ask", "notify"]
+
 # The longest that a table is kept after its commit, in seconds.
 EXPIRE = 7200
 
@@ -69,7 +72,10 @@ class Driver:
     def make(self):
         names, weights = list(WEIGHTS), list(WEIGHTS.values())
         for name in self.random.choices(names, weights, k=self.events):
-            getattr(self, name.replace("-", "_"))()
+            if name in ALONE:
+                self.alone(name)
+            else:
+                getattr(self, name.replace("-", "_"))()
         for at in range(len(self.routers)):
             self.caught_up(at)
         return "\n".join(self.lines) + "\n"
@@ -92,17 +98,10 @@ class Driver:
         for name in MOVES:
             self.at_router(f"{name} {router} {self.random.choice([2**64 - 1, 2**64 - 1, self.count()])}", router)
 
-    def connect(self):
+    def alone(self, name):
+        """An event that names a router and no more."""
         router = self.chosen()
-        self.at_router(f"connect {router}", router)
-
-    def ask(self):
-        router = self.chosen()
-        self.at_router(f"ask {router}", router)
-
-    def notify(self):
-        router = self.chosen()
-        self.at_router(f"notify {router}", router)
+        self.at_router(f"{name} {router}", router)
 
     def cut(self):
         router = self.chosen()
