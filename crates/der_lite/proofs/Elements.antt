@@ -3,9 +3,9 @@ use Rattle.std.proofs.Common.{◌≡◌, ℕ, ◌+◌, ◌-◌, ◌^◌, ◌<◌
 use Rattle.std.proofs.lemmas.Bool.{not-false, le-ltb, ltb-false, or_parts, or_from, and_right, eqb-true, eq-eqb}
 use Rattle.std.proofs.lemmas.List.{take_at, drop_at, take-append-drop, drop-drop, get_or-drop}
 use Rattle.der_lite.specs.Place.{Place, place_of, first_of}
-use Rattle.der_lite.specs.Der.{IsBytes, tlv, length_bytes, announced, told_length, is_length, length_part, tag_of, has_length, length_end, content_end, is_truncated, head_rules}
-use Rattle.der_lite.specs.Grammar.{inside, Keeps}
-use Rattle.der_lite.specs.Reading.{content_place, next_place}
+use Rattle.der_lite.specs.Der.{IsBytes, tlv, length_bytes, announced, told_length, is_length, length_part, tag_of, has_der_length, length_end, content_end, is_truncated, head_rules}
+use Rattle.der_lite.specs.Grammar.{inside, KeepsRules}
+use Rattle.der_lite.specs.DerReading.{content_place, next_place}
 use Rattle.der_lite.proofs.Rules.{kept_first}
 use Rattle.der_lite.proofs.Once.{front_bytes}
 use Rattle.der_lite.proofs.Lengths.{length_tells, length_spells, told_spells}
@@ -25,8 +25,8 @@ module _ (bytes : List ℕ) (tag first : ℕ) (more after : List ℕ) (b : Begin
   tag_is = rw (b.parts) refl
 
   -- whether the length is rightly spelled hangs on the length bytes alone
-  has_is : has_length bytes ≡ is_length (first ∷ more)
-  unfolding has_length
+  has_is : has_der_length bytes ≡ is_length (first ∷ more)
+  unfolding has_der_length
   has_is = ap is_length part_is
 
   -- where the length ends
@@ -54,31 +54,31 @@ pub record Opens (tag : ℕ) (p q r : Place) : Type 0 where
 pub record HasHead (tag : ℕ) (bytes : List ℕ) : Type 0 where
   pub whole : is_truncated bytes ≡ false
   pub tag_is : tag_of bytes ≡ tag
-  pub fewest : has_length bytes ≡ true
+  pub fewest : has_der_length bytes ≡ true
 
 -- where each of three rules is kept, they are
 kept_again : (a b c : Bool) → a ≡ false → b ≡ true → c ≡ true → first_of ((1, a) ∷ (2, not b) ∷ (3, not c) ∷ []) ≡ None
 kept_again a b c ha hb hc = rw (ha, hb, hc) refl
 
 -- bytes that keep the rules of a head have it
-pub head_kept : (tag : ℕ) (bytes : List ℕ) → Keeps (head_rules tag bytes) → HasHead tag bytes
+pub head_kept : (tag : ℕ) (bytes : List ℕ) → KeepsRules (head_rules tag bytes) → HasHead tag bytes
 unfolding head_rules
 head_kept tag bytes h =
-    let k = kept_first 1 (is_truncated bytes) ((2, not (eqb (tag_of bytes) tag)) ∷ (3, not (has_length bytes)) ∷ []) h in
-    let t = kept_first 2 (not (eqb (tag_of bytes) tag)) ((3, not (has_length bytes)) ∷ []) k.1 in
-    let l = kept_first 3 (not (has_length bytes)) [] t.1 in
-    record { whole = k.0; tag_is = eqb-true (tag_of bytes) tag (not-false (eqb (tag_of bytes) tag) t.0); fewest = not-false (has_length bytes) l.0 }
+    let k = kept_first 1 (is_truncated bytes) ((2, not (eqb (tag_of bytes) tag)) ∷ (3, not (has_der_length bytes)) ∷ []) h in
+    let t = kept_first 2 (not (eqb (tag_of bytes) tag)) ((3, not (has_der_length bytes)) ∷ []) k.1 in
+    let l = kept_first 3 (not (has_der_length bytes)) [] t.1 in
+    record { whole = k.0; tag_is = eqb-true (tag_of bytes) tag (not-false (eqb (tag_of bytes) tag) t.0); fewest = not-false (has_der_length bytes) l.0 }
 
 -- bytes that have a head keep its rules
-pub head_keeps : (tag : ℕ) (bytes : List ℕ) → HasHead tag bytes → Keeps (head_rules tag bytes)
+pub head_keeps : (tag : ℕ) (bytes : List ℕ) → HasHead tag bytes → KeepsRules (head_rules tag bytes)
 unfolding head_rules
-head_keeps tag bytes h = kept_again (is_truncated bytes) (eqb (tag_of bytes) tag) (has_length bytes) h.whole (eq-eqb (tag_of bytes) tag h.tag_is) h.fewest
+head_keeps tag bytes h = kept_again (is_truncated bytes) (eqb (tag_of bytes) tag) (has_der_length bytes) h.whole (eq-eqb (tag_of bytes) tag h.tag_is) h.fewest
 
 -- both ends stand
-pub ends_stand : (bytes : List ℕ) → is_truncated bytes ≡ false → has_length bytes ≡ true → (length_end bytes ≤ length bytes) × (content_end bytes ≤ length bytes)
+pub ends_stand : (bytes : List ℕ) → is_truncated bytes ≡ false → has_der_length bytes ≡ true → (length_end bytes ≤ length bytes) × (content_end bytes ≤ length bytes)
 unfolding is_truncated
 ends_stand bytes h k =
-    let o = or_parts (ltb (length bytes) (length_end bytes)) (has_length bytes && ltb (length bytes) (content_end bytes)) h in
+    let o = or_parts (ltb (length bytes) (length_end bytes)) (has_der_length bytes && ltb (length bytes) (content_end bytes)) h in
     let second : ltb (length bytes) (content_end bytes) ≡ false = rw k at o.1 in
     (ltb-false (length bytes) (length_end bytes) o.0, ltb-false (length bytes) (content_end bytes) second)
 
@@ -126,7 +126,7 @@ cut tag first n le ce bytes more parts le_is ce_is long spelled short =
     }
 
 -- the element that stands at the place
-pub stands : (tag : ℕ) (p : Place) → IsBytes p.rest → Keeps (head_rules tag p.rest) → Opens tag p (content_place p) (next_place p)
+pub stands : (tag : ℕ) (p : Place) → IsBytes p.rest → KeepsRules (head_rules tag p.rest) → Opens tag p (content_place p) (next_place p)
 unfolding content_place next_place
 stands tag p bytes kept =
     let hd = head_kept tag p.rest kept in
@@ -150,7 +150,7 @@ stands tag p bytes kept =
 
 -- what stands there again
 pub record Again (tag at : ℕ) (content bytes rest : List ℕ) : Type 0 where
-  pub kept : Keeps (head_rules tag bytes)
+  pub kept : KeepsRules (head_rules tag bytes)
   pub content_is : content_place (place_of at bytes) ≡ inside at content
   pub next_is : next_place (place_of at bytes) ≡ behind at (tlv tag content) rest
 
@@ -161,7 +161,7 @@ again tag at first content bytes more rest b spelled told fewest =
     let le_is = length_end_is bytes tag first more after b in
     let ce_is : content_end bytes ≡ 2 + length more + length content = content_end_is bytes tag first more after b ∙ ap (λ (k : ℕ). 2 + length more + k) told in
     let long : length bytes ≡ 2 + length more + length content + length rest = omega (arith, ap (λ (l : List ℕ). length l) b.parts, length-append more after, length-append content rest) in
-    let whole : is_truncated bytes ≡ false = or_from (ltb (length bytes) (length_end bytes)) (has_length bytes && ltb (length bytes) (content_end bytes)) (le-ltb _ _ (omega arith)) (and_right (has_length bytes) (ltb (length bytes) (content_end bytes)) (le-ltb _ _ (omega arith))) in
+    let whole : is_truncated bytes ≡ false = or_from (ltb (length bytes) (length_end bytes)) (has_der_length bytes && ltb (length bytes) (content_end bytes)) (le-ltb _ _ (omega arith)) (and_right (has_der_length bytes) (ltb (length bytes) (content_end bytes)) (le-ltb _ _ (omega arith))) in
     let tlv_is : tlv tag content ≡ tag ∷ first ∷ (more ++ content) = rw spelled refl in
     let tlv_len : length (tlv tag content) ≡ 2 + length more + length content = omega (arith, ap (λ (l : List ℕ). length l) tlv_is, length-append more content) in
     let front : bytes ≡ (tag ∷ first ∷ more) ++ (content ++ rest) = b.parts in

@@ -4,8 +4,8 @@ use Rattle.std.proofs.lemmas.Bool.{eqb-true, eqb-false, ne_eqb}
 use Rattle.std.proofs.lemmas.List.{append-nil, nil_from_length, get_or-append-add}
 use Rattle.der_lite.specs.Place.{Place, Fault, place_of}
 use Rattle.der_lite.specs.Der.{IsBytes, tlv, head_rules}
-use Rattle.der_lite.specs.Grammar.{Element, Members, Content, Keeps, Stands, inside, element, primitive, constructed, Trails, FaultIn, last, member, OptionSpells, optional, EachSpells, each}
-use Rattle.der_lite.specs.Reading.{◌>>=◌, judged, content_place, next_place}
+use Rattle.der_lite.specs.Grammar.{Element, Members, Content, KeepsRules, Stands, inside, element, primitive, constructed, Trails, FaultIn, last, member, OptionSpells, optional, EachSpells, each}
+use Rattle.der_lite.specs.DerReading.{◌>>=◌, judged, content_place, next_place}
 use Rattle.der_lite.specs.Decoding.{Read, ReadAll, ReadContent, read_element, read_primitive, read_constructed, ended, read_last, read_member, read_optional, each_from, read_each}
 use Rattle.der_lite.proofs.Rules.{judged-kept, judged_ok, judged_err, judged_breaks, bind_ok, bind_err, ok_is, err, err_is}
 use Rattle.der_lite.proofs.Elements.{behind, stands, stands_again, content_bytes}
@@ -38,8 +38,8 @@ pub record ExactContent {V : Type 0} (c : Content V) (read : ReadContent V) : Ty
 
 -- rules that a head keeps exactly where it keeps the usual ones
 pub record IsHead (tag : ℕ) (head : List ℕ → List (ℕ × Bool)) : Type 0 where
-  pub usual : (bytes : List ℕ) → Keeps (head bytes) → Keeps (head_rules tag bytes)
-  pub keeps : (bytes : List ℕ) → Keeps (head_rules tag bytes) → Keeps (head bytes)
+  pub usual : (bytes : List ℕ) → KeepsRules (head bytes) → KeepsRules (head_rules tag bytes)
+  pub keeps : (bytes : List ℕ) → KeepsRules (head_rules tag bytes) → KeepsRules (head bytes)
 
 -- what is behind a front of bytes is bytes
 IsBytes-behind : (bytes front rest : List ℕ) → IsBytes bytes → bytes ≡ front ++ rest → IsBytes rest
@@ -49,13 +49,13 @@ IsBytes-behind bytes front rest h e i = rw (← get_or-append-add front rest i 0
 
 -- A content that spells a value by itself is read exactly, if it spells just the value that is read.
 pub exact_primitive : {V : Type 0} (Spells : V → List ℕ → Type 0) (rules : List ℕ → List (ℕ × Bool)) (value : List ℕ → V)
-    → ((inner : List ℕ) → IsBytes inner → Keeps (rules inner) → Spells (value inner) inner)
-    → ((inner : List ℕ) (v : V) → Keeps (rules inner) → Spells v inner → value inner ≡ v)
+    → ((inner : List ℕ) → IsBytes inner → KeepsRules (rules inner) → Spells (value inner) inner)
+    → ((inner : List ℕ) (v : V) → KeepsRules (rules inner) → Spells v inner → value inner ≡ v)
     → ExactContent (primitive Spells rules) (read_primitive rules value)
 exact_primitive {V} Spells rules value spelled one = record {
   takes = λ at p v bytes e.
       let j = judged_ok (rules p.rest) at (Ok (value p.rest)) v e in
-      subst (λ (x : V). Spells x p.rest × Keeps (rules p.rest)) (ok_is (value p.rest) v j.1) (spelled p.rest bytes j.0, j.0);
+      subst (λ (x : V). Spells x p.rest × KeepsRules (rules p.rest)) (ok_is (value p.rest) v j.1) (spelled p.rest bytes j.0, j.0);
   again = λ at p v s. judged-kept (rules p.rest) at (Ok (value p.rest)) s.1 ∙ ap (λ (x : V). Ok x) (one p.rest v s.1 s.0);
   faults = λ at p f bytes e. elim (judged_err (rules p.rest) at (Ok (value p.rest)) f e) [ inl b ↦ b | inr k ↦ absurd (let h = k.1 in cc) ];
   refuses = λ at p f b. judged_breaks (rules p.rest) at (Ok (value p.rest)) f b;
@@ -71,7 +71,7 @@ module _ {V : Type 0} (before : List ℕ → List (ℕ × Bool)) (m : Members V)
         let j = judged_ok (before p.rest) at (read p >>= λ w. judged (whole w) at (Ok w)) v e in
         let b = bind_ok (read p) (λ w. judged (whole w) at (Ok w)) v j.1 in
         let k = judged_ok (whole b.0) at (Ok b.0) v b.2 in
-        subst (λ (w : V). Keeps (before p.rest) × m.Spells w p.rest × Keeps (whole w)) (ok_is b.0 v k.1) (j.0, x.takes p b.0 bytes b.1, k.0);
+        subst (λ (w : V). KeepsRules (before p.rest) × m.Spells w p.rest × KeepsRules (whole w)) (ok_is b.0 v k.1) (j.0, x.takes p b.0 bytes b.1, k.0);
     again = λ at p v s.
         judged-kept (before p.rest) at (read p >>= λ w. judged (whole w) at (Ok w)) s.0
         ∙ ap (λ (r : Result V Fault). r >>= λ w. judged (whole w) at (Ok w)) (x.again p v s.1) ∙ judged-kept (whole v) at (Ok v) s.2;

@@ -7,7 +7,7 @@ use Rattle.std.proofs.lemmas.List.{length-take-le, take-append-drop}
 use Rattle.std.proofs.Math.Seq.{take-suc}
 use Rattle.std.proofs.Math.Nat.{pow-suc, pow-le-pow_right, mul-le-mul_right}
 use Rattle.der_lite.specs.Der.{IsBytes, number, twos_complement, is_integer, IntSpells}
-use Rattle.der_lite.specs.Grammar.{Keeps}
+use Rattle.der_lite.specs.Grammar.{KeepsRules}
 use Rattle.der_lite.specs.Decoding.{read_primitive}
 use Rattle.der_lite.specs.Values.{is_negative, between_rules, integer_between}
 pub use Rattle.der_lite.proofs.Lengths.{number_bound}
@@ -23,7 +23,7 @@ pub pos_is : (m n : ℕ) → pos m ≡ pos n → m ≡ n
 pos_is m n e = cc
 
 module _ (least most fault : ℕ) where
-  pub between_kept : (content : List ℕ) → Keeps (between_rules least most fault content) → (is_integer content ≡ true) × (is_negative content ≡ false) × (least ≤ number content) × (number content ≤ most)
+  pub between_kept : (content : List ℕ) → KeepsRules (between_rules least most fault content) → (is_integer content ≡ true) × (is_negative content ≡ false) × (least ≤ number content) × (number content ≤ most)
   between_kept content h =
       let out : Bool = is_negative content || ltb (number content) least || ltb most (number content) in
       let k = kept_first 4 (not (is_integer content)) ((fault, out) ∷ []) h in

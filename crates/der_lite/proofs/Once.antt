@@ -1,7 +1,7 @@
 -- No value has two spellings: one lemma for each combinator.
 use Rattle.std.proofs.Common.{◌≡◌, ℕ, zero, suc, Bool, List, [], ◌∷◌, ◌++◌, length, Some, None, sym, ap, subst, ◌∙◌, arith}
 use Rattle.der_lite.specs.Der.{IsBytes, tlv, length_bytes}
-use Rattle.der_lite.specs.Grammar.{Element, Members, Content, Keeps, element, primitive, constructed, last, member, optional, EachSpells, each}
+use Rattle.der_lite.specs.Grammar.{Element, Members, Content, KeepsRules, element, primitive, constructed, last, member, optional, EachSpells, each}
 
 -- no value has two spellings
 abbrev pub Once : {V : Type 0} → (V → List ℕ → Type 0) → Type 0
@@ -31,7 +31,7 @@ once_element tag head c once v a b ba bb s t =
 
 -- a content that spells a value by itself, if it has one spelling
 pub once_primitive : {V : Type 0} (Spells : V → List ℕ → Type 0) (rules : List ℕ → List (ℕ × Bool))
-    → ((v : V) (a b : List ℕ) → IsBytes a → IsBytes b → Keeps (rules a) → Keeps (rules b) → Spells v a → Spells v b → a ≡ b) → Once (primitive Spells rules).Spells
+    → ((v : V) (a b : List ℕ) → IsBytes a → IsBytes b → KeepsRules (rules a) → KeepsRules (rules b) → Spells v a → Spells v b → a ≡ b) → Once (primitive Spells rules).Spells
 once_primitive Spells rules once v a b ba bb s t = once v a b ba bb s.1 t.1 s.0 t.0
 
 -- a content of members, if they have one spelling

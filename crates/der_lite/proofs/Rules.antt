@@ -1,16 +1,16 @@
 -- Rules that are judged in order.
 use Rattle.std.proofs.Common.{◌≡◌, ℕ, Bool, true, false, List, [], ◌∷◌, Some, None, Result, Ok, Err, refl, sym, ap, ◌∙◌, ◌⊎◌, inl, inr}
 use Rattle.der_lite.specs.Place.{Fault, first_of}
-use Rattle.der_lite.specs.Grammar.{Breaks, Keeps}
-use Rattle.der_lite.specs.Reading.{◌>>=◌, judged}
+use Rattle.der_lite.specs.Grammar.{Breaks, KeepsRules}
+use Rattle.der_lite.specs.DerReading.{◌>>=◌, judged}
 
 -- the first rule is kept, and the others
-pub kept_first : (number : ℕ) (a : Bool) (rules : List (ℕ × Bool)) → Keeps ((number, a) ∷ rules) → (a ≡ false) × Keeps rules
+pub kept_first : (number : ℕ) (a : Bool) (rules : List (ℕ × Bool)) → KeepsRules ((number, a) ∷ rules) → (a ≡ false) × KeepsRules rules
 kept_first number true rules h = absurd cc
 kept_first number false rules h = (refl, h)
 
 -- a rule that is kept, before others
-pub kept_on : (number : ℕ) (a : Bool) (rules : List (ℕ × Bool)) → a ≡ false → Keeps rules → Keeps ((number, a) ∷ rules)
+pub kept_on : (number : ℕ) (a : Bool) (rules : List (ℕ × Bool)) → a ≡ false → KeepsRules rules → KeepsRules ((number, a) ∷ rules)
 kept_on number true rules h later = absurd cc
 kept_on number false rules h later = later
 
@@ -27,7 +27,7 @@ judged-broken ((number, true) ∷ rules) at n r broken = let same : number ≡ n
 judged-broken ((number, false) ∷ rules) at n r broken = judged-broken rules at n r broken
 
 -- what was judged, by what it gave
-pub judged_ok : {A : Type 0} (rules : List (ℕ × Bool)) (at : ℕ) (r : Result A Fault) (x : A) → judged rules at r ≡ Ok x → Keeps rules × (r ≡ Ok x)
+pub judged_ok : {A : Type 0} (rules : List (ℕ × Bool)) (at : ℕ) (r : Result A Fault) (x : A) → judged rules at r ≡ Ok x → KeepsRules rules × (r ≡ Ok x)
 judged_ok [] at r x e = (refl, e)
 judged_ok ((number, true) ∷ rules) at r x e = absurd cc
 judged_ok ((number, false) ∷ rules) at r x e = judged_ok rules at r x e
@@ -45,7 +45,7 @@ pub err_is : {A : Type 0} (f g : Fault) → err {A = A} f ≡ err g → f ≡ g
 err_is f g e = cc
 
 -- a fault that judging gave is that of a rule, or else of what follows
-pub judged_err : {A : Type 0} (rules : List (ℕ × Bool)) (at : ℕ) (r : Result A Fault) (f : Fault) → judged rules at r ≡ Err f → Breaks rules at f ⊎ (Keeps rules × (r ≡ Err f))
+pub judged_err : {A : Type 0} (rules : List (ℕ × Bool)) (at : ℕ) (r : Result A Fault) (f : Fault) → judged rules at r ≡ Err f → Breaks rules at f ⊎ (KeepsRules rules × (r ≡ Err f))
 judged_err [] at r f e = inr (refl, e)
 judged_err {A} ((number, true) ∷ rules) at r f e =
     let same : record { number = number; offset = at } ≡ f = err_is {A = A} (record { number = number; offset = at }) f e in

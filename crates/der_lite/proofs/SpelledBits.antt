@@ -6,7 +6,7 @@ use Rattle.std.proofs.lemmas.Bool.Decides.{nat_tests}
 use Rattle.std.proofs.lemmas.List.{append-nil, length-replicate}
 use Rattle.der_lite.specs.Der.{BitsSpell, bits_of, bits_of_byte, is_bit_string}
 use Rattle.der_lite.specs.Values.{bits_value}
-use Rattle.der_lite.specs.Laws.{SpellsBits}
+use Rattle.der_lite.specs.DerLaws.{SpellsBits}
 use Rattle.der_lite.proofs.BitStrings.{bits_spelled, length-bits_of, once_bits, taken}
 
 bit_zero : (n : ℕ) → eqb (n % 2) 1 ≡ false → n % 2 ≡ 0

@@ -22,7 +22,7 @@ civil_moment dt = record {
 }
 
 -- The year is one of a moment's, and the second is whole. All else that a real moment needs, each date-time has.
-pub record IsWhole (dt : DateTime) : Type 0 where
+pub record HasWholeSecond (dt : DateTime) : Type 0 where
   pub year : pos 1970 ≤ℤ dt.date.year
   pub whole : dt.time.subsec_nanosecond ≡ 0
 
@@ -134,7 +134,7 @@ whole_year (pos n) low h = (refl, (omega (arith, signed_arith, low), omega (arit
 whole_year (negsuc n) low h = absurd (omega (arith, signed_arith, low))
 
 -- the six numbers are a real moment
-pub whole_real : (dt : DateTime) → IsWhole dt → IsReal (civil_moment dt)
+pub whole_real : (dt : DateTime) → HasWholeSecond dt → IsReal (civil_moment dt)
 whole_real dt w = record {
   year = (whole_year dt.date.year w.year dt.date.year_in).1;
   month = dt.date.month_in;
@@ -145,7 +145,7 @@ whole_real dt w = record {
 }
 
 -- and the test says so
-pub whole_moment : (dt : DateTime) → IsWhole dt → is_moment (civil_moment dt) ≡ true
+pub whole_moment : (dt : DateTime) → HasWholeSecond dt → is_moment (civil_moment dt) ≡ true
 whole_moment dt w = real_is (civil_moment dt) (whole_real dt w)
 
 -- date-times of the same numbers are one
@@ -173,12 +173,12 @@ same_civil a b y m d h n s f = λ i. record {
 }
 
 -- the date-time of the six numbers of one is that one
-again : (dt : DateTime) → IsWhole dt → (real : Bool) (e : is_moment (civil_moment dt) ≡ real) → by_test (civil_moment dt) real e ≡ dt
+again : (dt : DateTime) → HasWholeSecond dt → (real : Bool) (e : is_moment (civil_moment dt) ≡ real) → by_test (civil_moment dt) real e ≡ dt
 unfolding by_test of_real
 again dt w true e = same_civil (of_real (civil_moment dt) (real_from (civil_moment dt) e)) dt (whole_year dt.date.year w.year dt.date.year_in).0 refl refl refl refl refl (sym w.whole)
 again dt w false e = let no : true ≡ false = sym (whole_moment dt w) ∙ e in absurd cc
 
 -- so it is found again
-pub civil_again : (dt : DateTime) → IsWhole dt → civil_of (civil_moment dt) ≡ dt
+pub civil_again : (dt : DateTime) → HasWholeSecond dt → civil_of (civil_moment dt) ≡ dt
 unfolding civil_of
 civil_again dt w = again dt w (is_moment (civil_moment dt)) refl

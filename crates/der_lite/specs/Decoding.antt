@@ -1,7 +1,7 @@
 -- Reading by a grammar: what a place gives, a value or the first fault.
 use Rattle.std.specs.Prelude.{ℕ, zero, suc, Bool, ◌==◌, if◌then◌else◌, List, [], ◌∷◌, ◌++◌, length, Option, Some, None, Result, Ok, Err}
 use Rattle.der_lite.specs.Place.{Place, Fault}
-use Rattle.der_lite.specs.Reading.{◌>>=◌, judged, content_place, next_place}
+use Rattle.der_lite.specs.DerReading.{◌>>=◌, judged, content_place, next_place}
 
 -- reading one element: the value and the place behind it
 abbrev pub Read : Type 0 → Type 0

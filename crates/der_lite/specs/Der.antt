@@ -119,8 +119,8 @@ abbrev pub is_length : List ℕ → Bool
 is_length part = bytes_eq part (length_bytes (told_length part))
 
 -- the length is rightly spelled
-unfoldable pub has_length : List ℕ → Bool
-has_length bytes = is_length (length_part bytes)
+unfoldable pub has_der_length : List ℕ → Bool
+has_der_length bytes = is_length (length_part bytes)
 
 -- where the length ends, and where the content does
 unfoldable pub length_end : List ℕ → ℕ
@@ -132,11 +132,11 @@ content_end bytes = length_end bytes + told_length (length_part bytes)
 
 -- The tag and the length are not all there; or they are, the length is rightly spelled, and the content is not all there.
 unfoldable pub is_truncated : List ℕ → Bool
-is_truncated bytes = nat_lt (length bytes) (length_end bytes) || (has_length bytes && nat_lt (length bytes) (content_end bytes))
+is_truncated bytes = nat_lt (length bytes) (length_end bytes) || (has_der_length bytes && nat_lt (length bytes) (content_end bytes))
 
 -- Truncated, WrongTag, BadLength, in this order
 unfoldable pub head_rules : ℕ → List ℕ → List (ℕ × Bool)
-head_rules tag bytes = (1, is_truncated bytes) ∷ (2, not (tag_of bytes == tag)) ∷ (3, not (has_length bytes)) ∷ []
+head_rules tag bytes = (1, is_truncated bytes) ∷ (2, not (tag_of bytes == tag)) ∷ (3, not (has_der_length bytes)) ∷ []
 
 -- a count of unused bits, 0 to 7, and then bytes, whose last unused bits are zero. Without bytes the count is 0.
 abbrev pub is_bit_string : List ℕ → Bool

@@ -3,7 +3,7 @@ use Rattle.std.specs.Prelude.{ℕ, Bool, ◌==◌, if◌then◌else◌, List, le
 use Rattle.der_lite.specs.Der.{SEQUENCE}
 use Rattle.der_lite.specs.Place.{Place, Fault}
 use Rattle.der_lite.specs.Grammar.{Members}
-use Rattle.der_lite.specs.Reading.{◌>>=◌, judged, element_at, end_at}
+use Rattle.der_lite.specs.DerReading.{◌>>=◌, judged, element_at, end_at}
 use Rattle.der_lite.specs.Decoding.{Read, ReadAll}
 
 -- the content that was read of the element at an offset, and then rules over it

@@ -24,11 +24,11 @@ pub record Breaks (rules : List (ℕ × Bool)) (offset : ℕ) (fault : Fault) : 
   pub here : fault.offset ≡ offset
 
 -- none of the rules fails
-abbrev pub Keeps : List (ℕ × Bool) → Type 0
-Keeps rules = first_of rules ≡ None
+abbrev pub KeepsRules : List (ℕ × Bool) → Type 0
+KeepsRules rules = first_of rules ≡ None
 
 -- the bytes are split in two
-pub record Splits (bytes front rest : List ℕ) : Type 0 where
+pub record SplitsBytes (bytes front rest : List ℕ) : Type 0 where
   pub parts : bytes ≡ front ++ rest
 
 -- Bytes that spell this value stand at the front of place p, and next is the place behind them.
@@ -48,13 +48,13 @@ element {V} tag head content = record {
   Spells = λ v bytes. (inner : List ℕ) × Tlv tag inner bytes × content.Spells v inner;
   FaultAt = λ p fault.
       Breaks (head p.rest) p.at fault
-      ⊎ ((inner : List ℕ) × (next : Place) × Keeps (head p.rest) × Stands (Tlv tag) p inner next × content.FaultAt p.at (inside p.at inner) fault);
+      ⊎ ((inner : List ℕ) × (next : Place) × KeepsRules (head p.rest) × Stands (Tlv tag) p inner next × content.FaultAt p.at (inside p.at inner) fault);
 }
 
 -- a content that spells a value by itself
 abbrev pub primitive : {V : Type 0} → (V → List ℕ → Type 0) → (List ℕ → List (ℕ × Bool)) → Content V
 primitive {V} Spells rules = record {
-  Spells = λ v inner. Spells v inner × Keeps (rules inner);
+  Spells = λ v inner. Spells v inner × KeepsRules (rules inner);
   FaultAt = λ at p fault. Breaks (rules p.rest) at fault;
 }
 
@@ -66,11 +66,11 @@ plain tag rules = element tag (head_rules tag) (primitive (λ content inner. con
 -- them is broken.
 abbrev pub constructed : {V : Type 0} → (List ℕ → List (ℕ × Bool)) → Members V → (V → List (ℕ × Bool)) → Content V
 constructed {V} before members whole = record {
-  Spells = λ v inner. Keeps (before inner) × members.Spells v inner × Keeps (whole v);
+  Spells = λ v inner. KeepsRules (before inner) × members.Spells v inner × KeepsRules (whole v);
   FaultAt = λ at p fault.
       Breaks (before p.rest) at fault
-      ⊎ (Keeps (before p.rest) × members.FaultAt p fault)
-      ⊎ ((v : V) × Keeps (before p.rest) × members.Spells v p.rest × Breaks (whole v) at fault);
+      ⊎ (KeepsRules (before p.rest) × members.FaultAt p fault)
+      ⊎ ((v : V) × KeepsRules (before p.rest) × members.Spells v p.rest × Breaks (whole v) at fault);
 }
 
 -- bytes remain where the enclosing element should end
@@ -94,7 +94,7 @@ last {A} e = record {
 -- a member, and others that may depend on it
 abbrev pub member : {A B : Type 0} → Element A → (A → Members B) → Members (A × B)
 member {A} {B} e others = record {
-  Spells = λ v bytes. (front : List ℕ) × (rest : List ℕ) × Splits bytes front rest × e.Spells v.0 front × (others v.0).Spells v.1 rest;
+  Spells = λ v bytes. (front : List ℕ) × (rest : List ℕ) × SplitsBytes bytes front rest × e.Spells v.0 front × (others v.0).Spells v.1 rest;
   FaultAt = FaultIn e (λ a. (others a).FaultAt);
 }
 
@@ -113,7 +113,7 @@ optional {A} e = record {
 -- each value is spelled behind those before it
 abbrev pub EachSpells : {A : Type 0} → (List A → Element A) → List A → List A → List ℕ → Type 0
 EachSpells e before [] bytes = bytes ≡ []
-EachSpells e before (a ∷ others) bytes = (front : List ℕ) × (rest : List ℕ) × Splits bytes front rest × (e before).Spells a front × EachSpells e (before ++ a ∷ []) others rest
+EachSpells e before (a ∷ others) bytes = (front : List ℕ) × (rest : List ℕ) × SplitsBytes bytes front rest × (e before).Spells a front × EachSpells e (before ++ a ∷ []) others rest
 
 -- Members to the end, each of which may depend on those before it. Their fault: some stand here, bytes remain, and the next is faulty.
 abbrev pub each : {A : Type 0} → (List A → Element A) → Members (List A)

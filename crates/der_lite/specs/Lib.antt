@@ -1,11 +1,11 @@
 pub mod Place
 pub mod Der
 pub mod Grammar
-pub mod Reading
+pub mod DerReading
 pub mod Decoding
 pub mod Cursors
 pub mod Times
-pub mod Laws
+pub mod DerLaws
 pub mod Writing
 pub mod Values
 pub mod Fields

@@ -1,38 +1,38 @@
 -- Moments, worked out.
 use Rattle.std.specs.Prelude.{◌≡◌, ℕ, ◌∷◌, [], List, ◌++◌, true, false, codes, Some, None, Ok, Err, refl}
-use Rattle.der_lite.specs.Moments.{told, is_moment, moment_before, moment_digits, moment_text, moment_of, is_time, moment_in}
+use Rattle.der_lite.specs.Moments.{told_moment, is_moment, moment_before, moment_digits, moment_text, moment_of, is_time, moment_in}
 use Rattle.der_lite.specs.Place.{Place, place_of}
-use Rattle.der_lite.specs.Der.{head_rules, has_length, length_bytes, length_end, content_end, is_truncated}
-use Rattle.der_lite.specs.Reading.{content_place, next_place, element_at, content_at, time_at}
+use Rattle.der_lite.specs.Der.{head_rules, has_der_length, length_bytes, length_end, content_end, is_truncated}
+use Rattle.der_lite.specs.DerReading.{content_place, next_place, element_at, content_at, time_at}
 
 -- the last second of all
-written : moment_text (told 9999 12 31 23 59 59) ≡ codes "99991231235959Z"
+written : moment_text (told_moment 9999 12 31 23 59 59) ≡ codes "99991231235959Z"
 unfolding moment_text moment_digits
 written = refl
 
 -- the first one, which has zeros in each number
-written_first : moment_text (told 1970 1 1 0 0 0) ≡ codes "19700101000000Z"
+written_first : moment_text (told_moment 1970 1 1 0 0 0) ≡ codes "19700101000000Z"
 unfolding moment_text moment_digits
 written_first = refl
 
-read_first : moment_in (codes "19700101000000Z") ≡ Some (told 1970 1 1 0 0 0)
+read_first : moment_in (codes "19700101000000Z") ≡ Some (told_moment 1970 1 1 0 0 0)
 unfolding moment_in is_time moment_of moment_text moment_digits is_moment
 read_first = refl
 
-read_last : moment_in (codes "99991231235959Z") ≡ Some (told 9999 12 31 23 59 59)
+read_last : moment_in (codes "99991231235959Z") ≡ Some (told_moment 9999 12 31 23 59 59)
 unfolding moment_in is_time moment_of moment_text moment_digits is_moment
 read_last = refl
 
 -- 29 February in each fourth year, but of the centuries only in each fourth
-february_1972 : moment_in (codes "19720229000000Z") ≡ Some (told 1972 2 29 0 0 0)
+february_1972 : moment_in (codes "19720229000000Z") ≡ Some (told_moment 1972 2 29 0 0 0)
 unfolding moment_in is_time moment_of moment_text moment_digits is_moment
 february_1972 = refl
 
-february_2000 : moment_in (codes "20000229235959Z") ≡ Some (told 2000 2 29 23 59 59)
+february_2000 : moment_in (codes "20000229235959Z") ≡ Some (told_moment 2000 2 29 23 59 59)
 unfolding moment_in is_time moment_of moment_text moment_digits is_moment
 february_2000 = refl
 
-february_2400 : moment_in (codes "24000229000000Z") ≡ Some (told 2400 2 29 0 0 0)
+february_2400 : moment_in (codes "24000229000000Z") ≡ Some (told_moment 2400 2 29 0 0 0)
 unfolding moment_in is_time moment_of moment_text moment_digits is_moment
 february_2400 = refl
 
@@ -107,16 +107,16 @@ unfolding moment_in is_time moment_of moment_text moment_digits is_moment
 colon = refl
 
 -- one second before
-before_new_year : moment_before (told 2025 12 31 23 59 59) (told 2026 1 1 0 0 0) ≡ true
+before_new_year : moment_before (told_moment 2025 12 31 23 59 59) (told_moment 2026 1 1 0 0 0) ≡ true
 unfolding moment_before
 before_new_year = refl
 
-not_before_itself : moment_before (told 2026 1 1 0 0 0) (told 2026 1 1 0 0 0) ≡ false
+not_before_itself : moment_before (told_moment 2026 1 1 0 0 0) (told_moment 2026 1 1 0 0 0) ≡ false
 unfolding moment_before
 not_before_itself = refl
 
 -- the earlier number decides, not the sum of them
-year_decides : moment_before (told 2026 1 1 0 0 0) (told 2025 12 31 23 59 59) ≡ false
+year_decides : moment_before (told_moment 2026 1 1 0 0 0) (told_moment 2025 12 31 23 59 59) ≡ false
 unfolding moment_before
 year_decides = refl
 
@@ -126,15 +126,15 @@ year_decides = refl
 place : ℕ → List ℕ → Place
 place tag text = place_of 7 (tag ∷ 15 ∷ text ++ 5 ∷ 0 ∷ [])
 
-read_noon : time_at (place 24 (codes "20250101120000Z")) ≡ Ok (told 2025 1 1 12 0 0, place_of 24 (5 ∷ 0 ∷ []))
-unfolding place time_at content_at element_at content_place next_place head_rules is_truncated has_length length_bytes length_end content_end moment_in is_time moment_of moment_text moment_digits is_moment
+read_noon : time_at (place 24 (codes "20250101120000Z")) ≡ Ok (told_moment 2025 1 1 12 0 0, place_of 24 (5 ∷ 0 ∷ []))
+unfolding place time_at content_at element_at content_place next_place head_rules is_truncated has_der_length length_bytes length_end content_end moment_in is_time moment_of moment_text moment_digits is_moment
 read_noon = refl
 
 -- a UTCTime has another tag
 utc_time : time_at (place 23 (codes "20250101120000Z")) ≡ Err (record { number = 2; offset = 7 })
-unfolding place time_at content_at element_at content_place next_place head_rules is_truncated has_length length_bytes length_end content_end
+unfolding place time_at content_at element_at content_place next_place head_rules is_truncated has_der_length length_bytes length_end content_end
 utc_time = refl
 
 common_february : time_at (place 24 (codes "20250229120000Z")) ≡ Err (record { number = 4; offset = 7 })
-unfolding place time_at content_at element_at content_place next_place head_rules is_truncated has_length length_bytes length_end content_end is_time moment_of moment_text moment_digits is_moment
+unfolding place time_at content_at element_at content_place next_place head_rules is_truncated has_der_length length_bytes length_end content_end is_time moment_of moment_text moment_digits is_moment
 common_february = refl

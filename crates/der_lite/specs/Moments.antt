@@ -14,8 +14,8 @@ pub record CivilMoment : Type 0 where
   pub second : ℕ
 
 -- six numbers, as one value
-abbrev pub told : ℕ → ℕ → ℕ → ℕ → ℕ → ℕ → CivilMoment
-told year month day hour minute second = record {
+abbrev pub told_moment : ℕ → ℕ → ℕ → ℕ → ℕ → ℕ → CivilMoment
+told_moment year month day hour minute second = record {
   year = year;
   month = month;
   day = day;

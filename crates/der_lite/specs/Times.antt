@@ -3,7 +3,7 @@ use Rattle.std.specs.Prelude.{ℕ, Bool, not, List, ◌∷◌, Ok}
 use Rattle.der_lite.specs.Der.{GENERALIZED_TIME, head_rules}
 use Rattle.der_lite.specs.Moments.{CivilMoment, moment_of, is_time, TimeSpells}
 use Rattle.der_lite.specs.Grammar.{Element, element, primitive}
-use Rattle.der_lite.specs.Reading.{◌>>=◌, judged, time_at}
+use Rattle.der_lite.specs.DerReading.{◌>>=◌, judged, time_at}
 use Rattle.der_lite.specs.Decoding.{Read}
 
 -- the content is the text of a moment, and this keeps the rules

@@ -3,8 +3,8 @@
 ghost use Rattle.std.specs.Prelude.{IfOk, ◌≡◌, IsTrue, ◌↔◌, slice_get, []};
 ghost use Rattle.der_lite.specs.Der.{SEQUENCE, is_integer as is_integer_of, is_bit_string as is_bit_string_of, is_ia5};
 ghost use Rattle.der_lite.specs.Moments.{is_moment};
-ghost use Rattle.der_lite.specs.Reading.{element_at, integer_at, bits_at, octets_at, oid_at, ia5_at, time_at, end_at};
-ghost use Rattle.der_lite.specs.Cursors.{Gives, Finds, Ends};
+ghost use Rattle.der_lite.specs.DerReading.{element_at, integer_at, bits_at, octets_at, oid_at, ia5_at, time_at, end_at};
+ghost use Rattle.der_lite.specs.Cursors.{GivesElement, FindsElement, EndsElement};
 ghost use Rattle.der_lite.specs.Place.{place_of};
 
 use crate::content::{ia5_text, is_bit_string, is_integer};
@@ -48,7 +48,7 @@ impl<'a> Cursor<'a> {
 
     /// Cursors over the content of the element of this tag that stands here, and behind it.
     fn element(&self, tag: u8) -> Result<(Cursor<'a>, Cursor<'a>), DerFault>
-        ensures { Finds result (element_at tag self.now) }
+        ensures { FindsElement result (element_at tag self.now) }
     {
         let at = self.at;
         let rest = self.rest;
@@ -81,7 +81,7 @@ impl<'a> Cursor<'a> {
 
     /// A cursor over the members of the SEQUENCE (tag 48) that stands here (X.690 section 8.9).
     pub fn sequence(&mut self) -> Result<Cursor<'a>, DerFault>
-        ensures { Gives (λ c. c) result self.old self.new (element_at SEQUENCE self.old) }
+        ensures { GivesElement (λ c. c) result self.old self.new (element_at SEQUENCE self.old) }
     {
         let (content, behind) = self.element(tag::SEQUENCE)?;
         *self = behind;
@@ -90,9 +90,9 @@ impl<'a> Cursor<'a> {
 
     /// The content of the INTEGER (tag 2) that stands here, in two's complement, the highest byte
     /// first (X.690 section 8.3). `BadContent` if it is empty or not in the fewest bytes.
-    #[tactic(auto, unfolding(crate::specs::Reading::content_at))]
+    #[tactic(auto, unfolding(crate::specs::DerReading::content_at))]
     pub fn integer(&mut self) -> Result<&'a [u8], DerFault>
-        ensures exact { Gives (λ content. content.now) result self.old self.new (integer_at self.old) }
+        ensures exact { GivesElement (λ content. content.now) result self.old self.new (integer_at self.old) }
         ensures fewest { IfOk result (λ content. IsTrue (is_integer_of content.now)) }
     {
         let (content, behind) = self.element(tag::INTEGER)?;
@@ -106,9 +106,9 @@ impl<'a> Cursor<'a> {
     /// The bits of the BIT STRING (tag 3) that stands here (X.690 sections 8.6 and 11.2). `BadContent` if
     /// the count of unused bits is missing, above 7, or not 0 where no bytes follow, or if an
     /// unused bit is set.
-    #[tactic(auto, unfolding(crate::specs::Reading::content_at))]
+    #[tactic(auto, unfolding(crate::specs::DerReading::content_at))]
     pub fn bits(&mut self) -> Result<Bits<'a>, DerFault>
-        ensures exact { Gives bits_content result self.old self.new (bits_at self.old) }
+        ensures exact { GivesElement bits_content result self.old self.new (bits_at self.old) }
         ensures valid { IfOk result (λ bits. IsTrue (is_bit_string_of (bits_content bits))) }
     {
         let (content, behind) = self.element(tag::BIT_STRING)?;
@@ -125,9 +125,9 @@ impl<'a> Cursor<'a> {
     }
 
     /// The content of the OCTET STRING (tag 4) that stands here (X.690 section 8.7).
-    #[tactic(auto, unfolding(crate::specs::Reading::content_at))]
+    #[tactic(auto, unfolding(crate::specs::DerReading::content_at))]
     pub fn octets(&mut self) -> Result<&'a [u8], DerFault>
-        ensures { Gives (λ content. content.now) result self.old self.new (octets_at self.old) }
+        ensures { GivesElement (λ content. content.now) result self.old self.new (octets_at self.old) }
     {
         let (content, behind) = self.element(tag::OCTET_STRING)?;
         *self = behind;
@@ -136,9 +136,9 @@ impl<'a> Cursor<'a> {
 
     /// The content of the OBJECT IDENTIFIER (tag 6) that stands here, which is not judged: it is
     /// only there to be compared (X.690 section 8.19).
-    #[tactic(auto, unfolding(crate::specs::Reading::content_at))]
+    #[tactic(auto, unfolding(crate::specs::DerReading::content_at))]
     pub fn oid(&mut self) -> Result<&'a [u8], DerFault>
-        ensures { Gives (λ content. content.now) result self.old self.new (oid_at self.old) }
+        ensures { GivesElement (λ content. content.now) result self.old self.new (oid_at self.old) }
     {
         let (content, behind) = self.element(tag::OBJECT_IDENTIFIER)?;
         *self = behind;
@@ -147,9 +147,9 @@ impl<'a> Cursor<'a> {
 
     /// The text of the IA5String (tag 22) that stands here (X.690 section 8.23). `BadContent` if a byte is
     /// 128 or above.
-    #[tactic(auto, unfolding(crate::specs::Reading::content_at))]
+    #[tactic(auto, unfolding(crate::specs::DerReading::content_at))]
     pub fn ia5(&mut self) -> Result<&'a str, DerFault>
-        ensures exact { Gives (λ text. text.now) result self.old self.new (ia5_at self.old) }
+        ensures exact { GivesElement (λ text. text.now) result self.old self.new (ia5_at self.old) }
         ensures ascii { IfOk result (λ text. IsTrue (is_ia5 text.now)) }
     {
         let (content, behind) = self.element(tag::IA5_STRING)?;
@@ -165,9 +165,9 @@ impl<'a> Cursor<'a> {
     /// The moment of the GeneralizedTime (tag 24) that stands here, `YYYYMMDDHHMMSSZ` (X.690 sections 8.25
     /// and 11.7; RFC 5280 section 4.1.2.5.2). `BadContent` if the content has another form, or its numbers
     /// are no real date and time of the years 1970 to 9999.
-    #[tactic(auto, unfolding(crate::specs::Reading::time_at, crate::specs::Reading::content_at, crate::specs::Moments::moment_in))]
+    #[tactic(auto, unfolding(crate::specs::DerReading::time_at, crate::specs::DerReading::content_at, crate::specs::Moments::moment_in))]
     pub fn time(&mut self) -> Result<Moment, DerFault>
-        ensures exact { Gives (λ moment. moment) result self.old self.new (time_at self.old) }
+        ensures exact { GivesElement (λ moment. moment) result self.old self.new (time_at self.old) }
         ensures real { IfOk result (λ moment. IsTrue (is_moment moment)) }
     {
         let (content, behind) = self.element(tag::GENERALIZED_TIME)?;
@@ -202,9 +202,9 @@ impl<'a> Cursor<'a> {
 
     /// Lets go of the cursor at the end of the enclosing element. `Trailing`, at the first byte
     /// that remains, if bytes do.
-    #[tactic(auto, unfolding(crate::specs::Reading::end_at))]
+    #[tactic(auto, unfolding(crate::specs::DerReading::end_at))]
     pub fn finish(self) -> Result<(), DerFault>
-        ensures { Ends result (end_at self.entry) }
+        ensures { EndsElement result (end_at self.entry) }
     {
         if !self.rest.is_empty() {
             return Err(DerFault {

@@ -1,7 +1,7 @@
 //! What can be wrong with an element.
 
 ghost use Rattle.std.specs.Prelude.{◌≡◌};
-ghost use Rattle.der_lite.specs.Cursors.{kind_number};
+ghost use Rattle.der_lite.specs.Cursors.{der_kind_number};
 
 /// What is wrong with an element. Each kind has a fixed number.
 #[derive(Clone, Copy, Debug, PartialEq, Eq)]
@@ -22,7 +22,7 @@ pub enum DerFaultKind {
 impl DerFaultKind {
     /// The number of the kind, 1 to 5.
     pub fn number(self) -> u8
-        ensures { result ≡ kind_number self }
+        ensures { result ≡ der_kind_number self }
     {
         match self {
             DerFaultKind::Truncated => 1,
@@ -47,7 +47,7 @@ pub struct DerFault {
 impl DerFault {
     /// The number of the fault's kind, 1 to 5.
     pub fn number(&self) -> u8
-        ensures { result ≡ kind_number self.now.kind }
+        ensures { result ≡ der_kind_number self.now.kind }
     {
         self.kind.number()
     }

@@ -13,7 +13,7 @@ pub(crate) struct Head {
 }
 
 /// The head of the element of this tag with which the bytes begin, or what is wrong with it.
-#[tactic(auto, unfolding(crate::specs::Der::head_rules, crate::specs::Der::is_truncated, crate::specs::Der::has_length, crate::specs::Der::length_end, crate::specs::Der::content_end))]
+#[tactic(auto, unfolding(crate::specs::Der::head_rules, crate::specs::Der::is_truncated, crate::specs::Der::has_der_length, crate::specs::Der::length_end, crate::specs::Der::content_end))]
 pub(crate) fn read_head(tag: u8, bytes: &[u8]) -> Result<Head, DerFaultKind>
     ensures { Split result tag bytes.now }
 {

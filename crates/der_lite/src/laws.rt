@@ -1,6 +1,6 @@
 //! What holds of the definitions of elements. Nothing here runs.
 
-ghost use Rattle.der_lite.specs.Laws.{OneFault, OneFaultOfTimes, OneIsBefore, OneSpelling, OneSpellingOfTimes, OneText, OpensExactly, ReadsExactly, ReadsTimesExactly, SpellsBits};
+ghost use Rattle.der_lite.specs.DerLaws.{OneDerFault, OneFaultOfTimes, OneIsBefore, OneDerSpelling, OneSpellingOfTimes, OneText, OpensExactly, ReadsExactly, ReadsTimesExactly, SpellsBits};
 
 /// A read gives a content exactly where the element of that content stands, and a fault exactly
 /// where that fault is the first.
@@ -16,12 +16,12 @@ pub fn opens_exactly()
 
 /// At most one fault stands at a place, and one stands exactly where no element does.
 pub fn one_fault()
-    ensures { OneFault }
+    ensures { OneDerFault }
 {}
 
 /// No content has two spellings, and no spelling begins another.
 pub fn one_spelling()
-    ensures { OneSpelling }
+    ensures { OneDerSpelling }
 {}
 
 /// A content keeps the rules of a bit string exactly where it spells bits. It spells one list of bits, and no list has two contents.

@@ -8,7 +8,7 @@ ghost use Rattle.std.specs.Cmp.{partial_order_from_own_ties};
 ghost use Rattle.std.specs.Cmp.Rules.{comparing};
 ghost use Rattle.std.specs.Ordering.{on, nat_cmp, as_partial_cmp};
 ghost use Rattle.std.specs.Cmp.Lexicographic.{slice_cmp, pointwise};
-ghost use Rattle.der_lite.specs.Moments.{is_moment, decimals, decimal_number, moment_text, if_real, moment_in, moment_cmp, numbers_of, told, IsMomentOf};
+ghost use Rattle.der_lite.specs.Moments.{is_moment, decimals, decimal_number, moment_text, if_real, moment_in, moment_cmp, numbers_of, told_moment, IsMomentOf};
 
 use jiff::civil::DateTime;
 use std::cmp::Ordering;
@@ -32,13 +32,13 @@ pub struct Moment {
 
 impl Model for Moment {
     ghost use Rattle.der_lite.specs.Moments.{CivilMoment};
-    ghost use Rattle.der_lite.specs.Civils.{civil_moment, civil_of, civil_again, IsWhole};
+    ghost use Rattle.der_lite.specs.Civils.{civil_moment, civil_of, civil_again, HasWholeSecond};
 
     ghost Value = { CivilMoment };
 
     ghost view = { λ m. civil_moment m.civil };
 
-    ghost invariant = { λ m. IsWhole m.civil };
+    ghost invariant = { λ m. HasWholeSecond m.civil };
 
     ghost inverse = { λ m. record { civil = civil_of m } };
 
@@ -82,7 +82,7 @@ impl Moment {
         requires hour { hour < 100 }
         requires minute { minute < 100 }
         requires second { second < 100 }
-        ensures { result ≡ if_real (told year month day hour minute second) }
+        ensures { result ≡ if_real (told_moment year month day hour minute second) }
     {
         if year < FIRST_YEAR {
             return None;

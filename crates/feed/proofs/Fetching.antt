@@ -12,12 +12,14 @@ use Rattle.rtr_pdu.specs.declared.unit.Unit.TheVariants.{Prefix}
 use Rattle.rtr_pdu.specs.declared.version.Version.TheVariants.{V1}
 use Rattle.rtr_ends.specs.Answer.{sent_all}
 use Rattle.rtr_ends.specs.Cache.{finds_memory}
-use Rattle.rtr_ends.specs.Consumed.{IsCall, came, units_in}
-use Rattle.rtr_ends.specs.FetchStream.{Fetches, IsFetchCall, since}
-use Rattle.rtr_ends.specs.Links.{name_of}
+use Rattle.rtr_ends.specs.Consumed.{IsRouterCall, came, units_read_in}
+use Rattle.rtr_ends.specs.FetchStream.{Fetches, IsFetchCall, calls_since}
+use Rattle.rtr_ends.specs.RouterLink.{name_of}
 use Rattle.rtr_ends.specs.Router as model
-use Rattle.rtr_ends.specs.Router.{Answering, Asked, Call, Closed, Closes, Connects, AsksNow, Ticks, Ended, Idle, Link, Pulls, Receives, Receiving, Router, asked_by, called, closed_at, connects_at, may_lack, on_unit, played, receives, router_byte, router_pulled, router_stops, with_bytes}
-use Rattle.rtr_ends.specs.Shown.{Leads}
+use Rattle.rtr_ends.specs.LinkRules.{Router, may_lack, on_unit}
+use Rattle.rtr_ends.specs.Router.{RouterCall, Closes, Connects, AsksNow, Ticks, Pulls, Receives, Receiving, asked_by, called, closed_at, connects_at, played, receives, router_byte, router_pulled, router_stops, with_bytes}
+use Rattle.rtr_ends.specs.RouterLink.{Answering, Asked, Closed, Ended, Idle, Link}
+use Rattle.rtr_ends.specs.RouterShown.{CallsLead}
 use Rattle.rtr_ends.specs.Transcript.{Asks, At, Breaks, Item, Lacks, Opened, Reads, Refused, Restarts, Shut, kept}
 use Rattle.rtr_ends.specs.declared.fetching.Fetched.{Fetched}
 use Rattle.rtr_ends.specs.declared.router.Router as code
@@ -25,7 +27,7 @@ use Rattle.rtr_ends.specs.declared.streams.StreamFault.{StreamFault}
 use Rattle.feed.specs.Feed.{answer_bytes}
 use Rattle.feed.specs.Loopback.{HasTable}
 use Rattle.feed.proofs.Serving.{feed_keeps}
-use Rattle.feed.proofs.Streams.{read_are_first}
+use Rattle.feed.proofs.FrontUnits.{read_are_first}
 use Rattle.feed.proofs.Transcripts.{OneConnection, answer_units, holds, last}
 
 -- ---- one connection
@@ -81,7 +83,7 @@ plain_byte m b h =
     let j = judge V1 (not m.router.agreed) (m.router.held ++ b ∷ []) in
     both_plain (with_bytes (finds_memory m.wanting) (m.router.held ++ b ∷ []) m.router j).items m.items (plain_judged (finds_memory m.wanting) (m.router.held ++ b ∷ []) m.router j) h
 
-plain_call : (now : ℕ) (call : Call) (r : Router) → IsFetchCall now call → AllByRecursion IsPlain (called call r).items
+plain_call : (now : ℕ) (call : RouterCall) (r : Router) → IsFetchCall now call → AllByRecursion IsPlain (called call r).items
 unfolding receives
 plain_call now (Receives at wanting piece) r h = feed_keeps (λ (m : Receiving). router_stops m.router) router_byte (λ m. AllByRecursion IsPlain m.items) plain_byte _ piece (tt, tt)
 plain_call now (Pulls most) r h = tt
@@ -94,15 +96,15 @@ connected : OneConnection (played (Connects 0 ∷ [])).items
 unfolding connects_at
 connected = refl
 
-one_connection : (turns : List Call) → AllByRecursion (IsFetchCall 0) turns → OneConnection (played (since turns 0 [])).items
+one_connection : (turns : List RouterCall) → AllByRecursion (IsFetchCall 0) turns → OneConnection (played (calls_since turns 0 [])).items
 one_connection [] h = connected
-one_connection (call ∷ turns) h = goes_on (called call (played (since turns 0 [])).router).items (played (since turns 0 [])).items (plain_call 0 call (played (since turns 0 [])).router h.0) (one_connection turns h.1)
+one_connection (call ∷ turns) h = goes_on (called call (played (calls_since turns 0 [])).router).items (played (calls_since turns 0 [])).items (plain_call 0 call (played (calls_since turns 0 [])).router h.0) (one_connection turns h.1)
 
-closed : (turns : List Call) → AllByRecursion (IsFetchCall 0) turns → OneConnection (played (Closes 0 ∷ since turns 0 [])).items
+closed : (turns : List RouterCall) → AllByRecursion (IsFetchCall 0) turns → OneConnection (played (Closes 0 ∷ calls_since turns 0 [])).items
 unfolding closed_at
 closed turns h = one_connection turns h
 
-is_call : (call : Call) → IsFetchCall 0 call → IsCall call
+is_call : (call : RouterCall) → IsFetchCall 0 call → IsRouterCall call
 is_call (Receives at wanting piece) h = h.1
 is_call (Pulls most) h = tt
 is_call (Connects at) h = tt
@@ -110,7 +112,7 @@ is_call (Closes at) h = tt
 is_call AsksNow h = tt
 is_call (Ticks at) h = tt
 
-are_calls : (turns : List Call) → AllByRecursion (IsFetchCall 0) turns → AllByRecursion IsCall (since turns 0 [])
+are_calls : (turns : List RouterCall) → AllByRecursion (IsFetchCall 0) turns → AllByRecursion IsRouterCall (calls_since turns 0 [])
 are_calls [] h = (tt, tt)
 are_calls (call ∷ turns) h = (is_call call h.0, are_calls turns h.1)
 
@@ -130,14 +132,14 @@ answer_is set = ap sent_all (append-nil (answer_units (listing set)))
 module _ (apart : NoBeginning) (written : WrittenIsRead) (same : SameMembers) where
   -- What such a router has committed is the set.
   pub fetched : (set : VrpSet) (wire left : List ℕ) (reads : ℕ) (had has : Option (List ℕ)) (result : Result Fetched StreamFault) (new : code.Router) (name : ℕ × ℕ) → All IsPayload (listing set) → wire ≡ answer_bytes set
-      → Fetches 0 [] (Some wire) (Some left) reads had has result new → ((calls : List Call) → Leads calls new → Some name ≡ name_of (kept (played calls).items).version) → HasTable set new
+      → Fetches 0 [] (Some wire) (Some left) reads had has result new → ((calls : List RouterCall) → CallsLead calls new → Some name ≡ name_of (kept (played calls).items).version) → HasTable set new
   fetched set wire left reads had has result new name payloads wire_is (f, led) named =
-      let calls : List Call = Closes 0 ∷ since f.turns 0 [] in
+      let calls : List RouterCall = Closes 0 ∷ calls_since f.turns 0 [] in
       let s = led.split (tt, are_calls f.turns f.each) in
       let stream : s.split.front ++ (s.rest ++ (f.unread ++ left)) ≡ sent_all (answer_units (listing set)) =
-      sym (append_assoc s.split.front s.rest (f.unread ++ left)) ∙ ap (λ b. b ++ (f.unread ++ left)) (sym s.split.whole ∙ append-nil (came (since f.turns 0 []))) ∙ sym (append_assoc (came (since f.turns 0 [])) f.unread left)
+      sym (append_assoc s.split.front s.rest (f.unread ++ left)) ∙ ap (λ b. b ++ (f.unread ++ left)) (sym s.split.whole ∙ append-nil (came (calls_since f.turns 0 []))) ∙ sym (append_assoc (came (calls_since f.turns 0 [])) f.unread left)
       ∙ sym f.consumed ∙ wire_is ∙ answer_is set in
-      let first = read_are_first apart written true (answer_units (listing set)) (units_in (played calls).items) s.split.front (s.rest ++ (f.unread ++ left)) (all_units (listing set) payloads) s.split.read stream in
+      let first = read_are_first apart written true (answer_units (listing set)) (units_read_in (played calls).items) s.split.front (s.rest ++ (f.unread ++ left)) (all_units (listing set) payloads) s.split.read stream in
       record {
         machine = (played calls).router;
         shown = led.leads;

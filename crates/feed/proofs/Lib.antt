@@ -1,7 +1,7 @@
 pub mod Sets
-pub mod Taking
-pub mod Using
-pub mod Streams
+pub mod TakingOffers
+pub mod PayloadsInUse
+pub mod FrontUnits
 pub mod Serving
 pub mod Transcripts
 pub mod Fetching

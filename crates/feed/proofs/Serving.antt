@@ -17,41 +17,41 @@ use Rattle.rtr_pdu.specs.declared.unit.UnitFault.{UnitFault}
 use Rattle.rtr_pdu.specs.declared.unit.UnitFault.TheVariants as faults
 use Rattle.rtr_pdu.specs.declared.version.Version.TheVariants.{V1}
 use Rattle.rtr_ends.specs.Answer.{answer, sent, sent_all}
-use Rattle.rtr_ends.specs.Cache.{CacheCall, Conn, Gives, IsServed, Notifies, Publishes as Publication, Takes, Taking, and_moment, conn_byte, conn_stops, conn_takes, finds_memory, moment_of}
+use Rattle.rtr_ends.specs.Cache.{ConnCall, Conn, Gives, IsServed, Notifies, Publishes as Publication, Takes, Taking, and_moment, conn_byte, conn_stops, conn_takes, finds_memory, conn_moment_of}
 use Rattle.rtr_ends.specs.CacheState.{CacheState, ShowsCache, without_conns}
-use Rattle.rtr_ends.specs.Connection.{Connection, HistorySplits, IsHistory, Moment, Read, Wanting, Fault, Notify, Pull, after, opened, replies_from, takes_memory, units_of}
-use Rattle.rtr_ends.specs.Feeding.{Fed, feed}
-use Rattle.rtr_ends.specs.ServeStream.{IsTurn, Serves, stood}
+use Rattle.rtr_ends.specs.Connection.{Connection, HistorySplits, IsHistory, ConnMoment, Read, Wanting, Fault, Notify, Pull, conn_after, opened, replies_from, takes_memory, units_of}
+use Rattle.rtr_ends.specs.Feeding.{FedPiece, feed}
+use Rattle.rtr_ends.specs.ServeStream.{IsTurn, ServesConnection, stood}
 use Rattle.rtr_ends.specs.Timing.{Intervals, default_intervals}
 use Rattle.rtr_ends.specs.declared.cache.Cache.{Cache}
 use Rattle.rtr_ends.specs.declared.serving.Served.{Served}
 use Rattle.rtr_ends.specs.declared.serving.Served.TheVariants.{PeerClosed}
-use Rattle.feed.specs.Feed.{answer_bytes, cache_of}
-use Rattle.feed.specs.Loopback.{Starts}
-use Rattle.feed.proofs.Streams.{never_empty}
+use Rattle.feed.specs.Feed.{answer_bytes, cache_publishing}
+use Rattle.feed.specs.Loopback.{StartsWithSet}
+use Rattle.feed.proofs.FrontUnits.{never_empty}
 
 abbrev empty_cache : Instance
 empty_cache = record { session = 1; start = 0; sets = [] }
 
-is_instance : (set : VrpSet) → IsVrpSet set → IsInstance (cache_of set)
+is_instance : (set : VrpSet) → IsVrpSet set → IsInstance (cache_publishing set)
 is_instance set fits = record { session = omega arith; start = omega arith; sets = (fits, tt); news = tt }
 
 -- The first set is published, whatever it is.
 pub starts : (set : VrpSet) (cache : Cache Steps) (published : Published) → IsVrpSet set
-    → Publishes (λ i now. ShowsCache HoldsSteps (record (without_conns 1 default_intervals empty_cache) { cache = i }) now) (Ok published) set empty_cache cache → Starts set cache
+    → Publishes (λ i now. ShowsCache HoldsSteps (record (without_conns 1 default_intervals empty_cache) { cache = i }) now) (Ok published) set empty_cache cache → StartsWithSet set cache
 starts set cache (New number) fits h = record { is = is_instance set fits; shows = h.0 }
 starts set cache Unchanged fits h = absurd (let e : false ≡ true = h.1 in cc)
 
 -- ---- what happens is of this cache
 
-abbrev IsOwn : Instance → Moment → Type 0
+abbrev IsOwn : Instance → ConnMoment → Type 0
 IsOwn i (Read cache unit bytes) = cache ≡ i
 IsOwn i (Wanting cache unit bytes) = cache ≡ i
 IsOwn i (Fault fault bytes) = ⊤
 IsOwn i (Notify cache) = ⊥
 IsOwn i (Pull count) = ⊤
 
-all_both : (P : Moment → Type 0) (ms ns : List Moment) → AllByRecursion P ms → AllByRecursion P ns → AllByRecursion P (ms ++ ns)
+all_both : (P : ConnMoment → Type 0) (ms ns : List ConnMoment) → AllByRecursion P ms → AllByRecursion P ns → AllByRecursion P (ms ++ ns)
 all_both P [] ns h k = k
 all_both P (m ∷ ms) ns h k = (h.0, all_both P ms ns h.1 k)
 
@@ -61,7 +61,7 @@ module _ {M : Type 0} (stops : M → Bool) (step : M → ℕ → M) (P : M → T
   feed_keeps m [] h = h
   feed_keeps m (b ∷ piece) h = by_stop (stops m) (feed_keeps (step m b) piece (keeps m b h))
     where
-      by : Bool → Fed M
+      by : Bool → FedPiece M
       by s = elim s [ true ↦ record { machine = m; rest = b ∷ piece } | false ↦ feed stops step (step m b) piece ]
 
       by_stop : (s : Bool) → P (feed stops step (step m b) piece).machine → P (by s).machine
@@ -69,7 +69,7 @@ module _ {M : Type 0} (stops : M → Bool) (step : M → ℕ → M) (P : M → T
       by_stop false on = on
 
 module _ (keep : ℕ) (t : Intervals) (i : Instance) where
-  own_moment : (memory : Bool) (bytes : List ℕ) (j : Judgement) (ms : List Moment) → AllByRecursion (IsOwn i) ms → AllByRecursion (IsOwn i) (and_moment ms (moment_of i memory bytes j))
+  own_moment : (memory : Bool) (bytes : List ℕ) (j : Judgement) (ms : List ConnMoment) → AllByRecursion (IsOwn i) ms → AllByRecursion (IsOwn i) (and_moment ms (conn_moment_of i memory bytes j))
   own_moment memory bytes Begins ms h = h
   own_moment memory bytes (Whole u) ms h = by_test (takes_memory i u && not memory)
     where
@@ -88,7 +88,7 @@ module _ (keep : ℕ) (t : Intervals) (i : Instance) where
 
 module _ (m : CacheState) where
   -- A stream publishes nothing, and notifies no router.
-  own_calls : (calls : List CacheCall) → AllByRecursion IsTurn calls → ((stood m calls).cache ≡ m.cache) × AllByRecursion (IsOwn m.cache) (stood m calls).moments
+  own_calls : (calls : List ConnCall) → AllByRecursion IsTurn calls → ((stood m calls).cache ≡ m.cache) × AllByRecursion (IsOwn m.cache) (stood m calls).moments
   own_calls [] h = (refl, tt)
   own_calls (Publication set ∷ calls) h = absurd h.0
   own_calls (Takes wanting piece ∷ calls) h =
@@ -125,19 +125,19 @@ front_none (b ∷ front) back e = cc
 
 module _ (apart : NoBeginning) (written : WrittenIsRead) (keep : ℕ) (t : Intervals) (i : Instance) where
   -- After its end a connection reads nothing.
-  ended_reads_none : (c : Connection) (moments : List Moment) (bytes : List ℕ) → c.ended ≡ true → IsHistory keep t c moments bytes → units_of moments ≡ []
+  ended_reads_none : (c : Connection) (moments : List ConnMoment) (bytes : List ℕ) → c.ended ≡ true → IsHistory keep t c moments bytes → units_of moments ≡ []
   ended_reads_none c [] bytes ended h = refl
-  ended_reads_none c (Pull count ∷ later) bytes ended h = ended_reads_none (after keep t c (Pull count)) later h.1.0 ended h.1.2
+  ended_reads_none c (Pull count ∷ later) bytes ended h = ended_reads_none (conn_after keep t c (Pull count)) later h.1.0 ended h.1.2
   ended_reads_none c (Read cache unit came ∷ later) bytes ended h = absurd (not_both c.ended ended h.0.0)
   ended_reads_none c (Wanting cache unit came ∷ later) bytes ended h = absurd (not_both c.ended ended h.0.0)
   ended_reads_none c (Fault fault came ∷ later) bytes ended h = absurd (not_both c.ended ended h.0.0)
   ended_reads_none c (Notify cache ∷ later) bytes ended h = absurd (not_both c.ended ended h.0.0)
 
   -- Without bytes nothing is replied.
-  nothing_more : (agreed : Bool) (c : Connection) (moments : List Moment) → AllByRecursion (IsOwn i) moments → IsHistory keep t c moments [] → replies_from keep t agreed moments ≡ []
+  nothing_more : (agreed : Bool) (c : Connection) (moments : List ConnMoment) → AllByRecursion (IsOwn i) moments → IsHistory keep t c moments [] → replies_from keep t agreed moments ≡ []
   nothing_more agreed c [] own h = refl
   nothing_more agreed c (Pull count ∷ later) own h =
-      nothing_more agreed (after keep t c (Pull count)) later own.1 (subst (λ b. IsHistory keep t (after keep t c (Pull count)) later b) (front_none [] h.1.0 h.1.1).1 h.1.2)
+      nothing_more agreed (conn_after keep t c (Pull count)) later own.1 (subst (λ b. IsHistory keep t (conn_after keep t c (Pull count)) later b) (front_none [] h.1.0 h.1.1).1 h.1.2)
   nothing_more agreed c (Read cache unit came ∷ later) own h = absurd (never_empty apart written unit (subst (λ b. Reads V1 unit b) (front_none came h.1.0 h.1.1).0 h.0.4))
   nothing_more agreed c (Wanting cache unit came ∷ later) own h = absurd (never_empty apart written unit (subst (λ b. Reads V1 unit b) (front_none came h.1.0 h.1.1).0 h.0.4.0))
   nothing_more agreed c (Fault fault came ∷ later) own h = absurd (shows_nothing fault (subst (λ b. Shows V1 b fault) (front_none came h.1.0 h.1.1).0 h.0.4.0))
@@ -147,21 +147,21 @@ module _ (apart : NoBeginning) (written : WrittenIsRead) (keep : ℕ) (t : Inter
   first_of u v us vs e = cc
 
   -- One Reset Query is replied to, and nothing else.
-  one_reply : (c : Connection) (moments : List Moment) → AllByRecursion (IsOwn i) moments → IsHistory keep t c moments (sent ResetQuery) → units_of moments ≡ ResetQuery ∷ []
+  one_reply : (c : Connection) (moments : List ConnMoment) → AllByRecursion (IsOwn i) moments → IsHistory keep t c moments (sent ResetQuery) → units_of moments ≡ ResetQuery ∷ []
       → replies_from keep t false moments ≡ (answer i keep t ResetQuery).units
   one_reply c [] own h units = cc
   one_reply c (Pull count ∷ later) own h units =
-      one_reply (after keep t c (Pull count)) later own.1 (subst (λ b. IsHistory keep t (after keep t c (Pull count)) later b) (sym h.1.1) h.1.2) units
+      one_reply (conn_after keep t c (Pull count)) later own.1 (subst (λ b. IsHistory keep t (conn_after keep t c (Pull count)) later b) (sym h.1.1) h.1.2) units
   one_reply c (Read cache unit came ∷ later) own h units =
       let is : unit ≡ ResetQuery = first_of unit ResetQuery (units_of later) [] units in
       let rest : h.1.0 ≡ [] = (apart V1 unit ResetQuery came (sent ResetQuery) h.1.0 [] h.0.4 (written V1 ResetQuery tt) (sym h.1.1)).1 in
-      let none : replies_from keep t true later ≡ [] = nothing_more true (after keep t c (Read cache unit came)) later own.1 (subst (λ b. IsHistory keep t (after keep t c (Read cache unit came)) later b) rest h.1.2) in
+      let none : replies_from keep t true later ≡ [] = nothing_more true (conn_after keep t c (Read cache unit came)) later own.1 (subst (λ b. IsHistory keep t (conn_after keep t c (Read cache unit came)) later b) rest h.1.2) in
       (λ j. replies_from keep t false (Read (own.0 j) (is j) came ∷ later)) ∙ ap (λ l. (answer i keep t ResetQuery).units ++ l) none ∙ append-nil (answer i keep t ResetQuery).units
   one_reply c (Wanting cache unit came ∷ later) own h units =
       let is : unit ≡ ResetQuery = first_of unit ResetQuery (units_of later) [] units in
       absurd (let e : false ≡ true = subst (λ u. takes_memory cache u ≡ true) is h.0.4.1 in cc)
   one_reply c (Fault fault came ∷ later) own h units =
-      let none : units_of later ≡ [] = ended_reads_none (after keep t c (Fault fault came)) later h.1.0 refl h.1.2 in
+      let none : units_of later ≡ [] = ended_reads_none (conn_after keep t c (Fault fault came)) later h.1.0 refl h.1.2 in
       absurd (let e : [] ≡ ResetQuery ∷ [] = sym none ∙ units in cc)
   one_reply c (Notify cache ∷ later) own h units = absurd own.0
 
@@ -169,27 +169,27 @@ module _ (apart : NoBeginning) (written : WrittenIsRead) (keep : ℕ) (t : Inter
 
 module _ (apart : NoBeginning) (written : WrittenIsRead) (one_split : OneSplit) (history_splits : HistorySplits) where
   -- What went out is the answer.
-  answers : (set : VrpSet) (query left wire : List ℕ) (reads : ℕ) → IsInstance (cache_of set) → query ≡ sent ResetQuery
-      → Serves (without_conns 1 default_intervals (cache_of set)) (Some query) (Some left) reads (Some []) (Some wire) (Ok PeerClosed) → wire ≡ answer_bytes set
+  answers : (set : VrpSet) (query left wire : List ℕ) (reads : ℕ) → IsInstance (cache_publishing set) → query ≡ sent ResetQuery
+      → ServesConnection (without_conns 1 default_intervals (cache_publishing set)) (Some query) (Some left) reads (Some []) (Some wire) (Ok PeerClosed) → wire ≡ answer_bytes set
   unfolding answer_bytes
   answers set query left wire reads is query_is s =
-      let m : CacheState = without_conns 1 default_intervals (cache_of set) in
-      let v : IsServed 1 default_intervals (cache_of set) (stood m s.calls) = s.served is in
+      let m : CacheState = without_conns 1 default_intervals (cache_publishing set) in
+      let v : IsServed 1 default_intervals (cache_publishing set) (stood m s.calls) = s.served is in
       let (all_out, goes_on, held, at_end) = s.ends in
       let came : (stood m s.calls).came ≡ sent ResetQuery =
       sym (append-nil (stood m s.calls).came) ∙ ap (λ l. (stood m s.calls).came ++ l) (sym goes_on.0) ∙ sym (append-nil ((stood m s.calls).came ++ s.unread)) ∙ ap (λ l. ((stood m s.calls).came ++ s.unread) ++ l) (sym at_end) ∙ sym s.consumed ∙ query_is in
-      let history : IsHistory 1 default_intervals (opened (cache_of set)) (stood m s.calls).moments (sent ResetQuery) = subst (λ b. IsHistory 1 default_intervals (opened (cache_of set)) (stood m s.calls).moments b) came v.history in
-      let split = history_splits 1 default_intervals (cache_of set) (stood m s.calls).moments (sent ResetQuery) history in
+      let history : IsHistory 1 default_intervals (opened (cache_publishing set)) (stood m s.calls).moments (sent ResetQuery) = subst (λ b. IsHistory 1 default_intervals (opened (cache_publishing set)) (stood m s.calls).moments b) came v.history in
+      let split = history_splits 1 default_intervals (cache_publishing set) (stood m s.calls).moments (sent ResetQuery) history in
       let units : units_of (stood m s.calls).moments ≡ ResetQuery ∷ [] = (one_split V1 false (sent ResetQuery) (units_of (stood m s.calls).moments) (ResetQuery ∷ []) split.0 [] split.1 None split.2 (query_splits written)).units_are in
-      let replied = one_reply apart written 1 default_intervals (cache_of set) (opened (cache_of set)) (stood m s.calls).moments (own_calls m s.calls s.turns).1 history units in
-      all_out.1 ∙ sym (append-nil (stood m s.calls).given) ∙ ap (λ d. (stood m s.calls).given ++ d) (sym all_out.0) ∙ v.replies ∙ ap sent_all (replied ∙ sym (append-nil (answer (cache_of set) 1 default_intervals ResetQuery).units))
+      let replied = one_reply apart written 1 default_intervals (cache_publishing set) (opened (cache_publishing set)) (stood m s.calls).moments (own_calls m s.calls s.turns).1 history units in
+      all_out.1 ∙ sym (append-nil (stood m s.calls).given) ∙ ap (λ d. (stood m s.calls).given ++ d) (sym all_out.0) ∙ v.replies ∙ ap sent_all (replied ∙ sym (append-nil (answer (cache_publishing set) 1 default_intervals ResetQuery).units))
 
-  pub answered : (set : VrpSet) (query left had wire : List ℕ) (reads : ℕ) (served : Served) → IsInstance (cache_of set) → query ≡ sent ResetQuery → had ≡ [] → served ≡ PeerClosed
-      → Serves (without_conns 1 default_intervals (cache_of set)) (Some query) (Some left) reads (Some had) (Some wire) (Ok served) → wire ≡ answer_bytes set
+  pub answered : (set : VrpSet) (query left had wire : List ℕ) (reads : ℕ) (served : Served) → IsInstance (cache_publishing set) → query ≡ sent ResetQuery → had ≡ [] → served ≡ PeerClosed
+      → ServesConnection (without_conns 1 default_intervals (cache_publishing set)) (Some query) (Some left) reads (Some had) (Some wire) (Ok served) → wire ≡ answer_bytes set
   answered set query left had wire reads served is query_is had_is served_is s =
       answers set query left wire reads is query_is
-      (subst (λ (x : Served). Serves (without_conns 1 default_intervals (cache_of set)) (Some query) (Some left) reads (Some []) (Some wire) (Ok x)) served_is
-      (subst (λ (x : List ℕ). Serves (without_conns 1 default_intervals (cache_of set)) (Some query) (Some left) reads (Some x) (Some wire) (Ok served)) had_is s))
+      (subst (λ (x : Served). ServesConnection (without_conns 1 default_intervals (cache_publishing set)) (Some query) (Some left) reads (Some []) (Some wire) (Ok x)) served_is
+      (subst (λ (x : List ℕ). ServesConnection (without_conns 1 default_intervals (cache_publishing set)) (Some query) (Some left) reads (Some x) (Some wire) (Ok served)) had_is s))
 
 -- What is told of a value is told of it otherwise.
 pub if_ok : {A E : Type 0} (r : Result A E) (P Q : A → Type 0) → ((a : A) → P a → Q a) → IfOk r P → IfOk r Q

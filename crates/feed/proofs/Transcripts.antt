@@ -7,9 +7,9 @@ use Rattle.prefixes.specs.Payload.{Payload, vrp_cmp}
 use Rattle.vrps.specs.VrpSet.{SameMembers, VrpSet, empty, listing}
 use Rattle.rtr_pdu.specs.declared.unit.Unit.{Unit}
 use Rattle.rtr_pdu.specs.declared.unit.Unit.TheVariants.{CacheResponse, Prefix, EndOfData}
-use Rattle.rtr_ends.specs.Consumed.{units_in}
-use Rattle.rtr_ends.specs.Links.{name_of}
-use Rattle.rtr_ends.specs.Transcript.{AskReset, AskSerial, Asks, At, Begun, Breaks, Committed, Item, Kept, Lacks, Opened, Question, Reads, Refused, Restarts, Shut, acts_once, at_end, base_of, begun, bounded, emptied_if, is_listed, is_over, is_wrong, kept, later, led_to, moment, nothing, under_way, waiting, with_record}
+use Rattle.rtr_ends.specs.Consumed.{units_read_in}
+use Rattle.rtr_ends.specs.RouterLink.{name_of}
+use Rattle.rtr_ends.specs.Transcript.{AskReset, AskSerial, Asks, At, Begun, Breaks, Committed, Item, Kept, Lacks, Opened, Question, Reads, Refused, Restarts, Shut, acts_once, at_end_of_data, base_of, begun, bounded, emptied_if, is_among, is_over, is_wrong, kept, later, led_to, moment, nothing, under_way, waiting, with_record}
 use Rattle.feed.proofs.Sets.{led_from_nothing}
 
 abbrev announced : Payload → Unit
@@ -40,14 +40,14 @@ swap true true c = refl
 swap true false c = refl
 swap false b c = refl
 
-listed_more : (q v : Payload) (vs : List Payload) → is_listed q (vs ++ v ∷ []) ≡ is_listed q (v ∷ vs)
+listed_more : (q v : Payload) (vs : List Payload) → is_among q (vs ++ v ∷ []) ≡ is_among q (v ∷ vs)
 listed_more q v [] = refl
-listed_more q v (w ∷ vs) = ap (λ b. eq_by_cmp vrp_cmp q w || b) (listed_more q v vs) ∙ swap (eq_by_cmp vrp_cmp q w) (eq_by_cmp vrp_cmp q v) (is_listed q vs)
+listed_more q v (w ∷ vs) = ap (λ b. eq_by_cmp vrp_cmp q w || b) (listed_more q v vs) ∙ swap (eq_by_cmp vrp_cmp q w) (eq_by_cmp vrp_cmp q v) (is_among q vs)
 
 -- An answer that has begun, if any has, has these records announced.
 abbrev Begins : List Payload → Option Begun → Type 0
 Begins vs None = ⊤
-Begins vs (Some a) = (a.withdrawn ≡ []) × ((q : Payload) → is_listed q a.announced ≡ is_listed q vs)
+Begins vs (Some a) = (a.withdrawn ≡ []) × ((q : Payload) → is_among q a.announced ≡ is_among q vs)
 
 begins_begun : (question : Option Question) → Begins [] (begun question 1)
 begins_begun None = tt
@@ -59,13 +59,13 @@ begins_more vs v (Some a) h = (h.0, λ q. ap (λ b. eq_by_cmp vrp_cmp q v || b) 
 
 -- Nothing is kept, or what these records lead to from nothing.
 abbrev pub Ends : List Payload → Kept → Type 0
-Ends vs k = (k ≡ nothing) ⊎ ((ws : List Payload) × (k.table ≡ led_to empty [] ws) × ((q : Payload) → is_listed q ws ≡ is_listed q vs))
+Ends vs k = (k ≡ nothing) ⊎ ((ws : List Payload) × (k.table ≡ led_to empty [] ws) × ((q : Payload) → is_among q ws ≡ is_among q vs))
 
 base_is : (question : Question) (table : VrpSet) → table ≡ empty → base_of question table ≡ empty
 base_is AskReset table e = refl
 base_is (AskSerial session serial) table e = e
 
-ends : (vs : List Payload) (answer : Option Begun) (version : Committed) (k : Kept) → k ≡ nothing → Begins vs answer → Ends vs (at_end answer version k)
+ends : (vs : List Payload) (answer : Option Begun) (version : Committed) (k : Kept) → k ≡ nothing → Begins vs answer → Ends vs (at_end_of_data answer version k)
 ends vs None version k none h = inl none
 ends vs (Some a) version k none h = by_tests (version.session == a.session) (acts_once (base_of a.question k.table) a.withdrawn a.announced)
   where
@@ -155,27 +155,27 @@ module _ (vs : List Payload) where
       let size : length (done ++ u ∷ more) ≡ length done = ap length (e ∙ sym is) in
       absurd (omega (arith, size, length-append done (u ∷ more)))
 
-  came : (items : List Item) (more : List Unit) → OneConnection items → units_in items ++ more ≡ answer_units vs → Came items (units_in items)
+  came : (items : List Item) (more : List Unit) → OneConnection items → units_read_in items ++ more ≡ answer_units vs → Came items (units_read_in items)
   came [] more one e = absurd one
-  came (At now ∷ items) more one e = ticks now items (units_in items) (came items more one e)
+  came (At now ∷ items) more one e = ticks now items (units_read_in items) (came items more one e)
   came (Opened ∷ items) more one e = none refl one refl
-  came (Asks question ∷ items) more one e = drops items (Asks question ∷ items) (units_in items) refl refl (came items more one e)
+  came (Asks question ∷ items) more one e = drops items (Asks question ∷ items) (units_read_in items) refl refl (came items more one e)
   came (Reads u ∷ items) more one e =
-      let before = sym (append_assoc (units_in items) (u ∷ []) more) ∙ e in
-      steps items (Reads u ∷ items) u (units_in items) more (reads items u) before (came items (u ∷ more) one before)
+      let before = sym (append_assoc (units_read_in items) (u ∷ []) more) ∙ e in
+      steps items (Reads u ∷ items) u (units_read_in items) more (reads items u) before (came items (u ∷ more) one before)
   came (Lacks u ∷ items) more one e =
-      let before = sym (append_assoc (units_in items) (u ∷ []) more) ∙ e in
-      steps items (Lacks u ∷ items) u (units_in items) more (lacks items u) before (came items (u ∷ more) one before)
-  came (Breaks fault ∷ items) more one e = drops items (Breaks fault ∷ items) (units_in items) refl refl (came items more one e)
-  came (Refused ∷ items) more one e = drops items (Refused ∷ items) (units_in items) refl refl (came items more one e)
-  came (Shut ∷ items) more one e = drops items (Shut ∷ items) (units_in items) refl refl (came items more one e)
+      let before = sym (append_assoc (units_read_in items) (u ∷ []) more) ∙ e in
+      steps items (Lacks u ∷ items) u (units_read_in items) more (lacks items u) before (came items (u ∷ more) one before)
+  came (Breaks fault ∷ items) more one e = drops items (Breaks fault ∷ items) (units_read_in items) refl refl (came items more one e)
+  came (Refused ∷ items) more one e = drops items (Refused ∷ items) (units_read_in items) refl refl (came items more one e)
+  came (Shut ∷ items) more one e = drops items (Shut ∷ items) (units_read_in items) refl refl (came items more one e)
   came (Restarts ∷ items) more one e = absurd one
 
 not_nothing : {A : Type 0} (k : Kept) (name : ℕ × ℕ) → name_of k.version ≡ Some name → k ≡ nothing → A
 not_nothing k name e gone = absurd (let h : None ≡ Some name = sym (ap (λ (x : Kept). name_of x.version) gone) ∙ e in cc)
 
 -- A router that holds a version then holds the records of the answer.
-pub holds : SameMembers → (set : VrpSet) (items : List Item) (more : List Unit) → OneConnection items → units_in items ++ more ≡ answer_units (listing set)
+pub holds : SameMembers → (set : VrpSet) (items : List Item) (more : List Unit) → OneConnection items → units_read_in items ++ more ≡ answer_units (listing set)
     → (name : ℕ × ℕ) → name_of (kept items).version ≡ Some name → (kept items).table ≡ set
 holds same set items more one e name named = by_place (came (listing set) items more one e)
   where
@@ -183,7 +183,7 @@ holds same set items more one e name named = by_place (came (listing set) items 
     by_end (inl gone) = not_nothing (kept items) name named gone
     by_end (inr led) = led.1 ∙ led_from_nothing same set led.0 led.2
 
-    by_place : Came (listing set) items (units_in items) → (kept items).table ≡ set
+    by_place : Came (listing set) items (units_read_in items) → (kept items).table ≡ set
     by_place (none is none_kept no_way) = not_nothing (kept items) name named none_kept
     by_place (some front back parts is none_kept answer) = not_nothing (kept items) name named none_kept
     by_place (all is h) = by_end h

@@ -23,19 +23,19 @@ use Rattle.feed.specs.declared.route.Fed.{Fed}
 -- ---- from offers to the payloads in use
 
 -- An offer is judged so, where the points hold this.
-abbrev pub IsJudged : CivilMoment → Points → Offer → Judgement → Type 0
-IsJudged now points offer judgement = Judged (accepted_at points offer.name.now) offer.manifest.now offer.files.now now judgement
+abbrev pub IsOfferJudged : CivilMoment → Points → Offer → Judgement → Type 0
+IsOfferJudged now points offer judgement = Judged (accepted_at points offer.name.now) offer.manifest.now offer.files.now now judgement
 
 -- It is judged New, and its point holds it afterwards; or it is judged Same, and nothing changes.
-abbrev pub IsTaken : CivilMoment → Points → Offer → Points → Type 0
-IsTaken now before offer after =
-    (IsJudged now before offer New × BecomesAt (Ok offered.New) offer.name.now before after offer.manifest.now offer.files.now)
-    ⊎ (IsJudged now before offer Same × (after ≡ before))
+abbrev pub IsOfferTaken : CivilMoment → Points → Offer → Points → Type 0
+IsOfferTaken now before offer after =
+    (IsOfferJudged now before offer New × BecomesAt (Ok offered.New) offer.name.now before after offer.manifest.now offer.files.now)
+    ⊎ (IsOfferJudged now before offer Same × (after ≡ before))
 
 -- All are taken, one after the other.
 abbrev pub AreTaken : CivilMoment → Points → List Offer → Points → Type 0
 AreTaken now before [] after = after ≡ before
-AreTaken now before (offer ∷ later) after = (between : Points) × IsTaken now before offer between × AreTaken now between later after
+AreTaken now before (offer ∷ later) after = (between : Points) × IsOfferTaken now before offer between × AreTaken now between later after
 
 -- The set of the payloads in use after all offers, to points that had accepted nothing
 pub record IsUsed (now : CivilMoment) (offers : List Offer) (set : VrpSet) : Type 0 where
@@ -46,12 +46,12 @@ pub record IsUsed (now : CivilMoment) (offers : List Offer) (set : VrpSet) : Typ
 -- ---- from these to the state of a route
 
 -- the cache whose one version is this set, as serial 0 of session 1
-abbrev pub cache_of : VrpSet → Instance
-cache_of set = record { session = 1; start = 0; sets = set ∷ [] }
+abbrev pub cache_publishing : VrpSet → Instance
+cache_publishing set = record { session = 1; start = 0; sets = set ∷ [] }
 
 -- its replies to one Reset Query
 unfoldable pub answer_bytes : VrpSet → List ℕ
-answer_bytes set = replies 1 default_intervals (Read (cache_of set) ResetQuery (sent ResetQuery) ∷ [])
+answer_bytes set = replies 1 default_intervals (Read (cache_publishing set) ResetQuery (sent ResetQuery) ∷ [])
 
 -- The state of the route is that over the payloads in use, which a set can hold, and what the cache sent is its answer with them.
 pub record IsFed (now : CivilMoment) (offers : List Offer) (route : Route) (fed : Fed) : Type 0 where
@@ -74,7 +74,7 @@ pub record IsRefusedAt (now : CivilMoment) (offers : List Offer) (i : ℕ) (faul
   pub taken : AreTaken now no_points before points
   pub judgement : Judgement
   pub told : told_by_fault fault ≡ Some judgement
-  pub judged : IsJudged now points offer judgement
+  pub judged : IsOfferJudged now points offer judgement
 
 -- An offer is refused; or all were taken, and the set of the payloads in use passes the limit of a set; or memory was wanting.
 abbrev pub IsRefused : CivilMoment → List Offer → FeedFault → Type 0

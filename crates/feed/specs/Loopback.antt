@@ -8,12 +8,12 @@ use Rattle.vrps.specs.VrpSet.{VrpSet}
 use Rattle.vrps.specs.declared.set.SetFault.{SetFault}
 use Rattle.vrps.specs.declared.set.SetFault.TheVariants as sets
 use Rattle.rtr_ends.specs.CacheState.{ShowsCache, without_conns}
-use Rattle.rtr_ends.specs.Router as model
-use Rattle.rtr_ends.specs.Shown.{IsShown}
+use Rattle.rtr_ends.specs.LinkRules as rules
+use Rattle.rtr_ends.specs.RouterShown.{IsShown}
 use Rattle.rtr_ends.specs.Timing.{default_intervals}
 use Rattle.rtr_ends.specs.declared.cache.Cache.{Cache}
 use Rattle.rtr_ends.specs.declared.router.Router as code
-use Rattle.feed.specs.Feed.{cache_of}
+use Rattle.feed.specs.Feed.{cache_publishing}
 use Rattle.feed.specs.declared.fault.FeedFault.{FeedFault}
 use Rattle.feed.specs.declared.fault.FeedFault.TheVariants as faults
 
@@ -28,12 +28,12 @@ told_of_set sets.TooMany = faults.TooMany
 told_of_set sets.Memory = faults.Memory
 
 -- This cache has this set as its one version, and no connection.
-pub record Starts (set : VrpSet) (cache : Cache Steps) : Type 0 where
-  pub is : IsInstance (cache_of set)
-  pub shows : ShowsCache HoldsSteps (without_conns 1 default_intervals (cache_of set)) cache
+pub record StartsWithSet (set : VrpSet) (cache : Cache Steps) : Type 0 where
+  pub is : IsInstance (cache_publishing set)
+  pub shows : ShowsCache HoldsSteps (without_conns 1 default_intervals (cache_publishing set)) cache
 
 -- This router holds this set.
 pub record HasTable (set : VrpSet) (router : code.Router) : Type 0 where
-  pub machine : model.Router
+  pub machine : rules.Router
   pub shown : IsShown machine router
   pub table : machine.table ≡ set

@@ -3,7 +3,7 @@ ghost use Rattle.std.specs.Prelude.{◌≡◌, IfOk};
 ghost use Rattle.rtr_pdu.specs.Stream.{NoBeginning, WrittenIsRead};
 ghost use Rattle.vrps.specs.VrpSet.{VrpSet, IsVrpSet};
 ghost use Rattle.feed.specs.Feed.{answer_bytes};
-ghost use Rattle.feed.specs.Loopback.{Starts, HasTable};
+ghost use Rattle.feed.specs.Loopback.{StartsWithSet, HasTable};
 
 use rtr_ends::laws::history_splits;
 use rtr_ends::{Cache, Router, Served, Timing, fetch_stream, serve_stream};
@@ -27,7 +27,7 @@ fn know_units()
 
 /// A cache that has published this set alone, as serial 0 of session 1, and tells the intervals that RFC 8210 section 6 recommends.
 fn cache_with(alloc: Global, set: VrpSet) -> Result<Cache<VersionLog>, AllocError>
-    ensures { IfOk result (λ cache. Starts set cache) }
+    ensures { IfOk result (λ cache. StartsWithSet set cache) }
 {
     let _within_limit = set.len();
     let log = VersionLog::new(alloc, 1, 0, 1)?;

@@ -11,8 +11,8 @@ use Rattle.prefixes.specs.Payload.{Payload, block_of, width_of}
 use Rattle.prefixes.specs.Text.{PrefixText}
 use Rattle.prefixes.specs.declared.fault.PrefixFault.{PrefixFault}
 use Rattle.prefixes.specs.declared.prefix.IpPrefix.{IpPrefix}
-use Rattle.payload_lists.specs.PayloadList.{AreEntries, IsEntry, IsPayloadList, Lists, member_count, text_at, whole_at}
-use Rattle.payload_lists.specs.Reading.{Makes}
+use Rattle.payload_lists.specs.PayloadList.{AreEntries, IsEntry, IsPayloadList, ListsSet, member_count, text_at, whole_at}
+use Rattle.payload_lists.specs.EntrySteps.{MakesPayload}
 use Rattle.vrps.specs.VrpSet.{VrpSet, set_of, size}
 
 count_of : (ms : List (String Global × Data)) → member_count (members_of ms) ≡ length ms
@@ -31,7 +31,7 @@ same_member_count ms ns d n e h count = let same : ms ≡ ns = some_same ms ns (
 -- an object of three members, with what stands under the keys
 pub is_entry : (d : Data) (ms : Members) (asn max_len : ℕ) (text : List ℕ) (v : Payload) → Some ms ≡ as_object d → member_count ms ≡ 3
     → Some asn ≡ whole_at (codes "asn") d → Some max_len ≡ whole_at (codes "maxLength") d → Some text ≡ text_at (codes "prefix") d
-    → Makes asn max_len text v → IsEntry d v
+    → MakesPayload asn max_len text v → IsEntry d v
 is_entry d ms asn max_len text v object three has_asn has_max has_text made = record {
   members = ms;
   is_object = sym object;
@@ -60,7 +60,7 @@ same_prefix : (p q : IpPrefix) → read p ≡ read q → q ≡ p
 same_prefix p q e = cc
 
 -- numbers that make no payload with this prefix
-pub makes_none : (text : List ℕ) (p : IpPrefix) (asn max_len : ℕ) → IsOnly text p → ((((block_of p).len ≤ max_len) × (max_len ≤ width_of p)) → ⊥) → (v : Payload) → ¬ (Makes asn max_len text v)
+pub makes_none : (text : List ℕ) (p : IpPrefix) (asn max_len : ℕ) → IsOnly text p → ((((block_of p).len ≤ max_len) × (max_len ≤ width_of p)) → ⊥) → (v : Payload) → ¬ (MakesPayload asn max_len text v)
 makes_none text p asn max_len only none v h =
     let same : v.prefix ≡ p = same_prefix p v.prefix (only v.prefix h.prefix) in
     let low : (block_of p).len ≤ v.max_len = subst (λ q. (block_of q).len ≤ v.max_len) same h.payload.not_shorter in
@@ -116,19 +116,19 @@ next_item list i x h e =
 pub one_some : {A : Type 0} (a b : A) (o : Option A) → o ≡ Some a → o ≡ Some b → a ≡ b
 one_some a b o e f = let same : Some a ≡ Some b = sym e ∙ f in cc
 
-pub lists : (items : Items) (records : List Payload) (s : VrpSet) → AreEntries items records → s ≡ set_of records → size s ≤ 16777215 → Lists items s
+pub lists : (items : Items) (records : List Payload) (s : VrpSet) → AreEntries items records → s ≡ set_of records → size s ≤ 16777215 → ListsSet items s
 lists items records s entries is few = record { records = records; entries = entries; set_is = is; within_limit = few }
 
 -- An array of the entries of too many different records is no list.
-pub too_many : (items : Items) (records : List Payload) (s : VrpSet) → ((vs : List Payload) → AreEntries items vs → vs ≡ records) → 16777215 < size (set_of records) → ¬ (Lists items s)
+pub too_many : (items : Items) (records : List Payload) (s : VrpSet) → ((vs : List Payload) → AreEntries items vs → vs ≡ records) → 16777215 < size (set_of records) → ¬ (ListsSet items s)
 too_many items records s one many h =
     let same : h.records ≡ records = one h.records h.entries in
     let sizes : size s ≡ size (set_of records) = ap (λ x. size x) (h.set_is ∙ ap (λ vs. set_of vs) same) in
     absurd (omega (arith, sizes, many, h.within_limit))
 
 -- what a payload list lists, as its bytes are read
-pub same_list : (bytes : List ℕ) (s : VrpSet) (value : Data) (items : Items) → IsPayloadList bytes s → json.read bytes ≡ Some value → Some items ≡ as_array value → Lists items s
+pub same_list : (bytes : List ℕ) (s : VrpSet) (value : Data) (items : Items) → IsPayloadList bytes s → json.read bytes ≡ Some value → Some items ≡ as_array value → ListsSet items s
 same_list bytes s value items h reads array =
     let values : h.value ≡ value = one_some h.value value (json.read bytes) h.reads reads in
     let arrays : h.items ≡ items = one_some h.items items (as_array value) (ap (λ d. as_array d) (sym values) ∙ h.is_array) (sym array) in
-    subst (λ ds. Lists ds s) arrays h.lists
+    subst (λ ds. ListsSet ds s) arrays h.lists

@@ -10,7 +10,7 @@ use Rattle.serde_json.specs.Data.{Data, Items, no_items, item, array}
 use Rattle.serde_json.specs.Read.{of_json, of_items, converted, read}
 use Rattle.prefixes.specs.Payload.{Payload}
 use Rattle.payload_lists.specs.PayloadList.{AreEntries, IsEntry}
-use Rattle.payload_lists.specs.Plain.{ReadsEntry, ReadsItems}
+use Rattle.payload_lists.specs.PlainForm.{ReadsEntry, ReadsItems}
 
 abbrev pick : {A : Type 0} → A → Option A → A
 pick d None = d

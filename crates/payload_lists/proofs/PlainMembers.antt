@@ -10,7 +10,7 @@ use Rattle.serde_json.specs.Data.{Data, Members, no_members, member, number, str
 use Rattle.serde_json.specs.Find.{get_member}
 use Rattle.serde_json.proofs.Views.{get_member-put, get_member-put_other}
 use Rattle.payload_lists.specs.PayloadList.{member_count}
-use Rattle.payload_lists.specs.Plain.{Holds, one_if}
+use Rattle.payload_lists.specs.PlainForm.{HoldsMembers, one_if}
 use Rattle.payload_lists.specs.declared.plain.Plain.{Plain}
 
 count_at : (o : Ordering) (k l : List ℕ) (d e : Data) (ms : Members) → (get_member k ms ≡ None → member_count (put k d ms) ≡ suc (member_count ms))
@@ -28,7 +28,7 @@ count_put k d (member l e ms) new = count_at (slice_cmp nat_cmp k l) k l d e ms 
 none_of : {A B : Type 0} (f : A → B) (o : Option A) → o ≡ None → option_map f o ≡ None
 none_of f o e = ap (option_map f) e
 
-pub holds_asn : (ms : Members) (p : Plain) (n : ℕ) → p.asn ≡ None → Holds ms p → Holds (put (codes "asn") (number (unsigned n)) ms) (record p { asn = Some n })
+pub holds_asn : (ms : Members) (p : Plain) (n : ℕ) → p.asn ≡ None → HoldsMembers ms p → HoldsMembers (put (codes "asn") (number (unsigned n)) ms) (record p { asn = Some n })
 holds_asn ms p n none h = record {
   asn = get_member-put (codes "asn") (number (unsigned n)) ms;
   max_len = get_member-put_other (codes "maxLength") (codes "asn") (number (unsigned n)) ms (λ e. cc) ∙ h.max_len;
@@ -36,7 +36,7 @@ holds_asn ms p n none h = record {
   count = count_put (codes "asn") (number (unsigned n)) ms (h.asn ∙ none_of (λ m. number (unsigned m)) p.asn none) ∙ ap suc (h.count ∙ ap (λ o. one_if o + one_if p.max_len + one_if p.prefix) none) ∙ omega arith;
 }
 
-pub holds_max_len : (ms : Members) (p : Plain) (n : ℕ) → p.max_len ≡ None → Holds ms p → Holds (put (codes "maxLength") (number (unsigned n)) ms) (record p { max_len = Some n })
+pub holds_max_len : (ms : Members) (p : Plain) (n : ℕ) → p.max_len ≡ None → HoldsMembers ms p → HoldsMembers (put (codes "maxLength") (number (unsigned n)) ms) (record p { max_len = Some n })
 holds_max_len ms p n none h = record {
   asn = get_member-put_other (codes "asn") (codes "maxLength") (number (unsigned n)) ms (λ e. cc) ∙ h.asn;
   max_len = get_member-put (codes "maxLength") (number (unsigned n)) ms;
@@ -45,7 +45,7 @@ holds_max_len ms p n none h = record {
       ∙ ap suc (h.count ∙ ap (λ o. one_if p.asn + one_if o + one_if p.prefix) none) ∙ omega arith;
 }
 
-pub holds_prefix : (ms : Members) (p : Plain) (s : Bor (List ℕ)) → p.prefix ≡ None → Holds ms p → Holds (put (codes "prefix") (string s.now) ms) (record p { prefix = Some s })
+pub holds_prefix : (ms : Members) (p : Plain) (s : Bor (List ℕ)) → p.prefix ≡ None → HoldsMembers ms p → HoldsMembers (put (codes "prefix") (string s.now) ms) (record p { prefix = Some s })
 holds_prefix ms p s none h = record {
   asn = get_member-put_other (codes "asn") (codes "prefix") (string s.now) ms (λ e. cc) ∙ h.asn;
   max_len = get_member-put_other (codes "maxLength") (codes "prefix") (string s.now) ms (λ e. cc) ∙ h.max_len;

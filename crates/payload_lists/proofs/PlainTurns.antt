@@ -2,7 +2,7 @@
 use Rattle.std.proofs.Common.{◌≡◌, ℕ, suc, ◌-◌, ◌<◌, ◌≤◌, List, ◌∷◌, length, Option, Some, None, option_map, Bor, refl, ap, ◌∙◌, arith}
 use Rattle.std.specs.Prelude.{IfSome, option_and_then}
 use Rattle.serde_json.specs.Find.{as_number, as_str, as_u64}
-use Rattle.payload_lists.specs.Reading.{Makes}
+use Rattle.payload_lists.specs.EntrySteps.{MakesPayload}
 use Rattle.json.specs.Token.{Token}
 use Rattle.json.specs.Json as json
 use Rattle.json.specs.Json.{Parse, parse_map, read_key, after_end_array, items, members, value}
@@ -10,7 +10,7 @@ use Rattle.json.proofs.Grammar.{value_is, value-begin_object, read_key-shorter, 
 use Rattle.serde_json.specs.Data.{Data, Members, no_members, object, put}
 use Rattle.serde_json.specs.Read.{of_json, of_members, converted}
 use Rattle.prefixes.specs.Payload.{Payload}
-use Rattle.payload_lists.specs.Plain.{Holds, ReadsMember, ReadsEntry}
+use Rattle.payload_lists.specs.PlainForm.{HoldsMembers, ReadsMember, ReadsEntry}
 use Rattle.payload_lists.specs.declared.plain.Plain.{Plain}
 
 with_member : (k : List ℕ) (j : json.Json) (d : Data) (old : Members) → of_json j ≡ Some d → (o : Option (json.Members × List Token))
@@ -19,7 +19,7 @@ with_member k j d old e None = refl
 with_member k j d old e (Some p) = rw e
 
 pub member_is : (old s new : List Token) (k : List ℕ) (t : Token) (j : json.Json) (d : Data) (before : Plain) (result : Option Plain) → read_key old ≡ Some (Some k, s) → s ≡ t ∷ new
-    → ((depth : ℕ) → value depth (t ∷ new) ≡ Some (j, new)) → of_json j ≡ Some d → IfSome result (λ now. (ms : Members) → Holds ms before → Holds (put k d ms) now)
+    → ((depth : ℕ) → value depth (t ∷ new) ≡ Some (j, new)) → of_json j ≡ Some d → IfSome result (λ now. (ms : Members) → HoldsMembers ms before → HoldsMembers (put k d ms) now)
     → IfSome result (λ now. ReadsMember old new before now)
 member_is old s new k t j d before None key first is made h = tt
 member_is old s new k t j d before (Some now) key first is made h =
@@ -53,11 +53,11 @@ converted-object (Some p) = by (of_members p.0 no_members)
 abbrev pub nothing : Plain
 nothing = record { asn = None; max_len = None; prefix = None }
 
-holds_nothing : Holds no_members nothing
+holds_nothing : HoldsMembers no_members nothing
 holds_nothing = record { asn = refl; max_len = refl; prefix = refl; count = refl }
 
 pub members_are : (depth : ℕ) (ts s₁ s₂ s₃ rest : List Token) (p₁ p₂ p₃ : Plain) → ReadsMember ts s₁ nothing p₁ → ReadsMember s₁ s₂ p₁ p₂ → ReadsMember s₂ s₃ p₂ p₃ → read_key s₃ ≡ Some (None, rest)
-    → (ms : Members) × Holds ms p₃ × (converted (λ x. of_members x no_members) (members (value depth) (length ts) ts) ≡ Some (ms, rest))
+    → (ms : Members) × HoldsMembers ms p₃ × (converted (λ x. of_members x no_members) (members (value depth) (length ts) ts) ≡ Some (ms, rest))
 members_are depth ts s₁ s₂ s₃ rest p₁ p₂ p₃ one two three end =
     let n = length ts in
     let some₁ : 0 < n = omega (arith, one.0) in
@@ -71,7 +71,7 @@ members_are depth ts s₁ s₂ s₃ rest p₁ p₂ p₃ one two three end =
 
 pub entry_is : (old ts s₁ s₂ s₃ rest : List Token) (p₁ p₂ : Plain) (asn max_len : ℕ) (text : Bor (List ℕ)) (result : Option Payload) → old ≡ Token.begin_object ∷ ts
     → ReadsMember ts s₁ nothing p₁ → ReadsMember s₁ s₂ p₁ p₂ → ReadsMember s₂ s₃ p₂ (record { asn = Some asn; max_len = Some max_len; prefix = Some text }) → read_key s₃ ≡ Some (None, rest)
-    → IfSome result (λ v. Makes asn max_len text.now v) → IfSome result (λ v. ReadsEntry old rest v)
+    → IfSome result (λ v. MakesPayload asn max_len text.now v) → IfSome result (λ v. ReadsEntry old rest v)
 entry_is old ts s₁ s₂ s₃ rest p₁ p₂ asn max_len text None first one two three end made = tt
 entry_is old ts s₁ s₂ s₃ rest p₁ p₂ asn max_len text (Some v) first one two three end made =
     let last = read_key-shorter s₃ None rest end in

@@ -1,4 +1,4 @@
-pub mod Fault
+pub mod ListFaults
 pub mod PayloadList
-pub mod Reading
-pub mod Plain
+pub mod EntrySteps
+pub mod PlainForm

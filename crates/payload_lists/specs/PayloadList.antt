@@ -42,7 +42,7 @@ AreEntries no_items (v ∷ vs) = ⊥
 AreEntries (item d ds) [] = ⊥
 
 -- An array of entries of the members of this set, with at most 16,777,215 different ones
-pub record Lists (items : Items) (s : VrpSet) : Type 0 where
+pub record ListsSet (items : Items) (s : VrpSet) : Type 0 where
   pub records : List Payload
   pub entries : AreEntries items records
   pub set_is : s ≡ set_of records
@@ -55,7 +55,7 @@ pub record IsPayloadList (bytes : List ℕ) (s : VrpSet) : Type 0 where
   pub reads : json.read bytes ≡ Some value
   pub items : Items
   pub is_array : as_array value ≡ Some items
-  pub lists : Lists items s
+  pub lists : ListsSet items s
 
 -- The text of an entry, and that of a list of these records: compact, on one line
 abbrev pub entry_text : Payload → List ℕ

@@ -4,8 +4,8 @@ ghost use Rattle.serde_json.specs.View.{view, items_view};
 ghost use Rattle.std.specs.List.Sorted.{IsStrictlySortedBy};
 ghost use Rattle.prefixes.specs.Payload.{Payload, vrp_cmp};
 ghost use Rattle.vrps.specs.VrpSet.{VrpSet as Vrps, set_of, size};
-ghost use Rattle.payload_lists.specs.Reading.{Makes};
-ghost use Rattle.payload_lists.specs.PayloadList.{AreEntries, IsEntry, IsPayloadList, Lists, entry_text, list_text, text_at, whole_at};
+ghost use Rattle.payload_lists.specs.EntrySteps.{MakesPayload};
+ghost use Rattle.payload_lists.specs.PayloadList.{AreEntries, IsEntry, IsPayloadList, ListsSet, entry_text, list_text, text_at, whole_at};
 
 use crate::plain::plain_list;
 use prefixes::laws::one_reading;
@@ -25,11 +25,11 @@ pub enum ListFault {
 }
 
 impl ListFault {
-    ghost use Rattle.payload_lists.specs.Fault.{fault_number};
+    ghost use Rattle.payload_lists.specs.ListFaults.{list_fault_number};
 
     /// The number by which the fault is printed.
     pub fn number(self) -> u8
-        ensures { result ≡ fault_number self }
+        ensures { result ≡ list_fault_number self }
     {
         self as u8
     }
@@ -61,9 +61,9 @@ fn text<'a>(value: &'a Value, key: &str) -> Option<&'a str>
 
 /// The payload of these numbers and this text, if they make one.
 pub(crate) fn payload(asn: u64, max_len: u64, prefix: &str) -> Option<Vrp>
-    ensures some { IfSome result (λ v. Makes asn max_len prefix.now v) }
-    ensures one { IfSome result (λ v. (w : Payload) → Makes asn max_len prefix.now w → w ≡ v) }
-    ensures none { IfNone result ((v : Payload) → ¬ (Makes asn max_len prefix.now v)) }
+    ensures some { IfSome result (λ v. MakesPayload asn max_len prefix.now v) }
+    ensures one { IfSome result (λ v. (w : Payload) → MakesPayload asn max_len prefix.now w → w ≡ v) }
+    ensures none { IfNone result ((v : Payload) → ¬ (MakesPayload asn max_len prefix.now v)) }
 {
     let Ok(prefix) = IpPrefix::parse(prefix) else {
         return None;
@@ -130,8 +130,8 @@ fn set_from(records: Vec<Vrp>) -> Result<VrpSet, ListFault>
 
 /// The set of an array of entries.
 fn set_of_items(alloc: Global, list: &[Value]) -> Result<VrpSet, ListFault>
-    ensures ok { IfOk result (λ s. Lists (items_view list.now) s) }
-    ensures no_list { IsErrOf result ListFault.NoList → (s : Vrps) → ¬ (Lists (items_view list.now) s) }
+    ensures ok { IfOk result (λ s. ListsSet (items_view list.now) s) }
+    ensures no_list { IsErrOf result ListFault.NoList → (s : Vrps) → ¬ (ListsSet (items_view list.now) s) }
 {
     let records = records_of(alloc, list)?;
     set_from(records)

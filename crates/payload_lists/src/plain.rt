@@ -3,7 +3,7 @@ ghost use Rattle.std.specs.Prelude.{◌≡◌, Some, IfSome, IfOk};
 ghost use Rattle.serde_json.specs.Data.{Items, Members, array, number, put, string, unsigned};
 ghost use Rattle.serde_json.specs.Read.{number_of, read};
 ghost use Rattle.payload_lists.specs.PayloadList.{AreEntries};
-ghost use Rattle.payload_lists.specs.Plain.{Holds, ReadsMember, ReadsEntry, ReadsItems};
+ghost use Rattle.payload_lists.specs.PlainForm.{HoldsMembers, ReadsMember, ReadsEntry, ReadsItems};
 
 use crate::listing::payload;
 use fast_float::Numeral;
@@ -28,7 +28,7 @@ pub struct Plain<'a> {
 
 /// With a member more, where it is a number, has one of these names, and comes for the first time.
 fn with_number<'a>(found: Plain<'a>, name: &str, count: u64) -> Option<Plain<'a>>
-    ensures { IfSome result (λ now. (ms : Members) → Holds ms found.entry → Holds (put name.now (number (unsigned count)) ms) now) }
+    ensures { IfSome result (λ now. (ms : Members) → HoldsMembers ms found.entry → HoldsMembers (put name.now (number (unsigned count)) ms) now) }
 {
     match name {
         "asn" if found.asn.is_none() => Some(Plain {
@@ -45,7 +45,7 @@ fn with_number<'a>(found: Plain<'a>, name: &str, count: u64) -> Option<Plain<'a>
 
 /// The same of a text.
 fn with_text<'a>(found: Plain<'a>, name: &str, text: &'a str) -> Option<Plain<'a>>
-    ensures { IfSome result (λ now. (ms : Members) → Holds ms found.entry → Holds (put name.now (string text.now) ms) now) }
+    ensures { IfSome result (λ now. (ms : Members) → HoldsMembers ms found.entry → HoldsMembers (put name.now (string text.now) ms) now) }
 {
     match name {
         "prefix" if found.prefix.is_none() => Some(Plain {

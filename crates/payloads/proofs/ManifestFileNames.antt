@@ -4,7 +4,7 @@ use Rattle.std.specs.List.{list_all}
 use Rattle.std.proofs.lemmas.Bool.{and_parts, and_from, or_cases, eqb-true, leb-true, ltb-true, lt-ltb}
 use Rattle.der_lite.specs.Der.{IsBytes, is_ia5}
 use Rattle.der_lite.specs.Moments.{is_between}
-use Rattle.der_lite.proofs.Numbers.{bytes_cons, no_bytes}
+use Rattle.der_lite.proofs.NumberBytes.{bytes_cons, no_bytes}
 use Rattle.payloads.specs.Manifest.{is_name_byte, is_small_letter, is_name}
 
 -- a number up to 127

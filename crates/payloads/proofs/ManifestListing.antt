@@ -3,7 +3,7 @@ use Rattle.std.proofs.Common.{◌≡◌, ◌≢◌, ◌<◌, List, [], ◌∷◌
 use Rattle.der_lite.specs.Place.{Place}
 use Rattle.der_lite.specs.Decoding.{read_member}
 use Rattle.der_lite.specs.Fields.{last_at, valued_at}
-use Rattle.der_lite.proofs.Fields.{sequence_shorter}
+use Rattle.der_lite.proofs.FieldLaws.{sequence_shorter}
 use Rattle.der_lite.proofs.Loops.{Goes, goes_on}
 use Rattle.payloads.specs.Roa.{no_rules}
 use Rattle.payloads.specs.Manifest.{ListedFile, too_many_files}

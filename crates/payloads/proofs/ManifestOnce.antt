@@ -4,8 +4,8 @@ use Rattle.der_lite.specs.Der.{head_rules}
 use Rattle.der_lite.specs.Moments.{CivilMoment}
 use Rattle.der_lite.specs.Grammar.{primitive, constructed, member, last, each}
 use Rattle.der_lite.proofs.Once.{Once, once_element, once_primitive, once_constructed, once_last, once_member, once_each}
-use Rattle.der_lite.proofs.Fields.{once_valued}
-use Rattle.der_lite.proofs.Times.{once_timed}
+use Rattle.der_lite.proofs.FieldLaws.{once_valued}
+use Rattle.der_lite.proofs.TimeLaws.{once_timed}
 use Rattle.payloads.specs.Roa.{no_rules, first_head}
 use Rattle.payloads.specs.Manifest.{NumberSpells, number_rules, manifest_number, this_update, next_rules, next_update, AlgorithmSpells, algorithm_rules, hash_algorithm, ListedFile, name_rules, NameSpells, file_name, HashSpells, hash_rules, file_hash, too_many_files, file_parts, file_members, file_and_hash, file_list, manifest_parts, behind_next, behind_this, manifest_members, manifest, manifest_payload, ManifestSpells}
 

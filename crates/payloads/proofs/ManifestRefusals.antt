@@ -5,7 +5,7 @@ use Rattle.der_lite.specs.Der.{IsBytes, is_integer, is_ia5}
 use Rattle.der_lite.specs.Moments.{CivilMoment, moment_before, moment_of, is_time}
 use Rattle.der_lite.specs.Grammar.{EachSpells}
 use Rattle.der_lite.specs.Values.{is_negative}
-use Rattle.der_lite.proofs.Moments.{spelled_is}
+use Rattle.der_lite.proofs.MomentLaws.{spelled_is}
 use Rattle.payloads.specs.Manifest.{number_range, manifest_number, next_rules, next_update, ListedFile, listed_rules, file_name, file_and_hash, file_list, ManifestValue, manifest, manifest_payload, ManifestSpells, ManifestFaultAt}
 use Rattle.payloads.specs.ManifestReading.{manifest_all}
 use Rattle.payloads.specs.ManifestRefusal.{value_rules, file_rules, files_refusal, manifest_refusal}

@@ -15,8 +15,8 @@ use Rattle.der_lite.specs.Times.{timed}
 use Rattle.der_lite.specs.Values.{is_negative}
 use Rattle.der_lite.specs.Writing.{Adds}
 use Rattle.der_lite.proofs.Integers.{value_is}
-use Rattle.der_lite.proofs.Moments.{spelled_is}
-use Rattle.der_lite.proofs.Numbers.{bytes_append, bytes_cons, no_bytes, tlv_length, tlv_bytes}
+use Rattle.der_lite.proofs.MomentLaws.{spelled_is}
+use Rattle.der_lite.proofs.NumberBytes.{bytes_append, bytes_cons, no_bytes, tlv_length, tlv_bytes}
 use Rattle.payloads.specs.Manifest.{manifest_number, this_update, next_rules, next_update, sha_256, hash_algorithm, ListedFile, is_name, is_listed, listed_rules, file_name, file_hash, file_and_hash, file_list, ManifestValue, manifest, manifest_payload, ManifestSpells}
 use Rattle.payloads.specs.ManifestBytes.{file_bytes, files_bytes, front_bytes, manifest_bytes}
 use Rattle.payloads.specs.ManifestRefusal.{value_rules, file_rules, files_refusal, manifest_refusal, HasHash, HasShortName}

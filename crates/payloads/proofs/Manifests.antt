@@ -5,15 +5,15 @@ use Rattle.std.proofs.lemmas.Slice.Eq.{bytes_eq-Decides}
 use Rattle.der_lite.specs.Der.{is_integer, is_bit_string, bit_count, is_ia5}
 use Rattle.der_lite.specs.Moments.{CivilMoment}
 use Rattle.der_lite.specs.Grammar.{member, last, each}
-use Rattle.der_lite.specs.Reading.{time_at}
+use Rattle.der_lite.specs.DerReading.{time_at}
 use Rattle.der_lite.specs.Decoding.{read_member, read_each}
 use Rattle.der_lite.specs.Fields.{last_at, valued_at}
 use Rattle.der_lite.specs.Values.{is_negative}
 use Rattle.der_lite.proofs.Exact.{ExactElement, ExactMembers, exact_primitive, exact_member, exact_each}
-use Rattle.der_lite.proofs.Fields.{exact_field, exact_sequence, exact_last_at, exact_valued}
+use Rattle.der_lite.proofs.FieldLaws.{exact_field, exact_sequence, exact_last_at, exact_valued}
 use Rattle.der_lite.proofs.Integers.{value_is}
 use Rattle.der_lite.proofs.Rules.{kept_first}
-use Rattle.der_lite.proofs.Times.{exact_timed, exact_time}
+use Rattle.der_lite.proofs.TimeLaws.{exact_timed, exact_time}
 use Rattle.payloads.specs.Roa.{no_rules}
 use Rattle.payloads.specs.Manifest.{NumberSpells, number_range, number_rules, manifest_number, this_update, next_rules, next_update, sha_256, AlgorithmSpells, algorithm_rules, hash_algorithm, ListedFile, listed_rules, name_rules, NameSpells, file_name, HashSpells, hash_length, hash_rules, file_hash, too_many_files, file_parts, file_members, file_and_hash, file_list, manifest_parts, behind_next, behind_this, manifest_members, manifest, manifest_payload}
 use Rattle.payloads.specs.ManifestReading.{number_at, next_at, algorithm_at, name_at, hash_at, file_of, file_at, files_at, manifest_of, behind_next_at, behind_this_at, manifest_at}

@@ -2,17 +2,17 @@
 use Rattle.std.proofs.Common.{◌≡◌, ℕ, pos, Bool, true, false, not, ◌&&◌, ◌||◌, cond, eqb, ltb, List, [], ◌∷◌, ◌++◌, length, get_or, Option, Result, Ok, Err, refl, sym, ap, ◌∙◌, arith}
 use Rattle.std.proofs.lemmas.Bool.{and_parts, or_parts, not-false, eqb-true, ne_eqb}
 use Rattle.der_lite.specs.Place.{Place, Fault}
-use Rattle.der_lite.specs.Der.{number, is_integer, IntSpells, is_bit_string, bit_count, head_rules, is_truncated, has_length, tag_of}
+use Rattle.der_lite.specs.Der.{number, is_integer, IntSpells, is_bit_string, bit_count, head_rules, is_truncated, has_der_length, tag_of}
 use Rattle.der_lite.specs.Grammar.{element, primitive}
-use Rattle.der_lite.specs.Reading.{◌>>=◌, judged, element_at, content_at, integer_at, content_place, next_place}
+use Rattle.der_lite.specs.DerReading.{◌>>=◌, judged, element_at, content_at, integer_at, content_place, next_place}
 use Rattle.der_lite.specs.Decoding.{Read, read_element, read_primitive}
 use Rattle.der_lite.specs.Values.{bits_value}
 use Rattle.der_lite.specs.Fields.{field_at}
 use Rattle.der_lite.proofs.Rules.{judged-bind, kept_first, kept_on}
 use Rattle.der_lite.proofs.Elements.{head_kept}
 use Rattle.der_lite.proofs.Exact.{ExactElement, ExactContent, IsHead, exact_element, exact_primitive}
-use Rattle.der_lite.proofs.Plain.{exact_along}
-use Rattle.der_lite.proofs.Fields.{judged-append, exact_field}
+use Rattle.der_lite.proofs.ContentReads.{exact_along}
+use Rattle.der_lite.proofs.FieldLaws.{judged-append, exact_field}
 use Rattle.der_lite.proofs.Integers.{exact_between}
 use Rattle.der_lite.proofs.BitStrings.{taken, bits_spelled}
 use Rattle.prefixes.specs.Payload.{block_of, width_of}
@@ -73,7 +73,7 @@ module _ {V : Type 0} (rules : List ℕ → List (ℕ × Bool)) (value : List �
       ∙ judged-bind (own c) p.at (judged (rules c) p.at (Ok (value c))) then_next ∙ ap (judged (own c) p.at) (judged-bind (rules c) p.at (Ok (value c)) then_next)
       ∙ sym (judged-bind (own c) p.at (Ok (c, next_place p)) rules_then) in
       ap (judged (first_head p.rest) p.at) inner
-      ∙ heads (is_truncated p.rest) (eqb (tag_of p.rest) 160) (eqb (tag_of p.rest) 2) (has_length p.rest) p.at read rules_then (λ n. ne_eqb (tag_of p.rest) 2 (λ m. absurd (omega (arith, eqb-true (tag_of p.rest) 160 n))))
+      ∙ heads (is_truncated p.rest) (eqb (tag_of p.rest) 160) (eqb (tag_of p.rest) 2) (has_der_length p.rest) p.at read rules_then (λ n. ne_eqb (tag_of p.rest) 2 (λ m. absurd (omega (arith, eqb-true (tag_of p.rest) 160 n))))
       ∙ ap (λ (r : Result (List ℕ × Place) Fault). with_version (eqb (tag_of p.rest) 160) r >>= rules_then) (sym (judged-bind (head_rules 2 p.rest) p.at (Ok (content_place p, next_place p)) own_then))
 
   -- and exactly so if its content is

@@ -6,9 +6,9 @@ use Rattle.std.proofs.lemmas.List.{append-nil, length-take, nil_from_length}
 use Rattle.std.specs.List.{last_or}
 use Rattle.der_lite.specs.Place.{Place, Fault}
 use Rattle.der_lite.specs.Decoding.{read_each, read_member}
-use Rattle.der_lite.specs.Reading.{element_at}
+use Rattle.der_lite.specs.DerReading.{element_at}
 use Rattle.der_lite.specs.Fields.{optional_at, valued_at}
-use Rattle.der_lite.proofs.Fields.{sequence_shorter}
+use Rattle.der_lite.proofs.FieldLaws.{sequence_shorter}
 use Rattle.der_lite.proofs.Loops.{Goes, goes_begin, goes_on, goes_wrong, goes_out}
 use Rattle.payloads.specs.declared.roa_family.AddressFamily.{AddressFamily}
 use Rattle.payloads.specs.declared.roa_entry.RoaEntry.{RoaEntry}

@@ -3,11 +3,11 @@ use Rattle.std.proofs.Common.{◌≡◌, ℕ, ◌+◌, ◌≤◌, Bool, None, no
 use Rattle.std.proofs.lemmas.Bool.{ltb-false}
 use Rattle.std.specs.List.{last_or}
 use Rattle.der_lite.specs.Der.{BitsSpell, is_bit_string, bit_count, head_rules}
-use Rattle.der_lite.specs.Grammar.{Keeps, primitive, constructed, member, last, optional, each}
+use Rattle.der_lite.specs.Grammar.{KeepsRules, primitive, constructed, member, last, optional, each}
 use Rattle.der_lite.specs.Values.{integer_between}
 use Rattle.der_lite.proofs.Rules.{kept_first}
 use Rattle.der_lite.proofs.Once.{Once, once_element, once_primitive, once_constructed, once_last, once_member, once_optional, once_each}
-use Rattle.der_lite.proofs.Fields.{once_valued}
+use Rattle.der_lite.proofs.FieldLaws.{once_valued}
 use Rattle.der_lite.proofs.Integers.{once_between}
 use Rattle.der_lite.proofs.BitStrings.{once_bits, bits_one, spelled_count}
 use Rattle.prefixes.specs.Payload.{block_of, width_of}
@@ -26,7 +26,7 @@ bits_from Ipv4 bits others h e = bits_one bits others 32 h (ap (λ (p : IpPrefix
 bits_from Ipv6 bits others h e = bits_one bits others 128 h (ap (λ (p : IpPrefix). (block_of p).len) e) (ap (λ (p : IpPrefix). (block_of p).addr) e)
 
 -- the bits of a spelled prefix are as many as an address has, or fewer
-pub few_bits : (family : AddressFamily) (prefix : IpPrefix) (content : List ℕ) (s : PrefixSpells family prefix content) → Keeps (address_rules family content) → length s.bits ≤ family_width family
+pub few_bits : (family : AddressFamily) (prefix : IpPrefix) (content : List ℕ) (s : PrefixSpells family prefix content) → KeepsRules (address_rules family content) → length s.bits ≤ family_width family
 few_bits family prefix content s kept =
     let long : Bool = ltb (family_width family) (bit_count content) in
     let k = kept_first 4 (not (is_bit_string content)) ((10, long) ∷ []) kept in

@@ -9,10 +9,10 @@ use Rattle.std.proofs.Math.Nat.{mul_assoc, mul_right_comm, mul-div_cancel, mul-m
 use Rattle.std.proofs.Math.Pow.{mod-mod-pow}
 use Rattle.der_lite.specs.Der.{IsBytes, number, base_256, tlv, is_bit_string, bit_count}
 use Rattle.der_lite.specs.Values.{bits_value, bits_number}
-use Rattle.der_lite.specs.Grammar.{Keeps}
+use Rattle.der_lite.specs.Grammar.{KeepsRules}
 use Rattle.der_lite.proofs.BitStrings.{pow_256, bits_spelled}
 use Rattle.der_lite.proofs.Elements.{IsBytes-take}
-use Rattle.der_lite.proofs.Numbers.{bytes_cons, base_length, base_bytes, base_number, base_take, base_high_first}
+use Rattle.der_lite.proofs.NumberBytes.{bytes_cons, base_length, base_bytes, base_number, base_take, base_high_first}
 use Rattle.prefixes.specs.Address.{Block, IsPrefix}
 use Rattle.prefixes.specs.Payload.{block_of, width_of}
 use Rattle.prefixes.specs.declared.prefix.IpPrefix.{IpPrefix}
@@ -125,7 +125,7 @@ module _ (octets : ℕ) (p : Block) (is : IsPrefix (8 * octets) p) where
 -- ---- the element
 
 -- two rules are kept
-both_kept : (a b : Bool) → a ≡ true → b ≡ false → Keeps ((4, not a) ∷ (10, b) ∷ [])
+both_kept : (a b : Bool) → a ≡ true → b ≡ false → KeepsRules ((4, not a) ∷ (10, b) ∷ [])
 both_kept a b ha hb = rw (ha, hb) refl
 
 few_bytes : (octets : ℕ) (p : Block) → octets ≤ 16 → length (first_bytes octets p) ≤ 17

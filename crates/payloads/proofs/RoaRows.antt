@@ -1,7 +1,7 @@
 -- The definitions at examples: what bytes spell, and their first fault.
 use Rattle.std.proofs.Common.{◌≡◌, ℕ, true, List, [], ◌∷◌, Option, Some, None, Ok, Err, refl}
-use Rattle.der_lite.specs.Der.{length_end, content_end, has_length, length_bytes, is_truncated, head_rules}
-use Rattle.der_lite.specs.Reading.{element_at, content_at, end_at, content_place, next_place}
+use Rattle.der_lite.specs.Der.{length_end, content_end, has_der_length, length_bytes, is_truncated, head_rules}
+use Rattle.der_lite.specs.DerReading.{element_at, content_at, end_at, content_place, next_place}
 use Rattle.prefixes.specs.Address.{Block}
 use Rattle.prefixes.specs.declared.prefix.IpPrefix.{IpPrefix}
 use Rattle.prefixes.specs.declared.prefix.IpPrefix.TheVariants.{V4, V6}
@@ -32,213 +32,213 @@ faults bytes number offset are e = fault_read bytes (record { number = number; o
 
 -- an AS and a prefix of 24 bits
 one_prefix : RoaSpells (flat (roa ((Ipv4, entry (V4 (block 0xc0000200 24)) None ∷ []), None))) (0x30 ∷ 0x17 ∷ 0x02 ∷ 0x03 ∷ 0x00 ∷ 0xfb ∷ 0xf0 ∷ 0x30 ∷ 0x10 ∷ 0x30 ∷ 0x0e ∷ 0x04 ∷ 0x02 ∷ 0x00 ∷ 0x01 ∷ 0x30 ∷ 0x08 ∷ 0x30 ∷ 0x06 ∷ 0x03 ∷ 0x04 ∷ 0x00 ∷ 0xc0 ∷ 0x00 ∷ 0x02 ∷ [])
-unfolding as_id_at address_family_at address_at max_length_at maximum_at entry_at entries_at addresses_at ip_family_at blocks_at attestation_at payload_at element_at content_at end_at length_end content_end has_length length_bytes is_truncated head_rules content_place next_place
+unfolding as_id_at address_family_at address_at max_length_at maximum_at entry_at entries_at addresses_at ip_family_at blocks_at attestation_at payload_at element_at content_at end_at length_end content_end has_der_length length_bytes is_truncated head_rules content_place next_place
 one_prefix = spells (0x30 ∷ 0x17 ∷ 0x02 ∷ 0x03 ∷ 0x00 ∷ 0xfb ∷ 0xf0 ∷ 0x30 ∷ 0x10 ∷ 0x30 ∷ 0x0e ∷ 0x04 ∷ 0x02 ∷ 0x00 ∷ 0x01 ∷ 0x30 ∷ 0x08 ∷ 0x30 ∷ 0x06 ∷ 0x03 ∷ 0x04 ∷ 0x00 ∷ 0xc0 ∷ 0x00 ∷ 0x02 ∷ []) (roa ((Ipv4, entry (V4 (block 0xc0000200 24)) None ∷ []), None)) refl refl
 
 -- the prefix of no bits
 no_bits : RoaSpells (flat (roa ((Ipv4, entry (V4 (block 0 0)) None ∷ []), None))) (0x30 ∷ 0x14 ∷ 0x02 ∷ 0x03 ∷ 0x00 ∷ 0xfb ∷ 0xf0 ∷ 0x30 ∷ 0x0d ∷ 0x30 ∷ 0x0b ∷ 0x04 ∷ 0x02 ∷ 0x00 ∷ 0x01 ∷ 0x30 ∷ 0x05 ∷ 0x30 ∷ 0x03 ∷ 0x03 ∷ 0x01 ∷ 0x00 ∷ [])
-unfolding as_id_at address_family_at address_at max_length_at maximum_at entry_at entries_at addresses_at ip_family_at blocks_at attestation_at payload_at element_at content_at end_at length_end content_end has_length length_bytes is_truncated head_rules content_place next_place
+unfolding as_id_at address_family_at address_at max_length_at maximum_at entry_at entries_at addresses_at ip_family_at blocks_at attestation_at payload_at element_at content_at end_at length_end content_end has_der_length length_bytes is_truncated head_rules content_place next_place
 no_bits = spells (0x30 ∷ 0x14 ∷ 0x02 ∷ 0x03 ∷ 0x00 ∷ 0xfb ∷ 0xf0 ∷ 0x30 ∷ 0x0d ∷ 0x30 ∷ 0x0b ∷ 0x04 ∷ 0x02 ∷ 0x00 ∷ 0x01 ∷ 0x30 ∷ 0x05 ∷ 0x30 ∷ 0x03 ∷ 0x03 ∷ 0x01 ∷ 0x00 ∷ []) (roa ((Ipv4, entry (V4 (block 0 0)) None ∷ []), None)) refl refl
 
 -- a prefix of IPv6 with a maximum length
 with_maximum : RoaSpells (flat (roa ((Ipv6, entry (V6 (block 0x20010db8000000000000000000000000 32)) (Some 48) ∷ []), None))) (0x30 ∷ 0x1b ∷ 0x02 ∷ 0x03 ∷ 0x00 ∷ 0xfb ∷ 0xf0 ∷ 0x30 ∷ 0x14 ∷ 0x30 ∷ 0x12 ∷ 0x04 ∷ 0x02 ∷ 0x00 ∷ 0x02 ∷ 0x30 ∷ 0x0c ∷ 0x30 ∷ 0x0a ∷ 0x03 ∷ 0x05 ∷ 0x00 ∷ 0x20 ∷ 0x01 ∷ 0x0d ∷ 0xb8 ∷ 0x02 ∷ 0x01 ∷ 0x30 ∷ [])
-unfolding as_id_at address_family_at address_at max_length_at maximum_at entry_at entries_at addresses_at ip_family_at blocks_at attestation_at payload_at element_at content_at end_at length_end content_end has_length length_bytes is_truncated head_rules content_place next_place
+unfolding as_id_at address_family_at address_at max_length_at maximum_at entry_at entries_at addresses_at ip_family_at blocks_at attestation_at payload_at element_at content_at end_at length_end content_end has_der_length length_bytes is_truncated head_rules content_place next_place
 with_maximum = spells (0x30 ∷ 0x1b ∷ 0x02 ∷ 0x03 ∷ 0x00 ∷ 0xfb ∷ 0xf0 ∷ 0x30 ∷ 0x14 ∷ 0x30 ∷ 0x12 ∷ 0x04 ∷ 0x02 ∷ 0x00 ∷ 0x02 ∷ 0x30 ∷ 0x0c ∷ 0x30 ∷ 0x0a ∷ 0x03 ∷ 0x05 ∷ 0x00 ∷ 0x20 ∷ 0x01 ∷ 0x0d ∷ 0xb8 ∷ 0x02 ∷ 0x01 ∷ 0x30 ∷ []) (roa ((Ipv6, entry (V6 (block 0x20010db8000000000000000000000000 32)) (Some 48) ∷ []), None)) refl refl
 
 -- a maximum length that says nothing
 superfluous_maximum : RoaSpells (flat (roa ((Ipv4, entry (V4 (block 0xc0000200 24)) (Some 24) ∷ []), None))) (0x30 ∷ 0x1a ∷ 0x02 ∷ 0x03 ∷ 0x00 ∷ 0xfb ∷ 0xf0 ∷ 0x30 ∷ 0x13 ∷ 0x30 ∷ 0x11 ∷ 0x04 ∷ 0x02 ∷ 0x00 ∷ 0x01 ∷ 0x30 ∷ 0x0b ∷ 0x30 ∷ 0x09 ∷ 0x03 ∷ 0x04 ∷ 0x00 ∷ 0xc0 ∷ 0x00 ∷ 0x02 ∷ 0x02 ∷ 0x01 ∷ 0x18 ∷ [])
-unfolding as_id_at address_family_at address_at max_length_at maximum_at entry_at entries_at addresses_at ip_family_at blocks_at attestation_at payload_at element_at content_at end_at length_end content_end has_length length_bytes is_truncated head_rules content_place next_place
+unfolding as_id_at address_family_at address_at max_length_at maximum_at entry_at entries_at addresses_at ip_family_at blocks_at attestation_at payload_at element_at content_at end_at length_end content_end has_der_length length_bytes is_truncated head_rules content_place next_place
 superfluous_maximum = spells (0x30 ∷ 0x1a ∷ 0x02 ∷ 0x03 ∷ 0x00 ∷ 0xfb ∷ 0xf0 ∷ 0x30 ∷ 0x13 ∷ 0x30 ∷ 0x11 ∷ 0x04 ∷ 0x02 ∷ 0x00 ∷ 0x01 ∷ 0x30 ∷ 0x0b ∷ 0x30 ∷ 0x09 ∷ 0x03 ∷ 0x04 ∷ 0x00 ∷ 0xc0 ∷ 0x00 ∷ 0x02 ∷ 0x02 ∷ 0x01 ∷ 0x18 ∷ []) (roa ((Ipv4, entry (V4 (block 0xc0000200 24)) (Some 24) ∷ []), None)) refl refl
 
 -- both families
 two_families : RoaSpells (flat (roa ((Ipv4, entry (V4 (block 0xc0000200 24)) None ∷ []), Some (Ipv6, entry (V6 (block 0x20010db8000000000000000000000000 32)) (Some 48) ∷ [])))) (0x30 ∷ 0x2b ∷ 0x02 ∷ 0x03 ∷ 0x00 ∷ 0xfb ∷ 0xf0 ∷ 0x30 ∷ 0x24 ∷ 0x30 ∷ 0x0e ∷ 0x04 ∷ 0x02 ∷ 0x00 ∷ 0x01 ∷ 0x30 ∷ 0x08 ∷ 0x30 ∷ 0x06 ∷ 0x03 ∷ 0x04 ∷ 0x00 ∷ 0xc0 ∷ 0x00 ∷ 0x02 ∷ 0x30 ∷ 0x12 ∷ 0x04 ∷ 0x02 ∷ 0x00 ∷ 0x02 ∷ 0x30 ∷ 0x0c ∷ 0x30 ∷ 0x0a ∷ 0x03 ∷ 0x05 ∷ 0x00 ∷ 0x20 ∷ 0x01 ∷ 0x0d ∷ 0xb8 ∷ 0x02 ∷ 0x01 ∷ 0x30 ∷ [])
-unfolding as_id_at address_family_at address_at max_length_at maximum_at entry_at entries_at addresses_at ip_family_at blocks_at attestation_at payload_at element_at content_at end_at length_end content_end has_length length_bytes is_truncated head_rules content_place next_place
+unfolding as_id_at address_family_at address_at max_length_at maximum_at entry_at entries_at addresses_at ip_family_at blocks_at attestation_at payload_at element_at content_at end_at length_end content_end has_der_length length_bytes is_truncated head_rules content_place next_place
 two_families = spells (0x30 ∷ 0x2b ∷ 0x02 ∷ 0x03 ∷ 0x00 ∷ 0xfb ∷ 0xf0 ∷ 0x30 ∷ 0x24 ∷ 0x30 ∷ 0x0e ∷ 0x04 ∷ 0x02 ∷ 0x00 ∷ 0x01 ∷ 0x30 ∷ 0x08 ∷ 0x30 ∷ 0x06 ∷ 0x03 ∷ 0x04 ∷ 0x00 ∷ 0xc0 ∷ 0x00 ∷ 0x02 ∷ 0x30 ∷ 0x12 ∷ 0x04 ∷ 0x02 ∷ 0x00 ∷ 0x02 ∷ 0x30 ∷ 0x0c ∷ 0x30 ∷ 0x0a ∷ 0x03 ∷ 0x05 ∷ 0x00 ∷ 0x20 ∷ 0x01 ∷ 0x0d ∷ 0xb8 ∷ 0x02 ∷ 0x01 ∷ 0x30 ∷ []) (roa ((Ipv4, entry (V4 (block 0xc0000200 24)) None ∷ []), Some (Ipv6, entry (V6 (block 0x20010db8000000000000000000000000 32)) (Some 48) ∷ []))) refl refl
 
 -- a version is encoded
 version : RoaFaultAt (0x30 ∷ 0x1c ∷ 0xa0 ∷ 0x03 ∷ 0x02 ∷ 0x01 ∷ 0x00 ∷ 0x02 ∷ 0x03 ∷ 0x00 ∷ 0xfb ∷ 0xf0 ∷ 0x30 ∷ 0x10 ∷ 0x30 ∷ 0x0e ∷ 0x04 ∷ 0x02 ∷ 0x00 ∷ 0x01 ∷ 0x30 ∷ 0x08 ∷ 0x30 ∷ 0x06 ∷ 0x03 ∷ 0x04 ∷ 0x00 ∷ 0xc0 ∷ 0x00 ∷ 0x02 ∷ []) 2 6
-unfolding as_id_at address_family_at address_at max_length_at maximum_at entry_at entries_at addresses_at ip_family_at blocks_at attestation_at payload_at element_at content_at end_at length_end content_end has_length length_bytes is_truncated head_rules content_place next_place
+unfolding as_id_at address_family_at address_at max_length_at maximum_at entry_at entries_at addresses_at ip_family_at blocks_at attestation_at payload_at element_at content_at end_at length_end content_end has_der_length length_bytes is_truncated head_rules content_place next_place
 version = faults (0x30 ∷ 0x1c ∷ 0xa0 ∷ 0x03 ∷ 0x02 ∷ 0x01 ∷ 0x00 ∷ 0x02 ∷ 0x03 ∷ 0x00 ∷ 0xfb ∷ 0xf0 ∷ 0x30 ∷ 0x10 ∷ 0x30 ∷ 0x0e ∷ 0x04 ∷ 0x02 ∷ 0x00 ∷ 0x01 ∷ 0x30 ∷ 0x08 ∷ 0x30 ∷ 0x06 ∷ 0x03 ∷ 0x04 ∷ 0x00 ∷ 0xc0 ∷ 0x00 ∷ 0x02 ∷ []) 6 2 refl refl
 
 -- one quadruple comes twice
 double : RoaFaultAt (0x30 ∷ 0x22 ∷ 0x02 ∷ 0x03 ∷ 0x00 ∷ 0xfb ∷ 0xf0 ∷ 0x30 ∷ 0x1b ∷ 0x30 ∷ 0x19 ∷ 0x04 ∷ 0x02 ∷ 0x00 ∷ 0x01 ∷ 0x30 ∷ 0x13 ∷ 0x30 ∷ 0x06 ∷ 0x03 ∷ 0x04 ∷ 0x00 ∷ 0xc0 ∷ 0x00 ∷ 0x02 ∷ 0x30 ∷ 0x09 ∷ 0x03 ∷ 0x04 ∷ 0x00 ∷ 0xc0 ∷ 0x00 ∷ 0x02 ∷ 0x02 ∷ 0x01 ∷ 0x18 ∷ []) 25 12
-unfolding as_id_at address_family_at address_at max_length_at maximum_at entry_at entries_at addresses_at ip_family_at blocks_at attestation_at payload_at element_at content_at end_at length_end content_end has_length length_bytes is_truncated head_rules content_place next_place
+unfolding as_id_at address_family_at address_at max_length_at maximum_at entry_at entries_at addresses_at ip_family_at blocks_at attestation_at payload_at element_at content_at end_at length_end content_end has_der_length length_bytes is_truncated head_rules content_place next_place
 double = faults (0x30 ∷ 0x22 ∷ 0x02 ∷ 0x03 ∷ 0x00 ∷ 0xfb ∷ 0xf0 ∷ 0x30 ∷ 0x1b ∷ 0x30 ∷ 0x19 ∷ 0x04 ∷ 0x02 ∷ 0x00 ∷ 0x01 ∷ 0x30 ∷ 0x13 ∷ 0x30 ∷ 0x06 ∷ 0x03 ∷ 0x04 ∷ 0x00 ∷ 0xc0 ∷ 0x00 ∷ 0x02 ∷ 0x30 ∷ 0x09 ∷ 0x03 ∷ 0x04 ∷ 0x00 ∷ 0xc0 ∷ 0x00 ∷ 0x02 ∷ 0x02 ∷ 0x01 ∷ 0x18 ∷ []) 12 25 refl refl
 
 -- an unused bit is set
 unused_bit : RoaFaultAt (0x30 ∷ 0x17 ∷ 0x02 ∷ 0x03 ∷ 0x00 ∷ 0xfb ∷ 0xf0 ∷ 0x30 ∷ 0x10 ∷ 0x30 ∷ 0x0e ∷ 0x04 ∷ 0x02 ∷ 0x00 ∷ 0x01 ∷ 0x30 ∷ 0x08 ∷ 0x30 ∷ 0x06 ∷ 0x03 ∷ 0x04 ∷ 0x01 ∷ 0xc0 ∷ 0x00 ∷ 0x03 ∷ []) 19 4
-unfolding as_id_at address_family_at address_at max_length_at maximum_at entry_at entries_at addresses_at ip_family_at blocks_at attestation_at payload_at element_at content_at end_at length_end content_end has_length length_bytes is_truncated head_rules content_place next_place
+unfolding as_id_at address_family_at address_at max_length_at maximum_at entry_at entries_at addresses_at ip_family_at blocks_at attestation_at payload_at element_at content_at end_at length_end content_end has_der_length length_bytes is_truncated head_rules content_place next_place
 unused_bit = faults (0x30 ∷ 0x17 ∷ 0x02 ∷ 0x03 ∷ 0x00 ∷ 0xfb ∷ 0xf0 ∷ 0x30 ∷ 0x10 ∷ 0x30 ∷ 0x0e ∷ 0x04 ∷ 0x02 ∷ 0x00 ∷ 0x01 ∷ 0x30 ∷ 0x08 ∷ 0x30 ∷ 0x06 ∷ 0x03 ∷ 0x04 ∷ 0x01 ∷ 0xc0 ∷ 0x00 ∷ 0x03 ∷ []) 4 19 refl refl
 
 -- no bytes
 no_bytes : RoaFaultAt ([]) 0 1
-unfolding as_id_at address_family_at address_at max_length_at maximum_at entry_at entries_at addresses_at ip_family_at blocks_at attestation_at payload_at element_at content_at end_at length_end content_end has_length length_bytes is_truncated head_rules content_place next_place
+unfolding as_id_at address_family_at address_at max_length_at maximum_at entry_at entries_at addresses_at ip_family_at blocks_at attestation_at payload_at element_at content_at end_at length_end content_end has_der_length length_bytes is_truncated head_rules content_place next_place
 no_bytes = faults ([]) 1 0 refl refl
 
 -- a tag alone
 one_byte : RoaFaultAt (0x30 ∷ []) 0 1
-unfolding as_id_at address_family_at address_at max_length_at maximum_at entry_at entries_at addresses_at ip_family_at blocks_at attestation_at payload_at element_at content_at end_at length_end content_end has_length length_bytes is_truncated head_rules content_place next_place
+unfolding as_id_at address_family_at address_at max_length_at maximum_at entry_at entries_at addresses_at ip_family_at blocks_at attestation_at payload_at element_at content_at end_at length_end content_end has_der_length length_bytes is_truncated head_rules content_place next_place
 one_byte = faults (0x30 ∷ []) 1 0 refl refl
 
 -- a byte more
 trailing : RoaFaultAt (0x30 ∷ 0x17 ∷ 0x02 ∷ 0x03 ∷ 0x00 ∷ 0xfb ∷ 0xf0 ∷ 0x30 ∷ 0x10 ∷ 0x30 ∷ 0x0e ∷ 0x04 ∷ 0x02 ∷ 0x00 ∷ 0x01 ∷ 0x30 ∷ 0x08 ∷ 0x30 ∷ 0x06 ∷ 0x03 ∷ 0x04 ∷ 0x00 ∷ 0xc0 ∷ 0x00 ∷ 0x02 ∷ 0x00 ∷ []) 25 5
-unfolding as_id_at address_family_at address_at max_length_at maximum_at entry_at entries_at addresses_at ip_family_at blocks_at attestation_at payload_at element_at content_at end_at length_end content_end has_length length_bytes is_truncated head_rules content_place next_place
+unfolding as_id_at address_family_at address_at max_length_at maximum_at entry_at entries_at addresses_at ip_family_at blocks_at attestation_at payload_at element_at content_at end_at length_end content_end has_der_length length_bytes is_truncated head_rules content_place next_place
 trailing = faults (0x30 ∷ 0x17 ∷ 0x02 ∷ 0x03 ∷ 0x00 ∷ 0xfb ∷ 0xf0 ∷ 0x30 ∷ 0x10 ∷ 0x30 ∷ 0x0e ∷ 0x04 ∷ 0x02 ∷ 0x00 ∷ 0x01 ∷ 0x30 ∷ 0x08 ∷ 0x30 ∷ 0x06 ∷ 0x03 ∷ 0x04 ∷ 0x00 ∷ 0xc0 ∷ 0x00 ∷ 0x02 ∷ 0x00 ∷ []) 5 25 refl refl
 
 -- an indefinite length
 indefinite : RoaFaultAt (0x30 ∷ 0x80 ∷ []) 0 3
-unfolding as_id_at address_family_at address_at max_length_at maximum_at entry_at entries_at addresses_at ip_family_at blocks_at attestation_at payload_at element_at content_at end_at length_end content_end has_length length_bytes is_truncated head_rules content_place next_place
+unfolding as_id_at address_family_at address_at max_length_at maximum_at entry_at entries_at addresses_at ip_family_at blocks_at attestation_at payload_at element_at content_at end_at length_end content_end has_der_length length_bytes is_truncated head_rules content_place next_place
 indefinite = faults (0x30 ∷ 0x80 ∷ []) 3 0 refl refl
 
 -- an integer in too many bytes
 wide_integer : RoaFaultAt (0x30 ∷ 0x04 ∷ 0x02 ∷ 0x02 ∷ 0x00 ∷ 0x01 ∷ []) 2 4
-unfolding as_id_at address_family_at address_at max_length_at maximum_at entry_at entries_at addresses_at ip_family_at blocks_at attestation_at payload_at element_at content_at end_at length_end content_end has_length length_bytes is_truncated head_rules content_place next_place
+unfolding as_id_at address_family_at address_at max_length_at maximum_at entry_at entries_at addresses_at ip_family_at blocks_at attestation_at payload_at element_at content_at end_at length_end content_end has_der_length length_bytes is_truncated head_rules content_place next_place
 wide_integer = faults (0x30 ∷ 0x04 ∷ 0x02 ∷ 0x02 ∷ 0x00 ∷ 0x01 ∷ []) 4 2 refl refl
 
 -- a negative AS number
 negative : RoaFaultAt (0x30 ∷ 0x03 ∷ 0x02 ∷ 0x01 ∷ 0x80 ∷ []) 2 7
-unfolding as_id_at address_family_at address_at max_length_at maximum_at entry_at entries_at addresses_at ip_family_at blocks_at attestation_at payload_at element_at content_at end_at length_end content_end has_length length_bytes is_truncated head_rules content_place next_place
+unfolding as_id_at address_family_at address_at max_length_at maximum_at entry_at entries_at addresses_at ip_family_at blocks_at attestation_at payload_at element_at content_at end_at length_end content_end has_der_length length_bytes is_truncated head_rules content_place next_place
 negative = faults (0x30 ∷ 0x03 ∷ 0x02 ∷ 0x01 ∷ 0x80 ∷ []) 7 2 refl refl
 
 -- no families element
 no_blocks : RoaFaultAt (0x30 ∷ 0x05 ∷ 0x02 ∷ 0x03 ∷ 0x00 ∷ 0xfb ∷ 0xf0 ∷ []) 7 1
-unfolding as_id_at address_family_at address_at max_length_at maximum_at entry_at entries_at addresses_at ip_family_at blocks_at attestation_at payload_at element_at content_at end_at length_end content_end has_length length_bytes is_truncated head_rules content_place next_place
+unfolding as_id_at address_family_at address_at max_length_at maximum_at entry_at entries_at addresses_at ip_family_at blocks_at attestation_at payload_at element_at content_at end_at length_end content_end has_der_length length_bytes is_truncated head_rules content_place next_place
 no_blocks = faults (0x30 ∷ 0x05 ∷ 0x02 ∷ 0x03 ∷ 0x00 ∷ 0xfb ∷ 0xf0 ∷ []) 1 7 refl refl
 
 -- a maximum over the width
 over_width : RoaFaultAt (0x30 ∷ 0x1a ∷ 0x02 ∷ 0x03 ∷ 0x00 ∷ 0xfb ∷ 0xf0 ∷ 0x30 ∷ 0x13 ∷ 0x30 ∷ 0x11 ∷ 0x04 ∷ 0x02 ∷ 0x00 ∷ 0x01 ∷ 0x30 ∷ 0x0b ∷ 0x30 ∷ 0x09 ∷ 0x03 ∷ 0x04 ∷ 0x00 ∷ 0xc0 ∷ 0x00 ∷ 0x02 ∷ 0x02 ∷ 0x01 ∷ 0x21 ∷ []) 25 11
-unfolding as_id_at address_family_at address_at max_length_at maximum_at entry_at entries_at addresses_at ip_family_at blocks_at attestation_at payload_at element_at content_at end_at length_end content_end has_length length_bytes is_truncated head_rules content_place next_place
+unfolding as_id_at address_family_at address_at max_length_at maximum_at entry_at entries_at addresses_at ip_family_at blocks_at attestation_at payload_at element_at content_at end_at length_end content_end has_der_length length_bytes is_truncated head_rules content_place next_place
 over_width = faults (0x30 ∷ 0x1a ∷ 0x02 ∷ 0x03 ∷ 0x00 ∷ 0xfb ∷ 0xf0 ∷ 0x30 ∷ 0x13 ∷ 0x30 ∷ 0x11 ∷ 0x04 ∷ 0x02 ∷ 0x00 ∷ 0x01 ∷ 0x30 ∷ 0x0b ∷ 0x30 ∷ 0x09 ∷ 0x03 ∷ 0x04 ∷ 0x00 ∷ 0xc0 ∷ 0x00 ∷ 0x02 ∷ 0x02 ∷ 0x01 ∷ 0x21 ∷ []) 11 25 refl refl
 
 -- a maximum below the length
 below_length : RoaFaultAt (0x30 ∷ 0x1a ∷ 0x02 ∷ 0x03 ∷ 0x00 ∷ 0xfb ∷ 0xf0 ∷ 0x30 ∷ 0x13 ∷ 0x30 ∷ 0x11 ∷ 0x04 ∷ 0x02 ∷ 0x00 ∷ 0x01 ∷ 0x30 ∷ 0x0b ∷ 0x30 ∷ 0x09 ∷ 0x03 ∷ 0x04 ∷ 0x00 ∷ 0xc0 ∷ 0x00 ∷ 0x02 ∷ 0x02 ∷ 0x01 ∷ 0x17 ∷ []) 25 11
-unfolding as_id_at address_family_at address_at max_length_at maximum_at entry_at entries_at addresses_at ip_family_at blocks_at attestation_at payload_at element_at content_at end_at length_end content_end has_length length_bytes is_truncated head_rules content_place next_place
+unfolding as_id_at address_family_at address_at max_length_at maximum_at entry_at entries_at addresses_at ip_family_at blocks_at attestation_at payload_at element_at content_at end_at length_end content_end has_der_length length_bytes is_truncated head_rules content_place next_place
 below_length = faults (0x30 ∷ 0x1a ∷ 0x02 ∷ 0x03 ∷ 0x00 ∷ 0xfb ∷ 0xf0 ∷ 0x30 ∷ 0x13 ∷ 0x30 ∷ 0x11 ∷ 0x04 ∷ 0x02 ∷ 0x00 ∷ 0x01 ∷ 0x30 ∷ 0x0b ∷ 0x30 ∷ 0x09 ∷ 0x03 ∷ 0x04 ∷ 0x00 ∷ 0xc0 ∷ 0x00 ∷ 0x02 ∷ 0x02 ∷ 0x01 ∷ 0x17 ∷ []) 11 25 refl refl
 
 -- one family twice
 same_family : RoaFaultAt (0x30 ∷ 0x27 ∷ 0x02 ∷ 0x03 ∷ 0x00 ∷ 0xfb ∷ 0xf0 ∷ 0x30 ∷ 0x20 ∷ 0x30 ∷ 0x0e ∷ 0x04 ∷ 0x02 ∷ 0x00 ∷ 0x01 ∷ 0x30 ∷ 0x08 ∷ 0x30 ∷ 0x06 ∷ 0x03 ∷ 0x04 ∷ 0x00 ∷ 0xc0 ∷ 0x00 ∷ 0x02 ∷ 0x30 ∷ 0x0e ∷ 0x04 ∷ 0x02 ∷ 0x00 ∷ 0x01 ∷ 0x30 ∷ 0x08 ∷ 0x30 ∷ 0x06 ∷ 0x03 ∷ 0x04 ∷ 0x00 ∷ 0xc0 ∷ 0x00 ∷ 0x02 ∷ []) 27 8
-unfolding as_id_at address_family_at address_at max_length_at maximum_at entry_at entries_at addresses_at ip_family_at blocks_at attestation_at payload_at element_at content_at end_at length_end content_end has_length length_bytes is_truncated head_rules content_place next_place
+unfolding as_id_at address_family_at address_at max_length_at maximum_at entry_at entries_at addresses_at ip_family_at blocks_at attestation_at payload_at element_at content_at end_at length_end content_end has_der_length length_bytes is_truncated head_rules content_place next_place
 same_family = faults (0x30 ∷ 0x27 ∷ 0x02 ∷ 0x03 ∷ 0x00 ∷ 0xfb ∷ 0xf0 ∷ 0x30 ∷ 0x20 ∷ 0x30 ∷ 0x0e ∷ 0x04 ∷ 0x02 ∷ 0x00 ∷ 0x01 ∷ 0x30 ∷ 0x08 ∷ 0x30 ∷ 0x06 ∷ 0x03 ∷ 0x04 ∷ 0x00 ∷ 0xc0 ∷ 0x00 ∷ 0x02 ∷ 0x30 ∷ 0x0e ∷ 0x04 ∷ 0x02 ∷ 0x00 ∷ 0x01 ∷ 0x30 ∷ 0x08 ∷ 0x30 ∷ 0x06 ∷ 0x03 ∷ 0x04 ∷ 0x00 ∷ 0xc0 ∷ 0x00 ∷ 0x02 ∷ []) 8 27 refl refl
 
 -- IPv4 behind IPv6
 families_back : RoaFaultAt (0x30 ∷ 0x2b ∷ 0x02 ∷ 0x03 ∷ 0x00 ∷ 0xfb ∷ 0xf0 ∷ 0x30 ∷ 0x24 ∷ 0x30 ∷ 0x12 ∷ 0x04 ∷ 0x02 ∷ 0x00 ∷ 0x02 ∷ 0x30 ∷ 0x0c ∷ 0x30 ∷ 0x0a ∷ 0x03 ∷ 0x05 ∷ 0x00 ∷ 0x20 ∷ 0x01 ∷ 0x0d ∷ 0xb8 ∷ 0x02 ∷ 0x01 ∷ 0x30 ∷ 0x30 ∷ 0x0e ∷ 0x04 ∷ 0x02 ∷ 0x00 ∷ 0x01 ∷ 0x30 ∷ 0x08 ∷ 0x30 ∷ 0x06 ∷ 0x03 ∷ 0x04 ∷ 0x00 ∷ 0xc0 ∷ 0x00 ∷ 0x02 ∷ []) 31 12
-unfolding as_id_at address_family_at address_at max_length_at maximum_at entry_at entries_at addresses_at ip_family_at blocks_at attestation_at payload_at element_at content_at end_at length_end content_end has_length length_bytes is_truncated head_rules content_place next_place
+unfolding as_id_at address_family_at address_at max_length_at maximum_at entry_at entries_at addresses_at ip_family_at blocks_at attestation_at payload_at element_at content_at end_at length_end content_end has_der_length length_bytes is_truncated head_rules content_place next_place
 families_back = faults (0x30 ∷ 0x2b ∷ 0x02 ∷ 0x03 ∷ 0x00 ∷ 0xfb ∷ 0xf0 ∷ 0x30 ∷ 0x24 ∷ 0x30 ∷ 0x12 ∷ 0x04 ∷ 0x02 ∷ 0x00 ∷ 0x02 ∷ 0x30 ∷ 0x0c ∷ 0x30 ∷ 0x0a ∷ 0x03 ∷ 0x05 ∷ 0x00 ∷ 0x20 ∷ 0x01 ∷ 0x0d ∷ 0xb8 ∷ 0x02 ∷ 0x01 ∷ 0x30 ∷ 0x30 ∷ 0x0e ∷ 0x04 ∷ 0x02 ∷ 0x00 ∷ 0x01 ∷ 0x30 ∷ 0x08 ∷ 0x30 ∷ 0x06 ∷ 0x03 ∷ 0x04 ∷ 0x00 ∷ 0xc0 ∷ 0x00 ∷ 0x02 ∷ []) 12 31 refl refl
 
 -- a third family
 third_family : RoaFaultAt (0x30 ∷ 0x3f ∷ 0x02 ∷ 0x03 ∷ 0x00 ∷ 0xfb ∷ 0xf0 ∷ 0x30 ∷ 0x38 ∷ 0x30 ∷ 0x0e ∷ 0x04 ∷ 0x02 ∷ 0x00 ∷ 0x01 ∷ 0x30 ∷ 0x08 ∷ 0x30 ∷ 0x06 ∷ 0x03 ∷ 0x04 ∷ 0x00 ∷ 0xc0 ∷ 0x00 ∷ 0x02 ∷ 0x30 ∷ 0x12 ∷ 0x04 ∷ 0x02 ∷ 0x00 ∷ 0x02 ∷ 0x30 ∷ 0x0c ∷ 0x30 ∷ 0x0a ∷ 0x03 ∷ 0x05 ∷ 0x00 ∷ 0x20 ∷ 0x01 ∷ 0x0d ∷ 0xb8 ∷ 0x02 ∷ 0x01 ∷ 0x30 ∷ 0x30 ∷ 0x12 ∷ 0x04 ∷ 0x02 ∷ 0x00 ∷ 0x02 ∷ 0x30 ∷ 0x0c ∷ 0x30 ∷ 0x0a ∷ 0x03 ∷ 0x05 ∷ 0x00 ∷ 0x20 ∷ 0x01 ∷ 0x0d ∷ 0xb8 ∷ 0x02 ∷ 0x01 ∷ 0x30 ∷ []) 45 5
-unfolding as_id_at address_family_at address_at max_length_at maximum_at entry_at entries_at addresses_at ip_family_at blocks_at attestation_at payload_at element_at content_at end_at length_end content_end has_length length_bytes is_truncated head_rules content_place next_place
+unfolding as_id_at address_family_at address_at max_length_at maximum_at entry_at entries_at addresses_at ip_family_at blocks_at attestation_at payload_at element_at content_at end_at length_end content_end has_der_length length_bytes is_truncated head_rules content_place next_place
 third_family = faults (0x30 ∷ 0x3f ∷ 0x02 ∷ 0x03 ∷ 0x00 ∷ 0xfb ∷ 0xf0 ∷ 0x30 ∷ 0x38 ∷ 0x30 ∷ 0x0e ∷ 0x04 ∷ 0x02 ∷ 0x00 ∷ 0x01 ∷ 0x30 ∷ 0x08 ∷ 0x30 ∷ 0x06 ∷ 0x03 ∷ 0x04 ∷ 0x00 ∷ 0xc0 ∷ 0x00 ∷ 0x02 ∷ 0x30 ∷ 0x12 ∷ 0x04 ∷ 0x02 ∷ 0x00 ∷ 0x02 ∷ 0x30 ∷ 0x0c ∷ 0x30 ∷ 0x0a ∷ 0x03 ∷ 0x05 ∷ 0x00 ∷ 0x20 ∷ 0x01 ∷ 0x0d ∷ 0xb8 ∷ 0x02 ∷ 0x01 ∷ 0x30 ∷ 0x30 ∷ 0x12 ∷ 0x04 ∷ 0x02 ∷ 0x00 ∷ 0x02 ∷ 0x30 ∷ 0x0c ∷ 0x30 ∷ 0x0a ∷ 0x03 ∷ 0x05 ∷ 0x00 ∷ 0x20 ∷ 0x01 ∷ 0x0d ∷ 0xb8 ∷ 0x02 ∷ 0x01 ∷ 0x30 ∷ []) 5 45 refl refl
 
 -- no family
 no_families : RoaFaultAt (0x30 ∷ 0x07 ∷ 0x02 ∷ 0x03 ∷ 0x00 ∷ 0xfb ∷ 0xf0 ∷ 0x30 ∷ 0x00 ∷ []) 7 9
-unfolding as_id_at address_family_at address_at max_length_at maximum_at entry_at entries_at addresses_at ip_family_at blocks_at attestation_at payload_at element_at content_at end_at length_end content_end has_length length_bytes is_truncated head_rules content_place next_place
+unfolding as_id_at address_family_at address_at max_length_at maximum_at entry_at entries_at addresses_at ip_family_at blocks_at attestation_at payload_at element_at content_at end_at length_end content_end has_der_length length_bytes is_truncated head_rules content_place next_place
 no_families = faults (0x30 ∷ 0x07 ∷ 0x02 ∷ 0x03 ∷ 0x00 ∷ 0xfb ∷ 0xf0 ∷ 0x30 ∷ 0x00 ∷ []) 9 7 refl refl
 
 -- an AS number over 32 bits
 great_as : RoaFaultAt (0x30 ∷ 0x07 ∷ 0x02 ∷ 0x05 ∷ 0x01 ∷ 0x00 ∷ 0x00 ∷ 0x00 ∷ 0x00 ∷ []) 2 7
-unfolding as_id_at address_family_at address_at max_length_at maximum_at entry_at entries_at addresses_at ip_family_at blocks_at attestation_at payload_at element_at content_at end_at length_end content_end has_length length_bytes is_truncated head_rules content_place next_place
+unfolding as_id_at address_family_at address_at max_length_at maximum_at entry_at entries_at addresses_at ip_family_at blocks_at attestation_at payload_at element_at content_at end_at length_end content_end has_der_length length_bytes is_truncated head_rules content_place next_place
 great_as = faults (0x30 ∷ 0x07 ∷ 0x02 ∷ 0x05 ∷ 0x01 ∷ 0x00 ∷ 0x00 ∷ 0x00 ∷ 0x00 ∷ []) 7 2 refl refl
 
 -- a tag of a version alone
 version_cut : RoaFaultAt (0x30 ∷ 0x01 ∷ 0xa0 ∷ []) 2 1
-unfolding as_id_at address_family_at address_at max_length_at maximum_at entry_at entries_at addresses_at ip_family_at blocks_at attestation_at payload_at element_at content_at end_at length_end content_end has_length length_bytes is_truncated head_rules content_place next_place
+unfolding as_id_at address_family_at address_at max_length_at maximum_at entry_at entries_at addresses_at ip_family_at blocks_at attestation_at payload_at element_at content_at end_at length_end content_end has_der_length length_bytes is_truncated head_rules content_place next_place
 version_cut = faults (0x30 ∷ 0x01 ∷ 0xa0 ∷ []) 1 2 refl refl
 
 -- of two entries of one prefix the greater maximum stands behind
 greater_maximum : RoaSpells (flat (64496, ((Ipv4, entry (V4 (block 0xc0000200 24)) None ∷ entry (V4 (block 0xc0000200 24)) (Some 25) ∷ []), None))) (0x30 ∷ 0x22 ∷ 0x02 ∷ 0x03 ∷ 0x00 ∷ 0xfb ∷ 0xf0 ∷ 0x30 ∷ 0x1b ∷ 0x30 ∷ 0x19 ∷ 0x04 ∷ 0x02 ∷ 0x00 ∷ 0x01 ∷ 0x30 ∷ 0x13 ∷ 0x30 ∷ 0x06 ∷ 0x03 ∷ 0x04 ∷ 0x00 ∷ 0xc0 ∷ 0x00 ∷ 0x02 ∷ 0x30 ∷ 0x09 ∷ 0x03 ∷ 0x04 ∷ 0x00 ∷ 0xc0 ∷ 0x00 ∷ 0x02 ∷ 0x02 ∷ 0x01 ∷ 0x19 ∷ [])
-unfolding as_id_at address_family_at address_at max_length_at maximum_at entry_at entries_at addresses_at ip_family_at blocks_at attestation_at payload_at element_at content_at end_at length_end content_end has_length length_bytes is_truncated head_rules content_place next_place
+unfolding as_id_at address_family_at address_at max_length_at maximum_at entry_at entries_at addresses_at ip_family_at blocks_at attestation_at payload_at element_at content_at end_at length_end content_end has_der_length length_bytes is_truncated head_rules content_place next_place
 greater_maximum = spells (0x30 ∷ 0x22 ∷ 0x02 ∷ 0x03 ∷ 0x00 ∷ 0xfb ∷ 0xf0 ∷ 0x30 ∷ 0x1b ∷ 0x30 ∷ 0x19 ∷ 0x04 ∷ 0x02 ∷ 0x00 ∷ 0x01 ∷ 0x30 ∷ 0x13 ∷ 0x30 ∷ 0x06 ∷ 0x03 ∷ 0x04 ∷ 0x00 ∷ 0xc0 ∷ 0x00 ∷ 0x02 ∷ 0x30 ∷ 0x09 ∷ 0x03 ∷ 0x04 ∷ 0x00 ∷ 0xc0 ∷ 0x00 ∷ 0x02 ∷ 0x02 ∷ 0x01 ∷ 0x19 ∷ []) (64496, ((Ipv4, entry (V4 (block 0xc0000200 24)) None ∷ entry (V4 (block 0xc0000200 24)) (Some 25) ∷ []), None)) refl refl
 
 -- the address decides before the length
 address_before_length : RoaSpells (flat (64496, ((Ipv4, entry (V4 (block 0xc0000280 25)) None ∷ entry (V4 (block 0xc0000300 24)) None ∷ []), None))) (0x30 ∷ 0x20 ∷ 0x02 ∷ 0x03 ∷ 0x00 ∷ 0xfb ∷ 0xf0 ∷ 0x30 ∷ 0x19 ∷ 0x30 ∷ 0x17 ∷ 0x04 ∷ 0x02 ∷ 0x00 ∷ 0x01 ∷ 0x30 ∷ 0x11 ∷ 0x30 ∷ 0x07 ∷ 0x03 ∷ 0x05 ∷ 0x07 ∷ 0xc0 ∷ 0x00 ∷ 0x02 ∷ 0x80 ∷ 0x30 ∷ 0x06 ∷ 0x03 ∷ 0x04 ∷ 0x00 ∷ 0xc0 ∷ 0x00 ∷ 0x03 ∷ [])
-unfolding as_id_at address_family_at address_at max_length_at maximum_at entry_at entries_at addresses_at ip_family_at blocks_at attestation_at payload_at element_at content_at end_at length_end content_end has_length length_bytes is_truncated head_rules content_place next_place
+unfolding as_id_at address_family_at address_at max_length_at maximum_at entry_at entries_at addresses_at ip_family_at blocks_at attestation_at payload_at element_at content_at end_at length_end content_end has_der_length length_bytes is_truncated head_rules content_place next_place
 address_before_length = spells (0x30 ∷ 0x20 ∷ 0x02 ∷ 0x03 ∷ 0x00 ∷ 0xfb ∷ 0xf0 ∷ 0x30 ∷ 0x19 ∷ 0x30 ∷ 0x17 ∷ 0x04 ∷ 0x02 ∷ 0x00 ∷ 0x01 ∷ 0x30 ∷ 0x11 ∷ 0x30 ∷ 0x07 ∷ 0x03 ∷ 0x05 ∷ 0x07 ∷ 0xc0 ∷ 0x00 ∷ 0x02 ∷ 0x80 ∷ 0x30 ∷ 0x06 ∷ 0x03 ∷ 0x04 ∷ 0x00 ∷ 0xc0 ∷ 0x00 ∷ 0x03 ∷ []) (64496, ((Ipv4, entry (V4 (block 0xc0000280 25)) None ∷ entry (V4 (block 0xc0000300 24)) None ∷ []), None)) refl refl
 
 -- the greatest AS number
 greatest_as : RoaSpells (flat (4294967295, ((Ipv4, entry (V4 (block 0xc0000200 24)) None ∷ []), None))) (0x30 ∷ 0x19 ∷ 0x02 ∷ 0x05 ∷ 0x00 ∷ 0xff ∷ 0xff ∷ 0xff ∷ 0xff ∷ 0x30 ∷ 0x10 ∷ 0x30 ∷ 0x0e ∷ 0x04 ∷ 0x02 ∷ 0x00 ∷ 0x01 ∷ 0x30 ∷ 0x08 ∷ 0x30 ∷ 0x06 ∷ 0x03 ∷ 0x04 ∷ 0x00 ∷ 0xc0 ∷ 0x00 ∷ 0x02 ∷ [])
-unfolding as_id_at address_family_at address_at max_length_at maximum_at entry_at entries_at addresses_at ip_family_at blocks_at attestation_at payload_at element_at content_at end_at length_end content_end has_length length_bytes is_truncated head_rules content_place next_place
+unfolding as_id_at address_family_at address_at max_length_at maximum_at entry_at entries_at addresses_at ip_family_at blocks_at attestation_at payload_at element_at content_at end_at length_end content_end has_der_length length_bytes is_truncated head_rules content_place next_place
 greatest_as = spells (0x30 ∷ 0x19 ∷ 0x02 ∷ 0x05 ∷ 0x00 ∷ 0xff ∷ 0xff ∷ 0xff ∷ 0xff ∷ 0x30 ∷ 0x10 ∷ 0x30 ∷ 0x0e ∷ 0x04 ∷ 0x02 ∷ 0x00 ∷ 0x01 ∷ 0x30 ∷ 0x08 ∷ 0x30 ∷ 0x06 ∷ 0x03 ∷ 0x04 ∷ 0x00 ∷ 0xc0 ∷ 0x00 ∷ 0x02 ∷ []) (4294967295, ((Ipv4, entry (V4 (block 0xc0000200 24)) None ∷ []), None)) refl refl
 
 -- a maximum of 128
 greatest_maximum : RoaSpells (flat (64496, ((Ipv6, entry (V6 (block 0x20010db8000000000000000000000000 32)) (Some 128) ∷ []), None))) (0x30 ∷ 0x1c ∷ 0x02 ∷ 0x03 ∷ 0x00 ∷ 0xfb ∷ 0xf0 ∷ 0x30 ∷ 0x15 ∷ 0x30 ∷ 0x13 ∷ 0x04 ∷ 0x02 ∷ 0x00 ∷ 0x02 ∷ 0x30 ∷ 0x0d ∷ 0x30 ∷ 0x0b ∷ 0x03 ∷ 0x05 ∷ 0x00 ∷ 0x20 ∷ 0x01 ∷ 0x0d ∷ 0xb8 ∷ 0x02 ∷ 0x02 ∷ 0x00 ∷ 0x80 ∷ [])
-unfolding as_id_at address_family_at address_at max_length_at maximum_at entry_at entries_at addresses_at ip_family_at blocks_at attestation_at payload_at element_at content_at end_at length_end content_end has_length length_bytes is_truncated head_rules content_place next_place
+unfolding as_id_at address_family_at address_at max_length_at maximum_at entry_at entries_at addresses_at ip_family_at blocks_at attestation_at payload_at element_at content_at end_at length_end content_end has_der_length length_bytes is_truncated head_rules content_place next_place
 greatest_maximum = spells (0x30 ∷ 0x1c ∷ 0x02 ∷ 0x03 ∷ 0x00 ∷ 0xfb ∷ 0xf0 ∷ 0x30 ∷ 0x15 ∷ 0x30 ∷ 0x13 ∷ 0x04 ∷ 0x02 ∷ 0x00 ∷ 0x02 ∷ 0x30 ∷ 0x0d ∷ 0x30 ∷ 0x0b ∷ 0x03 ∷ 0x05 ∷ 0x00 ∷ 0x20 ∷ 0x01 ∷ 0x0d ∷ 0xb8 ∷ 0x02 ∷ 0x02 ∷ 0x00 ∷ 0x80 ∷ []) (64496, ((Ipv6, entry (V6 (block 0x20010db8000000000000000000000000 32)) (Some 128) ∷ []), None)) refl refl
 
 -- and one of 129
 over_128 : RoaFaultAt (0x30 ∷ 0x1c ∷ 0x02 ∷ 0x03 ∷ 0x00 ∷ 0xfb ∷ 0xf0 ∷ 0x30 ∷ 0x15 ∷ 0x30 ∷ 0x13 ∷ 0x04 ∷ 0x02 ∷ 0x00 ∷ 0x02 ∷ 0x30 ∷ 0x0d ∷ 0x30 ∷ 0x0b ∷ 0x03 ∷ 0x05 ∷ 0x00 ∷ 0x20 ∷ 0x01 ∷ 0x0d ∷ 0xb8 ∷ 0x02 ∷ 0x02 ∷ 0x00 ∷ 0x81 ∷ []) 26 11
-unfolding as_id_at address_family_at address_at max_length_at maximum_at entry_at entries_at addresses_at ip_family_at blocks_at attestation_at payload_at element_at content_at end_at length_end content_end has_length length_bytes is_truncated head_rules content_place next_place
+unfolding as_id_at address_family_at address_at max_length_at maximum_at entry_at entries_at addresses_at ip_family_at blocks_at attestation_at payload_at element_at content_at end_at length_end content_end has_der_length length_bytes is_truncated head_rules content_place next_place
 over_128 = faults (0x30 ∷ 0x1c ∷ 0x02 ∷ 0x03 ∷ 0x00 ∷ 0xfb ∷ 0xf0 ∷ 0x30 ∷ 0x15 ∷ 0x30 ∷ 0x13 ∷ 0x04 ∷ 0x02 ∷ 0x00 ∷ 0x02 ∷ 0x30 ∷ 0x0d ∷ 0x30 ∷ 0x0b ∷ 0x03 ∷ 0x05 ∷ 0x00 ∷ 0x20 ∷ 0x01 ∷ 0x0d ∷ 0xb8 ∷ 0x02 ∷ 0x02 ∷ 0x00 ∷ 0x81 ∷ []) 11 26 refl refl
 
 -- an IPv4 prefix of 33 bits
 thirty_three_bits : RoaFaultAt (0x30 ∷ 0x19 ∷ 0x02 ∷ 0x03 ∷ 0x00 ∷ 0xfb ∷ 0xf0 ∷ 0x30 ∷ 0x12 ∷ 0x30 ∷ 0x10 ∷ 0x04 ∷ 0x02 ∷ 0x00 ∷ 0x01 ∷ 0x30 ∷ 0x0a ∷ 0x30 ∷ 0x08 ∷ 0x03 ∷ 0x06 ∷ 0x07 ∷ 0xc0 ∷ 0x00 ∷ 0x02 ∷ 0x00 ∷ 0x00 ∷ []) 19 10
-unfolding as_id_at address_family_at address_at max_length_at maximum_at entry_at entries_at addresses_at ip_family_at blocks_at attestation_at payload_at element_at content_at end_at length_end content_end has_length length_bytes is_truncated head_rules content_place next_place
+unfolding as_id_at address_family_at address_at max_length_at maximum_at entry_at entries_at addresses_at ip_family_at blocks_at attestation_at payload_at element_at content_at end_at length_end content_end has_der_length length_bytes is_truncated head_rules content_place next_place
 thirty_three_bits = faults (0x30 ∷ 0x19 ∷ 0x02 ∷ 0x03 ∷ 0x00 ∷ 0xfb ∷ 0xf0 ∷ 0x30 ∷ 0x12 ∷ 0x30 ∷ 0x10 ∷ 0x04 ∷ 0x02 ∷ 0x00 ∷ 0x01 ∷ 0x30 ∷ 0x0a ∷ 0x30 ∷ 0x08 ∷ 0x03 ∷ 0x06 ∷ 0x07 ∷ 0xc0 ∷ 0x00 ∷ 0x02 ∷ 0x00 ∷ 0x00 ∷ []) 10 19 refl refl
 
 -- a family without addresses
 no_addresses : RoaFaultAt (0x30 ∷ 0x0f ∷ 0x02 ∷ 0x03 ∷ 0x00 ∷ 0xfb ∷ 0xf0 ∷ 0x30 ∷ 0x08 ∷ 0x30 ∷ 0x06 ∷ 0x04 ∷ 0x02 ∷ 0x00 ∷ 0x01 ∷ 0x30 ∷ 0x00 ∷ []) 15 9
-unfolding as_id_at address_family_at address_at max_length_at maximum_at entry_at entries_at addresses_at ip_family_at blocks_at attestation_at payload_at element_at content_at end_at length_end content_end has_length length_bytes is_truncated head_rules content_place next_place
+unfolding as_id_at address_family_at address_at max_length_at maximum_at entry_at entries_at addresses_at ip_family_at blocks_at attestation_at payload_at element_at content_at end_at length_end content_end has_der_length length_bytes is_truncated head_rules content_place next_place
 no_addresses = faults (0x30 ∷ 0x0f ∷ 0x02 ∷ 0x03 ∷ 0x00 ∷ 0xfb ∷ 0xf0 ∷ 0x30 ∷ 0x08 ∷ 0x30 ∷ 0x06 ∷ 0x04 ∷ 0x02 ∷ 0x00 ∷ 0x01 ∷ 0x30 ∷ 0x00 ∷ []) 9 15 refl refl
 
 -- an address family with a SAFI, which RFC 3779 has and RFC 9582 has not
 family_of_three_bytes : RoaFaultAt (0x30 ∷ 0x18 ∷ 0x02 ∷ 0x03 ∷ 0x00 ∷ 0xfb ∷ 0xf0 ∷ 0x30 ∷ 0x11 ∷ 0x30 ∷ 0x0f ∷ 0x04 ∷ 0x03 ∷ 0x00 ∷ 0x01 ∷ 0x01 ∷ 0x30 ∷ 0x08 ∷ 0x30 ∷ 0x06 ∷ 0x03 ∷ 0x04 ∷ 0x00 ∷ 0xc0 ∷ 0x00 ∷ 0x02 ∷ []) 11 8
-unfolding as_id_at address_family_at address_at max_length_at maximum_at entry_at entries_at addresses_at ip_family_at blocks_at attestation_at payload_at element_at content_at end_at length_end content_end has_length length_bytes is_truncated head_rules content_place next_place
+unfolding as_id_at address_family_at address_at max_length_at maximum_at entry_at entries_at addresses_at ip_family_at blocks_at attestation_at payload_at element_at content_at end_at length_end content_end has_der_length length_bytes is_truncated head_rules content_place next_place
 family_of_three_bytes = faults (0x30 ∷ 0x18 ∷ 0x02 ∷ 0x03 ∷ 0x00 ∷ 0xfb ∷ 0xf0 ∷ 0x30 ∷ 0x11 ∷ 0x30 ∷ 0x0f ∷ 0x04 ∷ 0x03 ∷ 0x00 ∷ 0x01 ∷ 0x01 ∷ 0x30 ∷ 0x08 ∷ 0x30 ∷ 0x06 ∷ 0x03 ∷ 0x04 ∷ 0x00 ∷ 0xc0 ∷ 0x00 ∷ 0x02 ∷ []) 8 11 refl refl
 
 -- a maximum out of range, with bytes behind it: its own fault comes first
 bad_maximum_before_the_rest : RoaFaultAt (0x30 ∷ 0x1d ∷ 0x02 ∷ 0x03 ∷ 0x00 ∷ 0xfb ∷ 0xf0 ∷ 0x30 ∷ 0x16 ∷ 0x30 ∷ 0x14 ∷ 0x04 ∷ 0x02 ∷ 0x00 ∷ 0x01 ∷ 0x30 ∷ 0x0e ∷ 0x30 ∷ 0x0c ∷ 0x03 ∷ 0x04 ∷ 0x00 ∷ 0xc0 ∷ 0x00 ∷ 0x02 ∷ 0x02 ∷ 0x01 ∷ 0x17 ∷ 0x02 ∷ 0x01 ∷ 0x18 ∷ []) 25 11
-unfolding as_id_at address_family_at address_at max_length_at maximum_at entry_at entries_at addresses_at ip_family_at blocks_at attestation_at payload_at element_at content_at end_at length_end content_end has_length length_bytes is_truncated head_rules content_place next_place
+unfolding as_id_at address_family_at address_at max_length_at maximum_at entry_at entries_at addresses_at ip_family_at blocks_at attestation_at payload_at element_at content_at end_at length_end content_end has_der_length length_bytes is_truncated head_rules content_place next_place
 bad_maximum_before_the_rest = faults (0x30 ∷ 0x1d ∷ 0x02 ∷ 0x03 ∷ 0x00 ∷ 0xfb ∷ 0xf0 ∷ 0x30 ∷ 0x16 ∷ 0x30 ∷ 0x14 ∷ 0x04 ∷ 0x02 ∷ 0x00 ∷ 0x01 ∷ 0x30 ∷ 0x0e ∷ 0x30 ∷ 0x0c ∷ 0x03 ∷ 0x04 ∷ 0x00 ∷ 0xc0 ∷ 0x00 ∷ 0x02 ∷ 0x02 ∷ 0x01 ∷ 0x17 ∷ 0x02 ∷ 0x01 ∷ 0x18 ∷ []) 11 25 refl refl
 
 -- bytes behind the maximum of an entry that is out of order: the members come before the rule over them
 rest_before_order : RoaFaultAt (0x30 ∷ 0x25 ∷ 0x02 ∷ 0x03 ∷ 0x00 ∷ 0xfb ∷ 0xf0 ∷ 0x30 ∷ 0x1e ∷ 0x30 ∷ 0x1c ∷ 0x04 ∷ 0x02 ∷ 0x00 ∷ 0x01 ∷ 0x30 ∷ 0x16 ∷ 0x30 ∷ 0x06 ∷ 0x03 ∷ 0x04 ∷ 0x00 ∷ 0xc0 ∷ 0x00 ∷ 0x02 ∷ 0x30 ∷ 0x0c ∷ 0x03 ∷ 0x04 ∷ 0x00 ∷ 0xc0 ∷ 0x00 ∷ 0x02 ∷ 0x02 ∷ 0x01 ∷ 0x18 ∷ 0x02 ∷ 0x01 ∷ 0x18 ∷ []) 36 5
-unfolding as_id_at address_family_at address_at max_length_at maximum_at entry_at entries_at addresses_at ip_family_at blocks_at attestation_at payload_at element_at content_at end_at length_end content_end has_length length_bytes is_truncated head_rules content_place next_place
+unfolding as_id_at address_family_at address_at max_length_at maximum_at entry_at entries_at addresses_at ip_family_at blocks_at attestation_at payload_at element_at content_at end_at length_end content_end has_der_length length_bytes is_truncated head_rules content_place next_place
 rest_before_order = faults (0x30 ∷ 0x25 ∷ 0x02 ∷ 0x03 ∷ 0x00 ∷ 0xfb ∷ 0xf0 ∷ 0x30 ∷ 0x1e ∷ 0x30 ∷ 0x1c ∷ 0x04 ∷ 0x02 ∷ 0x00 ∷ 0x01 ∷ 0x30 ∷ 0x16 ∷ 0x30 ∷ 0x06 ∷ 0x03 ∷ 0x04 ∷ 0x00 ∷ 0xc0 ∷ 0x00 ∷ 0x02 ∷ 0x30 ∷ 0x0c ∷ 0x03 ∷ 0x04 ∷ 0x00 ∷ 0xc0 ∷ 0x00 ∷ 0x02 ∷ 0x02 ∷ 0x01 ∷ 0x18 ∷ 0x02 ∷ 0x01 ∷ 0x18 ∷ []) 5 36 refl refl
 
 -- a bad maximum of an entry that is out of order
 maximum_before_order : RoaFaultAt (0x30 ∷ 0x22 ∷ 0x02 ∷ 0x03 ∷ 0x00 ∷ 0xfb ∷ 0xf0 ∷ 0x30 ∷ 0x1b ∷ 0x30 ∷ 0x19 ∷ 0x04 ∷ 0x02 ∷ 0x00 ∷ 0x01 ∷ 0x30 ∷ 0x13 ∷ 0x30 ∷ 0x06 ∷ 0x03 ∷ 0x04 ∷ 0x00 ∷ 0xc0 ∷ 0x00 ∷ 0x02 ∷ 0x30 ∷ 0x09 ∷ 0x03 ∷ 0x04 ∷ 0x00 ∷ 0xc0 ∷ 0x00 ∷ 0x01 ∷ 0x02 ∷ 0x01 ∷ 0x17 ∷ []) 33 11
-unfolding as_id_at address_family_at address_at max_length_at maximum_at entry_at entries_at addresses_at ip_family_at blocks_at attestation_at payload_at element_at content_at end_at length_end content_end has_length length_bytes is_truncated head_rules content_place next_place
+unfolding as_id_at address_family_at address_at max_length_at maximum_at entry_at entries_at addresses_at ip_family_at blocks_at attestation_at payload_at element_at content_at end_at length_end content_end has_der_length length_bytes is_truncated head_rules content_place next_place
 maximum_before_order = faults (0x30 ∷ 0x22 ∷ 0x02 ∷ 0x03 ∷ 0x00 ∷ 0xfb ∷ 0xf0 ∷ 0x30 ∷ 0x1b ∷ 0x30 ∷ 0x19 ∷ 0x04 ∷ 0x02 ∷ 0x00 ∷ 0x01 ∷ 0x30 ∷ 0x13 ∷ 0x30 ∷ 0x06 ∷ 0x03 ∷ 0x04 ∷ 0x00 ∷ 0xc0 ∷ 0x00 ∷ 0x02 ∷ 0x30 ∷ 0x09 ∷ 0x03 ∷ 0x04 ∷ 0x00 ∷ 0xc0 ∷ 0x00 ∷ 0x01 ∷ 0x02 ∷ 0x01 ∷ 0x17 ∷ []) 11 33 refl refl
 
 -- the tag of a version, whose length is indefinite
 version_of_bad_length : RoaFaultAt (0x30 ∷ 0x02 ∷ 0xa0 ∷ 0x80 ∷ []) 2 6
-unfolding as_id_at address_family_at address_at max_length_at maximum_at entry_at entries_at addresses_at ip_family_at blocks_at attestation_at payload_at element_at content_at end_at length_end content_end has_length length_bytes is_truncated head_rules content_place next_place
+unfolding as_id_at address_family_at address_at max_length_at maximum_at entry_at entries_at addresses_at ip_family_at blocks_at attestation_at payload_at element_at content_at end_at length_end content_end has_der_length length_bytes is_truncated head_rules content_place next_place
 version_of_bad_length = faults (0x30 ∷ 0x02 ∷ 0xa0 ∷ 0x80 ∷ []) 6 2 refl refl
 
 -- another tag, whose content does not end here
 wrong_tag_cut : RoaFaultAt (0x30 ∷ 0x02 ∷ 0xa1 ∷ 0x01 ∷ []) 2 1
-unfolding as_id_at address_family_at address_at max_length_at maximum_at entry_at entries_at addresses_at ip_family_at blocks_at attestation_at payload_at element_at content_at end_at length_end content_end has_length length_bytes is_truncated head_rules content_place next_place
+unfolding as_id_at address_family_at address_at max_length_at maximum_at entry_at entries_at addresses_at ip_family_at blocks_at attestation_at payload_at element_at content_at end_at length_end content_end has_der_length length_bytes is_truncated head_rules content_place next_place
 wrong_tag_cut = faults (0x30 ∷ 0x02 ∷ 0xa1 ∷ 0x01 ∷ []) 1 2 refl refl
 
 -- the tag of a version, whose content does not end here
 version_content_cut : RoaFaultAt (0x30 ∷ 0x02 ∷ 0xa0 ∷ 0x01 ∷ []) 2 1
-unfolding as_id_at address_family_at address_at max_length_at maximum_at entry_at entries_at addresses_at ip_family_at blocks_at attestation_at payload_at element_at content_at end_at length_end content_end has_length length_bytes is_truncated head_rules content_place next_place
+unfolding as_id_at address_family_at address_at max_length_at maximum_at entry_at entries_at addresses_at ip_family_at blocks_at attestation_at payload_at element_at content_at end_at length_end content_end has_der_length length_bytes is_truncated head_rules content_place next_place
 version_content_cut = faults (0x30 ∷ 0x02 ∷ 0xa0 ∷ 0x01 ∷ []) 1 2 refl refl
 
 -- a tag beside that of a version, constructed and primitive
 constructed_context_1 : RoaFaultAt (0x30 ∷ 0x1c ∷ 0xa1 ∷ 0x03 ∷ 0x02 ∷ 0x01 ∷ 0x00 ∷ 0x02 ∷ 0x03 ∷ 0x00 ∷ 0xfb ∷ 0xf0 ∷ 0x30 ∷ 0x10 ∷ 0x30 ∷ 0x0e ∷ 0x04 ∷ 0x02 ∷ 0x00 ∷ 0x01 ∷ 0x30 ∷ 0x08 ∷ 0x30 ∷ 0x06 ∷ 0x03 ∷ 0x04 ∷ 0x00 ∷ 0xc0 ∷ 0x00 ∷ 0x02 ∷ []) 2 2
-unfolding as_id_at address_family_at address_at max_length_at maximum_at entry_at entries_at addresses_at ip_family_at blocks_at attestation_at payload_at element_at content_at end_at length_end content_end has_length length_bytes is_truncated head_rules content_place next_place
+unfolding as_id_at address_family_at address_at max_length_at maximum_at entry_at entries_at addresses_at ip_family_at blocks_at attestation_at payload_at element_at content_at end_at length_end content_end has_der_length length_bytes is_truncated head_rules content_place next_place
 constructed_context_1 = faults (0x30 ∷ 0x1c ∷ 0xa1 ∷ 0x03 ∷ 0x02 ∷ 0x01 ∷ 0x00 ∷ 0x02 ∷ 0x03 ∷ 0x00 ∷ 0xfb ∷ 0xf0 ∷ 0x30 ∷ 0x10 ∷ 0x30 ∷ 0x0e ∷ 0x04 ∷ 0x02 ∷ 0x00 ∷ 0x01 ∷ 0x30 ∷ 0x08 ∷ 0x30 ∷ 0x06 ∷ 0x03 ∷ 0x04 ∷ 0x00 ∷ 0xc0 ∷ 0x00 ∷ 0x02 ∷ []) 2 2 refl refl
 
 primitive_context_0 : RoaFaultAt (0x30 ∷ 0x1c ∷ 0x80 ∷ 0x03 ∷ 0x02 ∷ 0x01 ∷ 0x00 ∷ 0x02 ∷ 0x03 ∷ 0x00 ∷ 0xfb ∷ 0xf0 ∷ 0x30 ∷ 0x10 ∷ 0x30 ∷ 0x0e ∷ 0x04 ∷ 0x02 ∷ 0x00 ∷ 0x01 ∷ 0x30 ∷ 0x08 ∷ 0x30 ∷ 0x06 ∷ 0x03 ∷ 0x04 ∷ 0x00 ∷ 0xc0 ∷ 0x00 ∷ 0x02 ∷ []) 2 2
-unfolding as_id_at address_family_at address_at max_length_at maximum_at entry_at entries_at addresses_at ip_family_at blocks_at attestation_at payload_at element_at content_at end_at length_end content_end has_length length_bytes is_truncated head_rules content_place next_place
+unfolding as_id_at address_family_at address_at max_length_at maximum_at entry_at entries_at addresses_at ip_family_at blocks_at attestation_at payload_at element_at content_at end_at length_end content_end has_der_length length_bytes is_truncated head_rules content_place next_place
 primitive_context_0 = faults (0x30 ∷ 0x1c ∷ 0x80 ∷ 0x03 ∷ 0x02 ∷ 0x01 ∷ 0x00 ∷ 0x02 ∷ 0x03 ∷ 0x00 ∷ 0xfb ∷ 0xf0 ∷ 0x30 ∷ 0x10 ∷ 0x30 ∷ 0x0e ∷ 0x04 ∷ 0x02 ∷ 0x00 ∷ 0x01 ∷ 0x30 ∷ 0x08 ∷ 0x30 ∷ 0x06 ∷ 0x03 ∷ 0x04 ∷ 0x00 ∷ 0xc0 ∷ 0x00 ∷ 0x02 ∷ []) 2 2 refl refl
 
 -- a version behind the AS number
 version_behind : RoaFaultAt (0x30 ∷ 0x1c ∷ 0x02 ∷ 0x03 ∷ 0x00 ∷ 0xfb ∷ 0xf0 ∷ 0xa0 ∷ 0x03 ∷ 0x02 ∷ 0x01 ∷ 0x00 ∷ 0x30 ∷ 0x10 ∷ 0x30 ∷ 0x0e ∷ 0x04 ∷ 0x02 ∷ 0x00 ∷ 0x01 ∷ 0x30 ∷ 0x08 ∷ 0x30 ∷ 0x06 ∷ 0x03 ∷ 0x04 ∷ 0x00 ∷ 0xc0 ∷ 0x00 ∷ 0x02 ∷ []) 7 2
-unfolding as_id_at address_family_at address_at max_length_at maximum_at entry_at entries_at addresses_at ip_family_at blocks_at attestation_at payload_at element_at content_at end_at length_end content_end has_length length_bytes is_truncated head_rules content_place next_place
+unfolding as_id_at address_family_at address_at max_length_at maximum_at entry_at entries_at addresses_at ip_family_at blocks_at attestation_at payload_at element_at content_at end_at length_end content_end has_der_length length_bytes is_truncated head_rules content_place next_place
 version_behind = faults (0x30 ∷ 0x1c ∷ 0x02 ∷ 0x03 ∷ 0x00 ∷ 0xfb ∷ 0xf0 ∷ 0xa0 ∷ 0x03 ∷ 0x02 ∷ 0x01 ∷ 0x00 ∷ 0x30 ∷ 0x10 ∷ 0x30 ∷ 0x0e ∷ 0x04 ∷ 0x02 ∷ 0x00 ∷ 0x01 ∷ 0x30 ∷ 0x08 ∷ 0x30 ∷ 0x06 ∷ 0x03 ∷ 0x04 ∷ 0x00 ∷ 0xc0 ∷ 0x00 ∷ 0x02 ∷ []) 2 7 refl refl
 
 -- an address family of another number, and one of one byte
 third_number : RoaFaultAt (0x30 ∷ 0x17 ∷ 0x02 ∷ 0x03 ∷ 0x00 ∷ 0xfb ∷ 0xf0 ∷ 0x30 ∷ 0x10 ∷ 0x30 ∷ 0x0e ∷ 0x04 ∷ 0x02 ∷ 0x00 ∷ 0x03 ∷ 0x30 ∷ 0x08 ∷ 0x30 ∷ 0x06 ∷ 0x03 ∷ 0x04 ∷ 0x00 ∷ 0xc0 ∷ 0x00 ∷ 0x02 ∷ []) 11 8
-unfolding as_id_at address_family_at address_at max_length_at maximum_at entry_at entries_at addresses_at ip_family_at blocks_at attestation_at payload_at element_at content_at end_at length_end content_end has_length length_bytes is_truncated head_rules content_place next_place
+unfolding as_id_at address_family_at address_at max_length_at maximum_at entry_at entries_at addresses_at ip_family_at blocks_at attestation_at payload_at element_at content_at end_at length_end content_end has_der_length length_bytes is_truncated head_rules content_place next_place
 third_number = faults (0x30 ∷ 0x17 ∷ 0x02 ∷ 0x03 ∷ 0x00 ∷ 0xfb ∷ 0xf0 ∷ 0x30 ∷ 0x10 ∷ 0x30 ∷ 0x0e ∷ 0x04 ∷ 0x02 ∷ 0x00 ∷ 0x03 ∷ 0x30 ∷ 0x08 ∷ 0x30 ∷ 0x06 ∷ 0x03 ∷ 0x04 ∷ 0x00 ∷ 0xc0 ∷ 0x00 ∷ 0x02 ∷ []) 8 11 refl refl
 
 family_of_one_byte : RoaFaultAt (0x30 ∷ 0x16 ∷ 0x02 ∷ 0x03 ∷ 0x00 ∷ 0xfb ∷ 0xf0 ∷ 0x30 ∷ 0x0f ∷ 0x30 ∷ 0x0d ∷ 0x04 ∷ 0x01 ∷ 0x01 ∷ 0x30 ∷ 0x08 ∷ 0x30 ∷ 0x06 ∷ 0x03 ∷ 0x04 ∷ 0x00 ∷ 0xc0 ∷ 0x00 ∷ 0x02 ∷ []) 11 8
-unfolding as_id_at address_family_at address_at max_length_at maximum_at entry_at entries_at addresses_at ip_family_at blocks_at attestation_at payload_at element_at content_at end_at length_end content_end has_length length_bytes is_truncated head_rules content_place next_place
+unfolding as_id_at address_family_at address_at max_length_at maximum_at entry_at entries_at addresses_at ip_family_at blocks_at attestation_at payload_at element_at content_at end_at length_end content_end has_der_length length_bytes is_truncated head_rules content_place next_place
 family_of_one_byte = faults (0x30 ∷ 0x16 ∷ 0x02 ∷ 0x03 ∷ 0x00 ∷ 0xfb ∷ 0xf0 ∷ 0x30 ∷ 0x0f ∷ 0x30 ∷ 0x0d ∷ 0x04 ∷ 0x01 ∷ 0x01 ∷ 0x30 ∷ 0x08 ∷ 0x30 ∷ 0x06 ∷ 0x03 ∷ 0x04 ∷ 0x00 ∷ 0xc0 ∷ 0x00 ∷ 0x02 ∷ []) 8 11 refl refl
 
 -- bytes that are no element where a third family would begin
 third_family_of_no_tag : RoaFaultAt (0x30 ∷ 0x2c ∷ 0x02 ∷ 0x03 ∷ 0x00 ∷ 0xfb ∷ 0xf0 ∷ 0x30 ∷ 0x25 ∷ 0x30 ∷ 0x0e ∷ 0x04 ∷ 0x02 ∷ 0x00 ∷ 0x01 ∷ 0x30 ∷ 0x08 ∷ 0x30 ∷ 0x06 ∷ 0x03 ∷ 0x04 ∷ 0x00 ∷ 0xc0 ∷ 0x00 ∷ 0x02 ∷ 0x30 ∷ 0x12 ∷ 0x04 ∷ 0x02 ∷ 0x00 ∷ 0x02 ∷ 0x30 ∷ 0x0c ∷ 0x30 ∷ 0x0a ∷ 0x03 ∷ 0x05 ∷ 0x00 ∷ 0x20 ∷ 0x01 ∷ 0x0d ∷ 0xb8 ∷ 0x02 ∷ 0x01 ∷ 0x30 ∷ 0xff ∷ []) 45 5
-unfolding as_id_at address_family_at address_at max_length_at maximum_at entry_at entries_at addresses_at ip_family_at blocks_at attestation_at payload_at element_at content_at end_at length_end content_end has_length length_bytes is_truncated head_rules content_place next_place
+unfolding as_id_at address_family_at address_at max_length_at maximum_at entry_at entries_at addresses_at ip_family_at blocks_at attestation_at payload_at element_at content_at end_at length_end content_end has_der_length length_bytes is_truncated head_rules content_place next_place
 third_family_of_no_tag = faults (0x30 ∷ 0x2c ∷ 0x02 ∷ 0x03 ∷ 0x00 ∷ 0xfb ∷ 0xf0 ∷ 0x30 ∷ 0x25 ∷ 0x30 ∷ 0x0e ∷ 0x04 ∷ 0x02 ∷ 0x00 ∷ 0x01 ∷ 0x30 ∷ 0x08 ∷ 0x30 ∷ 0x06 ∷ 0x03 ∷ 0x04 ∷ 0x00 ∷ 0xc0 ∷ 0x00 ∷ 0x02 ∷ 0x30 ∷ 0x12 ∷ 0x04 ∷ 0x02 ∷ 0x00 ∷ 0x02 ∷ 0x30 ∷ 0x0c ∷ 0x30 ∷ 0x0a ∷ 0x03 ∷ 0x05 ∷ 0x00 ∷ 0x20 ∷ 0x01 ∷ 0x0d ∷ 0xb8 ∷ 0x02 ∷ 0x01 ∷ 0x30 ∷ 0xff ∷ []) 5 45 refl refl

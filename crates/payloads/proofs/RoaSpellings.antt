@@ -9,10 +9,10 @@ use Rattle.std.proofs.lemmas.List.Elements.{All-cons}
 use Rattle.std.proofs.Math.Seq.{take-suc}
 use Rattle.der_lite.specs.Place.{first_of}
 use Rattle.der_lite.specs.Der.{IsBytes, length_bytes, tlv}
-use Rattle.der_lite.specs.Grammar.{Keeps, EachSpells, OptionSpells}
+use Rattle.der_lite.specs.Grammar.{KeepsRules, EachSpells, OptionSpells}
 use Rattle.der_lite.specs.Values.{unsigned_bytes}
 use Rattle.der_lite.specs.Writing.{Adds}
-use Rattle.der_lite.proofs.Numbers.{bytes_append, bytes_cons, no_bytes, unsigned_few, unsigned_are, unsigned_spells, tlv_length, tlv_bytes}
+use Rattle.der_lite.proofs.NumberBytes.{bytes_append, bytes_cons, no_bytes, unsigned_few, unsigned_are, unsigned_spells, tlv_length, tlv_bytes}
 use Rattle.prefixes.specs.Payload.{block_of, width_of}
 use Rattle.prefixes.specs.declared.prefix.IpPrefix.{IpPrefix}
 use Rattle.prefixes.specs.declared.prefix.IpPrefix.TheVariants.{V4, V6}
@@ -346,7 +346,7 @@ family_is family es some those =
 
 -- behind no family, or IPv6 behind IPv4
 abbrev FamilyKept : Option AddressFamily → AddressFamily → Type 0
-FamilyKept before family = Keeps (family_rules before (0 ∷ family_number family ∷ []))
+FamilyKept before family = KeepsRules (family_rules before (0 ∷ family_number family ∷ []))
 
 family_spells : (before : Option AddressFamily) (family : AddressFamily) (count : ℕ) (es : List RoaEntry) → FamilyKept before family → IsListed family count es
     → (ip_family before count).Spells (family, es) (family_bytes family (list_bytes family es))

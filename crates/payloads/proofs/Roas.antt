@@ -5,7 +5,7 @@ use Rattle.der_lite.specs.Grammar.{last, optional, each, member}
 use Rattle.der_lite.specs.Decoding.{read_member}
 use Rattle.der_lite.specs.Fields.{last_at, optional_at, valued_at}
 use Rattle.der_lite.proofs.Exact.{ExactElement, ExactMembers, exact_member, exact_each}
-use Rattle.der_lite.proofs.Fields.{exact_sequence, exact_last_at, exact_optional_at, exact_valued}
+use Rattle.der_lite.proofs.FieldLaws.{exact_sequence, exact_last_at, exact_optional_at, exact_valued}
 use Rattle.payloads.specs.declared.roa_family.AddressFamily.{AddressFamily}
 use Rattle.payloads.specs.declared.roa_entry.RoaEntry.{RoaEntry}
 use Rattle.payloads.specs.Roa.{no_rules, as_id, address_family, address, max_length, entry_parts, too_many_rules, order_rules, entry_members, ip_address, not_empty, entry_behind, addresses, ip_family, ip_addr_blocks, route_origin_attestation, roa_payload}

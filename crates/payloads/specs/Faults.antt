@@ -1,7 +1,7 @@
 -- Faults by their numbers.
 use Rattle.std.specs.Prelude.{ℕ}
 use Rattle.der_lite.specs.Place.{Fault}
-use Rattle.der_lite.specs.Cursors.{kind_number as element_number}
+use Rattle.der_lite.specs.Cursors.{der_kind_number as element_number}
 use Rattle.payloads.specs.declared.fault.GrammarFaultKind.{GrammarFaultKind}
 use Rattle.payloads.specs.declared.fault.GrammarFaultKind.TheVariants.{Element, VersionPresent, AsnRange, Family, Empty, PrefixTooLong, MaxLength, Order, NumberRange, TimesOrder, HashAlg, Name, HashLength, NameTwice, TooMany}
 use Rattle.payloads.specs.declared.fault.GrammarFault.{GrammarFault}

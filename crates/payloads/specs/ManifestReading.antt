@@ -3,7 +3,7 @@ use Rattle.std.specs.Prelude.{ℕ, ◌==◌, List, drop, Result}
 use Rattle.der_lite.specs.Place.{Fault, place_of}
 use Rattle.der_lite.specs.Der.{tag_of}
 use Rattle.der_lite.specs.Moments.{CivilMoment}
-use Rattle.der_lite.specs.Reading.{integer_at, bits_at, oid_at, ia5_at, time_at}
+use Rattle.der_lite.specs.DerReading.{integer_at, bits_at, oid_at, ia5_at, time_at}
 use Rattle.der_lite.specs.Times.{timed_at}
 use Rattle.der_lite.specs.Decoding.{Read, ReadAll, read_member, read_each}
 use Rattle.der_lite.specs.Fields.{field_at, sequence_at, last_at, valued_at}

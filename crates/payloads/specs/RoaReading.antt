@@ -4,7 +4,7 @@ use Rattle.std.specs.List.{last_or}
 use Rattle.der_lite.specs.Place.{Fault, place_of}
 use Rattle.der_lite.specs.Der.{number, bit_count, tag_of}
 use Rattle.der_lite.specs.Values.{is_negative, bits_value}
-use Rattle.der_lite.specs.Reading.{integer_at, bits_at, octets_at}
+use Rattle.der_lite.specs.DerReading.{integer_at, bits_at, octets_at}
 use Rattle.der_lite.specs.Decoding.{Read, ReadAll, read_member, read_each}
 use Rattle.der_lite.specs.Fields.{field_at, sequence_at, last_at, optional_at, valued_at}
 use Rattle.prefixes.specs.Payload.{block_of, width_of}

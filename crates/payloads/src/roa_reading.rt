@@ -2,7 +2,7 @@
 
 ghost use Rattle.std.specs.Prelude.{◌≡◌, ◌==◌, ◌<◌, IfOk, IsTrue, Some, option_copied, ⊤};
 ghost use Rattle.der_lite.specs.Der.{EXPLICIT_0, is_integer, tag_of};
-ghost use Rattle.der_lite.specs.Reading.{integer_at};
+ghost use Rattle.der_lite.specs.DerReading.{integer_at};
 ghost use Rattle.der_lite.specs.Fields.{optional_at};
 ghost use Rattle.payloads.specs.RoaReading.{with_version, as_id_at, address_family_at, address_at, max_length_at, maximum_at, entry_at, entries_at, addresses_at, ip_family_at, blocks_at, payload_at};
 ghost use Rattle.payloads.specs.RoaValues.{entries_of, all_entries};

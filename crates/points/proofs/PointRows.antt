@@ -1,6 +1,6 @@
 -- Offers as equations: what decides at a point that holds nothing, and at one that holds the manifest of number 1.
 use Rattle.std.proofs.Common.{◌≡◌, ℕ, true, false, Bor, List, [], ◌∷◌, Option, Some, None, refl, replicate}
-use Rattle.der_lite.specs.Moments.{CivilMoment, told, moment_before}
+use Rattle.der_lite.specs.Moments.{CivilMoment, told_moment, moment_before}
 use Rattle.payloads.specs.Manifest.{ManifestValue}
 use Rattle.points.specs.Steps.{FromFile}
 use Rattle.points.specs.declared.file.FileIn.{FileIn}
@@ -18,16 +18,16 @@ listing_a number this next = record { number = number; this_update = this; next_
 
 -- the first of January 2025, its noon, and the two days after it
 abbrev first : CivilMoment
-first = told 2025 1 1 0 0 0
+first = told_moment 2025 1 1 0 0 0
 
 abbrev noon : CivilMoment
-noon = told 2025 1 1 12 0 0
+noon = told_moment 2025 1 1 12 0 0
 
 abbrev second : CivilMoment
-second = told 2025 1 2 0 0 0
+second = told_moment 2025 1 2 0 0 0
 
 abbrev third : CivilMoment
-third = told 2025 1 3 0 0 0
+third = told_moment 2025 1 3 0 0 0
 
 abbrev held : Option Accepted
 held = Some (record { bytes = 1 ∷ 2 ∷ []; manifest = listing_a (1 ∷ []) first second; roas = [] })
@@ -51,11 +51,11 @@ ends : decides None (listing_a (1 ∷ []) first second) (1 ∷ 2 ∷ []) (a_file
 unfolding tests moment_before
 ends = refl
 
-a_second_late : decides None (listing_a (1 ∷ []) first second) (1 ∷ 2 ∷ []) (a_file ∷ []) (told 2025 1 2 0 0 1) ≡ Some Stale
+a_second_late : decides None (listing_a (1 ∷ []) first second) (1 ∷ 2 ∷ []) (a_file ∷ []) (told_moment 2025 1 2 0 0 1) ≡ Some Stale
 unfolding tests moment_before
 a_second_late = refl
 
-a_second_early : decides None (listing_a (1 ∷ []) first second) (1 ∷ 2 ∷ []) (a_file ∷ []) (told 2024 12 31 23 59 59) ≡ Some NotYet
+a_second_early : decides None (listing_a (1 ∷ []) first second) (1 ∷ 2 ∷ []) (a_file ∷ []) (told_moment 2024 12 31 23 59 59) ≡ Some NotYet
 unfolding tests moment_before
 a_second_early = refl
 
@@ -64,11 +64,11 @@ again : decides held (listing_a (1 ∷ []) first second) (1 ∷ 2 ∷ []) [] noo
 unfolding tests moment_before
 again = refl
 
-again_late : decides held (listing_a (1 ∷ []) first second) (1 ∷ 2 ∷ []) [] (told 2025 1 2 0 0 1) ≡ Some Stale
+again_late : decides held (listing_a (1 ∷ []) first second) (1 ∷ 2 ∷ []) [] (told_moment 2025 1 2 0 0 1) ≡ Some Stale
 unfolding tests moment_before
 again_late = refl
 
-again_early : decides held (listing_a (1 ∷ []) first second) (1 ∷ 2 ∷ []) [] (told 2024 12 31 23 59 59) ≡ Some NotYet
+again_early : decides held (listing_a (1 ∷ []) first second) (1 ∷ 2 ∷ []) [] (told_moment 2024 12 31 23 59 59) ≡ Some NotYet
 unfolding tests moment_before
 again_early = refl
 

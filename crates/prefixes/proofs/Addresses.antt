@@ -15,8 +15,8 @@ use Rattle.std.proofs.NetLemmas.Ipv6.{IsDotted-not_colon_hex}
 use Rattle.std.proofs.NetLemmas.Texts.{AllSegments, IsColonHex-hex_groups_text}
 use Rattle.std.proofs.NetLemmas.Theorems.{IsIpv4Text_unique, IsIpv6Text_unique}
 use Rattle.prefixes.specs.Text.{v4_address, groups, IsV6Address, IsFull, IsCompressed}
-use Rattle.prefixes.proofs.Numbers.{as_four_bytes, as_groups, bytes, four_bytes, eight_groups, same_bytes, same_groups}
-use Rattle.prefixes.proofs.Groups.{full_is_read, compressed_is_read, read_as_groups, groups_small, groups_lack, small_at, eight}
+use Rattle.prefixes.proofs.AddressNumbers.{as_four_bytes, as_groups, bytes, four_bytes, eight_groups, same_bytes, same_groups}
+use Rattle.prefixes.proofs.HexGroups.{full_is_read, compressed_is_read, read_as_groups, groups_small, groups_lack, small_at, eight}
 use Rattle.prefixes.proofs.Decimals.{decimal_lacks}
 use Rattle.prefixes.proofs.Lacks.{Lacks, both, from_each}
 

@@ -5,7 +5,7 @@ use Rattle.std.specs.Fmt.{decimal}
 use Rattle.std.specs.Str.Parse.{AllDigits, digits_value, ParsesUnsigned}
 use Rattle.std.proofs.lemmas.Str.Parse.{IsNumeralModel, numerals_by_value, tells_digits, parse_plain}
 use Rattle.std.proofs.lemmas.Fmt.{decimal_digit, first_decimal, decimal_nonempty, decimal_is_IsNumeral, decimal-digits_value, parse-decimal}
-use Rattle.prefixes.specs.Reading.{Begins}
+use Rattle.prefixes.specs.TextSteps.{BeginsNumeral}
 use Rattle.prefixes.proofs.Lacks.{Lacks, digits_lack}
 
 -- what std's lemmas take digits and their value to be
@@ -13,17 +13,17 @@ own : IsNumeralModel (AllDigits 10) (digits_value 10)
 own = numerals_by_value (AllDigits 10) tells_digits
 
 -- The decimal text of a number begins with no sign, and with 0 only where 0 is all of it.
-pub begins : (n : ℕ) (bs : List ℕ) → n < 2 ^ 32 → bs ≡ decimal n → Begins bs
+pub begins : (n : ℕ) (bs : List ℕ) → n < 2 ^ 32 → bs ≡ decimal n → BeginsNumeral bs
 begins zero bs small e =
     let is : bs ≡ 48 ∷ [] = e ∙ decimal_digit 0 (omega arith) in
-    subst (λ xs. Begins xs) (sym is) (record { some = omega arith; digit = omega arith; lone_zero = λ _. refl })
+    subst (λ xs. BeginsNumeral xs) (sym is) (record { some = omega arith; digit = omega arith; lone_zero = λ _. refl })
 begins (suc n) bs small e =
     let first : 48 < get_or (decimal (suc n)) 0 0 = first_decimal (suc n) (omega arith) (omega arith) in
     let some : 0 < length (decimal (suc n)) = decimal_nonempty (suc n) (omega arith) in
-    subst (λ xs. Begins xs) (sym e) (record { some = some; digit = omega arith; lone_zero = λ h. absurd (omega arith) })
+    subst (λ xs. BeginsNumeral xs) (sym e) (record { some = some; digit = omega arith; lone_zero = λ h. absurd (omega arith) })
 
 -- What `parse` gives where a text begins so is the number whose text it is.
-pub read : {E : Type 0} (bs : List ℕ) (r : Result ℕ E) → ParsesUnsigned 32 10 bs r → Begins bs → (n : ℕ) → r ≡ Ok n → (n < 2 ^ 32) × (bs ≡ decimal n)
+pub read : {E : Type 0} (bs : List ℕ) (r : Result ℕ E) → ParsesUnsigned 32 10 bs r → BeginsNumeral bs → (n : ℕ) → r ≡ Ok n → (n < 2 ^ 32) × (bs ≡ decimal n)
 read bs r h b n e =
     let plain = parse_plain own 32 bs r h (omega (arith, b.digit)) in
     let at_n = rw e at plain in

@@ -1,9 +1,9 @@
+pub mod AddressNumbers
 pub mod Addresses
 pub mod Decimals
-pub mod Groups
+pub mod HexGroups
 pub mod Lacks
 pub mod LongestRun
-pub mod Numbers
 pub mod OrderRows
 pub mod RefusedRows
 pub mod Spelling

@@ -9,8 +9,8 @@ use Rattle.std.specs.declared.net.ipv6_addr.Ipv6Addr.{Ipv6Addr}
 use Rattle.std.proofs.lemmas.Fmt.{decimal_injective}
 use Rattle.prefixes.specs.Address.{Block, IsPrefix}
 use Rattle.prefixes.specs.Payload.{block_of, width_of}
-use Rattle.prefixes.specs.Reading.{IsJudged}
-use Rattle.prefixes.specs.Text.{IsAddress, IsV6Address, OneReading, PrefixText, ReadsAs, Says, WrittenIsRead, groups, v4_address, written_address, written_text}
+use Rattle.prefixes.specs.TextSteps.{IsBlockJudged}
+use Rattle.prefixes.specs.Text.{IsAddress, IsV6Address, OneReading, PrefixText, ReadsAs, Says, WrittenTextIsRead, groups, v4_address, written_address, written_text}
 use Rattle.prefixes.specs.declared.fault.PrefixFault.{PrefixFault}
 use Rattle.prefixes.specs.declared.fault.PrefixFault.TheVariants.{TooLong, HostBits, BadText, MaxLength}
 use Rattle.prefixes.specs.declared.prefix.IpPrefix.{IpPrefix}
@@ -104,19 +104,19 @@ pub not_split : (text : List ℕ) (r : Option (Bor (List ℕ) × Bor (List ℕ))
 not_split text r h e = no_slash text (rw e at (split_parts 47 text r h (lit< tt)))
 
 -- The prefix that is judged of an IPv4 address and a length is the one that the text spells,
-pub reads_v4 : (text : List ℕ) (p : Block) (r : Result Block PrefixFault) → Says (V4 p) text → IsJudged 32 p r → (q : Block) → r ≡ Ok q → PrefixText (V4 q) text
+pub reads_v4 : (text : List ℕ) (p : Block) (r : Result Block PrefixFault) → Says (V4 p) text → IsBlockJudged 32 p r → (q : Block) → r ≡ Ok q → PrefixText (V4 q) text
 reads_v4 text p r says h q e =
-    let at_q : (q ≡ p) × IsPrefix 32 p = subst (λ x. IsJudged 32 p x) e h in
+    let at_q : (q ≡ p) × IsPrefix 32 p = subst (λ x. IsBlockJudged 32 p x) e h in
     subst (λ b. PrefixText (V4 b) text) (sym at_q.0) (record { is_prefix = at_q.1; says = says })
 
 -- and so is that of an IPv6 address,
-pub reads_v6 : (text : List ℕ) (p : Block) (r : Result Block PrefixFault) → Says (V6 p) text → IsJudged 128 p r → (q : Block) → r ≡ Ok q → PrefixText (V6 q) text
+pub reads_v6 : (text : List ℕ) (p : Block) (r : Result Block PrefixFault) → Says (V6 p) text → IsBlockJudged 128 p r → (q : Block) → r ≡ Ok q → PrefixText (V6 q) text
 reads_v6 text p r says h q e =
-    let at_q : (q ≡ p) × IsPrefix 128 p = subst (λ x. IsJudged 128 p x) e h in
+    let at_q : (q ≡ p) × IsPrefix 128 p = subst (λ x. IsBlockJudged 128 p x) e h in
     subst (λ b. PrefixText (V6 b) text) (sym at_q.0) (record { is_prefix = at_q.1; says = says })
 
 -- and a fault that is judged is the text's.
-pub refuses : (text : List ℕ) (p : IpPrefix) (fault : PrefixFault) → Says p text → IsJudged (width_of p) (block_of p) (Err fault) → ReadsAs text (Err fault)
+pub refuses : (text : List ℕ) (p : IpPrefix) (fault : PrefixFault) → Says p text → IsBlockJudged (width_of p) (block_of p) (Err fault) → ReadsAs text (Err fault)
 refuses text p TooLong says h = (p, says, h)
 refuses text p HostBits says h = (p, says, h.0, h.1)
 refuses text p BadText says h = absurd h
@@ -159,7 +159,7 @@ width_below (V4 p) = omega arith
 width_below (V6 p) = omega arith
 
 -- What is written for a prefix spells it.
-pub written_is_read : WrittenIsRead
+pub written_is_read : WrittenTextIsRead
 written_is_read p h = record {
   is_prefix = h;
   says = record {

@@ -1,8 +1,8 @@
 pub mod Address
-pub mod Fault
 pub mod Halves
 pub mod Orders
 pub mod Payload
-pub mod Reading
+pub mod PrefixFaults
 pub mod Text
 pub mod TextRows
+pub mod TextSteps

@@ -26,18 +26,18 @@ groups addr = map (λ k. addr / 2 ^ k % 2 ^ 16) (112 ∷ 96 ∷ 80 ∷ 64 ∷ 48
 abbrev pub IsGroup : ℕ → List ℕ → Type 0
 IsGroup group text = IsNumeral 16 text × (length text ≤ 4) × (digits_value 16 text ≡ group)
 
-abbrev pub AreGroups : List ℕ → List (List ℕ) → Type 0
-AreGroups [] [] = ⊤
-AreGroups (group ∷ more) (text ∷ texts) = IsGroup group text × AreGroups more texts
-AreGroups [] (text ∷ texts) = ⊥
-AreGroups (group ∷ more) [] = ⊥
+abbrev pub AreHexGroups : List ℕ → List (List ℕ) → Type 0
+AreHexGroups [] [] = ⊤
+AreHexGroups (group ∷ more) (text ∷ texts) = IsGroup group text × AreHexGroups more texts
+AreHexGroups [] (text ∷ texts) = ⊥
+AreHexGroups (group ∷ more) [] = ⊥
 
 abbrev pub joined_by_colons : List (List ℕ) → List ℕ
 joined_by_colons texts = join_with_byte 58 texts
 
 -- The eight groups are joined by colons ..
 abbrev pub IsFull : List ℕ → List ℕ → Type 0
-IsFull all text = (texts : List (List ℕ)) × AreGroups all texts × (text ≡ joined_by_colons texts)
+IsFull all text = (texts : List (List ℕ)) × AreHexGroups all texts × (text ≡ joined_by_colons texts)
 
 -- .. or `::` stands between groups, at most seven, for one zero group or more.
 pub record IsCompressed (all text : List ℕ) : Type 0 where
@@ -48,8 +48,8 @@ pub record IsCompressed (all text : List ℕ) : Type 0 where
   pub all_are : all ≡ before ++ replicate zeros 0 ++ after
   pub left : List (List ℕ)
   pub right : List (List ℕ)
-  pub before_are : AreGroups before left
-  pub after_are : AreGroups after right
+  pub before_are : AreHexGroups before left
+  pub after_are : AreHexGroups after right
   pub text_is : text ≡ joined_by_colons left ++ codes "::" ++ joined_by_colons right
 
 abbrev pub IsV6Address : ℕ → List ℕ → Type 0
@@ -103,8 +103,8 @@ abbrev pub OneReading : Type 0
 OneReading = (text : List ℕ) (p q : IpPrefix) → Says p text → Says q text → p ≡ q
 
 -- What is written for a prefix spells it.
-abbrev pub WrittenIsRead : Type 0
-WrittenIsRead = (p : IpPrefix) → IsPrefix (width_of p) (block_of p) → PrefixText p (written_text p)
+abbrev pub WrittenTextIsRead : Type 0
+WrittenTextIsRead = (p : IpPrefix) → IsPrefix (width_of p) (block_of p) → PrefixText p (written_text p)
 
 -- From the group at start on, len groups are zero.
 pub record IsZeroRun (all : List ℕ) (start len : ℕ) : Type 0 where

@@ -15,11 +15,11 @@ pub enum PrefixFault {
 }
 
 impl PrefixFault {
-    ghost use Rattle.prefixes.specs.Fault.{fault_number};
+    ghost use Rattle.prefixes.specs.PrefixFaults.{prefix_fault_number};
 
     /// The number by which the fault is printed, 1 to 4.
     pub fn number(self) -> u8
-        ensures { result ≡ fault_number self }
+        ensures { result ≡ prefix_fault_number self }
     {
         self as u8
     }

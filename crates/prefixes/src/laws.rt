@@ -1,5 +1,5 @@
 //! Laws of the texts of prefixes. The functions do nothing: each states a law, which is proved.
-ghost use Rattle.prefixes.specs.Text.{FirstLongestRun, OneReading, WrittenIsRead};
+ghost use Rattle.prefixes.specs.Text.{FirstLongestRun, OneReading, WrittenTextIsRead};
 
 /// A text says one address and one length at most.
 pub fn one_reading()
@@ -8,7 +8,7 @@ pub fn one_reading()
 
 /// What is written for a prefix spells it.
 pub fn written_is_read()
-    ensures { WrittenIsRead }
+    ensures { WrittenTextIsRead }
 {}
 
 /// In what is written for an IPv6 address, `::` stands for the first longest run of two or more zero groups, and nowhere else

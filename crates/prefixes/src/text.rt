@@ -1,7 +1,7 @@
 //! Prefixes and AS numbers as text.
 ghost use Rattle.std.specs.Prelude.{◌≡◌, ℕ, ◌<◌, ◌^◌, ◌↔◌, IsTrue, Some};
 ghost use Rattle.std.specs.Fmt.{decimal};
-ghost use Rattle.prefixes.specs.Reading.{Begins, IsOnly, IsJudged};
+ghost use Rattle.prefixes.specs.TextSteps.{BeginsNumeral, IsOnly, IsBlockJudged};
 ghost use Rattle.prefixes.specs.Text.{IsV6Address, v4_address};
 
 use crate::asn::Asn;
@@ -88,7 +88,7 @@ impl Display for Asn {
 /// The prefix of this address and this length, or the first fault: a length over the width, then host bits.
 fn judged<F: Family>(addr: u128, len: u32) -> Result<Prefix<F>, PrefixFault>
     requires { addr < 2 ^ F.WIDTH }
-    ensures { IsJudged F.WIDTH (record { addr = addr; len = len }) result }
+    ensures { IsBlockJudged F.WIDTH (record { addr = addr; len = len }) result }
 {
     if len > F::WIDTH as u32 {
         return Err(PrefixFault::TooLong);
@@ -134,7 +134,7 @@ fn number(text: &str) -> Option<u32>
 
 /// Whether a text begins as a number without leading zeros does: with no sign, and with 0 only where 0 is all of it.
 fn begins_number(bytes: &[u8]) -> bool
-    ensures { IsTrue result ↔ Begins bytes.now }
+    ensures { IsTrue result ↔ BeginsNumeral bytes.now }
 {
     !bytes.is_empty() && b'0' <= bytes[0] && (bytes[0] != b'0' || bytes.len() == 1)
 }

@@ -14,10 +14,10 @@ use Rattle.rtr_pdu.proofs.StreamLaws.{one_split, written_is_read}
 use Rattle.rtr_ends.specs.Answer.{sent, sent_all}
 use Rattle.rtr_ends.specs.Cache.{IsServed}
 use Rattle.rtr_ends.specs.CacheState.{CacheState, ShowsCache, due_at, is_open_at}
-use Rattle.rtr_ends.specs.Connection.{Connection, IsHistory, Moment, Read, Wanting, Fault, Notify, Pull, after, agreed_after, opened, replies_from, reply}
+use Rattle.rtr_ends.specs.Connection.{Connection, IsHistory, ConnMoment, Read, Wanting, Fault, Notify, Pull, conn_after, agreed_after, opened, replies_from, reply}
 use Rattle.rtr_ends.specs.Timing.{default_intervals}
 use Rattle.rtr_ends.specs.declared.cache.Cache.{Cache}
-use Rattle.rtr_ends.proofs.Bytes.{bytes_front}
+use Rattle.rtr_ends.proofs.ByteLists.{bytes_front}
 use Rattle.rtr_ends.proofs.ServingLaws.{serves_history}
 use Rattle.rpkirtr.specs.Answered.{AnswersBytes, IsOf, LeavesOff}
 use Rattle.rpkirtr.specs.Lines.{lines_of}
@@ -52,29 +52,29 @@ front_sound (u ∷ us) vs h = front_sound us vs h.1
 
 module _ (i : Instance) where
   -- After an end no unit is read.
-  pulls_alone : (c : Connection) (moments : List Moment) (bytes : List ℕ) → c.ended ≡ true → IsHistory 1 default_intervals c moments bytes → AllByRecursion (IsOwn i) moments → AllByRecursion (IsOf i) moments
+  pulls_alone : (c : Connection) (moments : List ConnMoment) (bytes : List ℕ) → c.ended ≡ true → IsHistory 1 default_intervals c moments bytes → AllByRecursion (IsOwn i) moments → AllByRecursion (IsOf i) moments
   pulls_alone c [] bytes e h own = tt
-  pulls_alone c (Pull count ∷ later) bytes e h own = (tt, pulls_alone (after 1 default_intervals c (Pull count)) later h.1.0 e h.1.2 own.1)
+  pulls_alone c (Pull count ∷ later) bytes e h own = (tt, pulls_alone (conn_after 1 default_intervals c (Pull count)) later h.1.0 e h.1.2 own.1)
   pulls_alone c (Read cache unit bytes' ∷ later) bytes e h own = absurd (not_both c.ended e h.0.0)
   pulls_alone c (Wanting cache unit bytes' ∷ later) bytes e h own = absurd (not_both c.ended e h.0.0)
   pulls_alone c (Fault fault bytes' ∷ later) bytes e h own = absurd (not_both c.ended e h.0.0)
   pulls_alone c (Notify cache ∷ later) bytes e h own = absurd own.0
 
-  abbrev SoundFrom : Connection → List Moment → Type 0
+  abbrev SoundFrom : Connection → List ConnMoment → Type 0
   SoundFrom c moments = AllByRecursion (λ u. is_internal_error u ≡ false) (if c.ended then [] else replies_from 1 default_intervals c.agreed moments)
 
   -- behind a unit that was answered
-  by_goes : (c : Connection) (m : Moment) (later : List Moment) (rest : List ℕ) (goes_on : Bool) → (after 1 default_intervals c m).ended ≡ not goes_on → IsHistory 1 default_intervals (after 1 default_intervals c m) later rest → AllByRecursion (IsOwn i) later
-      → AllByRecursion (λ u. is_internal_error u ≡ false) (if goes_on then replies_from 1 default_intervals (agreed_after c.agreed m) later else []) → (SoundFrom (after 1 default_intervals c m) later → AllByRecursion (IsOf i) later) → AllByRecursion (IsOf i) later
+  by_goes : (c : Connection) (m : ConnMoment) (later : List ConnMoment) (rest : List ℕ) (goes_on : Bool) → (conn_after 1 default_intervals c m).ended ≡ not goes_on → IsHistory 1 default_intervals (conn_after 1 default_intervals c m) later rest → AllByRecursion (IsOwn i) later
+      → AllByRecursion (λ u. is_internal_error u ≡ false) (if goes_on then replies_from 1 default_intervals (agreed_after c.agreed m) later else []) → (SoundFrom (conn_after 1 default_intervals c m) later → AllByRecursion (IsOf i) later) → AllByRecursion (IsOf i) later
   by_goes c m later rest true ended h own sound on =
-      on (subst (λ a. AllByRecursion (λ u. is_internal_error u ≡ false) (if (after 1 default_intervals c m).ended then [] else replies_from 1 default_intervals a later)) (sym (agreed_on 1 c m))
+      on (subst (λ a. AllByRecursion (λ u. is_internal_error u ≡ false) (if (conn_after 1 default_intervals c m).ended then [] else replies_from 1 default_intervals a later)) (sym (agreed_on 1 c m))
       (subst (λ b. AllByRecursion (λ u. is_internal_error u ≡ false) (if b then [] else replies_from 1 default_intervals (agreed_after c.agreed m) later)) (sym ended) sound))
-  by_goes c m later rest false ended h own sound on = pulls_alone (after 1 default_intervals c m) later rest ended h own
+  by_goes c m later rest false ended h own sound on = pulls_alone (conn_after 1 default_intervals c m) later rest ended h own
 
   -- No Internal Error is replied, so memory was never wanting.
-  none_wanting : (c : Connection) (moments : List Moment) (bytes : List ℕ) → IsHistory 1 default_intervals c moments bytes → AllByRecursion (IsOwn i) moments → SoundFrom c moments → AllByRecursion (IsOf i) moments
+  none_wanting : (c : Connection) (moments : List ConnMoment) (bytes : List ℕ) → IsHistory 1 default_intervals c moments bytes → AllByRecursion (IsOwn i) moments → SoundFrom c moments → AllByRecursion (IsOf i) moments
   none_wanting c [] bytes h own sound = tt
-  none_wanting c (Pull count ∷ later) bytes h own sound = (tt, none_wanting (after 1 default_intervals c (Pull count)) later h.1.0 h.1.2 own.1 sound)
+  none_wanting c (Pull count ∷ later) bytes h own sound = (tt, none_wanting (conn_after 1 default_intervals c (Pull count)) later h.1.0 h.1.2 own.1 sound)
   none_wanting c (Notify cache ∷ later) bytes h own sound = absurd own.0
   none_wanting c (Wanting cache unit bytes' ∷ later) bytes h own sound =
       absurd (let now = subst (λ b. AllByRecursion (λ u. is_internal_error u ≡ false) (if b then [] else replies_from 1 default_intervals c.agreed (Wanting cache unit bytes' ∷ later))) h.0.0 sound in not_both true refl now.0)
@@ -82,10 +82,10 @@ module _ (i : Instance) where
       let now = subst (λ b. AllByRecursion (λ u. is_internal_error u ≡ false) (if b then [] else replies_from 1 default_intervals c.agreed (Read cache unit bytes' ∷ later))) h.0.0 sound in (
         own.0,
         by_goes c (Read cache unit bytes') later h.1.0 (reply 1 default_intervals c.agreed (Read cache unit bytes')).goes_on refl h.1.2 own.1 (front_sound (reply 1 default_intervals c.agreed (Read cache unit bytes')).units _ now)
-            (none_wanting (after 1 default_intervals c (Read cache unit bytes')) later h.1.0 h.1.2 own.1),
+            (none_wanting (conn_after 1 default_intervals c (Read cache unit bytes')) later h.1.0 h.1.2 own.1),
       )
   none_wanting c (Fault fault bytes' ∷ later) bytes h own sound =
-      (tt, pulls_alone (after 1 default_intervals c (Fault fault bytes')) later h.1.0 refl h.1.2 own.1)
+      (tt, pulls_alone (conn_after 1 default_intervals c (Fault fault bytes')) later h.1.0 refl h.1.2 own.1)
 
 -- what is left
 left_by : (bytes : List ℕ) (going ended : Bool) (left : Option ℕ) → going ≡ not ended → (going ≡ true → LeavesOff bytes left) → (going ≡ false → left ≡ None) → MatchBool ended (left ≡ None) (LeavesOff bytes left)

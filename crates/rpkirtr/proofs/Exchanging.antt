@@ -11,17 +11,17 @@ use Rattle.vrps.specs.Steps.{HoldsSteps, Steps}
 use Rattle.rtr_pdu.specs.declared.version.Version.TheVariants.{V1}
 use Rattle.rtr_pdu.specs.Judging.{Judgement, Begins, Whole, Faulty, judge}
 use Rattle.rtr_pdu.specs.Payloads.{AreBytes}
-use Rattle.rtr_ends.specs.Cache.{Conn, Gives, Taking, Takes, conn_byte, conn_pulled, conn_stops, conn_takes, finds_memory, is_none, moment_of, and_moment}
-use Rattle.rtr_ends.specs.CacheState.{CacheState, GivesBytes, ShowsCache, ShowsSlot, TakesPiece, consumed, due_at, given, has_bytes_at, is_open_at, peer_at, taken, with_conn}
-use Rattle.rtr_ends.specs.Connection.{Moment, Read, Wanting, takes_memory}
-use Rattle.rtr_ends.specs.Feeding.{Fed, feed}
+use Rattle.rtr_ends.specs.Cache.{Conn, Gives, Taking, Takes, conn_byte, conn_pulled, conn_stops, conn_takes, finds_memory, is_none, conn_moment_of, and_moment}
+use Rattle.rtr_ends.specs.CacheState.{CacheState, GivesBytes, ShowsCache, ShowsSlot, TakesPiece, conn_consumed, due_at, given, has_bytes_at, is_open_at, peer_at, taken, with_conn}
+use Rattle.rtr_ends.specs.Connection.{ConnMoment, Read, Wanting, takes_memory}
+use Rattle.rtr_ends.specs.Feeding.{FedPiece, feed}
 use Rattle.rtr_ends.specs.Sender.{due_of}
 use Rattle.rtr_ends.specs.Timing.{Intervals, default_intervals}
 use Rattle.rtr_ends.specs.declared.cache.Cache.{Cache}
 use Rattle.rtr_ends.specs.declared.peer.Peer.{Peer}
 use Rattle.rtr_ends.proofs.FeedingLaws.{feed_keeps, feed_takes, goes_on}
 use Rattle.rpkirtr.proofs.SplitLines.{tests_empty, tests_some}
-use Rattle.rpkirtr.specs.Serves.{HasExchanged, HasServed, IsOwn, Serves, by_calls}
+use Rattle.rpkirtr.specs.Serves.{HasExchanged, HasServed, IsOwn, ServesOn, by_calls}
 
 eq_self : (a : ℕ) → (a == a) ≡ true
 eq_self a = grind (arith, nat_tests)
@@ -30,7 +30,7 @@ eq_self a = grind (arith, nat_tests)
 pub set_at : (c : ℕ) (o : Option Conn) (m : CacheState) → (with_conn c o m).at c ≡ o
 set_at c o m = ap (λ b. if b then o else m.at c) (eq_self c)
 
-all_both : (P : Moment → Type 0) (ms ns : List Moment) → AllByRecursion P ms → AllByRecursion P ns → AllByRecursion P (ms ++ ns)
+all_both : (P : ConnMoment → Type 0) (ms ns : List ConnMoment) → AllByRecursion P ms → AllByRecursion P ns → AllByRecursion P (ms ++ ns)
 all_both P [] ns h k = k
 all_both P (m ∷ ms) ns h k = (h.0, all_both P ms ns h.1 k)
 
@@ -53,7 +53,7 @@ pulled_part most count due out now is e =
     ap (take count) e ∙ ap (λ n. take n (take count due ++ drop count out)) (sym size) ∙ take-append_seam (take count due) (drop count out) ∙ ap (λ n. take n due) is ∙ take_min most due
 
 module _ (i : Instance) (c : ℕ) where
-  pub serves_pull : (came old : List ℕ) (cache new : Cache Steps) (out : List ℕ) (count : ℕ) (now : List ℕ) → (s : Serves i c came old cache) → GivesBytes HoldsSteps s.state c out count now new → Serves i c came (old ++ take count now) new
+  pub serves_pull : (came old : List ℕ) (cache new : Cache Steps) (out : List ℕ) (count : ℕ) (now : List ℕ) → (s : ServesOn i c came old cache) → GivesBytes HoldsSteps s.state c out count now new → ServesOn i c came (old ++ take count now) new
   serves_pull came old cache new out count now s g =
       let conn : Conn = (by_calls i s.calls).conn in
       let due : due_at (s.state.at c) ≡ conn.state.due = ap due_at s.at in
@@ -79,7 +79,7 @@ module _ (i : Instance) (c : ℕ) where
       }
 
   -- the moments that a piece brings
-  own_moment : (memory : Bool) (bytes : List ℕ) (j : Judgement) (ms : List Moment) → AllByRecursion (IsOwn i) ms → AllByRecursion (IsOwn i) (and_moment ms (moment_of i memory bytes j))
+  own_moment : (memory : Bool) (bytes : List ℕ) (j : Judgement) (ms : List ConnMoment) → AllByRecursion (IsOwn i) ms → AllByRecursion (IsOwn i) (and_moment ms (conn_moment_of i memory bytes j))
   own_moment memory bytes Begins ms h = h
   own_moment memory bytes (Whole u) ms h = by_test (takes_memory i u && not memory)
     where
@@ -97,16 +97,16 @@ module _ (i : Instance) (c : ℕ) where
   own_taken wanting piece o =
       feed_keeps (λ (m : Taking). conn_stops m.conn) (conn_byte 1 default_intervals i) (λ rest m. AllByRecursion (IsOwn i) m.moments) (λ b rest m goes h. own_byte m b h) (record { conn = o; moments = []; wanting = wanting }) piece tt
 
-  taken_count : (came old : List ℕ) (cache new : Cache Steps) (piece : List ℕ) (count : ℕ) → (s : Serves i c came old cache) → (p : TakesPiece HoldsSteps s.state c piece count new)
+  taken_count : (came old : List ℕ) (cache new : Cache Steps) (piece : List ℕ) (count : ℕ) → (s : ServesOn i c came old cache) → (p : TakesPiece HoldsSteps s.state c piece count new)
       → count ≡ length piece - length (conn_takes 1 default_intervals (by_calls i s.calls).cache p.wanting piece (by_calls i s.calls).conn).rest
   taken_count came old cache new piece count s p =
-      p.result_is ∙ ap (consumed p.wanting piece s.state) s.at
+      p.result_is ∙ ap (conn_consumed p.wanting piece s.state) s.at
       ∙ ap (λ k. length piece - length (conn_takes k s.state.timing s.state.cache p.wanting piece (by_calls i s.calls).conn).rest) s.keep_is
       ∙ ap (λ t. length piece - length (conn_takes 1 t s.state.cache p.wanting piece (by_calls i s.calls).conn).rest) s.timing_is
       ∙ ap (λ j. length piece - length (conn_takes 1 default_intervals j p.wanting piece (by_calls i s.calls).conn).rest) (s.cache_is ∙ sym s.cache_now)
 
   -- A piece is handed in.
-  pub serves_take : (came old : List ℕ) (cache new : Cache Steps) (piece : List ℕ) (count : ℕ) → (s : Serves i c came old cache) → AreBytes piece → TakesPiece HoldsSteps s.state c piece count new → Serves i c (came ++ take count piece) old new
+  pub serves_take : (came old : List ℕ) (cache new : Cache Steps) (piece : List ℕ) (count : ℕ) → (s : ServesOn i c came old cache) → AreBytes piece → TakesPiece HoldsSteps s.state c piece count new → ServesOn i c (came ++ take count piece) old new
   serves_take came old cache new piece count s each p =
       let conn : Conn = (by_calls i s.calls).conn in
       let same : conn_takes 1 default_intervals (by_calls i s.calls).cache p.wanting piece conn ≡ conn_takes 1 default_intervals i p.wanting piece conn = ap (λ j. conn_takes 1 default_intervals j p.wanting piece conn) s.cache_now in
@@ -125,7 +125,7 @@ module _ (i : Instance) (c : ℕ) where
             ∙ ap (λ j. option_map (λ o. (conn_takes 1 default_intervals j p.wanting piece o).machine.conn) (s.state.at c)) (s.cache_is ∙ sym s.cache_now)
             ∙ ap (option_map (λ o. (conn_takes 1 default_intervals (by_calls i s.calls).cache p.wanting piece o).machine.conn)) s.at;
         cache_now = s.cache_now;
-        own = all_both (IsOwn i) (by_calls i s.calls).moments _ s.own (subst (λ (f : Fed Taking). AllByRecursion (IsOwn i) f.machine.moments) (sym same) (own_taken p.wanting piece conn));
+        own = all_both (IsOwn i) (by_calls i s.calls).moments _ s.own (subst (λ (f : FedPiece Taking). AllByRecursion (IsOwn i) f.machine.moments) (sym same) (own_taken p.wanting piece conn));
         came_is = ap (λ x. x ++ take (length piece - length (conn_takes 1 default_intervals (by_calls i s.calls).cache p.wanting piece conn).rest) piece) s.came_is ∙ ap (λ n. came ++ take n piece) (sym (taken_count came old cache new piece count s p));
         given_is = s.given_is;
       }
@@ -136,10 +136,10 @@ module _ (i : Instance) (c : ℕ) where
   some_taken wanting b piece o h =
       let m : Taking = record { conn = o; moments = []; wanting = wanting } in
       let (bytes, t) = feed_takes (λ (n : Taking). conn_stops n.conn) (conn_byte 1 default_intervals i) (conn_byte 1 default_intervals i m b) piece in
-      let e = ap (λ (f : Fed Taking). length f.rest) (goes_on (λ (n : Taking). conn_stops n.conn) (conn_byte 1 default_intervals i) m b piece h) in
+      let e = ap (λ (f : FedPiece Taking). length f.rest) (goes_on (λ (n : Taking). conn_stops n.conn) (conn_byte 1 default_intervals i) m b piece h) in
       omega (arith, e, ap length t.piece_is, length-append bytes (feed (λ (n : Taking). conn_stops n.conn) (conn_byte 1 default_intervals i) (conn_byte 1 default_intervals i m b) piece).rest)
 
-  pub takes_fits : (came old : List ℕ) (cache new : Cache Steps) (piece : List ℕ) (count : ℕ) → (s : Serves i c came old cache) → TakesPiece HoldsSteps s.state c piece count new → count ≤ length piece
+  pub takes_fits : (came old : List ℕ) (cache new : Cache Steps) (piece : List ℕ) (count : ℕ) → (s : ServesOn i c came old cache) → TakesPiece HoldsSteps s.state c piece count new → count ≤ length piece
   takes_fits came old cache new piece count s p = omega (arith, taken_count came old cache new piece count s p)
 
   goes : (o : Conn) → is_open_at (Some o) ≡ true → o.state.due ≡ [] → conn_stops o ≡ false
@@ -190,7 +190,7 @@ pulled_size m c out count now new g =
     let left = length-drop count out in
     omega (arith, g.gives.count_is, fits, left, ap length g.gives.now_is, length-append (take count (due_at (m.at c))) (drop count out), size)
 
-pub pulls_less : (i : Instance) (c : ℕ) (came old : List ℕ) (cache new : Cache Steps) (out : List ℕ) (count : ℕ) (now : List ℕ) (some : Bool) (s : Serves i c came old cache) → GivesBytes HoldsSteps s.state c out count now new → 0 < length out
+pub pulls_less : (i : Instance) (c : ℕ) (came old : List ℕ) (cache new : Cache Steps) (out : List ℕ) (count : ℕ) (now : List ℕ) (some : Bool) (s : ServesOn i c came old cache) → GivesBytes HoldsSteps s.state c out count now new → 0 < length out
     → some ≡ has_bytes_at (s.state.at c) → some ≡ true → length (due_in (peer_at new.peers.items c)) < length (due_in (peer_at cache.peers.items c))
 pulls_less i c came old cache new out count now some s g room is some_is =
     let before = ap length (due_shown s.state.timing s.state.cache (s.state.at c) (peer_at cache.peers.items c) (s.shows.slots c)) in
@@ -199,7 +199,7 @@ pulls_less i c came old cache new out count now some s g room is some_is =
     let count_is = g.gives.count_is in
     let left = ap length g.gives.rest_is ∙ length-drop count (due_at (s.state.at c)) in omega (arith, before, after, due, count_is, left, room)
 
-pub pulled_all : (i : Instance) (c : ℕ) (came old : List ℕ) (cache : Cache Steps) (some : Bool) → (s : Serves i c came old cache) → some ≡ has_bytes_at (s.state.at c) → some ≡ false → HasServed i c came old cache
+pub pulled_all : (i : Instance) (c : ℕ) (came old : List ℕ) (cache : Cache Steps) (some : Bool) → (s : ServesOn i c came old cache) → some ≡ has_bytes_at (s.state.at c) → some ≡ false → HasServed i c came old cache
 pulled_all i c came old cache some s is none = record { serves = s; none = none_due (s.state.at c) (sym is ∙ none) }
 
 -- what is left is made of bytes
@@ -224,7 +224,7 @@ module _ (i : Instance) (c : ℕ) (bytes rest given : List ℕ) (cache : Cache S
   pub exchange_fits : (new : Cache Steps) → Receives new → count ≤ length rest
   exchange_fits new r = takes_fits i c e.came given cache new rest count e.served.serves (r e.served.serves.state e.served.serves.shows)
 
-  pub exchange_takes : (new : Cache Steps) → Receives new → Serves i c (e.came ++ take count rest) given new
+  pub exchange_takes : (new : Cache Steps) → Receives new → ServesOn i c (e.came ++ take count rest) given new
   exchange_takes new r =
       serves_take i c e.came given cache new rest count e.served.serves (bytes_behind e.came rest (subst AreBytes e.whole each)) (r e.served.serves.state e.served.serves.shows)
 
@@ -235,7 +235,7 @@ module _ (i : Instance) (c : ℕ) (bytes rest given : List ℕ) (cache : Cache S
       let low = takes_less i c e.came given cache new rest count going e.served t (opens e.served.serves.state e.served.serves.shows) is more in
       omega (arith, more, low, length-drop count rest)
 
-  pub exchange_more : (old now : Cache Steps) (later : List ℕ) → Receives old → (Serves i c (e.came ++ take count rest) given old → HasServed i c (e.came ++ take count rest) later now) → Exchanging i c bytes (drop count rest) later now
+  pub exchange_more : (old now : Cache Steps) (later : List ℕ) → Receives old → (ServesOn i c (e.came ++ take count rest) given old → HasServed i c (e.came ++ take count rest) later now) → Exchanging i c bytes (drop count rest) later now
   exchange_more old now later r pulls = record {
     came = e.came ++ take count rest;
     whole = e.whole ∙ ap (λ x. e.came ++ x) (sym (take-append-drop count rest)) ∙ sym (append_assoc e.came (take count rest) (drop count rest));

@@ -6,33 +6,33 @@ use Rattle.rtr_pdu.specs.declared.version.Version.TheVariants.{V1}
 use Rattle.rtr_pdu.specs.Stream.{Splits}
 use Rattle.rtr_pdu.specs.declared.unit.Unit.{Unit}
 use Rattle.rtr_pdu.specs.declared.unit.UnitFault.{UnitFault}
-use Rattle.rtr_ends.specs.Connection.{Connection, Moment, Read, Wanting, Fault, Notify, Pull, IsHistory, after_all, opened, replies_from}
+use Rattle.rtr_ends.specs.Connection.{Connection, ConnMoment, Read, Wanting, Fault, Notify, Pull, IsHistory, after_all, opened, replies_from}
 use Rattle.rtr_ends.specs.Timing.{default_intervals}
 use Rattle.rpkirtr.specs.declared.answering.Answered.{Answered}
 use Rattle.rpkirtr.specs.Lines.{lines_of}
 
 -- Units are read and answered as the cache is, bytes show a fault, or bytes are pulled. Nothing else happens: no memory is wanting.
-abbrev pub IsOf : Instance → Moment → Type 0
+abbrev pub IsOf : Instance → ConnMoment → Type 0
 IsOf i (Read cache unit bytes) = cache ≡ i
 IsOf i (Wanting cache unit bytes) = ⊥
 IsOf i (Fault fault bytes) = ⊤
 IsOf i (Notify cache) = ⊥
 IsOf i (Pull count) = ⊤
 
-abbrev pub at_end : Instance → List Moment → Connection
-at_end i moments = after_all 1 default_intervals (opened i) moments
+abbrev pub at_input_end : Instance → List ConnMoment → Connection
+at_input_end i moments = after_all 1 default_intervals (opened i) moments
 
 -- Bytes are handed in on a connection of this cache to the last, or to its end, and all that is due is pulled: these units are its
 -- replies, and this tells whether it has ended.
 pub record Replies (i : Instance) (bytes : List ℕ) (units : List Unit) (ended : Bool) : Type 0 where
-  pub moments : List Moment
+  pub moments : List ConnMoment
   pub came : List ℕ
   pub rest : List ℕ
   pub whole : bytes ≡ came ++ rest
   pub history : IsHistory 1 default_intervals (opened i) moments came
   pub own : AllByRecursion (IsOf i) moments
-  pub pulled : (at_end i moments).due ≡ []
-  pub ended_is : (at_end i moments).ended ≡ ended
+  pub pulled : (at_input_end i moments).due ≡ []
+  pub ended_is : (at_input_end i moments).ended ≡ ended
   pub all : ended ≡ false → rest ≡ []
   pub units_are : units ≡ replies_from 1 default_intervals false moments
 

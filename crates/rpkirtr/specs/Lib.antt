@@ -1,5 +1,5 @@
 pub mod Answered
-pub mod Fault
+pub mod ProgramFaults
 pub mod Lines
 pub mod RouteWords
 pub mod RoaLines

@@ -9,9 +9,9 @@ use Rattle.rtr_pdu.specs.Stream.{Splits}
 use Rattle.rtr_pdu.specs.declared.unit.Unit.{Unit}
 use Rattle.rtr_pdu.specs.declared.unit.Unit.TheVariants.{ErrorReport}
 use Rattle.rtr_pdu.specs.declared.unit.UnitFault.{UnitFault}
-use Rattle.rtr_ends.specs.Cache.{CacheCall, IsCacheCall, Serving, serving}
+use Rattle.rtr_ends.specs.Cache.{ConnCall, IsConnCall, Serving, serving}
 use Rattle.rtr_ends.specs.CacheState.{CacheState, ShowsCache, due_at, is_open_at, without_conns}
-use Rattle.rtr_ends.specs.Connection.{Moment, Read, Wanting, Fault, Notify, Pull}
+use Rattle.rtr_ends.specs.Connection.{ConnMoment, Read, Wanting, Fault, Notify, Pull}
 use Rattle.rtr_ends.specs.Timing.{default_intervals}
 use Rattle.rtr_ends.specs.declared.cache.Cache.{Cache}
 use Rattle.rpkirtr.specs.Lines.{lines_of}
@@ -22,7 +22,7 @@ pub record Starts (i : Instance) (cache : Cache Steps) : Type 0 where
   pub shows : ShowsCache HoldsSteps (without_conns 1 default_intervals i) cache
 
 -- What happens is of this instance, and no notify.
-abbrev pub IsOwn : Instance → Moment → Type 0
+abbrev pub IsOwn : Instance → ConnMoment → Type 0
 IsOwn i (Read cache unit bytes) = cache ≡ i
 IsOwn i (Wanting cache unit bytes) = cache ≡ i
 IsOwn i (Fault fault bytes) = ⊤
@@ -30,19 +30,19 @@ IsOwn i (Notify cache) = ⊥
 IsOwn i (Pull count) = ⊤
 
 -- the connection after these calls
-abbrev pub by_calls : Instance → List CacheCall → Serving
+abbrev pub by_calls : Instance → List ConnCall → Serving
 by_calls i calls = serving 1 default_intervals i calls
 
 -- On the connection of this number these bytes came, and these were pulled.
-pub record Serves (i : Instance) (c : ℕ) (came given : List ℕ) (cache : Cache Steps) : Type 0 where
+pub record ServesOn (i : Instance) (c : ℕ) (came given : List ℕ) (cache : Cache Steps) : Type 0 where
   pub is : IsInstance i
   pub state : CacheState
   pub shows : ShowsCache HoldsSteps state cache
   pub keep_is : state.keep ≡ 1
   pub timing_is : state.timing ≡ default_intervals
   pub cache_is : state.cache ≡ i
-  pub calls : List CacheCall
-  pub each : AllByRecursion IsCacheCall calls
+  pub calls : List ConnCall
+  pub each : AllByRecursion IsConnCall calls
   pub at : state.at c ≡ Some (by_calls i calls).conn
   pub cache_now : (by_calls i calls).cache ≡ i
   pub own : AllByRecursion (IsOwn i) (by_calls i calls).moments
@@ -51,7 +51,7 @@ pub record Serves (i : Instance) (c : ℕ) (came given : List ℕ) (cache : Cach
 
 -- So it is, and nothing is due.
 pub record HasServed (i : Instance) (c : ℕ) (came given : List ℕ) (cache : Cache Steps) : Type 0 where
-  pub serves : Serves i c came given cache
+  pub serves : ServesOn i c came given cache
   pub none : due_at (serves.state.at c) ≡ []
 
 -- And of these bytes all came, or the connection has ended.

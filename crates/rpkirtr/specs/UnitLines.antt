@@ -47,9 +47,9 @@ unit_line (RouterKey key) = codes "router-key\n"
 unit_line (ErrorReport r) = report_line r.code r.copy
 
 -- What follows the units: nothing, or at this offset what shows the fault of this number, that the input ends within a unit included
-abbrev pub Follows : ℕ → List ℕ → Option UnitFault → UnitsEnd → Type 0
-Follows offset rest fault Whole = rest ≡ []
-Follows offset rest fault (Refused number at) = (at ≡ offset) × (shown : UnitFault) × (end_fault rest fault ≡ Some shown) × (number ≡ fault_number shown)
+abbrev pub FollowsUnits : ℕ → List ℕ → Option UnitFault → UnitsEnd → Type 0
+FollowsUnits offset rest fault Whole = rest ≡ []
+FollowsUnits offset rest fault (Refused number at) = (at ≡ offset) × (shown : UnitFault) × (end_fault rest fault ≡ Some shown) × (number ≡ fault_number shown)
 
 -- The units by which the bytes are split are printed, a line each, and this follows them.
 pub record TellsUnits (bytes : List ℕ) (old new : Option (List ℕ)) (end : UnitsEnd) : Type 0 where
@@ -58,4 +58,4 @@ pub record TellsUnits (bytes : List ℕ) (old new : Option (List ℕ)) (end : Un
   pub fault : Option UnitFault
   pub splits : Splits V1 false bytes units rest fault
   pub printed : Appends old new (flat_map unit_line units)
-  pub follows : Follows (length bytes - length rest) rest fault end
+  pub follows : FollowsUnits (length bytes - length rest) rest fault end

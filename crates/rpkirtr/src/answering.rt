@@ -4,7 +4,7 @@ ghost use Rattle.hex.specs.Hex.{decode_of};
 ghost use Rattle.vrps.specs.Instance.{Instance};
 ghost use Rattle.rpkirtr.specs.Answered.{AnswersBytes, LeavesOff};
 ghost use Rattle.rpkirtr.specs.Lines.{cache_of, line_of};
-ghost use Rattle.rpkirtr.specs.Serves.{HasExchanged, HasLines, HasServed, Serves, Starts, is_internal_error};
+ghost use Rattle.rpkirtr.specs.Serves.{HasExchanged, HasLines, HasServed, ServesOn, Starts, is_internal_error};
 
 use crate::hexadecimal::push_hex;
 use hex::FromHexError;
@@ -32,7 +32,7 @@ pub enum AnswerFault {
 }
 
 impl AnswerFault {
-    ghost use Rattle.rpkirtr.specs.Fault.{answer_fault_number};
+    ghost use Rattle.rpkirtr.specs.ProgramFaults.{answer_fault_number};
 
     /// The number by which the fault is printed.
     pub fn number(self) -> u8
@@ -74,8 +74,8 @@ fn pull_all(
     conn: Conn,
     replies: &mut Vec<u8>,
 ) -> Result<(), AllocError>
-    requires { (i : Instance) × ((came : List ℕ) × Serves i conn.0 came replies.old.items cache.old) }
-    ensures { (i : Instance) (came : List ℕ) → Serves i conn.0 came replies.old.items cache.old → OnOk result (HasServed i conn.0 came replies.new.items cache.new) }
+    requires { (i : Instance) × ((came : List ℕ) × ServesOn i conn.0 came replies.old.items cache.old) }
+    ensures { (i : Instance) (came : List ℕ) → ServesOn i conn.0 came replies.old.items cache.old → OnOk result (HasServed i conn.0 came replies.new.items cache.new) }
 {
     let mut buffer = [0u8; MAX_UNIT_LEN];
     while cache.has_bytes(conn) {

@@ -97,7 +97,16 @@ pub fn run_words<R: Files + Net + AllocGlobal + Clone + Drop, O: Write, E: Write
 ) -> u8
     ensures { result ≤ 4 }
 {
-    match run(rt, words, out, err) {
+    let ran = run(rt, words, out, err);
+    status_of(ran, err)
+}
+
+/// The status of what was done. A fault is told.
+fn status_of<E: Write>(ran: Result<u8, ProgramFault>, err: &mut E) -> u8
+    requires { IfOk ran (λ s. s ≤ 1) }
+    ensures { result ≤ 4 }
+{
+    match ran {
         Ok(status) => status,
         Err(ProgramFault::Words) => bad_words(err),
         Err(ProgramFault::Memory) => out_of_memory(err),

@@ -8,7 +8,7 @@ use Rattle.rtr_pdu.specs.declared.unit.Unit.TheVariants.{SerialNotify, SerialQue
 use Rattle.rtr_ends.specs.Answer.{and_end, and_on, answer, report, sent, sent_all, serial_answer}
 use Rattle.rtr_ends.specs.Connection.{is_query, takes_memory}
 use Rattle.rtr_ends.specs.Timing.{Intervals, default_intervals}
-use Rattle.rtr_ends.proofs.Rows.{cache, serial_bytes}
+use Rattle.rtr_ends.proofs.WholeAnswerRows.{cache, serial_bytes}
 
 -- A unit that only a cache sends, and a Router Key: Invalid Request, with a copy of it, and the end
 abbrev Rejects : Instance → ℕ → Intervals → Unit → Type 0

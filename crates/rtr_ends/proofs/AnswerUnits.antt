@@ -10,7 +10,7 @@ use Rattle.std.proofs.Math.Nat.{min-le_left}
 use Rattle.prefixes.specs.Payload.{Payload, IsPayload}
 use Rattle.prefixes.specs.declared.prefix.IpPrefix.{IpPrefix}
 use Rattle.prefixes.specs.declared.prefix.IpPrefix.TheVariants.{V4, V6}
-use Rattle.vrps.specs.Instance.{Instance, IsInstance, Version, versions, versions_from, with_serial}
+use Rattle.vrps.specs.Instance.{Instance, IsInstance, NumberedSet, versions, versions_from, with_serial}
 use Rattle.vrps.specs.Serial.{serial_at}
 use Rattle.vrps.specs.VrpSet.{VrpSet, IsVrpSet, listing, without}
 use Rattle.vrps.proofs.Listed.{part_is_set}
@@ -24,9 +24,9 @@ use Rattle.rtr_pdu.specs.declared.unit.UnitFault.{UnitFault}
 use Rattle.rtr_pdu.specs.declared.unit.UnitFault.TheVariants as faults
 use Rattle.rtr_pdu.proofs.ReadLaws.{AreBytes-take}
 use Rattle.rtr_ends.specs.Answer.{and_end, and_on, announcements, answer, report, response, sent, serial_answer, step_answer, whole_answer, withdrawals}
-use Rattle.rtr_ends.specs.Connection.{Connection, IsHistory, MayCome, Moment, Read, Wanting, Fault, Notify, Pull, after, agreed_after, bytes_of, fault_code, fault_report, notice, replies_from, reply}
+use Rattle.rtr_ends.specs.Connection.{Connection, IsHistory, MayCome, ConnMoment, Read, Wanting, Fault, Notify, Pull, conn_after, agreed_after, bytes_of, fault_code, fault_report, notice, replies_from, reply}
 use Rattle.rtr_ends.specs.Timing.{default_intervals}
-use Rattle.rtr_ends.proofs.Bytes.{bytes_front}
+use Rattle.rtr_ends.proofs.ByteLists.{bytes_front}
 
 -- bytes, one behind the other
 abbrev Bytes : List ℕ → Type 0
@@ -96,42 +96,42 @@ records_fit : (announce : Bool) (vs : List Payload) → All IsPayload vs → All
 records_fit announce [] h = tt
 records_fit announce (v ∷ vs) h = (All-head IsPayload v vs h, records_fit announce vs (All-tail IsPayload v vs h))
 
-response_fit : (session : ℕ) (now : Version) (records : List Unit) → session < 2 ^ 16 → now.serial < 2 ^ 32 → AllByRecursion IsUnit records → AllByRecursion IsUnit (response session default_intervals now records)
+response_fit : (session : ℕ) (now : NumberedSet) (records : List Unit) → session < 2 ^ 16 → now.serial < 2 ^ 32 → AllByRecursion IsUnit records → AllByRecursion IsUnit (response session default_intervals now records)
 response_fit session now records low serial h = (low, all_units records _ h ((low, serial, omega arith, omega arith, omega arith), tt))
 
 serial_low : (start position : ℕ) → serial_at start position < 2 ^ 32
 serial_low start position = omega arith
 
 -- versions of sets that can be published
-abbrev AreVersions : List Version → Type 0
-AreVersions vs = AllByRecursion (λ (v : Version). (v.serial < 2 ^ 32) × IsVrpSet v.set) vs
+abbrev AreVersions : List NumberedSet → Type 0
+AreVersions vs = AllByRecursion (λ (v : NumberedSet). (v.serial < 2 ^ 32) × IsVrpSet v.set) vs
 
 module _ (session : ℕ) (low : session < 2 ^ 16) where
-  whole_fit : (vs : List Version) → AreVersions vs → AllByRecursion IsUnit (whole_answer session default_intervals vs)
+  whole_fit : (vs : List NumberedSet) → AreVersions vs → AllByRecursion IsUnit (whole_answer session default_intervals vs)
   whole_fit [] h = report_of 2 ResetQuery (omega arith) (header_bytes 2 0 8 (omega arith))
   whole_fit (now ∷ older) h = response_fit session now (announcements now.set) low h.0.0 (records_fit true (listing now.set) h.0.1.payloads)
 
-  step_fit : (now : Version) (before : Option Version) → now.serial < 2 ^ 32 → IsVrpSet now.set → ((v : Version) → before ≡ Some v → IsVrpSet v.set) → AllByRecursion IsUnit (step_answer session default_intervals now before)
+  step_fit : (now : NumberedSet) (before : Option NumberedSet) → now.serial < 2 ^ 32 → IsVrpSet now.set → ((v : NumberedSet) → before ≡ Some v → IsVrpSet v.set) → AllByRecursion IsUnit (step_answer session default_intervals now before)
   step_fit now None serial fits older = (tt, tt)
   step_fit now (Some before) serial fits older =
       response_fit session now (withdrawals (without before.set now.set) ++ announcements (without now.set before.set)) low serial
       (all_units (withdrawals (without before.set now.set)) (announcements (without now.set before.set)) (records_fit false (listing (without before.set now.set)) (part_is_set before.set now.set (older before refl)).payloads)
       (records_fit true (listing (without now.set before.set)) (part_is_set now.set before.set fits).payloads))
 
-  found_fits : (serial : ℕ) (vs : List Version) → AreVersions vs → (v : Version) → with_serial serial vs ≡ Some v → IsVrpSet v.set
-  found_fits serial [] h v e = absurd (let k : ◌≡◌ {A = Option Version} None (Some v) = e in cc)
+  found_fits : (serial : ℕ) (vs : List NumberedSet) → AreVersions vs → (v : NumberedSet) → with_serial serial vs ≡ Some v → IsVrpSet v.set
+  found_fits serial [] h v e = absurd (let k : ◌≡◌ {A = Option NumberedSet} None (Some v) = e in cc)
   found_fits serial (x ∷ vs) h v e = by_test (x.serial == serial) e (found_fits serial vs h.1 v)
     where
       by_test : (b : Bool) → (if b then Some x else with_serial serial vs) ≡ Some v → (with_serial serial vs ≡ Some v → IsVrpSet v.set) → IsVrpSet v.set
-      by_test true e later = let k : x ≡ v = cc in subst (λ (y : Version). IsVrpSet y.set) k h.0.1
+      by_test true e later = let k : x ≡ v = cc in subst (λ (y : NumberedSet). IsVrpSet y.set) k h.0.1
       by_test false e later = later e
 
-  taken_fits : (n : ℕ) (vs : List Version) → AreVersions vs → AreVersions (take n vs)
+  taken_fits : (n : ℕ) (vs : List NumberedSet) → AreVersions vs → AreVersions (take n vs)
   taken_fits zero vs h = tt
   taken_fits (suc n) [] h = tt
   taken_fits (suc n) (v ∷ vs) h = (h.0, taken_fits n vs h.1)
 
-  serial_fit : (keep serial : ℕ) (vs : List Version) → AreVersions vs → AllByRecursion IsUnit (serial_answer session keep default_intervals serial vs)
+  serial_fit : (keep serial : ℕ) (vs : List NumberedSet) → AreVersions vs → AllByRecursion IsUnit (serial_answer session keep default_intervals serial vs)
   serial_fit keep serial [] h = report_of 2 (SerialQuery session serial) (omega arith) (serial_bytes 1 session serial (omega arith))
   serial_fit keep serial (now ∷ older) h = step_fit now (with_serial serial (now ∷ take keep older)) h.0.0 h.0.1 (found_fits serial (now ∷ take keep older) (h.0, taken_fits keep older h.1))
 
@@ -192,7 +192,7 @@ notice_fit i (set ∷ older) low = ((low, serial_low i.start (length older)), tt
 none_bytes : AreBytes []
 none_bytes i = omega arith
 
-reply_fit : (keep : ℕ) (c : Connection) (m : Moment) → MayCome c m → AreBytes (bytes_of m) → AllByRecursion IsUnit (reply keep default_intervals c.agreed m).units
+reply_fit : (keep : ℕ) (c : Connection) (m : ConnMoment) → MayCome c m → AreBytes (bytes_of m) → AllByRecursion IsUnit (reply keep default_intervals c.agreed m).units
 reply_fit keep c (Read cache unit bytes) h each = answer_fit cache keep unit h.2 h.4.fits
 reply_fit keep c (Wanting cache unit bytes) h each = (report_fit 1 [] (omega arith) none_bytes, tt)
 reply_fit keep c (Fault fault bytes) h each = fault_fit c.agreed fault bytes each
@@ -203,7 +203,7 @@ behind : (front rest : List ℕ) → AreBytes (front ++ rest) → AreBytes rest
 behind [] rest h = h
 behind (b ∷ front) rest h = behind front rest (λ k. h (suc k))
 
-pub agreed_on : (keep : ℕ) (c : Connection) (m : Moment) → (after keep default_intervals c m).agreed ≡ agreed_after c.agreed m
+pub agreed_on : (keep : ℕ) (c : Connection) (m : ConnMoment) → (conn_after keep default_intervals c m).agreed ≡ agreed_after c.agreed m
 agreed_on keep c (Read cache unit bytes) = refl
 agreed_on keep c (Wanting cache unit bytes) = refl
 agreed_on keep c (Fault fault bytes) = refl
@@ -215,10 +215,10 @@ going_fit true us h = h
 going_fit false us h = tt
 
 -- The replies of a history are units that can be sent.
-pub replies_fit : (keep : ℕ) (c : Connection) (moments : List Moment) (bytes : List ℕ) → IsHistory keep default_intervals c moments bytes → AreBytes bytes → AllByRecursion IsUnit (replies_from keep default_intervals c.agreed moments)
+pub replies_fit : (keep : ℕ) (c : Connection) (moments : List ConnMoment) (bytes : List ℕ) → IsHistory keep default_intervals c moments bytes → AreBytes bytes → AllByRecursion IsUnit (replies_from keep default_intervals c.agreed moments)
 replies_fit keep c [] bytes h each = tt
 replies_fit keep c (m ∷ later) bytes h each =
     let all : AreBytes (bytes_of m ++ h.1.0) = subst AreBytes h.1.1 each in
     let more : AllByRecursion IsUnit (replies_from keep default_intervals (agreed_after c.agreed m) later) =
-    subst (λ b. AllByRecursion IsUnit (replies_from keep default_intervals b later)) (agreed_on keep c m) (replies_fit keep (after keep default_intervals c m) later h.1.0 h.1.2 (behind (bytes_of m) h.1.0 all)) in
+    subst (λ b. AllByRecursion IsUnit (replies_from keep default_intervals b later)) (agreed_on keep c m) (replies_fit keep (conn_after keep default_intervals c m) later h.1.0 h.1.2 (behind (bytes_of m) h.1.0 all)) in
     all_units (reply keep default_intervals c.agreed m).units _ (reply_fit keep c m h.0 (bytes_front (bytes_of m ++ h.1.0) (bytes_of m) h.1.0 refl all)) (going_fit (reply keep default_intervals c.agreed m).goes_on _ more)

@@ -10,14 +10,14 @@ use Rattle.rtr_pdu.specs.declared.unit.UnitFault.TheVariants as faults
 use Rattle.rtr_ends.specs.Answer.{report, sent, sent_all}
 use Rattle.rtr_ends.specs.Cache.{Conn, Taking, new_conn, conn_byte, conn_takes, conn_notified, conn_pulled, serving, Takes, Gives, Notifies}
 use Rattle.rtr_ends.specs.Connection.{Read, Wanting, Fault}
-use Rattle.rtr_ends.specs.Feeding.{Fed}
+use Rattle.rtr_ends.specs.Feeding.{FedPiece}
 use Rattle.rtr_ends.specs.Timing.{default_intervals}
-use Rattle.rtr_ends.proofs.Rows.{v, v_ascends, cache, with_all_of, reset_bytes, response_bytes, v_bytes, end_bytes, no_data_bytes}
+use Rattle.rtr_ends.proofs.WholeAnswerRows.{v, v_ascends, cache, with_all_of, reset_bytes, response_bytes, v_bytes, end_bytes, no_data_bytes}
 
 abbrev with_v : Instance
 with_v = cache 5 (set_of (v ∷ []) ∷ [])
 
-abbrev taken : Instance → Option ℕ → List ℕ → Fed Taking
+abbrev taken : Instance → Option ℕ → List ℕ → FedPiece Taking
 taken i wanting piece = conn_takes 2 default_intervals i wanting piece (new_conn i)
 
 abbrev answering : List ℕ → Conn

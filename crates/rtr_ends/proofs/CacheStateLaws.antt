@@ -6,15 +6,15 @@ use Rattle.std.proofs.lemmas.Bool.Decides.{nat_tests}
 use Rattle.std.proofs.lemmas.Option.{slice_get_past, slice_get_read}
 use Rattle.std.proofs.lemmas.List.{length-append, length-set}
 use Rattle.std.specs.List.{AllByRecursion}
-use Rattle.vrps.specs.Instance.{Instance, Version, versions}
+use Rattle.vrps.specs.Instance.{Instance, NumberedSet, versions}
 use Rattle.vrps.specs.Serial.{serial_at}
 use Rattle.vrps.specs.Store.{is_current, published}
 use Rattle.vrps.specs.Stores.{newest}
 use Rattle.vrps.specs.VrpSet.{VrpSet}
 use Rattle.rtr_ends.specs.Cache.{Conn, can_notify, conn_notified, conn_pulled, conn_takes}
-use Rattle.rtr_ends.specs.CacheState.{AllHaveRoom, Brings, CacheState, GivesBytes, HandsOut, IsLeastFree, OffersAt, ShowsCache, ShowsSlot, TakesPiece, consumed, due_at, is_wanted_at, joined, notified, notifies_at, peer_at, unboxed, with_conn}
-use Rattle.rtr_ends.specs.Peer.{HasRoom, Pulls, Receives, ShowsPeer, held_by}
-use Rattle.rtr_ends.specs.Sender.{Gives, version_of}
+use Rattle.rtr_ends.specs.CacheState.{AllHaveRoom, Brings, CacheState, can_notify_at, conn_consumed, due_at, GivesBytes, HandsOut, is_wanted_at, IsLeastFree, joined, notified, OffersAt, peer_at, ShowsCache, ShowsSlot, TakesPiece, unboxed, with_conn}
+use Rattle.rtr_ends.specs.Peer.{HasBufferRoom, Pulls, Receives, ShowsPeer, held_by_peer}
+use Rattle.rtr_ends.specs.Sender.{PullsBytes, numbered_of}
 use Rattle.rtr_ends.specs.Timing.{Intervals}
 use Rattle.rtr_ends.specs.declared.cache.Cache.{Cache}
 use Rattle.rtr_ends.specs.declared.peer.Peer.{Peer}
@@ -107,7 +107,7 @@ module _ {S : Type 0} (holds : ℕ → Instance → S → Type 0) (m : CacheStat
           wanting = r.wanting;
           wanted = by_wanting r.wanting (λ unit. subst (λ a. is_wanted_at piece m a unit ≡ true) (sym there.is)) r.wanted;
           shows = sets (option_map F (m.at c)) (Some b) items (subst (λ a. ShowsSlot m.timing m.cache (option_map F a) (Some b.value)) (sym there.is) r.shows);
-          result_is = subst (λ a. result ≡ consumed r.wanting piece m a) (sym there.is) r.consumed_is;
+          result_is = subst (λ a. result ≡ conn_consumed r.wanting piece m a) (sym there.is) r.consumed_is;
         }
 
     pub gives_bytes : (out : List ℕ) (result : ℕ) (now : List ℕ) → ((o : Conn) → ShowsPeer m.timing m.cache o p → Pulls m.keep m.timing m.cache o out result now b.value) → GivesBytes holds m c out result now new
@@ -115,17 +115,17 @@ module _ {S : Type 0} (holds : ℕ → Instance → S → Type 0) (m : CacheStat
         let r = pulls there.conn there.shows in
         let F : Conn → Conn = conn_pulled m.keep m.timing (length out) in
         record {
-          gives = subst (λ a. Gives (due_at (m.at c)) out result now (due_at a)) (sym (with_conn_at c (option_map F (m.at c)) m))
-              (subst (λ a. Gives (due_at a) out result now (due_at (option_map F a))) (sym there.is) r.gives);
+          gives = subst (λ a. PullsBytes (due_at (m.at c)) out result now (due_at a)) (sym (with_conn_at c (option_map F (m.at c)) m))
+              (subst (λ a. PullsBytes (due_at a) out result now (due_at (option_map F a))) (sym there.is) r.gives);
           shows = sets (option_map F (m.at c)) (Some b) items (subst (λ a. ShowsSlot m.timing m.cache (option_map F a) (Some b.value)) (sym there.is) r.shows);
         }
 
     pub notifies : (result : Bool) → ((o : Conn) → ShowsPeer m.timing m.cache o p → (result ≡ can_notify m.cache o) × ShowsPeer m.timing m.cache (conn_notified m.keep m.timing m.cache o) b.value)
-        → (result ≡ notifies_at m.cache (m.at c)) × ShowsCache holds (notified c m) new
+        → (result ≡ can_notify_at m.cache (m.at c)) × ShowsCache holds (notified c m) new
     notifies result told =
         let r = told there.conn there.shows in
         let F : Conn → Conn = conn_notified m.keep m.timing m.cache in (
-          subst (λ a. result ≡ notifies_at m.cache a) (sym there.is) r.0,
+          subst (λ a. result ≡ can_notify_at m.cache a) (sym there.is) r.0,
           sets (option_map F (m.at c)) (Some b) items (subst (λ a. ShowsSlot m.timing m.cache (option_map F a) (Some b.value)) (sym there.is) r.1),
         )
 
@@ -133,7 +133,7 @@ module _ {S : Type 0} (holds : ℕ → Instance → S → Type 0) (m : CacheStat
 pub all_have_room : {S : Type 0} (holds : ℕ → Instance → S → Type 0) (m : CacheState) (cache : Cache S) → ShowsCache holds m cache → AllHaveRoom cache
 all_have_room holds m cache shows c = slot_has_room (m.at c) (peer_at cache.peers.items c) (shows.slots c)
   where
-    slot_has_room : (a : Option Conn) (q : Option Peer) → ShowsSlot m.timing m.cache a q → IfSome q (λ p. HasRoom (held_by p))
+    slot_has_room : (a : Option Conn) (q : Option Peer) → ShowsSlot m.timing m.cache a q → IfSome q (λ p. HasBufferRoom (held_by_peer p))
     slot_has_room a None h = tt
     slot_has_room (Some o) (Some p) h = h.room
     slot_has_room None (Some p) h = absurd h
@@ -191,7 +191,7 @@ pushes holds m old new c o b shows end same_timing same_store items slot = recor
 
 -- One connection has a share of a newer version.
 pub offers_at : (old : List (Option (Box Peer Global))) (c : ℕ) (share : Share) (p : Peer) (b : Box Peer Global) → c < length old → peer_at old c ≡ Some p
-    → ((t : Intervals) (i j : Instance) (o : Conn) → i.session ≡ j.session → Some (version_of share) ≡ newest (versions j) → ShowsPeer t i o p → ShowsPeer t j o b.value) → OffersAt old c share (slice_set old c (Some b))
+    → ((t : Intervals) (i j : Instance) (o : Conn) → i.session ≡ j.session → Some (numbered_of share) ≡ newest (versions j) → ShowsPeer t i o p → ShowsPeer t j o b.value) → OffersAt old c share (slice_set old c (Some b))
 offers_at old c share p b low at offers = record {
   len = length-set old c (Some b);
   here = λ t i j a same is shows.
@@ -207,7 +207,7 @@ last_set f set [] x h = (tt, h.0)
 last_set f set (y ∷ xs) x h = let more = last_set f set xs x h.1 in ((h.0, more.0), more.1)
 
 -- nothing brings nothing
-brings_none : (v : Version) (old new : Option Peer) → old ≡ None → new ≡ None → Brings v old new
+brings_none : (v : NumberedSet) (old new : Option Peer) → old ≡ None → new ≡ None → Brings v old new
 brings_none v old new e f t i j a same is shows =
     subst (λ q. ShowsSlot t j a q) (sym f) (subst (λ x. ShowsSlot t j x None) (sym (none_shown t i a old e shows)) tt)
 
@@ -242,7 +242,7 @@ module _ {X : Type 0} (f : X → VrpSet) (serial : ℕ) (start : List (Option (B
           here : c ≡ n → Brings (record { serial = serial; set = set }) (peer_at start c) (peer_at now c)
           here e =
               let last : f x ≡ set = (last_set f set rest x (subst (λ l. AllByRecursion (λ s. s ≡ set) (map f l)) cut (h.sets set all))).1 in
-              let is : version_of share ≡ record { serial = serial; set = set } = λ j. record { serial = serial_is j; set = (set_is ∙ last) j } in
+              let is : numbered_of share ≡ record { serial = serial; set = set } = λ j. record { serial = serial_is j; set = (set_is ∙ last) j } in
               subst (λ k. Brings (record { serial = serial; set = set }) (peer_at start k) (peer_at now k)) (sym e)
               (subst (λ q. Brings (record { serial = serial; set = set }) q (peer_at now n)) (h.left n (omega arith)) (subst (λ v. Brings v (peer_at peers n) (peer_at now n)) is o.here))
 

@@ -1,7 +1,7 @@
 -- What a machine takes of a piece.
 use Rattle.std.specs.Prelude.{◌≡◌, ℕ, ◌<◌, Bool, true, false, List, [], ◌∷◌, ◌++◌, length, refl}
 use Rattle.std.proofs.Common.{sym, ap, subst, arith}
-use Rattle.rtr_ends.specs.Feeding.{Fed, feed, run, IsTaken, Takes}
+use Rattle.rtr_ends.specs.Feeding.{FedPiece, feed, run, IsTaken, Takes}
 
 -- a list of no element has no part
 no_part : {X : Type 0} (front back : List X) → [] ≡ front ++ back → 0 < length back → ⊥
@@ -21,7 +21,7 @@ module _ {M : Type 0} (stops : M → Bool) (step : M → ℕ → M) where
   run-append m (x ∷ xs) ys = run-append (step m x) xs ys
 
   -- the next byte is handed in or left
-  abbrev by_stop : M → ℕ → List ℕ → Bool → Fed M
+  abbrev by_stop : M → ℕ → List ℕ → Bool → FedPiece M
   by_stop m b bytes s = elim s [ true ↦ record { machine = m; rest = b ∷ bytes } | false ↦ feed stops step (step m b) bytes ]
 
   -- it is left where the machine stops
@@ -34,7 +34,7 @@ module _ {M : Type 0} (stops : M → Bool) (step : M → ℕ → M) where
   takes_none : (m : M) (piece : List ℕ) → (0 < length piece → stops m ≡ true) → IsTaken stops step m piece [] (record { machine = m; rest = piece })
   takes_none m piece h = record { piece_is = refl; machine_is = refl; shortest = λ front back e some. absurd (no_part front back e some); all_or = h }
 
-  takes_more : (m : M) (b : ℕ) (bytes taken : List ℕ) (f : Fed M) → stops m ≡ false → IsTaken stops step (step m b) bytes taken f → IsTaken stops step m (b ∷ bytes) (b ∷ taken) f
+  takes_more : (m : M) (b : ℕ) (bytes taken : List ℕ) (f : FedPiece M) → stops m ≡ false → IsTaken stops step (step m b) bytes taken f → IsTaken stops step m (b ∷ bytes) (b ∷ taken) f
   takes_more m b bytes taken f h t = record {
     piece_is = ap (λ x. b ∷ x) t.piece_is;
     machine_is = t.machine_is;
@@ -67,7 +67,7 @@ module _ {M : Type 0} (stops : M → Bool) (step : M → ℕ → M) where
       by_test true is on = h
       by_test false is on = on (keeps b piece m is h)
 
-  abbrev fed_to : M → List ℕ → Fed M
+  abbrev fed_to : M → List ℕ → FedPiece M
   fed_to m rest = record { machine = m; rest = rest }
 
   machine_is : (m n : M) (xs : List ℕ) → fed_to m xs ≡ fed_to n [] → (m ≡ n) × (xs ≡ [])

@@ -14,10 +14,12 @@ use Rattle.rtr_pdu.specs.Payloads.{AreBytes}
 use Rattle.rtr_pdu.specs.declared.device.WriteFailed.{WriteFailed as Failed}
 use Rattle.rtr_ends.specs.Cache.{finds_memory, is_none}
 use Rattle.rtr_ends.specs.Consumed.{came}
-use Rattle.rtr_ends.specs.Feeding.{Fed, feed}
-use Rattle.rtr_ends.specs.FetchStream.{AllAsked, Awaits, FetchEnds, FetchReads, FetchedAs, IsFetchCall, IsReached, StillAsks, Taken, TakenPart, is_asking, pulled_by, reached_by, since}
-use Rattle.rtr_ends.specs.Router.{Router, Link, Closed, Idle, Asked, Answering, Ended, Call, Connects, Receives, Pulls, Closes, AsksNow, Ticks, Receiving, clocked, connects_at, emptied, expired, is_closed, is_reading, lacks, may_lack, played, reads, receives, router_byte, router_pulled, router_stops, with_bytes}
-use Rattle.rtr_ends.specs.Shown.{IsShown, Leads, LeadsOn, ReceivesSo}
+use Rattle.rtr_ends.specs.Feeding.{FedPiece, feed}
+use Rattle.rtr_ends.specs.FetchStream.{AllAsked, Awaits, FetchEnds, FetchReads, FetchedAs, IsFetchCall, IsReached, StillAsks, Taken, TakenPart, is_asking, pulled_by, reached_by, calls_since}
+use Rattle.rtr_ends.specs.LinkRules.{Router, emptied, may_lack}
+use Rattle.rtr_ends.specs.Router.{RouterCall, Connects, Receives, Pulls, Closes, AsksNow, Ticks, Receiving, clocked, connects_at, expired, lacks, played, reads, receives, router_byte, router_pulled, router_stops, with_bytes}
+use Rattle.rtr_ends.specs.RouterLink.{Link, Closed, Idle, Asked, Answering, Ended, is_closed, is_reading}
+use Rattle.rtr_ends.specs.RouterShown.{IsShown, CallsLead, LeadsOn, ReceivesSo}
 use Rattle.rtr_ends.specs.Transcript.{At, AskReset, AskSerial, is_over, is_serial, later}
 use Rattle.rtr_ends.specs.declared.fetching.Fetched.{Fetched}
 use Rattle.rtr_ends.specs.declared.fetching.Fetched.TheVariants as outcomes
@@ -77,7 +79,7 @@ none_received now wanting (b ∷ piece) r out none = by_test (router_stops (cloc
     stops : Receiving → Bool
     stops m = router_stops m.router
 
-    fed_on : Fed Receiving
+    fed_on : FedPiece Receiving
     fed_on = feed (λ m. router_stops m.router) router_byte start (b ∷ piece)
 
     not_reading : (b : Bool) → not (b && true) ≡ true → b ≡ false
@@ -88,12 +90,12 @@ none_received now wanting (b ∷ piece) r out none = by_test (router_stops (cloc
     by_test true is =
         let e = stopped (λ m. router_stops m.router) router_byte start b piece is in
         let silent : is_none (clocked now r).out ≡ true = ap is_none (clock_out now r out) in (
-          ap (λ (f : Fed Receiving). f.machine.router.out) e ∙ clock_out now r out,
-          λ some. ap (λ (f : Fed Receiving). is_reading f.machine.router.link) e ∙ not_reading (is_reading (clocked now r).link) (ap (λ x. not (is_reading (clocked now r).link && x)) (sym silent) ∙ is),
+          ap (λ (f : FedPiece Receiving). f.machine.router.out) e ∙ clock_out now r out,
+          λ some. ap (λ (f : FedPiece Receiving). is_reading f.machine.router.link) e ∙ not_reading (is_reading (clocked now r).link) (ap (λ x. not (is_reading (clocked now r).link && x)) (sym silent) ∙ is),
         )
     by_test false is =
         let rest = rest_most (λ m. router_stops m.router) router_byte (router_byte start b) piece in
-        let on = ap (λ (f : Fed Receiving). length f.rest) (goes_on (λ m. router_stops m.router) router_byte start b piece is) in
+        let on = ap (λ (f : FedPiece Receiving). length f.rest) (goes_on (λ m. router_stops m.router) router_byte start b piece is) in
         absurd (omega (arith, none, rest, on))
 
 -- A connection stays open while bytes come.
@@ -126,10 +128,10 @@ unfolding receives
 receives_open now wanting piece r h =
     feed_keeps (λ m. router_stops m.router) router_byte (λ rest m. is_closed m.router.link ≡ false) byte_open (record { router = clocked now r; items = At now ∷ []; wanting = wanting }) piece ((clocked_keeps now r).closed_on ∙ h)
 
-pub stays_open : (now : ℕ) (calls turns : List Call) → AllByRecursion (IsFetchCall now) turns → is_closed (played (since turns now calls)).router.link ≡ false
+pub stays_open : (now : ℕ) (calls turns : List RouterCall) → AllByRecursion (IsFetchCall now) turns → is_closed (played (calls_since turns now calls)).router.link ≡ false
 unfolding connects_at router_pulled
 stays_open now calls [] h = refl
-stays_open now calls (Receives at wanting piece ∷ turns) h = receives_open at wanting piece (played (since turns now calls)).router (stays_open now calls turns h.1)
+stays_open now calls (Receives at wanting piece ∷ turns) h = receives_open at wanting piece (played (calls_since turns now calls)).router (stays_open now calls turns h.1)
 stays_open now calls (Pulls most ∷ turns) h = stays_open now calls turns h.1
 stays_open now calls (Connects at ∷ turns) h = absurd h.0
 stays_open now calls (Closes at ∷ turns) h = absurd h.0
@@ -141,10 +143,10 @@ abbrev PullsBytes : (room now : List ℕ) (count : ℕ) → code.Router → Type
 PullsBytes room now count old = (r : Router) → IsShown r old → (count ≡ min (length room) (length r.out)) × (now ≡ take (length room) r.out ++ drop (length r.out) room)
 
 -- Nothing has happened.
-pub starts : (now : ℕ) (calls : List Call) (before : Option (List ℕ)) (v : code.Router) → Leads calls v → TakenPart now calls [] before before v
+pub starts : (now : ℕ) (calls : List RouterCall) (before : Option (List ℕ)) (v : code.Router) → CallsLead calls v → TakenPart now calls [] before before v
 starts now calls before v leads = record { more = []; each = tt; leads = leads; came_is = sym (append-nil (came calls)); sent = []; pulled_is = sym (append-nil (pulled_by calls)); out = Appends-nil before }
 
-module _ (now : ℕ) (calls : List Call) (had has : Option (List ℕ)) (old : code.Router) where
+module _ (now : ℕ) (calls : List RouterCall) (had has : Option (List ℕ)) (old : code.Router) where
   -- Bytes are pulled, and go out.
   pub pulls_more : (piece : List ℕ) (p : TakenPart now calls piece had has old) (room bytes : List ℕ) (count : ℕ) (written : Option (List ℕ)) (new : code.Router) → LeadsOn (Pulls (length room)) old new → PullsBytes room bytes count old
       → Appends has written (take count bytes) → TakenPart now calls piece had written new
@@ -201,7 +203,7 @@ module _ (now : ℕ) (calls : List Call) (had has : Option (List ℕ)) (old : co
         takes = (stops.0, stops.1, q.out);
       }
 
-module _ (now : ℕ) (calls : List Call) (had has : Option (List ℕ)) (old mid : code.Router) (piece room bytes : List ℕ) (at count : ℕ) (p : TakenPart now calls (take at piece) had has old) (on : LeadsOn (Pulls (length room)) old mid)
+module _ (now : ℕ) (calls : List RouterCall) (had has : Option (List ℕ)) (old mid : code.Router) (piece room bytes : List ℕ) (at count : ℕ) (p : TakenPart now calls (take at piece) had has old) (on : LeadsOn (Pulls (length room)) old mid)
     (tells : PullsBytes room bytes count old) where
   -- The writer failed at bytes that were pulled.
   pub fails_at : (written : Option (List ℕ)) (e : Failed) → GoesOutInPart has written (take count bytes) → Taken now calls piece had written (Err e) mid
@@ -245,63 +247,63 @@ no_rest : (xs : List ℕ) (b : Bool) → b ≡ true → (0 < length xs → b ≡
 no_rest [] b is h = refl
 no_rest (x ∷ xs) b is h = false_true (sym (h (omega arith)) ∙ is)
 
-module _ (now : ℕ) (calls : List Call) (before : Option (List ℕ)) (had : Option (List ℕ)) where
+module _ (now : ℕ) (calls : List RouterCall) (before : Option (List ℕ)) (had : Option (List ℕ)) where
   -- a router that was connected, all of whose bytes so far are consumed, and whose pulled bytes have gone out
   pub record Pending (left : Option (List ℕ)) (reads : ℕ) (has : Option (List ℕ)) (router : code.Router) : Type 0 where
-    pub turns : List Call
+    pub turns : List RouterCall
     pub each : AllByRecursion (IsFetchCall now) turns
-    pub leads : Leads (since turns now calls) router
-    pub consumed : Consumes before left (came (since turns now calls))
-    pub few : length (came (since turns now calls)) ≤ 4096 * reads
-    pub out : Appends had has (pulled_by (since turns now calls))
+    pub leads : CallsLead (calls_since turns now calls) router
+    pub consumed : Consumes before left (came (calls_since turns now calls))
+    pub few : length (came (calls_since turns now calls)) ≤ 4096 * reads
+    pub out : Appends had has (pulled_by (calls_since turns now calls))
 
   module _ (left : Option (List ℕ)) (reads : ℕ) (has : Option (List ℕ)) (router : code.Router) where
     -- A piece was read and taken.
     module _ (w : Pending left reads has router) (piece : List ℕ) (after : Option (List ℕ)) (written : Option (List ℕ)) (new : code.Router) (more : ℕ) (read : Consumes left after piece) (size : reads ≤ more) (fits : length piece + 4096 * reads ≤ 4096 * more) where
-      came_all : (x : List Call) (unread : List ℕ) → came x ++ unread ≡ came (since w.turns now calls) ++ piece → Consumes before after (came x ++ unread) × (length (came x ++ unread) ≤ 4096 * more)
+      came_all : (x : List RouterCall) (unread : List ℕ) → came x ++ unread ≡ came (calls_since w.turns now calls) ++ piece → Consumes before after (came x ++ unread) × (length (came x ++ unread) ≤ 4096 * more)
       came_all x unread is = (
-        subst (Consumes before after) (sym is) (Consumes-trans before left after (came (since w.turns now calls)) piece w.consumed read),
-        (let l = length-append (came (since w.turns now calls)) piece in omega (arith, ap length is, l, w.few, fits)),
+        subst (Consumes before after) (sym is) (Consumes-trans before left after (came (calls_since w.turns now calls)) piece w.consumed read),
+        (let l = length-append (came (calls_since w.turns now calls)) piece in omega (arith, ap length is, l, w.few, fits)),
       )
 
       -- The writer failed.
-      pub fails_there : (e : Failed) → Taken now (since w.turns now calls) piece has written (Err e) new → FetchedAs now calls before after more had written (Err WriteFailed) new
+      pub fails_there : (e : Failed) → Taken now (calls_since w.turns now calls) piece has written (Err e) new → FetchedAs now calls before after more had written (Err WriteFailed) new
       fails_there e t =
           let joined = sym (append_assoc t.more w.turns (Connects now ∷ calls)) in
-          let all = came_all (t.more ++ since w.turns now calls) t.unread t.came_is in (
+          let all = came_all (t.more ++ calls_since w.turns now calls) t.unread t.came_is in (
             record {
               turns = t.more ++ w.turns;
               each = all_append (IsFetchCall now) t.more w.turns t.each w.each;
               unread = t.unread;
               consumed = subst (λ x. Consumes before after (came x ++ t.unread)) joined all.0;
               few = subst (λ x. length (came x ++ t.unread) ≤ 4096 * more) joined all.1;
-              ends = subst (λ x. GoesOutInPart had written (pulled_by x)) joined (subst (GoesOutInPart had written) (sym t.pulled_is) (part_after had has written (pulled_by (since w.turns now calls)) t.sent w.out t.takes));
+              ends = subst (λ x. GoesOutInPart had written (pulled_by x)) joined (subst (GoesOutInPart had written) (sym t.pulled_is) (part_after had has written (pulled_by (calls_since w.turns now calls)) t.sent w.out t.takes));
             },
-            subst (λ x. Leads x new) joined t.leads,
+            subst (λ x. CallsLead x new) joined t.leads,
           )
 
       -- It is taken.
-      pub awaits_on : Taken now (since w.turns now calls) piece has written (Ok tt) new → Awaits now calls before after more had written new
+      pub awaits_on : Taken now (calls_since w.turns now calls) piece has written (Ok tt) new → Awaits now calls before after more had written new
       awaits_on t =
           let joined = sym (append_assoc t.more w.turns (Connects now ∷ calls)) in
-          let all = came_all (t.more ++ since w.turns now calls) t.unread t.came_is in
+          let all = came_all (t.more ++ calls_since w.turns now calls) t.unread t.came_is in
           record {
             turns = t.more ++ w.turns;
             each = all_append (IsFetchCall now) t.more w.turns t.each w.each;
-            leads = subst (λ x. Leads x new) joined t.leads;
+            leads = subst (λ x. CallsLead x new) joined t.leads;
             unread = t.unread;
             consumed = subst (λ x. Consumes before after (came x ++ t.unread)) joined all.0;
             few = subst (λ x. length (came x ++ t.unread) ≤ 4096 * more) joined all.1;
             all_read = subst (λ x. 0 < length t.unread → is_reading (played x).router.link ≡ false) joined t.takes.1;
             asked = subst (λ x. AllAsked x had written) joined
-                (t.takes.0, subst (Appends had written) (sym t.pulled_is) (Appends-trans had has written (pulled_by (since w.turns now calls)) t.sent w.out t.takes.2));
+                (t.takes.0, subst (Appends had written) (sym t.pulled_is) (Appends-trans had has written (pulled_by (calls_since w.turns now calls)) t.sent w.out t.takes.2));
           }
 
     module _ (w : Awaits now calls before left reads had has router) where
       abbrev led_to : Router
-      led_to = (played (since w.turns now calls)).router
+      led_to = (played (calls_since w.turns now calls)).router
 
-      ends_as : (more : ℕ) (result : Result Fetched StreamFault) → reads ≤ more → FetchEnds (since w.turns now calls) w.unread left had has result → FetchedAs now calls before left more had has result router
+      ends_as : (more : ℕ) (result : Result Fetched StreamFault) → reads ≤ more → FetchEnds (calls_since w.turns now calls) w.unread left had has result → FetchedAs now calls before left more had has result router
       ends_as more result most ends = (
         record {
           turns = w.turns;
@@ -324,12 +326,12 @@ module _ (now : ℕ) (calls : List Call) (before : Option (List ℕ)) (had : Opt
           none : ◌≡◌ {A = Option Fetched} (Some fetched) None → ⊥
           none h = cc
 
-          by_link : (l : Link) (b : Bool) → led_to.link ≡ l → led_to.no_data ≡ b → Some fetched ≡ reached_by l b → FetchEnds (since w.turns now calls) w.unread left had has (Ok fetched)
+          by_link : (l : Link) (b : Bool) → led_to.link ≡ l → led_to.no_data ≡ b → Some fetched ≡ reached_by l b → FetchEnds (calls_since w.turns now calls) w.unread left had has (Ok fetched)
           by_link Idle true il ib h =
-              subst (λ x. FetchEnds (since w.turns now calls) w.unread left had has (Ok x)) (same h) (w.asked, no_rest w.unread (is_reading led_to.link) (ap is_reading il) w.all_read, il, ib)
+              subst (λ x. FetchEnds (calls_since w.turns now calls) w.unread left had has (Ok x)) (same h) (w.asked, no_rest w.unread (is_reading led_to.link) (ap is_reading il) w.all_read, il, ib)
           by_link Idle false il ib h =
-              subst (λ x. FetchEnds (since w.turns now calls) w.unread left had has (Ok x)) (same h) (w.asked, no_rest w.unread (is_reading led_to.link) (ap is_reading il) w.all_read, il, ib)
-          by_link (Ended end) b il ib h = subst (λ x. FetchEnds (since w.turns now calls) w.unread left had has (Ok x)) (same h) (w.asked, il)
+              subst (λ x. FetchEnds (calls_since w.turns now calls) w.unread left had has (Ok x)) (same h) (w.asked, no_rest w.unread (is_reading led_to.link) (ap is_reading il) w.all_read, il, ib)
+          by_link (Ended end) b il ib h = subst (λ x. FetchEnds (calls_since w.turns now calls) w.unread left had has (Ok x)) (same h) (w.asked, il)
           by_link Closed b il ib h = absurd (none h)
           by_link (Asked question) b il ib h = absurd (none h)
           by_link (Answering answer) b il ib h = absurd (none h)
@@ -362,11 +364,11 @@ module _ (now : ℕ) (calls : List Call) (before : Option (List ℕ)) (had : Opt
         pub all_consumed : w.unread ≡ []
         all_consumed = no_rest w.unread (is_reading led_to.link) reads_so w.all_read
 
-        still : StillAsks (since w.turns now calls) w.unread
+        still : StillAsks (calls_since w.turns now calls) w.unread
         still = (all_consumed, asks)
 
-        came_is : came (since w.turns now calls) ++ w.unread ≡ came (since w.turns now calls)
-        came_is = ap (λ x. came (since w.turns now calls) ++ x) all_consumed ∙ append-nil (came (since w.turns now calls))
+        came_is : came (calls_since w.turns now calls) ++ w.unread ≡ came (calls_since w.turns now calls)
+        came_is = ap (λ x. came (calls_since w.turns now calls) ++ x) all_consumed ∙ append-nil (came (calls_since w.turns now calls))
 
         pub pends : Pending left reads has router
         pends = record {
@@ -382,7 +384,7 @@ module _ (now : ℕ) (calls : List Call) (before : Option (List ℕ)) (had : Opt
         pub limit_there : (more : ℕ) → reads ≤ more → FetchedAs now calls before left more had has (Ok outcomes.Limit) router
         limit_there more most = ends_as more (Ok outcomes.Limit) most (w.asked, still)
 
-        ends_after : (after : Option (List ℕ)) (more : ℕ) (result : Result Fetched StreamFault) → reads ≤ more → Consumes before after (came (since w.turns now calls) ++ w.unread) → FetchEnds (since w.turns now calls) w.unread after had has result
+        ends_after : (after : Option (List ℕ)) (more : ℕ) (result : Result Fetched StreamFault) → reads ≤ more → Consumes before after (came (calls_since w.turns now calls) ++ w.unread) → FetchEnds (calls_since w.turns now calls) w.unread after had has result
             → FetchedAs now calls before after more had has result router
         ends_after after more result most consumed ends = (
           record {
@@ -401,15 +403,15 @@ module _ (now : ℕ) (calls : List Call) (before : Option (List ℕ)) (had : Opt
             → FetchedAs now calls before after more had has (Ok outcomes.PeerClosed) router
         input_ends after count more buf none most room read =
             ends_after after more (Ok outcomes.PeerClosed) most
-            (subst (Consumes before after) (append-nil (came (since w.turns now calls) ++ w.unread)) (Consumes-trans before left after (came (since w.turns now calls) ++ w.unread) [] w.consumed (subst (λ n. Consumes left after (take n buf)) none read.0)))
+            (subst (Consumes before after) (append-nil (came (calls_since w.turns now calls) ++ w.unread)) (Consumes-trans before left after (came (calls_since w.turns now calls) ++ w.unread) [] w.consumed (subst (λ n. Consumes left after (take n buf)) none read.0)))
             (w.asked, still, read.1 none room)
 
         -- The reader failed.
         pub read_fails_there : (after : Option (List ℕ)) (more : ℕ) → Keeps left after → reads ≤ more → FetchedAs now calls before after more had has (Err ReadFailed) router
-        read_fails_there after more kept most = ends_after after more (Err ReadFailed) most (Consumes-kept before left after (came (since w.turns now calls) ++ w.unread) w.consumed kept) (w.asked, still)
+        read_fails_there after more kept most = ends_after after more (Err ReadFailed) most (Consumes-kept before left after (came (calls_since w.turns now calls) ++ w.unread) w.consumed kept) (w.asked, still)
 
 -- A router that was connected just now has read nothing.
-abbrev pub pends_first : (now : ℕ) (calls : List Call) (before had : Option (List ℕ)) (router : code.Router) → Leads (Connects now ∷ calls) router → Pending now calls before had before 0 had router
+abbrev pub pends_first : (now : ℕ) (calls : List RouterCall) (before had : Option (List ℕ)) (router : code.Router) → CallsLead (Connects now ∷ calls) router → Pending now calls before had before 0 had router
 pends_first now calls before had router leads = record { turns = []; each = tt; leads = leads; consumed = Consumes-nil before; few = omega arith; out = Appends-nil had }
 
 -- What was reached is told of any reads.

@@ -1,16 +1,19 @@
 pub mod AnswerRows
 pub mod AnswerUnits
 pub mod AnsweringLaws
-pub mod Bytes
+pub mod ByteLists
 pub mod CacheRows
 pub mod CacheStateLaws
 pub mod CommitLaws
 pub mod ConsumedLaws
+pub mod ConsumedUnits
 pub mod FeedingLaws
 pub mod FetchStreamLaws
 pub mod HistoryLaws
 pub mod KeptLaws
+pub mod KeptUnits
 pub mod LifeLaws
+pub mod LinkCells
 pub mod MachineCells
 pub mod OutboxLaws
 pub mod PeerLaws
@@ -20,7 +23,6 @@ pub mod RouterBytes
 pub mod RouterCells
 pub mod RouterRows
 pub mod RouterSteps
-pub mod Rows
 pub mod SeenLaws
 pub mod SenderLaws
 pub mod ServeStreamLaws
@@ -30,3 +32,4 @@ pub mod TableLaws
 pub mod TakenLaws
 pub mod TranscriptRows
 pub mod UnitByUnit
+pub mod WholeAnswerRows

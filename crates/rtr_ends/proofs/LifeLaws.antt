@@ -5,18 +5,18 @@ use Rattle.std.specs.List.{AllByRecursion}
 use Rattle.vrps.specs.Instance.{Instance, IsInstance}
 use Rattle.vrps.specs.Store.{published}
 use Rattle.vrps.proofs.VersionLaws.{published_is_instance}
-use Rattle.rtr_ends.specs.Cache.{CacheCall, Conn, Gives, IsCacheCall, IsServed, Notifies, Publishes, Takes, conn_notified, conn_pulled, conn_takes, new_conn, serve, serving}
-use Rattle.rtr_ends.specs.CacheState.{Call, CacheState, Close, EachIsServed, Pull, IsCall, IsLife, Life, Open, Publish, Receive, Notify, called, life, life_after, ran, serves, without_conns}
+use Rattle.rtr_ends.specs.Cache.{ConnCall, Conn, Gives, IsConnCall, IsServed, Notifies, Publishes, Takes, conn_notified, conn_pulled, conn_takes, new_conn, serve, serving}
+use Rattle.rtr_ends.specs.CacheState.{CacheCall, CacheState, Close, EachIsServed, Pull, IsCacheCall, IsLife, Life, Open, Publish, Receive, Notify, cache_called, life, life_after, ran, serves, without_conns}
 use Rattle.rtr_ends.specs.Timing.{Intervals}
 use Rattle.rtr_ends.proofs.CacheStateLaws.{eq_of}
 use Rattle.rtr_ends.proofs.ServingLaws.{serves_history}
 
 -- what a connection is, by its own calls
 record Stands (keep : ℕ) (t : Intervals) (i : Instance) (x : Life) : Type 0 where
-  pub calls : List CacheCall
+  pub calls : List ConnCall
   pub is : x.serving ≡ serving keep t x.opened calls
   pub opened : IsInstance x.opened
-  pub each : AllByRecursion IsCacheCall calls
+  pub each : AllByRecursion IsConnCall calls
   pub now : x.serving.cache ≡ i
 
 abbrev AllStand : ℕ → Intervals → Instance → Option Life → Type 0
@@ -29,17 +29,17 @@ record Agrees (keep : ℕ) (t : Intervals) (i : Instance) (a : Option Conn) (l :
 
 module _ (keep : ℕ) (t : Intervals) (i : Instance) where
   -- one call more of a connection's own
-  more : (call : CacheCall) (j : Instance) (x : Life) → IsCacheCall call → (serve keep t call x.serving).cache ≡ j → Stands keep t i x → Stands keep t j (serves keep t call x)
+  more : (call : ConnCall) (j : Instance) (x : Life) → IsConnCall call → (serve keep t call x.serving).cache ≡ j → Stands keep t i x → Stands keep t j (serves keep t call x)
   more call j x fits now s = record { calls = call ∷ s.calls; is = ap (serve keep t call) s.is; opened = s.opened; each = (fits, s.each); now = now }
 
   -- one call on the connection
-  own : (call : CacheCall) (F : Conn → Conn) (a : Option Conn) (l : Option Life) → IsCacheCall call → ((x : Life) → x.serving.cache ≡ i → ((serve keep t call x.serving).conn ≡ F x.serving.conn) × ((serve keep t call x.serving).cache ≡ i))
+  own : (call : ConnCall) (F : Conn → Conn) (a : Option Conn) (l : Option Life) → IsConnCall call → ((x : Life) → x.serving.cache ≡ i → ((serve keep t call x.serving).conn ≡ F x.serving.conn) × ((serve keep t call x.serving).cache ≡ i))
       → a ≡ option_map (λ (x : Life). x.serving.conn) l → AllStand keep t i l → (option_map F a ≡ option_map (λ (x : Life). x.serving.conn) (option_map (serves keep t call) l)) × AllStand keep t i (option_map (serves keep t call) l)
   own call F a None fits acts same stands = (ap (option_map F) same, stands)
   own call F a (Some x) fits acts same stands = (ap (option_map F) same ∙ ap Some (sym (acts x stands.now).0), more call i x fits (acts x stands.now).1 stands)
 
 -- A call keeps that.
-keeps : (call : Call) (m : CacheState) (c : ℕ) (l : Option Life) → IsInstance m.cache → IsCall call → Agrees m.keep m.timing m.cache (m.at c) l → Agrees m.keep m.timing (called call m).cache ((called call m).at c) (life_after call m c l)
+keeps : (call : CacheCall) (m : CacheState) (c : ℕ) (l : Option Life) → IsInstance m.cache → IsCacheCall call → Agrees m.keep m.timing m.cache (m.at c) l → Agrees m.keep m.timing (cache_called call m).cache ((cache_called call m).at c) (life_after call m c l)
 keeps (Publish set) m c None is fits h = record { same = h.same; stands = h.stands }
 keeps (Publish set) m c (Some x) is fits h =
     record { same = h.same; stands = more m.keep m.timing m.cache (Publishes set) (published set m.cache) x fits (ap (published set) h.stands.now) h.stands }
@@ -77,7 +77,7 @@ keeps (Notify d) m c l is fits h = by_test (c == d) refl
         record { same = k.0; stands = k.1 }
     by_test false e = record { same = h.same; stands = h.stands }
 
-instance_kept : (call : Call) (m : CacheState) → IsInstance m.cache → IsCall call → IsInstance (called call m).cache
+instance_kept : (call : CacheCall) (m : CacheState) → IsInstance m.cache → IsCacheCall call → IsInstance (cache_called call m).cache
 instance_kept (Publish set) m is fits = published_is_instance set m.cache fits is
 instance_kept (Open c) m is fits = is
 instance_kept (Close c) m is fits = is
@@ -86,7 +86,7 @@ instance_kept (Pull c most) m is fits = is
 instance_kept (Notify c) m is fits = is
 
 -- no call changes how many versions are kept, and the intervals
-same_rest : (call : Call) (m : CacheState) → ((called call m).keep ≡ m.keep) × ((called call m).timing ≡ m.timing)
+same_rest : (call : CacheCall) (m : CacheState) → ((cache_called call m).keep ≡ m.keep) × ((cache_called call m).timing ≡ m.timing)
 same_rest (Publish set) m = (refl, refl)
 same_rest (Open c) m = (refl, refl)
 same_rest (Close c) m = (refl, refl)
@@ -94,15 +94,15 @@ same_rest (Receive c wanting piece) m = (refl, refl)
 same_rest (Pull c most) m = (refl, refl)
 same_rest (Notify c) m = (refl, refl)
 
-all_agree : (calls : List Call) (m : CacheState) → IsInstance m.cache → ((c : ℕ) → m.at c ≡ None) → AllByRecursion IsCall calls
+all_agree : (calls : List CacheCall) (m : CacheState) → IsInstance m.cache → ((c : ℕ) → m.at c ≡ None) → AllByRecursion IsCacheCall calls
     → IsInstance (ran calls m).cache × ((c : ℕ) → Agrees (ran calls m).keep (ran calls m).timing (ran calls m).cache ((ran calls m).at c) (life calls m c))
 all_agree [] m is none all = (is, λ c. record { same = none c; stands = tt })
 all_agree (call ∷ calls) m is none all =
     let before = all_agree calls m is none all.1 in
     let rest = same_rest call (ran calls m) in (
       instance_kept call (ran calls m) before.0 all.0,
-      λ c. subst (λ k. Agrees k (called call (ran calls m)).timing (called call (ran calls m)).cache ((called call (ran calls m)).at c) (life (call ∷ calls) m c)) (sym rest.0)
-          (subst (λ t. Agrees (ran calls m).keep t (called call (ran calls m)).cache ((called call (ran calls m)).at c) (life (call ∷ calls) m c)) (sym rest.1) (keeps call (ran calls m) c (life calls m c) before.0 all.0 (before.1 c))),
+      λ c. subst (λ k. Agrees k (cache_called call (ran calls m)).timing (cache_called call (ran calls m)).cache ((cache_called call (ran calls m)).at c) (life (call ∷ calls) m c)) (sym rest.0)
+          (subst (λ t. Agrees (ran calls m).keep t (cache_called call (ran calls m)).cache ((cache_called call (ran calls m)).at c) (life (call ∷ calls) m c)) (sym rest.1) (keeps call (ran calls m) c (life calls m c) before.0 all.0 (before.1 c))),
     )
 
 is_line : (keep : ℕ) (t : Intervals) (i : Instance) (a : Option Conn) (l : Option Life) → Agrees keep t i a l → IsLife keep t i a l

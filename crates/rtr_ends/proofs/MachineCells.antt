@@ -12,17 +12,19 @@ use Rattle.rtr_pdu.specs.declared.unit.Unit.TheVariants.{SerialNotify, SerialQue
 use Rattle.rtr_ends.specs.declared.link.End.{End}
 use Rattle.rtr_ends.specs.declared.link.End.TheVariants as ends
 use Rattle.rtr_ends.specs.Answer.{report, sent}
-use Rattle.rtr_ends.specs.Router as model
-use Rattle.rtr_ends.specs.Router.{Router, Link, Closed, Idle, Asked, Answering, Ended, ask, asking, asks, asks_if, breaks, clocked, close, closed_at, commit, connects_at, expired, fails, fault_end, is_due, is_idle, is_news, is_staged, is_strange, judged, may_lack, on_unit, reports, stage, staged, ticks_at, told, told_off}
+use Rattle.rtr_ends.specs.LinkRules as rules
+use Rattle.rtr_ends.specs.LinkRules.{Router, ask, asking, commit, fails, is_news, is_staged, is_strange, may_lack, on_unit, reports, stage, staged, ended_by, told_off}
+use Rattle.rtr_ends.specs.Router.{asks, asks_if, breaks, clocked, close, closed_at, connects_at, expired, fault_end, judged_by_clock, ticks_at}
+use Rattle.rtr_ends.specs.RouterLink.{Link, Closed, Idle, Asked, Answering, Ended, is_due, is_idle}
 use Rattle.rtr_ends.specs.Transcript.{Question, AskReset, AskSerial, Begun, base_of, bounded, is_over, is_wrong, later, query, sum_of, within}
-use Rattle.rtr_ends.specs.Seen.{Does, Ends, IsStaged, ReadsSo, Shows, Stages, begun_with, seen, seen_link, seen_question, seen_version, seen_versions}
-use Rattle.rtr_ends.specs.Staging.{Answers, GoesTo, LeadsTo}
+use Rattle.rtr_ends.specs.Seen.{Does, EndsLink, IsStaged, UnitIsRead, ShowsRouter, Stages, begun_with, seen, seen_link, seen_question, seen_version, seen_versions}
+use Rattle.rtr_ends.specs.Staging.{StagesRecord, GoesTo, LeadsToSet}
 use Rattle.rtr_ends.specs.declared.staging.Staging.{Staging}
 use Rattle.rtr_ends.specs.declared.staging.Staged.{Staged}
 use Rattle.rtr_ends.specs.declared.staging.Staged.TheVariants as code
 use Rattle.rtr_ends.specs.declared.question.Question as Question
 use Rattle.rtr_ends.specs.declared.question.Question.TheVariants as questions
-use Rattle.rtr_ends.specs.declared.question.Version.{Version}
+use Rattle.rtr_ends.specs.declared.question.CommittedVersion.{CommittedVersion}
 use Rattle.rtr_ends.specs.declared.machine.Machine.{Machine}
 use Rattle.rtr_ends.specs.declared.machine.State.{State}
 use Rattle.rtr_ends.specs.declared.machine.State.TheVariants as states
@@ -38,7 +40,7 @@ pub reports_so : (u : Unit) (s : State) (old new : Machine) → old.state ≡ s 
     → new ≡ record old { state = states.Ended (ends.Reported 0); out = sent (report 0 (sent u)) } → Does (λ r. on_unit r.link u r) old new
 reports_so u s old new is steps e =
     unit_does u s old new is (λ withdrawn announced held staged.
-    subst (λ n. Shows (on_unit (seen_link s withdrawn announced) u (seen old withdrawn announced held)) n) (sym e)
+    subst (λ n. ShowsRouter (on_unit (seen_link s withdrawn announced) u (seen old withdrawn announced held)) n) (sym e)
     (shown_as _ (record old { state = states.Ended (ends.Reported 0); out = sent (report 0 (sent u)) }) withdrawn announced held (steps withdrawn announced held) tt))
 
 -- The same, and emptied.
@@ -46,24 +48,24 @@ pub fails_so : (u : Unit) (s : State) (old new : Machine) → old.state ≡ s �
     → new ≡ record old { table = empty; version = None; mark = false; state = states.Ended (ends.Reported 0); out = sent (report 0 (sent u)) } → Does (λ r. on_unit r.link u r) old new
 fails_so u s old new is steps e =
     unit_does u s old new is (λ withdrawn announced held staged.
-    subst (λ n. Shows (on_unit (seen_link s withdrawn announced) u (seen old withdrawn announced held)) n) (sym e)
+    subst (λ n. ShowsRouter (on_unit (seen_link s withdrawn announced) u (seen old withdrawn announced held)) n) (sym e)
     (shown_as _ (record old { table = empty; version = None; mark = false; state = states.Ended (ends.Reported 0); out = sent (report 0 (sent u)) }) withdrawn announced held (steps withdrawn announced held) tt))
 
 -- Nothing happens.
 pub stays_so : (u : Unit) (s : State) (old : Machine) → old.state ≡ s → Steps s u (λ r. r) old → Does (λ r. on_unit r.link u r) old old
 stays_so u s old is steps =
     unit_does u s old old is (λ withdrawn announced held staged.
-    subst (λ x. Shows x old) (sym (steps withdrawn announced held)) (shown old withdrawn announced held (subst (λ x. Stages x old.table withdrawn announced old.staging) (sym is) staged)))
+    subst (λ x. ShowsRouter x old) (sym (steps withdrawn announced held)) (shown old withdrawn announced held (subst (λ x. Stages x old.table withdrawn announced old.staging) (sym is) staged)))
 
 -- What another call does
 pub does_so : (u : Unit) (s : State) (step : Router → Router) (old new : Machine) → old.state ≡ s → Steps s u step old → Does step old new → Does (λ r. on_unit r.link u r) old new
 does_so u s step old new is steps does =
     unit_does u s old new is (λ withdrawn announced held staged.
-    subst (λ x. Shows x new) (sym (steps withdrawn announced held))
+    subst (λ x. ShowsRouter x new) (sym (steps withdrawn announced held))
     (does (seen old withdrawn announced held) (shown old withdrawn announced held (subst (λ x. Stages x old.table withdrawn announced old.staging) (sym is) staged))))
 
 -- The link ends by a report that was read.
-pub told_so : (u : Unit) (s : State) (old : Machine) (code : ℕ) → old.state ≡ s → Steps s u (told code) old → Does (λ r. on_unit r.link u r) old (record old { state = states.Ended (ends.Told code) })
+pub told_so : (u : Unit) (s : State) (old : Machine) (code : ℕ) → old.state ≡ s → Steps s u (ended_by code) old → Does (λ r. on_unit r.link u r) old (record old { state = states.Ended (ends.Told code) })
 told_so u s old code is steps =
     unit_does u s old (record old { state = states.Ended (ends.Told code) }) is (λ withdrawn announced held staged.
     shown_as _ (record old { state = states.Ended (ends.Told code) }) withdrawn announced held (steps withdrawn announced held) tt)
@@ -72,18 +74,18 @@ told_so u s old code is steps =
 pub agrees : (old : Machine) → Does (λ r. record r { agreed = true }) old (record old { agreed = true })
 agrees old r s = record { withdrawn = s.withdrawn; announced = s.announced; staged = s.staged; is = ap (λ (x : Router). record x { agreed = true }) s.is }
 
-pub told_then : (q : Question) (told code : ℕ) (old new : Machine) → told ≡ code → Does (told_off q told) (record old { agreed = true }) new → Does (λ r. told_off q code (record r { agreed = true })) old new
-told_then q told code old new e does r s = subst (λ n. Shows (told_off q n (record r { agreed = true })) new) e (does (record r { agreed = true }) (agrees old r s))
+pub told_then : (q : Question) (ended_by code : ℕ) (old new : Machine) → ended_by ≡ code → Does (told_off q ended_by) (record old { agreed = true }) new → Does (λ r. told_off q code (record r { agreed = true })) old new
+told_then q ended_by code old new e does r s = subst (λ n. ShowsRouter (told_off q n (record r { agreed = true })) new) e (does (record r { agreed = true }) (agrees old r s))
 
-pub told_now : (q : Question) (told code : ℕ) (old new : Machine) → told ≡ code → Does (told_off q told) old new → Does (told_off q code) old new
-told_now q told code old new e does r s = subst (λ n. Shows (told_off q n r) new) e (does r s)
+pub told_now : (q : Question) (ended_by code : ℕ) (old new : Machine) → ended_by ≡ code → Does (told_off q ended_by) old new → Does (told_off q code) old new
+told_now q ended_by code old new e does r s = subst (λ n. ShowsRouter (told_off q n r) new) e (does r s)
 
 -- tests of codes
-pub is_code : (told code n : ℕ) → told ≡ code → told ≡ n → (code == n) ≡ true
-is_code told code n e h = let same : code ≡ n = sym e ∙ h in grind (arith, nat_tests)
+pub is_code : (ended_by code n : ℕ) → ended_by ≡ code → ended_by ≡ n → (code == n) ≡ true
+is_code ended_by code n e h = let same : code ≡ n = sym e ∙ h in grind (arith, nat_tests)
 
-pub no_code : (told code n : ℕ) → told ≡ code → (told ≡ n → ⊥) → (code == n) ≡ false
-no_code told code n e h = by_test (code == n) refl
+pub no_code : (ended_by code n : ℕ) → ended_by ≡ code → (ended_by ≡ n → ⊥) → (code == n) ≡ false
+no_code ended_by code n e h = by_test (code == n) refl
   where
     by_test : (b : Bool) → (code == n) ≡ b → b ≡ false
     by_test false is = refl
@@ -92,7 +94,7 @@ no_code told code n e h = by_test (code == n) refl
 -- A Reset Query is asked, after agreement.
 pub asks_again : (old new : Machine) → new ≡ record old { agreed = true; state = states.Asked questions.Reset; out = sent (query AskReset) } → Does (λ r. asking AskReset (record r { agreed = true })) old new
 asks_again old new e r s =
-    subst (λ n. Shows (asking AskReset (record r { agreed = true })) n) (sym e)
+    subst (λ n. ShowsRouter (asking AskReset (record r { agreed = true })) n) (sym e)
     (record { withdrawn = s.withdrawn; announced = s.announced; staged = tt; is = ap (λ (x : Router). asking AskReset (record x { agreed = true })) s.is })
 
 -- Units that do not belong where they come
@@ -185,11 +187,11 @@ module _ (session serial : ℕ) (u : Unit) (is : u ≡ SerialNotify session seri
 -- An Error Report
 pub idle_no_data : (e : Report) (u : Unit) → u ≡ ErrorReport e → (r : Router) → (e.code == 2) ≡ true → on_unit Idle u r ≡ r
 unfolding on_unit
-idle_no_data e u is r h = subst (λ x. on_unit Idle x r ≡ r) (sym is) (ap (λ b. if b then r else told e.code r) h)
+idle_no_data e u is r h = subst (λ x. on_unit Idle x r ≡ r) (sym is) (ap (λ b. if b then r else ended_by e.code r) h)
 
-pub idle_told : (e : Report) (u : Unit) → u ≡ ErrorReport e → (r : Router) → (e.code == 2) ≡ false → on_unit Idle u r ≡ told e.code r
+pub idle_told : (e : Report) (u : Unit) → u ≡ ErrorReport e → (r : Router) → (e.code == 2) ≡ false → on_unit Idle u r ≡ ended_by e.code r
 unfolding on_unit
-idle_told e u is r h = subst (λ x. on_unit Idle x r ≡ told e.code r) (sym is) (ap (λ b. if b then r else told e.code r) h)
+idle_told e u is r h = subst (λ x. on_unit Idle x r ≡ ended_by e.code r) (sym is) (ap (λ b. if b then r else ended_by e.code r) h)
 
 pub asked_told : (e : Report) (u : Unit) → u ≡ ErrorReport e → (q : Question) (r : Router) → on_unit (Asked q) u r ≡ told_off q e.code (record r { agreed = true })
 unfolding on_unit
@@ -224,7 +226,7 @@ unfolding on_unit
 reset_refused u is r = subst (λ x. on_unit (Asked AskReset) x r ≡ reports 0 x r) (sym is) refl
 
 -- A machine whose staged records are others, and whose link ends
-pub ends_so : (old : Machine) (s : Staging) → Ends old (record old { staging = s })
+pub ends_so : (old : Machine) (s : Staging) → EndsLink old (record old { staging = s })
 ends_so old s r end shows = record { withdrawn = shows.withdrawn; announced = shows.announced; staged = tt; is = ap (λ (x : Router). record x { link = Ended end }) shows.is }
 
 -- A record in an answer
@@ -247,7 +249,7 @@ module _ (old : Machine) (q : Question.Question) (session : ℕ) (is : old.state
   abbrev Goes : Result Staged SetFault → Staging → Type 0
   Goes answer s = (base : VrpSet) (b : Begun) → IsStaged base b.withdrawn b.announced old.staging → in_base ≡ has base v → GoesTo base b announce v answer s
 
-  goes : (answer : Result Staged SetFault) (s : Staging) → Goes answer s → (withdrawn announced : List Payload) → IsStaged base withdrawn announced old.staging → Answers base (a_of withdrawn announced) (stage base (a_of withdrawn announced) announce v) answer s
+  goes : (answer : Result Staged SetFault) (s : Staging) → Goes answer s → (withdrawn announced : List Payload) → IsStaged base withdrawn announced old.staging → StagesRecord base (a_of withdrawn announced) (stage base (a_of withdrawn announced) announce v) answer s
   goes answer s g withdrawn announced st = g base (a_of withdrawn announced) st known
 
   pub stays_staged : (s : Staging) → Goes (Ok code.Stays) s → Does (λ r. on_unit r.link u r) old (record old { staging = s })
@@ -255,42 +257,42 @@ module _ (old : Machine) (q : Question.Question) (session : ℕ) (is : old.state
       let r = seen old withdrawn announced held in
       by_staged withdrawn announced held (stage base (a_of withdrawn announced) announce v) refl (goes (Ok code.Stays) s g withdrawn announced st))
     where
-      by_staged : (withdrawn announced : List Payload) (held : List ℕ) (x : model.Staged) → stage base (a_of withdrawn announced) announce v ≡ x → Answers base (a_of withdrawn announced) x (Ok code.Stays) s
-          → Shows (on_unit (Answering (a_of withdrawn announced)) u (seen old withdrawn announced held)) (record old { staging = s })
-      by_staged withdrawn announced held (model.Stays a) e h =
+      by_staged : (withdrawn announced : List Payload) (held : List ℕ) (x : rules.Staged) → stage base (a_of withdrawn announced) announce v ≡ x → StagesRecord base (a_of withdrawn announced) x (Ok code.Stays) s
+          → ShowsRouter (on_unit (Answering (a_of withdrawn announced)) u (seen old withdrawn announced held)) (record old { staging = s })
+      by_staged withdrawn announced held (rules.Stays a) e h =
           shown_as (on_unit (Answering (a_of withdrawn announced)) u (seen old withdrawn announced held)) (record old { staging = s }) a.withdrawn a.announced held
           (reads_record (a_of withdrawn announced) (seen old withdrawn announced held)
           ∙ ap (λ x. staged u x (seen old withdrawn announced held)) e
           ∙ (λ i. record (seen old withdrawn announced held) { link = Answering (record { question = h.1 i; session = h.2 i; withdrawn = a.withdrawn; announced = a.announced }) })
           ∙ (λ i. record (seen old withdrawn announced held) { link = seen_link (sym is i) a.withdrawn a.announced }))
           (subst (λ x. Stages x old.table a.withdrawn a.announced s) (sym is) h.0)
-      by_staged withdrawn announced held (model.Wrong code) e h = absurd h
-      by_staged withdrawn announced held model.Over e h = absurd h
+      by_staged withdrawn announced held (rules.Wrong code) e h = absurd h
+      by_staged withdrawn announced held rules.Over e h = absurd h
 
   pub wrong_staged : (s : Staging) (n : ℕ) (new : Machine) → Goes (Ok (code.Wrong n)) s → new ≡ record old { staging = s; state = states.Ended (ends.Reported n); out = sent (report n (sent u)) }
       → Does (λ r. on_unit r.link u r) old (record new { mark = true })
   wrong_staged s n new g e = unit_does u (states.Answering q session) old (record new { mark = true }) is (λ withdrawn announced held st.
       by_staged withdrawn announced held (stage base (a_of withdrawn announced) announce v) refl (goes (Ok (code.Wrong n)) s g withdrawn announced st))
     where
-      by_staged : (withdrawn announced : List Payload) (held : List ℕ) (x : model.Staged) → stage base (a_of withdrawn announced) announce v ≡ x → Answers base (a_of withdrawn announced) x (Ok (code.Wrong n)) s
-          → Shows (on_unit (Answering (a_of withdrawn announced)) u (seen old withdrawn announced held)) (record new { mark = true })
-      by_staged withdrawn announced held (model.Stays a) k h = absurd h
-      by_staged withdrawn announced held (model.Wrong m) k h =
-          subst (λ y. Shows (on_unit (Answering (a_of withdrawn announced)) u (seen old withdrawn announced held)) (record y { mark = true })) (sym e)
+      by_staged : (withdrawn announced : List Payload) (held : List ℕ) (x : rules.Staged) → stage base (a_of withdrawn announced) announce v ≡ x → StagesRecord base (a_of withdrawn announced) x (Ok (code.Wrong n)) s
+          → ShowsRouter (on_unit (Answering (a_of withdrawn announced)) u (seen old withdrawn announced held)) (record new { mark = true })
+      by_staged withdrawn announced held (rules.Stays a) k h = absurd h
+      by_staged withdrawn announced held (rules.Wrong m) k h =
+          subst (λ y. ShowsRouter (on_unit (Answering (a_of withdrawn announced)) u (seen old withdrawn announced held)) (record y { mark = true })) (sym e)
           (shown_as (on_unit (Answering (a_of withdrawn announced)) u (seen old withdrawn announced held)) (record old { staging = s; state = states.Ended (ends.Reported n); out = sent (report n (sent u)); mark = true }) withdrawn announced held
           (reads_record (a_of withdrawn announced) (seen old withdrawn announced held) ∙ ap (λ x. staged u x (seen old withdrawn announced held)) k
           ∙ ap (λ c. record (reports c u (seen old withdrawn announced held)) { mark = true }) (sym h)) tt)
-      by_staged withdrawn announced held model.Over k h = absurd h
+      by_staged withdrawn announced held rules.Over k h = absurd h
 
-  pub refused_staged : (s : Staging) (fault : SetFault) → Goes (Err fault) s → ReadsSo (Err fault) u old (record old { staging = s })
+  pub refused_staged : (s : Staging) (fault : SetFault) → Goes (Err fault) s → UnitIsRead (Err fault) u old (record old { staging = s })
   refused_staged s Memory g = (ends_so old s, λ r shows. lacking r shows)
     where
-      by_staged : (b : Begun) (x : model.Staged) → Answers base b x (Err Memory) s → is_staged x ≡ true
-      by_staged b (model.Stays a) h = refl
-      by_staged b (model.Wrong n) h = absurd h
-      by_staged b model.Over h = absurd h
+      by_staged : (b : Begun) (x : rules.Staged) → StagesRecord base b x (Err Memory) s → is_staged x ≡ true
+      by_staged b (rules.Stays a) h = refl
+      by_staged b (rules.Wrong n) h = absurd h
+      by_staged b rules.Over h = absurd h
 
-      lacking : (r : Router) → Shows r old → may_lack r.link u r ≡ true
+      lacking : (r : Router) → ShowsRouter r old → may_lack r.link u r ≡ true
       lacking r shows =
           let st : IsStaged base shows.withdrawn shows.announced old.staging = subst (λ x. Stages x old.table shows.withdrawn shows.announced old.staging) is shows.staged in
           ap (λ (x : Router). may_lack x.link u x) shows.is ∙ ap (λ x. may_lack (seen_link x shows.withdrawn shows.announced) u (seen old shows.withdrawn shows.announced r.held)) is
@@ -298,12 +300,12 @@ module _ (old : Machine) (q : Question.Question) (session : ℕ) (is : old.state
           ∙ by_staged (a_of shows.withdrawn shows.announced) (stage base (a_of shows.withdrawn shows.announced) announce v) (goes (Err Memory) s g shows.withdrawn shows.announced st)
   refused_staged s TooMany g = (ends_so old s, λ r shows. over r shows)
     where
-      by_staged : (r : Router) (b : Begun) (x : model.Staged) → Answers base b x (Err TooMany) s → staged u x r ≡ record r { link = Ended ends.TooMany }
-      by_staged r b (model.Stays a) h = absurd h
-      by_staged r b (model.Wrong n) h = absurd h
-      by_staged r b model.Over h = refl
+      by_staged : (r : Router) (b : Begun) (x : rules.Staged) → StagesRecord base b x (Err TooMany) s → staged u x r ≡ record r { link = Ended ends.TooMany }
+      by_staged r b (rules.Stays a) h = absurd h
+      by_staged r b (rules.Wrong n) h = absurd h
+      by_staged r b rules.Over h = refl
 
-      over : (r : Router) → Shows r old → on_unit r.link u r ≡ record r { link = Ended ends.TooMany }
+      over : (r : Router) → ShowsRouter r old → on_unit r.link u r ≡ record r { link = Ended ends.TooMany }
       over r shows =
           let st : IsStaged base shows.withdrawn shows.announced old.staging = subst (λ x. Stages x old.table shows.withdrawn shows.announced old.staging) is shows.staged in
           let m : Router = seen old shows.withdrawn shows.announced r.held in
@@ -320,7 +322,7 @@ module _ (old : Machine) (q : Question.Question) (session serial refresh retry e
   abbrev last_unit : Unit
   last_unit = EndOfData session serial refresh retry expire
 
-  abbrev version_now : Version
+  abbrev version_now : CommittedVersion
   version_now = record { session = session; serial = serial; moment = old.clock; refresh = within 1 86400 refresh; retry = within 1 7200 retry; expire = within 600 172800 expire }
 
   reads_end : (a : Begun) (r : Router) → a.session ≡ session → on_unit (Answering a) last_unit r ≡ commit a (record { session = session; serial = serial; moment = r.now; intervals = bounded refresh retry expire }) r
@@ -331,7 +333,7 @@ module _ (old : Machine) (q : Question.Question) (session serial refresh retry e
 
   -- what is led to
   abbrev LeadsSo : Result VrpSet SetFault → Type 0
-  LeadsSo result = (b : Begun) → IsStaged (base_of (seen_question q) old.table) b.withdrawn b.announced old.staging → LeadsTo (base_of (seen_question q) old.table) b result
+  LeadsSo result = (b : Begun) → IsStaged (base_of (seen_question q) old.table) b.withdrawn b.announced old.staging → LeadsToSet (base_of (seen_question q) old.table) b result
 
   pub commits_so : (table : VrpSet) (due : ℕ) (s : Staging) (new : Machine) → LeadsSo (Ok table) → due ≡ sum_of old.clock (within 1 86400 refresh)
       → new ≡ record old { table = table; version = Some version_now; mark = false; due = Some due; no_data = false; state = states.Idle; staging = s }
@@ -339,15 +341,15 @@ module _ (old : Machine) (q : Question.Question) (session serial refresh retry e
   commits_so table due s new leads at e = unit_does last_unit (states.Answering q session) old new is (λ withdrawn announced held st.
       let a : Begun = begun_with q session withdrawn announced in
       let r : Router = seen old withdrawn announced held in
-      subst (λ n. Shows (on_unit (Answering a) last_unit r) n) (sym e)
+      subst (λ n. ShowsRouter (on_unit (Answering a) last_unit r) n) (sym e)
       (shown_as (on_unit (Answering a) last_unit r) (record old { table = table; version = Some version_now; mark = false; due = Some due; no_data = false; state = states.Idle; staging = s }) withdrawn announced held
       (reads_end a r refl ∙ (λ i. record r { table = sym (leads a st) i; version = Some (seen_version version_now); mark = false; due = Some (sym at i); no_data = false; link = Idle })) tt))
 
-  pub lacks_end : (s : Staging) (fault : SetFault) → LeadsSo (Err fault) → ReadsSo (Err fault) last_unit old (record old { staging = s })
+  pub lacks_end : (s : Staging) (fault : SetFault) → LeadsSo (Err fault) → UnitIsRead (Err fault) last_unit old (record old { staging = s })
   lacks_end s Memory leads = (ends_so old s, λ r shows. ap (λ (x : Router). may_lack x.link last_unit x) shows.is ∙ ap (λ x. may_lack (seen_link x shows.withdrawn shows.announced) last_unit (seen old shows.withdrawn shows.announced r.held)) is ∙ same_session session)
   lacks_end s TooMany leads = (ends_so old s, λ r shows. absurd (never r shows))
     where
-      never : (r : Router) → Shows r old → ⊥
+      never : (r : Router) → ShowsRouter r old → ⊥
       never r shows =
           let st : IsStaged (base_of (seen_question q) old.table) shows.withdrawn shows.announced old.staging = subst (λ x. Stages x old.table shows.withdrawn shows.announced old.staging) is shows.staged in
           let e : TooMany ≡ Memory = leads (begun_with q session shows.withdrawn shows.announced) st in
@@ -392,17 +394,17 @@ later_max a b n e = by_test (nat_lt a b) refl
 
 pub expires_so : (old new : Machine) (now clock : ℕ) → clock ≡ later old.clock now → is_over (seen_versions old.version) clock ≡ true → Does (λ r. expired r.link r) (record old { clock = clock }) new → Does (clocked now) old new
 unfolding clocked
-expires_so old new now clock is over does = does_from (λ r. judged (record r { now = later r.now now })) old new (λ withdrawn announced held st.
+expires_so old new now clock is over does = does_from (λ r. judged_by_clock (record r { now = later r.now now })) old new (λ withdrawn announced held st.
     let r : Router = seen (record old { clock = clock }) withdrawn announced held in
-    subst (λ x. Shows (judged (record r { now = x })) new) is
-    (subst (λ x. Shows (if x then expired r.link r else r) new) (sym over) (does r (shown (record old { clock = clock }) withdrawn announced held st))))
+    subst (λ x. ShowsRouter (judged_by_clock (record r { now = x })) new) is
+    (subst (λ x. ShowsRouter (if x then expired r.link r else r) new) (sym over) (does r (shown (record old { clock = clock }) withdrawn announced held st))))
 
 pub stays_on : (old : Machine) (now clock : ℕ) → clock ≡ later old.clock now → is_over (seen_versions old.version) clock ≡ false → Does (clocked now) old (record old { clock = clock })
 unfolding clocked
-stays_on old now clock is over = does_from (λ r. judged (record r { now = later r.now now })) old (record old { clock = clock }) (λ withdrawn announced held st.
+stays_on old now clock is over = does_from (λ r. judged_by_clock (record r { now = later r.now now })) old (record old { clock = clock }) (λ withdrawn announced held st.
     let r : Router = seen (record old { clock = clock }) withdrawn announced held in
-    subst (λ x. Shows (judged (record r { now = x })) (record old { clock = clock })) is
-    (subst (λ x. Shows (if x then expired r.link r else r) (record old { clock = clock })) (sym over) (shown (record old { clock = clock }) withdrawn announced held st)))
+    subst (λ x. ShowsRouter (judged_by_clock (record r { now = x })) (record old { clock = clock })) is
+    (subst (λ x. ShowsRouter (if x then expired r.link r else r) (record old { clock = clock })) (sym over) (shown (record old { clock = clock }) withdrawn announced held st)))
 
 -- Calls
 module _ (now : ℕ) where
@@ -423,7 +425,7 @@ module _ (now : ℕ) where
       by_test false = refl
 
 -- whether a router that is shown is due
-pub due_of : (m : Machine) (r : Router) → Shows r m → is_due r.link r.due r.now ≡ is_due (seen_link m.state [] []) m.due m.clock
+pub due_of : (m : Machine) (r : Router) → ShowsRouter r m → is_due r.link r.due r.now ≡ is_due (seen_link m.state [] []) m.due m.clock
 due_of m r s = ap (λ (x : Router). is_due x.link x.due x.now) s.is ∙ by_state m.state
   where
     by_state : (x : State) → is_due (seen_link x s.withdrawn s.announced) m.due m.clock ≡ is_due (seen_link x [] []) m.due m.clock
@@ -438,13 +440,13 @@ pub asks_idle : (old new : Machine) → old.state ≡ states.Idle → Does ask o
 unfolding asks
 asks_idle old new is does = does_from (λ r. (asks r).router) old new (λ withdrawn announced held st.
     let r : Router = seen old withdrawn announced held in
-    subst (λ x. Shows ((asks_if (is_idle (seen_link x withdrawn announced)) r).router) new) (sym is) (does r (shown old withdrawn announced held st)))
+    subst (λ x. ShowsRouter ((asks_if (is_idle (seen_link x withdrawn announced)) r).router) new) (sym is) (does r (shown old withdrawn announced held st)))
 
 pub asks_not : (old : Machine) → is_idle (seen_link old.state [] []) ≡ false → Does (λ r. (asks r).router) old old
 unfolding asks
 asks_not old busy = does_from (λ r. (asks r).router) old old (λ withdrawn announced held st.
     let r : Router = seen old withdrawn announced held in
-    subst (λ x. Shows ((asks_if x r).router) old) (sym (by_state old.state withdrawn announced ∙ busy)) (shown old withdrawn announced held st))
+    subst (λ x. ShowsRouter ((asks_if x r).router) old) (sym (by_state old.state withdrawn announced ∙ busy)) (shown old withdrawn announced held st))
   where
     by_state : (x : State) (withdrawn announced : List Payload) → is_idle (seen_link x withdrawn announced) ≡ is_idle (seen_link x [] [])
     by_state states.Closed withdrawn announced = refl

@@ -4,7 +4,7 @@ use Rattle.std.proofs.Common.{sym, ap, ◌∙◌, subst, arith, inl, inr}
 use Rattle.std.specs.List.{list_any}
 use Rattle.std.proofs.lemmas.Bool.{or_parts}
 use Rattle.std.proofs.lemmas.List.{append-nil}
-use Rattle.vrps.specs.Instance.{Instance, Version, versions, versions_from, with_serial}
+use Rattle.vrps.specs.Instance.{Instance, NumberedSet, versions, versions_from, with_serial}
 use Rattle.vrps.specs.Serial.{serial_at}
 use Rattle.vrps.specs.VrpSet.{VrpSet}
 use Rattle.vrps.specs.Stores.{newest}
@@ -18,10 +18,10 @@ use Rattle.rtr_pdu.specs.declared.unit.Unit.TheVariants.{SerialNotify, SerialQue
 use Rattle.rtr_pdu.specs.declared.unit.UnitFault.{UnitFault}
 use Rattle.rtr_pdu.proofs.DeviceLaws.{partial_most}
 use Rattle.rtr_ends.specs.Answer.{Reply, and_end, and_on, answer, report, sent, sent_all, serial_answer, step_answer, whole_answer}
-use Rattle.rtr_ends.specs.Cache.{Conn, Taking, can_notify, conn_notified, conn_pulled, conn_stops, conn_takes, is_none, with_judged}
-use Rattle.rtr_ends.specs.Connection.{Connection, Read, Wanting, Notify, after, fault_report, is_published, is_query, is_wanting, notice, takes_memory}
-use Rattle.rtr_ends.specs.Peer.{Answers, Fails, HasRoom, Pulls, Receives, ShowsPeer, held_by, no_memory, read_reply}
-use Rattle.rtr_ends.specs.Sender.{Gives, Sends, Stays, due_of, newest_of, ready_in}
+use Rattle.rtr_ends.specs.Cache.{Conn, Taking, can_notify, conn_notified, conn_pulled, conn_stops, conn_takes, is_none, conn_judged}
+use Rattle.rtr_ends.specs.Connection.{Connection, Read, Wanting, Notify, conn_after, fault_report, is_published, is_query, is_wanting, notice, takes_memory}
+use Rattle.rtr_ends.specs.Peer.{SendsReply, ReportsFault, HasBufferRoom, Pulls, Receives, ShowsPeer, held_by_peer, no_memory, read_reply}
+use Rattle.rtr_ends.specs.Sender.{PullsBytes, Sends, Stays, due_of, newest_of, ready_in}
 use Rattle.rtr_ends.specs.Timing.{Intervals}
 use Rattle.rtr_ends.specs.declared.peer.Peer.{Peer}
 use Rattle.rtr_ends.specs.declared.sender.Sender.{Sender}
@@ -29,17 +29,17 @@ use Rattle.rtr_ends.proofs.AnsweringLaws.{knows_stays, published_some}
 use Rattle.rtr_ends.proofs.ReceivingLaws.{start, takes_fault, takes_more, takes_none, takes_unit}
 
 -- Nothing is held by a reader that is new.
-fresh_room : (p : Peer) → p.reader ≡ fresh false → ready_in p.sender ≤ 4096 → HasRoom (held_by p)
+fresh_room : (p : Peer) → p.reader ≡ fresh false → ready_in p.sender ≤ 4096 → HasBufferRoom (held_by_peer p)
 fresh_room p e ready = record { received = omega (arith, ap (λ (r : Reader). length r.held) e); ready = ready }
 
 -- the newest version, with its serial
-record HasNewest (serial : ℕ) (vs : List Version) : Type 0 where
-  pub version : Version
+record HasNewest (serial : ℕ) (vs : List NumberedSet) : Type 0 where
+  pub version : NumberedSet
   pub is : newest vs ≡ Some version
   pub serial_is : version.serial ≡ serial
 
 module _ (keep : ℕ) (t : Intervals) (i : Instance) (o : Conn) where
-  pub pulls : (out : List ℕ) (count : ℕ) (now : List ℕ) (old : Peer) (sender : Sender) → Gives (due_of old.sender) out count now (due_of sender) → Stays old.sender sender → ShowsPeer t i o old → Pulls keep t i o out count now (record old { sender = sender })
+  pub pulls : (out : List ℕ) (count : ℕ) (now : List ℕ) (old : Peer) (sender : Sender) → PullsBytes (due_of old.sender) out count now (due_of sender) → Stays old.sender sender → ShowsPeer t i o old → Pulls keep t i o out count now (record old { sender = sender })
   unfolding conn_pulled
   pulls out count now old sender g s shows =
       let count_is : count ≡ min (length out) (length o.state.due) = g.count_is ∙ ap (λ x. min (length out) (length x)) shows.due in
@@ -97,19 +97,19 @@ module _ (keep : ℕ) (t : Intervals) (i : Instance) (o : Conn) where
       }
 
   -- An answer has bytes, or ends the connection.
-  read_stops : (u : Unit) (bytes : List ℕ) → conn_stops (record { state = after keep t o.state (Read i u bytes); held = [] }) ≡ true
+  read_stops : (u : Unit) (bytes : List ℕ) → conn_stops (record { state = conn_after keep t o.state (Read i u bytes); held = [] }) ≡ true
   read_stops ResetQuery bytes = by_versions (versions i)
     where
-      by_versions : (vs : List Version) → (false || not (is_none (sent_all (whole_answer i.session t vs)))) ≡ true
+      by_versions : (vs : List NumberedSet) → (false || not (is_none (sent_all (whole_answer i.session t vs)))) ≡ true
       by_versions [] = refl
       by_versions (now ∷ older) = refl
   read_stops (SerialQuery session serial) bytes = by_test (session == i.session)
     where
-      by_found : (now : Version) (found : Option Version) → (false || not (is_none (sent_all (step_answer i.session t now found)))) ≡ true
+      by_found : (now : NumberedSet) (found : Option NumberedSet) → (false || not (is_none (sent_all (step_answer i.session t now found)))) ≡ true
       by_found now None = refl
       by_found now (Some before) = refl
 
-      by_versions : (vs : List Version) → (false || not (is_none (sent_all (serial_answer i.session keep t serial vs)))) ≡ true
+      by_versions : (vs : List NumberedSet) → (false || not (is_none (sent_all (serial_answer i.session keep t serial vs)))) ≡ true
       by_versions [] = refl
       by_versions (now ∷ older) = by_found now (with_serial serial (now ∷ take keep older))
 
@@ -127,21 +127,21 @@ module _ (keep : ℕ) (t : Intervals) (i : Instance) (o : Conn) where
 
   -- the moment at which a unit is read
   abbrev moment : Bool → Unit → List ℕ → Connection
-  moment b u bytes = after keep t o.state (if b then Wanting i u bytes else Read i u bytes)
+  moment b u bytes = conn_after keep t o.state (if b then Wanting i u bytes else Read i u bytes)
 
   moment_stops : (b : Bool) (u : Unit) (bytes : List ℕ) → conn_stops (record { state = moment b u bytes; held = [] }) ≡ true
   moment_stops true u bytes = refl
   moment_stops false u bytes = read_stops u bytes
 
   moment_shown : (b : Bool) (u : Unit) (bytes : List ℕ) (mid new : Peer) → mid.reader ≡ fresh false → mid.agreed ≡ o.state.agreed → ready_in mid.sender ≤ 4096
-      → Answers t i (if b then no_memory else answer i keep t u) (mid.agreed || is_query u) mid new → ShowsPeer t i (record { state = moment b u bytes; held = [] }) new
+      → SendsReply t i (if b then no_memory else answer i keep t u) (mid.agreed || is_query u) mid new → ShowsPeer t i (record { state = moment b u bytes; held = [] }) new
   moment_shown true u bytes mid new reader agreed room a =
       record { reader = a.reader ∙ reader; agreed = a.agreed ∙ ap (λ x. x || is_query u) agreed; ended = a.ended; due = a.due; knows = a.knows; room = fresh_room new (a.reader ∙ reader) (a.room room) }
   moment_shown false u bytes mid new reader agreed room a =
       record { reader = a.reader ∙ reader; agreed = a.agreed ∙ ap (λ x. x || is_query u) agreed; ended = a.ended; due = a.due; knows = a.knows; room = fresh_room new (a.reader ∙ reader) (a.room room) }
 
   pub receives_unit : (piece rest : List ℕ) (u : Unit) (p new : Peer) (reader : Reader) → conn_stops o ≡ false → ShowsPeer t i o p → IsReader V1 p.reader → ReaderTakes V1 p.reader piece (next.Unit u) rest reader
-      → ((memory : Bool) × Answers t i (read_reply keep t i memory u) (p.agreed || is_query u) (record p { reader = reader }) new) → Receives keep t i o piece (length piece - length rest) new
+      → ((memory : Bool) × SendsReply t i (read_reply keep t i memory u) (p.agreed || is_query u) (record p { reader = reader }) new) → Receives keep t i o piece (length piece - length rest) new
   receives_unit piece rest u p new reader runs shows stands h a = by_memory a.0 (takes_memory i u) refl a.1
     where
       k : ReaderTakes V1 own piece (next.Unit u) rest reader
@@ -151,18 +151,18 @@ module _ (keep : ℕ) (t : Intervals) (i : Instance) (o : Conn) where
       part = subst (λ r. IsReader V1 r) shows.reader stands
 
       after_unit : Option ℕ → Taking
-      after_unit w = with_judged keep t i (start keep t i o w) (o.held ++ k.taken) (Whole u)
+      after_unit w = conn_judged keep t i (start keep t i o w) (o.held ++ k.taken) (Whole u)
 
       to : (w : Option ℕ) → conn_stops (after_unit w).conn ≡ true → conn_takes keep t i w piece o ≡ record { machine = after_unit w; rest = rest }
       to w stop = ap (λ x. conn_takes keep t i w x o) k.piece_is ∙ takes_unit keep t i o w (after_unit w) k.taken rest u runs part k.gives.1 (λ held. refl) stop
 
       -- memory was there, or not taken
-      read : (b : Bool) → (takes_memory i u && not true) ≡ b → Answers t i (if b then no_memory else answer i keep t u) (p.agreed || is_query u) (record p { reader = reader }) new → Receives keep t i o piece (length piece - length rest) new
+      read : (b : Bool) → (takes_memory i u && not true) ≡ b → SendsReply t i (if b then no_memory else answer i keep t u) (p.agreed || is_query u) (record p { reader = reader }) new → Receives keep t i o piece (length piece - length rest) new
       read b e a = record {
         wanting = None;
         wanted = tt;
         shows = subst (λ f. ShowsPeer t i f.machine.conn new) (sym (to None (moment_stops (takes_memory i u && not true) u (o.held ++ k.taken))))
-            (moment_shown (takes_memory i u && not true) u (o.held ++ k.taken) (record p { reader = reader }) new k.gives.2 shows.agreed shows.room.ready (subst (λ c. Answers t i (if c then no_memory else answer i keep t u) (p.agreed || is_query u) (record p { reader = reader }) new) (sym e) a));
+            (moment_shown (takes_memory i u && not true) u (o.held ++ k.taken) (record p { reader = reader }) new k.gives.2 shows.agreed shows.room.ready (subst (λ c. SendsReply t i (if c then no_memory else answer i keep t u) (p.agreed || is_query u) (record p { reader = reader }) new) (sym e) a));
         consumed_is = subst (λ f. length piece - length rest ≡ length piece - length f.rest) (sym (to None (moment_stops (takes_memory i u && not true) u (o.held ++ k.taken)))) refl;
       }
 
@@ -170,9 +170,9 @@ module _ (keep : ℕ) (t : Intervals) (i : Instance) (o : Conn) where
       not_true true = refl
       not_true false = refl
 
-      by_memory : (memory takes : Bool) → takes_memory i u ≡ takes → Answers t i (read_reply keep t i memory u) (p.agreed || is_query u) (record p { reader = reader }) new → Receives keep t i o piece (length piece - length rest) new
+      by_memory : (memory takes : Bool) → takes_memory i u ≡ takes → SendsReply t i (read_reply keep t i memory u) (p.agreed || is_query u) (record p { reader = reader }) new → Receives keep t i o piece (length piece - length rest) new
       by_memory true takes e a = read (takes_memory i u && not true) refl a
-      by_memory false false e a = read false (not_true (takes_memory i u)) (subst (λ b. Answers t i (if b && not false then no_memory else answer i keep t u) (p.agreed || is_query u) (record p { reader = reader }) new) e a)
+      by_memory false false e a = read false (not_true (takes_memory i u)) (subst (λ b. SendsReply t i (if b && not false then no_memory else answer i keep t u) (p.agreed || is_query u) (record p { reader = reader }) new) e a)
       by_memory false true e a =
           let all = to (Some 0) (moment_stops (takes_memory i u && not false) u (o.held ++ k.taken)) in
           record {
@@ -184,7 +184,7 @@ module _ (keep : ℕ) (t : Intervals) (i : Instance) (o : Conn) where
           }
 
   pub receives_fault : (piece rest : List ℕ) (fault : UnitFault) (p new : Peer) (reader : Reader) → conn_stops o ≡ false → ShowsPeer t i o p → IsReader V1 p.reader → ReaderTakes V1 p.reader piece (next.Fault fault) rest reader
-      → Fails (record p { reader = reader }) fault new → Receives keep t i o piece (length piece - length rest) new
+      → ReportsFault (record p { reader = reader }) fault new → Receives keep t i o piece (length piece - length rest) new
   receives_fault piece rest fault p new reader runs shows stands h f = by_gives k.gives
     where
       k : ReaderTakes V1 own piece (next.Fault fault) rest reader
@@ -196,9 +196,9 @@ module _ (keep : ℕ) (t : Intervals) (i : Instance) (o : Conn) where
       by_gives : ReaderGives V1 own k.taken (next.Fault fault) rest reader → Receives keep t i o piece (length piece - length rest) new
       by_gives (inr again) = absurd (let e : ◌≡◌ {A = Option UnitFault} None (Some fault) = again.0 in cc)
       by_gives (inl first) =
-          let all : conn_takes keep t i None piece o ≡ record { machine = with_judged keep t i (start keep t i o None) (o.held ++ k.taken) (Faulty fault); rest = rest } =
+          let all : conn_takes keep t i None piece o ≡ record { machine = conn_judged keep t i (start keep t i o None) (o.held ++ k.taken) (Faulty fault); rest = rest } =
           ap (λ x. conn_takes keep t i None x o) k.piece_is
-          ∙ takes_fault keep t i o None (with_judged keep t i (start keep t i o None) (o.held ++ k.taken) (Faulty fault)) k.taken rest fault runs part first.1 (λ held. refl) refl in
+          ∙ takes_fault keep t i o None (conn_judged keep t i (start keep t i o None) (o.held ++ k.taken) (Faulty fault)) k.taken rest fault runs part first.1 (λ held. refl) refl in
           record {
             wanting = None;
             wanted = tt;
@@ -220,31 +220,31 @@ module _ (keep : ℕ) (t : Intervals) (i : Instance) (o : Conn) where
   notified_not : (p : Peer) → can_notify i o ≡ false → ShowsPeer t i o p → (false ≡ can_notify i o) × ShowsPeer t i (conn_notified keep t i o) p
   unfolding conn_notified
   notified_not p e shows =
-      (sym e, subst (λ c. ShowsPeer t i c p) (sym (ap (λ b. if b then record o { state = after keep t o.state (Notify i) } else o) e)) shows)
+      (sym e, subst (λ c. ShowsPeer t i c p) (sym (ap (λ b. if b then record o { state = conn_after keep t o.state (Notify i) } else o) e)) shows)
 
   pub notified_stops : (p : Peer) → conn_stops o ≡ true → ShowsPeer t i o p → (false ≡ can_notify i o) × ShowsPeer t i (conn_notified keep t i o) p
   notified_stops p stop shows = notified_not p (ap (λ b. is_published i && not b) stop ∙ and_false (is_published i)) shows
 
-  unpublished : (vs : Option Version) → None ≡ option_map (λ (v : Version). v.serial) vs → vs ≡ None
+  unpublished : (vs : Option NumberedSet) → None ≡ option_map (λ (v : NumberedSet). v.serial) vs → vs ≡ None
   unpublished None h = refl
   unpublished (Some v) h = absurd (let e : None ≡ Some v.serial = h in cc)
 
-  pub notified_none : (p : Peer) → None ≡ option_map (λ (v : Version). v.serial) (newest_of p.sender) → ShowsPeer t i o p → (false ≡ can_notify i o) × ShowsPeer t i (conn_notified keep t i o) p
+  pub notified_none : (p : Peer) → None ≡ option_map (λ (v : NumberedSet). v.serial) (newest_of p.sender) → ShowsPeer t i o p → (false ≡ can_notify i o) × ShowsPeer t i (conn_notified keep t i o) p
   notified_none p none shows =
-      notified_not p (ap (λ b. b && not (conn_stops o)) (by_sets i.sets (unpublished (newest (versions i)) (none ∙ ap (option_map (λ (v : Version). v.serial)) shows.knows.newest)))) shows
+      notified_not p (ap (λ b. b && not (conn_stops o)) (by_sets i.sets (unpublished (newest (versions i)) (none ∙ ap (option_map (λ (v : NumberedSet). v.serial)) shows.knows.newest)))) shows
     where
       by_sets : (sets : List VrpSet) → newest (versions_from i.start sets) ≡ None → not (length sets == 0) ≡ false
       by_sets [] h = refl
       by_sets (set ∷ older) h = absurd (let e : Some (record { serial = serial_at i.start (length older); set = set }) ≡ None = h in cc)
 
-  pub notified_some : (p : Peer) (session serial : ℕ) (sender : Sender) → conn_stops o ≡ false → session ≡ p.sender.session → Some serial ≡ option_map (λ (v : Version). v.serial) (newest_of p.sender) → ShowsPeer t i o p
+  pub notified_some : (p : Peer) (session serial : ℕ) (sender : Sender) → conn_stops o ≡ false → session ≡ p.sender.session → Some serial ≡ option_map (λ (v : NumberedSet). v.serial) (newest_of p.sender) → ShowsPeer t i o p
       → Sends p.sender (SerialNotify session serial ∷ []) sender → (true ≡ can_notify i o) × ShowsPeer t i (conn_notified keep t i o) (record p { sender = sender })
   unfolding conn_notified
   notified_some p session serial sender runs own some shows sends =
-      let now : HasNewest serial (versions i) = has_newest (newest (versions i)) refl (some ∙ ap (option_map (λ (v : Version). v.serial)) shows.knows.newest) in
+      let now : HasNewest serial (versions i) = has_newest (newest (versions i)) refl (some ∙ ap (option_map (λ (v : NumberedSet). v.serial)) shows.knows.newest) in
       let may : can_notify i o ≡ true = λ j. published_some i now.version now.is j && not (runs j) in (
         sym may,
-        subst (λ c. ShowsPeer t i c (record p { sender = sender })) (sym (ap (λ b. if b then record o { state = after keep t o.state (Notify i) } else o) may))
+        subst (λ c. ShowsPeer t i c (record p { sender = sender })) (sym (ap (λ b. if b then record o { state = conn_after keep t o.state (Notify i) } else o) may))
             (record {
               reader = shows.reader;
               agreed = shows.agreed;
@@ -255,16 +255,16 @@ module _ (keep : ℕ) (t : Intervals) (i : Instance) (o : Conn) where
             }),
       )
     where
-      has_newest : (v : Option Version) → newest (versions i) ≡ v → Some serial ≡ option_map (λ (v : Version). v.serial) v → HasNewest serial (versions i)
+      has_newest : (v : Option NumberedSet) → newest (versions i) ≡ v → Some serial ≡ option_map (λ (v : NumberedSet). v.serial) v → HasNewest serial (versions i)
       has_newest None h e = absurd (let k : Some serial ≡ None = e in cc)
       has_newest (Some v) h e = record { version = v; is = h; serial_is = inside (sym e) }
         where
           inside : {a b : ℕ} → Some a ≡ Some b → a ≡ b
           inside h = cc
 
-      notices : (vs : List Version) (v : Version) → newest vs ≡ Some v → notice i.session vs ≡ SerialNotify i.session v.serial ∷ []
+      notices : (vs : List NumberedSet) (v : NumberedSet) → newest vs ≡ Some v → notice i.session vs ≡ SerialNotify i.session v.serial ∷ []
       notices [] v h = absurd (let e : None ≡ Some v = h in cc)
-      notices (now ∷ older) v h = ap (λ (x : Version). SerialNotify i.session x.serial ∷ []) (inside h)
+      notices (now ∷ older) v h = ap (λ (x : NumberedSet). SerialNotify i.session x.serial ∷ []) (inside h)
         where
-          inside : {a b : Version} → Some a ≡ Some b → a ≡ b
+          inside : {a b : NumberedSet} → Some a ≡ Some b → a ≡ b
           inside h = cc

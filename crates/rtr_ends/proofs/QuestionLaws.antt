@@ -13,10 +13,14 @@ use Rattle.rtr_ends.specs.declared.link.End.{End}
 use Rattle.rtr_ends.specs.declared.link.End.TheVariants as ends
 use Rattle.rtr_ends.specs.Cache.{is_none, finds_memory}
 use Rattle.rtr_ends.specs.Answer.{sent}
-use Rattle.rtr_ends.specs.Router.{Call, Connects, Receives, Pulls, Closes, AsksNow, Ticks, called, played, RouterAsks, Receiving, router_byte, router_stops, asks, asks_if, clocked, close, closed_at, connects_at, expired, is_closed, is_due, receives, router_pulled, ticks_at, Link, LinkTells, Noted, asked_by, lacks, may_lack, reads, with_bytes, Closed, Idle, Asked, Answering, Ended, Router, Staged, Stays, Wrong, Over, ask, commit, emptied, fails, is_idle, is_news, is_reading, is_strange, on_unit, reports, stage, staged, told, told_off}
-use Rattle.rtr_ends.specs.Transcript.{Question, AskReset, AskSerial, AsksRightly, Begun, Item, At, Opened, Asks, Reads, Lacks, Breaks, Refused, Restarts, Shut, acts_once, acts_wrongly, base_of, bounded, choose, does_commit, is_listed, is_serial, is_wrong, is_over, kept, later, led_to, marked, next_question, query, retry_of, sum_of, under_way}
+use Rattle.rtr_ends.specs.LinkRules.{may_lack, Router, Staged, Stays, Wrong, Over, ask, commit, emptied, fails, is_news, is_strange, on_unit, reports, stage, staged, ended_by, told_off}
+use Rattle.rtr_ends.specs.Router.{RouterCall, Connects, Receives, Pulls, Closes, AsksNow, Ticks, called, played, Receiving, router_byte, router_stops, asks, asks_if, clocked, close, closed_at, connects_at, expired, receives, router_pulled, ticks_at, Noted, asked_by, lacks, reads, with_bytes}
+use Rattle.rtr_ends.specs.RouterLaws.{RouterAsks, LinkTells}
+use Rattle.rtr_ends.specs.RouterLink.{is_closed, is_due, Link, Closed, Idle, Asked, Answering, Ended, is_idle, is_reading}
+use Rattle.rtr_ends.specs.Transcript.{Question, AskReset, AskSerial, AsksRightly, Begun, Item, At, Opened, Asks, Reads, Lacks, Breaks, Refused, Restarts, Shut, acts_once, acts_wrongly, base_of, bounded, choose, does_commit, is_among, is_serial, is_wrong, is_over, kept, later, led_to, marked, next_question, query, retry_of, sum_of, under_way}
 use Rattle.rtr_ends.proofs.FeedingLaws.{feed_keeps}
-use Rattle.rtr_ends.proofs.KeptLaws.{Tells, bytes_add, called_tells, clocked_tells, holds, new_tells, none_is, not_true}
+use Rattle.rtr_ends.proofs.KeptUnits.{Tells, bytes_add, holds}
+use Rattle.rtr_ends.proofs.KeptLaws.{called_tells, clocked_tells, new_tells, none_is, not_true}
 use Rattle.rtr_ends.proofs.TableLaws.{false_true}
 
 -- The mark is the one of the transcript, where something is committed.
@@ -78,7 +82,7 @@ idle_asks (SerialNotify session serial) r items none w m =
     (if_asks u (is_news r.version serial) (ask r) r (Reads u ∷ items) (record { mark = m; puts = puts_it u (ask r) (choose r.version r.mark) refl }) (quiet u r (Reads u ∷ items) none m))
 idle_asks (ErrorReport e) r items none w m =
     let u : Unit = ErrorReport e in
-    if_asks u (e.code == 2) r (told e.code r) (Reads u ∷ items) (quiet u r (Reads u ∷ items) none m) (ends_quiet u (told e.code r) (ends.Told e.code) (Reads u ∷ items) refl m)
+    if_asks u (e.code == 2) r (ended_by e.code r) (Reads u ∷ items) (quiet u r (Reads u ∷ items) none m) (ends_quiet u (ended_by e.code r) (ends.Told e.code) (Reads u ∷ items) refl m)
 idle_asks (Prefix announce v) r items none w m =
     ends_quiet (Prefix announce v) (reports 0 (Prefix announce v) r) (ends.Reported 0) (Reads (Prefix announce v) ∷ items) refl
     (subst (λ o. (r.version ≡ None) ⊎ ((acts_wrongly o (kept items).table announce v || marked items) ≡ r.mark)) (sym w) m)
@@ -97,10 +101,10 @@ told_asks : (q : Question) (e : Report) (r : Router) (items : List Item) → r.o
 told_asks q e r items none m =
     let u : Unit = ErrorReport e in
     let later : List Item = Reads (ErrorReport e) ∷ items in
-    if_asks u (e.code == 2) (record r { link = Idle; due = Some (sum_of r.now (retry_of r.version)); no_data = true }) (if e.code == 0 && is_serial (Some q) then told e.code (emptied r) else told e.code r) later
+    if_asks u (e.code == 2) (record r { link = Idle; due = Some (sum_of r.now (retry_of r.version)); no_data = true }) (if e.code == 0 && is_serial (Some q) then ended_by e.code (emptied r) else ended_by e.code r) later
     (quiet u (record r { link = Idle; due = Some (sum_of r.now (retry_of r.version)); no_data = true }) later none m)
-    (if_asks u (e.code == 0 && is_serial (Some q)) (told e.code (emptied r)) (told e.code r) later
-    (ends_quiet u (told e.code (emptied r)) (ends.Told e.code) later refl (inl refl)) (ends_quiet u (told e.code r) (ends.Told e.code) later refl m))
+    (if_asks u (e.code == 0 && is_serial (Some q)) (ended_by e.code (emptied r)) (ended_by e.code r) later
+    (ends_quiet u (ended_by e.code (emptied r)) (ends.Told e.code) later refl (inl refl)) (ends_quiet u (ended_by e.code r) (ends.Told e.code) later refl m))
 
 asked_asks : (q : Question) (u : Unit) (r : Router) (items : List Item) → r.out ≡ [] → under_way items ≡ None → MarkTells r items → After u (on_unit (Asked q) u r) items
 unfolding on_unit
@@ -130,15 +134,15 @@ abbrev IsMarked : Staged → Bool → Type 0
 IsMarked (Wrong code) b = b ≡ true
 IsMarked st b = b ≡ false
 
-withdrawn_marks : (base : VrpSet) (a : Begun) (v : Payload) → IsMarked (stage base a false v) (not (has base v && not (is_listed v a.withdrawn)))
-withdrawn_marks base a v = by_test (has base v && not (is_listed v a.withdrawn))
+withdrawn_marks : (base : VrpSet) (a : Begun) (v : Payload) → IsMarked (stage base a false v) (not (has base v && not (is_among v a.withdrawn)))
+withdrawn_marks base a v = by_test (has base v && not (is_among v a.withdrawn))
   where
     by_test : (b : Bool) → IsMarked (if b then Stays (record a { withdrawn = v ∷ a.withdrawn }) else Wrong 6) (not b)
     by_test true = refl
     by_test false = refl
 
-announced_marks : (base : VrpSet) (a : Begun) (v : Payload) → IsMarked (stage base a true v) (has base v || is_listed v a.announced)
-announced_marks base a v = by_test (has base v || is_listed v a.announced) (nat_lt 16777215 (size (led_to base a.withdrawn (v ∷ a.announced))))
+announced_marks : (base : VrpSet) (a : Begun) (v : Payload) → IsMarked (stage base a true v) (has base v || is_among v a.announced)
+announced_marks base a v = by_test (has base v || is_among v a.announced) (nat_lt 16777215 (size (led_to base a.withdrawn (v ∷ a.announced))))
   where
     by_test : (b over : Bool) → IsMarked (if b then Wrong 7 else if over then Over else Stays (record a { announced = v ∷ a.announced })) b
     by_test true over = refl
@@ -363,7 +367,7 @@ asks_choose r items true resets idle k m a tells = record {
   not_reset = λ h. false_true h;
 }
 
-called_chooses : (call : Call) (r : Router) (items : List Item) → Chooses r items → Chooses (called call r).router ((called call r).items ++ items)
+called_chooses : (call : RouterCall) (r : Router) (items : List Item) → Chooses r items → Chooses (called call r).router ((called call r).items ++ items)
 unfolding connects_at closed_at ticks_at asks receives router_pulled
 called_chooses (Connects now) r items c =
     let k = clocked_chooses now r items c in
@@ -393,7 +397,7 @@ called_chooses (Ticks now) r items c =
     subst (λ x. Chooses (asks_if b n).router x) (sym e)
     (asks_choose n (At now ∷ items) b (λ h. refl) (λ off on. refl) k.tells.kept_is k.mark k.asked (subst (λ x. Tells (asks_if b n).router x) e (called_tells (Ticks now) r items c.tells)))
 
-played_choose : (calls : List Call) → Chooses (played calls).router (played calls).items
+played_choose : (calls : List RouterCall) → Chooses (played calls).router (played calls).items
 played_choose [] = record { tells = new_tells; mark = inl refl; asked = tt; not_reset = λ h. false_true h }
 played_choose (call ∷ calls) = called_chooses call (played calls).router (played calls).items (played_choose calls)
 

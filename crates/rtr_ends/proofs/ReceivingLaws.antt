@@ -9,7 +9,7 @@ use Rattle.rtr_pdu.specs.Reader.{IsFaulty, IsRead}
 use Rattle.rtr_pdu.specs.Stream.{as_read, IsPartial}
 use Rattle.rtr_pdu.specs.declared.unit.Unit.{Unit}
 use Rattle.rtr_pdu.specs.declared.unit.UnitFault.{UnitFault}
-use Rattle.rtr_ends.specs.Cache.{Conn, Taking, conn_byte, conn_stops, conn_takes, with_judged}
+use Rattle.rtr_ends.specs.Cache.{Conn, Taking, conn_byte, conn_stops, conn_takes, conn_judged}
 use Rattle.rtr_ends.specs.Timing.{Intervals}
 use Rattle.rtr_ends.proofs.UnitByUnit.{ByteMachine, but_last, fault_taken, fed, more_taken, none_taken, unit_taken}
 
@@ -22,7 +22,7 @@ module _ (keep : ℕ) (t : Intervals) (i : Instance) where
     held = λ m. m.conn.held;
     any = λ m. false;
     holding = λ m bytes. record m { conn = record m.conn { held = bytes } };
-    judged = with_judged keep t i;
+    judged = conn_judged keep t i;
     own = λ m. refl;
     same_stop = λ m bytes. refl;
     begun = λ m bytes more. refl;
@@ -41,7 +41,7 @@ module _ (keep : ℕ) (t : Intervals) (i : Instance) where
 
   -- or a unit is taken, and the connection stops behind it,
   pub takes_unit : (o : Conn) (wanting : Option ℕ) (next : Taking) (taken rest : List ℕ) (u : Unit) → conn_stops o ≡ false → IsPartial V1 (as_read V1 false o.held) → IsRead V1 false (o.held ++ taken) u
-      → ((held : List ℕ) → with_judged keep t i (start (record o { held = held }) wanting) (o.held ++ taken) (Whole u) ≡ next) → conn_stops next.conn ≡ true → conn_takes keep t i wanting (taken ++ rest) o ≡ record { machine = next; rest = rest }
+      → ((held : List ℕ) → conn_judged keep t i (start (record o { held = held }) wanting) (o.held ++ taken) (Whole u) ≡ next) → conn_stops next.conn ≡ true → conn_takes keep t i wanting (taken ++ rest) o ≡ record { machine = next; rest = rest }
   unfolding conn_takes conn_machine
   takes_unit o wanting next taken rest u runs part read after stop =
       unit_taken conn_machine (start o wanting) runs taken rest u part read
@@ -49,7 +49,7 @@ module _ (keep : ℕ) (t : Intervals) (i : Instance) where
 
   -- or bytes that show a fault are,
   pub takes_fault : (o : Conn) (wanting : Option ℕ) (next : Taking) (taken rest : List ℕ) (fault : UnitFault) → conn_stops o ≡ false → IsPartial V1 (as_read V1 false o.held) → IsFaulty V1 false (o.held ++ taken) fault
-      → ((held : List ℕ) → with_judged keep t i (start (record o { held = held }) wanting) (o.held ++ taken) (Faulty fault) ≡ next) → conn_stops next.conn ≡ true → conn_takes keep t i wanting (taken ++ rest) o ≡ record { machine = next; rest = rest }
+      → ((held : List ℕ) → conn_judged keep t i (start (record o { held = held }) wanting) (o.held ++ taken) (Faulty fault) ≡ next) → conn_stops next.conn ≡ true → conn_takes keep t i wanting (taken ++ rest) o ≡ record { machine = next; rest = rest }
   unfolding conn_takes conn_machine
   takes_fault o wanting next taken rest fault runs part faulty after stop =
       fault_taken conn_machine (start o wanting) runs taken rest fault part faulty

@@ -8,8 +8,9 @@ use Rattle.rtr_pdu.specs.declared.unit.Unit.{Unit}
 use Rattle.rtr_pdu.specs.declared.unit.UnitFault.{UnitFault}
 use Rattle.rtr_ends.specs.Cache.{counted, finds_memory}
 use Rattle.rtr_ends.specs.Feeding.{feed}
-use Rattle.rtr_ends.specs.Router.{Router, Receiving, router_byte, router_stops, with_judged}
-use Rattle.rtr_ends.specs.Shown.{fed, taking}
+use Rattle.rtr_ends.specs.LinkRules.{Router}
+use Rattle.rtr_ends.specs.Router.{Receiving, router_byte, router_stops, router_judged}
+use Rattle.rtr_ends.specs.RouterShown.{fed, taking}
 use Rattle.rtr_ends.specs.Transcript.{Item}
 use Rattle.rtr_ends.proofs.UnitByUnit as units
 use Rattle.rtr_ends.proofs.UnitByUnit.{ByteMachine, but_last}
@@ -22,7 +23,7 @@ router_machine = record {
   held = λ m. m.router.held;
   any = λ m. not m.router.agreed;
   holding = λ m bytes. record m { router = record m.router { held = bytes } };
-  judged = with_judged;
+  judged = router_judged;
   own = λ m. refl;
   same_stop = λ m bytes. refl;
   begun = λ m bytes more. refl;
@@ -45,13 +46,13 @@ module _ (r : Router) (taken rest : List ℕ) (on : router_stops r ≡ false) (i
 
   -- It gives a unit.
   pub unit_taken : IsPartial V1 (as_read V1 (not r.agreed) r.held) → (u : Unit) → IsRead V1 (not r.agreed) (r.held ++ taken) u
-      → fed r items wanting (taken ++ rest) ≡ feed stops router_byte (with_judged (taking (record r { held = r.held ++ but_last taken }) items wanting) (r.held ++ taken) (Whole u)) rest
+      → fed r items wanting (taken ++ rest) ≡ feed stops router_byte (router_judged (taking (record r { held = r.held ++ but_last taken }) items wanting) (r.held ++ taken) (Whole u)) rest
   unfolding router_machine
   unit_taken part u read = units.unit_taken router_machine (taking r items wanting) on taken rest u part read
 
   -- It shows a fault.
   pub fault_taken : IsPartial V1 (as_read V1 (not r.agreed) r.held) → (fault : UnitFault) → IsFaulty V1 (not r.agreed) (r.held ++ taken) fault
-      → fed r items wanting (taken ++ rest) ≡ feed stops router_byte (with_judged (taking r items wanting) (r.held ++ taken) (Faulty fault)) rest
+      → fed r items wanting (taken ++ rest) ≡ feed stops router_byte (router_judged (taking r items wanting) (r.held ++ taken) (Faulty fault)) rest
   unfolding router_machine
   fault_taken part fault faulty = units.fault_taken router_machine (taking r items wanting) on taken rest fault part faulty
 

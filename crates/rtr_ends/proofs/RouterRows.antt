@@ -10,10 +10,12 @@ use Rattle.rtr_pdu.specs.declared.unit.Unit.TheVariants.{SerialNotify, CacheResp
 use Rattle.rtr_pdu.specs.declared.unit.UnitFault.TheVariants as faults
 use Rattle.rtr_ends.specs.declared.link.End.TheVariants as ends
 use Rattle.rtr_ends.specs.Answer.{report, sent}
-use Rattle.rtr_ends.specs.Router.{Router, Noted, Staged, Stays, Wrong, Over, Closed, Idle, Asked, Answering, Ended, on_unit, router_byte, receives, clocked, connects_at, closed_at, ticks_at, asks, router_pulled, played, called, Connects, Receives, Pulls, Closes, AsksNow, Ticks, new_router, stage, staged, is_staged, lacks, asked_by}
+use Rattle.rtr_ends.specs.LinkRules.{Router, Staged, Stays, Wrong, Over, on_unit, new_router, stage, staged, is_staged}
+use Rattle.rtr_ends.specs.Router.{Noted, router_byte, receives, clocked, connects_at, closed_at, ticks_at, asks, router_pulled, played, called, Connects, Receives, Pulls, Closes, AsksNow, Ticks, lacks, asked_by}
+use Rattle.rtr_ends.specs.RouterLink.{Closed, Idle, Asked, Answering, Ended}
 use Rattle.rtr_ends.specs.Transcript.{Item, At, Opened, Asks, Reads, Lacks, Breaks, Shut, Begun, Committed, AskReset, AskSerial, kept, led_to}
 use Rattle.rtr_ends.specs.Timing.{default_intervals}
-use Rattle.rtr_ends.proofs.Rows.{v, w, v_ascends, reset_bytes, serial_bytes, response_bytes, v_bytes, end_bytes}
+use Rattle.rtr_ends.proofs.WholeAnswerRows.{v, w, v_ascends, reset_bytes, serial_bytes, response_bytes, v_bytes, end_bytes}
 use Rattle.rtr_ends.proofs.TableLaws.{led_from_empty}
 
 abbrev pub just_v : VrpSet

@@ -18,11 +18,13 @@ use Rattle.rtr_pdu.specs.declared.unit.UnitFault.{UnitFault}
 use Rattle.rtr_ends.specs.declared.link.End.{End}
 use Rattle.rtr_ends.specs.declared.link.End.TheVariants as ends
 use Rattle.rtr_ends.specs.Cache.{finds_memory, is_none}
-use Rattle.rtr_ends.specs.Feeding.{Fed, feed}
-use Rattle.rtr_ends.specs.Router as model
-use Rattle.rtr_ends.specs.Router.{Router, Call, Link, Noted, Receiving, Closed, Idle, Asked, Answering, Ended, ask, asks, asks_if, breaks, called, clocked, close, closed_at, commit, connects_at, emptied, expired, fails, is_closed, is_due, is_idle, is_news, is_reading, is_strange, lacks, may_lack, on_unit, played, reads, receives, reports, router_byte, router_pulled, router_stops, stage, staged, ticks_at, told, told_off, with_bytes, with_judged}
-use Rattle.rtr_ends.specs.Seen.{Does, ReadsOrLacks, Shows, seen_link}
-use Rattle.rtr_ends.specs.Shown.{Arrives, Calls, GoesOn, IsShown, Leads, LeadsOn, Led, IsWanting, ReceivesSo, Takes, fed, is_lacking, is_wanted, reading, taking}
+use Rattle.rtr_ends.specs.Feeding.{FedPiece, feed}
+use Rattle.rtr_ends.specs.LinkRules as rules
+use Rattle.rtr_ends.specs.LinkRules.{Router, ask, commit, emptied, fails, is_news, is_strange, may_lack, on_unit, reports, stage, staged, ended_by, told_off}
+use Rattle.rtr_ends.specs.Router.{RouterCall, Noted, Receiving, asks, asks_if, breaks, called, clocked, close, closed_at, connects_at, expired, lacks, played, reads, receives, router_byte, router_pulled, router_stops, ticks_at, with_bytes, router_judged}
+use Rattle.rtr_ends.specs.RouterLink.{Link, Closed, Idle, Asked, Answering, Ended, is_closed, is_due, is_idle, is_reading}
+use Rattle.rtr_ends.specs.Seen.{Does, ReadsOrLacks, ShowsRouter, seen_link}
+use Rattle.rtr_ends.specs.RouterShown.{Arrives, Calls, GoesOn, IsShown, CallsLead, LeadsOn, Led, IsLacking, ReceivesSo, TakesOn, fed, is_lacking, is_wanted_by_router, reading, taking}
 use Rattle.rtr_ends.specs.Transcript.{Item, At, Question, AskReset, AskSerial, bounded, is_over, is_serial, is_wrong, later, retry_of, sum_of}
 use Rattle.rtr_ends.specs.declared.machine.Machine.{Machine}
 use Rattle.rtr_ends.specs.declared.machine.State.{State}
@@ -50,14 +52,14 @@ ends_keeps r end table version mark out = record { held = refl; agreed = λ h. h
 
 told_keeps : (q : Question) (code : ℕ) (r s : Router) → Keeps r s → Keeps r (told_off q code s)
 told_keeps q code r s k =
-    keeps_if (code == 2) r (record s { link = Idle; due = Some (sum_of s.now (retry_of s.version)); no_data = true }) (if code == 0 && is_serial (Some q) then told code (emptied s) else told code s)
+    keeps_if (code == 2) r (record s { link = Idle; due = Some (sum_of s.now (retry_of s.version)); no_data = true }) (if code == 0 && is_serial (Some q) then ended_by code (emptied s) else ended_by code s)
     (record { held = k.held; agreed = k.agreed; connected = refl })
-    (keeps_if (code == 0 && is_serial (Some q)) r (told code (emptied s)) (told code s) (record { held = k.held; agreed = k.agreed; connected = refl }) (record { held = k.held; agreed = k.agreed; connected = refl }))
+    (keeps_if (code == 0 && is_serial (Some q)) r (ended_by code (emptied s)) (ended_by code s) (record { held = k.held; agreed = k.agreed; connected = refl }) (record { held = k.held; agreed = k.agreed; connected = refl }))
 
-staged_keeps : (u : Unit) (st : model.Staged) (r : Router) → Keeps r (staged u st r)
-staged_keeps u (model.Stays a) r = record { held = refl; agreed = λ h. h; connected = refl }
-staged_keeps u (model.Wrong code) r = record { held = refl; agreed = λ h. h; connected = refl }
-staged_keeps u model.Over r = record { held = refl; agreed = λ h. h; connected = refl }
+staged_keeps : (u : Unit) (st : rules.Staged) (r : Router) → Keeps r (staged u st r)
+staged_keeps u (rules.Stays a) r = record { held = refl; agreed = λ h. h; connected = refl }
+staged_keeps u (rules.Wrong code) r = record { held = refl; agreed = λ h. h; connected = refl }
+staged_keeps u rules.Over r = record { held = refl; agreed = λ h. h; connected = refl }
 
 abbrev same_router : (r : Router) → is_closed r.link ≡ false → Keeps r r
 same_router r open_so = record { held = refl; agreed = λ h. h; connected = open_so }
@@ -75,7 +77,7 @@ unit_keeps (Ended end) u r is h = false_true h
 unit_keeps Idle (SerialNotify session serial) r is h =
     keeps_if (is_strange r session) r (fails (SerialNotify session serial) r) (if is_news r.version serial then ask r else r) (fails_keep (SerialNotify session serial) r)
     (keeps_if (is_news r.version serial) r (ask r) r (record { held = refl; agreed = λ h. h; connected = refl }) (same_router r (ap is_closed is)))
-unit_keeps Idle (ErrorReport e) r is h = keeps_if (e.code == 2) r r (told e.code r) (same_router r (ap is_closed is)) (record { held = refl; agreed = λ h. h; connected = refl })
+unit_keeps Idle (ErrorReport e) r is h = keeps_if (e.code == 2) r r (ended_by e.code r) (same_router r (ap is_closed is)) (record { held = refl; agreed = λ h. h; connected = refl })
 unit_keeps Idle (SerialQuery session serial) r is h = reports_keep (SerialQuery session serial) r
 unit_keeps Idle ResetQuery r is h = reports_keep ResetQuery r
 unit_keeps Idle (CacheResponse session) r is h = reports_keep (CacheResponse session) r
@@ -111,11 +113,11 @@ unit_keeps (Answering a) (CacheResponse session) r is h = reports_keep (CacheRes
 unit_keeps (Answering a) CacheReset r is h = reports_keep CacheReset r
 
 -- What is held is not looked at.
-pub rehold : (r : Router) (m : Machine) (held : List ℕ) → Shows r m → Shows (record r { held = held }) m
+pub rehold : (r : Router) (m : Machine) (held : List ℕ) → ShowsRouter r m → ShowsRouter (record r { held = held }) m
 rehold r m held s = record { withdrawn = s.withdrawn; announced = s.announced; staged = s.staged; is = ap (λ (x : Router). record x { held = held }) s.is }
 
 -- whether it reads
-pub stops_of : (m : Machine) (r : Router) → Shows r m → router_stops r ≡ not (is_reading (seen_link m.state [] []) && is_none m.out)
+pub stops_of : (m : Machine) (r : Router) → ShowsRouter r m → router_stops r ≡ not (is_reading (seen_link m.state [] []) && is_none m.out)
 stops_of m r s = ap (λ (x : Router). router_stops x) s.is ∙ ap (λ b. not (b && is_none m.out)) (by_state m.state)
   where
     by_state : (x : State) → is_reading (seen_link x s.withdrawn s.announced) ≡ is_reading (seen_link x [] [])
@@ -140,14 +142,14 @@ reading_open (Asked q) h c = false_true c
 reading_open (Answering a) h c = false_true c
 
 -- the agreement that a machine has
-agreed_is : (m : Machine) (r : Router) → Shows r m → r.agreed ≡ m.agreed
+agreed_is : (m : Machine) (r : Router) → ShowsRouter r m → r.agreed ≡ m.agreed
 agreed_is m r s = ap (λ (x : Router). x.agreed) s.is
 
 false_not_true : (b : Bool) → (b ≡ true → ⊥) → b ≡ false
 false_not_true true h = absurd (h refl)
 false_not_true false h = refl
 
-wanted_shifted : (w : Option ℕ) (f : Fed Receiving) → IsWanting w f → IsWanting (shifted w) f
+wanted_shifted : (w : Option ℕ) (f : FedPiece Receiving) → IsLacking w f → IsLacking (shifted w) f
 wanted_shifted None f h = tt
 wanted_shifted (Some unit) f h = h
 
@@ -185,7 +187,7 @@ module _ (old : code.Router) (piece rest : List ℕ) (takes : (is_reading (seen_
     read_shown r s does =
         let n : Router = on_unit r.link u (cleared r) in
         let k : Keeps (cleared r) n = unit_keeps r.link u (cleared r) refl (reads_of r (on r s)) in
-        let machine : Shows n m = does (cleared r) (rehold r old.machine [] s.machine) in
+        let machine : ShowsRouter n m = does (cleared r) (rehold r old.machine [] s.machine) in
         let made : new ≡ fresh (not r.agreed) = (takes_so (next.Unit u) new r s t).gives.2 in
         record {
           machine = machine;
@@ -193,7 +195,7 @@ module _ (old : code.Router) (piece rest : List ℕ) (takes : (is_reading (seen_
           closed = λ c. false_true (sym k.connected ∙ c);
         }
 
-    pub unit_goes : (lacking : Bool) → ReadsOrLacks lacking u old.machine m → Takes true old piece after_unit rest
+    pub unit_goes : (lacking : Bool) → ReadsOrLacks lacking u old.machine m → TakesOn true old piece after_unit rest
     unit_goes false does = (shifted, λ r s. (on_unit r.link u (cleared r), read_shown r s does, goes r s))
       where
         goes : (r : Router) → IsShown r old → GoesOn shifted r piece (on_unit r.link u (cleared r)) rest
@@ -207,7 +209,7 @@ module _ (old : code.Router) (piece rest : List ℕ) (takes : (is_reading (seen_
             let whole : fed r items (shifted w) piece ≡ fed (on_unit r.link u (cleared r)) ((reads u (cleared r)).items ++ items) w rest =
             ap (λ y. fed r items (shifted w) y) x.piece_is ∙ unit_taken r x.taken rest (on r s) items (shifted w) (part_so r s) u x.gives.1
             ∙ (λ i. feed stops router_byte (record { router = (same i).router; items = (same i).items ++ items; wanting = counts_back u w i }) rest) in
-            ((reads u (cleared r)).items ++ items, record { router_is = ap (λ f. f.machine.router) whole; rest_is = ap (λ f. f.rest) whole; wanted = λ h. wanted_shifted w (fed r items (shifted w) piece) (subst (λ f. IsWanting w f) (sym whole) h) })
+            ((reads u (cleared r)).items ++ items, record { router_is = ap (λ f. f.machine.router) whole; rest_is = ap (λ f. f.rest) whole; wanted = λ h. wanted_shifted w (fed r items (shifted w) piece) (subst (λ f. IsLacking w f) (sym whole) h) })
     unit_goes true lacking = ((λ w. Some zero), λ r s. (ended r, shown_ended r s, goes r s))
       where
         ended : Router → Router
@@ -238,7 +240,7 @@ module _ (old : code.Router) (piece rest : List ℕ) (takes : (is_reading (seen_
             )
 
   -- more is asked for
-  pub more_goes : (new : Reader) → reader.ReaderTakes V1 old.reader piece next.NeedMore rest new → Takes false old piece (record old { reader = new }) rest
+  pub more_goes : (new : Reader) → reader.ReaderTakes V1 old.reader piece next.NeedMore rest new → TakesOn false old piece (record old { reader = new }) rest
   more_goes new t = (None, λ r s. (held_so r s, shown_held r s, ends r s))
     where
       held_so : (r : Router) → IsShown r old → Router
@@ -260,7 +262,7 @@ module _ (old : code.Router) (piece rest : List ℕ) (takes : (is_reading (seen_
 
   -- a fault
   pub fault_goes : (fault : UnitFault) (new : Reader) (bytes : List ℕ) (m : Machine) → reader.ReaderTakes V1 old.reader piece (next.Fault fault) rest new → bytes ≡ new.held → Does (λ r. (breaks fault bytes r).router) old.machine m
-      → Takes false old piece (record { machine = m; reader = new }) rest
+      → TakesOn false old piece (record { machine = m; reader = new }) rest
   fault_goes fault new bytes m t is does = (None, λ r s. ((breaks fault bytes r).router, shown_broken r s, ends r s))
     where
       shown_broken : (r : Router) → IsShown r old → IsShown (breaks fault bytes r).router (record { machine = m; reader = new })
@@ -276,16 +278,16 @@ module _ (old : code.Router) (piece rest : List ℕ) (takes : (is_reading (seen_
                 let b : Router = (breaks fault bytes r).router in
                 let whole : fed r items None piece ≡ fed b ((breaks fault bytes r).items ++ items) None rest =
                 ap (λ y. fed r items None y) x.piece_is ∙ fault_taken r x.taken rest (on r s) items None (part_so r s) fault first.1
-                ∙ ap (λ y. feed stops router_byte (with_judged (taking r items None) y (Faulty fault)) rest) held in
+                ∙ ap (λ y. feed stops router_byte (router_judged (taking r items None) y (Faulty fault)) rest) held in
                 let left = whole ∙ stopped b ((breaks fault bytes r).items ++ items) None rest refl in
                 record { router_is = ap (λ f. f.machine.router) left; rest_is = ap (λ f. f.rest) left; wanted = tt })
           ]
 
 -- One after the other
-pub goes_none : (v : code.Router) (piece : List ℕ) → Takes true v piece v piece
+pub goes_none : (v : code.Router) (piece : List ℕ) → TakesOn true v piece v piece
 goes_none v piece = ((λ w. w), λ r s. (r, s, λ items w. (items, record { router_is = refl; rest_is = refl; wanted = λ h. h })))
 
-pub goes_then : (old mid new : code.Router) (piece left rest : List ℕ) → Takes true old piece mid left → Takes true mid left new rest → Takes true old piece new rest
+pub goes_then : (old mid new : code.Router) (piece left rest : List ℕ) → TakesOn true old piece mid left → TakesOn true mid left new rest → TakesOn true old piece new rest
 goes_then old mid new piece left rest first then_ = (
   (λ w. first.0 (then_.0 w)),
   λ r s.
@@ -300,7 +302,7 @@ goes_then old mid new piece left rest first then_ = (
       ),
 )
 
-pub goes_last : (old mid new : code.Router) (piece left rest : List ℕ) → Takes true old piece mid left → Takes false mid left new rest → Takes false old piece new rest
+pub goes_last : (old mid new : code.Router) (piece left rest : List ℕ) → TakesOn true old piece mid left → TakesOn false mid left new rest → TakesOn false old piece new rest
 goes_last old mid new piece left rest first last = (
   first.0 last.0,
   λ r s.
@@ -316,7 +318,7 @@ goes_last old mid new piece left rest first last = (
 )
 
 -- A router that has stopped leaves what there is.
-pub goes_stop : (v : code.Router) (piece : List ℕ) → (is_reading (seen_link v.machine.state [] []) && is_none v.machine.out) ≡ false → Takes false v piece v piece
+pub goes_stop : (v : code.Router) (piece : List ℕ) → (is_reading (seen_link v.machine.state [] []) && is_none v.machine.out) ≡ false → TakesOn false v piece v piece
 goes_stop v piece h = (
   None,
   λ r s. (
@@ -329,7 +331,7 @@ goes_stop v piece h = (
 )
 
 -- A step that leaves what is held and agreed on, and opens and closes nothing
-pub keeps_shown : (old new : code.Router) (r n : Router) → Shows n new.machine → new.reader ≡ old.reader → IsShown r old → n.held ≡ r.held → n.agreed ≡ r.agreed → (is_reading n.link ≡ true → is_reading r.link ≡ true)
+pub keeps_shown : (old new : code.Router) (r n : Router) → ShowsRouter n new.machine → new.reader ≡ old.reader → IsShown r old → n.held ≡ r.held → n.agreed ≡ r.agreed → (is_reading n.link ≡ true → is_reading r.link ≡ true)
     → (is_closed n.link ≡ true → is_closed r.link ≡ true) → IsShown n new
 keeps_shown old new r n machine same s held agreed reads_on closed_on = record {
   machine = machine;
@@ -367,7 +369,7 @@ clocked_keeps now r = by_test (is_over r.version (later r.now now))
     by_test true = let k = expired_clocks r.link (record r { now = later r.now now }) refl in record { held = k.held; agreed = k.agreed; reads_on = k.reads_on; closed_on = k.closed_on }
     by_test false = same_clock r (record r { now = later r.now now }) refl refl refl
 
-pub told_shown : (old new : code.Router) (now : ℕ) (r : Router) → Shows (clocked now r) new.machine → new.reader ≡ old.reader → IsShown r old → IsShown (clocked now r) new
+pub told_shown : (old new : code.Router) (now : ℕ) (r : Router) → ShowsRouter (clocked now r) new.machine → new.reader ≡ old.reader → IsShown r old → IsShown (clocked now r) new
 told_shown old new now r machine same s =
     let k = clocked_keeps now r in keeps_shown old new r (clocked now r) machine same s k.held k.agreed k.reads_on (λ h. sym k.closed_on ∙ h)
 
@@ -385,20 +387,20 @@ closes_so r h = by_test (is_closed r.link) refl
 closed_clock : (old : code.Router) (now : ℕ) (r : Router) → IsShown r old → is_closed (clocked now r).link ≡ true → ((clocked now r).held ≡ []) × ((clocked now r).agreed ≡ false)
 closed_clock old now r s h = let k = clocked_keeps now r in let was = s.closed (sym k.closed_on ∙ h) in (k.held ∙ was.0, k.agreed ∙ was.1)
 
-pub connects_shown : (old new : code.Router) (now : ℕ) (r : Router) → IsShown r old → Shows (connects_at now r).router new.machine → new.reader ≡ fresh true → IsShown (connects_at now r).router new
+pub connects_shown : (old new : code.Router) (now : ℕ) (r : Router) → IsShown r old → ShowsRouter (connects_at now r).router new.machine → new.reader ≡ fresh true → IsShown (connects_at now r).router new
 unfolding connects_at
 connects_shown old new now r s machine made =
     let c = closes_so (clocked now r) (closed_clock old now r s) in
     record { machine = machine; reader = λ h. made ∙ (λ i. reading (sym c.1 i) (sym c.0 i)); closed = λ h. false_true h }
 
-pub closes_shown : (old new : code.Router) (now : ℕ) (r : Router) → IsShown r old → Shows (closed_at now r).router new.machine → IsShown (closed_at now r).router new
+pub closes_shown : (old new : code.Router) (now : ℕ) (r : Router) → IsShown r old → ShowsRouter (closed_at now r).router new.machine → IsShown (closed_at now r).router new
 unfolding closed_at
 closes_shown old new now r s machine =
     let c = closes_so (clocked now r) (closed_clock old now r s) in
     record { machine = machine; reader = λ h. absurd (reading_open (close (clocked now r)).link h c.2); closed = λ h. (c.0, c.1) }
 
 -- An idle link may ask.
-asks_shown : (old new : code.Router) (r : Router) (b : Bool) → (b ≡ true → is_reading r.link ≡ true) → IsShown r old → Shows (asks_if b r).router new.machine → new.reader ≡ old.reader → IsShown (asks_if b r).router new
+asks_shown : (old new : code.Router) (r : Router) (b : Bool) → (b ≡ true → is_reading r.link ≡ true) → IsShown r old → ShowsRouter (asks_if b r).router new.machine → new.reader ≡ old.reader → IsShown (asks_if b r).router new
 asks_shown old new r true idle s machine same = keeps_shown old new r (ask r) machine same s refl refl (λ h. idle refl) (λ h. false_true h)
 asks_shown old new r false idle s machine same = keeps_shown old new r r machine same s refl refl (λ h. h) (λ h. h)
 
@@ -416,7 +418,7 @@ due_reads (Asked q) due now h = false_true h
 due_reads (Answering a) due now h = false_true h
 due_reads (Ended end) due now h = false_true h
 
-pub idle_shown : (old new : code.Router) (r : Router) → IsShown r old → Shows (asks r).router new.machine → new.reader ≡ old.reader → IsShown (asks r).router new
+pub idle_shown : (old new : code.Router) (r : Router) → IsShown r old → ShowsRouter (asks r).router new.machine → new.reader ≡ old.reader → IsShown (asks r).router new
 unfolding asks
 idle_shown old new r s machine same = asks_shown old new r (is_idle r.link) (idle_reads r.link) s machine same
 
@@ -430,23 +432,23 @@ pulls_shown old new r most e s =
     refl s refl refl (λ h. h) (λ h. h))
 
 -- A moment is told, and an idle link asks where it is due.
-pub ticks_shown : (old new : code.Router) (now : ℕ) (r : Router) → IsShown r old → Shows (ticks_at now r).router new.machine → new.reader ≡ old.reader → IsShown (ticks_at now r).router new
+pub ticks_shown : (old new : code.Router) (now : ℕ) (r : Router) → IsShown r old → ShowsRouter (ticks_at now r).router new.machine → new.reader ≡ old.reader → IsShown (ticks_at now r).router new
 unfolding ticks_at
 ticks_shown old new now r s machine same =
     by_test (is_due (clocked now r).link (clocked now r).due (clocked now r).now) (due_reads (clocked now r).link (clocked now r).due (clocked now r).now) machine
   where
-    by_test : (b : Bool) → (b ≡ true → is_reading (clocked now r).link ≡ true) → Shows (asks_if b (clocked now r)).router new.machine → IsShown (asks_if b (clocked now r)).router new
+    by_test : (b : Bool) → (b ≡ true → is_reading (clocked now r).link ≡ true) → ShowsRouter (asks_if b (clocked now r)).router new.machine → IsShown (asks_if b (clocked now r)).router new
     by_test true idle m = keeps_shown old new r (ask (clocked now r)) m same s (clocked_keeps now r).held (clocked_keeps now r).agreed (λ h. (clocked_keeps now r).reads_on (idle refl)) (λ h. false_true h)
     by_test false idle m = keeps_shown old new r (clocked now r) m same s (clocked_keeps now r).held (clocked_keeps now r).agreed (clocked_keeps now r).reads_on (λ h. sym (clocked_keeps now r).closed_on ∙ h)
 
 -- The unit at which memory was wanting took memory.
-wanted_so : (now : ℕ) (piece : List ℕ) (r : Router) (wanting : Option ℕ) → IsWanting wanting (fed (clocked now r) (At now ∷ []) wanting piece) → IfSome wanting (λ unit. is_wanted now piece r unit ≡ true)
+wanted_so : (now : ℕ) (piece : List ℕ) (r : Router) (wanting : Option ℕ) → IsLacking wanting (fed (clocked now r) (At now ∷ []) wanting piece) → IfSome wanting (λ unit. is_wanted_by_router now piece r unit ≡ true)
 unfolding receives
 wanted_so now piece r None h = tt
 wanted_so now piece r (Some unit) h = h
 
 -- A piece is handed in.
-pub receives_so : (old mid new : code.Router) (now : ℕ) (piece rest : List ℕ) (count : ℕ) → Does (clocked now) old.machine mid.machine → mid.reader ≡ old.reader → Takes false mid piece new rest → count ≡ length piece - length rest
+pub receives_so : (old mid new : code.Router) (now : ℕ) (piece rest : List ℕ) (count : ℕ) → Does (clocked now) old.machine mid.machine → mid.reader ≡ old.reader → TakesOn false mid piece new rest → count ≡ length piece - length rest
     → ReceivesSo now piece count old new
 unfolding receives
 receives_so old mid new now piece rest count does same takes e = (
@@ -458,9 +460,9 @@ receives_so old mid new now piece rest count does same takes e = (
 )
 
 -- What leads to a router is told by its transcript.
-pub led : (calls : List Call) (v : code.Router) → Leads calls v → Led calls v
+pub led : (calls : List RouterCall) (v : code.Router) → CallsLead calls v → Led calls v
 led calls v leads = record { leads = leads; kept = router_keeps calls; asking = router_asks calls; split = router_splits calls }
 
 -- A call on a router leads on.
-pub leads_on : (call : Call) (old new : code.Router) → Calls (λ r. (called call r).router) old new → LeadsOn call old new
+pub leads_on : (call : RouterCall) (old new : code.Router) → Calls (λ r. (called call r).router) old new → LeadsOn call old new
 leads_on call old new does calls leads = led (call ∷ calls) new (does (played calls).router leads)

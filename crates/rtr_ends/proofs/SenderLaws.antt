@@ -8,7 +8,7 @@ use Rattle.std.proofs.lemmas.Slice.{take-put_mid, drop-put_mid}
 use borrow.Rule.Slice.PartMut.{put_mid}
 use Rattle.std.proofs.lemmas.Option.{slice_get-map, slice_get_within, slice_get_cases, get_or_from_slice_get, slice_get_read}
 use Rattle.prefixes.specs.Payload.{Payload}
-use Rattle.vrps.specs.Instance.{Version}
+use Rattle.vrps.specs.Instance.{NumberedSet}
 use Rattle.vrps.specs.VrpSet.{VrpSet, listing}
 use Rattle.vrps.specs.declared.change.Change.{Change}
 use Rattle.vrps.specs.declared.serial.Serial.{Serial}
@@ -19,7 +19,7 @@ use Rattle.rtr_pdu.specs.Unit.{IsUnit}
 use Rattle.rtr_pdu.proofs.NextLaws.{sent_most, some_sent}
 use Rattle.rtr_ends.specs.Answer.{announcements, report, response, sent, sent_all, whole_answer, withdrawals}
 use Rattle.rtr_ends.specs.Cache.{is_none}
-use Rattle.rtr_ends.specs.Sender.{Begins, Gives, GivesFrom, Hands, Keeps, Sends, Stays, Writes, as_list, left_in, left, due_of, newest_in, newest_of, ready_in, serial_in, units_in, version_of}
+use Rattle.rtr_ends.specs.Sender.{BeginsAnswer, PullsBytes, GivesFrom, Hands, KeepsRecords, Sends, Stays, Writes, as_list, left_in, left, due_of, newest_in, newest_of, ready_in, serial_in, units_in, numbered_of}
 use Rattle.rtr_ends.specs.Timing.{Intervals}
 use Rattle.rtr_ends.specs.declared.sender.Records.{Records}
 use Rattle.rtr_ends.specs.declared.sender.Records.TheVariants.{Step, Whole}
@@ -95,7 +95,7 @@ withdrawn_at w a place v h e =
     let f : Payload → Unit = λ v. Prefix false v in
     sym (get_before (withdrawals w) (announcements a) place (omega (arith, length-map (listing w) f, h)) ∙ slice_get-map f (listing w) place ∙ ap (option_map f) (slice_get_read (listing w) (length (listing w)) place v refl h e))
 
-pub ready_newest : (o : Option Share) → newest_in o None ≡ option_map version_of o
+pub ready_newest : (o : Option Share) → newest_in o None ≡ option_map numbered_of o
 ready_newest None = refl
 ready_newest (Some share) = refl
 
@@ -126,7 +126,7 @@ written (Some u) w old bytes new e h = (u, refl, h.1, h.2)
 
 pub hands_end : (s : Sender) (w : Cursor) (mid new : Sender) → None ≡ slice_get (units_in w.records) w.place
     → mid.buffer.items ≡ sent (EndOfData s.session (serial_in w.records) s.timing.refresh s.timing.retry s.timing.expire)
-    → mid.session ≡ s.session → mid.timing ≡ s.timing → mid.ready ≡ s.ready → mid.pulled ≡ 0 → IsUnit (EndOfData s.session (serial_in w.records) s.timing.refresh s.timing.retry s.timing.expire) → Keeps mid w.records new → Hands (record s { answer = Some w }) new
+    → mid.session ≡ s.session → mid.timing ≡ s.timing → mid.ready ≡ s.ready → mid.pulled ≡ 0 → IsUnit (EndOfData s.session (serial_in w.records) s.timing.refresh s.timing.retry s.timing.expire) → KeepsRecords mid w.records new → Hands (record s { answer = Some w }) new
 unfolding left newest_of
 hands_end s w mid new at bytes same_session same_timing same_ready pulled fits k =
     let end : Unit = EndOfData s.session (serial_in w.records) s.timing.refresh s.timing.retry s.timing.expire in
@@ -231,11 +231,11 @@ module _ (start : Sender) (given : List ℕ) (s : Sender) (out : List ℕ) (fill
   all_given less = g.left ∙ drop_all g.count back (omega (arith, less, g.result_is, g.count_is))
 
 -- all is filled
-pub gives_all : (start : Sender) (given : List ℕ) (s : Sender) (out : List ℕ) (filled : ℕ) → length out ≡ length given → filled ≡ length out → IsFilled start given s out filled → Gives (due_of start) given filled out (due_of s)
+pub gives_all : (start : Sender) (given : List ℕ) (s : Sender) (out : List ℕ) (filled : ℕ) → length out ≡ length given → filled ≡ length out → IsFilled start given s out filled → PullsBytes (due_of start) given filled out (due_of s)
 gives_all start given s out filled same full f = record { count_is = omega (arith, same, full, f.within); now_is = f.now; rest_is = f.due }
 
 -- nothing is left
-pub gives_rest : (start : Sender) (given : List ℕ) (s : Sender) (out : List ℕ) (filled : ℕ) → length out ≡ length given → due_of s ≡ [] → IsFilled start given s out filled → Gives (due_of start) given filled out (due_of s)
+pub gives_rest : (start : Sender) (given : List ℕ) (s : Sender) (out : List ℕ) (filled : ℕ) → length out ≡ length given → due_of s ≡ [] → IsFilled start given s out filled → PullsBytes (due_of start) given filled out (due_of s)
 gives_rest start given s out filled same none f = record {
   count_is = omega (arith, same, f.within, f.low, ap length f.due, ap length none, length-drop filled (due_of start));
   now_is = f.now;
@@ -293,7 +293,7 @@ pub newest_none : (s : Sender) → due_of s ≡ [] → s.ready ≡ None → newe
 unfolding newest_of
 newest_none s e h = λ i. newest_in (h i) (no_answer s e i)
 
-pub newest_ready : (s : Sender) (share : Share) → s.ready ≡ Some share → newest_of s ≡ Some (version_of share)
+pub newest_ready : (s : Sender) (share : Share) → s.ready ≡ Some share → newest_of s ≡ Some (numbered_of share)
 unfolding newest_of
 newest_ready s share h = ap (λ r. newest_in r s.answer) h
 
@@ -307,7 +307,7 @@ pub same_due : (s : Sender) (ready : Option Share) → due_of (record s { ready 
 unfolding due_of left
 same_due s ready = refl
 
-pub offers : (s : Sender) (ready : Option Share) (share : Share) → ready ≡ Some share → newest_of (record s { ready = ready }) ≡ Some (version_of share)
+pub offers : (s : Sender) (ready : Option Share) (share : Share) → ready ≡ Some share → newest_of (record s { ready = ready }) ≡ Some (numbered_of share)
 unfolding newest_of
 offers s ready share e = ap (λ r. newest_in r s.answer) e
 
@@ -321,7 +321,7 @@ resets_none s new ready e h k sends = record {
 }
 
 -- and of a version
-pub resets_some : (s new : Sender) (share : Share) (ready : Option Share) → s.ready ≡ Some share → ready ≡ None → Begins (record s { ready = ready }) (Whole share) new
+pub resets_some : (s new : Sender) (share : Share) (ready : Option Share) → s.ready ≡ Some share → ready ≡ None → BeginsAnswer (record s { ready = ready }) (Whole share) new
     → Sends s (whole_answer s.session s.timing (as_list (newest_of s))) new
 unfolding newest_of
 resets_some s new share ready h k b = record {
@@ -329,11 +329,11 @@ resets_some s new share ready h k b = record {
   stays = record { session = b.session; timing = b.timing; newest = (λ i. newest_in ((b.ready ∙ k) i) (b.answer i)) ∙ sym (newest_ready s share h); room = λ before. b.room };
 }
 
-pub steps : (s new : Sender) (serial : Serial) (change : Change) (v : Version) → due_of s ≡ [] → Some serial.0 ≡ option_map (λ (v : Version). v.serial) (newest_of s) → newest_of s ≡ Some v → Begins s (Step serial change) new
+pub steps : (s new : Sender) (serial : Serial) (change : Change) (v : NumberedSet) → due_of s ≡ [] → Some serial.0 ≡ option_map (λ (v : NumberedSet). v.serial) (newest_of s) → newest_of s ≡ Some v → BeginsAnswer s (Step serial change) new
     → Sends s (response s.session s.timing v (withdrawals change.withdraw ++ announcements change.announce)) new
 unfolding newest_of
 steps s new serial change v e same is b =
-    let serial_is : serial.0 ≡ v.serial = inside (same ∙ ap (option_map (λ (v : Version). v.serial)) is) in
+    let serial_is : serial.0 ≡ v.serial = inside (same ∙ ap (option_map (λ (v : NumberedSet). v.serial)) is) in
     record {
       due = b.due ∙ ap (λ n. sent_all (CacheResponse s.session ∷ (withdrawals change.withdraw ++ announcements change.announce) ++ EndOfData s.session n s.timing.refresh s.timing.retry s.timing.expire ∷ [])) serial_is;
       stays = record {

@@ -13,11 +13,11 @@ use Rattle.rtr_pdu.specs.Counted.{IsSpent, calls_of}
 use Rattle.rtr_pdu.specs.Device.{GoesOutInPart}
 use Rattle.rtr_pdu.specs.Payloads.{AreBytes}
 use Rattle.rtr_pdu.specs.declared.device.WriteFailed.{WriteFailed as Failed}
-use Rattle.rtr_ends.specs.Cache.{CacheCall, Conn, Gives as Pulled, IsCacheCall, IsServed, Notifies, Publishes, Takes, Taking, conn_byte, conn_pulled, conn_stops, conn_takes, is_none}
-use Rattle.rtr_ends.specs.CacheState.{CacheState, GivesBytes, ShowsCache, ShowsSlot, TakesPiece, consumed, due_at, is_open_at, peer_at, with_conn}
-use Rattle.rtr_ends.specs.Feeding.{Fed, feed}
-use Rattle.rtr_ends.specs.Sender.{Gives}
-use Rattle.rtr_ends.specs.ServeStream.{AllOut, Answered, EndedAs, EndsSo, IsTurn, Partly, ReadsSo, Serves, StandsAt, Waits, ended_within, is_within, stood}
+use Rattle.rtr_ends.specs.Cache.{ConnCall, Conn, Gives as Pulled, IsConnCall, IsServed, Notifies, Publishes, Takes, Taking, conn_byte, conn_pulled, conn_stops, conn_takes, is_none}
+use Rattle.rtr_ends.specs.CacheState.{CacheState, GivesBytes, ShowsCache, ShowsSlot, TakesPiece, conn_consumed, due_at, is_open_at, peer_at, with_conn}
+use Rattle.rtr_ends.specs.Feeding.{FedPiece, feed}
+use Rattle.rtr_ends.specs.Sender.{PullsBytes}
+use Rattle.rtr_ends.specs.ServeStream.{AllOut, Answered, EndedAs, EndsSo, IsTurn, Partly, ReadsWithin, ServesConnection, StandsAt, Waits, ended_within, is_within, stood}
 use Rattle.rtr_ends.specs.Timing.{Intervals}
 use Rattle.rtr_ends.specs.declared.cache.Cache.{Cache}
 use Rattle.rtr_ends.specs.declared.serving.Served.{Served}
@@ -37,14 +37,14 @@ not_less old new counted spent = elim (cases_eq (calls_of old) (2 ^ 64 - 1)) [
 ]
 
 -- Where the input ends, something was read.
-pub ends_in : (limit before now : ℕ) (served : Served) → (served ≡ Truncated) ⊎ (served ≡ PeerClosed) → before < now → now ≤ before + limit → ReadsSo limit before now (Ok served)
+pub ends_in : (limit before now : ℕ) (served : Served) → (served ≡ Truncated) ⊎ (served ≡ PeerClosed) → before < now → now ≤ before + limit → ReadsWithin limit before now (Ok served)
 ends_in limit before now served ends least most = elim ends [
-  | inl is ↦ subst (λ x. ReadsSo limit before now (Ok x)) (sym is) (least, most)
-  | inr is ↦ subst (λ x. ReadsSo limit before now (Ok x)) (sym is) (least, most)
+  | inl is ↦ subst (λ x. ReadsWithin limit before now (Ok x)) (sym is) (least, most)
+  | inr is ↦ subst (λ x. ReadsWithin limit before now (Ok x)) (sym is) (least, most)
 ]
 
 -- What is pulled into a buffer stands at its front.
-pub pulled_is : (due out : List ℕ) (count : ℕ) (now rest : List ℕ) → Gives due out count now rest → take count now ≡ take (length out) due
+pub pulled_is : (due out : List ℕ) (count : ℕ) (now rest : List ℕ) → PullsBytes due out count now rest → take count now ≡ take (length out) due
 pulled_is due out count now rest g = elim (cases_lt (length out) (length due)) [
   | inl more ↦ (let n : count ≡ length out = omega (arith, g.count_is, more) in here (omega (arith, n, more)) ∙ ap (λ k. take k due) n)
   | inr all ↦ (let n : count ≡ length due = omega (arith, g.count_is, all) in here (omega (arith, n)) ∙ take_all count due (omega (arith, n)) ∙ sym (take_all (length out) due all))
@@ -56,7 +56,7 @@ pulled_is due out count now rest g = elim (cases_lt (length out) (length due)) [
         ap (take count) g.now_is ∙ take-append-le count (take count due) (drop count out) (omega (arith, l)) ∙ take_all count (take count due) (omega (arith, l))
 
 -- Nothing is due where nothing is pulled into room.
-none_due : (due out : List ℕ) (now rest : List ℕ) → Gives due out 0 now rest → 0 < length out → due ≡ []
+none_due : (due out : List ℕ) (now rest : List ℕ) → PullsBytes due out 0 now rest → 0 < length out → due ≡ []
 none_due [] out now rest g room = refl
 none_due (b ∷ due) out now rest g room = absurd (let c = g.count_is in omega (arith, c, room))
 
@@ -69,7 +69,7 @@ pub rest_most : {M : Type 0} (stops : M → Bool) (step : M → ℕ → M) (m : 
 rest_most stops step m piece = let t = feed_takes stops step m piece in omega (arith, ap length t.1.piece_is, length-append t.0 (feed stops step m piece).rest)
 
 -- A connection of which nothing is due, and that takes nothing, is as it was; and has ended where there was a piece.
-abbrev by_stop : (keep : ℕ) (t : Intervals) (i : Instance) (m : Taking) (b : ℕ) (piece : List ℕ) → Fed Taking
+abbrev by_stop : (keep : ℕ) (t : Intervals) (i : Instance) (m : Taking) (b : ℕ) (piece : List ℕ) → FedPiece Taking
 by_stop keep t i m b piece = feed (λ m. conn_stops m.conn) (conn_byte keep t i) m (b ∷ piece)
 
 pub none_taken : (keep : ℕ) (t : Intervals) (i : Instance) (wanting : Option ℕ) (piece : List ℕ) (o : Conn) → o.state.due ≡ [] → 0 ≡ length piece - length (conn_takes keep t i wanting piece o).rest
@@ -92,17 +92,17 @@ none_taken keep t i wanting (b ∷ piece) o due none = by_test (conn_stops o) re
     by_test true is = (ap (λ f. f.machine.conn) (stopped (λ m. conn_stops m.conn) (conn_byte keep t i) start b piece is), λ some. ended_is ∙ is)
     by_test false is =
         let rest = rest_most (λ m. conn_stops m.conn) (conn_byte keep t i) (conn_byte keep t i start b) piece in
-        let on = ap (λ (f : Fed Taking). length f.rest) (goes_on (λ m. conn_stops m.conn) (conn_byte keep t i) start b piece is) in
+        let on = ap (λ (f : FedPiece Taking). length f.rest) (goes_on (λ m. conn_stops m.conn) (conn_byte keep t i) start b piece is) in
         absurd (omega (arith, none, rest, on))
 
 -- A turn is a call.
-turn_is_call : (call : CacheCall) → IsTurn call → IsCacheCall call
+turn_is_call : (call : ConnCall) → IsTurn call → IsConnCall call
 turn_is_call (Publishes set) h = absurd h
 turn_is_call (Takes wanting piece) h = h
 turn_is_call (Pulled most) h = tt
 turn_is_call Notifies h = absurd h
 
-turns_are_calls : (calls : List CacheCall) → AllByRecursion IsTurn calls → AllByRecursion IsCacheCall calls
+turns_are_calls : (calls : List ConnCall) → AllByRecursion IsTurn calls → AllByRecursion IsConnCall calls
 turns_are_calls [] h = tt
 turns_are_calls (call ∷ calls) h = (turn_is_call call h.0, turns_are_calls calls h.1)
 
@@ -112,14 +112,14 @@ part_after had has written a b out part =
     (length a + part.0, (let l = length-append a b in omega (arith, l, part.1)), subst (Appends had written) (sym (take-append-add a b part.0)) (Appends-trans had has written a (take part.0 b) out part.2))
 
 module _ {S : Type 0} (holds : ℕ → Instance → S → Type 0) (m : CacheState) (c : ℕ) where
-  abbrev standing : List CacheCall → CacheState
+  abbrev standing : List ConnCall → CacheState
   standing calls = with_conn c (Some (stood m calls).conn) m
 
-  stood_at : (calls : List CacheCall) → (standing calls).at c ≡ Some (stood m calls).conn
+  stood_at : (calls : List ConnCall) → (standing calls).at c ≡ Some (stood m calls).conn
   stood_at calls = with_conn_at c (Some (stood m calls).conn) m
 
   -- Turns publish nothing.
-  cache_is : (calls : List CacheCall) → AllByRecursion IsTurn calls → (stood m calls).cache ≡ m.cache
+  cache_is : (calls : List ConnCall) → AllByRecursion IsTurn calls → (stood m calls).cache ≡ m.cache
   cache_is [] h = refl
   cache_is (Publishes set ∷ calls) h = absurd h.0
   cache_is (Takes wanting piece ∷ calls) h = cache_is calls h.1
@@ -135,14 +135,14 @@ module _ {S : Type 0} (holds : ℕ → Instance → S → Type 0) (m : CacheStat
       by_test d false h = h
 
   -- A connection that is closed, and had not been open, leaves all as it was.
-  pub closes : (calls : List CacheCall) (cache : Cache S) → m.at c ≡ None → ShowsCache holds (with_conn c None (standing calls)) cache → ShowsCache holds m cache
+  pub closes : (calls : List ConnCall) (cache : Cache S) → m.at c ≡ None → ShowsCache holds (with_conn c None (standing calls)) cache → ShowsCache holds m cache
   closes calls cache free shows = record { timing = shows.timing; store = shows.store; slots = λ d. by_test d (d == c) refl (shows.slots d) }
     where
       by_test : (d : ℕ) (b : Bool) → (d == c) ≡ b → ShowsSlot m.timing m.cache (if b then None else if b then Some (stood m calls).conn else m.at d) (peer_at cache.peers.items d) → ShowsSlot m.timing m.cache (m.at d) (peer_at cache.peers.items d)
       by_test d true is h = subst (λ a. ShowsSlot m.timing m.cache a (peer_at cache.peers.items d)) (sym (ap m.at (eq_of d c is) ∙ free)) h
       by_test d false is h = h
 
-  module _ (calls : List CacheCall) (had has : Option (List ℕ)) (cache : Cache S) where
+  module _ (calls : List ConnCall) (had has : Option (List ℕ)) (cache : Cache S) where
     -- Bytes are pulled, and go out.
     pub pulls_more : (piece : List ℕ) (p : Partly holds m c calls piece had has cache) (room now : List ℕ) (count : ℕ) (written : Option (List ℕ)) (new : Cache S) → GivesBytes holds (standing p.later) c room count now new
         → Appends has written (take count now) → Partly holds m c calls piece had written new
@@ -172,7 +172,7 @@ module _ {S : Type 0} (holds : ℕ → Instance → S → Type 0) (m : CacheStat
     pub takes_more : (piece : List ℕ) (p : Partly holds m c calls piece had has cache) (more : List ℕ) (count : ℕ) (new : Cache S) → AreBytes more → (t : TakesPiece holds (standing p.later) c more count new)
         → Partly holds m c calls (piece ++ take count more) had has new
     takes_more piece p more count new bytes t =
-        let is : count ≡ length more - length (conn_takes m.keep m.timing m.cache t.wanting more (stood m p.later).conn).rest = t.result_is ∙ ap (consumed t.wanting more (standing p.later)) (stood_at p.later) in
+        let is : count ≡ length more - length (conn_takes m.keep m.timing m.cache t.wanting more (stood m p.later).conn).rest = t.result_is ∙ ap (conn_consumed t.wanting more (standing p.later)) (stood_at p.later) in
         let same = sym (cache_is p.later p.turns) in
         record {
           later = Takes t.wanting more ∷ p.later;
@@ -192,7 +192,7 @@ module _ {S : Type 0} (holds : ℕ → Instance → S → Type 0) (m : CacheStat
         → Answered holds m c calls (piece ++ more) had has (Ok tt) new
     unfolding takes_more conn_takes
     takes_none piece p more new due bytes t =
-        let is : 0 ≡ length more - length (conn_takes m.keep m.timing m.cache t.wanting more (stood m p.later).conn).rest = t.result_is ∙ ap (consumed t.wanting more (standing p.later)) (stood_at p.later) in
+        let is : 0 ≡ length more - length (conn_takes m.keep m.timing m.cache t.wanting more (stood m p.later).conn).rest = t.result_is ∙ ap (conn_consumed t.wanting more (standing p.later)) (stood_at p.later) in
         let same = none_taken m.keep m.timing m.cache t.wanting more (stood m p.later).conn due is in
         let q = takes_more piece p more 0 new bytes t in
         let conn_is : (stood m q.later).conn ≡ (stood m p.later).conn = ap (λ i. (conn_takes m.keep m.timing i t.wanting more (stood m p.later).conn).machine.conn) (cache_is p.later p.turns) ∙ same.0 in
@@ -208,7 +208,7 @@ module _ {S : Type 0} (holds : ℕ → Instance → S → Type 0) (m : CacheStat
         }
 
   -- The writer failed at bytes that were pulled.
-  fails_writing : (calls : List CacheCall) (had has written : Option (List ℕ)) (cache new : Cache S) (piece more room now : List ℕ) (count : ℕ) (e : Failed) (p : Partly holds m c calls piece had has cache) → GivesBytes holds (standing p.later) c room count now new
+  fails_writing : (calls : List ConnCall) (had has written : Option (List ℕ)) (cache new : Cache S) (piece more room now : List ℕ) (count : ℕ) (e : Failed) (p : Partly holds m c calls piece had has cache) → GivesBytes holds (standing p.later) c room count now new
       → GoesOutInPart has written (take count now) → Answered holds m c calls (piece ++ more) had written (Err e) new
   unfolding pulls_more
   fails_writing calls had has written cache new piece more room now count e p g part =
@@ -225,13 +225,13 @@ module _ {S : Type 0} (holds : ℕ → Instance → S → Type 0) (m : CacheStat
         answers = part_after had has written p.sent (take count now) p.out part;
       }
 
-  pub fails_at : (calls : List CacheCall) (had has written : Option (List ℕ)) (cache new : Cache S) (piece room now : List ℕ) (at count : ℕ) (e : Failed) (p : Partly holds m c calls (take at piece) had has cache) → GivesBytes holds (standing p.later) c room count now new
+  pub fails_at : (calls : List ConnCall) (had has written : Option (List ℕ)) (cache new : Cache S) (piece room now : List ℕ) (at count : ℕ) (e : Failed) (p : Partly holds m c calls (take at piece) had has cache) → GivesBytes holds (standing p.later) c room count now new
       → GoesOutInPart has written (take count now) → Answered holds m c calls piece had written (Err e) new
   fails_at calls had has written cache new piece room now at count e p g part =
       subst (λ x. Answered holds m c calls x had written (Err e) new) (take-append-drop at piece) (fails_writing calls had has written cache new (take at piece) (drop at piece) room now count e p g part)
 
   -- Nothing was due: what is left of a piece is handed in, of which so much is taken.
-  pub answers_on : (calls : List CacheCall) (had has : Option (List ℕ)) (cache mid new : Cache S) (piece slice room now : List ℕ) (at count taken : ℕ) (p : Partly holds m c calls (take at piece) had has cache) → GivesBytes holds (standing p.later) c room count now mid
+  pub answers_on : (calls : List ConnCall) (had has : Option (List ℕ)) (cache mid new : Cache S) (piece slice room now : List ℕ) (at count taken : ℕ) (p : Partly holds m c calls (take at piece) had has cache) → GivesBytes holds (standing p.later) c room count now mid
       → count ≡ 0 → 0 < length room → AreBytes (drop at piece) → slice ≡ drop at piece → ((x : CacheState) → ShowsCache holds x mid → TakesPiece holds x c slice taken new) → Partly holds m c calls (take (at + taken) piece) had has new
   answers_on calls had has cache mid new piece slice room now at count taken p g none size bytes is takes =
       let q = pulls_none calls had has cache (take at piece) p room now mid size (subst (λ n. GivesBytes holds (standing p.later) c room n now mid) none g) in
@@ -239,7 +239,7 @@ module _ {S : Type 0} (holds : ℕ → Instance → S → Type 0) (m : CacheStat
       (takes_more calls had has mid (take at piece) q.0 (drop at piece) taken new bytes (subst (λ x. TakesPiece holds (standing q.0.later) c x taken new) is (takes (standing q.0.later) q.0.stands)))
 
   -- None of it is taken.
-  pub answers_end : (calls : List CacheCall) (had has : Option (List ℕ)) (cache mid new : Cache S) (piece slice room now : List ℕ) (at count taken : ℕ) (p : Partly holds m c calls (take at piece) had has cache) → GivesBytes holds (standing p.later) c room count now mid
+  pub answers_end : (calls : List ConnCall) (had has : Option (List ℕ)) (cache mid new : Cache S) (piece slice room now : List ℕ) (at count taken : ℕ) (p : Partly holds m c calls (take at piece) had has cache) → GivesBytes holds (standing p.later) c room count now mid
       → count ≡ 0 → 0 < length room → AreBytes (drop at piece) → slice ≡ drop at piece → ((x : CacheState) → ShowsCache holds x mid → TakesPiece holds x c slice taken new) → taken ≡ 0 → Answered holds m c calls piece had has (Ok tt) new
   answers_end calls had has cache mid new piece slice room now at count taken p g none size bytes is takes stop =
       let q = pulls_none calls had has cache (take at piece) p room now mid size (subst (λ n. GivesBytes holds (standing p.later) c room n now mid) none g) in
@@ -249,7 +249,7 @@ module _ {S : Type 0} (holds : ℕ → Instance → S → Type 0) (m : CacheStat
 
   -- A connection waits between two reads.
   module _ (before left : Option (List ℕ)) (reads : ℕ) (had has : Option (List ℕ)) (cache : Cache S) (w : Waits holds m c before left reads had has cache) where
-    history : (calls : List CacheCall) → AllByRecursion IsTurn calls → IsInstance m.cache → IsServed m.keep m.timing m.cache (stood m calls)
+    history : (calls : List ConnCall) → AllByRecursion IsTurn calls → IsInstance m.cache → IsServed m.keep m.timing m.cache (stood m calls)
     history calls turns is = serves_history m.keep m.timing m.cache calls is (turns_are_calls calls turns)
 
     -- Nothing more was read.
@@ -270,7 +270,7 @@ module _ {S : Type 0} (holds : ℕ → Instance → S → Type 0) (m : CacheStat
 
     -- A piece was read and answered.
     module _ (piece : List ℕ) (after : Option (List ℕ)) (written : Option (List ℕ)) (new : Cache S) (size : length piece ≤ 4096) (read : Consumes left after piece) (more : ℕ) (grows : reads + 1 ≤ more) where
-      came_all : (later : List CacheCall) (unread : List ℕ) → (stood m later).came ++ unread ≡ (stood m w.calls).came ++ piece → Consumes before after ((stood m later).came ++ unread) × (length ((stood m later).came ++ unread) ≤ 4096 * more)
+      came_all : (later : List ConnCall) (unread : List ℕ) → (stood m later).came ++ unread ≡ (stood m w.calls).came ++ piece → Consumes before after ((stood m later).came ++ unread) × (length ((stood m later).came ++ unread) ≤ 4096 * more)
       came_all later unread is = (
         subst (Consumes before after) (sym is) (Consumes-trans before left after (stood m w.calls).came piece w.consumed read),
         (let l = length-append (stood m w.calls).came piece in omega (arith, ap length is, l, size, w.few, grows)),
@@ -367,7 +367,7 @@ module _ {S : Type 0} (holds : ℕ → Instance → S → Type 0) (m : CacheStat
   waits_first before had cache stands = record { calls = []; turns = tt; stands = stands; consumed = Consumes-nil before; few = omega arith; goes_on = refl; all_out = (refl, Appends-nil had) }
 
 -- Without a connection nothing happens.
-pub nothing_served : (m : CacheState) (before had : Option (List ℕ)) (reads : ℕ) → Serves m before before reads had had (Err Memory)
+pub nothing_served : (m : CacheState) (before had : Option (List ℕ)) (reads : ℕ) → ServesConnection m before before reads had had (Err Memory)
 nothing_served m before had reads = record {
   calls = [];
   turns = tt;

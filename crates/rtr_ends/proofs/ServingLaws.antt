@@ -20,11 +20,11 @@ use Rattle.rtr_pdu.proofs.JudgingLaws.{judge_case, whole_exactly}
 use Rattle.rtr_pdu.proofs.JudgingLaws as judging
 use Rattle.rtr_pdu.proofs.NextLaws.{next_shortest, next_size}
 use Rattle.rtr_pdu.proofs.ReaderLaws.{partial_empty}
-use Rattle.rtr_ends.specs.Cache.{Conn, Taking, is_none, conn_stops, moment_of, with_moment, finds_memory, and_moment, with_judged, conn_byte, conn_takes, can_notify, conn_notified, pulled_count, conn_pulled, CacheCall, Publishes, Takes, Gives, Notifies, Serving, serve, serving, IsCacheCall, IsServed, ServesHistory, new_conn}
-use Rattle.rtr_ends.specs.Connection.{Connection, Moment, Read, Wanting, Fault, Notify, Pull, bytes_of, IsLater, IsHistory, MayCome, MayHold, after, after_all, opened, pulled, is_published, takes_memory}
+use Rattle.rtr_ends.specs.Cache.{Conn, Taking, is_none, conn_stops, conn_moment_of, with_moment, finds_memory, and_moment, conn_judged, conn_byte, conn_takes, can_notify, conn_notified, pulled_count, conn_pulled, ConnCall, Publishes, Takes, Gives, Notifies, Serving, serve, serving, IsConnCall, IsServed, ServesHistory, new_conn}
+use Rattle.rtr_ends.specs.Connection.{Connection, ConnMoment, Read, Wanting, Fault, Notify, Pull, bytes_of, IsLater, IsHistory, MayCome, MayHold, conn_after, after_all, opened, pulled, is_published, takes_memory}
 use Rattle.rtr_ends.specs.Feeding.{feed, run}
 use Rattle.rtr_ends.specs.Timing.{Intervals}
-use Rattle.rtr_ends.proofs.Bytes.{none_bytes, more_bytes, bytes_front, front_of}
+use Rattle.rtr_ends.proofs.ByteLists.{none_bytes, more_bytes, bytes_front, front_of}
 use Rattle.rtr_ends.proofs.FeedingLaws.{feed_takes}
 use Rattle.rtr_ends.proofs.HistoryLaws.{pulled_are_replies}
 use Rattle.rtr_ends.proofs.TableLaws.{false_true}
@@ -35,50 +35,50 @@ unfolding as_read
 as_they_stand bytes = refl
 
 -- from one connection to another by moments, with the bytes of these
-abbrev Runs : ℕ → Intervals → Connection → List Moment → List ℕ → Connection → Type 0
+abbrev Runs : ℕ → Intervals → Connection → List ConnMoment → List ℕ → Connection → Type 0
 Runs keep t c [] used new = (used ≡ []) × (new ≡ c)
-Runs keep t c (m ∷ later) used new = MayCome c m × ((rest : List ℕ) × (used ≡ bytes_of m ++ rest) × Runs keep t (after keep t c m) later rest new)
+Runs keep t c (m ∷ later) used new = MayCome c m × ((rest : List ℕ) × (used ≡ bytes_of m ++ rest) × Runs keep t (conn_after keep t c m) later rest new)
 
 module _ (keep : ℕ) (t : Intervals) where
   -- one moment more
-  runs_more : (c : Connection) (moments : List Moment) (used : List ℕ) (new : Connection) (m : Moment) → Runs keep t c moments used new → MayCome new m → Runs keep t c (moments ++ m ∷ []) (used ++ bytes_of m) (after keep t new m)
+  runs_more : (c : Connection) (moments : List ConnMoment) (used : List ℕ) (new : Connection) (m : ConnMoment) → Runs keep t c moments used new → MayCome new m → Runs keep t c (moments ++ m ∷ []) (used ++ bytes_of m) (conn_after keep t new m)
   runs_more c [] used new m r h =
       let may : MayCome c m = subst (λ x. MayCome x m) r.1 h in
-      (may, ([], ap (λ x. x ++ bytes_of m) r.0 ∙ sym (append-nil (bytes_of m)), (refl, ap (λ x. after keep t x m) r.1)))
+      (may, ([], ap (λ x. x ++ bytes_of m) r.0 ∙ sym (append-nil (bytes_of m)), (refl, ap (λ x. conn_after keep t x m) r.1)))
   runs_more c (k ∷ later) used new m r h =
-      (r.0, (r.1.0 ++ bytes_of m, ap (λ x. x ++ bytes_of m) r.1.1 ∙ append_assoc (bytes_of k) r.1.0 (bytes_of m), runs_more (after keep t c k) later r.1.0 new m r.1.2 h))
+      (r.0, (r.1.0 ++ bytes_of m, ap (λ x. x ++ bytes_of m) r.1.1 ∙ append_assoc (bytes_of k) r.1.0 (bytes_of m), runs_more (conn_after keep t c k) later r.1.0 new m r.1.2 h))
 
   -- with what is held, it is a history
-  runs_history : (c : Connection) (moments : List Moment) (used held : List ℕ) (new : Connection) → Runs keep t c moments used new → MayHold new held → IsHistory keep t c moments (used ++ held)
+  runs_history : (c : Connection) (moments : List ConnMoment) (used held : List ℕ) (new : Connection) → Runs keep t c moments used new → MayHold new held → IsHistory keep t c moments (used ++ held)
   runs_history c [] used held new r h = subst (λ x. MayHold c (x ++ held)) (sym r.0) (subst (λ x. MayHold x held) r.1 h)
   runs_history c (m ∷ later) used held new r h =
-      (r.0, (r.1.0 ++ held, ap (λ x. x ++ held) r.1.1 ∙ append_assoc (bytes_of m) r.1.0 held, runs_history (after keep t c m) later r.1.0 held new r.1.2 h))
+      (r.0, (r.1.0 ++ held, ap (λ x. x ++ held) r.1.1 ∙ append_assoc (bytes_of m) r.1.0 held, runs_history (conn_after keep t c m) later r.1.0 held new r.1.2 h))
 
-  runs_after : (c : Connection) (moments : List Moment) (used : List ℕ) (new : Connection) → Runs keep t c moments used new → new ≡ after_all keep t c moments
+  runs_after : (c : Connection) (moments : List ConnMoment) (used : List ℕ) (new : Connection) → Runs keep t c moments used new → new ≡ after_all keep t c moments
   runs_after c [] used new r = r.1
-  runs_after c (m ∷ later) used new r = runs_after (after keep t c m) later r.1.0 new r.1.2
+  runs_after c (m ∷ later) used new r = runs_after (conn_after keep t c m) later r.1.0 new r.1.2
 
   -- what a moment pulls
-  abbrev pulled_by : Connection → Moment → List ℕ
+  abbrev pulled_by : Connection → ConnMoment → List ℕ
   pulled_by c (Pull count) = take count c.due
   pulled_by c m = []
 
-  pulled_first : (c : Connection) (m : Moment) (later : List Moment) → pulled keep t c (m ∷ later) ≡ pulled_by c m ++ pulled keep t (after keep t c m) later
+  pulled_first : (c : Connection) (m : ConnMoment) (later : List ConnMoment) → pulled keep t c (m ∷ later) ≡ pulled_by c m ++ pulled keep t (conn_after keep t c m) later
   pulled_first c (Pull count) later = refl
   pulled_first c (Read cache unit bytes) later = refl
   pulled_first c (Wanting cache unit bytes) later = refl
   pulled_first c (Fault fault bytes) later = refl
   pulled_first c (Notify cache) later = refl
 
-  pulled_more : (c : Connection) (moments : List Moment) (used : List ℕ) (new : Connection) (m : Moment) → Runs keep t c moments used new → pulled keep t c (moments ++ m ∷ []) ≡ pulled keep t c moments ++ pulled_by new m
+  pulled_more : (c : Connection) (moments : List ConnMoment) (used : List ℕ) (new : Connection) (m : ConnMoment) → Runs keep t c moments used new → pulled keep t c (moments ++ m ∷ []) ≡ pulled keep t c moments ++ pulled_by new m
   pulled_more c [] used new m r = pulled_first c m [] ∙ append-nil (pulled_by c m) ∙ ap (λ x. pulled_by x m) (sym r.1)
   pulled_more c (k ∷ later) used new m r =
-      pulled_first c k (later ++ m ∷ []) ∙ ap (λ x. pulled_by c k ++ x) (pulled_more (after keep t c k) later r.1.0 new m r.1.2)
-      ∙ sym (append_assoc (pulled_by c k) (pulled keep t (after keep t c k) later) (pulled_by new m))
+      pulled_first c k (later ++ m ∷ []) ∙ ap (λ x. pulled_by c k ++ x) (pulled_more (conn_after keep t c k) later r.1.0 new m r.1.2)
+      ∙ sym (append_assoc (pulled_by c k) (pulled keep t (conn_after keep t c k) later) (pulled_by new m))
       ∙ ap (λ x. x ++ pulled_by new m) (sym (pulled_first c k later))
 
   -- A connection that was opened at an instance, after these moments, where these bytes came and were given
-  pub record Goes (i : Instance) (o : Conn) (moments : List Moment) (came given : List ℕ) : Type 0 where
+  pub record Goes (i : Instance) (o : Conn) (moments : List ConnMoment) (came given : List ℕ) : Type 0 where
     pub used : List ℕ
     pub runs : Runs keep t (opened i) moments used o.state
     pub came_is : came ≡ used ++ o.held
@@ -115,15 +115,15 @@ module _ (keep : ℕ) (t : Intervals) where
 
   module _ (opened_at : Instance) where
     -- a moment that the last of these bytes brings
-    goes_moment : (o : Conn) (moments : List Moment) (came given : List ℕ) (b : ℕ) (m : Moment) → MayCome o.state m → bytes_of m ≡ o.held ++ b ∷ [] → pulled_by o.state m ≡ [] → IsInstance (after keep t o.state m).cache
-        → Goes opened_at o moments came given → Goes opened_at (record { state = after keep t o.state m; held = [] }) (moments ++ m ∷ []) (came ++ b ∷ []) given
+    goes_moment : (o : Conn) (moments : List ConnMoment) (came given : List ℕ) (b : ℕ) (m : ConnMoment) → MayCome o.state m → bytes_of m ≡ o.held ++ b ∷ [] → pulled_by o.state m ≡ [] → IsInstance (conn_after keep t o.state m).cache
+        → Goes opened_at o moments came given → Goes opened_at (record { state = conn_after keep t o.state m; held = [] }) (moments ++ m ∷ []) (came ++ b ∷ []) given
     goes_moment o moments came given b m may bytes none cache g = record {
       used = g.used ++ bytes_of m;
       runs = runs_more (opened opened_at) moments g.used o.state m g.runs may;
       came_is = ap (λ x. x ++ b ∷ []) g.came_is ∙ append_assoc g.used o.held (b ∷ []) ∙ ap (λ x. g.used ++ x) (sym bytes) ∙ sym (append-nil (g.used ++ bytes_of m));
       given_is = g.given_is ∙ sym (append-nil (pulled keep t (opened opened_at) moments)) ∙ ap (λ x. pulled keep t (opened opened_at) moments ++ x) (sym none)
           ∙ sym (pulled_more (opened opened_at) moments g.used o.state m g.runs);
-      holds = holds_none (after keep t o.state m);
+      holds = holds_none (conn_after keep t o.state m);
       bytes = none_bytes;
       cache = cache;
     }
@@ -132,21 +132,21 @@ module _ (keep : ℕ) (t : Intervals) where
     same_later i = record { session = refl; start = refl; more = []; sets = refl }
 
     -- A connection with the cache as it is now
-    pub record Stands (i : Instance) (before : List Moment) (m : Taking) (came given : List ℕ) : Type 0 where
+    pub record Stands (i : Instance) (before : List ConnMoment) (m : Taking) (came given : List ℕ) : Type 0 where
       pub goes : Goes opened_at m.conn (before ++ m.moments) came given
       pub later : IsLater m.conn.state.cache i
 
-    module _ (i : Instance) (is : IsInstance i) (before : List Moment) (given : List ℕ) where
+    module _ (i : Instance) (is : IsInstance i) (before : List ConnMoment) (given : List ℕ) where
       -- what is judged of the next byte
       abbrev next : Taking → ℕ → Judgement → Taking
-      next m b j = with_judged keep t i m (m.conn.held ++ b ∷ []) j
+      next m b j = conn_judged keep t i m (m.conn.held ++ b ∷ []) j
 
-      stands_moment : (m : Taking) (b : ℕ) (came : List ℕ) (j : Judgement) (k : Moment) → moment_of i (finds_memory m.wanting) (m.conn.held ++ b ∷ []) j ≡ Some k → MayCome m.conn.state k → bytes_of k ≡ m.conn.held ++ b ∷ [] → pulled_by m.conn.state k ≡ []
-          → IsInstance (after keep t m.conn.state k).cache → IsLater (after keep t m.conn.state k).cache i → Stands i before m came given → Stands i before (next m b j) (came ++ b ∷ []) given
+      stands_moment : (m : Taking) (b : ℕ) (came : List ℕ) (j : Judgement) (k : ConnMoment) → conn_moment_of i (finds_memory m.wanting) (m.conn.held ++ b ∷ []) j ≡ Some k → MayCome m.conn.state k → bytes_of k ≡ m.conn.held ++ b ∷ [] → pulled_by m.conn.state k ≡ []
+          → IsInstance (conn_after keep t m.conn.state k).cache → IsLater (conn_after keep t m.conn.state k).cache i → Stands i before m came given → Stands i before (next m b j) (came ++ b ∷ []) given
       stands_moment m b came j k brings may bytes none cache later s =
           subst (λ o. Stands i before (record { conn = with_moment keep t (m.conn.held ++ b ∷ []) m.conn o; moments = and_moment m.moments o; wanting = (next m b j).wanting }) (came ++ b ∷ []) given) (sym brings)
           (record {
-            goes = subst (λ x. Goes opened_at (record { state = after keep t m.conn.state k; held = [] }) x (came ++ b ∷ []) given) (append_assoc before m.moments (k ∷ []))
+            goes = subst (λ x. Goes opened_at (record { state = conn_after keep t m.conn.state k; held = [] }) x (came ++ b ∷ []) given) (append_assoc before m.moments (k ∷ []))
                 (goes_moment m.conn (before ++ m.moments) came given b k may bytes none cache s.goes);
             later = later;
           })
@@ -252,7 +252,7 @@ module _ (keep : ℕ) (t : Intervals) where
         → Goes opened_at (conn_pulled keep t most s.conn) (s.moments ++ Pull (pulled_count most s.conn) ∷ []) s.came (s.given ++ take most s.conn.state.due)
     unfolding conn_pulled
     pulled_goes most s g =
-        let m : Moment = Pull (pulled_count most s.conn) in
+        let m : ConnMoment = Pull (pulled_count most s.conn) in
         let may : MayCome s.conn.state (Pull (pulled_count most s.conn)) = min-le_right most (length s.conn.state.due) in
         record {
           used = g.used ++ [];
@@ -285,7 +285,7 @@ module _ (keep : ℕ) (t : Intervals) where
 
     -- the router is notified, or cannot be
     notified_goes : (i : Instance) → IsInstance i → (s : Serving) → IsLater s.conn.state.cache i → Goes opened_at s.conn s.moments s.came s.given → (b : Bool) → can_notify i s.conn ≡ b
-        → Goes opened_at (if b then record s.conn { state = after keep t s.conn.state (Notify i) } else s.conn) (if b then s.moments ++ Notify i ∷ [] else s.moments) s.came s.given
+        → Goes opened_at (if b then record s.conn { state = conn_after keep t s.conn.state (Notify i) } else s.conn) (if b then s.moments ++ Notify i ∷ [] else s.moments) s.came s.given
     notified_goes i is s later g false e = g
     notified_goes i is s later g true e = record {
       used = g.used ++ [];
@@ -330,11 +330,11 @@ module _ (keep : ℕ) (t : Intervals) where
       pub later : IsLater s.conn.state.cache s.cache
       pub cache : IsInstance s.cache
 
-    later_by : (i : Instance) (s : Serving) (b : Bool) → IsLater s.conn.state.cache i → IsLater (if b then record s.conn { state = after keep t s.conn.state (Notify i) } else s.conn).state.cache i
+    later_by : (i : Instance) (s : Serving) (b : Bool) → IsLater s.conn.state.cache i → IsLater (if b then record s.conn { state = conn_after keep t s.conn.state (Notify i) } else s.conn).state.cache i
     later_by i s true l = same_later i
     later_by i s false l = l
 
-    serve_served : (call : CacheCall) (s : Serving) → IsCacheCall call → Served s → Served (serve keep t call s)
+    serve_served : (call : ConnCall) (s : Serving) → IsConnCall call → Served s → Served (serve keep t call s)
     unfolding conn_pulled conn_notified
     serve_served (Publishes set) s fits h = record { goes = h.goes; later = published_later s.conn.state.cache s.cache set h.later; cache = published_is_instance set s.cache fits h.cache }
     serve_served (Takes wanting piece) s fits h =
@@ -353,7 +353,7 @@ module _ (keep : ℕ) (t : Intervals) where
       cache = is;
     }
 
-    all_served : (calls : List CacheCall) → IsInstance opened_at → AllByRecursion IsCacheCall calls → Served (serving keep t opened_at calls)
+    all_served : (calls : List ConnCall) → IsInstance opened_at → AllByRecursion IsConnCall calls → Served (serving keep t opened_at calls)
     all_served [] is all = new_served is
     all_served (call ∷ calls) is all = serve_served call (serving keep t opened_at calls) all.0 (all_served calls is all.1)
 

@@ -16,11 +16,12 @@ use Rattle.vrps.proofs.Listed.{size_of_listing}
 use Rattle.vrps.specs.declared.set.SetFault.{SetFault}
 use Rattle.vrps.specs.declared.set.SetFault.TheVariants.{TooMany, Memory}
 use Rattle.vrps.proofs.SetLaws.{has-empty, has-listing, has-set_of, has-union, has-with_member, has-without, listing_ascends, same_set, same_vrp}
-use Rattle.rtr_ends.specs.Router as model
-use Rattle.rtr_ends.specs.Router.{Router}
-use Rattle.rtr_ends.specs.Seen.{Does, IsStaged, Shows, begun_with, seen_question}
-use Rattle.rtr_ends.specs.Staging.{Answers, GoesTo, LeadsTo}
-use Rattle.rtr_ends.specs.Transcript.{Begun, acts_once, base_of, is_listed, led_to, may_announce, may_withdraw}
+use Rattle.rtr_ends.specs.RouterLink as linked
+use Rattle.rtr_ends.specs.LinkRules as rules
+use Rattle.rtr_ends.specs.LinkRules.{Router}
+use Rattle.rtr_ends.specs.Seen.{Does, IsStaged, ShowsRouter, begun_with, seen_question}
+use Rattle.rtr_ends.specs.Staging.{StagesRecord, GoesTo, LeadsToSet}
+use Rattle.rtr_ends.specs.Transcript.{Begun, acts_once, base_of, is_among, led_to, may_announce, may_withdraw}
 use Rattle.rtr_ends.specs.declared.machine.Machine.{Machine}
 use Rattle.rtr_ends.specs.declared.machine.State.TheVariants as states
 use Rattle.rtr_ends.specs.declared.question.Question.{Question}
@@ -40,7 +41,7 @@ size_more s v h = map.len-insert vrp_total s v tt ∙ ap (λ b. cond b (size s) 
 
 -- what a staged set has
 module _ (base : VrpSet) (w a : List Payload) where
-  has-led : (q : Payload) → has (led_to base w a) q ≡ ((has base q && not (is_listed q w)) || is_listed q a)
+  has-led : (q : Payload) → has (led_to base w a) q ≡ ((has base q && not (is_among q w)) || is_among q a)
   unfolding led_to
   has-led q = has-union (without base (set_of w)) (set_of a) q ∙ (λ i. (has-without base (set_of w) q ∙ ap (λ b. has base q && not b) (has-set_of w q)) i || has-set_of a q i)
 
@@ -60,23 +61,23 @@ or_swap false b c = refl
 -- A record more is announced.
 pub led_announced : (base : VrpSet) (w a : List Payload) (v : Payload) → led_to base w (v ∷ a) ≡ with_member (led_to base w a) v
 led_announced base w a v = same_set _ _ (λ q.
-    has-led base w (v ∷ a) q ∙ or_swap (has base q && not (is_listed q w)) (same_vrp q v) (is_listed q a)
+    has-led base w (v ∷ a) q ∙ or_swap (has base q && not (is_among q w)) (same_vrp q v) (is_among q a)
     ∙ ap (λ b. same_vrp q v || b) (sym (has-led base w a q)) ∙ sym (has-with_member (led_to base w a) v q))
 
 -- A record more is withdrawn.
-pub led_withdrawn : (base : VrpSet) (w a : List Payload) (v : Payload) → has base v ≡ true → is_listed v w ≡ false → led_to base w a ≡ with_member (led_to base (v ∷ w) a) v
+pub led_withdrawn : (base : VrpSet) (w a : List Payload) (v : Payload) → has base v ≡ true → is_among v w ≡ false → led_to base w a ≡ with_member (led_to base (v ∷ w) a) v
 led_withdrawn base w a v known fresh = same_set _ _ (λ q.
     has-led base w a q ∙ by_tie q (same_vrp q v) refl ∙ ap (λ b. same_vrp q v || b) (sym (has-led base (v ∷ w) a q)) ∙ sym (has-with_member (led_to base (v ∷ w) a) v q))
   where
-    by_tie : (q : Payload) (b : Bool) → same_vrp q v ≡ b → ((has base q && not (is_listed q w)) || is_listed q a) ≡ (same_vrp q v || ((has base q && not (same_vrp q v || is_listed q w)) || is_listed q a))
+    by_tie : (q : Payload) (b : Bool) → same_vrp q v ≡ b → ((has base q && not (is_among q w)) || is_among q a) ≡ (same_vrp q v || ((has base q && not (same_vrp q v || is_among q w)) || is_among q a))
     by_tie q true is =
         let same : q ≡ v = tells_apart vrp_exact q v is in
-        (λ i. ((ap (λ x. has base x) same ∙ known) i && not ((ap (λ x. is_listed x w) same ∙ fresh) i)) || is_listed q a)
-        ∙ sym (ap (λ b. b || ((has base q && not (b || is_listed q w)) || is_listed q a)) is)
-    by_tie q false is = sym (ap (λ b. b || ((has base q && not (b || is_listed q w)) || is_listed q a)) is)
+        (λ i. ((ap (λ x. has base x) same ∙ known) i && not ((ap (λ x. is_among x w) same ∙ fresh) i)) || is_among q a)
+        ∙ sym (ap (λ b. b || ((has base q && not (b || is_among q w)) || is_among q a)) is)
+    by_tie q false is = sym (ap (λ b. b || ((has base q && not (b || is_among q w)) || is_among q a)) is)
 
 -- What is announced is none of the base.
-not_announced : (base : VrpSet) (v : Payload) (a : List Payload) → AllByRecursion (λ x. has base x ≡ false) a → has base v ≡ true → is_listed v a ≡ false
+not_announced : (base : VrpSet) (v : Payload) (a : List Payload) → AllByRecursion (λ x. has base x ≡ false) a → has base v ≡ true → is_among v a ≡ false
 not_announced base v [] h known = refl
 not_announced base v (x ∷ a) h known = λ i. apart (same_vrp v x) refl i || not_announced base v a h.1 known i
   where
@@ -84,21 +85,21 @@ not_announced base v (x ∷ a) h known = λ i. apart (same_vrp v x) refl i || no
     apart false is = is
     apart true is = false_true (sym h.0 ∙ ap (λ y. has base y) (sym (tells_apart vrp_exact v x is)) ∙ known)
 
-announced_apart : (base : VrpSet) (w a : List Payload) (v : Payload) → acts_once base w a ≡ true → has base v ≡ true → is_listed v a ≡ false
+announced_apart : (base : VrpSet) (w a : List Payload) (v : Payload) → acts_once base w a ≡ true → has base v ≡ true → is_among v a ≡ false
 announced_apart base w a v once known = not_announced base v a ((acts_exactly base w a).0 once).unknown known
 
 -- The sizes
-pub size_announced : (base : VrpSet) (w a : List Payload) (v : Payload) → has base v ≡ false → is_listed v a ≡ false → size (led_to base w (v ∷ a)) ≡ size (led_to base w a) + 1
+pub size_announced : (base : VrpSet) (w a : List Payload) (v : Payload) → has base v ≡ false → is_among v a ≡ false → size (led_to base w (v ∷ a)) ≡ size (led_to base w a) + 1
 size_announced base w a v out fresh =
-    ap (λ s. size s) (led_announced base w a v) ∙ size_more (led_to base w a) v (has-led base w a v ∙ (λ i. (out i && not (is_listed v w)) || fresh i))
+    ap (λ s. size s) (led_announced base w a v) ∙ size_more (led_to base w a) v (has-led base w a v ∙ (λ i. (out i && not (is_among v w)) || fresh i))
 
-pub size_withdrawn : (base : VrpSet) (w a : List Payload) (v : Payload) → acts_once base w a ≡ true → has base v ≡ true → is_listed v w ≡ false → size (led_to base w a) ≡ size (led_to base (v ∷ w) a) + 1
+pub size_withdrawn : (base : VrpSet) (w a : List Payload) (v : Payload) → acts_once base w a ≡ true → has base v ≡ true → is_among v w ≡ false → size (led_to base w a) ≡ size (led_to base (v ∷ w) a) + 1
 size_withdrawn base w a v once known fresh =
     ap (λ s. size s) (led_withdrawn base w a v known fresh)
-    ∙ size_more (led_to base (v ∷ w) a) v (has-led base (v ∷ w) a v ∙ gone (same_vrp v v) ((eq_by_cmp_equiv vrp_total).refl v) (is_listed v a) (announced_apart base w a v once known))
+    ∙ size_more (led_to base (v ∷ w) a) v (has-led base (v ∷ w) a v ∙ gone (same_vrp v v) ((eq_by_cmp_equiv vrp_total).refl v) (is_among v a) (announced_apart base w a v once known))
   where
-    gone : (s : Bool) → s ≡ true → (l : Bool) → l ≡ false → ((has base v && not (s || is_listed v w)) || l) ≡ false
-    gone s is l none = (λ i. (has base v && not (is i || is_listed v w)) || none i) ∙ ap (λ b. b || false) (never (has base v))
+    gone : (s : Bool) → s ≡ true → (l : Bool) → l ≡ false → ((has base v && not (s || is_among v w)) || l) ≡ false
+    gone s is l none = (λ i. (has base v && not (is i || is_among v w)) || none i) ∙ ap (λ b. b || false) (never (has base v))
       where
         never : (b : Bool) → (b && false) ≡ false
         never true = refl
@@ -107,9 +108,9 @@ size_withdrawn base w a v once known fresh =
 -- An answer begins, with nothing staged.
 pub begins : (q : Question) (session count : ℕ) (old new : Machine) → count ≡ size (base_of (seen_question q) old.table) → count ≤ 16777215 → (s : Staging) → s ≡ record { withdrawn = empty; announced = empty; count = count }
     → new ≡ record old { agreed = true; session = Some session; staging = s; state = states.Answering q session }
-    → Does (λ r. record r { agreed = true; session = Some session; link = model.Answering (begun_with q session [] []) }) old new
+    → Does (λ r. record r { agreed = true; session = Some session; link = linked.Answering (begun_with q session [] []) }) old new
 begins q session count old new is fits s made e r shows =
-    subst (λ n. Shows (record r { agreed = true; session = Some session; link = model.Answering (begun_with q session [] []) }) n) (sym e)
+    subst (λ n. ShowsRouter (record r { agreed = true; session = Some session; link = linked.Answering (begun_with q session [] []) }) n) (sym e)
     (record {
       withdrawn = [];
       announced = [];
@@ -120,46 +121,46 @@ begins q session count old new is fits s made e r shows =
         count = is ∙ ap (λ x. size x) (sym (led_none (base_of (seen_question q) old.table)));
         fits = fits;
       });
-      is = ap (λ (x : Router). record x { agreed = true; session = Some session; link = model.Answering (begun_with q session [] []) }) shows.is;
+      is = ap (λ (x : Router). record x { agreed = true; session = Some session; link = linked.Answering (begun_with q session [] []) }) shows.is;
     })
 
 module _ (base : VrpSet) (b : Begun) (v : Payload) (s : Staging) (st : IsStaged base b.withdrawn b.announced s) where
-  listed_withdrawn : (found : Bool) → found ≡ has s.withdrawn v → is_listed v b.withdrawn ≡ found
+  listed_withdrawn : (found : Bool) → found ≡ has s.withdrawn v → is_among v b.withdrawn ≡ found
   listed_withdrawn found is = sym (is ∙ ap (λ x. has x v) st.withdrawn_are ∙ has-set_of b.withdrawn v)
 
-  listed_announced : (found : Bool) → found ≡ has s.announced v → is_listed v b.announced ≡ found
+  listed_announced : (found : Bool) → found ≡ has s.announced v → is_among v b.announced ≡ found
   listed_announced found is = sym (is ∙ ap (λ x. has x v) st.announced_are ∙ has-set_of b.announced v)
 
   -- by the two tests
-  abbrev by_withdrawn : Bool → Bool → model.Staged
-  by_withdrawn known listed = if known && not listed then model.Stays (record b { withdrawn = v ∷ b.withdrawn }) else model.Wrong 6
+  abbrev by_withdrawn : Bool → Bool → rules.Staged
+  by_withdrawn known listed = if known && not listed then rules.Stays (record b { withdrawn = v ∷ b.withdrawn }) else rules.Wrong 6
 
-  abbrev by_announced : Bool → Bool → model.Staged
+  abbrev by_announced : Bool → Bool → rules.Staged
   by_announced known listed =
-      if known || listed then model.Wrong 7
-      else if nat_lt 16777215 (size (led_to base b.withdrawn (v ∷ b.announced))) then model.Over
-      else model.Stays (record b { announced = v ∷ b.announced })
+      if known || listed then rules.Wrong 7
+      else if nat_lt 16777215 (size (led_to base b.withdrawn (v ∷ b.announced))) then rules.Over
+      else rules.Stays (record b { announced = v ∷ b.announced })
 
   pub twice_withdrawn : (new : Staging) → has s.withdrawn v ≡ true → GoesTo base b false v (Ok (Wrong 6)) new
   twice_withdrawn new found =
-      subst (λ x. Answers base b x (Ok (Wrong 6)) new) (sym (ap (λ l. by_withdrawn (has base v) l) (listed_withdrawn true (sym found)) ∙ neither (has base v))) refl
+      subst (λ x. StagesRecord base b x (Ok (Wrong 6)) new) (sym (ap (λ l. by_withdrawn (has base v) l) (listed_withdrawn true (sym found)) ∙ neither (has base v))) refl
     where
-      neither : (k : Bool) → by_withdrawn k true ≡ model.Wrong 6
+      neither : (k : Bool) → by_withdrawn k true ≡ rules.Wrong 6
       neither true = refl
       neither false = refl
 
-  goes_withdrawn : has base v ≡ true → has s.withdrawn v ≡ false → model.stage base b false v ≡ model.Stays (record b { withdrawn = v ∷ b.withdrawn })
+  goes_withdrawn : has base v ≡ true → has s.withdrawn v ≡ false → rules.stage base b false v ≡ rules.Stays (record b { withdrawn = v ∷ b.withdrawn })
   goes_withdrawn known fresh = λ i. by_withdrawn (known i) (listed_withdrawn false (sym fresh) i)
 
   pub lacks_withdrawn : (new : Staging) → has base v ≡ true → has s.withdrawn v ≡ false → GoesTo base b false v (Err Memory) new
-  lacks_withdrawn new known fresh = subst (λ x. Answers base b x (Err Memory) new) (sym (goes_withdrawn known fresh)) tt
+  lacks_withdrawn new known fresh = subst (λ x. StagesRecord base b x (Err Memory) new) (sym (goes_withdrawn known fresh)) tt
 
   pub stays_withdrawn : (set : VrpSet) (count : ℕ) → has base v ≡ true → has s.withdrawn v ≡ false → set ≡ with_member s.withdrawn v → count ≡ s.count - 1
       → GoesTo base b false v (Ok Stays) (record s { withdrawn = set; count = count })
   stays_withdrawn set count known fresh more less =
-      subst (λ x. Answers base b x (Ok Stays) (record s { withdrawn = set; count = count })) (sym (goes_withdrawn known fresh)) (staged, refl, refl)
+      subst (λ x. StagesRecord base b x (Ok Stays) (record s { withdrawn = set; count = count })) (sym (goes_withdrawn known fresh)) (staged, refl, refl)
     where
-      unlisted : is_listed v b.withdrawn ≡ false
+      unlisted : is_among v b.withdrawn ≡ false
       unlisted = listed_withdrawn false (sym fresh)
 
       sized : size (led_to base b.withdrawn b.announced) ≡ size (led_to base (v ∷ b.withdrawn) b.announced) + 1
@@ -176,39 +177,39 @@ module _ (base : VrpSet) (b : Begun) (v : Payload) (s : Staging) (st : IsStaged 
 
   pub twice_announced : (new : Staging) → has s.announced v ≡ true → GoesTo base b true v (Ok (Wrong 7)) new
   twice_announced new found =
-      subst (λ x. Answers base b x (Ok (Wrong 7)) new) (sym (ap (λ l. by_announced (has base v) l) (listed_announced true (sym found)) ∙ either (has base v))) refl
+      subst (λ x. StagesRecord base b x (Ok (Wrong 7)) new) (sym (ap (λ l. by_announced (has base v) l) (listed_announced true (sym found)) ∙ either (has base v))) refl
     where
-      either : (k : Bool) → by_announced k true ≡ model.Wrong 7
+      either : (k : Bool) → by_announced k true ≡ rules.Wrong 7
       either true = refl
       either false = refl
 
   module _ (out : has base v ≡ false) (fresh : has s.announced v ≡ false) where
-    unlisted_so : is_listed v b.announced ≡ false
+    unlisted_so : is_among v b.announced ≡ false
     unlisted_so = listed_announced false (sym fresh)
 
     more_so : size (led_to base b.withdrawn (v ∷ b.announced)) ≡ s.count + 1
     more_so = size_announced base b.withdrawn b.announced v out unlisted_so ∙ ap (λ n. n + 1) (sym st.count)
 
-    by_size : (full : Bool) → nat_lt 16777215 (s.count + 1) ≡ full → model.stage base b true v ≡ (if full then model.Over else model.Stays (record b { announced = v ∷ b.announced }))
+    by_size : (full : Bool) → nat_lt 16777215 (s.count + 1) ≡ full → rules.stage base b true v ≡ (if full then rules.Over else rules.Stays (record b { announced = v ∷ b.announced }))
     by_size full is =
         (λ i. by_announced (out i) (unlisted_so i))
-        ∙ ap (λ t. if t then model.Over else model.Stays (record b { announced = v ∷ b.announced })) (ap (λ n. nat_lt 16777215 n) more_so ∙ is)
+        ∙ ap (λ t. if t then rules.Over else rules.Stays (record b { announced = v ∷ b.announced })) (ap (λ n. nat_lt 16777215 n) more_so ∙ is)
 
     pub over_announced : (new : Staging) → 16777215 ≤ s.count → GoesTo base b true v (Err TooMany) new
-    over_announced new full = subst (λ x. Answers base b x (Err TooMany) new) (sym (by_size true (grind (arith, nat_tests)))) tt
+    over_announced new full = subst (λ x. StagesRecord base b x (Err TooMany) new) (sym (by_size true (grind (arith, nat_tests)))) tt
 
-    goes_announced : s.count < 16777215 → model.stage base b true v ≡ model.Stays (record b { announced = v ∷ b.announced })
+    goes_announced : s.count < 16777215 → rules.stage base b true v ≡ rules.Stays (record b { announced = v ∷ b.announced })
     goes_announced room = by_size false (grind (arith, nat_tests))
 
     pub lacks_announced : (new : Staging) → s.count < 16777215 → GoesTo base b true v (Err Memory) new
-    lacks_announced new room = subst (λ x. Answers base b x (Err Memory) new) (sym (goes_announced room)) tt
+    lacks_announced new room = subst (λ x. StagesRecord base b x (Err Memory) new) (sym (goes_announced room)) tt
 
     pub stays_announced : (set : VrpSet) (count : ℕ) → s.count < 16777215 → set ≡ with_member s.announced v → count ≡ s.count + 1
         → GoesTo base b true v (Ok Stays) (record s { announced = set; count = count })
     stays_announced set count room more one =
-        subst (λ x. Answers base b x (Ok Stays) (record s { announced = set; count = count })) (sym (goes_announced room)) (staged, refl, refl)
+        subst (λ x. StagesRecord base b x (Ok Stays) (record s { announced = set; count = count })) (sym (goes_announced room)) (staged, refl, refl)
       where
-        once : (w : Bool) → (w && may_announce base b.announced) ≡ true → (w && ((not (has base v) && not (is_listed v b.announced)) && may_announce base b.announced)) ≡ true
+        once : (w : Bool) → (w && may_announce base b.announced) ≡ true → (w && ((not (has base v) && not (is_among v b.announced)) && may_announce base b.announced)) ≡ true
         once w h = (λ i. w && ((not (out i) && not (unlisted_so i)) && may_announce base b.announced)) ∙ h
 
         staged : IsStaged base b.withdrawn (v ∷ b.announced) (record s { announced = set; count = count })
@@ -234,11 +235,11 @@ module _ (base : VrpSet) (b : Begun) (s : Staging) (st : IsStaged base b.withdra
       let le = size_le s.announced (union (without base s.withdrawn) s.announced) (λ q one. has-union (without base s.withdrawn) s.announced q ∙ ap (λ x. has (without base s.withdrawn) q || x) one ∙ or-true (has (without base s.withdrawn) q)) in
       omega (arith, le, led_fits)
 
-  by_tie : (w : List Payload) (q x : Payload) (t : Bool) → has base x ≡ true → (is_listed q w ≡ true → has base q ≡ true) → same_vrp q x ≡ t → (t || is_listed q w) ≡ true → has base q ≡ true
+  by_tie : (w : List Payload) (q x : Payload) (t : Bool) → has base x ≡ true → (is_among q w ≡ true → has base q ≡ true) → same_vrp q x ≡ t → (t || is_among q w) ≡ true → has base q ≡ true
   by_tie w q x true known later is one = ap (λ y. has base y) (tells_apart vrp_exact q x is) ∙ known
   by_tie w q x false known later is one = later one
 
-  known_all : (w : List Payload) → AllByRecursion (λ x. has base x ≡ true) w → (q : Payload) → is_listed q w ≡ true → has base q ≡ true
+  known_all : (w : List Payload) → AllByRecursion (λ x. has base x ≡ true) w → (q : Payload) → is_among q w ≡ true → has base q ≡ true
   known_all [] h q one = false_true one
   known_all (x ∷ w) h q one = by_tie w q x (same_vrp q x) h.0 (known_all w h.1 q) refl one
 
@@ -257,15 +258,15 @@ same_error {T = T} r q x y t a b d e = d ∙ ap Err (sym b ∙ error_is {T = T} 
 
 -- The end of an answer, from nothing and from a table
 led_empty : (w a : List Payload) → led_to empty w a ≡ set_of a
-led_empty w a = same_set _ _ (λ q. has-led empty w a q ∙ ap (λ b. (b && not (is_listed q w)) || is_listed q a) (has-empty q) ∙ sym (has-set_of a q))
+led_empty w a = same_set _ _ (λ q. has-led empty w a q ∙ ap (λ b. (b && not (is_among q w)) || is_among q a) (has-empty q) ∙ sym (has-set_of a q))
 
-pub leads_from_nothing : (b : Begun) (s : Staging) (result : Result VrpSet SetFault) → IfOk result (λ table. table ≡ s.announced) → ¬ (IsErrOf result TooMany) → IsStaged empty b.withdrawn b.announced s → LeadsTo empty b result
+pub leads_from_nothing : (b : Begun) (s : Staging) (result : Result VrpSet SetFault) → IfOk result (λ table. table ≡ s.announced) → ¬ (IsErrOf result TooMany) → IsStaged empty b.withdrawn b.announced s → LeadsToSet empty b result
 leads_from_nothing b s (Ok table) is fits st = is ∙ st.announced_are ∙ sym (led_empty b.withdrawn b.announced)
 leads_from_nothing b s (Err Memory) is fits st = refl
 leads_from_nothing b s (Err TooMany) is fits st = absurd (fits refl)
 
 pub leads_from : (base : VrpSet) (b : Begun) (s : Staging) (result : Result VrpSet SetFault) → IfOk result (λ table. table ≡ union (without base s.withdrawn) s.announced) → ¬ (IsErrOf result TooMany)
-    → IsStaged base b.withdrawn b.announced s → LeadsTo base b result
+    → IsStaged base b.withdrawn b.announced s → LeadsToSet base b result
 leads_from base b s (Ok table) is fits st = is ∙ led_is base b s st
 leads_from base b s (Err Memory) is fits st = refl
 leads_from base b s (Err TooMany) is fits st = absurd (fits refl)

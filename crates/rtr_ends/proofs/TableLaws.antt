@@ -8,7 +8,7 @@ use Rattle.prefixes.specs.Payload.{Payload, vrp_cmp}
 use Rattle.vrps.specs.VrpSet.{VrpSet, empty, has, set_of, without}
 use Rattle.vrps.proofs.SetLaws.{same_set, has-empty, has-union, has-without}
 use Rattle.rtr_ends.specs.Commit.{Commits}
-use Rattle.rtr_ends.specs.Transcript.{is_listed, may_withdraw, may_announce, acts_once, led_to, ActsExactly}
+use Rattle.rtr_ends.specs.Transcript.{is_among, may_withdraw, may_announce, acts_once, led_to, ActsExactly}
 
 pub false_true : {P : Type 0} → false ≡ true → P
 false_true h = absurd (let e : false ≡ true = h in cc)
@@ -28,11 +28,11 @@ led_from_empty vs = same_set _ _ (λ q.
     ∙ ap (λ b. b || has (set_of vs) q) (has-without empty (set_of []) q ∙ ap (λ b. b && not (has (set_of []) q)) (has-empty q)))
 
 -- A payload that is not listed is none of the list.
-apart : (v : Payload) (vs : List Payload) → is_listed v vs ≡ false → AllByRecursion (λ w. eq_by_cmp vrp_cmp v w ≡ false) vs
+apart : (v : Payload) (vs : List Payload) → is_among v vs ≡ false → AllByRecursion (λ w. eq_by_cmp vrp_cmp v w ≡ false) vs
 apart v [] h = tt
-apart v (w ∷ vs) h = let parts = or_parts (eq_by_cmp vrp_cmp v w) (is_listed v vs) h in (parts.0, apart v vs parts.1)
+apart v (w ∷ vs) h = let parts = or_parts (eq_by_cmp vrp_cmp v w) (is_among v vs) h in (parts.0, apart v vs parts.1)
 
-not_listed : (v : Payload) (vs : List Payload) → AllByRecursion (λ w. eq_by_cmp vrp_cmp v w ≡ false) vs → is_listed v vs ≡ false
+not_listed : (v : Payload) (vs : List Payload) → AllByRecursion (λ w. eq_by_cmp vrp_cmp v w ≡ false) vs → is_among v vs ≡ false
 not_listed v [] h = refl
 not_listed v (w ∷ vs) h = λ i. h.0 i || not_listed v vs h.1 i
 
@@ -41,30 +41,30 @@ withdraws : (base : VrpSet) (vs : List Payload) → may_withdraw base vs ≡ tru
 unfolding IsDistinct
 withdraws base [] h = (tt, tt)
 withdraws base (v ∷ vs) h =
-    let parts = and_parts (has base v && not (is_listed v vs)) (may_withdraw base vs) h in
-    let first = and_parts (has base v) (not (is_listed v vs)) parts.0 in
+    let parts = and_parts (has base v && not (is_among v vs)) (may_withdraw base vs) h in
+    let first = and_parts (has base v) (not (is_among v vs)) parts.0 in
     let rest = withdraws base vs parts.1 in
-    ((first.0, rest.0), (apart v vs (not_true (is_listed v vs) first.1), rest.1))
+    ((first.0, rest.0), (apart v vs (not_true (is_among v vs) first.1), rest.1))
 
 may_withdraw_so : (base : VrpSet) (vs : List Payload) → AllByRecursion (λ v. has base v ≡ true) vs → IsDistinct (eq_by_cmp vrp_cmp) vs → may_withdraw base vs ≡ true
 unfolding IsDistinct
 may_withdraw_so base [] known once = refl
-may_withdraw_so base (v ∷ vs) known once = λ i. (known.0 i && not_false (is_listed v vs) (not_listed v vs once.0) i) && may_withdraw_so base vs known.1 once.1 i
+may_withdraw_so base (v ∷ vs) known once = λ i. (known.0 i && not_false (is_among v vs) (not_listed v vs once.0) i) && may_withdraw_so base vs known.1 once.1 i
 
 -- the records announced
 announces : (base : VrpSet) (vs : List Payload) → may_announce base vs ≡ true → AllByRecursion (λ v. has base v ≡ false) vs × IsDistinct (eq_by_cmp vrp_cmp) vs
 unfolding IsDistinct
 announces base [] h = (tt, tt)
 announces base (v ∷ vs) h =
-    let parts = and_parts (not (has base v) && not (is_listed v vs)) (may_announce base vs) h in
-    let first = and_parts (not (has base v)) (not (is_listed v vs)) parts.0 in
+    let parts = and_parts (not (has base v) && not (is_among v vs)) (may_announce base vs) h in
+    let first = and_parts (not (has base v)) (not (is_among v vs)) parts.0 in
     let rest = announces base vs parts.1 in
-    ((not_true (has base v) first.0, rest.0), (apart v vs (not_true (is_listed v vs) first.1), rest.1))
+    ((not_true (has base v) first.0, rest.0), (apart v vs (not_true (is_among v vs) first.1), rest.1))
 
 may_announce_so : (base : VrpSet) (vs : List Payload) → AllByRecursion (λ v. has base v ≡ false) vs → IsDistinct (eq_by_cmp vrp_cmp) vs → may_announce base vs ≡ true
 unfolding IsDistinct
 may_announce_so base [] known once = refl
-may_announce_so base (v ∷ vs) known once = λ i. (not_false (has base v) known.0 i && not_false (is_listed v vs) (not_listed v vs once.0) i) && may_announce_so base vs known.1 once.1 i
+may_announce_so base (v ∷ vs) known once = λ i. (not_false (has base v) known.0 i && not_false (is_among v vs) (not_listed v vs once.0) i) && may_announce_so base vs known.1 once.1 i
 
 -- The test of a commit is exact.
 pub acts_exactly : ActsExactly

@@ -3,7 +3,8 @@ use Rattle.std.specs.Prelude.{[], ◌∷◌, ◌++◌}
 use Rattle.std.proofs.Common.{ap}
 use Rattle.rtr_ends.specs.Cache.{Taking, conn_stops, conn_byte, conn_takes, ConnTakes, ConnStops}
 use Rattle.rtr_ends.specs.Cache as cache
-use Rattle.rtr_ends.specs.Router.{Receiving, router_stops, router_byte, receives, clocked, RouterTakes, RouterStops}
+use Rattle.rtr_ends.specs.Router.{Receiving, router_stops, router_byte, receives, clocked}
+use Rattle.rtr_ends.specs.RouterLaws.{RouterTakes, RouterStops}
 use Rattle.rtr_ends.specs.Router as router
 use Rattle.rtr_ends.specs.Transcript.{At}
 use Rattle.rtr_ends.proofs.FeedingLaws.{feed_takes}
@@ -14,7 +15,7 @@ conn_takes_so keep t i wanting piece o = feed_takes (λ m. conn_stops m.conn) (c
 
 pub conn_stops_so : ConnStops
 unfolding conn_byte
-conn_stops_so keep t i m b h = ap (λ j. conn_stops (cache.with_judged keep t i m (m.conn.held ++ b ∷ []) j).conn) h
+conn_stops_so keep t i m b h = ap (λ j. conn_stops (cache.conn_judged keep t i m (m.conn.held ++ b ∷ []) j).conn) h
 
 pub router_takes_so : RouterTakes
 unfolding receives
@@ -22,4 +23,4 @@ router_takes_so now wanting piece r = feed_takes (λ m. router_stops m.router) r
 
 pub router_stops_so : RouterStops
 unfolding router_byte
-router_stops_so m b h = ap (λ j. router_stops (router.with_judged m (m.router.held ++ b ∷ []) j).router) h
+router_stops_so m b h = ap (λ j. router_stops (router.router_judged m (m.router.held ++ b ∷ []) j).router) h

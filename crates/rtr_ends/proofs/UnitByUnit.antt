@@ -11,7 +11,7 @@ use Rattle.rtr_pdu.specs.declared.unit.Unit.{Unit}
 use Rattle.rtr_pdu.specs.declared.unit.UnitFault.{UnitFault}
 use Rattle.rtr_pdu.proofs.JudgingLaws.{begins_exactly, reads_judged, shows_judged}
 use Rattle.rtr_pdu.proofs.NextLaws.{next_shortest}
-use Rattle.rtr_ends.specs.Feeding.{Fed, feed}
+use Rattle.rtr_ends.specs.Feeding.{FedPiece, feed}
 use Rattle.rtr_ends.proofs.FeedingLaws.{goes_on, stopped}
 
 -- The machine: what it holds of a unit, and whether that may show any version; the machine that holds these bytes; and what comes
@@ -44,7 +44,7 @@ with_last x [] = refl
 with_last x (y ∷ xs) = ap (λ l. x ∷ l) (with_last y xs)
 
 module _ {M : Type 0} (w : ByteMachine M) where
-  abbrev pub fed : M → List ℕ → Fed M
+  abbrev pub fed : M → List ℕ → FedPiece M
   fed m piece = feed w.stops w.step m piece
 
   -- A machine that stops takes nothing.

@@ -2,7 +2,7 @@
 use Rattle.std.specs.Prelude.{ℕ, Bool, true, false, ◌==◌, List, [], ◌∷◌, ◌++◌, take, map, Option, Some, None, if◌then◌else◌}
 use Rattle.std.specs.List.{flat_map}
 use Rattle.vrps.specs.Change.{between}
-use Rattle.vrps.specs.Instance.{Instance, Version, versions, with_serial}
+use Rattle.vrps.specs.Instance.{Instance, NumberedSet, versions, with_serial}
 use Rattle.vrps.specs.VrpSet.{VrpSet, listing}
 use Rattle.rtr_pdu.specs.declared.version.Version.TheVariants.{V1}
 use Rattle.rtr_pdu.specs.Code.{CORRUPT_DATA, NO_DATA_AVAILABLE, INVALID_REQUEST}
@@ -41,24 +41,24 @@ abbrev pub withdrawals : VrpSet → List Unit
 withdrawals s = map (λ v. Prefix false v) (listing s)
 
 -- Cache Response, these records, and End of Data of this version (RFC 8210 section 8.1)
-abbrev pub response : ℕ → Intervals → Version → List Unit → List Unit
+abbrev pub response : ℕ → Intervals → NumberedSet → List Unit → List Unit
 response session t now records =
     CacheResponse session ∷ records ++ EndOfData session now.serial t.refresh t.retry t.expire ∷ []
 
 -- To a Reset Query: all of the current version (RFC 8210 section 8.1). Where nothing is published: No Data Available (RFC 8210 section 8.4).
-abbrev pub whole_answer : ℕ → Intervals → List Version → List Unit
+abbrev pub whole_answer : ℕ → Intervals → List NumberedSet → List Unit
 whole_answer session t [] = report NO_DATA_AVAILABLE (sent ResetQuery) ∷ []
 whole_answer session t (now ∷ older) = response session t now (announcements now.set)
 
 -- What leads from a version that is kept to the current one, withdrawals first (RFC 8210 section 8.2), or a Cache Reset (RFC 8210 section 8.3)
-abbrev pub step_answer : ℕ → Intervals → Version → Option Version → List Unit
+abbrev pub step_answer : ℕ → Intervals → NumberedSet → Option NumberedSet → List Unit
 step_answer session t now None = CacheReset ∷ []
 step_answer session t now (Some before) =
     let change = between before.set now.set in
     response session t now (withdrawals change.withdraw ++ announcements change.announce)
 
 -- To a Serial Query of this session: the newest version of that serial among the current one and the keep versions before it
-abbrev pub serial_answer : ℕ → ℕ → Intervals → ℕ → List Version → List Unit
+abbrev pub serial_answer : ℕ → ℕ → Intervals → ℕ → List NumberedSet → List Unit
 serial_answer session keep t serial [] = report NO_DATA_AVAILABLE (sent (SerialQuery session serial)) ∷ []
 serial_answer session keep t serial (now ∷ older) = step_answer session t now (with_serial serial (now ∷ take keep older))
 

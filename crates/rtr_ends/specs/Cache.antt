@@ -7,8 +7,8 @@ use Rattle.vrps.specs.VrpSet.{VrpSet, IsVrpSet}
 use Rattle.rtr_pdu.specs.declared.version.Version.TheVariants.{V1}
 use Rattle.rtr_pdu.specs.Judging.{Judgement, Begins, Whole, Faulty, judge}
 use Rattle.rtr_pdu.specs.Payloads.{AreBytes}
-use Rattle.rtr_ends.specs.Connection.{Connection, Moment, Read, Wanting, Fault, Notify, Pull, IsHistory, opened, after, after_all, is_published, pulled, replies, takes_memory}
-use Rattle.rtr_ends.specs.Feeding.{Fed, feed, IsTaken}
+use Rattle.rtr_ends.specs.Connection.{Connection, ConnMoment, Read, Wanting, Fault, Notify, Pull, IsHistory, opened, conn_after, after_all, is_published, pulled, replies, takes_memory}
+use Rattle.rtr_ends.specs.Feeding.{FedPiece, feed, IsTaken}
 use Rattle.rtr_ends.specs.Timing.{Intervals}
 
 -- The connection between two moments, and what has come of a unit
@@ -28,14 +28,14 @@ abbrev pub conn_stops : Conn → Bool
 conn_stops o = o.state.ended || not (is_none o.state.due)
 
 -- The moment that the last of these bytes brings. Want of memory acts only where the answer takes memory.
-abbrev pub moment_of : Instance → Bool → List ℕ → Judgement → Option Moment
-moment_of i memory bytes Begins = None
-moment_of i memory bytes (Whole u) = Some (if takes_memory i u && not memory then Wanting i u bytes else Read i u bytes)
-moment_of i memory bytes (Faulty fault) = Some (Fault fault bytes)
+abbrev pub conn_moment_of : Instance → Bool → List ℕ → Judgement → Option ConnMoment
+conn_moment_of i memory bytes Begins = None
+conn_moment_of i memory bytes (Whole u) = Some (if takes_memory i u && not memory then Wanting i u bytes else Read i u bytes)
+conn_moment_of i memory bytes (Faulty fault) = Some (Fault fault bytes)
 
-abbrev pub with_moment : ℕ → Intervals → List ℕ → Conn → Option Moment → Conn
+abbrev pub with_moment : ℕ → Intervals → List ℕ → Conn → Option ConnMoment → Conn
 with_moment keep t bytes o None = record o { held = bytes }
-with_moment keep t bytes o (Some m) = record { state = after keep t o.state m; held = [] }
+with_moment keep t bytes o (Some m) = record { state = conn_after keep t o.state m; held = [] }
 
 -- At which unit that comes, counted from 0, memory is wanting
 abbrev pub finds_memory : Option ℕ → Bool
@@ -50,24 +50,24 @@ counted judgement wanting = wanting
 -- A connection that takes a piece, with the moments that came by it so far
 pub record Taking : Type 0 where
   pub conn : Conn
-  pub moments : List Moment
+  pub moments : List ConnMoment
   pub wanting : Option ℕ
 
-abbrev pub and_moment : List Moment → Option Moment → List Moment
+abbrev pub and_moment : List ConnMoment → Option ConnMoment → List ConnMoment
 and_moment moments None = moments
 and_moment moments (Some m) = moments ++ m ∷ []
 
-abbrev pub with_judged : ℕ → Intervals → Instance → Taking → List ℕ → Judgement → Taking
-with_judged keep t i m bytes judgement =
-    let came = moment_of i (finds_memory m.wanting) bytes judgement in
+abbrev pub conn_judged : ℕ → Intervals → Instance → Taking → List ℕ → Judgement → Taking
+conn_judged keep t i m bytes judgement =
+    let came = conn_moment_of i (finds_memory m.wanting) bytes judgement in
     record { conn = with_moment keep t bytes m.conn came; moments = and_moment m.moments came; wanting = counted judgement m.wanting }
 
 -- the next byte
 unfoldable pub conn_byte : ℕ → Intervals → Instance → Taking → ℕ → Taking
-conn_byte keep t i m b = with_judged keep t i m (m.conn.held ++ b ∷ []) (judge V1 false (m.conn.held ++ b ∷ []))
+conn_byte keep t i m b = conn_judged keep t i m (m.conn.held ++ b ∷ []) (judge V1 false (m.conn.held ++ b ∷ []))
 
 -- A piece is handed in; memory is wanting at this unit of it, if at any.
-unfoldable pub conn_takes : ℕ → Intervals → Instance → Option ℕ → List ℕ → Conn → Fed Taking
+unfoldable pub conn_takes : ℕ → Intervals → Instance → Option ℕ → List ℕ → Conn → FedPiece Taking
 conn_takes keep t i wanting piece o =
     feed (λ m. conn_stops m.conn) (conn_byte keep t i) (record { conn = o; moments = []; wanting = wanting }) piece
 
@@ -76,38 +76,38 @@ abbrev pub can_notify : Instance → Conn → Bool
 can_notify i o = is_published i && not (conn_stops o)
 
 unfoldable pub conn_notified : ℕ → Intervals → Instance → Conn → Conn
-conn_notified keep t i o = if can_notify i o then record o { state = after keep t o.state (Notify i) } else o
+conn_notified keep t i o = if can_notify i o then record o { state = conn_after keep t o.state (Notify i) } else o
 
 -- At most so many of the bytes due are pulled.
 abbrev pub pulled_count : ℕ → Conn → ℕ
 pulled_count most o = min most (length o.state.due)
 
 unfoldable pub conn_pulled : ℕ → Intervals → ℕ → Conn → Conn
-conn_pulled keep t most o = record o { state = after keep t o.state (Pull (pulled_count most o)) }
+conn_pulled keep t most o = record o { state = conn_after keep t o.state (Pull (pulled_count most o)) }
 
 -- What is called on a connection: a set is published; a piece is handed in; bytes are pulled; the router is notified.
-pub data CacheCall : Type 0 where
-  Publishes : (set : VrpSet) → CacheCall
-  Takes : (wanting : Option ℕ) → (piece : List ℕ) → CacheCall
-  Gives : (most : ℕ) → CacheCall
-  Notifies : CacheCall
+pub data ConnCall : Type 0 where
+  Publishes : (set : VrpSet) → ConnCall
+  Takes : (wanting : Option ℕ) → (piece : List ℕ) → ConnCall
+  Gives : (most : ℕ) → ConnCall
+  Notifies : ConnCall
 
 -- A cache that serves one connection, with the moments of that, the bytes that came by them or are held, and those pulled
 pub record Serving : Type 0 where
   pub cache : Instance
   pub conn : Conn
-  pub moments : List Moment
+  pub moments : List ConnMoment
   pub came : List ℕ
   pub given : List ℕ
 
-abbrev pub with_taken : List ℕ → Serving → Fed Taking → Serving
+abbrev pub with_taken : List ℕ → Serving → FedPiece Taking → Serving
 with_taken piece s f = record s {
   conn = f.machine.conn;
   moments = s.moments ++ f.machine.moments;
   came = s.came ++ take (length piece - length f.rest) piece;
 }
 
-abbrev pub serve : ℕ → Intervals → CacheCall → Serving → Serving
+abbrev pub serve : ℕ → Intervals → ConnCall → Serving → Serving
 serve keep t (Publishes set) s = record s { cache = published set s.cache }
 serve keep t (Takes wanting piece) s = with_taken piece s (conn_takes keep t s.cache wanting piece s.conn)
 serve keep t (Gives most) s = record s {
@@ -121,16 +121,16 @@ serve keep t Notifies s = record s {
 }
 
 -- after these calls, the last first, on a connection that was opened at this instance
-abbrev pub serving : ℕ → Intervals → Instance → List CacheCall → Serving
+abbrev pub serving : ℕ → Intervals → Instance → List ConnCall → Serving
 serving keep t i [] = record { cache = i; conn = new_conn i; moments = []; came = []; given = [] }
 serving keep t i (call ∷ calls) = serve keep t call (serving keep t i calls)
 
 -- what is published can be, and what is handed in are bytes
-abbrev pub IsCacheCall : CacheCall → Type 0
-IsCacheCall (Publishes set) = IsVrpSet set
-IsCacheCall (Takes wanting piece) = AreBytes piece
-IsCacheCall (Gives most) = ⊤
-IsCacheCall Notifies = ⊤
+abbrev pub IsConnCall : ConnCall → Type 0
+IsConnCall (Publishes set) = IsVrpSet set
+IsConnCall (Takes wanting piece) = AreBytes piece
+IsConnCall (Gives most) = ⊤
+IsConnCall Notifies = ⊤
 
 -- What a connection takes of a piece, whatever it is
 abbrev pub ConnTakes : Type 0
@@ -155,5 +155,5 @@ pub record IsServed (keep : ℕ) (t : Intervals) (i : Instance) (s : Serving) : 
 
 abbrev pub ServesHistory : Type 0
 ServesHistory =
-    (keep : ℕ) (t : Intervals) (i : Instance) (calls : List CacheCall) → IsInstance i → AllByRecursion IsCacheCall calls →
+    (keep : ℕ) (t : Intervals) (i : Instance) (calls : List ConnCall) → IsInstance i → AllByRecursion IsConnCall calls →
     IsServed keep t i (serving keep t i calls)

@@ -2,15 +2,15 @@
 use Rattle.std.specs.Prelude.{◌≡◌, ℕ, ◌-◌, ◌<◌, ◌==◌, Bool, true, false, not, List, [], ◌∷◌, length, Box, Option, Some, None, IsSome, IfSome, Result, Ok, Err, slice_get, option_map, if◌then◌else◌, ⊤}
 use Rattle.std.specs.declared.alloc.AllocError.{AllocError}
 use Rattle.std.specs.List.{AllByRecursion}
-use Rattle.vrps.specs.Instance.{Instance, IsInstance, Version, versions}
+use Rattle.vrps.specs.Instance.{Instance, IsInstance, NumberedSet, versions}
 use Rattle.vrps.specs.Store.{published}
 use Rattle.vrps.specs.Stores.{newest}
 use Rattle.vrps.specs.VrpSet.{IsVrpSet, VrpSet}
 use Rattle.rtr_pdu.specs.Payloads.{AreBytes}
-use Rattle.rtr_ends.specs.Cache.{CacheCall, Conn, Gives, IsServed, Notifies, Publishes, Serving, Takes, can_notify, conn_notified, conn_pulled, conn_takes, is_none, new_conn, serve, serving}
-use Rattle.rtr_ends.specs.Peer.{HasRoom, ShowsPeer, held_by, is_wanted}
+use Rattle.rtr_ends.specs.Cache.{ConnCall, Conn, Gives, IsServed, Notifies, Publishes, Serving, Takes, can_notify, conn_notified, conn_pulled, conn_takes, is_none, new_conn, serve, serving}
+use Rattle.rtr_ends.specs.Peer.{HasBufferRoom, ShowsPeer, held_by_peer, is_wanted_by_peer}
 use Rattle.rtr_ends.specs.Sender as sends
-use Rattle.rtr_ends.specs.Sender.{version_of}
+use Rattle.rtr_ends.specs.Sender.{numbered_of}
 use Rattle.rtr_ends.specs.Timing.{Intervals}
 use Rattle.rtr_ends.specs.declared.cache.Cache.{Cache}
 use Rattle.rtr_ends.specs.declared.cache.Conn.{Conn as Number}
@@ -38,9 +38,9 @@ abbrev pub taken : Option ℕ → List ℕ → ℕ → CacheState → CacheState
 taken wanting piece c m = with_conn c (option_map (λ o. (conn_takes m.keep m.timing m.cache wanting piece o).machine.conn) (m.at c)) m
 
 -- so many bytes of it are consumed
-abbrev pub consumed : Option ℕ → List ℕ → CacheState → Option Conn → ℕ
-consumed wanting piece m None = 0
-consumed wanting piece m (Some o) = length piece - length (conn_takes m.keep m.timing m.cache wanting piece o).rest
+abbrev pub conn_consumed : Option ℕ → List ℕ → CacheState → Option Conn → ℕ
+conn_consumed wanting piece m None = 0
+conn_consumed wanting piece m (Some o) = length piece - length (conn_takes m.keep m.timing m.cache wanting piece o).rest
 
 -- At most so many of the bytes due on a connection are pulled.
 abbrev pub given : ℕ → ℕ → CacheState → CacheState
@@ -54,9 +54,9 @@ due_at (Some o) = o.state.due
 abbrev pub notified : ℕ → CacheState → CacheState
 notified c m = with_conn c (option_map (conn_notified m.keep m.timing m.cache) (m.at c)) m
 
-abbrev pub notifies_at : Instance → Option Conn → Bool
-notifies_at i None = false
-notifies_at i (Some o) = can_notify i o
+abbrev pub can_notify_at : Instance → Option Conn → Bool
+can_notify_at i None = false
+can_notify_at i (Some o) = can_notify i o
 
 abbrev pub is_open_at : Option Conn → Bool
 is_open_at None = false
@@ -99,22 +99,22 @@ pub record ShowsCache {S : Type 0} (holds : ℕ → Instance → S → Type 0) (
 -- Memory is wanting at this unit of a piece: it is read, and its answer takes memory.
 abbrev pub is_wanted_at : List ℕ → CacheState → Option Conn → ℕ → Bool
 is_wanted_at piece m None unit = false
-is_wanted_at piece m (Some o) unit = is_wanted m.keep m.timing m.cache o piece unit
+is_wanted_at piece m (Some o) unit = is_wanted_by_peer m.keep m.timing m.cache o piece unit
 
 -- No connection holds more than 4,096 bytes that were received, nor more than 4,096 that are ready to be pulled.
 abbrev pub AllHaveRoom : {S : Type 0} → Cache S → Type 0
-AllHaveRoom cache = (c : ℕ) → IfSome (peer_at cache.peers.items c) (λ p. HasRoom (held_by p))
+AllHaveRoom cache = (c : ℕ) → IfSome (peer_at cache.peers.items c) (λ p. HasBufferRoom (held_by_peer p))
 
 -- what is answered to a piece
 pub record TakesPiece {S : Type 0} (holds : ℕ → Instance → S → Type 0) (m : CacheState) (c : ℕ) (piece : List ℕ) (result : ℕ) (new : Cache S) : Type 0 where
   pub wanting : Option ℕ
   pub wanted : IfSome wanting (λ unit. is_wanted_at piece m (m.at c) unit ≡ true)
   pub shows : ShowsCache holds (taken wanting piece c m) new
-  pub result_is : result ≡ consumed wanting piece m (m.at c)
+  pub result_is : result ≡ conn_consumed wanting piece m (m.at c)
 
 -- and where bytes are pulled
 pub record GivesBytes {S : Type 0} (holds : ℕ → Instance → S → Type 0) (m : CacheState) (c : ℕ) (out : List ℕ) (result : ℕ) (now : List ℕ) (new : Cache S) : Type 0 where
-  pub gives : sends.Gives (due_at (m.at c)) out result now (due_at ((given (length out) c m).at c))
+  pub gives : sends.PullsBytes (due_at (m.at c)) out result now (due_at ((given (length out) c m).at c))
   pub shows : ShowsCache holds (given (length out) c m) new
 
 -- A connection is opened, or memory is wanting and nothing is changed.
@@ -123,14 +123,14 @@ Opens holds m (Ok conn) new = IsLeastFree m.at conn.0 × ShowsCache holds (with_
 Opens holds m (Err error) new = ShowsCache holds m new
 
 -- What a connection shows at one instance it shows at another of the same session, at which this is the newest version.
-abbrev pub Brings : Version → Option Peer → Option Peer → Type 0
+abbrev pub Brings : NumberedSet → Option Peer → Option Peer → Type 0
 Brings v old new =
     (t : Intervals) (i j : Instance) (a : Option Conn) → i.session ≡ j.session → Some v ≡ newest (versions j) → ShowsSlot t i a old → ShowsSlot t j a new
 
 -- One connection has a share of a newer version.
 pub record OffersAt {A : Type 0} (old : List (Option (Box Peer A))) (c : ℕ) (share : Share) (new : List (Option (Box Peer A))) : Type 0 where
   pub len : length new ≡ length old
-  pub here : Brings (version_of share) (peer_at old c) (peer_at new c)
+  pub here : Brings (numbered_of share) (peer_at old c) (peer_at new c)
   pub others : (d : ℕ) → ¬ (d ≡ c) → peer_at new d ≡ peer_at old d
 
 -- Each connection has a share of a newer version of this serial, where all these sets are its set.
@@ -140,37 +140,37 @@ HandsOut old serial sets new =
 
 -- What is called on a cache: a set is published; a connection is opened under a number or closed; a piece is handed in; bytes are
 -- pulled; a router is notified.
-pub data Call : Type 0 where
-  Publish : (set : VrpSet) → Call
-  Open : (c : ℕ) → Call
-  Close : (c : ℕ) → Call
-  Receive : (c : ℕ) → (wanting : Option ℕ) → (piece : List ℕ) → Call
-  Pull : (c : ℕ) → (most : ℕ) → Call
-  Notify : (c : ℕ) → Call
+pub data CacheCall : Type 0 where
+  Publish : (set : VrpSet) → CacheCall
+  Open : (c : ℕ) → CacheCall
+  Close : (c : ℕ) → CacheCall
+  Receive : (c : ℕ) → (wanting : Option ℕ) → (piece : List ℕ) → CacheCall
+  Pull : (c : ℕ) → (most : ℕ) → CacheCall
+  Notify : (c : ℕ) → CacheCall
 
-abbrev pub called : Call → CacheState → CacheState
-called (Publish set) m = record m { cache = published set m.cache }
-called (Open c) m = with_conn c (Some (new_conn m.cache)) m
-called (Close c) m = with_conn c None m
-called (Receive c wanting piece) m = taken wanting piece c m
-called (Pull c most) m = given most c m
-called (Notify c) m = notified c m
+abbrev pub cache_called : CacheCall → CacheState → CacheState
+cache_called (Publish set) m = record m { cache = published set m.cache }
+cache_called (Open c) m = with_conn c (Some (new_conn m.cache)) m
+cache_called (Close c) m = with_conn c None m
+cache_called (Receive c wanting piece) m = taken wanting piece c m
+cache_called (Pull c most) m = given most c m
+cache_called (Notify c) m = notified c m
 
 -- after these calls, the last first
-abbrev pub ran : List Call → CacheState → CacheState
+abbrev pub ran : List CacheCall → CacheState → CacheState
 ran [] m = m
-ran (call ∷ calls) m = called call (ran calls m)
+ran (call ∷ calls) m = cache_called call (ran calls m)
 
 -- a connection since it was opened, at an instance
 pub record Life : Type 0 where
   pub opened : Instance
   pub serving : Serving
 
-abbrev pub serves : ℕ → Intervals → CacheCall → Life → Life
+abbrev pub serves : ℕ → Intervals → ConnCall → Life → Life
 serves keep t call l = record l { serving = serve keep t call l.serving }
 
 -- what a call is to the connection of a number, by the instance before it
-abbrev pub life_after : Call → CacheState → ℕ → Option Life → Option Life
+abbrev pub life_after : CacheCall → CacheState → ℕ → Option Life → Option Life
 life_after (Publish set) m c l = option_map (serves m.keep m.timing (Publishes set)) l
 life_after (Open d) m c l = if c == d then Some (record { opened = m.cache; serving = serving m.keep m.timing m.cache [] }) else l
 life_after (Close d) m c l = if c == d then None else l
@@ -179,14 +179,14 @@ life_after (Pull d most) m c l = if c == d then option_map (serves m.keep m.timi
 life_after (Notify d) m c l = if c == d then option_map (serves m.keep m.timing Notifies) l else l
 
 -- the connection under a number, since it was opened last and as long as it is not closed
-abbrev pub life : List Call → CacheState → ℕ → Option Life
+abbrev pub life : List CacheCall → CacheState → ℕ → Option Life
 life [] m c = None
 life (call ∷ calls) m c = life_after call (ran calls m) c (life calls m c)
 
-abbrev pub IsCall : Call → Type 0
-IsCall (Publish set) = IsVrpSet set
-IsCall (Receive c wanting piece) = AreBytes piece
-IsCall call = ⊤
+abbrev pub IsCacheCall : CacheCall → Type 0
+IsCacheCall (Publish set) = IsVrpSet set
+IsCacheCall (Receive c wanting piece) = AreBytes piece
+IsCacheCall call = ⊤
 
 -- After any calls on a new cache, each connection is as its own calls leave it, and they made its history: what came was consumed,
 -- what was pulled is the beginning of its replies, and what is due is the rest of them.
@@ -197,5 +197,5 @@ pub record IsLife (keep : ℕ) (t : Intervals) (i : Instance) (a : Option Conn) 
 
 abbrev pub EachIsServed : Type 0
 EachIsServed =
-    (keep : ℕ) (t : Intervals) (i : Instance) (calls : List Call) → IsInstance i → AllByRecursion IsCall calls → (c : ℕ) →
+    (keep : ℕ) (t : Intervals) (i : Instance) (calls : List CacheCall) → IsInstance i → AllByRecursion IsCacheCall calls → (c : ℕ) →
     let m : CacheState = ran calls (without_conns keep t i) in IsLife m.keep m.timing m.cache (m.at c) (life calls (without_conns keep t i) c)

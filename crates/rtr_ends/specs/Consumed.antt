@@ -6,17 +6,19 @@ use Rattle.rtr_pdu.specs.Payloads.{AreBytes}
 use Rattle.rtr_pdu.specs.Stream.{Splits}
 use Rattle.rtr_pdu.specs.declared.unit.Unit.{Unit}
 use Rattle.rtr_pdu.specs.declared.unit.UnitFault.{UnitFault}
-use Rattle.rtr_ends.specs.Router.{Router, Call, Connects, Receives, is_closed, is_reading, played, receives}
+use Rattle.rtr_ends.specs.LinkRules.{Router}
+use Rattle.rtr_ends.specs.Router.{RouterCall, Connects, Receives, played, receives}
+use Rattle.rtr_ends.specs.RouterLink.{is_closed, is_reading}
 use Rattle.rtr_ends.specs.Transcript.{Item, Opened, Reads, Lacks, Breaks, Restarts}
 
 -- the units that came on the latest connection, in their order, those included at which memory was wanting
-abbrev pub units_in : List Item → List Unit
-units_in [] = []
-units_in (Opened ∷ items) = []
-units_in (Restarts ∷ items) = []
-units_in (Reads unit ∷ items) = units_in items ++ unit ∷ []
-units_in (Lacks unit ∷ items) = units_in items ++ unit ∷ []
-units_in (item ∷ items) = units_in items
+abbrev pub units_read_in : List Item → List Unit
+units_read_in [] = []
+units_read_in (Opened ∷ items) = []
+units_read_in (Restarts ∷ items) = []
+units_read_in (Reads unit ∷ items) = units_read_in items ++ unit ∷ []
+units_read_in (Lacks unit ∷ items) = units_read_in items ++ unit ∷ []
+units_read_in (item ∷ items) = units_read_in items
 
 -- the fault that its bytes showed
 abbrev pub fault_in : List Item → Option UnitFault
@@ -27,30 +29,30 @@ fault_in (Breaks fault ∷ items) = Some fault
 fault_in (item ∷ items) = fault_in items
 
 -- What a call consumes of the piece that it hands in
-abbrev pub consumed : Call → Router → List ℕ
+abbrev pub consumed : RouterCall → Router → List ℕ
 consumed (Receives now wanting piece) r = take (length piece - length (receives now wanting piece r).rest) piece
 consumed call r = []
 
 -- The bytes consumed on the latest connection by these calls, which stand with the last first
-abbrev pub came : List Call → List ℕ
+abbrev pub came : List RouterCall → List ℕ
 came [] = []
 came (Connects now ∷ calls) = []
 came (call ∷ calls) = came calls ++ consumed call (played calls).router
 
 -- what is handed in are bytes
-abbrev pub IsCall : Call → Type 0
-IsCall (Receives now wanting piece) = AreBytes piece
-IsCall call = ⊤
+abbrev pub IsRouterCall : RouterCall → Type 0
+IsRouterCall (Receives now wanting piece) = AreBytes piece
+IsRouterCall call = ⊤
 
 -- The transcript has the split of these bytes: all units, in their order, and the fault that shows. As long as the router reads
 -- none shows, and what follows the units is held. A closed link holds nothing, and nothing is to be pulled from it.
 pub record IsSplit (r : Router) (items : List Item) (bytes : List ℕ) : Type 0 where
   pub rest : List ℕ
-  pub split : Splits V1 true bytes (units_in items) rest (fault_in items)
+  pub split : Splits V1 true bytes (units_read_in items) rest (fault_in items)
   pub held : is_reading r.link ≡ true → rest ≡ r.held
   pub sound : is_reading r.link ≡ true → fault_in items ≡ None
   pub none_held : is_closed r.link ≡ true → r.held ≡ []
   pub none_out : is_closed r.link ≡ true → r.out ≡ []
 
 abbrev pub RouterSplits : Type 0
-RouterSplits = (calls : List Call) → AllByRecursion IsCall calls → IsSplit (played calls).router (played calls).items (came calls)
+RouterSplits = (calls : List RouterCall) → AllByRecursion IsRouterCall calls → IsSplit (played calls).router (played calls).items (came calls)

@@ -2,14 +2,14 @@
 use Rattle.std.specs.Prelude.{◌≡◌, ℕ, ◌<◌, Bool, true, false, List, [], ◌∷◌, ◌++◌, length}
 
 -- a machine after a piece, and what it left of it
-pub record Fed (M : Type 0) : Type 0 where
+pub record FedPiece (M : Type 0) : Type 0 where
   pub machine : M
   pub rest : List ℕ
 
 -- It stops where it has bytes due or its link has ended.
 module _ {M : Type 0} (stops : M → Bool) (step : M → ℕ → M) where
   -- a piece is handed in, byte by byte
-  abbrev pub feed : M → List ℕ → Fed M
+  abbrev pub feed : M → List ℕ → FedPiece M
   feed m [] = record { machine = m; rest = [] }
   feed m (b ∷ bytes) = elim (stops m) [ true ↦ record { machine = m; rest = b ∷ bytes } | false ↦ feed (step m b) bytes ]
 
@@ -20,7 +20,7 @@ module _ {M : Type 0} (stops : M → Bool) (step : M → ℕ → M) where
 
   -- What a machine takes of a piece: the shortest beginning of it after which the machine stops, else all of it. A machine that
   -- stops already takes nothing.
-  pub record IsTaken (m : M) (piece taken : List ℕ) (after : Fed M) : Type 0 where
+  pub record IsTaken (m : M) (piece taken : List ℕ) (after : FedPiece M) : Type 0 where
     pub piece_is : piece ≡ taken ++ after.rest
     pub machine_is : after.machine ≡ run m taken
     pub shortest : (front back : List ℕ) → taken ≡ front ++ back → 0 < length back → stops (run m front) ≡ false

@@ -7,8 +7,10 @@ use Rattle.rtr_pdu.specs.Device.{GoesOutInPart}
 use Rattle.rtr_pdu.specs.Payloads.{AreBytes}
 use Rattle.rtr_pdu.specs.declared.device.WriteFailed.{WriteFailed as Failed}
 use Rattle.rtr_ends.specs.Consumed.{came}
-use Rattle.rtr_ends.specs.Router.{Router, Link, Idle, Asked, Answering, Ended, Call, Connects, Receives, Pulls, Closes, AsksNow, Ticks, played, is_reading}
-use Rattle.rtr_ends.specs.Shown.{Leads, Led}
+use Rattle.rtr_ends.specs.LinkRules.{Router}
+use Rattle.rtr_ends.specs.Router.{RouterCall, Connects, Receives, Pulls, Closes, AsksNow, Ticks, played}
+use Rattle.rtr_ends.specs.RouterLink.{Link, Idle, Asked, Answering, Ended, is_reading}
+use Rattle.rtr_ends.specs.RouterShown.{CallsLead, Led}
 use Rattle.rtr_ends.specs.declared.fetching.Fetched.{Fetched}
 use Rattle.rtr_ends.specs.declared.fetching.Fetched.TheVariants as outcomes
 use Rattle.rtr_ends.specs.declared.router.Router as code
@@ -16,7 +18,7 @@ use Rattle.rtr_ends.specs.declared.streams.StreamFault.{StreamFault}
 use Rattle.rtr_ends.specs.declared.streams.StreamFault.TheVariants.{ReadFailed, WriteFailed, Memory}
 
 -- What a stream calls on its router while it is connected: it hands in bytes at this moment, and pulls.
-abbrev pub IsFetchCall : ℕ → Call → Type 0
+abbrev pub IsFetchCall : ℕ → RouterCall → Type 0
 IsFetchCall now (Receives at wanting piece) = (at ≡ now) × AreBytes piece
 IsFetchCall now (Pulls most) = ⊤
 IsFetchCall now (Connects at) = ⊥
@@ -25,7 +27,7 @@ IsFetchCall now AsksNow = ⊥
 IsFetchCall now (Ticks at) = ⊥
 
 -- The bytes that these calls, the last first, pulled on the latest connection: questions and reports
-abbrev pub pulled_by : List Call → List ℕ
+abbrev pub pulled_by : List RouterCall → List ℕ
 pulled_by [] = []
 pulled_by (Connects now ∷ calls) = []
 pulled_by (Pulls most ∷ calls) = pulled_by calls ++ take most (played calls).router.out
@@ -51,16 +53,16 @@ IsReached outcomes.PeerClosed = ⊥
 IsReached outcomes.Limit = ⊥
 
 -- All that was pulled has gone out, and nothing is to be pulled.
-abbrev pub AllAsked : List Call → Option (List ℕ) → Option (List ℕ) → Type 0
+abbrev pub AllAsked : List RouterCall → Option (List ℕ) → Option (List ℕ) → Type 0
 AllAsked calls had has = ((played calls).router.out ≡ []) × Appends had has (pulled_by calls)
 
 -- All that was read is consumed, and a question is outstanding.
-abbrev pub StillAsks : List Call → List ℕ → Type 0
+abbrev pub StillAsks : List RouterCall → List ℕ → Type 0
 StillAsks calls unread = (unread ≡ []) × (is_asking (played calls).router.link ≡ true)
 
 -- How a stream ended whose router is where these calls led, where these bytes were read and not consumed and this is left of the input.
 -- What ended the link consumes nothing after it. Where the writer failed, a beginning of what was pulled has gone out.
-abbrev pub FetchEnds : List Call → List ℕ → Option (List ℕ) → Option (List ℕ) → Option (List ℕ) → Result Fetched StreamFault → Type 0
+abbrev pub FetchEnds : List RouterCall → List ℕ → Option (List ℕ) → Option (List ℕ) → Option (List ℕ) → Result Fetched StreamFault → Type 0
 FetchEnds calls unread left had has (Ok outcomes.Committed) =
     AllAsked calls had has × (unread ≡ []) × ((played calls).router.link ≡ Idle) × ((played calls).router.no_data ≡ false)
 FetchEnds calls unread left had has (Ok outcomes.NoData) =
@@ -73,27 +75,27 @@ FetchEnds calls unread left had has (Err WriteFailed) = GoesOutInPart had has (p
 FetchEnds calls unread left had has (Err Memory) = ⊥
 
 -- The calls on a router that was where these calls led, and was connected then
-abbrev pub since : List Call → ℕ → List Call → List Call
-since turns now calls = turns ++ Connects now ∷ calls
+abbrev pub calls_since : List RouterCall → ℕ → List RouterCall → List RouterCall
+calls_since turns now calls = turns ++ Connects now ∷ calls
 
 -- What was read on a connection, in so many calls of at most 4,096 bytes each, was consumed but for what is told; and so it ended.
-pub record FetchesSo (now : ℕ) (calls : List Call) (before left : Option (List ℕ)) (reads : ℕ) (had has : Option (List ℕ)) (result : Result Fetched StreamFault) : Type 0 where
-  pub turns : List Call
+pub record FetchesSo (now : ℕ) (calls : List RouterCall) (before left : Option (List ℕ)) (reads : ℕ) (had has : Option (List ℕ)) (result : Result Fetched StreamFault) : Type 0 where
+  pub turns : List RouterCall
   pub each : AllByRecursion (IsFetchCall now) turns
   pub unread : List ℕ
-  pub consumed : Consumes before left (came (since turns now calls) ++ unread)
-  pub few : length (came (since turns now calls) ++ unread) ≤ MAX_UNIT_LEN * reads
-  pub ends : FetchEnds (since turns now calls) unread left had has result
+  pub consumed : Consumes before left (came (calls_since turns now calls) ++ unread)
+  pub few : length (came (calls_since turns now calls) ++ unread) ≤ MAX_UNIT_LEN * reads
+  pub ends : FetchEnds (calls_since turns now calls) unread left had has result
 
 -- Its connection is still to be closed.
-abbrev pub FetchedAs : ℕ → List Call → Option (List ℕ) → Option (List ℕ) → ℕ → Option (List ℕ) → Option (List ℕ) → Result Fetched StreamFault → code.Router → Type 0
+abbrev pub FetchedAs : ℕ → List RouterCall → Option (List ℕ) → Option (List ℕ) → ℕ → Option (List ℕ) → Option (List ℕ) → Result Fetched StreamFault → code.Router → Type 0
 FetchedAs now calls before left reads had has result new =
-    (f : FetchesSo now calls before left reads had has result) × Leads (since f.turns now calls) new
+    (f : FetchesSo now calls before left reads had has result) × CallsLead (calls_since f.turns now calls) new
 
 -- The router was connected, and is where that, what was read and the end of the connection lead.
-abbrev pub Fetches : ℕ → List Call → Option (List ℕ) → Option (List ℕ) → ℕ → Option (List ℕ) → Option (List ℕ) → Result Fetched StreamFault → code.Router → Type 0
+abbrev pub Fetches : ℕ → List RouterCall → Option (List ℕ) → Option (List ℕ) → ℕ → Option (List ℕ) → Option (List ℕ) → Result Fetched StreamFault → code.Router → Type 0
 Fetches now calls before left reads had has result new =
-    (f : FetchesSo now calls before left reads had has result) × Led (Closes now ∷ since f.turns now calls) new
+    (f : FetchesSo now calls before left reads had has result) × Led (Closes now ∷ calls_since f.turns now calls) new
 
 -- How often was read, where at most so many reads were allowed
 abbrev pub FetchReads : ℕ → ℕ → ℕ → Result Fetched StreamFault → Type 0
@@ -108,10 +110,10 @@ TakesSo r unread sent had has (Ok done) = (r.out ≡ []) × (0 < length unread �
 TakesSo r unread sent had has (Err failed) = GoesOutInPart had has sent
 
 -- with the calls after those, in front of them
-pub record Taken (now : ℕ) (calls : List Call) (piece : List ℕ) (had has : Option (List ℕ)) (result : Result ⊤ Failed) (new : code.Router) : Type 0 where
-  pub more : List Call
+pub record Taken (now : ℕ) (calls : List RouterCall) (piece : List ℕ) (had has : Option (List ℕ)) (result : Result ⊤ Failed) (new : code.Router) : Type 0 where
+  pub more : List RouterCall
   pub each : AllByRecursion (IsFetchCall now) more
-  pub leads : Leads (more ++ calls) new
+  pub leads : CallsLead (more ++ calls) new
   pub unread : List ℕ
   pub came_is : came (more ++ calls) ++ unread ≡ came calls ++ piece
   pub sent : List ℕ
@@ -119,22 +121,22 @@ pub record Taken (now : ℕ) (calls : List Call) (piece : List ℕ) (had has : O
   pub takes : TakesSo (played (more ++ calls)).router unread sent had has result
 
 -- So much of a piece is taken, and all that was pulled has gone out.
-pub record TakenPart (now : ℕ) (calls : List Call) (piece : List ℕ) (had has : Option (List ℕ)) (new : code.Router) : Type 0 where
-  pub more : List Call
+pub record TakenPart (now : ℕ) (calls : List RouterCall) (piece : List ℕ) (had has : Option (List ℕ)) (new : code.Router) : Type 0 where
+  pub more : List RouterCall
   pub each : AllByRecursion (IsFetchCall now) more
-  pub leads : Leads (more ++ calls) new
+  pub leads : CallsLead (more ++ calls) new
   pub came_is : came (more ++ calls) ≡ came calls ++ piece
   pub sent : List ℕ
   pub pulled_is : pulled_by (more ++ calls) ≡ pulled_by calls ++ sent
   pub out : Appends had has sent
 
 -- A router that is connected, between two reads
-pub record Awaits (now : ℕ) (calls : List Call) (before left : Option (List ℕ)) (reads : ℕ) (had has : Option (List ℕ)) (router : code.Router) : Type 0 where
-  pub turns : List Call
+pub record Awaits (now : ℕ) (calls : List RouterCall) (before left : Option (List ℕ)) (reads : ℕ) (had has : Option (List ℕ)) (router : code.Router) : Type 0 where
+  pub turns : List RouterCall
   pub each : AllByRecursion (IsFetchCall now) turns
-  pub leads : Leads (since turns now calls) router
+  pub leads : CallsLead (calls_since turns now calls) router
   pub unread : List ℕ
-  pub consumed : Consumes before left (came (since turns now calls) ++ unread)
-  pub few : length (came (since turns now calls) ++ unread) ≤ MAX_UNIT_LEN * reads
-  pub all_read : 0 < length unread → is_reading (played (since turns now calls)).router.link ≡ false
-  pub asked : AllAsked (since turns now calls) had has
+  pub consumed : Consumes before left (came (calls_since turns now calls) ++ unread)
+  pub few : length (came (calls_since turns now calls) ++ unread) ≤ MAX_UNIT_LEN * reads
+  pub all_read : 0 < length unread → is_reading (played (calls_since turns now calls)).router.link ≡ false
+  pub asked : AllAsked (calls_since turns now calls) had has

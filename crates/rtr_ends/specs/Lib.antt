@@ -6,13 +6,15 @@ pub mod Connection
 pub mod Consumed
 pub mod Feeding
 pub mod FetchStream
-pub mod Links
+pub mod LinkRules
 pub mod Peer
 pub mod Router
+pub mod RouterLaws
+pub mod RouterLink
+pub mod RouterShown
 pub mod Seen
 pub mod Sender
 pub mod ServeStream
-pub mod Shown
 pub mod Staging
 pub mod Streams
 pub mod Timing

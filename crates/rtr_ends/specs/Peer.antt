@@ -11,7 +11,7 @@ use Rattle.rtr_pdu.specs.declared.unit.UnitFault.{UnitFault}
 use Rattle.rtr_ends.specs.Answer.{Reply, and_on, and_end, answer, report, sent_all, serial_answer}
 use Rattle.rtr_ends.specs.Cache.{Conn, conn_pulled, conn_takes}
 use Rattle.rtr_ends.specs.Connection.{fault_report, is_wanting, takes_memory}
-use Rattle.rtr_ends.specs.Sender.{Gives, KeepsRoom, Sends, Stays, due_of, newest_of, ready_in}
+use Rattle.rtr_ends.specs.Sender.{PullsBytes, KeepsRoom, Sends, Stays, due_of, newest_of, ready_in}
 use Rattle.rtr_ends.specs.Timing.{Intervals}
 use Rattle.rtr_ends.specs.declared.peer.Peer.{Peer}
 use Rattle.rtr_ends.specs.declared.sender.Sender.{Sender}
@@ -27,11 +27,11 @@ pub record Held : Type 0 where
   pub received : ℕ
   pub ready : ℕ
 
-abbrev pub held_by : Peer → Held
-held_by p = record { received = length p.reader.held; ready = ready_in p.sender }
+abbrev pub held_by_peer : Peer → Held
+held_by_peer p = record { received = length p.reader.held; ready = ready_in p.sender }
 
 -- They are at most 4,096 each.
-pub record HasRoom (h : Held) : Type 0 where
+pub record HasBufferRoom (h : Held) : Type 0 where
   pub received : h.received ≤ MAX_UNIT_LEN
   pub ready : h.ready ≤ MAX_UNIT_LEN
 
@@ -42,17 +42,17 @@ pub record ShowsPeer (t : Intervals) (i : Instance) (o : Conn) (p : Peer) : Type
   pub ended : p.ended ≡ o.state.ended
   pub due : due_of p.sender ≡ o.state.due
   pub knows : Knows t i p.sender
-  pub room : HasRoom (held_by p)
+  pub room : HasBufferRoom (held_by_peer p)
 
 -- These units are sent, and the connection ends.
-pub record Ends (old : Peer) (units : List Unit) (new : Peer) : Type 0 where
+pub record EndsConnection (old : Peer) (units : List Unit) (new : Peer) : Type 0 where
   pub reader : new.reader ≡ old.reader
   pub agreed : new.agreed ≡ old.agreed
   pub ended : new.ended ≡ true
   pub sends : Sends old.sender units new.sender
 
 -- This reply is sent.
-pub record Answers (t : Intervals) (i : Instance) (r : Reply) (agree : Bool) (old new : Peer) : Type 0 where
+pub record SendsReply (t : Intervals) (i : Instance) (r : Reply) (agree : Bool) (old new : Peer) : Type 0 where
   pub reader : new.reader ≡ old.reader
   pub agreed : new.agreed ≡ agree
   pub ended : new.ended ≡ not r.goes_on
@@ -71,7 +71,7 @@ abbrev pub read_reply : ℕ → Intervals → Instance → Bool → Unit → Rep
 read_reply keep t i memory u = if takes_memory i u && not memory then no_memory else answer i keep t u
 
 -- A fault is reported, where it is.
-pub record Fails (old : Peer) (fault : UnitFault) (new : Peer) : Type 0 where
+pub record ReportsFault (old : Peer) (fault : UnitFault) (new : Peer) : Type 0 where
   pub reader : new.reader ≡ fresh false
   pub agreed : new.agreed ≡ old.agreed
   pub ended : new.ended ≡ true
@@ -83,17 +83,17 @@ maybe None = []
 maybe (Some u) = u ∷ []
 
 -- Memory is wanting at this unit of a piece: the unit is read, and its answer takes memory.
-abbrev pub is_wanted : ℕ → Intervals → Instance → Conn → List ℕ → ℕ → Bool
-is_wanted keep t i o piece unit = list_any is_wanting (conn_takes keep t i (Some unit) piece o).machine.moments
+abbrev pub is_wanted_by_peer : ℕ → Intervals → Instance → Conn → List ℕ → ℕ → Bool
+is_wanted_by_peer keep t i o piece unit = list_any is_wanting (conn_takes keep t i (Some unit) piece o).machine.moments
 
 -- A piece is handed in. At one unit of it, if at any, memory is wanting.
 pub record Receives (keep : ℕ) (t : Intervals) (i : Instance) (o : Conn) (piece : List ℕ) (consumed : ℕ) (new : Peer) : Type 0 where
   pub wanting : Option ℕ
-  pub wanted : IfSome wanting (λ unit. is_wanted keep t i o piece unit ≡ true)
+  pub wanted : IfSome wanting (λ unit. is_wanted_by_peer keep t i o piece unit ≡ true)
   pub shows : ShowsPeer t i (conn_takes keep t i wanting piece o).machine.conn new
   pub consumed_is : consumed ≡ length piece - length (conn_takes keep t i wanting piece o).rest
 
 -- Bytes due are pulled.
 pub record Pulls (keep : ℕ) (t : Intervals) (i : Instance) (o : Conn) (out : List ℕ) (count : ℕ) (now : List ℕ) (new : Peer) : Type 0 where
-  pub gives : Gives o.state.due out count now (conn_pulled keep t (length out) o).state.due
+  pub gives : PullsBytes o.state.due out count now (conn_pulled keep t (length out) o).state.due
   pub shows : ShowsPeer t i (conn_pulled keep t (length out) o) new

@@ -7,13 +7,14 @@ use Rattle.vrps.specs.declared.set.SetFault.TheVariants.{TooMany, Memory}
 use Rattle.rtr_pdu.specs.declared.unit.Unit.{Unit}
 use Rattle.rtr_ends.specs.declared.link.End.{End}
 use Rattle.rtr_ends.specs.declared.link.End.TheVariants as ends
-use Rattle.rtr_ends.specs.Router.{Router, Link, Closed, Idle, Asked, Answering, Ended, on_unit, may_lack}
+use Rattle.rtr_ends.specs.LinkRules.{Router, on_unit, may_lack}
+use Rattle.rtr_ends.specs.RouterLink.{Link, Closed, Idle, Asked, Answering, Ended}
 use Rattle.rtr_ends.specs.Timing.{intervals}
 use Rattle.rtr_ends.specs.Transcript as transcript
 use Rattle.rtr_ends.specs.Transcript.{AskReset, AskSerial, Begun, Committed, acts_once, base_of, led_to}
 use Rattle.rtr_ends.specs.declared.question.Question.{Question}
 use Rattle.rtr_ends.specs.declared.question.Question.TheVariants as questions
-use Rattle.rtr_ends.specs.declared.question.Version.{Version}
+use Rattle.rtr_ends.specs.declared.question.CommittedVersion.{CommittedVersion}
 use Rattle.rtr_ends.specs.declared.staging.Staging.{Staging}
 use Rattle.rtr_ends.specs.declared.machine.Machine.{Machine}
 use Rattle.rtr_ends.specs.declared.machine.State.{State}
@@ -23,10 +24,10 @@ abbrev pub seen_question : Question → transcript.Question
 seen_question questions.Reset = AskReset
 seen_question (questions.Serial session serial) = AskSerial session serial
 
-abbrev pub seen_version : Version → Committed
+abbrev pub seen_version : CommittedVersion → Committed
 seen_version v = record { session = v.session; serial = v.serial; moment = v.moment; intervals = intervals v.refresh v.retry v.expire }
 
-abbrev pub seen_versions : Option Version → Option Committed
+abbrev pub seen_versions : Option CommittedVersion → Option Committed
 seen_versions None = None
 seen_versions (Some v) = Some (seen_version v)
 
@@ -73,7 +74,7 @@ Stages (states.Answering question session) table withdrawn announced s = IsStage
 Stages state table withdrawn announced s = ⊤
 
 -- The machine is this router, where these bytes have come of a unit.
-pub record Shows (r : Router) (m : Machine) : Type 0 where
+pub record ShowsRouter (r : Router) (m : Machine) : Type 0 where
   pub withdrawn : List Payload
   pub announced : List Payload
   pub staged : Stages m.state m.table withdrawn announced m.staging
@@ -81,19 +82,19 @@ pub record Shows (r : Router) (m : Machine) : Type 0 where
 
 -- A call does to each router that is shown what the machine does.
 abbrev pub Does : (Router → Router) → Machine → Machine → Type 0
-Does step old new = (r : Router) → Shows r old → Shows (step r) new
+Does step old new = (r : Router) → ShowsRouter r old → ShowsRouter (step r) new
 
 -- What is staged may be gone, and all else is as before but for the link, which ends.
-abbrev pub Ends : Machine → Machine → Type 0
-Ends old new = (r : Router) (end : End) → Shows r old → Shows (record r { link = Ended end }) (record new { state = states.Ended end })
+abbrev pub EndsLink : Machine → Machine → Type 0
+EndsLink old new = (r : Router) (end : End) → ShowsRouter r old → ShowsRouter (record r { link = Ended end }) (record new { state = states.Ended end })
 
 -- A unit is read; or memory is wanting where it may be; or the table would have too many records.
-abbrev pub ReadsSo : Result ⊤ SetFault → Unit → Machine → Machine → Type 0
-ReadsSo (Ok done) u old new = Does (λ r. on_unit r.link u r) old new
-ReadsSo (Err Memory) u old new = Ends old new × ((r : Router) → Shows r old → may_lack r.link u r ≡ true)
-ReadsSo (Err TooMany) u old new = Ends old new × ((r : Router) → Shows r old → on_unit r.link u r ≡ record r { link = Ended ends.TooMany })
+abbrev pub UnitIsRead : Result ⊤ SetFault → Unit → Machine → Machine → Type 0
+UnitIsRead (Ok done) u old new = Does (λ r. on_unit r.link u r) old new
+UnitIsRead (Err Memory) u old new = EndsLink old new × ((r : Router) → ShowsRouter r old → may_lack r.link u r ≡ true)
+UnitIsRead (Err TooMany) u old new = EndsLink old new × ((r : Router) → ShowsRouter r old → on_unit r.link u r ≡ record r { link = Ended ends.TooMany })
 
 -- A unit is read, or memory for it is wanting.
 abbrev pub ReadsOrLacks : Bool → Unit → Machine → Machine → Type 0
 ReadsOrLacks false u old new = Does (λ r. on_unit r.link u r) old new
-ReadsOrLacks true u old new = ((r : Router) → Shows r old → may_lack r.link u r ≡ true) × Does (λ r. record r { link = Ended ends.Memory }) old new
+ReadsOrLacks true u old new = ((r : Router) → ShowsRouter r old → may_lack r.link u r ≡ true) × Does (λ r. record r { link = Ended ends.Memory }) old new

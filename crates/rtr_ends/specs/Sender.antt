@@ -1,6 +1,6 @@
 -- What a connection at the cache has to send: the unit in its buffer, and what is left of an answer under way.
 use Rattle.std.specs.Prelude.{◌≡◌, Bool, true, false, ℕ, ◌+◌, ◌-◌, ◌≤◌, List, [], ◌∷◌, ◌++◌, length, take, drop, min, Option, Some, None}
-use Rattle.vrps.specs.Instance.{Version}
+use Rattle.vrps.specs.Instance.{NumberedSet}
 use Rattle.rtr_pdu.specs.Unit.{MAX_UNIT_LEN, IsUnit}
 use Rattle.rtr_pdu.specs.declared.unit.Unit.{Unit}
 use Rattle.rtr_pdu.specs.declared.unit.Unit.TheVariants.{CacheResponse, EndOfData}
@@ -12,8 +12,8 @@ use Rattle.rtr_ends.specs.declared.sender.Cursor.{Cursor}
 use Rattle.rtr_ends.specs.Answer.{announcements, withdrawals, sent, sent_all}
 use Rattle.rtr_ends.specs.Timing.{Intervals}
 
-abbrev pub version_of : Share → Version
-version_of s = record { serial = s.serial.0; set = s.set.value }
+abbrev pub numbered_of : Share → NumberedSet
+numbered_of s = record { serial = s.serial.0; set = s.set.value }
 
 abbrev pub units_in : Records → List Unit
 units_in (Whole share) = announcements share.set.value
@@ -40,16 +40,16 @@ unfoldable pub ready_in : Sender → ℕ
 ready_in s = length (drop s.pulled s.buffer.items)
 
 -- the version of which there is a share
-abbrev pub shared_in : Records → Option Version
-shared_in (Whole share) = Some (version_of share)
+abbrev pub shared_in : Records → Option NumberedSet
+shared_in (Whole share) = Some (numbered_of share)
 shared_in (Step serial change) = None
 
-abbrev pub newest_in : Option Share → Option Cursor → Option Version
-newest_in (Some share) answer = Some (version_of share)
+abbrev pub newest_in : Option Share → Option Cursor → Option NumberedSet
+newest_in (Some share) answer = Some (numbered_of share)
 newest_in None None = None
 newest_in None (Some a) = shared_in a.records
 
-unfoldable pub newest_of : Sender → Option Version
+unfoldable pub newest_of : Sender → Option NumberedSet
 newest_of s = newest_in s.ready s.answer
 
 -- Where no more was ready than a unit has, no more is.
@@ -69,7 +69,7 @@ pub record Sends (old : Sender) (units : List Unit) (new : Sender) : Type 0 wher
   pub stays : Stays old new
 
 -- Its Cache Response is due, and then the rest of the answer.
-pub record Begins (old : Sender) (records : Records) (new : Sender) : Type 0 where
+pub record BeginsAnswer (old : Sender) (records : Records) (new : Sender) : Type 0 where
   pub session : new.session ≡ old.session
   pub timing : new.timing ≡ old.timing
   pub ready : new.ready ≡ old.ready
@@ -78,7 +78,7 @@ pub record Begins (old : Sender) (records : Records) (new : Sender) : Type 0 whe
   pub room : ready_in new ≤ MAX_UNIT_LEN
 
 -- the records of an answer that has ended
-pub record Keeps (old : Sender) (records : Records) (new : Sender) : Type 0 where
+pub record KeepsRecords (old : Sender) (records : Records) (new : Sender) : Type 0 where
   pub session : new.session ≡ old.session
   pub timing : new.timing ≡ old.timing
   pub buffer : new.buffer ≡ old.buffer
@@ -99,12 +99,12 @@ pub record Hands (old new : Sender) : Type 0 where
   pub pulled : new.pulled ≡ 0
   pub stays : Stays old new
 
-abbrev pub as_list : Option Version → List Version
+abbrev pub as_list : Option NumberedSet → List NumberedSet
 as_list None = []
 as_list (Some v) = v ∷ []
 
 -- bytes are pulled
-pub record Gives (due out : List ℕ) (count : ℕ) (now rest : List ℕ) : Type 0 where
+pub record PullsBytes (due out : List ℕ) (count : ℕ) (now rest : List ℕ) : Type 0 where
   pub count_is : count ≡ min (length out) (length due)
   pub now_is : now ≡ take count due ++ drop count out
   pub rest_is : rest ≡ drop count due

@@ -7,7 +7,7 @@ use Rattle.rtr_pdu.specs.Unit.{MAX_UNIT_LEN}
 use Rattle.rtr_pdu.specs.Device.{GoesOutInPart}
 use Rattle.rtr_pdu.specs.Payloads.{AreBytes}
 use Rattle.rtr_pdu.specs.declared.device.WriteFailed.{WriteFailed as Failed}
-use Rattle.rtr_ends.specs.Cache.{CacheCall, Conn, Gives, IsServed, Notifies, Publishes, Serving, Takes, is_none, serving}
+use Rattle.rtr_ends.specs.Cache.{ConnCall, Conn, Gives, IsServed, Notifies, Publishes, Serving, Takes, is_none, serving}
 use Rattle.rtr_ends.specs.CacheState.{CacheState, ShowsCache, with_conn}
 use Rattle.rtr_ends.specs.declared.cache.Cache.{Cache}
 use Rattle.rtr_ends.specs.declared.serving.Served.{Served}
@@ -16,18 +16,18 @@ use Rattle.rtr_ends.specs.declared.streams.StreamFault.{StreamFault}
 use Rattle.rtr_ends.specs.declared.streams.StreamFault.TheVariants.{ReadFailed, WriteFailed, Memory}
 
 -- What a stream calls on its connection: it hands in bytes, and pulls what is due. It publishes nothing, and notifies no router.
-abbrev pub IsTurn : CacheCall → Type 0
+abbrev pub IsTurn : ConnCall → Type 0
 IsTurn (Publishes set) = ⊥
 IsTurn (Takes wanting piece) = AreBytes piece
 IsTurn (Gives most) = ⊤
 IsTurn Notifies = ⊥
 
 -- the connection that was opened at this cache, after these calls, the last first
-abbrev pub stood : CacheState → List CacheCall → Serving
+abbrev pub stood : CacheState → List ConnCall → Serving
 stood m calls = serving m.keep m.timing m.cache calls
 
 -- It stands so under this number of the cache, and all else is as it was.
-abbrev pub StandsAt : {S : Type 0} → (ℕ → Instance → S → Type 0) → CacheState → ℕ → List CacheCall → Cache S → Type 0
+abbrev pub StandsAt : {S : Type 0} → (ℕ → Instance → S → Type 0) → CacheState → ℕ → List ConnCall → Cache S → Type 0
 StandsAt holds m c calls cache = ShowsCache holds (with_conn c (Some (stood m calls).conn) m) cache
 
 -- bytes of a unit that has not come whole
@@ -44,26 +44,26 @@ abbrev pub AllOut : Serving → Option (List ℕ) → Option (List ℕ) → Type
 AllOut s had has = (s.conn.state.due ≡ []) × Appends had has s.given
 
 -- All that was read is consumed, and the connection goes on.
-abbrev pub GoesOn : Serving → List ℕ → Type 0
-GoesOn s unread = (unread ≡ []) × (s.conn.state.ended ≡ false)
+abbrev pub ConnectionGoesOn : Serving → List ℕ → Type 0
+ConnectionGoesOn s unread = (unread ≡ []) × (s.conn.state.ended ≡ false)
 
 -- How a stream ended whose connection stands so, where these bytes were read and not consumed and this is left of the input: at the
 -- end of the input, at a unit's end or inside a unit; by a reply that ended the connection, which consumes nothing after it; after so
 -- many reads as were allowed; or where a device failed. Where the writer did, a beginning of what was pulled has gone out. Without
 -- memory for a connection nothing was read or written.
 abbrev pub EndsSo : Serving → List ℕ → Option (List ℕ) → Option (List ℕ) → Option (List ℕ) → Result Served StreamFault → Type 0
-EndsSo s unread left had has (Ok PeerClosed) = AllOut s had has × GoesOn s unread × (s.conn.held ≡ []) × IsAtEnd left
-EndsSo s unread left had has (Ok Truncated) = AllOut s had has × GoesOn s unread × (0 < length s.conn.held) × IsAtEnd left
+EndsSo s unread left had has (Ok PeerClosed) = AllOut s had has × ConnectionGoesOn s unread × (s.conn.held ≡ []) × IsAtEnd left
+EndsSo s unread left had has (Ok Truncated) = AllOut s had has × ConnectionGoesOn s unread × (0 < length s.conn.held) × IsAtEnd left
 EndsSo s unread left had has (Ok CacheEnded) = AllOut s had has × (s.conn.state.ended ≡ true)
-EndsSo s unread left had has (Ok Limit) = AllOut s had has × GoesOn s unread
-EndsSo s unread left had has (Err ReadFailed) = AllOut s had has × GoesOn s unread
+EndsSo s unread left had has (Ok Limit) = AllOut s had has × ConnectionGoesOn s unread
+EndsSo s unread left had has (Err ReadFailed) = AllOut s had has × ConnectionGoesOn s unread
 EndsSo s unread left had has (Err WriteFailed) = GoesOutInPart had has s.given
 EndsSo s unread left had has (Err Memory) = (unread ≡ []) × (s.came ≡ []) × (s.given ≡ [])
 
 -- One connection that was opened at this cache: what was read, in so many calls of at most 4,096 bytes each, was consumed but for what
 -- is told; that made the connection's history (`IsServed`), by which what it pulled is its replies; and so it ended.
-pub record Serves (m : CacheState) (before left : Option (List ℕ)) (reads : ℕ) (had has : Option (List ℕ)) (result : Result Served StreamFault) : Type 0 where
-  pub calls : List CacheCall
+pub record ServesConnection (m : CacheState) (before left : Option (List ℕ)) (reads : ℕ) (had has : Option (List ℕ)) (result : Result Served StreamFault) : Type 0 where
+  pub calls : List ConnCall
   pub turns : AllByRecursion IsTurn calls
   pub served : IsInstance m.cache → IsServed m.keep m.timing m.cache (stood m calls)
   pub unread : List ℕ
@@ -74,13 +74,13 @@ pub record Serves (m : CacheState) (before left : Option (List ℕ)) (reads : �
 -- and its connection still stands under this number
 abbrev pub EndedAs : {S : Type 0} → (ℕ → Instance → S → Type 0) → CacheState → ℕ → Option (List ℕ) → Option (List ℕ) → ℕ → Option (List ℕ) → Option (List ℕ) → Result Served StreamFault → Cache S → Type 0
 EndedAs holds m c before left reads had has result new =
-    (s : Serves m before left reads had has result) × StandsAt holds m c s.calls new
+    (s : ServesConnection m before left reads had has result) × StandsAt holds m c s.calls new
 
 -- How often was read, where at most so many reads were allowed
-abbrev pub ReadsSo : ℕ → ℕ → ℕ → Result Served StreamFault → Type 0
-ReadsSo limit before now (Ok Limit) = now ≡ before + limit
-ReadsSo limit before now (Ok served) = (before < now) × (now ≤ before + limit)
-ReadsSo limit before now (Err fault) = (before ≤ now) × (now ≤ before + limit)
+abbrev pub ReadsWithin : ℕ → ℕ → ℕ → Result Served StreamFault → Type 0
+ReadsWithin limit before now (Ok Limit) = now ≡ before + limit
+ReadsWithin limit before now (Ok served) = (before < now) × (now ≤ before + limit)
+ReadsWithin limit before now (Err fault) = (before ≤ now) × (now ≤ before + limit)
 
 -- How the piece of a connection that stood after these calls was answered: all of it is consumed, or the connection has ended; and all
 -- that became due has gone out, or the writer failed.
@@ -89,8 +89,8 @@ AnswersSo s unread sent had has (Ok done) = (s.conn.state.due ≡ []) × (0 < le
 AnswersSo s unread sent had has (Err failed) = GoesOutInPart had has sent
 
 -- with the calls after it, those before it included
-pub record Answered {S : Type 0} (holds : ℕ → Instance → S → Type 0) (m : CacheState) (c : ℕ) (calls : List CacheCall) (piece : List ℕ) (had has : Option (List ℕ)) (result : Result ⊤ Failed) (new : Cache S) : Type 0 where
-  pub later : List CacheCall
+pub record Answered {S : Type 0} (holds : ℕ → Instance → S → Type 0) (m : CacheState) (c : ℕ) (calls : List ConnCall) (piece : List ℕ) (had has : Option (List ℕ)) (result : Result ⊤ Failed) (new : Cache S) : Type 0 where
+  pub later : List ConnCall
   pub turns : AllByRecursion IsTurn later
   pub stands : StandsAt holds m c later new
   pub unread : List ℕ
@@ -100,8 +100,8 @@ pub record Answered {S : Type 0} (holds : ℕ → Instance → S → Type 0) (m 
   pub answers : AnswersSo (stood m later) unread sent had has result
 
 -- A connection that stands after these calls, where so much of a piece was consumed, and all that was pulled has gone out
-pub record Partly {S : Type 0} (holds : ℕ → Instance → S → Type 0) (m : CacheState) (c : ℕ) (calls : List CacheCall) (piece : List ℕ) (had has : Option (List ℕ)) (cache : Cache S) : Type 0 where
-  pub later : List CacheCall
+pub record Partly {S : Type 0} (holds : ℕ → Instance → S → Type 0) (m : CacheState) (c : ℕ) (calls : List ConnCall) (piece : List ℕ) (had has : Option (List ℕ)) (cache : Cache S) : Type 0 where
+  pub later : List ConnCall
   pub turns : AllByRecursion IsTurn later
   pub stands : StandsAt holds m c later cache
   pub came : (stood m later).came ≡ (stood m calls).came ++ piece
@@ -111,7 +111,7 @@ pub record Partly {S : Type 0} (holds : ℕ → Instance → S → Type 0) (m : 
 
 -- A connection between two reads
 pub record Waits {S : Type 0} (holds : ℕ → Instance → S → Type 0) (m : CacheState) (c : ℕ) (before left : Option (List ℕ)) (reads : ℕ) (had has : Option (List ℕ)) (cache : Cache S) : Type 0 where
-  pub calls : List CacheCall
+  pub calls : List ConnCall
   pub turns : AllByRecursion IsTurn calls
   pub stands : StandsAt holds m c calls cache
   pub consumed : Consumes before left (stood m calls).came

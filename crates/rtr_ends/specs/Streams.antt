@@ -10,9 +10,9 @@ stream_fault_number ReadFailed = 1
 stream_fault_number WriteFailed = 2
 stream_fault_number Memory = 3
 
-abbrev pub fault_of : {A : Type 0} → Result A StreamFault → Option StreamFault
-fault_of (Ok a) = None
-fault_of (Err fault) = Some fault
+abbrev pub stream_fault_of : {A : Type 0} → Result A StreamFault → Option StreamFault
+stream_fault_of (Ok a) = None
+stream_fault_of (Err fault) = Some fault
 
 -- No call failed since.
 abbrev pub FailsNever : {D : Type 0} → Counted D → Counted D → Type 0

@@ -34,6 +34,6 @@ pub record IsTiming (t : Intervals) : Type 0 where
 abbrev pub default_intervals : Intervals
 default_intervals = intervals 3600 600 7200
 
-abbrev pub fault_number : TimingFault → ℕ
-fault_number OutOfRange = 1
-fault_number ExpireTooSmall = 2
+abbrev pub timing_fault_number : TimingFault → ℕ
+timing_fault_number OutOfRange = 1
+timing_fault_number ExpireTooSmall = 2

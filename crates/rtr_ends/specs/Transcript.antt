@@ -114,17 +114,17 @@ responded (Reads (CacheResponse session) ∷ items) = Some session
 responded (item ∷ items) = responded items
 
 -- whether a payload is in a list
-abbrev pub is_listed : Payload → List Payload → Bool
-is_listed v vs = list_any (eq_by_cmp vrp_cmp v) vs
+abbrev pub is_among : Payload → List Payload → Bool
+is_among v vs = list_any (eq_by_cmp vrp_cmp v) vs
 
 -- Each record acts, and acts once: `Commits` as a test.
 abbrev pub may_withdraw : VrpSet → List Payload → Bool
 may_withdraw base [] = true
-may_withdraw base (v ∷ vs) = (has base v && not (is_listed v vs)) && may_withdraw base vs
+may_withdraw base (v ∷ vs) = (has base v && not (is_among v vs)) && may_withdraw base vs
 
 abbrev pub may_announce : VrpSet → List Payload → Bool
 may_announce base [] = true
-may_announce base (v ∷ vs) = (not (has base v) && not (is_listed v vs)) && may_announce base vs
+may_announce base (v ∷ vs) = (not (has base v) && not (is_among v vs)) && may_announce base vs
 
 abbrev pub acts_once : VrpSet → List Payload → List Payload → Bool
 acts_once base withdrawn announced = may_withdraw base withdrawn && may_announce base announced
@@ -196,9 +196,9 @@ emptied_if true k = nothing
 emptied_if false k = k
 
 -- At an End of Data: a commit, or nothing where the answer leads nowhere; another session than the response's empties.
-abbrev pub at_end : Option Begun → Committed → Kept → Kept
-at_end None version k = k
-at_end (Some a) version k =
+abbrev pub at_end_of_data : Option Begun → Committed → Kept → Kept
+at_end_of_data None version k = k
+at_end_of_data (Some a) version k =
     if version.session == a.session then
     (if acts_once (base_of a.question k.table) a.withdrawn a.announced
     then record { version = Some version; table = led_to (base_of a.question k.table) a.withdrawn a.announced }
@@ -209,7 +209,7 @@ at_end (Some a) version k =
 -- Response to a Serial Query, of another session; code 0, Corrupt Data, to a Serial Query
 abbrev pub kept_unit : Unit → List Item → Kept → Kept
 kept_unit (EndOfData session serial refresh retry expire) items k =
-    at_end (under_way items) (record { session = session; serial = serial; moment = moment items; intervals = bounded refresh retry expire }) k
+    at_end_of_data (under_way items) (record { session = session; serial = serial; moment = moment items; intervals = bounded refresh retry expire }) k
 kept_unit (SerialNotify session serial) items k = emptied_if (has_agreed items && differs (session_of (responded items) k.version) session) k
 kept_unit (CacheResponse session) items k = emptied_if (is_wrong (waiting items) k.version session) k
 kept_unit (ErrorReport r) items k = emptied_if (r.code == CORRUPT_DATA && is_serial (outstanding items)) k
@@ -266,8 +266,8 @@ due (item ∷ items) = due items
 -- A record that acts wrongly in the answer under way, with code 6 or 7 (RFC 8210 section 12)
 abbrev pub acts_wrongly : Option Begun → VrpSet → Bool → Payload → Bool
 acts_wrongly None table announce v = false
-acts_wrongly (Some a) table false v = not (has (base_of a.question table) v && not (is_listed v a.withdrawn))
-acts_wrongly (Some a) table true v = has (base_of a.question table) v || is_listed v a.announced
+acts_wrongly (Some a) table false v = not (has (base_of a.question table) v && not (is_among v a.withdrawn))
+acts_wrongly (Some a) table true v = has (base_of a.question table) v || is_among v a.announced
 
 -- A record has acted wrongly since the last commit.
 abbrev pub marked : List Item → Bool

@@ -4,8 +4,8 @@ ghost use Rattle.std.specs.List.{AllByRecursion};
 ghost use Rattle.vrps.specs.Instance.{Instance, versions};
 ghost use Rattle.vrps.specs.Store.{is_current};
 ghost use Rattle.vrps.specs.Stores.{Publishes, newest};
-ghost use Rattle.rtr_ends.specs.CacheState.{CacheState, GivesBytes, HandsOut, OffersAt, Opens, ShowsCache, TakesPiece, has_bytes_at, is_open_at, notified, notifies_at, peer_at, with_conn, without_conns};
-ghost use Rattle.rtr_ends.specs.Sender.{version_of};
+ghost use Rattle.rtr_ends.specs.CacheState.{CacheState, GivesBytes, HandsOut, OffersAt, Opens, ShowsCache, TakesPiece, has_bytes_at, is_open_at, notified, can_notify_at, peer_at, with_conn, without_conns};
+ghost use Rattle.rtr_ends.specs.Sender.{numbered_of};
 ghost use Rattle.rtr_ends.specs.ServeStream.{is_within};
 
 use crate::peer::Peer;
@@ -77,7 +77,7 @@ impl<S: VersionStore> Cache<S> {
     /// Sends a Serial Notify of the current version to a router (RFC 8210 section 5.2), and says whether it did: where the connection
     /// goes on, nothing is due, and something is published. It takes no memory.
     pub fn notify(&mut self, conn: Conn) -> bool
-        ensures { (m : CacheState) → ShowsCache S.holds m self.old → (result ≡ notifies_at m.cache (m.at conn.0)) × ShowsCache S.holds (notified conn.0 m) self.new }
+        ensures { (m : CacheState) → ShowsCache S.holds m self.old → (result ≡ can_notify_at m.cache (m.at conn.0)) × ShowsCache S.holds (notified conn.0 m) self.new }
     {
         if conn.0 >= self.peers.len() {
             return false;
@@ -161,7 +161,7 @@ impl<S: VersionStore> Cache<S> {
 
     /// A share of the current version.
     fn share(&self) -> Result<Option<Share>, AllocError>
-        ensures { (keep : ℕ) (i : Instance) → S.holds keep i self.now.store → IfOk result (λ share. option_map version_of share ≡ newest (versions i)) }
+        ensures { (keep : ℕ) (i : Instance) → S.holds keep i self.now.store → IfOk result (λ share. option_map numbered_of share ≡ newest (versions i)) }
     {
         match self.store.current() {
             None => Ok(None),

@@ -3,8 +3,9 @@ ghost use Rattle.std.specs.Prelude.{◌≡◌, ◌-◌, ◌<◌, ◌≤◌, List
 ghost use Rattle.rtr_pdu.specs.Counted.{calls_of, device_of};
 ghost use Rattle.rtr_ends.specs.FetchStream.{FetchReads, FetchedAs, Fetches, IsReached, Taken, reached_by};
 ghost use Rattle.rtr_ends.specs.Router as model;
-ghost use Rattle.rtr_ends.specs.Shown.{IsShown, Leads};
-ghost use Rattle.rtr_ends.specs.Streams.{FailsSo, WritesSo, fault_of};
+ghost use Rattle.rtr_ends.specs.LinkRules as rules;
+ghost use Rattle.rtr_ends.specs.RouterShown.{IsShown, CallsLead};
+ghost use Rattle.rtr_ends.specs.Streams.{FailsSo, WritesSo, stream_fault_of};
 
 use crate::link::{End, Link};
 use crate::router::Router;
@@ -38,9 +39,9 @@ pub fn fetch_stream<R: Read, W: Write>(
     now: u64,
     limit: u64,
 ) -> Result<Fetched, StreamFault>
-    ensures fetches { (calls : List model.Call) → Leads calls router.old → Fetches now calls (R.remaining (device_of input.old)) (R.remaining (device_of input.new))
+    ensures fetches { (calls : List model.RouterCall) → CallsLead calls router.old → Fetches now calls (R.remaining (device_of input.old)) (R.remaining (device_of input.new))
         (calls_of input.new - calls_of input.old) (W.contents (device_of output.old)) (W.contents (device_of output.new)) result router.new }
-    ensures fails { FailsSo input.old input.new output.old output.new (fault_of result) }
+    ensures fails { FailsSo input.old input.new output.old output.new (stream_fault_of result) }
     ensures reads { FetchReads limit (calls_of input.old) (calls_of input.new) result }
 {
     router.connect(now);
@@ -57,9 +58,9 @@ fn fetch<R: Read, W: Write>(
     now: u64,
     limit: u64,
 ) -> Result<Fetched, StreamFault>
-    ensures fetches { (calls : List model.Call) → Leads (model.Connects now ∷ calls) router.old → FetchedAs now calls (R.remaining (device_of input.old)) (R.remaining (device_of input.new))
+    ensures fetches { (calls : List model.RouterCall) → CallsLead (model.Connects now ∷ calls) router.old → FetchedAs now calls (R.remaining (device_of input.old)) (R.remaining (device_of input.new))
         (calls_of input.new - calls_of input.old) (W.contents (device_of output.old)) (W.contents (device_of output.new)) result router.new }
-    ensures fails { FailsSo input.old input.new output.old output.new (fault_of result) }
+    ensures fails { FailsSo input.old input.new output.old output.new (stream_fault_of result) }
     ensures reads { FetchReads limit (calls_of input.old) (calls_of input.new) result }
 {
     let mut buffer = [0u8; MAX_UNIT_LEN];
@@ -90,7 +91,7 @@ fn fetch<R: Read, W: Write>(
 
 /// What the router has come to, where no question is outstanding.
 fn reached(router: &Router) -> Option<Fetched>
-    ensures is { (r : model.Router) → IsShown r router.now → result ≡ reached_by r.link r.no_data }
+    ensures is { (r : rules.Router) → IsShown r router.now → result ≡ reached_by r.link r.no_data }
     ensures kind { IfSome result (λ fetched. IsReached fetched) }
 {
     match router.link() {
@@ -117,7 +118,7 @@ fn take<W: Write>(
     output: &mut Counted<W>,
 ) -> Result<(), WriteFailed>
     requires { 0 < length room.old }
-    ensures takes { (calls : List model.Call) → Leads calls router.old →
+    ensures takes { (calls : List model.RouterCall) → CallsLead calls router.old →
         Taken now calls piece.now (W.contents (device_of output.old)) (W.contents (device_of output.new)) result router.new }
     ensures fails { WritesSo output.old output.new result }
 {

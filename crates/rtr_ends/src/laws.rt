@@ -4,9 +4,9 @@ ghost use Rattle.rtr_ends.specs.CacheState.{AllHaveRoom, CacheState, EachIsServe
 ghost use Rattle.rtr_ends.specs.Commit.{ChangeCommits, OneCommit};
 ghost use Rattle.rtr_ends.specs.Connection.{HistorySplits, PulledAreReplies};
 ghost use Rattle.rtr_ends.specs.Consumed.{RouterSplits};
-ghost use Rattle.rtr_ends.specs.Peer.{HasRoom};
-ghost use Rattle.rtr_ends.specs.Router.{RouterAsks, RouterKeeps, RouterStops, RouterTakes};
-ghost use Rattle.rtr_ends.specs.Shown.{held_by};
+ghost use Rattle.rtr_ends.specs.Peer.{HasBufferRoom};
+ghost use Rattle.rtr_ends.specs.RouterLaws.{RouterAsks, RouterKeeps, RouterStops, RouterTakes};
+ghost use Rattle.rtr_ends.specs.RouterShown.{held_by_router};
 ghost use Rattle.rtr_ends.specs.Transcript.{ActsExactly};
 
 use crate::cache::Cache;
@@ -89,7 +89,7 @@ pub fn each_has_room<S: VersionStore>(cache: &Cache<S>)
 
 /// After every call a router holds at most 4,096 bytes that came and are not yet a whole unit, and at most 4,096 that are to be pulled.
 pub fn router_has_room(router: &Router)
-    ensures { HasRoom (held_by router.now) }
+    ensures { HasBufferRoom (held_by_router router.now) }
 {
     router.room();
 }

@@ -19,7 +19,7 @@ pub enum End {
 }
 
 impl End {
-    ghost use Rattle.rtr_ends.specs.Links.{end_number};
+    ghost use Rattle.rtr_ends.specs.RouterLink.{end_number};
 
     /// The number by which the end is printed. It is fixed.
     pub fn number(self) -> u8
@@ -61,7 +61,7 @@ pub enum AskFault {
 }
 
 impl AskFault {
-    ghost use Rattle.rtr_ends.specs.Links.{ask_fault_number};
+    ghost use Rattle.rtr_ends.specs.RouterLink.{ask_fault_number};
 
     /// The number by which the fault is printed.
     pub fn number(self) -> u8

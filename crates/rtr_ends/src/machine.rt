@@ -5,13 +5,14 @@ ghost use Rattle.vrps.specs.VrpSet.{empty};
 ghost use Rattle.rtr_pdu.specs.Code.{CORRUPT_DATA};
 ghost use Rattle.rtr_ends.specs.Answer.{report, sent};
 ghost use Rattle.rtr_ends.specs.Cache.{is_none};
-ghost use Rattle.rtr_ends.specs.Router as model;
+ghost use Rattle.rtr_ends.specs.RouterLink as linked;
+ghost use Rattle.rtr_ends.specs.LinkRules as rules;
 ghost use Rattle.rtr_ends.specs.Seen.{seen_question, seen_versions};
 ghost use Rattle.rtr_ends.specs.Transcript.{choose, query};
 
 use crate::link::End;
 use crate::outbox::Outbox;
-use crate::question::{Question, Version};
+use crate::question::{Question, CommittedVersion};
 use crate::reports::report_on;
 use crate::staging::Staging;
 use crate::table::Table;
@@ -34,7 +35,7 @@ pub enum State {
 pub struct Machine {
     pub alloc: Global,
     pub table: Table,
-    pub version: Option<Version>,
+    pub version: Option<CommittedVersion>,
     /// Whether the next query must be a Reset Query.
     pub mark: bool,
     pub due: Option<u64>,
@@ -51,13 +52,13 @@ pub struct Machine {
 }
 
 impl Machine {
-    ghost use Rattle.rtr_ends.specs.Seen.{Does, Shows, seen_link};
+    ghost use Rattle.rtr_ends.specs.Seen.{Does, ShowsRouter, seen_link};
     ghost use Rattle.rtr_ends.specs.declared.machine.State.TheVariants as states;
     ghost use Rattle.rtr_ends.specs.declared.link.End.TheVariants as ends;
 
     /// Nothing committed, and no connection.
     pub fn new(alloc: Global) -> Machine
-        ensures { Shows model.new_router result }
+        ensures { ShowsRouter rules.new_router result }
     {
         Machine {
             alloc,
@@ -109,7 +110,7 @@ impl Machine {
 
     /// Asks as it is to be asked next.
     pub fn ask(&mut self)
-        ensures { Does model.ask self.old self.new }
+        ensures { Does rules.ask self.old self.new }
     {
         let question = self.choose();
         self.asks(question);
@@ -142,7 +143,7 @@ impl Machine {
 
     /// Whether bytes are taken: a connection is open, and nothing is to be pulled.
     pub fn takes(&self) -> bool
-        ensures { result ≡ (model.is_reading (seen_link self.now.state [] []) && is_none self.now.out) }
+        ensures { result ≡ (linked.is_reading (seen_link self.now.state [] []) && is_none self.now.out) }
     {
         let reads = match self.state {
             State::Closed => false,

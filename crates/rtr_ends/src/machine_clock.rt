@@ -1,6 +1,7 @@
 //! What a router does where a moment is told, and where a connection is made or closed (RFC 8210 sections 6 and 8).
 ghost use Rattle.std.specs.Prelude.{◌≡◌, [], Option};
 ghost use Rattle.rtr_ends.specs.Router as model;
+ghost use Rattle.rtr_ends.specs.RouterLink as linked;
 ghost use Rattle.rtr_ends.specs.Seen.{seen_versions};
 ghost use Rattle.rtr_ends.specs.Transcript.{is_over, retry_of, sum_of};
 
@@ -113,7 +114,7 @@ impl Machine {
 
     /// Whether an idle link is due to ask.
     fn is_due(&self) -> bool
-        ensures { result ≡ model.is_due (seen_link self.now.state [] []) self.now.due self.now.clock }
+        ensures { result ≡ linked.is_due (seen_link self.now.state [] []) self.now.due self.now.clock }
     {
         match self.state {
             State::Idle => match self.due {
@@ -127,7 +128,7 @@ impl Machine {
     /// Asks where the link is idle, and answers whether it did.
     pub fn ask_idle(&mut self) -> bool
         ensures asks { Does (λ r. (model.asks r).router) self.old self.new }
-        ensures idle { result ≡ model.is_idle (seen_link self.old.state [] []) }
+        ensures idle { result ≡ linked.is_idle (seen_link self.old.state [] []) }
     {
         match self.state {
             State::Idle => {

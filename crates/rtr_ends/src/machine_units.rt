@@ -4,12 +4,14 @@ ghost use Rattle.vrps.specs.VrpSet.{has, size};
 ghost use Rattle.rtr_pdu.specs.Code.{CORRUPT_DATA};
 ghost use Rattle.rtr_ends.specs.Answer.{report, sent};
 ghost use Rattle.rtr_ends.specs.Router as model;
+ghost use Rattle.rtr_ends.specs.RouterLink as linked;
+ghost use Rattle.rtr_ends.specs.LinkRules as rules;
 ghost use Rattle.rtr_ends.specs.Seen.{seen_question, seen_versions};
 ghost use Rattle.rtr_ends.specs.Transcript.{base_of, differs, is_wrong, session_of};
 
 use crate::link::End;
 use crate::machine::{Machine, State};
-use crate::question::{Question, Version, within};
+use crate::question::{Question, CommittedVersion, within};
 use crate::reports::{code_of, fault_unit, type_byte};
 use crate::staging::{Staged, Staging};
 use prefixes::Vrp;
@@ -18,7 +20,7 @@ use std::mem;
 use vrps::SetFault;
 
 impl Machine {
-    ghost use Rattle.rtr_ends.specs.Seen.{Does, ReadsSo, ReadsOrLacks, begun_with};
+    ghost use Rattle.rtr_ends.specs.Seen.{Does, UnitIsRead, ReadsOrLacks, begun_with};
     ghost use Rattle.rtr_ends.specs.declared.machine.State.TheVariants as states;
     ghost use Rattle.rtr_ends.specs.declared.link.End.TheVariants as ends;
 
@@ -56,7 +58,7 @@ impl Machine {
     /// A unit on an idle link.
     fn on_idle(&mut self, unit: &Unit)
         requires { self.old.state ≡ states.Idle }
-        ensures { Does (λ r. model.on_unit r.link unit.now r) self.old self.new }
+        ensures { Does (λ r. rules.on_unit r.link unit.now r) self.old self.new }
     {
         match unit {
             Unit::SerialNotify { session, serial } => {
@@ -85,7 +87,7 @@ impl Machine {
     /// A unit where the question is not answered yet.
     fn on_asked(&mut self, question: Question, unit: &Unit)
         requires { self.old.state ≡ states.Asked question }
-        ensures { Does (λ r. model.on_unit r.link unit.now r) self.old self.new }
+        ensures { Does (λ r. rules.on_unit r.link unit.now r) self.old self.new }
     {
         match unit {
             Unit::SerialNotify { session, serial: _ } => {
@@ -128,7 +130,7 @@ impl Machine {
         unit: &Unit,
     ) -> Result<(), SetFault>
         requires { self.old.state ≡ states.Answering question session }
-        ensures { ReadsSo result unit.now self.old self.new }
+        ensures { UnitIsRead result unit.now self.old self.new }
     {
         match unit {
             Unit::SerialNotify { session, serial: _ } => {
@@ -174,7 +176,7 @@ impl Machine {
 
     /// An answer of this session begins.
     fn begin(&mut self, question: Question, session: u16)
-        ensures { Does (λ r. record r { agreed = true; session = Some session; link = model.Answering (begun_with question session [] []) }) self.old self.new }
+        ensures { Does (λ r. record r { agreed = true; session = Some session; link = linked.Answering (begun_with question session [] []) }) self.old self.new }
     {
         let count = self.base_len(question);
         self.agreed = true;
@@ -191,7 +193,7 @@ impl Machine {
         announce: bool,
         vrp: &Vrp,
     ) -> Result<(), SetFault>
-        ensures { (session : ℕ) → self.old.state ≡ states.Answering question session → unit.now ≡ Unit.Prefix announce vrp.now → ReadsSo result unit.now self.old self.new }
+        ensures { (session : ℕ) → self.old.state ≡ states.Answering question session → unit.now ≡ Unit.Prefix announce vrp.now → UnitIsRead result unit.now self.old self.new }
     {
         let in_base = self.is_in_base(question, vrp);
         match self.staging.take(in_base, announce, vrp) {
@@ -215,14 +217,14 @@ impl Machine {
         retry: u32,
         expire: u32,
     ) -> Result<(), SetFault>
-        ensures { self.old.state ≡ states.Answering question session → ReadsSo result (Unit.EndOfData session serial refresh retry expire) self.old self.new }
+        ensures { self.old.state ≡ states.Answering question session → UnitIsRead result (Unit.EndOfData session serial refresh retry expire) self.old self.new }
     {
         let staging = mem::replace(&mut self.staging, Staging::over(self.alloc, 0));
         match staging.end(self.alloc, question, &self.table) {
             Ok(table) => {
                 let refresh = within(1, 86_400, refresh);
                 self.table = table;
-                self.version = Some(Version {
+                self.version = Some(CommittedVersion {
                     session,
                     serial,
                     moment: self.clock,
@@ -243,7 +245,7 @@ impl Machine {
     /// An Error Report to the question that is outstanding: code 2, No Data Available, leaves the link idle; code 0, Corrupt Data,
     /// to a Serial Query drops what is committed; all but 2 end the link.
     fn told_off(&mut self, question: Question, code: u16)
-        ensures { Does (model.told_off (seen_question question) code) self.old self.new }
+        ensures { Does (rules.told_off (seen_question question) code) self.old self.new }
     {
         self.staging = Staging::over(self.alloc, 0);
         if code == error_code::NO_DATA_AVAILABLE {
@@ -274,7 +276,7 @@ impl Machine {
 
     /// Whether a notify of this serial is of a later version than the committed one.
     fn is_news(&self, serial: u32) -> bool
-        ensures { result ≡ model.is_news (seen_versions self.now.version) serial }
+        ensures { result ≡ rules.is_news (seen_versions self.now.version) serial }
     {
         match &self.version {
             Some(version) => version.is_before(serial),

@@ -4,8 +4,8 @@ ghost use Rattle.vrps.specs.Instance.{Instance, versions};
 ghost use Rattle.vrps.specs.Stores.{newest};
 ghost use Rattle.rtr_ends.specs.Cache.{Conn, can_notify, conn_notified, is_none, new_conn};
 ghost use Rattle.rtr_ends.specs.Connection.{fault_report, is_query};
-ghost use Rattle.rtr_ends.specs.Peer.{Answers, Ends, Fails, Knows, Pulls, Receives, ShowsPeer, maybe, read_reply, since_reply};
-ghost use Rattle.rtr_ends.specs.Sender.{due_of, newest_of, version_of};
+ghost use Rattle.rtr_ends.specs.Peer.{SendsReply, EndsConnection, ReportsFault, Knows, Pulls, Receives, ShowsPeer, maybe, read_reply, since_reply};
+ghost use Rattle.rtr_ends.specs.Sender.{due_of, newest_of, numbered_of};
 ghost use Rattle.rtr_ends.specs.Timing.{Intervals};
 
 use crate::reports::{fault_unit, report, report_on};
@@ -26,7 +26,7 @@ pub struct Peer {
 impl Peer {
     /// A connection on which nothing came yet.
     pub fn new(session: u16, timing: Timing, ready: Option<Share>) -> Self
-        ensures { (i : Instance) → session ≡ i.session → option_map version_of ready ≡ newest (versions i) → ShowsPeer timing i (new_conn i) result }
+        ensures { (i : Instance) → session ≡ i.session → option_map numbered_of ready ≡ newest (versions i) → ShowsPeer timing i (new_conn i) result }
     {
         Peer {
             reader: UnitReader::for_cache(),
@@ -53,7 +53,7 @@ impl Peer {
     /// Sends a report, and ends.
     fn end(&mut self, unit: &Unit)
         requires { due_of self.old.sender ≡ [] }
-        ensures { Ends self.old (unit.now ∷ []) self.new }
+        ensures { EndsConnection self.old (unit.now ∷ []) self.new }
     {
         self.sender.send(unit);
         self.ended = true;
@@ -65,7 +65,7 @@ impl Peer {
         requires goes_on { self.old.ended ≡ false }
         requires current { Some current.0 ≡ option_map (λ v. v.serial) (newest_of self.old.sender) }
         ensures { (keep : ℕ) (t : Intervals) (i : Instance) → S.holds keep i store.now → Knows t i self.old.sender →
-            (memory : Bool) × Answers t i (since_reply keep t i memory asked.0) self.old.agreed self.old self.new }
+            (memory : Bool) × SendsReply t i (since_reply keep t i memory asked.0) self.old.agreed self.old self.new }
     {
         match store.since(asked) {
             Err(_) => self.end(&report(error_code::INTERNAL_ERROR, &[])),
@@ -80,7 +80,7 @@ impl Peer {
         requires due { due_of self.old.sender ≡ [] }
         requires goes_on { self.old.ended ≡ false }
         ensures { (keep : ℕ) (t : Intervals) (i : Instance) → S.holds keep i store.now → Knows t i self.old.sender →
-            (memory : Bool) × Answers t i (read_reply keep t i memory (Unit.SerialQuery session serial)) self.old.agreed self.old self.new }
+            (memory : Bool) × SendsReply t i (read_reply keep t i memory (Unit.SerialQuery session serial)) self.old.agreed self.old self.new }
     {
         let query = Unit::SerialQuery { session, serial };
         if session != self.sender.session {
@@ -100,7 +100,7 @@ impl Peer {
         requires due { due_of self.old.sender ≡ [] }
         requires goes_on { self.old.ended ≡ false }
         ensures { (keep : ℕ) (t : Intervals) (i : Instance) → S.holds keep i store.now → Knows t i self.old.sender →
-            (memory : Bool) × Answers t i (read_reply keep t i memory unit.now) (self.old.agreed || is_query unit.now) self.old self.new }
+            (memory : Bool) × SendsReply t i (read_reply keep t i memory unit.now) (self.old.agreed || is_query unit.now) self.old self.new }
     {
         match unit {
             Unit::ResetQuery => {
@@ -119,7 +119,7 @@ impl Peer {
     /// Ends at a fault.
     fn fail(&mut self, fault: UnitFault)
         requires { due_of self.old.sender ≡ [] }
-        ensures { Fails self.old fault self.new }
+        ensures { ReportsFault self.old fault self.new }
     {
         let unit = fault_unit(self.agreed, fault, self.reader.held());
         self.reader = UnitReader::for_cache();
@@ -182,7 +182,7 @@ impl Peer {
 
     /// A share of a newer version is ready from now on.
     pub fn offer(&mut self, share: Share)
-        ensures { (t : Intervals) (i j : Instance) (o : Conn) → i.session ≡ j.session → Some (version_of share) ≡ newest (versions j) →
+        ensures { (t : Intervals) (i j : Instance) (o : Conn) → i.session ≡ j.session → Some (numbered_of share) ≡ newest (versions j) →
             ShowsPeer t i o self.old → ShowsPeer t j o self.new }
     {
         self.sender.offer(share);

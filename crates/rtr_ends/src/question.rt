@@ -30,7 +30,7 @@ impl Question {
 
 /// The version that was committed: its name, when that was, and its intervals, in seconds (RFC 8210 sections 5.8 and 6).
 #[derive(Clone, Copy, Debug, PartialEq, Eq)]
-pub struct Version {
+pub struct CommittedVersion {
     pub session: u16,
     pub serial: u32,
     pub moment: u64,
@@ -39,7 +39,7 @@ pub struct Version {
     pub expire: u32,
 }
 
-impl Version {
+impl CommittedVersion {
     ghost use Rattle.rtr_ends.specs.Seen.{seen_version, seen_versions};
 
     /// Whether more than expire has passed since the commit.

@@ -3,11 +3,13 @@ ghost use Rattle.rtr_pdu.specs.Reader.{after_agreed};
 ghost use Rattle.std.specs.Prelude.{if◌then◌else◌, ℕ, List, Option, ◌≡◌, ◌<◌, ◌≤◌, ◌&&◌, not, true, false, [], ◌++◌, take, drop, min, length, option_map};
 ghost use Rattle.rtr_ends.specs.Cache.{is_none};
 ghost use Rattle.rtr_ends.specs.Router as model;
+ghost use Rattle.rtr_ends.specs.RouterLink as linked;
+ghost use Rattle.rtr_ends.specs.LinkRules as rules;
 ghost use Rattle.rtr_ends.specs.Router.{called};
-ghost use Rattle.rtr_ends.specs.Seen.{Shows, seen_link};
+ghost use Rattle.rtr_ends.specs.Seen.{ShowsRouter, seen_link};
 ghost use Rattle.rtr_ends.specs.Transcript.{due, kept};
-ghost use Rattle.rtr_ends.specs.Peer.{HasRoom};
-ghost use Rattle.rtr_ends.specs.Links.{asked_on, name_of, told_link};
+ghost use Rattle.rtr_ends.specs.Peer.{HasBufferRoom};
+ghost use Rattle.rtr_ends.specs.RouterLink.{asked_on, name_of, told_link};
 ghost use Rattle.vrps.specs.Origin.{state};
 
 use crate::link::{AskFault, Link};
@@ -26,11 +28,11 @@ pub struct Router {
 }
 
 impl Router {
-    ghost use Rattle.rtr_ends.specs.Shown.{Calls, IsShown, Leads, LeadsOn, ReceivesSo, Takes, held_by};
+    ghost use Rattle.rtr_ends.specs.RouterShown.{Calls, IsShown, CallsLead, LeadsOn, ReceivesSo, TakesOn, held_by_router};
 
     /// Nothing is committed, and there is no connection.
     pub fn new(alloc: Global) -> Router
-        ensures { IsShown model.new_router result }
+        ensures { IsShown rules.new_router result }
     {
         Router {
             machine: Machine::new(alloc),
@@ -67,7 +69,7 @@ impl Router {
     pub fn ask(&mut self) -> Result<(), AskFault>
         ensures calls { Calls (λ r. (called model.AsksNow r).router) self.old self.new }
         ensures leads { LeadsOn model.AsksNow self.old self.new }
-        ensures result { (r : model.Router) → IsShown r self.old → result ≡ asked_on r.link }
+        ensures result { (r : rules.Router) → IsShown r self.old → result ≡ asked_on r.link }
     {
         match self.machine.state {
             State::Idle => {
@@ -86,30 +88,30 @@ impl Router {
         ensures calls { Calls (λ r. (called (model.Pulls (length room.old)) r).router) self.old self.new }
         ensures leads { LeadsOn (model.Pulls (length room.old)) self.old self.new }
         ensures within { result ≤ length room.old }
-        ensures bytes { (r : model.Router) → IsShown r self.old → (result ≡ min (length room.old) (length r.out)) × (room.new ≡ take (length room.old) r.out ++ drop (length r.out) room.old) }
+        ensures bytes { (r : rules.Router) → IsShown r self.old → (result ≡ min (length room.old) (length r.out)) × (room.new ≡ take (length room.old) r.out ++ drop (length r.out) room.old) }
     {
         self.machine.out.pull(room)
     }
 
     /// Whether there are bytes to be pulled.
     pub fn has_bytes(&self) -> bool
-        ensures { (r : model.Router) → IsShown r self.now → is_none r.out ≡ not result }
+        ensures { (r : rules.Router) → IsShown r self.now → is_none r.out ≡ not result }
     {
         !self.machine.out.is_empty()
     }
 
     /// The committed table.
     pub fn table(&self) -> &VrpSet
-        ensures shown { (r : model.Router) → IsShown r self.now → result.now ≡ r.table }
-        ensures kept { (calls : List model.Call) → Leads calls self.now → result.now ≡ (kept (model.played calls).items).table }
+        ensures shown { (r : rules.Router) → IsShown r self.now → result.now ≡ r.table }
+        ensures kept { (calls : List model.RouterCall) → CallsLead calls self.now → result.now ≡ (kept (model.played calls).items).table }
     {
         self.machine.table.set()
     }
 
     /// The session and serial of the committed version, if there is one.
     pub fn committed(&self) -> Option<(u16, Serial)>
-        ensures shown { (r : model.Router) → IsShown r self.now → option_map (λ name. (name.0, name.1.0)) result ≡ name_of r.version }
-        ensures kept { (calls : List model.Call) → Leads calls self.now → option_map (λ name. (name.0, name.1.0)) result ≡ name_of (kept (model.played calls).items).version }
+        ensures shown { (r : rules.Router) → IsShown r self.now → option_map (λ name. (name.0, name.1.0)) result ≡ name_of r.version }
+        ensures kept { (calls : List model.RouterCall) → CallsLead calls self.now → option_map (λ name. (name.0, name.1.0)) result ≡ name_of (kept (model.played calls).items).version }
     {
         match &self.machine.version {
             Some(version) => Some((version.session, Serial(version.serial))),
@@ -119,22 +121,22 @@ impl Router {
 
     /// The state of a route over the committed table. It takes no memory.
     pub fn route_state(&self, route: &Route) -> OriginState
-        ensures { (r : model.Router) → IsShown r self.now → result ≡ state r.table route.now }
+        ensures { (r : rules.Router) → IsShown r self.now → result ≡ state r.table route.now }
     {
         self.machine.table.state(route)
     }
 
     /// When an idle link asks again, if ever.
     pub fn due(&self) -> Option<u64>
-        ensures shown { (r : model.Router) → IsShown r self.now → result ≡ r.due }
-        ensures kept { (calls : List model.Call) → Leads calls self.now → result ≡ due (model.played calls).items }
+        ensures shown { (r : rules.Router) → IsShown r self.now → result ≡ r.due }
+        ensures kept { (calls : List model.RouterCall) → CallsLead calls self.now → result ≡ due (model.played calls).items }
     {
         self.machine.due
     }
 
     /// The link.
     pub fn link(&self) -> Link
-        ensures { (r : model.Router) → IsShown r self.now → result ≡ told_link r.link }
+        ensures { (r : rules.Router) → IsShown r self.now → result ≡ told_link r.link }
     {
         match self.machine.state {
             State::Closed => Link::Closed,
@@ -147,14 +149,14 @@ impl Router {
 
     /// Whether code 2, No Data Available, and no commit brought a link to idle last.
     pub(crate) fn no_data(&self) -> bool
-        ensures { (r : model.Router) → IsShown r self.now → result ≡ r.no_data }
+        ensures { (r : rules.Router) → IsShown r self.now → result ≡ r.no_data }
     {
         self.machine.no_data
     }
 
     /// The bytes that it holds: received that are no whole unit yet, and to be pulled.
     pub(crate) fn room(&self)
-        ensures { HasRoom (held_by self.now) }
+        ensures { HasBufferRoom (held_by_router self.now) }
     {
         let _received = self.reader.held();
         let _ready = self.machine.out.len();
@@ -175,7 +177,7 @@ impl Router {
 
     /// Takes bytes from the front of the piece.
     fn take(&mut self, piece: &mut &[u8])
-        ensures takes { Takes false self.old piece.old.now self.new piece.new.now }
+        ensures takes { TakesOn false self.old piece.old.now self.new piece.new.now }
         ensures less { length piece.new.now ≤ length piece.old.now }
     {
         while self.machine.takes() {
@@ -187,8 +189,8 @@ impl Router {
 
     /// Takes the bytes up to the end of a unit, or all of them, or up to a fault; whether it was a unit.
     fn step(&mut self, piece: &mut &[u8]) -> bool
-        requires { (model.is_reading (seen_link self.old.machine.state [] []) && is_none self.old.machine.out) ≡ true }
-        ensures takes { Takes result self.old piece.old.now self.new piece.new.now }
+        requires { (linked.is_reading (seen_link self.old.machine.state [] []) && is_none self.old.machine.out) ≡ true }
+        ensures takes { TakesOn result self.old piece.old.now self.new piece.new.now }
         ensures less { result ≡ true → length piece.new.now < length piece.old.now }
         ensures within { length piece.new.now ≤ length piece.old.now }
     {

@@ -1,9 +1,9 @@
 //! What a connection at the cache has to send.
 ghost use Rattle.std.specs.Prelude.{◌≡◌, ℕ, ◌<◌, ◌≤◌, length, Bool, true, false, not, [], ◌∷◌, ◌++◌, ◌+◌, Some, None, option_map, slice_get};
-ghost use Rattle.vrps.specs.Instance.{Version};
+ghost use Rattle.vrps.specs.Instance.{NumberedSet};
 ghost use Rattle.rtr_ends.specs.Answer.{announcements, response, sent, whole_answer, withdrawals};
 ghost use Rattle.rtr_ends.specs.Cache.{is_none};
-ghost use Rattle.rtr_ends.specs.Sender.{Begins, Gives, GivesFrom, Hands, Keeps, KeepsRoom, Sends, Stays, Writes, as_list, due_of, left, newest_of, ready_in, serial_in, units_in, version_of};
+ghost use Rattle.rtr_ends.specs.Sender.{BeginsAnswer, PullsBytes, GivesFrom, Hands, KeepsRecords, KeepsRoom, Sends, Stays, Writes, as_list, due_of, left, newest_of, ready_in, serial_in, units_in, numbered_of};
 
 use crate::reports::report_on;
 use crate::timing::Timing;
@@ -100,7 +100,7 @@ impl Sender {
         ensures due { due_of result ≡ [] }
         ensures session { result.session ≡ session }
         ensures timing { result.timing ≡ timing }
-        ensures newest { newest_of result ≡ option_map version_of ready }
+        ensures newest { newest_of result ≡ option_map numbered_of ready }
         ensures room { ready_in result ≤ MAX_UNIT_LEN }
     {
         Sender {
@@ -132,7 +132,7 @@ impl Sender {
     /// Keeps the share that the answer used, where no newer one is there.
     fn keep(&mut self, records: Records)
         requires { self.old.answer ≡ None }
-        ensures { Keeps self.old records self.new }
+        ensures { KeepsRecords self.old records self.new }
     {
         if self.ready.is_none() {
             if let Records::Whole(share) = records {
@@ -199,7 +199,7 @@ impl Sender {
     /// Begins an answer with these records.
     fn begin(&mut self, records: Records)
         requires { due_of self.old ≡ [] }
-        ensures { Begins self.old records self.new }
+        ensures { BeginsAnswer self.old records self.new }
     {
         encode(
             &Unit::CacheResponse {
@@ -226,7 +226,7 @@ impl Sender {
     pub fn answer_step(&mut self, serial: Serial, change: Change)
         requires due { due_of self.old ≡ [] }
         requires serial { Some serial.0 ≡ option_map (λ v. v.serial) (newest_of self.old) }
-        ensures { (v : Version) → newest_of self.old ≡ Some v →
+        ensures { (v : NumberedSet) → newest_of self.old ≡ Some v →
             Sends self.old (response self.old.session self.old.timing v (withdrawals change.withdraw ++ announcements change.announce)) self.new }
     {
         self.begin(Records::Step(serial, change));
@@ -237,7 +237,7 @@ impl Sender {
         ensures session { self.new.session ≡ self.old.session }
         ensures timing { self.new.timing ≡ self.old.timing }
         ensures due { due_of self.new ≡ due_of self.old }
-        ensures newest { newest_of self.new ≡ Some (version_of share) }
+        ensures newest { newest_of self.new ≡ Some (numbered_of share) }
         ensures room { KeepsRoom self.old self.new }
     {
         let _older = self.ready.replace(share);
@@ -260,7 +260,7 @@ impl Sender {
 
     /// Fills `out` with bytes that are due, as far as there are any.
     pub fn pull(&mut self, out: &mut [u8]) -> usize
-        ensures gives { Gives (due_of self.old) out.old result out.new (due_of self.new) }
+        ensures gives { PullsBytes (due_of self.old) out.old result out.new (due_of self.new) }
         ensures stays { Stays self.old self.new }
     {
         let mut filled = 0;

@@ -2,10 +2,10 @@
 ghost use Rattle.std.specs.Prelude.{◌≡◌, ◌⊎◌, ◌-◌, ◌<◌, ℕ, Ok, List, [], length, IfErr};
 ghost use Rattle.std.specs.List.{AllByRecursion};
 ghost use Rattle.rtr_pdu.specs.Counted.{calls_of, device_of, failures_of, HasFailed};
-ghost use Rattle.rtr_ends.specs.Cache.{CacheCall};
+ghost use Rattle.rtr_ends.specs.Cache.{ConnCall};
 ghost use Rattle.rtr_ends.specs.CacheState.{CacheState, ShowsCache};
-ghost use Rattle.rtr_ends.specs.ServeStream.{Answered, EndedAs, IsTurn, ReadsSo, Serves, StandsAt, ended_within, is_within};
-ghost use Rattle.rtr_ends.specs.Streams.{FailsSo, WritesSo, fault_of};
+ghost use Rattle.rtr_ends.specs.ServeStream.{Answered, EndedAs, IsTurn, ReadsWithin, ServesConnection, StandsAt, ended_within, is_within};
+ghost use Rattle.rtr_ends.specs.Streams.{FailsSo, WritesSo, stream_fault_of};
 
 use crate::cache::{Cache, Conn};
 use crate::streams::{StreamFault, write_bytes};
@@ -36,11 +36,11 @@ pub fn serve_stream<S: VersionStore, R: Read, W: Write>(
     output: &mut Counted<W>,
     limit: u64,
 ) -> Result<Served, StreamFault>
-    ensures serves { (m : CacheState) → ShowsCache S.holds m cache.old → Serves m (R.remaining (device_of input.old)) (R.remaining (device_of input.new))
+    ensures serves { (m : CacheState) → ShowsCache S.holds m cache.old → ServesConnection m (R.remaining (device_of input.old)) (R.remaining (device_of input.new))
         (calls_of input.new - calls_of input.old) (W.contents (device_of output.old)) (W.contents (device_of output.new)) result }
     ensures closed { (m : CacheState) → ShowsCache S.holds m cache.old → ShowsCache S.holds m cache.new }
-    ensures fails { FailsSo input.old input.new output.old output.new (fault_of result) }
-    ensures reads { ReadsSo limit (calls_of input.old) (calls_of input.new) result }
+    ensures fails { FailsSo input.old input.new output.old output.new (stream_fault_of result) }
+    ensures reads { ReadsWithin limit (calls_of input.old) (calls_of input.new) result }
 {
     match cache.open() {
         Err(_) => Err(StreamFault::Memory),
@@ -62,8 +62,8 @@ fn serve<S: VersionStore, R: Read, W: Write>(
 ) -> Result<Served, StreamFault>
     ensures serves { (m : CacheState) → StandsAt S.holds m conn.0 [] cache.old → EndedAs S.holds m conn.0 (R.remaining (device_of input.old)) (R.remaining (device_of input.new))
         (calls_of input.new - calls_of input.old) (W.contents (device_of output.old)) (W.contents (device_of output.new)) result cache.new }
-    ensures fails { FailsSo input.old input.new output.old output.new (fault_of result) }
-    ensures reads { ReadsSo limit (calls_of input.old) (calls_of input.new) result }
+    ensures fails { FailsSo input.old input.new output.old output.new (stream_fault_of result) }
+    ensures reads { ReadsWithin limit (calls_of input.old) (calls_of input.new) result }
 {
     let mut buffer = [0u8; MAX_UNIT_LEN];
     let mut room = [0u8; 32768];
@@ -105,7 +105,7 @@ fn answer<S: VersionStore, W: Write>(
     output: &mut Counted<W>,
 ) -> Result<(), WriteFailed>
     requires { 0 < length room.old }
-    ensures answers { (m : CacheState) (calls : List CacheCall) → AllByRecursion IsTurn calls → StandsAt S.holds m conn.0 calls cache.old →
+    ensures answers { (m : CacheState) (calls : List ConnCall) → AllByRecursion IsTurn calls → StandsAt S.holds m conn.0 calls cache.old →
         Answered S.holds m conn.0 calls piece.now (W.contents (device_of output.old)) (W.contents (device_of output.new)) result cache.new }
     ensures fails { WritesSo output.old output.new result }
 {

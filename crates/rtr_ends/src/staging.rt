@@ -29,7 +29,7 @@ pub enum Staged {
 }
 
 impl Staging {
-    ghost use Rattle.rtr_ends.specs.Staging.{GoesTo, LeadsTo};
+    ghost use Rattle.rtr_ends.specs.Staging.{GoesTo, LeadsToSet};
     ghost use Rattle.rtr_ends.specs.Seen.{IsStaged, seen_question};
 
     /// Nothing is staged over a base of so many records. It takes no memory.
@@ -101,7 +101,7 @@ impl Staging {
     /// The table to which the records lead from the base of the answer to this question. Want of memory is the only error.
     pub fn end(self, alloc: Global, question: Question, table: &Table) -> Result<Table, SetFault>
         ensures { (b : Begun) → IsStaged (base_of (seen_question question) table.now) b.withdrawn b.announced self
-            → LeadsTo (base_of (seen_question question) table.now) b result }
+            → LeadsToSet (base_of (seen_question question) table.now) b result }
     {
         let set = self.led(alloc, question, table.set())?;
         Ok(Table::of(alloc, set)?)
@@ -110,7 +110,7 @@ impl Staging {
     /// The set of that table.
     fn led(self, alloc: Global, question: Question, table: &VrpSet) -> Result<VrpSet, SetFault>
         ensures { (b : Begun) → IsStaged (base_of (seen_question question) table.now) b.withdrawn b.announced self
-            → LeadsTo (base_of (seen_question question) table.now) b result }
+            → LeadsToSet (base_of (seen_question question) table.now) b result }
     {
         match question {
             Question::Reset => self.lead_from_nothing(alloc),

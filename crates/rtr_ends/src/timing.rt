@@ -14,11 +14,11 @@ pub enum TimingFault {
 }
 
 impl TimingFault {
-    ghost use Rattle.rtr_ends.specs.Timing.{fault_number};
+    ghost use Rattle.rtr_ends.specs.Timing.{timing_fault_number};
 
     /// The number by which the fault is printed.
     pub fn number(self) -> u8
-        ensures { result ≡ fault_number self }
+        ensures { result ≡ timing_fault_number self }
     {
         self as u8
     }

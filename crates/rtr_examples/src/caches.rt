@@ -1,3 +1,7 @@
+use crate::wire::{
+    ANSWER, Bytes, CACHE_RESET, END_0, END_5, END_6, END_7, RESET_QUERY, RESPONSE, SERIAL_QUERY,
+    UNCHANGED, V as V_UNIT, W as W_UNIT, all_of, bytes,
+};
 use prefixes::{Asn, IpPrefix, Prefix, V4, Vrp};
 use rtr_ends::laws::each_has_room;
 use rtr_ends::{Cache, Conn, Timing};
@@ -11,24 +15,6 @@ pub(crate) type Rows = &'static [(&'static str, u8, u32)];
 pub(crate) const V: (&str, u8, u32) = ("192.0.2.0/24", 24, 64496);
 
 pub(crate) const W: (&str, u8, u32) = ("198.51.100.0/24", 24, 64497);
-
-const RESET: [u8; 8] = [1, 2, 0, 0, 0, 0, 0, 8];
-
-const RESPONSE: [u8; 8] = [1, 3, 0x12, 0x34, 0, 0, 0, 8];
-
-pub(crate) const V_UNIT: [u8; 20] = [
-    1, 4, 0, 0, 0, 0, 0, 20, 1, 24, 24, 0, 192, 0, 2, 0, 0, 0, 0xfb, 0xf0,
-];
-
-const W_UNIT: [u8; 20] = [
-    1, 4, 0, 0, 0, 0, 0, 20, 1, 24, 24, 0, 198, 51, 100, 0, 0, 0, 0xfb, 0xf1,
-];
-
-const ANSWER: [u8; 52] = [
-    1, 3, 0x12, 0x34, 0, 0, 0, 8, 1, 4, 0, 0, 0, 0, 0, 20, 1, 24, 24, 0, 192, 0, 2, 0, 0, 0, 0xfb,
-    0xf0, 1, 7, 0x12, 0x34, 0, 0, 0, 24, 0, 0, 0, 5, 0, 0, 0x0e, 0x10, 0, 0, 0x02, 0x58, 0, 0,
-    0x1c, 0x20,
-];
 
 pub(crate) fn set_of(alloc: Global, rows: Rows) -> Result<VrpSet, Fail> {
     let mut list = Vec::new(alloc);
@@ -56,48 +42,36 @@ pub(crate) fn cache_of(
     Ok(cache)
 }
 
-fn end_of_data(alloc: Global, serial: u8) -> Result<Vec<u8>, Fail> {
-    let mut bytes = Vec::new(alloc);
-    bytes.extend_from_slice(&[1, 7, 0x12, 0x34, 0, 0, 0, 24, 0, 0, 0, serial])?;
-    bytes.extend_from_slice(&[0, 0, 0x0e, 0x10, 0, 0, 0x02, 0x58, 0, 0, 0x1c, 0x20])?;
-    Ok(bytes)
+/// Hands in units, and answers how many bytes of them are consumed.
+fn hand(cache: &mut Cache<VersionLog>, conn: Conn, units: &str) -> usize {
+    cache.receive(conn, bytes(units).as_slice())
 }
 
-/// The answer of these units and an End of Data of this serial.
-fn answer_of(alloc: Global, units: &[&[u8]], serial: u8) -> Result<Vec<u8>, Fail> {
-    let mut bytes = Vec::new(alloc);
-    bytes.extend_from_slice(&RESPONSE)?;
-    for unit in units {
-        bytes.extend_from_slice(unit)?;
-    }
-    bytes.extend_from_slice(end_of_data(alloc, serial)?.as_slice())?;
-    Ok(bytes)
-}
-
-fn query(serial: u8) -> [u8; 12] {
-    [1, 1, 0x12, 0x34, 0, 0, 0, 12, 0, 0, 0, serial]
-}
-
-/// All that is due, pulled in pieces of so many bytes.
-fn pulled(
-    cache: &mut Cache<VersionLog>,
-    alloc: Global,
-    conn: Conn,
-    size: usize,
-) -> Result<Vec<u8>, Fail> {
-    let mut all = Vec::new(alloc);
+/// All that is due, pulled in pieces of at most so many bytes.
+fn pulled(cache: &mut Cache<VersionLog>, conn: Conn, size: usize) -> Bytes {
+    let mut all = Bytes::new();
     let mut room = [0u8; 64];
     for _ in 0..100 {
-        let Some(out) = room.get_mut(..size) else {
-            return Err(Fail::from("size"));
+        let count = match room.get_mut(..size) {
+            None => 0,
+            Some(out) => cache.pull(conn, out),
         };
-        let count = cache.pull(conn, out);
-        let Some(front) = room.get(..count) else {
-            return Err(Fail::from("count"));
-        };
-        all.extend_from_slice(front)?;
+        if let Some(front) = room.get(..count) {
+            let _fits = all.try_extend_from_slice(front);
+        }
     }
-    Ok(all)
+    all
+}
+
+/// Checks that these units are due and no more, pulled in pieces of so many bytes.
+fn expect_sent<R: Abort>(
+    rt: &R,
+    cache: &mut Cache<VersionLog>,
+    conn: Conn,
+    size: usize,
+    units: &[&str],
+) {
+    assert!(rt; pulled(cache, conn, size).as_slice() == all_of(units).as_slice());
 }
 
 #[test]
@@ -106,14 +80,13 @@ fn a_reset_query_is_answered_from_the_current_version(rt: HostRuntime) -> Result
     for size in [1, 7, 64] {
         let mut cache = cache_of(alloc, 5, 2, &[&[V]])?;
         let conn = cache.open()?;
-        assert!(rt; cache.receive(conn, &RESET) == 8);
+        assert!(rt; hand(&mut cache, conn, RESET_QUERY) == 8);
         assert!(rt; cache.has_bytes(conn));
-        let answer = answer_of(alloc, &[&V_UNIT], 5)?;
-        assert!(rt; pulled(&mut cache, alloc, conn, size)? == answer);
+        expect_sent(&rt, &mut cache, conn, size, &[ANSWER]);
         assert!(rt; !cache.has_bytes(conn));
         for _ in 0..2 {
-            assert!(rt; cache.receive(conn, &query(5)) == 12);
-            assert!(rt; pulled(&mut cache, alloc, conn, size)? == answer_of(alloc, &[], 5)?);
+            assert!(rt; hand(&mut cache, conn, SERIAL_QUERY) == 12);
+            expect_sent(&rt, &mut cache, conn, size, &[RESPONSE, END_5]);
         }
     }
     Ok(())
@@ -124,9 +97,8 @@ fn serials_go_round(rt: HostRuntime) -> Result<(), Fail> {
     let alloc = rt.alloc();
     let mut cache = cache_of(alloc, 4294967295, 2, &[&[V], &[V, W]])?;
     let conn = cache.open()?;
-    let asked = [1, 1, 0x12, 0x34, 0, 0, 0, 12, 0xff, 0xff, 0xff, 0xff];
-    assert!(rt; cache.receive(conn, &asked) == 12);
-    assert!(rt; pulled(&mut cache, alloc, conn, 64)? == answer_of(alloc, &[&W_UNIT], 0)?);
+    assert!(rt; hand(&mut cache, conn, "01 01 1234 0000000c ffffffff") == 12);
+    expect_sent(&rt, &mut cache, conn, 64, &[RESPONSE, W_UNIT, END_0]);
     Ok(())
 }
 
@@ -135,19 +107,16 @@ fn an_answer_under_way_keeps_its_version(rt: HostRuntime) -> Result<(), Fail> {
     let alloc = rt.alloc();
     let mut cache = cache_of(alloc, 5, 2, &[&[V]])?;
     let conn = cache.open()?;
-    cache.receive(conn, &RESET);
+    hand(&mut cache, conn, RESET_QUERY);
     let mut first = [0u8; 10];
     assert!(rt; cache.pull(conn, &mut first) == 10);
     assert!(rt; cache.publish(set_of(alloc, &[V, W])?)? == Published::New(Serial(6)));
-    let answer = answer_of(alloc, &[&V_UNIT], 5)?;
-    let Some(rest) = answer.as_slice().get(10..) else {
-        return Err(Fail::from("short"));
-    };
-    assert!(rt; pulled(&mut cache, alloc, conn, 7)?.as_slice() == rest);
-    cache.receive(conn, &query(5));
-    assert!(rt; pulled(&mut cache, alloc, conn, 7)? == answer_of(alloc, &[&W_UNIT], 6)?);
-    cache.receive(conn, &RESET);
-    assert!(rt; pulled(&mut cache, alloc, conn, 7)? == answer_of(alloc, &[&V_UNIT, &W_UNIT], 6)?);
+    let rest = pulled(&mut cache, conn, 7);
+    assert!(rt; Some(rest.as_slice()) == bytes(ANSWER).as_slice().get(10..));
+    hand(&mut cache, conn, SERIAL_QUERY);
+    expect_sent(&rt, &mut cache, conn, 7, &[RESPONSE, W_UNIT, END_6]);
+    hand(&mut cache, conn, RESET_QUERY);
+    expect_sent(&rt, &mut cache, conn, 7, &[RESPONSE, V_UNIT, W_UNIT, END_6]);
     Ok(())
 }
 
@@ -156,15 +125,14 @@ fn old_serials_are_reset(rt: HostRuntime) -> Result<(), Fail> {
     let alloc = rt.alloc();
     let mut cache = cache_of(alloc, 4, 2, &[&[], &[V], &[V, W], &[V]])?;
     let conn = cache.open()?;
-    cache.receive(conn, &query(5));
-    assert!(rt; pulled(&mut cache, alloc, conn, 64)? == answer_of(alloc, &[], 7)?);
+    hand(&mut cache, conn, SERIAL_QUERY);
+    expect_sent(&rt, &mut cache, conn, 64, &[RESPONSE, END_7]);
     let other = cache.open()?;
     assert!(rt; other != conn);
-    cache.receive(other, &query(4));
-    let reset = [1u8, 8, 0, 0, 0, 0, 0, 8];
-    assert!(rt; pulled(&mut cache, alloc, other, 64)?.as_slice() == reset.as_slice());
-    cache.receive(other, &RESET);
-    assert!(rt; pulled(&mut cache, alloc, other, 64)? == answer_of(alloc, &[&V_UNIT], 7)?);
+    hand(&mut cache, other, "01 01 1234 0000000c 00000004");
+    expect_sent(&rt, &mut cache, other, 64, &[CACHE_RESET]);
+    hand(&mut cache, other, RESET_QUERY);
+    expect_sent(&rt, &mut cache, other, 64, &[RESPONSE, V_UNIT, END_7]);
     cache.close(conn);
     assert!(rt; cache.open()? == conn);
     Ok(())
@@ -175,11 +143,9 @@ fn nothing_is_published(rt: HostRuntime) -> Result<(), Fail> {
     let alloc = rt.alloc();
     let mut cache = cache_of(alloc, 4, 2, &[])?;
     let conn = cache.open()?;
-    cache.receive(conn, &RESET);
-    let report = [
-        1u8, 10, 0, 2, 0, 0, 0, 0x18, 0, 0, 0, 8, 1, 2, 0, 0, 0, 0, 0, 8, 0, 0, 0, 0,
-    ];
-    assert!(rt; pulled(&mut cache, alloc, conn, 64)?.as_slice() == report.as_slice());
+    hand(&mut cache, conn, RESET_QUERY);
+    let report = "01 0a 0002 00000018 00000008 0102000000000008 00000000";
+    expect_sent(&rt, &mut cache, conn, 64, &[report]);
     assert!(rt; cache.is_open(conn));
     assert!(rt; !cache.notify(conn));
     Ok(())
@@ -190,34 +156,39 @@ fn two_queries_in_one_piece(rt: HostRuntime) -> Result<(), Fail> {
     let alloc = rt.alloc();
     let mut cache = cache_of(alloc, 5, 2, &[&[V]])?;
     let conn = cache.open()?;
-    let piece = [1, 2, 0, 0, 0, 0, 0, 8, 1, 2, 0, 0, 0, 0, 0, 8];
-    assert!(rt; cache.receive(conn, &piece) == 8);
-    assert!(rt; cache.receive(conn, &RESET) == 0);
-    let answer = answer_of(alloc, &[&V_UNIT], 5)?;
-    assert!(rt; pulled(&mut cache, alloc, conn, 64)? == answer);
-    assert!(rt; cache.receive(conn, &RESET) == 8);
-    assert!(rt; pulled(&mut cache, alloc, conn, 64)? == answer);
+    let both = "01 02 0000 00000008 | 01 02 0000 00000008";
+    assert!(rt; hand(&mut cache, conn, both) == 8);
+    assert!(rt; hand(&mut cache, conn, RESET_QUERY) == 0);
+    expect_sent(&rt, &mut cache, conn, 64, &[ANSWER]);
+    assert!(rt; hand(&mut cache, conn, RESET_QUERY) == 8);
+    expect_sent(&rt, &mut cache, conn, 64, &[ANSWER]);
     Ok(())
 }
 
 #[test]
 fn another_version_is_reported(rt: HostRuntime) -> Result<(), Fail> {
     let alloc = rt.alloc();
-    let old = [0u8, 2, 0, 0, 0, 0, 0, 8];
-    for (agreed, code) in [(false, 4u8), (true, 8)] {
+    let rows = [
+        (
+            false,
+            "01 0a 0004 00000018 00000008 0002000000000008 00000000",
+        ),
+        (
+            true,
+            "01 0a 0008 00000018 00000008 0002000000000008 00000000",
+        ),
+    ];
+    for (agreed, report) in rows {
         let mut cache = cache_of(alloc, 5, 2, &[&[V]])?;
         let conn = cache.open()?;
         if agreed {
-            cache.receive(conn, &RESET);
-            pulled(&mut cache, alloc, conn, 64)?;
+            hand(&mut cache, conn, RESET_QUERY);
+            expect_sent(&rt, &mut cache, conn, 64, &[ANSWER]);
         }
-        assert!(rt; cache.receive(conn, &old) == 8);
-        let report = [
-            1u8, 10, 0, code, 0, 0, 0, 0x18, 0, 0, 0, 8, 0, 2, 0, 0, 0, 0, 0, 8, 0, 0, 0, 0,
-        ];
+        assert!(rt; hand(&mut cache, conn, "00 02 0000 00000008") == 8);
         assert!(rt; !cache.is_open(conn));
-        assert!(rt; pulled(&mut cache, alloc, conn, 64)?.as_slice() == report.as_slice());
-        assert!(rt; cache.receive(conn, &RESET) == 0);
+        expect_sent(&rt, &mut cache, conn, 64, &[report]);
+        assert!(rt; hand(&mut cache, conn, RESET_QUERY) == 0);
     }
     Ok(())
 }
@@ -229,133 +200,89 @@ fn routers_are_notified(rt: HostRuntime) -> Result<(), Fail> {
     let conn = cache.open()?;
     assert!(rt; cache.notify(conn));
     assert!(rt; !cache.notify(conn));
-    let notify = [1u8, 0, 0x12, 0x34, 0, 0, 0, 12, 0, 0, 0, 5];
-    assert!(rt; pulled(&mut cache, alloc, conn, 64)?.as_slice() == notify.as_slice());
+    let notify = "01 00 1234 0000000c 00000005";
+    expect_sent(&rt, &mut cache, conn, 64, &[notify]);
     Ok(())
 }
 
 /// What came, what is answered, and whether the connection goes on, at a cache of session 0x1234 whose one version, of serial 5,
 /// has v.
-type Row = (&'static [u8], &'static [u8], bool);
+type Row = (&'static str, &'static str, bool);
 
 const ROWS: &[Row] = &[
     // A Reset Query, also with what is ignored.
-    (&RESET, &ANSWER, true),
-    (&[1, 2, 0xff, 0xff, 0, 0, 0, 8], &ANSWER, true),
+    (RESET_QUERY, ANSWER, true),
+    ("01 02 ffff 00000008", ANSWER, true),
     // A Serial Query of the current serial, of a serial that is not known, and of another session.
+    (SERIAL_QUERY, UNCHANGED, true),
+    ("01 01 1234 0000000c 00000004", CACHE_RESET, true),
     (
-        &[1, 1, 0x12, 0x34, 0, 0, 0, 12, 0, 0, 0, 5],
-        &[
-            1, 3, 0x12, 0x34, 0, 0, 0, 8, 1, 7, 0x12, 0x34, 0, 0, 0, 24, 0, 0, 0, 5, 0, 0, 0x0e,
-            0x10, 0, 0, 0x02, 0x58, 0, 0, 0x1c, 0x20,
-        ],
-        true,
-    ),
-    (
-        &[1, 1, 0x12, 0x34, 0, 0, 0, 12, 0, 0, 0, 4],
-        &[1, 8, 0, 0, 0, 0, 0, 8],
-        true,
-    ),
-    (
-        &[1, 1, 0x22, 0x22, 0, 0, 0, 12, 0, 0, 0, 5],
-        &[
-            1, 10, 0, 0, 0, 0, 0, 0x1c, 0, 0, 0, 12, 1, 1, 0x22, 0x22, 0, 0, 0, 12, 0, 0, 0, 5, 0,
-            0, 0, 0,
-        ],
+        "01 01 2222 0000000c 00000005",
+        "01 0a 0000 0000001c 0000000c 010122220000000c00000005 00000000",
         false,
     ),
     // Units that no router sends.
     (
-        &[1, 0, 0x12, 0x34, 0, 0, 0, 12, 0, 0, 0, 5],
-        &[
-            1, 10, 0, 3, 0, 0, 0, 0x1c, 0, 0, 0, 12, 1, 0, 0x12, 0x34, 0, 0, 0, 12, 0, 0, 0, 5, 0,
-            0, 0, 0,
-        ],
+        "01 00 1234 0000000c 00000005",
+        "01 0a 0003 0000001c 0000000c 010012340000000c00000005 00000000",
         false,
     ),
     (
-        &[1, 8, 0, 0, 0, 0, 0, 8],
-        &[
-            1, 10, 0, 3, 0, 0, 0, 0x18, 0, 0, 0, 8, 1, 8, 0, 0, 0, 0, 0, 8, 0, 0, 0, 0,
-        ],
+        CACHE_RESET,
+        "01 0a 0003 00000018 00000008 0108000000000008 00000000",
         false,
     ),
     (
-        &[
-            1, 4, 0, 0, 0, 0, 0, 20, 0x81, 24, 24, 0, 192, 0, 2, 0, 0, 0, 0xfb, 0xf0,
-        ],
-        &[
-            1, 10, 0, 3, 0, 0, 0, 0x24, 0, 0, 0, 20, 1, 4, 0, 0, 0, 0, 0, 20, 1, 24, 24, 0, 192, 0,
-            2, 0, 0, 0, 0xfb, 0xf0, 0, 0, 0, 0,
-        ],
+        "01 04 0000 00000014 81 18 18 00 c0000200 0000fbf0",
+        "01 0a 0003 00000024 00000014 010400000000001401181800c00002000000fbf0 00000000",
         false,
     ),
     // Faults of the version, the type, the length, a length over 4,096, a record and a report.
     (
-        &[0, 2, 0, 0, 0, 0, 0, 8],
-        &[
-            1, 10, 0, 4, 0, 0, 0, 0x18, 0, 0, 0, 8, 0, 2, 0, 0, 0, 0, 0, 8, 0, 0, 0, 0,
-        ],
+        "00 02 0000 00000008",
+        "01 0a 0004 00000018 00000008 0002000000000008 00000000",
         false,
     ),
     (
-        &[1, 5, 0, 0, 0, 0, 0, 8],
-        &[
-            1, 10, 0, 5, 0, 0, 0, 0x18, 0, 0, 0, 8, 1, 5, 0, 0, 0, 0, 0, 8, 0, 0, 0, 0,
-        ],
+        "01 05 0000 00000008",
+        "01 0a 0005 00000018 00000008 0105000000000008 00000000",
         false,
     ),
     (
-        &[1, 4, 0, 0, 0xff, 0xff, 0xff, 0xff],
-        &[
-            1, 10, 0, 0, 0, 0, 0, 0x18, 0, 0, 0, 8, 1, 4, 0, 0, 0xff, 0xff, 0xff, 0xff, 0, 0, 0, 0,
-        ],
+        "01 04 0000 ffffffff",
+        "01 0a 0000 00000018 00000008 01040000ffffffff 00000000",
         false,
     ),
     (
-        &[1, 9, 0, 0, 0, 0, 0x10, 1],
-        &[
-            1, 10, 0, 0, 0, 0, 0, 0x18, 0, 0, 0, 8, 1, 9, 0, 0, 0, 0, 0x10, 1, 0, 0, 0, 0,
-        ],
+        "01 09 0000 00001001",
+        "01 0a 0000 00000018 00000008 0109000000001001 00000000",
         false,
     ),
     (
-        &[
-            1, 4, 0, 0, 0, 0, 0, 20, 1, 24, 23, 0, 192, 0, 2, 0, 0, 0, 0xfb, 0xf0,
-        ],
-        &[
-            1, 10, 0, 0, 0, 0, 0, 0x24, 0, 0, 0, 20, 1, 4, 0, 0, 0, 0, 0, 20, 1, 24, 23, 0, 192, 0,
-            2, 0, 0, 0, 0xfb, 0xf0, 0, 0, 0, 0,
-        ],
+        "01 04 0000 00000014 01 18 17 00 c0000200 0000fbf0",
+        "01 0a 0000 00000024 00000014 010400000000001401181700c00002000000fbf0 00000000",
         false,
     ),
     // Error Reports are not answered, also where they are faulty.
-    (
-        &[1, 10, 0, 2, 0, 0, 0, 16, 0, 0, 0, 0, 0, 0, 0, 0],
-        &[],
-        false,
-    ),
-    (&[1, 10, 0, 0, 0, 0, 0, 15], &[], false),
-    (
-        &[1, 10, 0, 2, 0, 0, 0, 17, 0, 0, 0, 0, 0, 0, 0, 1, 0xff],
-        &[],
-        false,
-    ),
+    ("01 0a 0002 00000010 00000000 00000000", "", false),
+    ("01 0a 0000 0000000f", "", false),
+    ("01 0a 0002 00000011 00000000 00000001 ff", "", false),
 ];
 
 #[test]
 fn each_unit_in_every_cutting(rt: HostRuntime) -> Result<(), Fail> {
     let alloc = rt.alloc();
     let mut cache = cache_of(alloc, 5, 2, &[&[V]])?;
-    for &(came, answer, goes_on) in ROWS {
+    for &(units, answer, goes_on) in ROWS {
+        let came = bytes(units);
         for cut in 0..came.len() {
             let conn = cache.open()?;
-            let (front, back) = came.split_at(cut);
+            let (front, back) = came.as_slice().split_at(cut);
             assert!(rt; cache.receive(conn, front) == front.len());
             assert!(rt; !cache.has_bytes(conn));
             assert!(rt; cache.receive(conn, back) == back.len());
-            assert!(rt; cache.receive(conn, &RESET) == 0);
-            assert!(rt; pulled(&mut cache, alloc, conn, 64)?.as_slice() == answer);
+            assert!(rt; hand(&mut cache, conn, RESET_QUERY) == 0);
+            expect_sent(&rt, &mut cache, conn, 64, &[answer]);
             assert!(rt; cache.is_open(conn) == goes_on);
             cache.close(conn);
         }
@@ -377,12 +304,9 @@ fn another_session_is_corrupt(rt: HostRuntime) -> Result<(), Fail> {
     assert!(rt; serial == Serial(9));
     assert!(rt; set.len() == 1);
     let conn = cache.open()?;
-    assert!(rt; cache.receive(conn, &query(5)) == 12);
-    let report = [
-        1u8, 10, 0, 0, 0, 0, 0, 0x1c, 0, 0, 0, 12, 1, 1, 0x12, 0x34, 0, 0, 0, 12, 0, 0, 0, 5, 0, 0,
-        0, 0,
-    ];
-    assert!(rt; pulled(&mut cache, alloc, conn, 64)?.as_slice() == report.as_slice());
+    assert!(rt; hand(&mut cache, conn, SERIAL_QUERY) == 12);
+    let report = "01 0a 0000 0000001c 0000000c 010112340000000c00000005 00000000";
+    expect_sent(&rt, &mut cache, conn, 64, &[report]);
     assert!(rt; !cache.is_open(conn));
     Ok(())
 }
@@ -393,7 +317,7 @@ fn a_long_unit_is_copied_as_far_as_there_is_room(rt: HostRuntime) -> Result<(), 
     let mut cache = cache_of(alloc, 5, 2, &[&[V]])?;
     let conn = cache.open()?;
     let mut key = Vec::new(alloc);
-    key.extend_from_slice(&[1, 9, 1, 0, 0, 0, 0x10, 0])?;
+    key.extend_from_slice(bytes("01 09 0100 00001000").as_slice())?;
     for _ in 0..4088u32 {
         key.push(0)?;
     }
@@ -403,7 +327,7 @@ fn a_long_unit_is_copied_as_far_as_there_is_room(rt: HostRuntime) -> Result<(), 
         report.push(0u8)?;
     }
     assert!(rt; cache.pull(conn, report.as_mut_slice()) == 4096);
-    let head = [1u8, 10, 0, 3, 0, 0, 0x10, 0, 0, 0, 0x0f, 0xf0, 1, 9, 1];
+    let head = bytes("01 0a 0003 00001000 00000ff0 010901");
     assert!(rt; report.as_slice().get(..15) == Some(head.as_slice()));
     assert!(rt; !cache.is_open(conn));
     Ok(())
@@ -415,15 +339,15 @@ fn a_number_that_no_connection_has(rt: HostRuntime) -> Result<(), Fail> {
     let mut cache = cache_of(alloc, 5, 2, &[&[V]])?;
     let conn = cache.open()?;
     let other = cache.open()?;
-    assert!(rt; cache.receive(other, &RESET) == 8);
+    assert!(rt; hand(&mut cache, other, RESET_QUERY) == 8);
     cache.close(conn);
     cache.close(conn);
     let mut out = [7u8; 8];
-    assert!(rt; cache.receive(conn, &RESET) == 0);
+    assert!(rt; hand(&mut cache, conn, RESET_QUERY) == 0);
     assert!(rt; cache.pull(conn, &mut out) == 0);
     assert!(rt; out == [7u8; 8]);
     assert!(rt; !cache.notify(conn) && !cache.is_open(conn) && !cache.has_bytes(conn));
-    assert!(rt; pulled(&mut cache, alloc, other, 64)?.as_slice() == ANSWER.as_slice());
+    expect_sent(&rt, &mut cache, other, 64, &[ANSWER]);
     assert!(rt; cache.open()? == conn);
     each_has_room(&cache);
     Ok(())
@@ -474,7 +398,7 @@ pub(crate) fn whole_answer(alloc: Global, count: u32) -> Result<Vec<u8>, Fail> {
     let mut cache = Cache::new(alloc, log, Timing::default());
     cache.publish(many(alloc, count)?)?;
     let conn = cache.open()?;
-    cache.receive(conn, &RESET);
+    hand(&mut cache, conn, RESET_QUERY);
     pieces(&mut cache, alloc, conn, 200_032, false)
 }
 
@@ -485,17 +409,17 @@ fn ten_thousand_records_in_pieces(rt: HostRuntime) -> Result<(), Fail> {
     let mut cache = Cache::new(alloc, log, Timing::default());
     cache.publish(many(alloc, 10_000)?)?;
     let conn = cache.open()?;
-    cache.receive(conn, &RESET);
+    hand(&mut cache, conn, RESET_QUERY);
     let whole = pieces(&mut cache, alloc, conn, 200_032, false)?;
     assert!(rt; whole.len() == 200_032);
     for size in [1, 4096] {
-        cache.receive(conn, &RESET);
+        hand(&mut cache, conn, RESET_QUERY);
         assert!(rt;
             pieces(&mut cache, alloc, conn, size, false)? == whole,
             "{size}"
         );
     }
-    cache.receive(conn, &RESET);
+    hand(&mut cache, conn, RESET_QUERY);
     assert!(rt; pieces(&mut cache, alloc, conn, 7, true)? == whole);
     Ok(())
 }

@@ -5,10 +5,14 @@
 #[cfg(test)]
 mod caches;
 #[cfg(test)]
+mod router_cells;
+#[cfg(test)]
 mod routers;
 #[cfg(test)]
 mod streams;
 #[cfg(test)]
 mod units;
+#[cfg(test)]
+mod wire;
 #[cfg(test)]
 mod worlds;

@@ -1,71 +1,49 @@
 use crate::caches::{V as CACHE_V, W as CACHE_W, cache_of, set_of, whole_answer};
+use crate::wire::{
+    CACHE_RESET, END_5, END_6, RESET_QUERY, RESPONSE, SERIAL_QUERY, V, V_WITHDRAWN, W, bytes,
+};
 use prefixes::{IpPrefix, Route};
 use rtr_ends::laws::router_has_room;
 use rtr_ends::{AskFault, Cache, Conn, End, Link, Router};
+use rtr_pdu::error_code;
 use std::alloc::Global;
 use std::process::Abort;
 use std::test::Fail;
 use vrps::{OriginState, Serial, VersionLog};
 
-const RESET_QUERY: &[u8] = b"\x01\x02\x00\x00\x00\x00\x00\x08";
-
-/// What changed since serial 5 of session 4660?
-const SERIAL_QUERY: &[u8] = b"\x01\x01\x12\x34\x00\x00\x00\x0c\x00\x00\x00\x05";
-
-const RESPONSE: &[u8] = b"\x01\x03\x12\x34\x00\x00\x00\x08";
-
-/// 192.0.2.0/24 up to 24 of AS 64496, announced.
-const V: &[u8] =
-    b"\x01\x04\x00\x00\x00\x00\x00\x14\x01\x18\x18\x00\xc0\x00\x02\x00\x00\x00\xfb\xf0";
-
-/// The same, withdrawn.
-const V_WITHDRAWN: &[u8] =
-    b"\x01\x04\x00\x00\x00\x00\x00\x14\x00\x18\x18\x00\xc0\x00\x02\x00\x00\x00\xfb\xf0";
-
-/// 198.51.100.0/24 up to 24 of AS 64497, announced.
-const W: &[u8] =
-    b"\x01\x04\x00\x00\x00\x00\x00\x14\x01\x18\x18\x00\xc6\x33\x64\x00\x00\x00\xfb\xf1";
-
-/// Serial 5 of session 4660, with the intervals that the standard recommends.
-const END_5: &[u8] =
-    b"\x01\x07\x12\x34\x00\x00\x00\x18\x00\x00\x00\x05\x00\x00\x0e\x10\x00\x00\x02\x58\x00\x00\x1c\x20";
-
-const END_6: &[u8] =
-    b"\x01\x07\x12\x34\x00\x00\x00\x18\x00\x00\x00\x06\x00\x00\x0e\x10\x00\x00\x02\x58\x00\x00\x1c\x20";
-
-const CACHE_RESET: &[u8] = b"\x01\x08\x00\x00\x00\x00\x00\x08";
-
-/// Hands in pieces one after the other, and checks that all of each is taken.
-fn hand<R: Abort>(rt: &R, router: &mut Router, pieces: &[&[u8]], now: u64) {
-    for piece in pieces {
-        assert!(rt; router.receive(piece, now) == piece.len());
+/// Hands in units one after the other, and checks that all of each is taken.
+pub(crate) fn hand<R: Abort>(rt: &R, router: &mut Router, units: &[&str], now: u64) {
+    for unit in units {
+        let piece = bytes(unit);
+        assert!(rt; router.receive(piece.as_slice(), now) == piece.len());
     }
 }
 
-/// Checks that these bytes, and no more, are to be pulled.
-fn expect_pulled<R: Abort>(rt: &R, router: &mut Router, bytes: &[u8]) {
+/// Checks that this unit, and no more, is to be pulled.
+pub(crate) fn expect_pulled<R: Abort>(rt: &R, router: &mut Router, unit: &str) {
     let mut room = [0u8; 64];
-    assert!(rt; router.has_bytes() == !bytes.is_empty());
+    let expected = bytes(unit);
+    assert!(rt; router.has_bytes() == !expected.is_empty());
     let count = router.pull(&mut room);
-    assert!(rt; room.get(..count) == Some(bytes));
+    assert!(rt; room.get(..count) == Some(expected.as_slice()));
     assert!(rt; !router.has_bytes());
 }
 
 /// Checks what is committed: so many records, and this serial of session 4660.
-fn expect_held<R: Abort>(rt: &R, router: &Router, records: usize, serial: u32) {
+pub(crate) fn expect_held<R: Abort>(rt: &R, router: &Router, records: usize, serial: u32) {
     assert!(rt; router.table().len() == records);
     assert!(rt; router.committed() == Some((4660, Serial(serial))));
     router_has_room(router);
 }
 
 /// Checks that nothing is committed.
-fn expect_nothing<R: Abort>(rt: &R, router: &Router) {
+pub(crate) fn expect_nothing<R: Abort>(rt: &R, router: &Router) {
     assert!(rt; router.table().is_empty());
     assert!(rt; router.committed().is_none());
 }
 
 /// A router that has put its first question.
-fn asked<R: Abort>(rt: &R, alloc: Global, now: u64) -> Router {
+pub(crate) fn asked<R: Abort>(rt: &R, alloc: Global, now: u64) -> Router {
     let mut router = Router::new(alloc);
     router.connect(now);
     expect_pulled(rt, &mut router, RESET_QUERY);
@@ -73,7 +51,7 @@ fn asked<R: Abort>(rt: &R, alloc: Global, now: u64) -> Router {
 }
 
 /// A router that holds v as serial 5 of session 4660 since this moment.
-fn holding<R: Abort>(rt: &R, alloc: Global, now: u64) -> Router {
+pub(crate) fn holding<R: Abort>(rt: &R, alloc: Global, now: u64) -> Router {
     let mut router = asked(rt, alloc, now);
     hand(rt, &mut router, &[RESPONSE, V, END_5], now);
     expect_held(rt, &router, 1, 5);
@@ -81,7 +59,7 @@ fn holding<R: Abort>(rt: &R, alloc: Global, now: u64) -> Router {
 }
 
 /// The same, and it has asked what changed since.
-fn asked_since<R: Abort>(rt: &R, alloc: Global) -> Router {
+pub(crate) fn asked_since<R: Abort>(rt: &R, alloc: Global) -> Router {
     let mut router = holding(rt, alloc, 0);
     assert!(rt; router.ask().is_ok());
     expect_pulled(rt, &mut router, SERIAL_QUERY);
@@ -93,7 +71,7 @@ fn an_answer_commits_at_its_last_byte(rt: HostRuntime) -> Result<(), Fail> {
     let alloc = rt.alloc();
     let mut answer = Vec::new(alloc);
     for part in [RESPONSE, V, END_5] {
-        answer.extend_from_slice(part)?;
+        answer.extend_from_slice(bytes(part).as_slice())?;
     }
     for k in 0..53usize {
         let mut router = asked(&rt, alloc, 0);
@@ -121,12 +99,8 @@ fn changes_are_committed(rt: HostRuntime) {
     hand(&rt, &mut router, &[RESPONSE, W, END_6], 0);
     expect_held(&rt, &router, 2, 6);
     assert!(rt; router.ask().is_ok());
-    assert!(rt; router.receive(RESPONSE, 0) == 0);
-    expect_pulled(
-        &rt,
-        &mut router,
-        b"\x01\x01\x12\x34\x00\x00\x00\x0c\x00\x00\x00\x06",
-    );
+    assert!(rt; router.receive(bytes(RESPONSE).as_slice(), 0) == 0);
+    expect_pulled(&rt, &mut router, "01 01 1234 0000000c 00000006");
     hand(&rt, &mut router, &[RESPONSE, V_WITHDRAWN, END_5], 0);
     expect_held(&rt, &router, 1, 5);
 }
@@ -157,7 +131,7 @@ fn questions_are_put_when_due(rt: HostRuntime) {
     let mut router = holding(&rt, rt.alloc(), 100);
     assert!(rt; router.due() == Some(3700));
     router.tick(3699);
-    expect_pulled(&rt, &mut router, b"");
+    expect_pulled(&rt, &mut router, "");
     router.tick(3700);
     expect_pulled(&rt, &mut router, SERIAL_QUERY);
     router.tick(1_000_000);
@@ -182,10 +156,10 @@ fn what_is_committed_expires(rt: HostRuntime) {
 
 #[test]
 fn later_serials_wake_an_idle_router(rt: HostRuntime) {
-    let rows: [(&[u8], bool); 3] = [
-        (b"\x01\x00\x12\x34\x00\x00\x00\x0c\x80\x00\x00\x04", true),
-        (b"\x01\x00\x12\x34\x00\x00\x00\x0c\x80\x00\x00\x05", false),
-        (b"\x01\x00\x12\x34\x00\x00\x00\x0c\x00\x00\x00\x05", false),
+    let rows: [(&str, bool); 3] = [
+        ("01 00 1234 0000000c 80000004", true),
+        ("01 00 1234 0000000c 80000005", false),
+        ("01 00 1234 0000000c 00000005", false),
     ];
     for (notify, asks) in rows {
         let mut router = holding(&rt, rt.alloc(), 0);
@@ -197,14 +171,12 @@ fn later_serials_wake_an_idle_router(rt: HostRuntime) {
 #[test]
 fn a_record_that_acts_wrongly_sets_the_mark(rt: HostRuntime) {
     let alloc = rt.alloc();
-    let twice =
-        b"\x01\x0a\x00\x07\x00\x00\x00\x24\x00\x00\x00\x14\x01\x04\x00\x00\x00\x00\x00\x14\x01\x18\x18\x00\xc0\x00\x02\x00\x00\x00\xfb\xf0\x00\x00\x00\x00";
-    let unknown =
-        b"\x01\x0a\x00\x06\x00\x00\x00\x24\x00\x00\x00\x14\x01\x04\x00\x00\x00\x00\x00\x14\x00\x18\x18\x00\xc0\x00\x02\x00\x00\x00\xfb\xf0\x00\x00\x00\x00";
+    let twice = "01 0a 0007 00000024 00000014 010400000000001401181800c00002000000fbf0 00000000";
+    let unknown = "01 0a 0006 00000024 00000014 010400000000001400181800c00002000000fbf0 00000000";
     let mut router = asked(&rt, alloc, 0);
     hand(&rt, &mut router, &[RESPONSE, V, V], 0);
     expect_pulled(&rt, &mut router, twice);
-    assert!(rt; router.link() == Link::Ended(End::Reported(7)));
+    assert!(rt; router.link() == Link::Ended(End::Reported(error_code::DUPLICATE_ANNOUNCEMENT)));
     expect_nothing(&rt, &router);
     router.connect(0);
     expect_pulled(&rt, &mut router, RESET_QUERY);
@@ -238,67 +210,68 @@ fn all_is_asked_for_after_a_cache_reset(rt: HostRuntime) {
 }
 
 /// What comes after a Reset Query, how many bytes of it are taken, what is sent, and how the link ends.
-const HOSTILE: &[(&[u8], usize, &[u8], End)] = &[
+const HOSTILE: &[(&str, usize, &str, End)] = &[
     // A version before agreement and after it.
     (
-        b"\x00\x03\x12\x34\x00\x00\x00\x08",
+        "00 03 1234 00000008",
         8,
-        b"\x01\x0a\x00\x04\x00\x00\x00\x18\x00\x00\x00\x08\x00\x03\x12\x34\x00\x00\x00\x08\x00\x00\x00\x00",
-        End::Reported(4),
+        "01 0a 0004 00000018 00000008 0003123400000008 00000000",
+        End::Reported(error_code::UNSUPPORTED_VERSION),
     ),
     (
-        b"\x01\x03\x12\x34\x00\x00\x00\x08\x00\x03\x12\x34\x00\x00\x00\x08",
+        "01 03 1234 00000008 | 00 03 1234 00000008",
         16,
-        b"\x01\x0a\x00\x08\x00\x00\x00\x18\x00\x00\x00\x08\x00\x03\x12\x34\x00\x00\x00\x08\x00\x00\x00\x00",
-        End::Reported(8),
+        "01 0a 0008 00000018 00000008 0003123400000008 00000000",
+        End::Reported(error_code::UNEXPECTED_VERSION),
     ),
     (
-        b"\x01\x05\x00\x00\x00\x00\x00\x08",
+        "01 05 0000 00000008",
         8,
-        b"\x01\x0a\x00\x05\x00\x00\x00\x18\x00\x00\x00\x08\x01\x05\x00\x00\x00\x00\x00\x08\x00\x00\x00\x00",
-        End::Reported(5),
+        "01 0a 0005 00000018 00000008 0105000000000008 00000000",
+        End::Reported(error_code::UNSUPPORTED_TYPE),
     ),
     (
-        b"\x01\x04\x00\x00\xff\xff\xff\xff\x01\x02",
+        "01 04 0000 ffffffff 01 02",
         8,
-        b"\x01\x0a\x00\x00\x00\x00\x00\x18\x00\x00\x00\x08\x01\x04\x00\x00\xff\xff\xff\xff\x00\x00\x00\x00",
-        End::Reported(0),
+        "01 0a 0000 00000018 00000008 01040000ffffffff 00000000",
+        End::Reported(error_code::CORRUPT_DATA),
     ),
     (
-        b"\x01\x09\x00\x00\x00\x00\x10\x01",
+        "01 09 0000 00001001",
         8,
-        b"\x01\x0a\x00\x00\x00\x00\x00\x18\x00\x00\x00\x08\x01\x09\x00\x00\x00\x00\x10\x01\x00\x00\x00\x00",
-        End::Reported(0),
+        "01 0a 0000 00000018 00000008 0109000000001001 00000000",
+        End::Reported(error_code::CORRUPT_DATA),
     ),
     // No report is sent on an Error Report.
-    (b"\x01\x0a\x00\x00\x00\x00\x00\x0f", 8, b"", End::Malformed),
+    ("01 0a 0000 0000000f", 8, "", End::Malformed),
     (
-        b"\x01\x0a\x00\x02\x00\x00\x00\x11\x00\x00\x00\x00\x00\x00\x00\x01\xff",
+        "01 0a 0002 00000011 00000000 00000001 ff",
         17,
-        b"",
+        "",
         End::Malformed,
     ),
     // A maximum below the length.
     (
-        b"\x01\x03\x12\x34\x00\x00\x00\x08\x01\x04\x00\x00\x00\x00\x00\x14\x01\x18\x17\x00\xc0\x00\x02\x00\x00\x00\xfb\xf0",
+        "01 03 1234 00000008 | 01 04 0000 00000014 01 18 17 00 c0000200 0000fbf0",
         28,
-        b"\x01\x0a\x00\x00\x00\x00\x00\x24\x00\x00\x00\x14\x01\x04\x00\x00\x00\x00\x00\x14\x01\x18\x17\x00\xc0\x00\x02\x00\x00\x00\xfb\xf0\x00\x00\x00\x00",
-        End::Reported(0),
+        "01 0a 0000 00000024 00000014 010400000000001401181700c00002000000fbf0 00000000",
+        End::Reported(error_code::CORRUPT_DATA),
     ),
 ];
 
 #[test]
 fn hostile_units_are_refused(rt: HostRuntime) {
-    for (bytes, taken, report, end) in HOSTILE {
-        for cut in 0..bytes.len() {
+    for (units, taken, report, end) in HOSTILE {
+        let came = bytes(units);
+        for cut in 0..came.len() {
             let mut router = asked(&rt, rt.alloc(), 0);
             assert!(rt;
-                taken_of(&mut router, bytes, cut) == *taken,
-                "{cut} of {bytes:?}"
+                taken_of(&mut router, came.as_slice(), cut) == *taken,
+                "{cut} of {units}"
             );
             assert!(rt; router.link() == Link::Ended(*end));
             expect_pulled(&rt, &mut router, report);
-            assert!(rt; router.receive(RESPONSE, 0) == 0);
+            assert!(rt; router.receive(bytes(RESPONSE).as_slice(), 0) == 0);
             expect_nothing(&rt, &router);
         }
     }
@@ -315,240 +288,11 @@ fn taken_of(router: &mut Router, bytes: &[u8], cut: usize) -> usize {
     count
 }
 
-/// The links of the protocol's table.
-#[derive(Clone, Copy)]
-enum At {
-    /// Idle, with v committed.
-    Idle,
-    /// A first Reset Query is not answered yet: no version is agreed on, and nothing is committed.
-    First,
-    /// A Serial Query is not answered yet, with v committed.
-    Since,
-    /// Its answer has begun.
-    Answering,
-    /// So has the answer to a first Reset Query.
-    AnsweringAll,
-}
-
-const LINKS: [At; 5] = [
-    At::Idle,
-    At::First,
-    At::Since,
-    At::Answering,
-    At::AnsweringAll,
-];
-
-/// What a unit does.
-#[derive(Clone, Copy)]
-enum Does {
-    /// Nothing is sent, and the link is this one. What is committed stays.
-    Goes(Link),
-    /// It is asked what changed since, or for all. What is committed stays.
-    AsksSince,
-    AsksAll,
-    /// An Error Report with code 0 and the unit ends the link. What is committed stays, or is dropped.
-    Reports,
-    Fails,
-    /// The link ends by a report of this code that was read. What is committed stays, or is dropped.
-    Ends(u16),
-    Empties(u16),
-    /// So many records are committed as serial 6.
-    Commits(usize),
-}
-
-const IDLE: Does = Does::Goes(Link::Idle);
-
-const ASKED: Does = Does::Goes(Link::Asked);
-
-const ANSWERING: Does = Does::Goes(Link::Answering);
-
-/// Each unit, and what it does on each link.
-const CELLS: &[(&[u8], [Does; 5])] = &[
-    // A Serial Notify of another session, of a later serial, and of the serial that is committed.
-    (
-        b"\x01\x00\x22\x22\x00\x00\x00\x0c\x00\x00\x00\x06",
-        [Does::Fails, ASKED, Does::Fails, Does::Fails, Does::Fails],
-    ),
-    (
-        b"\x01\x00\x12\x34\x00\x00\x00\x0c\x00\x00\x00\x06",
-        [Does::AsksSince, ASKED, ASKED, ANSWERING, ANSWERING],
-    ),
-    (
-        b"\x01\x00\x12\x34\x00\x00\x00\x0c\x00\x00\x00\x05",
-        [IDLE, ASKED, ASKED, ANSWERING, ANSWERING],
-    ),
-    // A Cache Response of the committed session, and of another.
-    (
-        RESPONSE,
-        [
-            Does::Reports,
-            ANSWERING,
-            ANSWERING,
-            Does::Reports,
-            Does::Reports,
-        ],
-    ),
-    (
-        b"\x01\x03\x22\x22\x00\x00\x00\x08",
-        [
-            Does::Reports,
-            ANSWERING,
-            Does::Fails,
-            Does::Reports,
-            Does::Reports,
-        ],
-    ),
-    (
-        W,
-        [
-            Does::Reports,
-            Does::Reports,
-            Does::Reports,
-            ANSWERING,
-            ANSWERING,
-        ],
-    ),
-    (
-        b"\x01\x09\x01\x00\x00\x00\x00\x20\x01\x02\x03\x04\x05\x06\x07\x08\x09\x0a\x0b\x0c\x0d\x0e\x0f\x10\x11\x12\x13\x14\x00\x00\xfb\xf0",
-        [
-            Does::Reports,
-            Does::Reports,
-            Does::Reports,
-            ANSWERING,
-            ANSWERING,
-        ],
-    ),
-    // An End of Data of the session that answers, and of another.
-    (
-        END_6,
-        [
-            Does::Reports,
-            Does::Reports,
-            Does::Reports,
-            Does::Commits(1),
-            Does::Commits(0),
-        ],
-    ),
-    (
-        b"\x01\x07\x22\x22\x00\x00\x00\x18\x00\x00\x00\x06\x00\x00\x0e\x10\x00\x00\x02\x58\x00\x00\x1c\x20",
-        [
-            Does::Reports,
-            Does::Reports,
-            Does::Reports,
-            Does::Fails,
-            Does::Fails,
-        ],
-    ),
-    (
-        CACHE_RESET,
-        [
-            Does::Reports,
-            Does::Reports,
-            Does::AsksAll,
-            Does::Reports,
-            Does::Reports,
-        ],
-    ),
-    // Queries.
-    (SERIAL_QUERY, [Does::Reports; 5]),
-    (RESET_QUERY, [Does::Reports; 5]),
-    // Error Reports: No Data Available, Corrupt Data, Invalid Request.
-    (
-        b"\x01\x0a\x00\x02\x00\x00\x00\x10\x00\x00\x00\x00\x00\x00\x00\x00",
-        [IDLE; 5],
-    ),
-    (
-        b"\x01\x0a\x00\x00\x00\x00\x00\x10\x00\x00\x00\x00\x00\x00\x00\x00",
-        [
-            Does::Ends(0),
-            Does::Ends(0),
-            Does::Empties(0),
-            Does::Empties(0),
-            Does::Ends(0),
-        ],
-    ),
-    (
-        b"\x01\x0a\x00\x03\x00\x00\x00\x10\x00\x00\x00\x00\x00\x00\x00\x00",
-        [Does::Ends(3); 5],
-    ),
-];
-
-/// A router on this link.
-fn router_at<R: Abort>(rt: &R, alloc: Global, link: At) -> Router {
-    match link {
-        At::Idle => holding(rt, alloc, 0),
-        At::First => asked(rt, alloc, 0),
-        At::Since => asked_since(rt, alloc),
-        At::Answering => {
-            let mut router = asked_since(rt, alloc);
-            hand(rt, &mut router, &[RESPONSE], 0);
-            router
-        }
-        At::AnsweringAll => {
-            let mut router = asked(rt, alloc, 0);
-            hand(rt, &mut router, &[RESPONSE], 0);
-            router
-        }
-    }
-}
-
-/// Checks that a report of code 0 on this unit is to be pulled.
-fn expect_report<R: Abort>(rt: &R, router: &mut Router, unit: &[u8]) {
-    let mut room = [0u8; 128];
-    let count = router.pull(&mut room);
-    assert!(rt; room.starts_with(b"\x01\x0a\x00\x00"));
-    assert!(rt; count == unit.len().saturating_add(16));
-    match room.get(12..count.saturating_sub(4)) {
-        Some(copy) => assert!(rt; copy == unit),
-        None => assert!(rt; false, "no copy"),
-    }
-    assert!(rt; router.link() == Link::Ended(End::Reported(0)));
-}
-
-/// Checks what this unit has done to a router that had so many records.
-fn expect_done<R: Abort>(rt: &R, router: &mut Router, unit: &[u8], does: Does, records: usize) {
-    let mut kept = records;
-    match does {
-        Does::Goes(link) => assert!(rt; router.link() == link),
-        Does::AsksSince => expect_pulled(rt, router, SERIAL_QUERY),
-        Does::AsksAll => expect_pulled(rt, router, RESET_QUERY),
-        Does::Reports => expect_report(rt, router, unit),
-        Does::Fails => {
-            expect_report(rt, router, unit);
-            kept = 0;
-        }
-        Does::Ends(code) => assert!(rt; router.link() == Link::Ended(End::Told(code))),
-        Does::Empties(code) => {
-            assert!(rt; router.link() == Link::Ended(End::Told(code)));
-            kept = 0;
-        }
-        Does::Commits(count) => {
-            expect_held(rt, router, count, 6);
-            return;
-        }
-    }
-    expect_pulled(rt, router, b"");
-    assert!(rt; router.table().len() == kept);
-    assert!(rt; router.committed().is_some() == (kept == 1));
-}
-
-#[test]
-fn each_unit_on_each_link(rt: HostRuntime) {
-    for (unit, cells) in CELLS {
-        for (link, does) in LINKS.iter().zip(cells.iter()) {
-            let mut router = router_at(&rt, rt.alloc(), *link);
-            let records = router.table().len();
-            hand(&rt, &mut router, &[unit], 0);
-            expect_done(&rt, &mut router, unit, *does, records);
-        }
-    }
-}
-
 /// Hands in an answer in pieces of so many bytes.
 fn router_fed<R: Abort>(rt: &R, alloc: Global, answer: &[u8], size: usize) -> Router {
     let mut router = asked(rt, alloc, 0);
     for piece in answer.chunks(size.max(1)) {
-        hand(rt, &mut router, &[piece], 0);
+        assert!(rt; router.receive(piece, 0) == piece.len());
     }
     router
 }
@@ -612,7 +356,7 @@ fn a_router_follows_a_cache(rt: HostRuntime) -> Result<(), Fail> {
 #[test]
 fn reserved_bits_of_a_record_are_ignored(rt: HostRuntime) {
     let mut router = asked(&rt, rt.alloc(), 0);
-    let odd = b"\x01\x04\x00\x00\x00\x00\x00\x14\x81\x18\x18\x00\xc0\x00\x02\x00\x00\x00\xfb\xf0";
+    let odd = "01 04 0000 00000014 81 18 18 00 c0000200 0000fbf0";
     hand(&rt, &mut router, &[RESPONSE, odd, END_5], 0);
     expect_held(&rt, &router, 1, 5);
 }

@@ -1,4 +1,5 @@
 use crate::caches::{V, cache_of};
+use crate::wire::{ANSWER, Bytes, RESET_QUERY, UNCHANGED, bytes};
 use rtr_ends::{
     Cache, End, Fetched, Link, Router, Served, StreamFault, fetch_stream, serve_stream,
 };
@@ -12,22 +13,27 @@ use std::rc::Rc;
 use std::test::Fail;
 use vrps::{Serial, VersionLog};
 
-const TWO_QUERIES: &[u8] = b"\x01\x02\x00\x00\x00\x00\x00\x08\x01\x02\x00\x00\x00\x00\x00\x08";
-
-/// 192.0.2.0/24 up to 24 of AS 64496, as serial 5 of session 4660.
-const ANSWER: &[u8] =
-    b"\x01\x03\x12\x34\x00\x00\x00\x08\x01\x04\x00\x00\x00\x00\x00\x14\x01\x18\x18\x00\xc0\x00\x02\x00\x00\x00\xfb\xf0\x01\x07\x12\x34\x00\x00\x00\x18\x00\x00\x00\x05\x00\x00\x0e\x10\x00\x00\x02\x58\x00\x00\x1c\x20";
+const TWO_QUERIES: &str = "01 02 0000 00000008 | 01 02 0000 00000008";
 
 /// Code 2, No Data Available, to a Reset Query.
-const NO_DATA: &[u8] =
-    b"\x01\x0a\x00\x02\x00\x00\x00\x18\x00\x00\x00\x08\x01\x02\x00\x00\x00\x00\x00\x08\x00\x00\x00\x00";
+const NO_DATA: &str = "01 0a 0002 00000018 00000008 0102000000000008 00000000";
 
 /// A reader of so many bytes a call, which fails after so many calls.
 #[derive(Drop)]
 struct Steps {
-    bytes: &'static [u8],
+    bytes: Bytes,
+    /// How many were read.
+    place: usize,
     size: usize,
     calls: u8,
+}
+
+impl Steps {
+    /// What was not read yet.
+    fn left(&self) -> &[u8] {
+        let bytes = self.bytes.as_slice();
+        &bytes[self.place.min(bytes.len())..]
+    }
 }
 
 impl Read for Steps {
@@ -36,13 +42,13 @@ impl Read for Steps {
             return Err(io::Error::from(ErrorKind::BrokenPipe));
         }
         self.calls -= 1;
-        let mut rest = self.bytes;
+        let mut rest = self.left();
         let most = self.size.min(buf.len());
         let Some(room) = buf.get_mut(..most) else {
             return Ok(0);
         };
         let count = rest.read(room)?;
-        self.bytes = rest;
+        self.place = self.place.saturating_add(count);
         Ok(count)
     }
 }
@@ -136,10 +142,10 @@ struct Waiting {
 
 impl Read for Waiting {
     fn read(&mut self, buf: &mut [u8]) -> io::Result<usize> {
-        if self.steps.bytes.len() == 8 {
+        if self.steps.left().len() == 8 {
             match self.list.try_borrow() {
                 Ok(list) => {
-                    if list.as_slice() != ANSWER {
+                    if list.as_slice() != bytes(ANSWER).as_slice() {
                         return Err(io::Error::from(ErrorKind::Other));
                     }
                 }
@@ -150,8 +156,17 @@ impl Read for Waiting {
     }
 }
 
-fn stepwise(bytes: &'static [u8], size: usize, calls: u8) -> Counted<Steps> {
-    Counted::new(Steps { bytes, size, calls })
+fn reader_of(units: &str, size: usize, calls: u8) -> Steps {
+    Steps {
+        bytes: bytes(units),
+        place: 0,
+        size,
+        calls,
+    }
+}
+
+fn stepwise(units: &str, size: usize, calls: u8) -> Counted<Steps> {
+    Counted::new(reader_of(units, size, calls))
 }
 
 fn list(alloc: Global) -> Counted<Vec<u8>> {
@@ -162,7 +177,7 @@ fn list(alloc: Global) -> Counted<Vec<u8>> {
 fn expect_served<R: Abort>(
     rt: &R,
     alloc: Global,
-    input: &'static [u8],
+    input: &str,
     limit: u64,
     served: Served,
     answers: usize,
@@ -174,9 +189,10 @@ fn expect_served<R: Abort>(
     let mut output = list(alloc);
     assert!(rt; serve_stream(&mut cache, &mut input, &mut output, limit) == Ok(served));
     let out = output.device().as_slice();
+    let answer = bytes(ANSWER);
     for i in 0..answers {
         let start = i.saturating_mul(52);
-        assert!(rt; out.get(start..start.saturating_add(52)) == Some(ANSWER));
+        assert!(rt; out.get(start..start.saturating_add(52)) == Some(answer.as_slice()));
     }
     assert!(rt; served == Served::CacheEnded || out.len() == answers.saturating_mul(52));
     assert!(rt; cache.open()? == first);
@@ -190,7 +206,7 @@ fn a_connection_is_served_to_its_end(rt: HostRuntime) -> Result<(), Fail> {
     expect_served(
         &rt,
         alloc,
-        b"\x01\x02\x00\x00\x00\x00\x00\x08\x01\x02",
+        "01 02 0000 00000008 | 01 02",
         9,
         Served::Truncated,
         1,
@@ -200,7 +216,7 @@ fn a_connection_is_served_to_its_end(rt: HostRuntime) -> Result<(), Fail> {
     expect_served(
         &rt,
         alloc,
-        b"\x01\x02\x00\x00\x00\x00\x00\x08\x00\x02\x00\x00\x00\x00\x00\x08",
+        "01 02 0000 00000008 | 00 02 0000 00000008",
         9,
         Served::CacheEnded,
         1,
@@ -213,13 +229,8 @@ fn what_was_read_is_answered_before_the_next_read(rt: HostRuntime) -> Result<(),
     let alloc = rt.alloc();
     let mut cache = cache_of(alloc, 5, 2, &[&[V]])?;
     let list = Rc::new(alloc, RefCell::new(Vec::new(alloc)))?;
-    let bytes = TWO_QUERIES;
     let mut input = Counted::new(Waiting {
-        steps: Steps {
-            bytes,
-            size: 8,
-            calls: 9,
-        },
+        steps: reader_of(TWO_QUERIES, 8, 9),
         list: list.clone()?,
     });
     let mut output = Counted::new(SharedEnd { list });
@@ -232,6 +243,7 @@ fn what_was_read_is_answered_before_the_next_read(rt: HostRuntime) -> Result<(),
 #[test]
 fn a_device_that_fails_ends_the_connection(rt: HostRuntime) -> Result<(), Fail> {
     let alloc = rt.alloc();
+    let answer = bytes(ANSWER);
     for room in [0, 1, 51, 52, 103] {
         let mut cache = cache_of(alloc, 5, 2, &[&[V]])?;
         let mut input = stepwise(TWO_QUERIES, 16, 9);
@@ -243,7 +255,9 @@ fn a_device_that_fails_ends_the_connection(rt: HostRuntime) -> Result<(), Fail> 
         assert!(rt; served == Err(StreamFault::WriteFailed));
         assert!(rt; output.failures() == 1 && input.failures() == 0);
         let out = output.device().taken.as_slice();
-        assert!(rt; out.len() == room && out.get(..room.min(52)) == ANSWER.get(..room.min(52)));
+        assert!(rt;
+            out.len() == room && out.get(..room.min(52)) == answer.as_slice().get(..room.min(52))
+        );
     }
     let mut cache = cache_of(alloc, 5, 2, &[&[V]])?;
     let mut input = stepwise(TWO_QUERIES, 8, 1);
@@ -251,16 +265,19 @@ fn a_device_that_fails_ends_the_connection(rt: HostRuntime) -> Result<(), Fail> 
     let served = serve_stream(&mut cache, &mut input, &mut output, 9);
     assert!(rt; served == Err(StreamFault::ReadFailed));
     assert!(rt; StreamFault::ReadFailed.number() == 1);
-    assert!(rt; output.device().as_slice() == ANSWER);
+    assert!(rt; output.device().as_slice() == answer.as_slice());
     Ok(())
 }
 
 /// What changed since serial 5 of session 4660? Asked twice: nothing changed.
-const SINCE_TWICE: &[u8] =
-    b"\x01\x01\x12\x34\x00\x00\x00\x0c\x00\x00\x00\x05\x01\x01\x12\x34\x00\x00\x00\x0c\x00\x00\x00\x05";
+const SINCE_TWICE: &str = "01 01 1234 0000000c 00000005 | 01 01 1234 0000000c 00000005";
 
-const UNCHANGED_TWICE: &[u8] =
-    b"\x01\x03\x12\x34\x00\x00\x00\x08\x01\x07\x12\x34\x00\x00\x00\x18\x00\x00\x00\x05\x00\x00\x0e\x10\x00\x00\x02\x58\x00\x00\x1c\x20\x01\x03\x12\x34\x00\x00\x00\x08\x01\x07\x12\x34\x00\x00\x00\x18\x00\x00\x00\x05\x00\x00\x0e\x10\x00\x00\x02\x58\x00\x00\x1c\x20";
+/// The two answers to that.
+fn unchanged_twice() -> Bytes {
+    let mut both = bytes(UNCHANGED);
+    let _fits = both.try_extend_from_slice(bytes(UNCHANGED).as_slice());
+    both
+}
 
 #[test]
 fn each_read_may_fail(rt: HostRuntime) -> Result<(), Fail> {
@@ -276,7 +293,7 @@ fn each_read_may_fail(rt: HostRuntime) -> Result<(), Fail> {
         // Each answer of 32 bytes follows the 12 bytes of its query.
         let answered = usize::from(calls) * 5 / 12 * 32;
         assert!(rt;
-            UNCHANGED_TWICE.get(..answered) == Some(output.device().as_slice()),
+            unchanged_twice().as_slice().get(..answered) == Some(output.device().as_slice()),
             "{calls}"
         );
         assert!(rt; cache.open()? == first);
@@ -303,7 +320,7 @@ fn each_write_may_fail_or_take_nothing(rt: HostRuntime) -> Result<(), Fail> {
         let whole = usize::from(calls / 5) * 32 + usize::from(calls % 5) * 7;
         assert!(rt; served.is_err() == (whole < 64), "{calls}");
         assert!(rt;
-            UNCHANGED_TWICE.get(..whole) == Some(output.device().taken.as_slice()),
+            unchanged_twice().as_slice().get(..whole) == Some(output.device().taken.as_slice()),
             "{calls}"
         );
         assert!(rt; cache.open()? == first);
@@ -316,11 +333,11 @@ fn expect_fetched<R: Abort>(
     rt: &R,
     router: &mut Router,
     alloc: Global,
-    bytes: &'static [u8],
+    units: &str,
     limit: u64,
     fetched: Result<Fetched, StreamFault>,
 ) {
-    let mut input = stepwise(bytes, 20, 5);
+    let mut input = stepwise(units, 20, 5);
     let mut output = list(alloc);
     assert!(rt; fetch_stream(router, &mut input, &mut output, 100, limit) == fetched);
     assert!(rt; output.calls() == 1);
@@ -331,12 +348,11 @@ fn expect_fetched<R: Abort>(
 fn a_router_fetches(rt: HostRuntime) -> Result<(), Fail> {
     let alloc = rt.alloc();
     let mut router = Router::new(alloc);
-    let reset = TWO_QUERIES.get(..8);
     let mut input = stepwise(NO_DATA, 4096, 9);
     let mut output = list(alloc);
     assert!(rt; fetch_stream(&mut router, &mut input, &mut output, 100, 9) == Ok(Fetched::NoData));
-    assert!(rt; reset == Some(output.device().as_slice()));
-    expect_fetched(&rt, &mut router, alloc, b"", 9, Ok(Fetched::PeerClosed));
+    assert!(rt; output.device().as_slice() == bytes(RESET_QUERY).as_slice());
+    expect_fetched(&rt, &mut router, alloc, "", 9, Ok(Fetched::PeerClosed));
     expect_fetched(&rt, &mut router, alloc, ANSWER, 2, Ok(Fetched::Limit));
     expect_fetched(&rt, &mut router, alloc, ANSWER, 0, Ok(Fetched::Limit));
     assert!(rt; router.committed().is_none());
@@ -374,7 +390,7 @@ fn a_fetch_that_fails_leaves_the_table(rt: HostRuntime) -> Result<(), Fail> {
     });
     let fetched = fetch_stream(&mut router, &mut input, &mut narrow, 100, 9);
     assert!(rt; fetched == Err(StreamFault::WriteFailed));
-    assert!(rt; narrow.device().taken.as_slice() == b"\x01\x01\x12".as_slice());
+    assert!(rt; narrow.device().taken.as_slice() == bytes("01 01 12").as_slice());
     assert!(rt; router.committed() == Some((4660, Serial(5))));
     Ok(())
 }

@@ -1,4 +1,4 @@
-use crate::caches::V_UNIT;
+use crate::wire;
 use arrayvec::ArrayVec;
 use prefixes::{Asn, IpPrefix, Vrp};
 use rtr_pdu::{
@@ -323,7 +323,7 @@ fn units_to_a_writer(rt: HostRuntime) -> Result<(), Fail> {
     };
     let mut whole = Counted::new(Vec::new(rt.alloc()));
     assert!(rt; write_unit(&unit, &mut whole).is_ok());
-    assert!(rt; whole.device().as_slice() == V_UNIT.as_slice());
+    assert!(rt; whole.device().as_slice() == wire::bytes(wire::V).as_slice());
     assert!(rt; (whole.calls(), whole.failures()) == (1, 0));
     for calls in 0..=20u8 {
         let mut out = Counted::new(Narrow {
@@ -333,7 +333,10 @@ fn units_to_a_writer(rt: HostRuntime) -> Result<(), Fail> {
         });
         let written = write_unit(&unit, &mut out);
         assert!(rt; written.is_ok() == (calls == 20));
-        assert!(rt; V_UNIT.get(..usize::from(calls)) == Some(out.device().taken.as_slice()));
+        assert!(rt;
+            wire::bytes(wire::V).as_slice().get(..usize::from(calls))
+                == Some(out.device().taken.as_slice())
+        );
         assert!(rt; out.failures() == (if calls == 20 { 0 } else { 1 }));
     }
     Ok(())

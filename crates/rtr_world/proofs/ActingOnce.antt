@@ -1,11 +1,11 @@
 -- What a transcript commits, acts, and acts once.
 use Rattle.std.specs.Prelude.{◌≡◌, Bool, true, false, ◌&&◌, ◌==◌, List, [], ◌∷◌, Option, Some, None, if◌then◌else◌, refl}
 use Rattle.rtr_pdu.specs.declared.unit.Unit.TheVariants.{SerialNotify, SerialQuery, ResetQuery, CacheResponse, Prefix, EndOfData, CacheReset, RouterKey, ErrorReport}
-use Rattle.rtr_ends.specs.Transcript.{Begun, Committed, Item, At, Opened, Asks, Reads, Lacks, Breaks, Refused, Shut, Restarts, Kept, acts_once, at_end, base_of, bounded, does_commit, kept, led_to, moment, nothing, under_way}
+use Rattle.rtr_ends.specs.Transcript.{Begun, Committed, Item, At, Opened, Asks, Reads, Lacks, Breaks, Refused, Shut, Restarts, Kept, acts_once, at_end_of_data, base_of, bounded, does_commit, kept, led_to, moment, nothing, under_way}
 use Rattle.rtr_ends.proofs.TableLaws.{acts_exactly}
 use Rattle.rtr_world.specs.Claims.{ActsOnce, EachOnce}
 
-at_end_once : (answer : Option Begun) (version : Committed) (k : Kept) → ActsOnce (does_commit answer version.session k.table) answer k.table (at_end answer version k).table
+at_end_once : (answer : Option Begun) (version : Committed) (k : Kept) → ActsOnce (does_commit answer version.session k.table) answer k.table (at_end_of_data answer version k).table
 at_end_once None version k = tt
 at_end_once (Some a) version k = by_test (version.session == a.session) (acts_once (base_of a.question k.table) a.withdrawn a.announced) refl
   where

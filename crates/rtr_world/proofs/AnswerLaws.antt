@@ -17,8 +17,8 @@ use Rattle.vrps.proofs.VersionLaws.{tied}
 use Rattle.rtr_pdu.specs.declared.unit.Unit.{Unit}
 use Rattle.rtr_pdu.specs.declared.unit.Unit.TheVariants.{SerialNotify, Prefix, EndOfData}
 use Rattle.rtr_ends.specs.Answer.{announcements, withdrawals}
-use Rattle.rtr_ends.specs.Router.{Stays, Wrong, Over, stage}
-use Rattle.rtr_ends.specs.Transcript.{Begun, is_listed, led_to}
+use Rattle.rtr_ends.specs.LinkRules.{Stays, Wrong, Over, stage}
+use Rattle.rtr_ends.specs.Transcript.{Begun, is_among, led_to}
 use Rattle.rtr_ends.proofs.TableLaws.{false_true}
 use Rattle.rtr_world.specs.OneAnswer.{NotifiesOf, without_notifies}
 use Rattle.rtr_world.proofs.Invariant.{after_stage, Leads}
@@ -85,7 +85,7 @@ smaller s t h =
     both false false h = refl
 
 -- the members of what staged records lead to
-has-led_to : (base : VrpSet) (withdrawn announced : List Payload) (q : Payload) → has (led_to base withdrawn announced) q ≡ ((has base q && not (is_listed q withdrawn)) || is_listed q announced)
+has-led_to : (base : VrpSet) (withdrawn announced : List Payload) (q : Payload) → has (led_to base withdrawn announced) q ≡ ((has base q && not (is_among q withdrawn)) || is_among q announced)
 unfolding led_to
 has-led_to base withdrawn announced q =
     has-union (without base (set_of withdrawn)) (set_of announced) q
@@ -111,7 +111,7 @@ other_way v w h = by_test (eq_by_cmp vrp_cmp v w) refl
 
 -- each of these is not listed there
 abbrev NoneListed : List Payload → List Payload → Type 0
-NoneListed before vs = AllByRecursion (λ v. is_listed v before ≡ false) vs
+NoneListed before vs = AllByRecursion (λ v. is_among v before ≡ false) vs
 
 none_more : (w : Payload) (before vs : List Payload) → AllByRecursion (λ v. eq_by_cmp vrp_cmp w v ≡ false) vs → NoneListed before vs → NoneListed (w ∷ before) vs
 none_more w before [] apart h = tt
@@ -123,10 +123,10 @@ none_of (v ∷ vs) = (refl, none_of vs)
 
 -- these are listed, or were before
 abbrev Joins : List Payload → List Payload → List Payload → Type 0
-Joins all vs before = (q : Payload) → is_listed q all ≡ (is_listed q vs || is_listed q before)
+Joins all vs before = (q : Payload) → is_among q all ≡ (is_among q vs || is_among q before)
 
 join_more : (all : List Payload) (v : Payload) (vs before : List Payload) → Joins all vs (v ∷ before) → Joins all (v ∷ vs) before
-join_more all v vs before h q = h q ∙ swap (is_listed q vs) (eq_by_cmp vrp_cmp q v) (is_listed q before)
+join_more all v vs before h q = h q ∙ swap (is_among q vs) (eq_by_cmp vrp_cmp q v) (is_among q before)
   where
     swap : (a b c : Bool) → (a || (b || c)) ≡ ((b || a) || c)
     swap true true c = refl
@@ -149,17 +149,17 @@ module _ (base set : VrpSet) (session serial : ℕ) (fits : size set ≤ 1677721
 
   -- What was withdrawn is all that is to go.
   abbrev AllGone : Begun → Type 0
-  AllGone a = (q : Payload) → is_listed q a.withdrawn ≡ (has base q && not (has set q))
+  AllGone a = (q : Payload) → is_among q a.withdrawn ≡ (has base q && not (has set q))
 
   -- what is led to is in the set
-  within : (a : Begun) (w : Payload) → AllGone a → ((q : Payload) → is_listed q a.announced ≡ true → has set q ≡ true) → has set w ≡ true → (q : Payload) → has (led_to base a.withdrawn (w ∷ a.announced)) q ≡ true → has set q ≡ true
-  within a w gone come new q h = by_part (has base q) (has set q) refl (is_listed q (w ∷ a.announced)) refl (sym (has-led_to base a.withdrawn (w ∷ a.announced) q ∙ ap (λ b. (has base q && not b) || is_listed q (w ∷ a.announced)) (gone q)) ∙ h)
+  within : (a : Begun) (w : Payload) → AllGone a → ((q : Payload) → is_among q a.announced ≡ true → has set q ≡ true) → has set w ≡ true → (q : Payload) → has (led_to base a.withdrawn (w ∷ a.announced)) q ≡ true → has set q ≡ true
+  within a w gone come new q h = by_part (has base q) (has set q) refl (is_among q (w ∷ a.announced)) refl (sym (has-led_to base a.withdrawn (w ∷ a.announced) q ∙ ap (λ b. (has base q && not b) || is_among q (w ∷ a.announced)) (gone q)) ∙ h)
     where
-      listed : (b : Bool) → eq_by_cmp vrp_cmp q w ≡ b → (b || is_listed q a.announced) ≡ true → has set q ≡ true
+      listed : (b : Bool) → eq_by_cmp vrp_cmp q w ≡ b → (b || is_among q a.announced) ≡ true → has set q ≡ true
       listed true e l = ap (λ x. has set x) (tied q w e) ∙ new
       listed false e l = come q l
 
-      by_part : (x y : Bool) → has set q ≡ y → (z : Bool) → is_listed q (w ∷ a.announced) ≡ z → ((x && not (x && not y)) || z) ≡ true → has set q ≡ true
+      by_part : (x y : Bool) → has set q ≡ y → (z : Bool) → is_among q (w ∷ a.announced) ≡ z → ((x && not (x && not y)) || z) ≡ true → has set q ≡ true
       by_part x true e z l t = e
       by_part x false e true l t = listed (eq_by_cmp vrp_cmp q w) refl l
       by_part true false e false l t = false_true t
@@ -167,7 +167,7 @@ module _ (base set : VrpSet) (session serial : ℕ) (fits : size set ≤ 1677721
 
   -- the announcements
   announces : (a : Begun) (ws : List Payload) (tail : List Unit) → Fresh ws → AllByRecursion (λ v. has base v ≡ false) ws → AllByRecursion (λ v. has set v ≡ true) ws → NoneListed a.announced ws → AllGone a
-      → ((q : Payload) → is_listed q a.announced ≡ true → has set q ≡ true)
+      → ((q : Payload) → is_among q a.announced ≡ true → has set q ≡ true)
       → ((b : Begun) → b.withdrawn ≡ a.withdrawn → Joins b.announced ws a.announced → Leads base b tail session serial set) → Leads base a (map (λ v. Prefix true v) ws ++ tail) session serial set
   unfolding IsDistinct
   announces a [] tail once known new none gone come k = k a refl (λ q. refl)
@@ -183,12 +183,12 @@ module _ (base set : VrpSet) (session serial : ℕ) (fits : size set ≤ 1677721
       not_over : (n : ℕ) → n ≤ 16777215 → nat_lt 16777215 n ≡ false
       not_over n h = grind (arith, nat_tests)
 
-      listed : (q : Payload) (b : Bool) → eq_by_cmp vrp_cmp q w ≡ b → (b || is_listed q a.announced) ≡ true → has set q ≡ true
+      listed : (q : Payload) (b : Bool) → eq_by_cmp vrp_cmp q w ≡ b → (b || is_among q a.announced) ≡ true → has set q ≡ true
       listed q true e l = ap (λ x. has set x) (tied q w e) ∙ new.0
       listed q false e l = come q l
 
   -- the End of Data
-  ends : (a : Begun) (refresh retry expire : ℕ) → AllGone a → ((q : Payload) → is_listed q a.announced ≡ (has set q && not (has base q))) → Leads base a (EndOfData session serial refresh retry expire ∷ []) session serial set
+  ends : (a : Begun) (refresh retry expire : ℕ) → AllGone a → ((q : Payload) → is_among q a.announced ≡ (has set q && not (has base q))) → Leads base a (EndOfData session serial refresh retry expire ∷ []) session serial set
   ends a refresh retry expire gone come = (
     refl,
     refl,
@@ -208,16 +208,16 @@ module _ (base set : VrpSet) (session serial : ℕ) (fits : size set ≤ 1677721
   or_none false = refl
 
   -- All of a set leads to it from nothing, or from a base of which all is announced.
-  pub announced_lead : (a : Begun) (ws : List Payload) (refresh retry expire : ℕ) → a.announced ≡ [] → Fresh ws → ((q : Payload) → is_listed q ws ≡ (has set q && not (has base q))) → AllByRecursion (λ v. has base v ≡ false) ws → AllByRecursion (λ v. has set v ≡ true) ws → AllGone a
+  pub announced_lead : (a : Begun) (ws : List Payload) (refresh retry expire : ℕ) → a.announced ≡ [] → Fresh ws → ((q : Payload) → is_among q ws ≡ (has set q && not (has base q))) → AllByRecursion (λ v. has base v ≡ false) ws → AllByRecursion (λ v. has set v ≡ true) ws → AllGone a
       → Leads base a (map (λ v. Prefix true v) ws ++ EndOfData session serial refresh retry expire ∷ []) session serial set
   announced_lead a ws refresh retry expire nothing once listed known new gone =
       announces a ws (EndOfData session serial refresh retry expire ∷ []) once known new (subst (λ x. NoneListed x ws) (sym nothing) (none_of ws)) gone
-      (λ q h. absurd (false_true (sym (ap (is_listed q) nothing) ∙ h)))
-      (λ b same joins. ends b refresh retry expire (λ q. ap (λ x. is_listed q x) same ∙ gone q) (λ q. joins q ∙ ap (λ x. is_listed q ws || is_listed q x) nothing ∙ or_none (is_listed q ws) ∙ listed q))
+      (λ q h. absurd (false_true (sym (ap (is_among q) nothing) ∙ h)))
+      (λ b same joins. ends b refresh retry expire (λ q. ap (λ x. is_among q x) same ∙ gone q) (λ q. joins q ∙ ap (λ x. is_among q ws || is_among q x) nothing ∙ or_none (is_among q ws) ∙ listed q))
 
 -- what a set without another lists
-is_listed-without : (s t : VrpSet) (q : Payload) → is_listed q (listing (without s t)) ≡ (has s q && not (has t q))
-is_listed-without s t q = sym (has-listing (without s t) q) ∙ has-without s t q
+is_among-without : (s t : VrpSet) (q : Payload) → is_among q (listing (without s t)) ≡ (has s q && not (has t q))
+is_among-without s t q = sym (has-listing (without s t) q) ∙ has-without s t q
 
 members : (s t : VrpSet) → AllByRecursion (λ v. has s v ≡ true) (listing (without s t))
 members s t = all_of_members (λ v. has s v ≡ true) (without s t) (λ q h. (and_parts (has s q) (not (has t q)) (sym (has-without s t q) ∙ h)).0)
@@ -240,8 +240,8 @@ change_leads base set a session serial refresh retry expire fits gone come =
     subst (λ x. Leads base a x session serial set) (sym (append_assoc (withdrawals (without base set)) (announcements (without set base)) (EndOfData session serial refresh retry expire ∷ [])))
     (withdraws base set session serial fits a (listing (without base set)) (announcements (without set base) ++ EndOfData session serial refresh retry expire ∷ []) (once_listed (without base set)) (members base set)
     (subst (λ x. NoneListed x (listing (without base set))) (sym gone) (none_of (listing (without base set))))
-    (λ b same joins. announced_lead base set session serial fits b (listing (without set base)) refresh retry expire (same ∙ come) (once_listed (without set base)) (is_listed-without set base) (outsiders set base) (members set base)
-    (λ q. joins q ∙ ap (λ x. is_listed q (listing (without base set)) || is_listed q x) gone ∙ or_none base set session serial fits (is_listed q (listing (without base set))) ∙ is_listed-without base set q)))
+    (λ b same joins. announced_lead base set session serial fits b (listing (without set base)) refresh retry expire (same ∙ come) (once_listed (without set base)) (is_among-without set base) (outsiders set base) (members set base)
+    (λ q. joins q ∙ ap (λ x. is_among q (listing (without base set)) || is_among q x) gone ∙ or_none base set session serial fits (is_among q (listing (without base set))) ∙ is_among-without base set q)))
 
 -- All of a set leads to it from nothing.
 pub whole_leads : (set : VrpSet) (a : Begun) (session serial refresh retry expire : ℕ) → size set ≤ 16777215 → a.withdrawn ≡ [] → a.announced ≡ []
@@ -250,4 +250,4 @@ whole_leads set a session serial refresh retry expire fits gone come =
     announced_lead empty set session serial fits a (listing set) refresh retry expire come (once_listed set)
     (λ q. sym (has-listing set q) ∙ sym (and-true (has set q)) ∙ ap (λ b. has set q && not b) (sym (has-empty q)))
     (all_of_members (λ v. has empty v ≡ false) set (λ q h. has-empty q)) (all_of_members (λ v. has set v ≡ true) set (λ q h. h))
-    (λ q. ap (is_listed q) gone ∙ ap (λ b. b && not (has set q)) (sym (has-empty q)))
+    (λ q. ap (is_among q) gone ∙ ap (λ b. b && not (has set q)) (sym (has-empty q)))

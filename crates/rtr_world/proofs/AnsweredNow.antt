@@ -1,7 +1,7 @@
 -- A question is answered as the cache is when it is read.
 use Rattle.std.specs.Prelude.{◌≡◌, ◌⊎◌, ℕ, true, List, [], ◌∷◌, Option, refl}
 use Rattle.std.specs.List.{AllByRecursion}
-use Rattle.rtr_ends.specs.Router.{is_reading}
+use Rattle.rtr_ends.specs.RouterLink.{is_reading}
 use Rattle.rtr_world.specs.Claims.{AnswersNow}
 use Rattle.rtr_world.specs.History.{conn_due}
 use Rattle.rtr_world.specs.OneAnswer.{IsOfNow}
@@ -9,7 +9,7 @@ use Rattle.rtr_world.specs.World.{Side, cache_gets, new_world}
 use Rattle.rtr_world.proofs.EventSteps.{gets_now}
 use Rattle.rtr_world.proofs.Invariant.{Good}
 use Rattle.rtr_world.proofs.SideLaws.{all_new}
-use Rattle.rtr_world.proofs.TableLaws.{SideTells, new_side_tells}
+use Rattle.rtr_world.proofs.KeptTables.{SideTells, new_side_tells}
 use Rattle.rtr_world.proofs.WorldSteps.{GoodWorld, history_good, new_good}
 
 pub answers_now : AnswersNow

@@ -11,10 +11,11 @@ use Rattle.rtr_pdu.specs.Judging.{Judgement, Begins, Whole, Faulty, judge}
 use Rattle.rtr_pdu.specs.Unit.{IsUnit}
 use Rattle.rtr_pdu.specs.declared.unit.Unit.{Unit}
 use Rattle.rtr_ends.specs.Answer.{answer, report, sent_all}
-use Rattle.rtr_ends.specs.Cache.{Conn, Taking, is_none, conn_stops, moment_of, with_moment, counted, finds_memory, conn_byte, can_notify, conn_notified}
-use Rattle.rtr_ends.specs.Connection.{Connection, Read, Wanting, Notify, after, notice, is_published, takes_memory}
-use Rattle.rtr_ends.specs.Feeding.{Fed, feed}
-use Rattle.rtr_ends.specs.Router.{Router, Link, Closed, Idle, Asked, Answering, Ended, is_reading}
+use Rattle.rtr_ends.specs.Cache.{Conn, Taking, is_none, conn_stops, conn_moment_of, with_moment, counted, finds_memory, conn_byte, can_notify, conn_notified}
+use Rattle.rtr_ends.specs.Connection.{Connection, Read, Wanting, Notify, conn_after, notice, is_published, takes_memory}
+use Rattle.rtr_ends.specs.Feeding.{FedPiece, feed}
+use Rattle.rtr_ends.specs.LinkRules.{Router}
+use Rattle.rtr_ends.specs.RouterLink.{Link, Closed, Idle, Asked, Answering, Ended, is_reading}
 use Rattle.rtr_ends.specs.Transcript.{Question, query, base_of}
 use Rattle.rtr_ends.proofs.TableLaws.{false_true}
 use Rattle.rtr_ends.proofs.FeedingLaws.{feed_keeps}
@@ -23,11 +24,11 @@ use Rattle.rtr_world.specs.World.{timing}
 use Rattle.rtr_world.proofs.AnswerLaws.{plain_stays, plain_notifies, without-append, notifies-append}
 use Rattle.rtr_world.proofs.CacheSteps.{from_now, is_now, IsAnswered, answered_report, answer_answers, serial_low}
 use Rattle.rtr_world.proofs.Invariant.{OneReply, QuestionFits, Replies, no_memory, Shape, Open, Flow, Live, GoodLink, GoodRouter}
-use Rattle.rtr_world.proofs.RouterSteps.{live_link}
+use Rattle.rtr_world.proofs.UnitsAtRouters.{live_link}
 use Rattle.rtr_world.proofs.SideSteps.{live_of}
-use Rattle.rtr_world.proofs.Streams.{Stream, ByteCase, partly, wholly, byte_case, stream-append, all_bytes}
+use Rattle.rtr_world.proofs.UnitStreams.{Stream, ByteCase, partly, wholly, byte_case, stream-append, all_bytes}
 use Rattle.rtr_world.proofs.Versions.{TableAt, Present}
-use Rattle.rtr_world.proofs.Seen.{Seen}
+use Rattle.rtr_world.proofs.LinkedSides.{Seen}
 
 none_is : (out : List ℕ) → not (is_none out) ≡ false → out ≡ []
 none_is [] h = refl
@@ -94,10 +95,10 @@ module _ (all : List Instance) (i : Instance) (p : Present all i) (keep : ℕ) (
 
   -- it reads a byte
   byte_live : (m : Taking) (b : ℕ) (bs : List ℕ) (h : Seen) (f : Flow all i h r (Some m.conn) (b ∷ bs) down) → home ≡ Some h → m.conn.state.due ≡ [] → is_reading r.link ≡ true → TableAt all r.version r.table
-      → ByteCase false m.conn.held b (bs ++ r.out) f.wanted → (memory : Bool) → Live all i home r (Some (with_moment keep timing (m.conn.held ++ b ∷ []) m.conn (moment_of i memory (m.conn.held ++ b ∷ []) (judge V1 false (m.conn.held ++ b ∷ []))))) bs down
+      → ByteCase false m.conn.held b (bs ++ r.out) f.wanted → (memory : Bool) → Live all i home r (Some (with_moment keep timing (m.conn.held ++ b ∷ []) m.conn (conn_moment_of i memory (m.conn.held ++ b ∷ []) (judge V1 false (m.conn.held ++ b ∷ []))))) bs down
   byte_live m b bs h f eh eo live table (partly e s) memory =
       let op : Open i h r.out (b ∷ bs) f.wanted f.lost m.conn = f.open_at in
-      subst (λ j. Live all i home r (Some (with_moment keep timing (m.conn.held ++ b ∷ []) m.conn (moment_of i memory (m.conn.held ++ b ∷ []) j))) bs down) (sym e) (
+      subst (λ j. Live all i home r (Some (with_moment keep timing (m.conn.held ++ b ∷ []) m.conn (conn_moment_of i memory (m.conn.held ++ b ∷ []) j))) bs down) (sym e) (
         h,
         eh,
         record {
@@ -113,7 +114,7 @@ module _ (all : List Instance) (i : Instance) (p : Present all i) (keep : ℕ) (
         },
       )
   byte_live m b bs h f eh eo live table (wholly u more is e fit s) memory =
-      subst (λ j. Live all i home r (Some (with_moment keep timing bytes m.conn (moment_of i memory bytes j))) bs down) (sym e) (by_memory (takes_memory i u && not memory) refl)
+      subst (λ j. Live all i home r (Some (with_moment keep timing bytes m.conn (conn_moment_of i memory bytes j))) bs down) (sym e) (by_memory (takes_memory i u && not memory) refl)
     where
       bytes : List ℕ
       bytes = m.conn.held ++ b ∷ []
@@ -127,14 +128,14 @@ module _ (all : List Instance) (i : Instance) (p : Present all i) (keep : ℕ) (
       up_stream : Stream [] (bs ++ r.out) []
       up_stream = subst (λ x. Stream [] (bs ++ r.out) x) w.no_more s
 
-      by_memory : (t : Bool) → (takes_memory i u && not memory) ≡ t → Live all i home r (Some (record { state = after keep timing m.conn.state (if t then Wanting i u bytes else Read i u bytes); held = [] })) bs down
+      by_memory : (t : Bool) → (takes_memory i u && not memory) ≡ t → Live all i home r (Some (record { state = conn_after keep timing m.conn.state (if t then Wanting i u bytes else Read i u bytes); held = [] })) bs down
       by_memory true wants =
-          answered m.conn (b ∷ bs) bs h f w.q (report 1 [] ∷ []) (after keep timing m.conn.state (Wanting i u bytes)) eh eo refl up_stream w.asks w.none w.fits
+          answered m.conn (b ∷ bs) bs h f w.q (report 1 [] ∷ []) (conn_after keep timing m.conn.state (Wanting i u bytes)) eh eo refl up_stream w.asks w.none w.fits
           (answered_report 1 [] (omega arith) (all_bytes [] tt)) (no_memory refl)
           (inr (record { cache = i; was = is_now all i p h op.session op.made op.later; takes = subst (λ x. takes_memory i x ≡ true) w.is (and_parts (takes_memory i u) (not memory) wants).0 }, refl))
       by_memory false wants =
           let a = answer_answers all i p h op.session op.made keep w.q r.version r.table w.fits table (from_now all i p h op.session op.made w.q keep (keeps h eh) op.later) in
-          answered m.conn (b ∷ bs) bs h f w.q (answer i keep timing (query w.q)).units (after keep timing m.conn.state (Read i u bytes)) eh eo (ap (λ x. sent_all (answer i keep timing x).units) w.is) up_stream w.asks w.none w.fits a.answered a.replies (inl a.from)
+          answered m.conn (b ∷ bs) bs h f w.q (answer i keep timing (query w.q)).units (conn_after keep timing m.conn.state (Read i u bytes)) eh eo (ap (λ x. sent_all (answer i keep timing x).units) w.is) up_stream w.asks w.none w.fits a.answered a.replies (inl a.from)
 
   abbrev GoodC : Conn → List ℕ → Type 0
   GoodC o up = GoodRouter all i home (Some o) up down r
@@ -147,15 +148,15 @@ module _ (all : List Instance) (i : Instance) (p : Present all i) (keep : ℕ) (
       due = none_is m.conn.state.due (or_parts m.conn.state.ended (not (is_none m.conn.state.due)) goes_on).1
 
       by_link : (live : Bool) → is_reading r.link ≡ live
-          → GoodLink all i home r.link r (Some (with_moment keep timing (m.conn.held ++ b ∷ []) m.conn (moment_of i (finds_memory m.wanting) (m.conn.held ++ b ∷ []) (judge V1 false (m.conn.held ++ b ∷ []))))) bs down
-      by_link false dead = dead_link r.link all i home r (Some m.conn) (Some (with_moment keep timing (m.conn.held ++ b ∷ []) m.conn (moment_of i (finds_memory m.wanting) (m.conn.held ++ b ∷ []) (judge V1 false (m.conn.held ++ b ∷ []))))) (b ∷ bs) bs down down dead g.link
+          → GoodLink all i home r.link r (Some (with_moment keep timing (m.conn.held ++ b ∷ []) m.conn (conn_moment_of i (finds_memory m.wanting) (m.conn.held ++ b ∷ []) (judge V1 false (m.conn.held ++ b ∷ []))))) bs down
+      by_link false dead = dead_link r.link all i home r (Some m.conn) (Some (with_moment keep timing (m.conn.held ++ b ∷ []) m.conn (conn_moment_of i (finds_memory m.wanting) (m.conn.held ++ b ∷ []) (judge V1 false (m.conn.held ++ b ∷ []))))) (b ∷ bs) bs down down dead g.link
       by_link true live =
           let l = live_of r.link all i home r (Some m.conn) (b ∷ bs) down g.link live in
           let op : Open i l.0 r.out (b ∷ bs) l.2.wanted l.2.lost m.conn = l.2.open_at in
-          live_link all i home (Some (with_moment keep timing (m.conn.held ++ b ∷ []) m.conn (moment_of i (finds_memory m.wanting) (m.conn.held ++ b ∷ []) (judge V1 false (m.conn.held ++ b ∷ []))))) bs down r r.link refl live
+          live_link all i home (Some (with_moment keep timing (m.conn.held ++ b ∷ []) m.conn (conn_moment_of i (finds_memory m.wanting) (m.conn.held ++ b ∷ []) (judge V1 false (m.conn.held ++ b ∷ []))))) bs down r r.link refl live
           (byte_live m b bs l.0 l.2 l.1 due live g.table (byte_case false m.conn.held b (bs ++ r.out) l.2.wanted op.upward) (finds_memory m.wanting))
 
-  abbrev by_stop : Taking → ℕ → List ℕ → Bool → Fed Taking
+  abbrev by_stop : Taking → ℕ → List ℕ → Bool → FedPiece Taking
   by_stop m b piece s = elim s [ true ↦ record { machine = m; rest = b ∷ piece } | false ↦ feed (λ (x : Taking). conn_stops x.conn) (conn_byte keep timing i) (conn_byte keep timing i m b) piece ]
 
   fed_by : (tail : List ℕ) (m : Taking) (b : ℕ) (piece : List ℕ) (s : Bool) → conn_stops m.conn ≡ s → GoodC m.conn (b ∷ (piece ++ tail))
@@ -204,16 +205,16 @@ module _ (all : List Instance) (i : Instance) (p : Present all i) (keep : ℕ) (
       memory : Bool
       memory = finds_memory m.wanting
 
-      by_case : ByteCase false m.conn.held b (bs ++ r.out) l.2.wanted → DueNow old wanting (with_moment keep timing bytes m.conn (moment_of i memory bytes (judge V1 false bytes)))
-      by_case (partly e s) = subst (λ j. DueNow old wanting (with_moment keep timing bytes m.conn (moment_of i memory bytes j))) (sym e) now
+      by_case : ByteCase false m.conn.held b (bs ++ r.out) l.2.wanted → DueNow old wanting (with_moment keep timing bytes m.conn (conn_moment_of i memory bytes (judge V1 false bytes)))
+      by_case (partly e s) = subst (λ j. DueNow old wanting (with_moment keep timing bytes m.conn (conn_moment_of i memory bytes j))) (sym e) now
       by_case (wholly u more is e fit s) =
-          subst (λ j. DueNow old wanting (with_moment keep timing bytes m.conn (moment_of i memory bytes j))) (sym e) (inr (subst (λ x. IsOfNow i keep wanting x (read (takes_memory i u && not memory)).due) (sym w.asks) (by_memory (takes_memory i u && not memory) refl)))
+          subst (λ j. DueNow old wanting (with_moment keep timing bytes m.conn (conn_moment_of i memory bytes j))) (sym e) (inr (subst (λ x. IsOfNow i keep wanting x (read (takes_memory i u && not memory)).due) (sym w.asks) (by_memory (takes_memory i u && not memory) refl)))
         where
           w : IsWhole l.0 r.link u more (without_notifies l.2.coming)
           w = whole_question l.0 r.link u more (without_notifies l.2.coming) live (subst (λ x. Shape all l.0 r.link r.agreed r.version r.table x (without_notifies l.2.coming)) is l.2.shape)
 
           read : Bool → Connection
-          read t = after keep timing m.conn.state (if t then Wanting i u bytes else Read i u bytes)
+          read t = conn_after keep timing m.conn.state (if t then Wanting i u bytes else Read i u bytes)
 
           by_memory : (t : Bool) → (takes_memory i u && not memory) ≡ t → IsOfNow i keep wanting (Asked w.q) (read t).due
           by_memory true wants =
@@ -238,7 +239,7 @@ module _ (all : List Instance) (i : Instance) (p : Present all i) (keep : ℕ) (
   notice_own session e [] = tt
   notice_own session e (x ∷ older) = (sym e, tt)
 
-  notified_live : (o : Conn) (up : List ℕ) → o.state.due ≡ [] → Live all i home r (Some o) up down → Live all i home r (Some (record o { state = after keep timing o.state (Notify i) })) up down
+  notified_live : (o : Conn) (up : List ℕ) → o.state.due ≡ [] → Live all i home r (Some o) up down → Live all i home r (Some (record o { state = conn_after keep timing o.state (Notify i) })) up down
   notified_live o up due l =
       let f = l.2 in
       let op : Open i l.0 r.out up f.wanted f.lost o = f.open_at in
@@ -269,7 +270,7 @@ module _ (all : List Instance) (i : Instance) (p : Present all i) (keep : ℕ) (
       not_true false h = refl
 
       o' : Conn
-      o' = record o { state = after keep timing o.state (Notify i) }
+      o' = record o { state = conn_after keep timing o.state (Notify i) }
 
       by_link : (live : Bool) → is_reading r.link ≡ live → o.state.due ≡ [] → GoodLink all i home r.link r (Some o') up down
       by_link false dead due = dead_link r.link all i home r (Some o) (Some o') up up down down dead g.link

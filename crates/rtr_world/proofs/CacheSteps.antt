@@ -8,7 +8,7 @@ use Rattle.std.proofs.lemmas.Str.{IsUtf8-nil}
 use Rattle.std.proofs.lemmas.List.{append-nil, length-take}
 use Rattle.std.proofs.lemmas.Map.Keys.{IsDistinct-from_sorted}
 use Rattle.prefixes.specs.Payload.{Payload, IsPayload, vrp_cmp}
-use Rattle.vrps.specs.Instance.{Instance, Version, versions, versions_from, with_serial}
+use Rattle.vrps.specs.Instance.{Instance, NumberedSet, versions, versions_from, with_serial}
 use Rattle.vrps.specs.Serial.{serial_at}
 use Rattle.vrps.specs.VrpSet.{VrpSet, IsVrpSet, empty, has, listing, set_of, without}
 use Rattle.vrps.proofs.Listed.{part_is_set}
@@ -27,9 +27,9 @@ use Rattle.rtr_ends.specs.Transcript.{Committed, Question, AskReset, AskSerial, 
 use Rattle.rtr_world.specs.World.{timing}
 use Rattle.rtr_world.proofs.AnswerLaws.{Plain, plain-append, plain_records, change_leads, whole_leads}
 use Rattle.rtr_world.proofs.Invariant.{FromCache, WasCache, Leads, NoneWithdrawn, WithdrawsFirst, QuestionFits, IsOwn, Replies, nothing_yet, no_data, not_kept, other_session, response}
-use Rattle.rtr_world.proofs.Streams.{all-append, all_bytes}
+use Rattle.rtr_world.proofs.UnitStreams.{all-append, all_bytes}
 use Rattle.rtr_world.proofs.Versions.{Stands, TableAt, Present, kept_at, has_sets, of_present, equal_of, equal_true, find_session}
-use Rattle.rtr_world.proofs.Seen.{Seen}
+use Rattle.rtr_world.proofs.LinkedSides.{Seen}
 
 not_both : (b : Bool) → b ≡ true → b ≡ false → ⊥
 not_both b h k = let e : true ≡ false = sym h ∙ k in cc
@@ -225,10 +225,10 @@ module _ (all : List Instance) (i : Instance) (p : Present all i) (home : Seen) 
       (λ session. whole_leads x (nothing_yet AskReset home.session) session (serial_at i.start (length older)) timing.refresh timing.retry timing.expire (sets_fit x older e).within_limit refl refl)
       (whole_ends x i.session (serial_at i.start (length older))) from
 
-  abbrev answer_to : VrpSet → List VrpSet → Option Version → List Unit
+  abbrev answer_to : VrpSet → List VrpSet → Option NumberedSet → List Unit
   answer_to x older o = step_answer i.session timing (record { serial = serial_at i.start (length older); set = x }) o
 
-  step_answers : (one serial : ℕ) (table x : VrpSet) (older : List VrpSet) (o : Option Version) → one ≡ home.session → i.sets ≡ x ∷ older → IsVrpSet table → (o ≡ None) ⊎ (o ≡ Some (record { serial = serial; set = table }))
+  step_answers : (one serial : ℕ) (table x : VrpSet) (older : List VrpSet) (o : Option NumberedSet) → one ≡ home.session → i.sets ≡ x ∷ older → IsVrpSet table → (o ≡ None) ⊎ (o ≡ Some (record { serial = serial; set = table }))
       → FromCache all home (AskSerial one serial) (answer_to x older o) → Answers all home (AskSerial one serial) table (answer_to x older o)
   step_answers one serial table x older o own e fits (inl f) from =
       subst (λ v. Answers all home (AskSerial one serial) table (answer_to x older v)) (sym f)

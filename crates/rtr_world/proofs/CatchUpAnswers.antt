@@ -2,7 +2,7 @@
 use Rattle.std.specs.Prelude.{◌≡◌, ◌⊎◌, ℕ, ◌<◌, Bool, true, false, not, ◌&&◌, ◌||◌, ◌==◌, List, [], ◌∷◌, ◌++◌, length, take, Option, Some, None, if◌then◌else◌, refl}
 use Rattle.std.proofs.Common.{sym, ap, ◌∙◌, append_assoc, subst, arith, inl, inr}
 use Rattle.std.proofs.lemmas.Bool.{and_parts}
-use Rattle.vrps.specs.Instance.{Instance, Version, versions_from, with_serial}
+use Rattle.vrps.specs.Instance.{Instance, NumberedSet, versions_from, with_serial}
 use Rattle.vrps.specs.Serial.{serial_at}
 use Rattle.vrps.specs.VrpSet.{VrpSet}
 use Rattle.rtr_pdu.specs.declared.version.Version.TheVariants.{V1}
@@ -12,7 +12,7 @@ use Rattle.rtr_pdu.specs.declared.unit.Unit.{Unit}
 use Rattle.rtr_pdu.specs.declared.unit.Unit.TheVariants.{SerialQuery, ResetQuery, CacheReset, ErrorReport}
 use Rattle.rtr_pdu.proofs.NextLaws.{judge_part, judge_sent, some_sent}
 use Rattle.rtr_ends.specs.Answer.{Reply, and_end, and_on, answer, report, sent, sent_all, serial_answer, step_answer, whole_answer}
-use Rattle.rtr_ends.specs.Cache.{Conn, Taking, conn_byte, conn_stops, conn_takes, finds_memory, is_none, with_judged, with_moment}
+use Rattle.rtr_ends.specs.Cache.{Conn, Taking, conn_byte, conn_stops, conn_takes, finds_memory, is_none, conn_judged, with_moment}
 use Rattle.rtr_ends.specs.Connection.{Read, Wanting, takes_memory}
 use Rattle.rtr_ends.specs.Transcript.{AskReset, AskSerial, Question, query}
 use Rattle.rtr_ends.proofs.FeedingLaws.{feed_keeps, feed_takes}
@@ -46,14 +46,14 @@ no_wanting i keep AskReset = by_sets i.sets
     by_sets (x ∷ older) e = let k : whole_answer i.session timing (versions_from i.start (x ∷ older)) ≡ report 1 [] ∷ [] = e in cc
 no_wanting i keep (AskSerial session serial) = by_session (session == i.session)
   where
-    by_step : (now : Version) (o : Option Version) → step_answer i.session timing now o ≡ report 1 [] ∷ [] → ⊥
+    by_step : (now : NumberedSet) (o : Option NumberedSet) → step_answer i.session timing now o ≡ report 1 [] ∷ [] → ⊥
     by_step now None e = let k : CacheReset ∷ [] ≡ report 1 [] ∷ [] = e in cc
     by_step now (Some before) e = let k : step_answer i.session timing now (Some before) ≡ report 1 [] ∷ [] = e in cc
 
     by_sets : (sets : List VrpSet) → serial_answer i.session keep timing serial (versions_from i.start sets) ≡ report 1 [] ∷ [] → ⊥
     by_sets [] e = other_report 2 1 (sent (SerialQuery i.session serial)) [] (λ k. absurd (omega (arith, k))) e
     by_sets (x ∷ older) e =
-        let now : Version = record { serial = serial_at i.start (length older); set = x } in
+        let now : NumberedSet = record { serial = serial_at i.start (length older); set = x } in
         by_step (record { serial = serial_at i.start (length older); set = x }) (with_serial serial (record { serial = serial_at i.start (length older); set = x } ∷ take keep (versions_from i.start older))) e
 
     by_session : (b : Bool) → (if b then and_on (serial_answer i.session keep timing serial (versions_from i.start i.sets)) else and_end (report 0 (sent (SerialQuery session serial)) ∷ [])).units ≡ report 1 [] ∷ [] → ⊥
@@ -100,11 +100,11 @@ module _ (keep : ℕ) (i : Instance) (u : Unit) (fits : IsUnit u) (wanting : Opt
   unfolding conn_byte
   byte_comes [] m b whole due on same =
       let is = ap (judge V1 false) whole ∙ judge_sent V1 false u fits in
-      subst (λ j. Reads [] (with_judged keep timing i m (m.conn.held ++ b ∷ []) j)) (sym is) (inr (refl, byte_whole m (m.conn.held ++ b ∷ []) same))
+      subst (λ j. Reads [] (conn_judged keep timing i m (m.conn.held ++ b ∷ []) j)) (sym is) (inr (refl, byte_whole m (m.conn.held ++ b ∷ []) same))
   byte_comes (c ∷ rest) m b whole due on same =
       let begun : (m.conn.held ++ b ∷ []) ++ c ∷ rest ≡ sent u = append_assoc m.conn.held (b ∷ []) (c ∷ rest) ∙ whole in
       let is = judge_part V1 false u (m.conn.held ++ b ∷ []) rest c fits begun in
-      subst (λ j. Reads (c ∷ rest) (with_judged keep timing i m (m.conn.held ++ b ∷ []) j)) (sym is)
+      subst (λ j. Reads (c ∷ rest) (conn_judged keep timing i m (m.conn.held ++ b ∷ []) j)) (sym is)
       (inl (record { next = c; more = rest; rest_is = refl; whole = begun; due = due; on = on; same = same }))
 
   reads_byte : (b : ℕ) (rest : List ℕ) (m : Taking) → conn_stops m.conn ≡ false → Reads (b ∷ rest) m → Reads rest (conn_byte keep timing i m b)

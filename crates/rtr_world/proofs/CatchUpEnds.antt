@@ -4,21 +4,23 @@ use Rattle.std.proofs.Common.{sym, ap, ◌∙◌, subst, subst₂, arith, inl, i
 use Rattle.std.specs.List.{AllByRecursion}
 use Rattle.rtr_ends.specs.Answer.{sent}
 use Rattle.rtr_ends.specs.Cache.{new_conn}
-use Rattle.rtr_ends.specs.Router.{Router, Idle, Asked, clocked, close, connects_at}
+use Rattle.rtr_ends.specs.LinkRules.{Router}
+use Rattle.rtr_ends.specs.Router.{clocked, close, connects_at}
+use Rattle.rtr_ends.specs.RouterLink.{Idle, Asked}
 use Rattle.rtr_ends.specs.Transcript.{AskReset, Committed, Question, choose, is_serial, query}
 use Rattle.rtr_ends.proofs.TableLaws.{false_true}
-use Rattle.rtr_world.specs.CatchUp.{CatchesUp, IdleAfter, IdleNext, IdleSoon, Rests, RestsNext, RestsSo, RestsSoon, RoundsEnd, round}
+use Rattle.rtr_world.specs.CatchUp.{EachCatchesUp, IdleAfter, IdleNext, IdleSoon, Rests, RestsNext, RestsSo, RestsSoon, RoundsEnd, round}
 use Rattle.rtr_world.specs.History.{Entry, Leads, Made}
 use Rattle.rtr_world.specs.World.{Side, World, instances, connects, new_world, settle}
 use Rattle.rtr_world.proofs.CatchUpQuestions.{Asks}
 use Rattle.rtr_world.proofs.CatchUpRounds.{Ends, asks_all, closes, idles, round_ends}
 use Rattle.rtr_world.proofs.CatchUpSettling.{Emptied, clocked_emptied, clocked_none, settle_open}
 use Rattle.rtr_world.proofs.Invariant.{Good, Mine, QuestionFits}
-use Rattle.rtr_world.proofs.RouterSteps.{first_fits}
-use Rattle.rtr_world.proofs.Seen.{Seen, seen_at}
+use Rattle.rtr_world.proofs.UnitsAtRouters.{first_fits}
+use Rattle.rtr_world.proofs.LinkedSides.{Seen, seen_at}
 use Rattle.rtr_world.proofs.SideLaws.{all_new}
 use Rattle.rtr_world.proofs.SideSteps.{clocked_good, close_shut}
-use Rattle.rtr_world.proofs.TableLaws.{SideTells, new_side_tells}
+use Rattle.rtr_world.proofs.KeptTables.{SideTells, new_side_tells}
 use Rattle.rtr_world.proofs.Versions.{Present, TableAt}
 use Rattle.rtr_world.proofs.WorldSteps.{GoodWorld, history_good, new_good}
 
@@ -130,5 +132,5 @@ good_world made history w leads = history_good (new_world made.routers made.sess
 pub rounds_end : RoundsEnd
 rounds_end made history w leads = let g = good_world made history w leads in each_rests w g.present w.sides g.sides
 
-pub catches_up : CatchesUp
+pub catches_up : EachCatchesUp
 catches_up made history w leads = let g = good_world made history w leads in each_idle w g.present w.sides g.sides

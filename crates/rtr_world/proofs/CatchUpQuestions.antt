@@ -7,13 +7,14 @@ use Rattle.vrps.specs.VrpSet.{VrpSet}
 use Rattle.rtr_ends.specs.Answer.{sent}
 use Rattle.rtr_ends.specs.Cache.{Conn}
 use Rattle.rtr_ends.specs.Connection.{IsLater}
-use Rattle.rtr_ends.specs.Router.{Link, Asked, is_reading, router_pulled}
+use Rattle.rtr_ends.specs.Router.{router_pulled}
+use Rattle.rtr_ends.specs.RouterLink.{Link, Asked, is_reading}
 use Rattle.rtr_ends.specs.Transcript.{Committed, Question, query}
 use Rattle.rtr_world.specs.CatchUp.{sent_up}
 use Rattle.rtr_world.specs.World.{Side, World, instances, router_sends, settle}
 use Rattle.rtr_world.proofs.CatchUpSettling.{settle_open}
 use Rattle.rtr_world.proofs.Invariant.{QuestionFits}
-use Rattle.rtr_world.proofs.Seen.{Seen}
+use Rattle.rtr_world.proofs.LinkedSides.{Seen}
 use Rattle.rtr_world.proofs.Versions.{Present, TableAt}
 
 module _ (w : World) (p : Present (instances w) w.present) (h : Seen) where

@@ -16,16 +16,18 @@ use Rattle.rtr_ends.specs.declared.link.End.{End}
 use Rattle.rtr_ends.specs.declared.link.End.TheVariants as ends
 use Rattle.rtr_ends.specs.Answer.{report, sent, sent_all}
 use Rattle.rtr_ends.specs.Cache.{counted, finds_memory, is_none}
-use Rattle.rtr_ends.specs.Router.{Router, Receiving, Idle, Asked, Answering, Ended, Staged, Stays, Wrong, Over, commit, clocked, expired, fails, is_reading, lacks, may_lack, on_unit, reads, receives, router_byte, router_stops, stage, staged, with_bytes}
+use Rattle.rtr_ends.specs.LinkRules.{Router, Staged, Stays, Wrong, Over, commit, fails, may_lack, on_unit, stage, staged}
+use Rattle.rtr_ends.specs.Router.{Receiving, clocked, expired, lacks, reads, receives, router_byte, router_stops, with_bytes}
+use Rattle.rtr_ends.specs.RouterLink.{Idle, Asked, Answering, Ended, is_reading}
 use Rattle.rtr_ends.specs.Transcript.{At, AskReset, AskSerial, Begun, Committed, Question, base_of, bounded, is_over, is_serial, is_wrong, later, query}
 use Rattle.rtr_ends.proofs.FeedingLaws.{feed_keeps, feed_takes}
 use Rattle.rtr_ends.proofs.KeptLaws.{not_true}
 use Rattle.rtr_ends.proofs.TableLaws.{false_true}
 use Rattle.rtr_world.proofs.CatchUpAnswers.{other_report}
 use Rattle.rtr_world.proofs.Invariant.{after_stage, Leads, Mine, QuestionFits, Replies, no_data, not_kept, other_session, no_memory, response, nothing_yet}
-use Rattle.rtr_world.proofs.RouterSteps.{first_is, rest_is, right_response, stage_keeps}
-use Rattle.rtr_world.proofs.Seen.{Seen}
-use Rattle.rtr_world.proofs.Streams.{Begun as BegunUnit, ByteCase, partly, wholly, byte_case, Stream}
+use Rattle.rtr_world.proofs.UnitsAtRouters.{first_is, rest_is, right_response, stage_keeps}
+use Rattle.rtr_world.proofs.LinkedSides.{Seen}
+use Rattle.rtr_world.proofs.UnitStreams.{Begun as BegunUnit, ByteCase, partly, wholly, byte_case, Stream}
 use Rattle.rtr_world.proofs.Versions.{TableAt, equal_true}
 
 -- Where no byte is to come, no unit is.

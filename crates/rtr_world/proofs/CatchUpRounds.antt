@@ -12,7 +12,8 @@ use Rattle.rtr_pdu.specs.declared.unit.Unit.{Unit}
 use Rattle.rtr_pdu.proofs.NextLaws.{sent_most, some_sent}
 use Rattle.rtr_ends.specs.Answer.{answer, report, sent, sent_all}
 use Rattle.rtr_ends.specs.Cache.{Conn, conn_pulled, conn_takes}
-use Rattle.rtr_ends.specs.Router.{Closed, Idle, Asked, clocked, is_reading, receives}
+use Rattle.rtr_ends.specs.Router.{clocked, receives}
+use Rattle.rtr_ends.specs.RouterLink.{Closed, Idle, Asked, is_reading}
 use Rattle.rtr_ends.specs.Transcript.{AskReset, Committed, Question, base_of, is_serial, query}
 use Rattle.rtr_world.specs.CatchUp.{IsAll, IsQuiet, read_up, round, sent_down, sent_up}
 use Rattle.rtr_world.specs.History.{conn_due}
@@ -22,9 +23,9 @@ use Rattle.rtr_world.proofs.CatchUpAnswers.{IsDue, goes_or_other, is_read, no_wa
 use Rattle.rtr_world.proofs.CatchUpReplies.{Phase, WasRead, is_idle, asks_again, has_ended, clocked_waits, no_reply, reply_read}
 use Rattle.rtr_world.proofs.CatchUpSettling.{Emptied, settle_closes, settle_empties, settle_full, settle_none, settle_open}
 use Rattle.rtr_world.proofs.Invariant.{Mine, Replies, no_memory}
-use Rattle.rtr_world.proofs.RouterSteps.{query_unit}
-use Rattle.rtr_world.proofs.Seen.{Seen}
-use Rattle.rtr_world.proofs.Streams.{Stream, all_bytes}
+use Rattle.rtr_world.proofs.UnitsAtRouters.{query_unit}
+use Rattle.rtr_world.proofs.LinkedSides.{Seen}
+use Rattle.rtr_world.proofs.UnitStreams.{Stream, all_bytes}
 use Rattle.rtr_world.proofs.Versions.{Present, TableAt}
 use Rattle.rtr_world.proofs.CatchUpQuestions.{Asks, Knows, Quiet, Sent, reading, sends_all}
 use Rattle.rtr_world.proofs.CatchUpSizes.{answer_bytes, one_unit}

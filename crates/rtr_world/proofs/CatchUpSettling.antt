@@ -6,11 +6,13 @@ use Rattle.vrps.specs.VrpSet.{empty}
 use Rattle.rtr_ends.specs.declared.link.End.{End}
 use Rattle.rtr_ends.specs.declared.link.End.TheVariants as ends
 use Rattle.rtr_ends.specs.Cache.{Conn}
-use Rattle.rtr_ends.specs.Router.{Router, Link, Closed, Idle, Asked, Answering, Ended, clocked, close, closed_at, emptied, expired, is_closed, is_reading}
+use Rattle.rtr_ends.specs.LinkRules.{Router, emptied}
+use Rattle.rtr_ends.specs.Router.{clocked, close, closed_at, expired}
+use Rattle.rtr_ends.specs.RouterLink.{Link, Closed, Idle, Asked, Answering, Ended, is_closed, is_reading}
 use Rattle.rtr_ends.specs.Transcript.{AskReset, AskSerial, is_over, is_serial, later, retry_of, sum_of}
 use Rattle.rtr_ends.proofs.TableLaws.{false_true}
 use Rattle.rtr_world.specs.World.{Side, close_ended, is_ended, noted, settle, settle_conn, settle_link, settle_rest, settle_wire, tell_closed}
-use Rattle.rtr_world.proofs.Answered.{told_closes}
+use Rattle.rtr_world.proofs.AnswersRead.{told_closes}
 use Rattle.rtr_world.proofs.Folding.{Blind, rest_keeps, wire_keeps}
 use Rattle.rtr_world.proofs.Rests.{GoesOn, stays}
 

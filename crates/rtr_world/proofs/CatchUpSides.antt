@@ -10,7 +10,9 @@ use Rattle.rtr_pdu.specs.Judging.{judge}
 use Rattle.rtr_ends.specs.declared.link.End.TheVariants as ends
 use Rattle.rtr_ends.specs.Cache.{Conn, is_none, finds_memory}
 use Rattle.rtr_ends.specs.Feeding.{feed}
-use Rattle.rtr_ends.specs.Router.{Router, Receiving, Link, Closed, Idle, Asked, Answering, Ended, clocked, connects_at, emptied, expired, is_closed, is_reading, lacks, may_lack, reads, receives, router_byte, router_pulled, router_stops, with_bytes}
+use Rattle.rtr_ends.specs.LinkRules.{Router, emptied, may_lack}
+use Rattle.rtr_ends.specs.Router.{Receiving, clocked, connects_at, expired, lacks, reads, receives, router_byte, router_pulled, router_stops, with_bytes}
+use Rattle.rtr_ends.specs.RouterLink.{Link, Closed, Idle, Asked, Answering, Ended, is_closed, is_reading}
 use Rattle.rtr_ends.specs.Transcript.{AskReset, AskSerial, Committed, is_over, is_serial, later, At}
 use Rattle.rtr_ends.proofs.FeedingLaws.{feed_keeps}
 use Rattle.rtr_ends.proofs.KeptLaws.{not_true}
@@ -19,13 +21,13 @@ use Rattle.rtr_world.specs.CatchUp.{IsMove}
 use Rattle.rtr_world.specs.History.{conn_due}
 use Rattle.rtr_world.specs.OneAnswer.{without_notifies}
 use Rattle.rtr_world.specs.World.{Side, World, instances, SideEvent, RouterRestart, Connect, RouterSends, CacheGets, CacheSends, RouterGets, Cut, NotifyRouter, Ask, Tick, connects, router_sends, cache_sends, cache_gets, router_gets, cut, side_step, side_part, side_refused, settle, tell_closed}
-use Rattle.rtr_world.proofs.Answered.{told_closes}
+use Rattle.rtr_world.proofs.AnswersRead.{told_closes}
 use Rattle.rtr_world.proofs.CatchUpUnits.{Current, IsCurrent, unit_current}
 use Rattle.rtr_world.proofs.Folding.{gets_keep, sends_keep, settle_keeps}
 use Rattle.rtr_world.proofs.Invariant.{Flow, Good, GoodRouter, Shape}
-use Rattle.rtr_world.proofs.Seen.{Seen, IsSeen}
+use Rattle.rtr_world.proofs.LinkedSides.{Seen, IsSeen}
 use Rattle.rtr_world.proofs.SideSteps.{byte_good, clocked_good, live_of}
-use Rattle.rtr_world.proofs.Streams.{ByteCase, partly, wholly, byte_case}
+use Rattle.rtr_world.proofs.UnitStreams.{ByteCase, partly, wholly, byte_case}
 use Rattle.rtr_world.proofs.Versions.{Present, TableAt}
 
 -- A link that lives was made at this instance; an idle one holds its newest version.

@@ -3,7 +3,7 @@ use Rattle.std.specs.Prelude.{◌≡◌, ℕ, suc, ◌*◌, ◌^◌, ◌≤◌, 
 use Rattle.std.proofs.Common.{ap, arith, zero}
 use Rattle.std.specs.List.{AllByRecursion}
 use Rattle.std.proofs.lemmas.List.{length-append, length-map}
-use Rattle.vrps.specs.Instance.{Instance, Version, versions_from, with_serial}
+use Rattle.vrps.specs.Instance.{Instance, NumberedSet, versions_from, with_serial}
 use Rattle.vrps.specs.Serial.{serial_at}
 use Rattle.vrps.specs.VrpSet.{VrpSet, IsVrpSet, listing, without}
 use Rattle.vrps.proofs.Listed.{part_is_set, size_of_listing}
@@ -31,7 +31,7 @@ records_few announce s is =
     let few = is.within_limit in
     omega (arith, same, size, few)
 
-response_few : (session : ℕ) (now : Version) (records : List Unit) → length records ≤ 33554430 → length (response session timing now records) ≤ 33554432
+response_few : (session : ℕ) (now : NumberedSet) (records : List Unit) → length records ≤ 33554430 → length (response session timing now records) ≤ 33554432
 response_few session now records few =
     let all = length-append records (EndOfData session now.serial timing.refresh timing.retry timing.expire ∷ []) in
     omega (arith, all, few)
@@ -42,11 +42,11 @@ whole_few session start (x ∷ older) is =
     let few = records_few true x is.0 in
     response_few session (record { serial = serial_at start (length older); set = x }) (announcements x) (omega (arith, few))
 
-abbrev IsFound : Option Version → Type 0
+abbrev IsFound : Option NumberedSet → Type 0
 IsFound None = ⊤
 IsFound (Some v) = IsVrpSet v.set
 
-step_few : (session : ℕ) (now : Version) (o : Option Version) → IsVrpSet now.set → IsFound o → length (step_answer session timing now o) ≤ 33554432
+step_few : (session : ℕ) (now : NumberedSet) (o : Option NumberedSet) → IsVrpSet now.set → IsFound o → length (step_answer session timing now o) ≤ 33554432
 step_few session now None is found = omega arith
 step_few session now (Some before) is found =
     let gone = records_few false (without before.set now.set) (part_is_set before.set now.set found) in

@@ -9,15 +9,16 @@ use Rattle.vrps.specs.VrpSet.{VrpSet}
 use Rattle.rtr_pdu.specs.declared.unit.Unit.{Unit}
 use Rattle.rtr_pdu.specs.declared.unit.Unit.TheVariants.{SerialNotify, CacheResponse, Prefix, EndOfData, CacheReset, ErrorReport}
 use Rattle.rtr_ends.specs.Answer.{report, whole_answer}
-use Rattle.rtr_ends.specs.Router.{Router, Link, Closed, Idle, Asked, Answering, Ended, Staged, Stays, Wrong, Over, ask, fails, is_strange, is_news, stage, staged, commit, on_unit, is_reading}
+use Rattle.rtr_ends.specs.LinkRules.{Router, Staged, Stays, Wrong, Over, ask, fails, is_strange, is_news, stage, staged, commit, on_unit}
+use Rattle.rtr_ends.specs.RouterLink.{Link, Closed, Idle, Asked, Answering, Ended, is_reading}
 use Rattle.rtr_ends.specs.Transcript.{Begun, Committed, Question, AskReset, AskSerial, base_of, bounded, is_over, is_wrong, led_to, within}
 use Rattle.rtr_ends.proofs.TableLaws.{false_true}
 use Rattle.rtr_world.specs.CatchUp.{HoldsNewest}
 use Rattle.rtr_world.specs.OneAnswer.{without_notifies}
 use Rattle.rtr_world.specs.World.{timing}
 use Rattle.rtr_world.proofs.Invariant.{Mine, OneReply, QuestionFits, OfAnswer, Replies, no_data, not_kept, other_session, no_memory, response, Shape, nothing_yet}
-use Rattle.rtr_world.proofs.RouterSteps.{first_is, no_unit}
-use Rattle.rtr_world.proofs.Seen.{Seen}
+use Rattle.rtr_world.proofs.UnitsAtRouters.{first_is, no_unit}
+use Rattle.rtr_world.proofs.LinkedSides.{Seen}
 use Rattle.rtr_world.proofs.SideSteps.{HeadCase, a_notify, another, head_case}
 use Rattle.rtr_world.proofs.Versions.{Present, Stands, TableAt, find_session, has_sets, of_present}
 

@@ -10,47 +10,50 @@ use Rattle.rtr_pdu.specs.declared.unit.Unit.{Unit}
 use Rattle.rtr_pdu.specs.declared.unit.Unit.TheVariants.{EndOfData}
 use Rattle.rtr_ends.specs.Cache.{Conn, is_none, finds_memory}
 use Rattle.rtr_ends.specs.Feeding.{feed}
-use Rattle.rtr_ends.specs.Router.{Router, Link, Closed, Idle, Asked, Answering, Ended, Noted, Receiving, asked_by, on_unit, may_lack, reads, lacks, with_bytes, is_reading, router_stops, router_byte}
+use Rattle.rtr_ends.specs.LinkRules.{Router, on_unit, may_lack}
+use Rattle.rtr_ends.specs.Router.{Noted, Receiving, asked_by, reads, lacks, with_bytes, router_stops, router_byte}
+use Rattle.rtr_ends.specs.RouterLink.{Link, Closed, Idle, Asked, Answering, Ended, is_reading}
 use Rattle.rtr_ends.specs.Transcript.{Committed, Item, Reads, kept, is_commit}
 use Rattle.rtr_ends.proofs.FeedingLaws.{feed_keeps}
-use Rattle.rtr_ends.proofs.KeptLaws.{Tells, byte_tells, live_unit, none_is, not_true}
+use Rattle.rtr_ends.proofs.KeptUnits.{Tells, live_unit}
+use Rattle.rtr_ends.proofs.KeptLaws.{byte_tells, none_is, not_true}
 use Rattle.rtr_world.specs.History.{conn_due}
 use Rattle.rtr_world.specs.OneAnswer.{NotifiesOf, without_notifies}
-use Rattle.rtr_world.specs.Place.{Place, place_of}
+use Rattle.rtr_world.specs.VersionPlaces.{VersionPlace, version_place_of}
 use Rattle.rtr_world.specs.World.{places_of}
 use Rattle.rtr_world.proofs.Invariant.{Flow, GoodLink, GoodRouter, IfOpen, Live, Open, Shape}
 use Rattle.rtr_world.proofs.Places.{Found, Ordered, ordered_more, place_at, stands_found, young_enough}
-use Rattle.rtr_world.proofs.RouterSteps.{right_response}
+use Rattle.rtr_world.proofs.UnitsAtRouters.{right_response}
 use Rattle.rtr_world.proofs.SideSteps.{live_of, byte_good}
-use Rattle.rtr_world.proofs.Streams.{ByteCase, partly, wholly, byte_case}
+use Rattle.rtr_world.proofs.UnitStreams.{ByteCase, partly, wholly, byte_case}
 use Rattle.rtr_world.proofs.UnitCases.{Brings, goes_on, ends_other, ends_memory, commits, unit_brings, is_end}
 use Rattle.rtr_world.proofs.Versions.{Stands, find_session, same_instance, same_number, some_is}
-use Rattle.rtr_world.proofs.Seen.{Seen, IsSeen}
+use Rattle.rtr_world.proofs.LinkedSides.{Seen, IsSeen}
 
 -- the places of items that come after others
 places-append : (all : List Instance) (xs ys before : List Item) → places_of all (xs ++ ys) before ≡ places_of all xs (ys ++ before) ++ places_of all ys before
 places-append all [] ys before = refl
 places-append all (x ∷ xs) ys before =
-    (λ j. (if is_commit (x ∷ append_assoc xs ys before j) then place_of all (kept (x ∷ append_assoc xs ys before j)).version ∷ [] else []) ++ places-append all xs ys before j)
-    ∙ sym (append_assoc (if is_commit (x ∷ (xs ++ (ys ++ before))) then place_of all (kept (x ∷ (xs ++ (ys ++ before)))).version ∷ [] else []) (places_of all xs (ys ++ before)) (places_of all ys before))
+    (λ j. (if is_commit (x ∷ append_assoc xs ys before j) then version_place_of all (kept (x ∷ append_assoc xs ys before j)).version ∷ [] else []) ++ places-append all xs ys before j)
+    ∙ sym (append_assoc (if is_commit (x ∷ (xs ++ (ys ++ before))) then version_place_of all (kept (x ∷ (xs ++ (ys ++ before)))).version ∷ [] else []) (places_of all xs (ys ++ before)) (places_of all ys before))
 
 -- only an End of Data commits
 no_commit : (u : Unit) (items : List Item) → is_end u ≡ false → is_commit (Reads u ∷ items) ≡ false
 no_commit (EndOfData session serial refresh retry expire) items h = absurd (let e : true ≡ false = h in cc)
 no_commit u items h = refl
 
-one_place : (b : Bool) (p : Option Place) → ((if b then p ∷ [] else []) ++ []) ≡ (if b then p ∷ [] else [])
+one_place : (b : Bool) (p : Option VersionPlace) → ((if b then p ∷ [] else []) ++ []) ≡ (if b then p ∷ [] else [])
 one_place true p = refl
 one_place false p = refl
 
 unit_places : (all : List Instance) (l : Link) (out : List ℕ) (u : Unit) (items : List Item) (b : Bool) → is_commit (Reads u ∷ items) ≡ b
-    → places_of all (asked_by l out ++ Reads u ∷ []) items ≡ (if b then place_of all (kept (Reads u ∷ items)).version ∷ [] else [])
-unit_places all l out u items b e = asked l out ∙ one_place (is_commit (Reads u ∷ items)) p ∙ ap (λ x. if x then place_of all (kept (Reads u ∷ items)).version ∷ [] else []) e
+    → places_of all (asked_by l out ++ Reads u ∷ []) items ≡ (if b then version_place_of all (kept (Reads u ∷ items)).version ∷ [] else [])
+unit_places all l out u items b e = asked l out ∙ one_place (is_commit (Reads u ∷ items)) p ∙ ap (λ x. if x then version_place_of all (kept (Reads u ∷ items)).version ∷ [] else []) e
   where
-    p : Option Place
-    p = place_of all (kept (Reads u ∷ items)).version
+    p : Option VersionPlace
+    p = version_place_of all (kept (Reads u ∷ items)).version
 
-    asked : (l : Link) (out : List ℕ) → places_of all (asked_by l out ++ Reads u ∷ []) items ≡ (if is_commit (Reads u ∷ items) then place_of all (kept (Reads u ∷ items)).version ∷ [] else []) ++ []
+    asked : (l : Link) (out : List ℕ) → places_of all (asked_by l out ++ Reads u ∷ []) items ≡ (if is_commit (Reads u ∷ items) then version_place_of all (kept (Reads u ∷ items)).version ∷ [] else []) ++ []
     asked (Asked q) [] = refl
     asked (Asked q) (c ∷ out) = refl
     asked Closed out = refl
@@ -81,8 +84,8 @@ unit_adds past i h r u items t (commits version table e v own stands since) = by
     told : Tells k (Reads u ∷ items)
     told = subst (λ l. Tells k (asked_by l k.out ++ Reads u ∷ items)) e t
 
-    place : place_of (i ∷ past) (kept (Reads u ∷ items)).version ≡ Some (place_at f.rank (length stands.older))
-    place = ap (λ x. place_of (i ∷ past) x.version) told.kept_is ∙ ap (place_of (i ∷ past)) v ∙ f.named
+    place : version_place_of (i ∷ past) (kept (Reads u ∷ items)).version ≡ Some (place_at f.rank (length stands.older))
+    place = ap (λ x. version_place_of (i ∷ past) x.version) told.kept_is ∙ ap (version_place_of (i ∷ past)) v ∙ f.named
 
     by_commit : (b : Bool) → is_commit (Reads u ∷ items) ≡ b → Adds past i h (reads u r) items
     by_commit false c = nothing (unit_places (i ∷ past) k.link k.out u items false c)
@@ -150,14 +153,14 @@ module _ (keep : ℕ) (past : List Instance) (i : Instance) (home : Option Insta
       by_memory false = unit_adds past i h k u items (live_unit k r.link u items live refl (record { kept_is = t.kept_is; due_is = t.due_is; now_is = t.now_is; none = none }) t.link) brings
 
   -- what holds between two bytes
-  pub record Goes (items : List Item) (places : List (Option Place)) (down : List ℕ) (m : Receiving) : Type 0 where
+  pub record Goes (items : List Item) (places : List (Option VersionPlace)) (down : List ℕ) (m : Receiving) : Type 0 where
     pub seen : Option Seen
     pub good : GoodRouter (i ∷ past) i seen conn up down m.router
     pub tells : Tells m.router (m.items ++ items)
     pub is_seen : IsSeen keep home seen
     pub order : Ordered past i (places_of (i ∷ past) m.items items ++ places) seen
 
-  adds_goes : (items : List Item) (places : List (Option Place)) (down : List ℕ) (m : Receiving) (n : Noted) (wanting : Option ℕ) (seen : Option Seen) (h : Seen) → seen ≡ Some h → Adds past i h n (m.items ++ items) → GoodRouter (i ∷ past) i seen conn up down n.router
+  adds_goes : (items : List Item) (places : List (Option VersionPlace)) (down : List ℕ) (m : Receiving) (n : Noted) (wanting : Option ℕ) (seen : Option Seen) (h : Seen) → seen ≡ Some h → Adds past i h n (m.items ++ items) → GoodRouter (i ∷ past) i seen conn up down n.router
       → Tells n.router ((n.items ++ m.items) ++ items) → IsSeen keep home seen → Ordered past i (places_of (i ∷ past) m.items items ++ places) seen → Goes items places down (record { router = n.router; items = n.items ++ m.items; wanting = wanting })
   adds_goes items places down m n wanting seen h e (nothing none) g t s o = record {
     seen = seen;
@@ -176,7 +179,7 @@ module _ (keep : ℕ) (past : List Instance) (i : Instance) (home : Option Insta
         (ordered_more past i h (places_of (i ∷ past) m.items items ++ places) version.session version.serial table stands f own since (subst (λ x. Ordered past i (places_of (i ∷ past) m.items items ++ places) x) e o));
   }
 
-  goes_byte : (items : List Item) (places : List (Option Place)) (tail : List ℕ) (b : ℕ) (rest : List ℕ) (m : Receiving) → router_stops m.router ≡ false → Goes items places (b ∷ rest ++ tail) m → Goes items places (rest ++ tail) (router_byte m b)
+  goes_byte : (items : List Item) (places : List (Option VersionPlace)) (tail : List ℕ) (b : ℕ) (rest : List ℕ) (m : Receiving) → router_stops m.router ≡ false → Goes items places (b ∷ rest ++ tail) m → Goes items places (rest ++ tail) (router_byte m b)
   unfolding router_byte
   goes_byte items places tail b rest m on g =
       let parts = and_parts (is_reading m.router.link) (is_none m.router.out) (not_true (is_reading m.router.link && is_none m.router.out) on) in
@@ -188,6 +191,6 @@ module _ (keep : ℕ) (past : List Instance) (i : Instance) (home : Option Insta
       (byte_good (i ∷ past) i g.seen conn up (rest ++ tail) m b on g.good) (byte_tells m b items on g.tells) g.is_seen g.order
 
   -- it is handed a piece
-  pub goes_fed : (items : List Item) (places : List (Option Place)) (tail : List ℕ) (m : Receiving) (piece : List ℕ) → Goes items places (piece ++ tail) m
+  pub goes_fed : (items : List Item) (places : List (Option VersionPlace)) (tail : List ℕ) (m : Receiving) (piece : List ℕ) → Goes items places (piece ++ tail) m
       → Goes items places ((feed (λ x. router_stops x.router) router_byte m piece).rest ++ tail) (feed (λ x. router_stops x.router) router_byte m piece).machine
   goes_fed items places tail m piece g = feed_keeps (λ x. router_stops x.router) router_byte (λ rest x. Goes items places (rest ++ tail) x) (goes_byte items places tail) m piece g

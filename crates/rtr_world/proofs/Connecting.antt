@@ -3,7 +3,7 @@ use Rattle.std.specs.Prelude.{◌≡◌, ℕ, ◌-◌, ◌<◌, ◌^◌, ◌==�
 use Rattle.std.proofs.Common.{sym, ap, ◌∙◌, subst, arith, inr, inl}
 use Rattle.std.proofs.lemmas.Bool.{cases_Bool}
 use Rattle.std.specs.declared.alloc.AllocError.{AllocError}
-use Rattle.vrps.specs.Instance.{Instance, Version, versions_from}
+use Rattle.vrps.specs.Instance.{Instance, NumberedSet, versions_from}
 use Rattle.vrps.specs.Serial.{serial_at}
 use Rattle.vrps.specs.Steps.{HoldsSteps, Steps}
 use Rattle.vrps.specs.Stores.{newest}
@@ -11,12 +11,13 @@ use Rattle.vrps.specs.VrpSet.{VrpSet}
 use Rattle.vrps.specs.declared.serial.Serial.{Serial}
 use Rattle.rtr_ends.specs.Cache.{Conn, new_conn}
 use Rattle.rtr_ends.specs.CacheState.{Opens, ShowsCache}
-use Rattle.rtr_ends.specs.Router.{Router, Connects, ask, called, close, connects_at}
-use Rattle.rtr_ends.specs.Shown.{IsShown}
+use Rattle.rtr_ends.specs.LinkRules.{Router, ask}
+use Rattle.rtr_ends.specs.Router.{Connects, called, close, connects_at}
+use Rattle.rtr_ends.specs.RouterShown.{IsShown}
 use Rattle.rtr_ends.specs.declared.cache.Cache.{Cache}
 use Rattle.rtr_ends.specs.declared.cache.Conn.{Conn as Number}
 use Rattle.rtr_world.specs.History.{is_used}
-use Rattle.rtr_world.specs.Shown.{Begins, ConnIs, Has, IsSince, MadeAt, MadeWhere, Moves, ShowsSide, state_of}
+use Rattle.rtr_world.specs.SideShown.{BeginsEvent, ConnIs, Has, IsSince, MadeAt, MadeWhere, Moves, ShowsSide, state_of}
 use Rattle.rtr_world.specs.World.{World, Side, Connect, connects, cut, instances, side_step}
 use Rattle.rtr_world.specs.declared.side.Side as values
 use Rattle.rtr_world.proofs.Moving.{and_then, clocked_same, none_conn, none_some, put, put_here, put_there}
@@ -25,13 +26,13 @@ use Rattle.rtr_world.proofs.Versions.{equal_of, same_number}
 -- the serial that was current
 pub current_none : (start : ℕ) (sets : List VrpSet) (serial : ℕ) → start ≡ serial → serial < 2 ^ 32 → None ≡ newest (versions_from start sets) → serial ≡ serial_at start (length sets - 1)
 current_none start [] serial is fits h = grind (arith, is, fits)
-current_none start (set ∷ older) serial is fits h = absurd (let k : ◌≡◌ {A = Option Version} None (newest (versions_from start (set ∷ older))) = h in cc)
+current_none start (set ∷ older) serial is fits h = absurd (let k : ◌≡◌ {A = Option NumberedSet} None (newest (versions_from start (set ∷ older))) = h in cc)
 
-pub current_some : (start : ℕ) (sets : List VrpSet) (v : Version) → Some v ≡ newest (versions_from start sets) → v.serial ≡ serial_at start (length sets - 1)
-current_some start [] v h = absurd (let k : ◌≡◌ {A = Option Version} (Some v) None = h in cc)
-current_some start (now ∷ older) v h = ap (λ (x : Version). x.serial) (inside h) ∙ ap (serial_at start) (let n : length older ≡ length (now ∷ older) - 1 = omega arith in n)
+pub current_some : (start : ℕ) (sets : List VrpSet) (v : NumberedSet) → Some v ≡ newest (versions_from start sets) → v.serial ≡ serial_at start (length sets - 1)
+current_some start [] v h = absurd (let k : ◌≡◌ {A = Option NumberedSet} (Some v) None = h in cc)
+current_some start (now ∷ older) v h = ap (λ (x : NumberedSet). x.serial) (inside h) ∙ ap (serial_at start) (let n : length older ≡ length (now ∷ older) - 1 = omega arith in n)
   where
-    inside : {a b : Version} → Some a ≡ Some b → a ≡ b
+    inside : {a b : NumberedSet} → Some a ≡ Some b → a ≡ b
     inside h = cc
 
 -- a connection that is made now
@@ -60,11 +61,11 @@ module _ (w : World) (at : ℕ → Option Conn) (s : Side) (between later : Cach
   abbrev Now : Side → Type 0
   Now t = Moves w at old.conn t later new
 
-  pub connect_fails : (result : Result ⊤ AllocError) (opened : Result Number AllocError) (error refused : AllocError) → result ≡ Err error → opened ≡ Err refused → Opens HoldsSteps (state_of w m.now) opened later → new ≡ mid → Begins w at Connect s Now result
+  pub connect_fails : (result : Result ⊤ AllocError) (opened : Result Number AllocError) (error refused : AllocError) → result ≡ Err error → opened ≡ Err refused → Opens HoldsSteps (state_of w m.now) opened later → new ≡ mid → BeginsEvent w at Connect s Now result
   unfolding cut
   connect_fails result opened error refused is was opens same =
       let served : ShowsCache HoldsSteps (state_of w m.now) later = subst (λ r. Opens HoldsSteps (state_of w m.now) r later) was opens in
-      subst (λ r. Begins w at Connect s Now r) (sym is) (record {
+      subst (λ r. BeginsEvent w at Connect s Now r) (sym is) (record {
         bytes = 0;
         fewer = omega arith;
         may = tt;
@@ -80,7 +81,7 @@ module _ (w : World) (at : ℕ → Option Conn) (s : Side) (between later : Cach
       })
 
   pub connected : (conn : Number) (serial : Serial) (opened : Result Number AllocError) → opened ≡ Ok conn → Opens HoldsSteps (state_of w m.now) opened later → IsShown (called (Connects 0) s.router).router new.router
-      → new.conn ≡ Some conn → new.up ≡ [] → new.down ≡ [] → new.made ≡ Some serial → serial.0 ≡ serial_at w.present.start (length w.present.sets - 1) → Begins w at Connect s Now (Ok tt)
+      → new.conn ≡ Some conn → new.up ≡ [] → new.down ≡ [] → new.made ≡ Some serial → serial.0 ≡ serial_at w.present.start (length w.present.sets - 1) → BeginsEvent w at Connect s Now (Ok tt)
   unfolding side_step connects connects_at
   connected conn serial opened was opens router conn_is up down made serial_is =
       let opens_so : Opens HoldsSteps (state_of w m.now) (Ok conn) later = subst (λ r. Opens HoldsSteps (state_of w m.now) r later) was opens in

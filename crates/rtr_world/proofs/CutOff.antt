@@ -2,11 +2,12 @@
 use Rattle.std.specs.Prelude.{◌≡◌, ℕ, Bool, true, false, List, [], ◌∷◌, Option, Some, None, if◌then◌else◌, refl}
 use Rattle.std.proofs.Common.{sym, subst}
 use Rattle.vrps.specs.Instance.{Instance}
-use Rattle.rtr_ends.specs.Router.{Link, Closed, Idle, Asked, Answering, Ended, closed_at, is_closed}
+use Rattle.rtr_ends.specs.Router.{closed_at}
+use Rattle.rtr_ends.specs.RouterLink.{Link, Closed, Idle, Asked, Answering, Ended, is_closed}
 use Rattle.rtr_world.specs.CaughtUp.{IsCutOff, IsOff}
 use Rattle.rtr_world.specs.History.{Done, Memory, after, side_at}
 use Rattle.rtr_world.specs.World.{Side, World, SideEvent, Cut, On, cut, instances, is_refused, noted, settle, settle_conn, settle_link, settle_rest, settle_wire, settled, side_part, side_refused, side_step, tell_closed}
-use Rattle.rtr_world.proofs.Answered.{told_closes}
+use Rattle.rtr_world.proofs.AnswersRead.{told_closes}
 use Rattle.rtr_world.proofs.CatchUpSettling.{is_closed_link}
 use Rattle.rtr_world.proofs.CatchUpSteps.{map_same, on_same, stepped_at}
 

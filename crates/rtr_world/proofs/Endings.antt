@@ -11,10 +11,14 @@ use Rattle.rtr_pdu.specs.declared.unit.Unit.{Unit}
 use Rattle.rtr_ends.specs.declared.link.End.TheVariants as ends
 use Rattle.rtr_ends.specs.Cache.{Conn, is_none, finds_memory}
 use Rattle.rtr_ends.specs.Feeding.{feed}
-use Rattle.rtr_ends.specs.Router.{Router, Link, LinkTells, Closed, Idle, Asked, Answering, Ended, Noted, Receiving, asked_by, on_unit, may_lack, reads, lacks, with_bytes, is_reading, router_stops, router_byte, expired, clocked, is_closed, close, is_due, is_idle, asks_if, emptied, connects_at, closed_at, ticks_at, asks, receives, of_received}
+use Rattle.rtr_ends.specs.LinkRules.{Router, on_unit, may_lack, emptied}
+use Rattle.rtr_ends.specs.Router.{Noted, Receiving, asked_by, reads, lacks, with_bytes, router_stops, router_byte, expired, clocked, close, asks_if, connects_at, closed_at, ticks_at, asks, receives, of_received}
+use Rattle.rtr_ends.specs.RouterLaws.{LinkTells}
+use Rattle.rtr_ends.specs.RouterLink.{Link, Closed, Idle, Asked, Answering, Ended, is_reading, is_closed, is_due, is_idle}
 use Rattle.rtr_ends.specs.Transcript.{Question, AskReset, AskSerial, Item, At, Reads, outstanding, question_of, is_serial, is_over, later, sum_of, retry_of}
 use Rattle.rtr_ends.proofs.FeedingLaws.{feed_keeps}
-use Rattle.rtr_ends.proofs.KeptLaws.{Tells, byte_tells, clocked_tells, not_true}
+use Rattle.rtr_ends.proofs.KeptUnits.{Tells}
+use Rattle.rtr_ends.proofs.KeptLaws.{byte_tells, clocked_tells, not_true}
 use Rattle.rtr_ends.proofs.TableLaws.{false_true}
 use Rattle.rtr_world.specs.Claims.{IsLawfulEnd, OfAnother}
 use Rattle.rtr_world.specs.History.{conn_due}
@@ -22,12 +26,12 @@ use Rattle.rtr_world.specs.OneAnswer.{NotifiesOf, without_notifies}
 use Rattle.rtr_world.specs.World.{Side, World, Ending, instances, SideEvent, RouterRestart, Connect, RouterSends, CacheGets, CacheSends, RouterGets, Cut, NotifyRouter, Ask, Tick, is_ended, ending_of, noted, connects, router_restarts, router_sends, cache_sends, cache_gets, router_gets, cut, side_step, side_part, side_refused, tell_closed, settle}
 use Rattle.rtr_world.proofs.Folding.{Blind, sends_keep, gets_keep, notifies_keep, settle_keeps}
 use Rattle.rtr_world.proofs.Invariant.{Flow, GoodRouter, Good, Shape}
-use Rattle.rtr_world.proofs.RouterSteps.{right_response}
+use Rattle.rtr_world.proofs.UnitsAtRouters.{right_response}
 use Rattle.rtr_world.proofs.SideSteps.{live_of, byte_good, clocked_good}
-use Rattle.rtr_world.proofs.Streams.{ByteCase, partly, wholly, byte_case}
-use Rattle.rtr_world.proofs.TableLaws.{SideTells}
+use Rattle.rtr_world.proofs.UnitStreams.{ByteCase, partly, wholly, byte_case}
+use Rattle.rtr_world.proofs.KeptTables.{SideTells}
 use Rattle.rtr_world.proofs.UnitCases.{Brings, goes_on, ends_other, ends_memory, commits, unit_brings}
-use Rattle.rtr_world.proofs.Seen.{Seen, IsSeen}
+use Rattle.rtr_world.proofs.LinkedSides.{Seen, IsSeen}
 
 -- a link that ended did so lawfully, at the last item
 abbrev pub LawfulLink : Link → List Item → Option Instance → Type 0

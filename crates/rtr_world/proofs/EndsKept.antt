@@ -2,7 +2,8 @@
 use Rattle.std.specs.Prelude.{◌≡◌, ℕ, zero, suc, Bool, true, false, List, [], ◌∷◌, ◌++◌, map, take, Option, None, if◌then◌else◌, refl}
 use Rattle.std.proofs.Common.{sym, ap, subst, inl, inr}
 use Rattle.vrps.specs.Instance.{Instance}
-use Rattle.rtr_ends.specs.Router.{Link, Closed, Idle, Asked, Answering, Ended, Noted, asks, clocked, close, closed_at, connects_at, is_closed, of_received, receives, ticks_at}
+use Rattle.rtr_ends.specs.Router.{Noted, asks, clocked, close, closed_at, connects_at, of_received, receives, ticks_at}
+use Rattle.rtr_ends.specs.RouterLink.{Link, Closed, Idle, Asked, Answering, Ended, is_closed}
 use Rattle.rtr_ends.specs.Transcript.{Item}
 use Rattle.rtr_world.specs.Claims.{EndsKept, NoneDropped, OneMore}
 use Rattle.rtr_world.specs.History.{Done, SessionUsed, TooManyVersions, NoSuchRouter, Memory}

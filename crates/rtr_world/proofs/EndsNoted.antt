@@ -5,7 +5,8 @@ use Rattle.std.specs.List.{AllByRecursion}
 use Rattle.vrps.specs.Instance.{Instance}
 use Rattle.rtr_ends.specs.declared.link.End.{End}
 use Rattle.rtr_ends.specs.Cache.{Conn}
-use Rattle.rtr_ends.specs.Router.{Link, Ended, Noted, connects_at, ticks_at, asks, receives, of_received, router_pulled}
+use Rattle.rtr_ends.specs.Router.{Noted, connects_at, ticks_at, asks, receives, of_received, router_pulled}
+use Rattle.rtr_ends.specs.RouterLink.{Link, Ended}
 use Rattle.rtr_ends.specs.Transcript.{outstanding}
 use Rattle.rtr_world.specs.World.{Side, World, instances, SideEvent, RouterRestart, Connect, RouterSends, CacheGets, CacheSends, RouterGets, Cut, NotifyRouter, Ask, Tick, is_ended, ending_of, noted, connects, router_restarts, router_sends, sends_from, cache_sends, gets_at, cache_gets, router_gets, cut, notifies_at, side_refused, side_step}
 use Rattle.rtr_world.specs.Claims.{EndsNoted, NotesEnd, NotesEnds, NotesRefused}

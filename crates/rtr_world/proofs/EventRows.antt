@@ -13,10 +13,12 @@ use Rattle.rtr_pdu.specs.declared.unit.Unit.TheVariants.{SerialNotify, SerialQue
 use Rattle.rtr_ends.specs.declared.link.End.TheVariants as ends
 use Rattle.rtr_ends.specs.Answer.{report, sent, sent_all}
 use Rattle.rtr_ends.specs.Cache.{Conn, new_conn, conn_takes, conn_byte, conn_pulled, conn_notified}
-use Rattle.rtr_ends.specs.Router.{Router, Idle, Asked, new_router, on_unit, router_byte, receives, clocked, connects_at, closed_at, ticks_at, asks, router_pulled}
+use Rattle.rtr_ends.specs.LinkRules.{Router, new_router, on_unit}
+use Rattle.rtr_ends.specs.Router.{router_byte, receives, clocked, connects_at, closed_at, ticks_at, asks, router_pulled}
+use Rattle.rtr_ends.specs.RouterLink.{Idle, Asked}
 use Rattle.rtr_ends.specs.Timing.{default_intervals}
 use Rattle.rtr_ends.specs.Transcript.{At, Opened, Asks, Reads, Refused, Restarts, Shut, Item, AskReset, AskSerial, Committed}
-use Rattle.rtr_ends.proofs.Rows.{v, v_ascends, cache, with_all_of, reset_bytes, response_bytes, v_bytes, end_bytes}
+use Rattle.rtr_ends.proofs.WholeAnswerRows.{v, v_ascends, cache, with_all_of, reset_bytes, response_bytes, v_bytes, end_bytes}
 use Rattle.rtr_world.specs.History.{Done, Memory, after, refusal, may_refuse, moved, MayEnd, has_connection, is_near, room_for, room_since}
 use Rattle.rtr_world.specs.World.{Side, World, Publish, Restart, On, RouterRestart, Connect, RouterSends, CacheGets, CacheSends, RouterGets, Cut, NotifyRouter, Ask, Tick, new_side, connects, router_sends, cache_gets, cache_sends, router_gets, router_restarts, cut, side_step, side_refused, settle, goes_through, settled, is_refused}
 

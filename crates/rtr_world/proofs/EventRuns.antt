@@ -4,7 +4,7 @@ use Rattle.std.proofs.Common.{sym, ap, ◌∙◌, subst, append_assoc, arith}
 use Rattle.std.proofs.lemmas.List.{append-nil, map-append, take_more}
 use mir.Val.{bool_byte}
 use Rattle.rtr_world.specs.Claims.{Always}
-use Rattle.rtr_world.specs.Events.{Answers, counts, event_of, fault_of, refused}
+use Rattle.rtr_world.specs.Events.{AnswersOutcome, counts, event_of, outcome_fault, refused}
 use Rattle.rtr_world.specs.History.{Entry, Made}
 use Rattle.rtr_world.specs.Reached.{LeadsTo, RunsSo, RunsTo, StepsTo}
 use Rattle.rtr_world.specs.World as model
@@ -13,15 +13,15 @@ use Rattle.rtr_world.specs.declared.event.Event.{Event}
 use Rattle.rtr_world.specs.declared.event.WorldFault.{WorldFault}
 use Rattle.rtr_world.specs.declared.world.World as code
 
-refused_more : (entries : List Entry) (e : Entry) → refused (entries ++ e ∷ []) ≡ refused entries + counts (fault_of e.outcome)
-refused_more [] e = by_fault (fault_of e.outcome)
+refused_more : (entries : List Entry) (e : Entry) → refused (entries ++ e ∷ []) ≡ refused entries + counts (outcome_fault e.outcome)
+refused_more [] e = by_fault (outcome_fault e.outcome)
   where
     by_fault : (f : Option WorldFault) → counts f + 0 ≡ 0 + counts f
     by_fault None = refl
     by_fault (Some f) = refl
-refused_more (x ∷ entries) e = ap (λ n. counts (fault_of x.outcome) + n) (refused_more entries e) ∙ omega arith
+refused_more (x ∷ entries) e = ap (λ n. counts (outcome_fault x.outcome) + n) (refused_more entries e) ∙ omega arith
 
-counts_is : (f : Option WorldFault) (result : Result ⊤ WorldFault) → Answers f result → cond (is_err result) 1 0 ≡ counts f
+counts_is : (f : Option WorldFault) (result : Result ⊤ WorldFault) → AnswersOutcome f result → cond (is_err result) 1 0 ≡ counts f
 counts_is None (Ok x) h = refl
 counts_is None (Err e) h = absurd (let x : false ≡ true = h in cc)
 counts_is (Some f) result h = ap (λ r. cond (is_err r) 1 0) h
@@ -38,7 +38,7 @@ one_more made history all n old new event result r step =
     record {
       more = r.more ++ e ∷ [];
       events_are = map-append (λ x. x.event) r.more (e ∷ []) ∙ ap (λ x. x ++ event ∷ []) r.events_are;
-      count_is = (λ i. r.count_is i + counts_is (fault_of s.outcome) result s.answers i) ∙ sym (refused_more r.more e);
+      count_is = (λ i. r.count_is i + counts_is (outcome_fault s.outcome) result s.answers i) ∙ sym (refused_more r.more e);
       leads = subst (λ x. LeadsTo made x new) (append_assoc history r.more (e ∷ [])) s.leads;
     }
 

@@ -6,25 +6,27 @@ use Rattle.vrps.specs.Instance.{Instance}
 use Rattle.rtr_pdu.specs.declared.unit.Unit.{Unit}
 use Rattle.rtr_ends.specs.Answer.{sent}
 use Rattle.rtr_ends.specs.Cache.{Conn, conn_pulled, conn_takes, pulled_count}
-use Rattle.rtr_ends.specs.Router.{Router, Link, Closed, Idle, Asked, Answering, Ended, is_closed, is_reading, close, clocked, is_due, is_idle, asks_if, connects_at, closed_at, ticks_at, asks, receives, router_pulled}
+use Rattle.rtr_ends.specs.LinkRules.{Router}
+use Rattle.rtr_ends.specs.Router.{close, clocked, asks_if, connects_at, closed_at, ticks_at, asks, receives, router_pulled}
+use Rattle.rtr_ends.specs.RouterLink.{Link, Closed, Idle, Asked, Answering, Ended, is_closed, is_reading, is_due, is_idle}
 use Rattle.rtr_ends.specs.Transcript.{choose, At, Item, Question, query}
 use Rattle.rtr_ends.proofs.KeptLaws.{clocked_tells}
 use Rattle.rtr_world.specs.OneAnswer.{IsOfNow}
-use Rattle.rtr_world.specs.Place.{Place}
+use Rattle.rtr_world.specs.VersionPlaces.{VersionPlace}
 use Rattle.rtr_world.specs.History.{conn_due}
 use Rattle.rtr_world.specs.World.{Side, World, instances, timing, SideEvent, RouterRestart, Connect, RouterSends, CacheGets, CacheSends, RouterGets, Cut, NotifyRouter, Ask, Tick, noted, places_of, connects, router_restarts, router_sends, sends_from, cache_sends, gets_at, cache_gets, router_gets, cut, notifies_at, side_step, side_part, side_refused, tell_closed, close_ended, settle_conn, settle_link, settle_rest, settle_wire, settle}
 use Rattle.rtr_world.proofs.CacheMoves as cache
 use Rattle.rtr_world.proofs.Commits.{goes_fed}
 use Rattle.rtr_world.proofs.Invariant.{OwnSession, IfOpen, Open, GoodLink, GoodRouter, Good}
 use Rattle.rtr_world.proofs.Places.{Ordered, ordered_connects, ordered_none}
-use Rattle.rtr_world.proofs.RouterSteps.{first_fits, query_unit}
-use Rattle.rtr_ends.proofs.Bytes.{drop_none}
+use Rattle.rtr_world.proofs.UnitsAtRouters.{first_fits, query_unit}
+use Rattle.rtr_ends.proofs.ByteLists.{drop_none}
 use Rattle.rtr_ends.proofs.KeptLaws.{not_due}
 use Rattle.rtr_world.proofs.SideSteps.{live_map, clocked_good, close_shut, asks_good}
-use Rattle.rtr_world.proofs.Streams.{Stream}
-use Rattle.rtr_world.proofs.TableLaws.{SideTells}
+use Rattle.rtr_world.proofs.UnitStreams.{Stream}
+use Rattle.rtr_world.proofs.KeptTables.{SideTells}
 use Rattle.rtr_world.proofs.Versions.{Present}
-use Rattle.rtr_world.proofs.Seen.{Seen, IsSeen, seen_at}
+use Rattle.rtr_world.proofs.LinkedSides.{Seen, IsSeen, seen_at}
 
 -- what is sent, and what is left of it
 sent_first : (most : ℕ) (held up out : List ℕ) (units : List Unit) → Stream held (up ++ out) units → Stream held ((up ++ take most out) ++ drop most out) units
@@ -246,7 +248,7 @@ module _ (w : World) (p : Present (instances w) w.present) where
   ticks_places now true r items = refl
   ticks_places now false r items = refl
 
-  no_places : (s : Side) (g : GoodS s) (more : List (Option Place)) → more ≡ [] → Ordered w.past w.present (more ++ s.places) g.seen
+  no_places : (s : Side) (g : GoodS s) (more : List (Option VersionPlace)) → more ≡ [] → Ordered w.past w.present (more ++ s.places) g.seen
   no_places s g more e = subst (λ x. Ordered w.past w.present (x ++ s.places) g.seen) (sym e) g.order
 
   pub step_good : (event : SideEvent) (wanting : Option ℕ) (s : Side) → GoodS s → SideTells s → GoodS (side_step w event wanting s)

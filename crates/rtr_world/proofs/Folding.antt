@@ -3,7 +3,7 @@ use Rattle.std.specs.Prelude.{ℕ, Bool, true, false, List, [], ◌∷◌, Optio
 use Rattle.std.proofs.Common.{sym, subst}
 use Rattle.vrps.specs.Instance.{Instance}
 use Rattle.rtr_ends.specs.Cache.{Conn}
-use Rattle.rtr_ends.specs.Router.{Link, Closed, Idle, Asked, Answering, Ended}
+use Rattle.rtr_ends.specs.RouterLink.{Link, Closed, Idle, Asked, Answering, Ended}
 use Rattle.rtr_world.specs.History.{Outcome, MayEnd, after, refusal, Entry, IsEvent, LeadsFrom}
 use Rattle.rtr_world.specs.World.{Side, World, Event, close_ended, settle, settle_conn, settle_link, settle_rest, settle_wire, tell_closed, sends_from, gets_at, notifies_at}
 

@@ -5,12 +5,12 @@ use Rattle.std.specs.declared.alloc.AllocError.{AllocError}
 use Rattle.vrps.specs.Steps.{Steps}
 use Rattle.rtr_ends.specs.Cache.{Conn}
 use Rattle.rtr_ends.specs.Router.{Noted}
-use Rattle.rtr_ends.specs.Shown.{IsShown}
+use Rattle.rtr_ends.specs.RouterShown.{IsShown}
 use Rattle.rtr_ends.specs.Transcript.{Item, Refused}
 use Rattle.rtr_ends.specs.declared.cache.Cache.{Cache}
 use Rattle.rtr_ends.specs.declared.router.Router as routers
 use Rattle.rtr_world.specs.Events.{side_event_of}
-use Rattle.rtr_world.specs.Shown.{AloneAt, Begins, Goes, Happens, Moves, Passes, ShowsSide}
+use Rattle.rtr_world.specs.SideShown.{AloneAt, BeginsEvent, Goes, Happens, Moves, Passes, ShowsSide}
 use Rattle.rtr_world.specs.World as model
 use Rattle.rtr_world.specs.World.{World, Side, cut, instances, noted, settle, side_part, side_refused, side_step}
 use Rattle.rtr_world.specs.declared.event.SideEvent.{SideEvent}
@@ -19,13 +19,13 @@ use Rattle.rtr_world.proofs.Moving.{and_then}
 
 module _ (w : World) (at : ℕ → Option Conn) where
   -- the event of a case
-  pub of_case : (e f : SideEvent) (s : Side) (Now : Side → Type 0) (result : Result ⊤ AllocError) → e ≡ f → Begins w at (side_event_of f) s Now result → Begins w at (side_event_of e) s Now result
-  of_case e f s Now result is h = subst (λ x. Begins w at (side_event_of x) s Now result) (sym is) h
+  pub of_case : (e f : SideEvent) (s : Side) (Now : Side → Type 0) (result : Result ⊤ AllocError) → e ≡ f → BeginsEvent w at (side_event_of f) s Now result → BeginsEvent w at (side_event_of e) s Now result
+  of_case e f s Now result is h = subst (λ x. BeginsEvent w at (side_event_of x) s Now result) (sym is) h
 
   pub passes : (e : model.SideEvent) (s : Side) (Now : Side → Type 0) → Now (side_step w e None s) → Passes w at e s Now
   passes e s Now h = record { wanting = None; wanted = tt; now = h }
 
-  pub begins_as : (e : model.SideEvent) (s : Side) (P Q : Side → Type 0) (result : Result ⊤ AllocError) → ((t : Side) → P t → Q t) → Begins w at e s P result → Begins w at e s Q result
+  pub begins_as : (e : model.SideEvent) (s : Side) (P Q : Side → Type 0) (result : Result ⊤ AllocError) → ((t : Side) → P t → Q t) → BeginsEvent w at e s P result → BeginsEvent w at e s Q result
   begins_as e s P Q (Ok done) f h = record { wanting = h.wanting; wanted = h.wanted; now = f _ h.now }
   begins_as e s P Q (Err error) f h = record { bytes = h.bytes; fewer = h.fewer; may = h.may; part = h.part; cut_is = h.cut_is; now = f _ h.now }
 
@@ -50,7 +50,7 @@ module _ (w : World) (at : ℕ → Option Conn) where
   refused_settles e s old mid n between later bytes m settles = and_then w at old.conn (side_refused w e bytes None s) _ between later mid n m (settles w m.now (side_refused w e bytes None s) m.shows)
 
   -- with the cut where memory is wanting, and the clean-up
-  pub happens : (e : model.SideEvent) (s : Side) (old v mid n : values.Side) (cache between later : Cache Steps) (result : Result ⊤ AllocError) → Begins w at e s (λ t. Moves w at old.conn t cache v) result
+  pub happens : (e : model.SideEvent) (s : Side) (old v mid n : values.Side) (cache between later : Cache Steps) (result : Result ⊤ AllocError) → BeginsEvent w at e s (λ t. Moves w at old.conn t cache v) result
       → (is_err result ≡ true → Goes (λ w s. cut 0 s) cache v between mid) → (is_err result ≡ false → (between ≡ cache) × (mid ≡ v)) → Goes (λ w s. settle (instances w) s) between mid later n → Happens w at e s (λ t. Moves w at old.conn t later n) result
   happens e s old v mid n cache between later (Ok done) b cuts stays settles =
       let same = stays refl in

@@ -7,7 +7,7 @@ use Rattle.rtr_world.specs.History.{Outcome, Done, SessionUsed, TooManyVersions,
 use Rattle.rtr_world.specs.World.{Side, World, instances, SideEvent, Event, Publish, Restart, On, cache_gone, on_side, goes_through, settled, is_refused, side_step, side_refused, settle, new_side, new_world}
 use Rattle.rtr_world.proofs.Invariant.{Good}
 use Rattle.rtr_world.proofs.SideLaws.{all_new, all_on_side, all_map, all_both}
-use Rattle.rtr_world.proofs.TableLaws.{SideTells, AllTell, after_tells, history_tells, new_side_tells}
+use Rattle.rtr_world.proofs.KeptTables.{SideTells, AllTell, after_tells, history_tells, new_side_tells}
 use Rattle.rtr_world.proofs.WorldSteps.{GoodWorld, after_good, history_good, new_good}
 
 -- what is known of a side at an event

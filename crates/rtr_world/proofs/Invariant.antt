@@ -9,15 +9,16 @@ use Rattle.rtr_ends.specs.Answer.{answer, report}
 use Rattle.rtr_ends.specs.Cache.{Conn}
 use Rattle.rtr_ends.specs.Commit.{Commits}
 use Rattle.rtr_ends.specs.Connection.{IsLater, takes_memory}
-use Rattle.rtr_ends.specs.Router.{Router, Link, Closed, Idle, Asked, Answering, Ended, Staged, Stays, Wrong, Over, stage}
+use Rattle.rtr_ends.specs.LinkRules.{Router, Staged, Stays, Wrong, Over, stage}
+use Rattle.rtr_ends.specs.RouterLink.{Link, Closed, Idle, Asked, Answering, Ended}
 use Rattle.rtr_ends.specs.Transcript.{Begun, Committed, Question, AskReset, AskSerial, query, base_of, led_to}
 use Rattle.rtr_world.specs.History.{conn_due}
 use Rattle.rtr_world.specs.OneAnswer.{EndsWith, NotifiesOf, announced_in, withdrawn_in, without_notifies}
 use Rattle.rtr_world.specs.World.{Side, timing}
 use Rattle.rtr_world.proofs.Places.{Ordered}
-use Rattle.rtr_world.proofs.Streams.{Stream}
+use Rattle.rtr_world.proofs.UnitStreams.{Stream}
 use Rattle.rtr_world.proofs.Versions.{Stands, TableAt, find_session}
-use Rattle.rtr_world.proofs.Seen.{Seen, IsSeen}
+use Rattle.rtr_world.proofs.LinkedSides.{Seen, IsSeen}
 
 abbrev pub after_stage : Staged → (Begun → Type 0) → Type 0
 after_stage (Stays a) Goes = Goes a

@@ -8,13 +8,15 @@ use Rattle.vrps.specs.Instance.{Instance}
 use Rattle.vrps.specs.Steps.{HoldsSteps, Steps}
 use Rattle.rtr_ends.specs.Cache.{Conn, conn_notified, is_none}
 use Rattle.rtr_ends.specs.CacheState.{ShowsCache, has_bytes_at, is_open_at, notified}
-use Rattle.rtr_ends.specs.Router.{Router, Link, Closed, Idle, Asked, Answering, Ended, Closes, called, clocked, close, closed_at, is_closed, judged}
-use Rattle.rtr_ends.specs.Shown.{IsShown}
+use Rattle.rtr_ends.specs.LinkRules.{Router}
+use Rattle.rtr_ends.specs.Router.{Closes, called, clocked, close, closed_at, judged_by_clock}
+use Rattle.rtr_ends.specs.RouterLink.{Link, Closed, Idle, Asked, Answering, Ended, is_closed}
+use Rattle.rtr_ends.specs.RouterShown.{IsShown}
 use Rattle.rtr_ends.specs.Transcript.{later}
 use Rattle.rtr_ends.specs.declared.cache.Cache.{Cache}
 use Rattle.rtr_ends.specs.declared.cache.Conn.{Conn as Number}
 use Rattle.rtr_ends.specs.declared.router.Router as routers
-use Rattle.rtr_world.specs.Shown.{AloneAt, ConnIs, Has, IsNewSide, Moves, Shows, ShowsSide, state_of}
+use Rattle.rtr_world.specs.SideShown.{AloneAt, ConnIs, Has, IsNewSide, Moves, ShowsBoth, ShowsSide, state_of}
 use Rattle.rtr_world.specs.World.{World, Side, close_ended, cut, instances, is_ended, noted, notifies_at, router_restarts, settle_conn, settle_link, settle_rest, settle_wire, tell_closed, timing}
 use Rattle.rtr_world.specs.declared.side.Side as values
 use Rattle.rtr_world.proofs.Versions.{equal_of, same_number, some_is}
@@ -45,7 +47,7 @@ has_or_not (Some number) n = elim (cases_Bool (number.0 == n)) [
 ]
 
 -- the cache is left alone
-pub alone : (w : World) (at : ℕ → Option Conn) (s t : Side) (cache : Cache Steps) (old new : values.Side) → Shows w at s cache old → AloneAt w at t old new → Moves w at old.conn t cache new
+pub alone : (w : World) (at : ℕ → Option Conn) (s t : Side) (cache : Cache Steps) (old new : values.Side) → ShowsBoth w at s cache old → AloneAt w at t old new → Moves w at old.conn t cache new
 alone w at s t cache old new h a = record {
   now = at;
   shows = record { serves = h.serves; side = a.shows };
@@ -56,7 +58,7 @@ alone w at s t cache old new h a = record {
 
 -- only the connection under this number is another
 pub at_number : (w : World) (at : ℕ → Option Conn) (t : Side) (cache : Cache Steps) (number : Number) (o : Option Conn) (new : values.Side)
-    → Shows w (put number.0 o at) t cache new → ((n : ℕ) → Has new.conn n → number.0 ≡ n) → (IsSome o → Has new.conn number.0) → Moves w at (Some number) t cache new
+    → ShowsBoth w (put number.0 o at) t cache new → ((n : ℕ) → Has new.conn n → number.0 ≡ n) → (IsSome o → Has new.conn number.0) → Moves w at (Some number) t cache new
 at_number w at t cache number o new h same keeps = record {
   now = put number.0 o at;
   shows = h;
@@ -110,7 +112,7 @@ and_then w at old s t between later v n m k = record {
     first c (inr none) = was c (at c) refl none
 
 -- The connection of a side is closed.
-pub closes : (w : World) (at : ℕ → Option Conn) (s : Side) (cache later : Cache Steps) (old new : values.Side) (number : Number) → Shows w at s cache old → old.conn ≡ Some number
+pub closes : (w : World) (at : ℕ → Option Conn) (s : Side) (cache later : Cache Steps) (old new : values.Side) (number : Number) → ShowsBoth w at s cache old → old.conn ≡ Some number
     → ShowsCache HoldsSteps (state_of w (put number.0 None at)) later → new ≡ record old { conn = None } → Moves w at old.conn (record s { conn = None }) later new
 closes w at s cache later old new number h is served now =
     subst (λ c. Moves w at c (record s { conn = None }) later new) (sym is)
@@ -143,7 +145,7 @@ no_conn at None (Some o) e is = absurd is
 no_conn at (Some n) o e is = absurd (let k : ◌≡◌ {A = Option Number} (Some n) None = e in cc)
 
 -- What the cache does on the connection of a side goes over into a side with this connection.
-pub on_cache : (w : World) (at : ℕ → Option Conn) (s t : Side) (cache later : Cache Steps) (old new : values.Side) (number : Number) (y : Conn) → Shows w at s cache old → old.conn ≡ Some number
+pub on_cache : (w : World) (at : ℕ → Option Conn) (s t : Side) (cache later : Cache Steps) (old new : values.Side) (number : Number) (y : Conn) → ShowsBoth w at s cache old → old.conn ≡ Some number
     → ShowsCache HoldsSteps (state_of w (put number.0 (Some y) at)) later → ShowsSide w (put number.0 (Some y) at) t new → new.conn ≡ old.conn → Moves w at old.conn t later new
 on_cache w at s t cache later old new number y h is served shown same =
     subst (λ c. Moves w at c t later new) (sym is)
@@ -158,7 +160,7 @@ pub served_as : (w : World) (at : ℕ → Option Conn) (later : Cache Steps) (c 
     → ShowsCache HoldsSteps (state_of w (put c (option_map f (at c)) at)) later → ShowsCache HoldsSteps (state_of w (put c (Some (f x)) at)) later
 served_as w at later c f x is h = subst (λ o. ShowsCache HoldsSteps (state_of w (put c (option_map f o) at)) later) is h
 
-pub notifies : (w : World) (at : ℕ → Option Conn) (s : Side) (cache later : Cache Steps) (v : values.Side) (number : Number) → Shows w at s cache v → v.conn ≡ Some number
+pub notifies : (w : World) (at : ℕ → Option Conn) (s : Side) (cache later : Cache Steps) (v : values.Side) (number : Number) → ShowsBoth w at s cache v → v.conn ≡ Some number
     → ShowsCache HoldsSteps (notified number.0 (state_of w at)) later → Moves w at v.conn (notifies_at w s s.conn) later v
 notifies w at s cache later v number h is served =
     let there : OnConn at number s.conn = on_conn at v.conn s.conn number is h.side.conn in
@@ -190,7 +192,7 @@ later_same n = grind (arith, nat_tests)
 
 pub clocked_same : (r : Router) → clocked 0 r ≡ clocked r.now r
 unfolding clocked
-clocked_same r = ap (λ n. judged (record r { now = n })) (later_same r.now)
+clocked_same r = ap (λ n. judged_by_clock (record r { now = n })) (later_same r.now)
 
 abbrev told_where : List Instance → Side → Bool → Side
 told_where all s b = if b then record s { home = None } else record (noted all (closed_at s.router.now s.router) s) { home = None }

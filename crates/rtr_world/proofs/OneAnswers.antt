@@ -7,20 +7,21 @@ use Rattle.vrps.specs.VrpSet.{VrpSet}
 use Rattle.rtr_pdu.specs.declared.unit.Unit.{Unit}
 use Rattle.rtr_ends.specs.Answer.{answer}
 use Rattle.rtr_ends.specs.Cache.{Conn}
-use Rattle.rtr_ends.specs.Router.{Link, LinkTells, Closed, Idle, Asked, Answering, Ended, is_closed, is_reading}
+use Rattle.rtr_ends.specs.RouterLaws.{LinkTells}
+use Rattle.rtr_ends.specs.RouterLink.{Link, Closed, Idle, Asked, Answering, Ended, is_closed, is_reading}
 use Rattle.rtr_ends.specs.Transcript.{AskReset, AskSerial, Begun, Committed, Question, base_of, query}
 use Rattle.rtr_ends.proofs.TableLaws.{false_true}
 use Rattle.rtr_world.specs.Claims.{OneAnswerAlways}
-use Rattle.rtr_world.specs.OneAnswer.{Between, ComesOn, Fits, IfResponse, IsAnswer, IsReply, IsWhole, LeadsTo, NotifiesOf, OneAnswer, WasSo, answered, without_notifies}
+use Rattle.rtr_world.specs.OneAnswer.{Between, ComesOn, Fits, IfResponse, IsAnswer, IsReply, IsWholeAnswer, LeadsToPublished, NotifiesOf, OneAnswer, WasSo, answered, without_notifies}
 use Rattle.rtr_world.specs.World.{Side, World, instances, is_ended, timing}
-use Rattle.rtr_world.proofs.Answered.{ReadsSo, SideReads, kept_reads}
+use Rattle.rtr_world.proofs.AnswersRead.{ReadsSo, SideReads, kept_reads}
 use Rattle.rtr_world.proofs.Histories.{Known, history_keeps, history_known}
 use Rattle.rtr_world.proofs.Invariant.{FromCache, Flow, Good, GoodLink, IfOpen, OfAnswer, OneReply, Open, QuestionFits, Replies, Shape, WasCache, no_data, not_kept, other_session, no_memory, read_of, records_of, response}
 use Rattle.rtr_world.proofs.Rests.{Rests, history_rests}
-use Rattle.rtr_world.proofs.Seen.{IsSeen, Seen}
+use Rattle.rtr_world.proofs.LinkedSides.{IsSeen, Seen}
 use Rattle.rtr_world.proofs.SideSteps.{live_of}
-use Rattle.rtr_world.proofs.Streams.{part_of}
-use Rattle.rtr_world.proofs.TableLaws.{SideTells}
+use Rattle.rtr_world.proofs.UnitStreams.{part_of}
+use Rattle.rtr_world.proofs.KeptTables.{SideTells}
 use Rattle.rtr_world.proofs.Versions.{named_at}
 
 -- the instance of the connection
@@ -61,7 +62,7 @@ module _ (w : World) (h : Seen) (keeps : h.keep ≡ w.keep) where
 
   leads_of : (base : VrpSet) (a : Begun) (rest : List Unit) → a.session ≡ h.session → OfAnswer (instances w) h base a rest → IfResponse (instances w) base (read_of a ++ rest)
   leads_of base a rest e o =
-      subst (λ s. LeadsTo (instances w) base s ((records_of false a.withdrawn ++ records_of true a.announced) ++ rest)) (sym e)
+      subst (λ s. LeadsToPublished (instances w) base s ((records_of false a.withdrawn ++ records_of true a.announced) ++ rest)) (sym e)
       (record { serial = o.serial; ends = o.ends; set = o.set; commits = o.commits; published = named_at (instances w) h.session o.serial o.set o.stands })
 
   response_of : (q : Question) (base : VrpSet) (rest : List Unit) → Replies (instances w) h q base rest → IfResponse (instances w) base rest
@@ -89,7 +90,7 @@ module _ (w : World) (h : Seen) (keeps : h.keep ≡ w.keep) where
       let o : OfAnswer (instances w) h (base_of a.question s.router.table) a rest = sh.4 in (
         fits_of h.session a.question s.router.version sh.3,
         told.2,
-        subst (λ x. IsWhole w h.made a.question s.router.table (x ++ rest)) (sym read) (inl (answer_of a.question (read_of a ++ rest) o.from), leads_of (base_of a.question s.router.table) a rest sh.2 o),
+        subst (λ x. IsWholeAnswer w h.made a.question s.router.table (x ++ rest)) (sym read) (inl (answer_of a.question (read_of a ++ rest) o.from), leads_of (base_of a.question s.router.table) a rest sh.2 o),
       )
 
 live_answer : (w : World) (s : Side) → is_reading s.router.link ≡ true → Good w.keep w.past w.present s → SideTells s → SideReads s → OneAnswer w s

@@ -9,12 +9,14 @@ use Rattle.rtr_pdu.specs.Stream.{as_read}
 use Rattle.rtr_pdu.specs.declared.unit.Unit.TheVariants.{CacheResponse, EndOfData, Prefix, SerialNotify}
 use Rattle.rtr_ends.specs.Answer.{sent, sent_all}
 use Rattle.rtr_ends.specs.Cache.{Conn}
-use Rattle.rtr_ends.specs.Router.{Router, Asked, Idle, clocked, closed_at, new_router, on_unit, receives, router_byte}
+use Rattle.rtr_ends.specs.LinkRules.{Router, new_router, on_unit}
+use Rattle.rtr_ends.specs.Router.{clocked, closed_at, receives, router_byte}
+use Rattle.rtr_ends.specs.RouterLink.{Asked, Idle}
 use Rattle.rtr_ends.specs.Timing.{default_intervals}
 use Rattle.rtr_ends.specs.Transcript.{Item, At, Opened, Asks, Reads, Refused, Restarts, Shut, AskReset, AskSerial, Committed, led_to}
-use Rattle.rtr_ends.proofs.Rows.{v, cache, end_bytes, response_bytes}
+use Rattle.rtr_ends.proofs.WholeAnswerRows.{v, cache, end_bytes, response_bytes}
 use Rattle.rtr_world.specs.History.{Done, Memory, after}
-use Rattle.rtr_world.specs.Place.{Place}
+use Rattle.rtr_world.specs.VersionPlaces.{VersionPlace}
 use Rattle.rtr_world.specs.World.{Side, World, On, RouterGets, cut, goes_through, is_refused, new_side, router_gets, settle, settled, side_refused, side_step}
 
 abbrev just_v : VrpSet
@@ -43,7 +45,7 @@ version serial = record { session = 0x1234; serial = serial; moment = 0; interva
 abbrev replied : Instance → Conn
 replied i = record { state = record { cache = i; agreed = true; ended = false; due = []; notified = false }; held = [] }
 
-abbrev place : ℕ → ℕ → Option Place
+abbrev place : ℕ → ℕ → Option VersionPlace
 place instance position = Some (record { instance = instance; position = position })
 
 abbrev asked_since : List Item

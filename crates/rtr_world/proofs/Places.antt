@@ -5,16 +5,16 @@ use Rattle.std.specs.Option.{option_map}
 use Rattle.std.proofs.lemmas.List.{length-append}
 use Rattle.vrps.specs.Instance.{Instance, versions}
 use Rattle.vrps.specs.VrpSet.{VrpSet}
-use Rattle.rtr_world.specs.Place.{Place, position_of, place_named, IsNotAfter, NeverBack}
+use Rattle.rtr_world.specs.VersionPlaces.{VersionPlace, position_of, place_named, IsNotAfter, NeverBack}
 use Rattle.rtr_world.proofs.Versions.{Stands, position_at, find_session, some_is, equal_of, same_number}
-use Rattle.rtr_world.proofs.Seen.{Seen, seen_at}
+use Rattle.rtr_world.proofs.LinkedSides.{Seen, seen_at}
 
 -- how many instances came before that of a session
 abbrev pub rank_of : ℕ → List Instance → Option ℕ
 rank_of session [] = None
 rank_of session (i ∷ older) = if i.session == session then Some (length older) else rank_of session older
 
-abbrev pub place_at : ℕ → ℕ → Place
+abbrev pub place_at : ℕ → ℕ → VersionPlace
 place_at instance position = record { instance = instance; position = position }
 
 -- The place that is named where an instance has this session
@@ -76,7 +76,7 @@ rank_low session (i ∷ older) rank h = by_session (i.session == session) h (ran
     by_session false f on = let k = on f in omega (arith, k)
 
 -- the place of the newest version, or where it will be
-abbrev pub newest_place : List Instance → Instance → Place
+abbrev pub newest_place : List Instance → Instance → VersionPlace
 newest_place past i = place_at (length past) (length i.sets - 1)
 
 pub young_enough : (i : Instance) (newer : List VrpSet) (set : VrpSet) (older : List VrpSet) → i.sets ≡ newer ++ set ∷ older → length older + 1 ≤ length i.sets
@@ -98,18 +98,18 @@ not_after_newest past i session serial set a rank is = by_session (i.session == 
     by_session false r f = inl (rank_low session past rank r)
 
 -- the place that was committed last is not after this one
-abbrev pub LastBefore : List (Option Place) → Place → Type 0
+abbrev pub LastBefore : List (Option VersionPlace) → VersionPlace → Type 0
 LastBefore [] place = ⊤
 LastBefore (last ∷ earlier) place = IsNotAfter last (Some place)
 
-not_after_trans : (last : Option Place) (b c : Place) → IsNotAfter last (Some b) → IsNotAfter (Some b) (Some c) → IsNotAfter last (Some c)
+not_after_trans : (last : Option VersionPlace) (b c : VersionPlace) → IsNotAfter last (Some b) → IsNotAfter (Some b) (Some c) → IsNotAfter last (Some c)
 not_after_trans None b c h k = absurd h
 not_after_trans (Some a) b c (inl h) (inl k) = inl (omega (arith, h, k))
 not_after_trans (Some a) b c (inl h) (inr k) = let e = k.0 in inl (omega (arith, h, e))
 not_after_trans (Some a) b c (inr h) (inl k) = let e = h.0 in inl (omega (arith, e, k))
 not_after_trans (Some a) b c (inr h) (inr k) = let x = h.1 in let y = k.1 in inr (h.0 ∙ k.0, omega (arith, x, y))
 
-pub last_trans : (places : List (Option Place)) (b c : Place) → LastBefore places b → IsNotAfter (Some b) (Some c) → LastBefore places c
+pub last_trans : (places : List (Option VersionPlace)) (b c : VersionPlace) → LastBefore places b → IsNotAfter (Some b) (Some c) → LastBefore places c
 last_trans [] b c h k = tt
 last_trans (last ∷ earlier) b c h k = not_after_trans last b c h k
 
@@ -118,23 +118,23 @@ abbrev pub IfSeen : Option Seen → (Seen → Type 0) → Type 0
 IfSeen None P = ⊤
 IfSeen (Some h) P = P h
 
-pub record Below (all : List Instance) (places : List (Option Place)) (h : Seen) : Type 0 where
+pub record Below (all : List Instance) (places : List (Option VersionPlace)) (h : Seen) : Type 0 where
   pub rank : ℕ
   pub is : rank_of h.session all ≡ Some rank
   pub below : LastBefore places (place_at rank (length h.sets - 1))
 
 -- What was committed is in order, and not after the newest version.
-pub record Ordered (past : List Instance) (i : Instance) (places : List (Option Place)) (seen : Option Seen) : Type 0 where
+pub record Ordered (past : List Instance) (i : Instance) (places : List (Option VersionPlace)) (seen : Option Seen) : Type 0 where
   pub never_back : NeverBack places
   pub current : LastBefore places (newest_place past i)
   pub at_seen : IfSeen seen (Below (i ∷ past) places)
 
 -- a commit
-never_more : (place : Place) (places : List (Option Place)) → LastBefore places place → NeverBack places → NeverBack (Some place ∷ places)
+never_more : (place : VersionPlace) (places : List (Option VersionPlace)) → LastBefore places place → NeverBack places → NeverBack (Some place ∷ places)
 never_more place [] h k = inr (refl, omega arith)
 never_more place (last ∷ earlier) h k = (h, k)
 
-pub ordered_more : (past : List Instance) (i : Instance) (h : Seen) (places : List (Option Place)) (session serial : ℕ) (set : VrpSet) (a : Stands (i ∷ past) session serial set) (f : Found (i ∷ past) session serial (length a.older)) → session ≡ h.session
+pub ordered_more : (past : List Instance) (i : Instance) (h : Seen) (places : List (Option VersionPlace)) (session serial : ℕ) (set : VrpSet) (a : Stands (i ∷ past) session serial set) (f : Found (i ∷ past) session serial (length a.older)) → session ≡ h.session
     → length h.sets ≤ length a.older + 1 → Ordered past i places (Some h) → Ordered past i (Some (place_at f.rank (length a.older)) ∷ places) (Some (record h { sets = set ∷ a.older }))
 ordered_more past i h places session serial set a f own since o =
     let b : Below (i ∷ past) places h = o.at_seen in
@@ -150,15 +150,15 @@ ordered_more past i h places session serial set a f own since o =
     same o m n p q = let e : Some m ≡ Some n = sym p ∙ q in cc
 
 -- no connection
-pub ordered_none : (past : List Instance) (i : Instance) (places : List (Option Place)) (seen : Option Seen) → Ordered past i places seen → Ordered past i places None
+pub ordered_none : (past : List Instance) (i : Instance) (places : List (Option VersionPlace)) (seen : Option Seen) → Ordered past i places seen → Ordered past i places None
 ordered_none past i places seen o = record { never_back = o.never_back; current = o.current; at_seen = tt }
 
 -- a new one
-pub ordered_connects : (keep : ℕ) (past : List Instance) (i : Instance) (places : List (Option Place)) (seen : Option Seen) → Ordered past i places seen → Ordered past i places (Some (seen_at keep i))
+pub ordered_connects : (keep : ℕ) (past : List Instance) (i : Instance) (places : List (Option VersionPlace)) (seen : Option Seen) → Ordered past i places seen → Ordered past i places (Some (seen_at keep i))
 ordered_connects keep past i places seen o = record { never_back = o.never_back; current = o.current; at_seen = record { rank = length past; is = rank_present i past; below = o.current } }
 
 -- a set is published
-pub ordered_published : (past : List Instance) (i : Instance) (y : VrpSet) (places : List (Option Place)) (seen : Option Seen) → Ordered past i places seen → Ordered past (record i { sets = y ∷ i.sets }) places seen
+pub ordered_published : (past : List Instance) (i : Instance) (y : VrpSet) (places : List (Option VersionPlace)) (seen : Option Seen) → Ordered past i places seen → Ordered past (record i { sets = y ∷ i.sets }) places seen
 ordered_published past i y places seen o = record {
   never_back = o.never_back;
   current = last_trans places (newest_place past i) (newest_place past (record i { sets = y ∷ i.sets })) o.current (inr (refl, omega arith));
@@ -170,7 +170,7 @@ ordered_published past i y places seen o = record {
     still (Some k) h = record { rank = h.rank; is = h.is; below = h.below }
 
 -- the cache restarts
-pub ordered_restarted : (past : List Instance) (old i : Instance) (places : List (Option Place)) (seen : Option Seen) → find_session i.session (old ∷ past) ≡ None → Ordered past old places seen → Ordered (old ∷ past) i places seen
+pub ordered_restarted : (past : List Instance) (old i : Instance) (places : List (Option VersionPlace)) (seen : Option Seen) → find_session i.session (old ∷ past) ≡ None → Ordered past old places seen → Ordered (old ∷ past) i places seen
 ordered_restarted past old i places seen new o = record {
   never_back = o.never_back;
   current = last_trans places (newest_place past old) (newest_place (old ∷ past) i) o.current (inl (omega arith));

@@ -7,17 +7,18 @@ use Rattle.vrps.specs.Instance.{Instance}
 use Rattle.vrps.specs.Store.{is_current}
 use Rattle.vrps.specs.VrpSet.{VrpSet}
 use Rattle.rtr_pdu.specs.declared.unit.Unit.TheVariants.{SerialNotify, SerialQuery, ResetQuery, CacheResponse, Prefix, EndOfData, CacheReset, RouterKey, ErrorReport}
-use Rattle.rtr_ends.specs.Router.{Noted, asks, closed_at, connects_at, is_closed, of_received, receives, ticks_at}
-use Rattle.rtr_ends.specs.Transcript.{Begun, Committed, Item, At, Opened, Asks, Reads, Lacks, Breaks, Refused, Shut, Restarts, Kept, acts_once, at_end, base_of, bounded, differs, does_commit, emptied_if, has_agreed, is_commit, is_over, is_serial, is_wrong, kept, later, led_to, moment, nothing, outstanding, responded, session_of, under_way, waiting}
+use Rattle.rtr_ends.specs.Router.{Noted, asks, closed_at, connects_at, of_received, receives, ticks_at}
+use Rattle.rtr_ends.specs.RouterLink.{is_closed}
+use Rattle.rtr_ends.specs.Transcript.{Begun, Committed, Item, At, Opened, Asks, Reads, Lacks, Breaks, Refused, Shut, Restarts, Kept, acts_once, at_end_of_data, base_of, bounded, differs, does_commit, emptied_if, has_agreed, is_commit, is_over, is_serial, is_wrong, kept, later, led_to, moment, nothing, outstanding, responded, session_of, under_way, waiting}
 use Rattle.rtr_world.specs.Claims.{HasPlaces, IsLastPlace, PlacesNoted, commits_in}
 use Rattle.rtr_world.specs.History.{Outcome, Done, SessionUsed, TooManyVersions, NoSuchRouter, Memory, MayEnd, after, all_have_room, is_used, refusal, room_for, room_since}
-use Rattle.rtr_world.specs.Place.{Place, place_of}
+use Rattle.rtr_world.specs.VersionPlaces.{VersionPlace, version_place_of}
 use Rattle.rtr_world.specs.World.{Side, World, instances, SideEvent, RouterRestart, Connect, RouterSends, CacheGets, CacheSends, RouterGets, Cut, NotifyRouter, Ask, Tick, Event, Publish, Restart, On, cache_gets, cache_gone, cache_sends, connects, cut, goes_through, is_refused, new_world, noted, on_side, places_of, router_gets, router_restarts, router_sends, settle, settled, side_part, side_refused, side_step, tell_closed}
 use Rattle.rtr_world.proofs.Folding.{Blind, gets_keep, leads_keep, notifies_keep, sends_keep, settle_keeps}
 use Rattle.rtr_world.proofs.Invariant.{Good}
 use Rattle.rtr_world.proofs.Places.{place_at, rank_restarted, stands_found}
 use Rattle.rtr_world.proofs.SideLaws.{all_both, all_map, all_new, all_on_side}
-use Rattle.rtr_world.proofs.TableLaws.{AllTell, SideTells, after_tells, new_side_tells}
+use Rattle.rtr_world.proofs.KeptTables.{AllTell, SideTells, after_tells, new_side_tells}
 use Rattle.rtr_world.proofs.Versions.{Present, TableAt, find_session, stands_published, stands_restarted}
 use Rattle.rtr_world.proofs.WorldSteps.{GoodWorld, after_good, new_good, none_found, or_cases, published_so, restarted_so, room_after}
 
@@ -29,7 +30,7 @@ emptied_leaves : (b : Bool) (k : Kept) → Leaves k.version (emptied_if b k).ver
 emptied_leaves true k = inl refl
 emptied_leaves false k = inr refl
 
-end_leaves : (answer : Option Begun) (version : Committed) (k : Kept) → does_commit answer version.session k.table ≡ false → Leaves k.version (at_end answer version k).version
+end_leaves : (answer : Option Begun) (version : Committed) (k : Kept) → does_commit answer version.session k.table ≡ false → Leaves k.version (at_end_of_data answer version k).version
 end_leaves None version k none = inr refl
 end_leaves (Some a) version k none = by_test (version.session == a.session) (acts_once (base_of a.question k.table) a.withdrawn a.announced) none
   where
@@ -61,34 +62,34 @@ item_leaves Restarts items none = inl refl
 
 -- What a transcript gains
 module _ (all : List Instance) where
-  last_new : (version : Option Committed) (places : List (Option Place)) → IsLastPlace all version (place_of all version ∷ places)
+  last_new : (version : Option Committed) (places : List (Option VersionPlace)) → IsLastPlace all version (version_place_of all version ∷ places)
   last_new None places = tt
   last_new (Some version) places = refl
 
-  last_left : (old new : Option Committed) (places : List (Option Place)) → Leaves old new → IsLastPlace all old places → IsLastPlace all new places
+  last_left : (old new : Option Committed) (places : List (Option VersionPlace)) → Leaves old new → IsLastPlace all old places → IsLastPlace all new places
   last_left old new places (inl none) h = subst (λ x. IsLastPlace all x places) (sym none) tt
   last_left old new places (inr same) h = subst (λ x. IsLastPlace all x places) (sym same) h
 
-  one_more : (item : Item) (items : List Item) (places : List (Option Place)) → HasPlaces all items places
-      → HasPlaces all (item ∷ items) ((if is_commit (item ∷ items) then place_of all (kept (item ∷ items)).version ∷ [] else []) ++ places)
+  one_more : (item : Item) (items : List Item) (places : List (Option VersionPlace)) → HasPlaces all items places
+      → HasPlaces all (item ∷ items) ((if is_commit (item ∷ items) then version_place_of all (kept (item ∷ items)).version ∷ [] else []) ++ places)
   one_more item items places h = by_commit (is_commit (item ∷ items)) refl
     where
-      by_commit : (b : Bool) → is_commit (item ∷ items) ≡ b → HasPlaces all (item ∷ items) ((if is_commit (item ∷ items) then place_of all (kept (item ∷ items)).version ∷ [] else []) ++ places)
+      by_commit : (b : Bool) → is_commit (item ∷ items) ≡ b → HasPlaces all (item ∷ items) ((if is_commit (item ∷ items) then version_place_of all (kept (item ∷ items)).version ∷ [] else []) ++ places)
       by_commit true e = record {
-        count = (λ j. length ((if e j then place_of all (kept (item ∷ items)).version ∷ [] else []) ++ places)) ∙ ap suc h.count ∙ (λ j. if sym e j then suc (commits_in items) else commits_in items);
-        last = subst (λ b. IsLastPlace all (kept (item ∷ items)).version ((if b then place_of all (kept (item ∷ items)).version ∷ [] else []) ++ places)) (sym e) (last_new (kept (item ∷ items)).version places);
+        count = (λ j. length ((if e j then version_place_of all (kept (item ∷ items)).version ∷ [] else []) ++ places)) ∙ ap suc h.count ∙ (λ j. if sym e j then suc (commits_in items) else commits_in items);
+        last = subst (λ b. IsLastPlace all (kept (item ∷ items)).version ((if b then version_place_of all (kept (item ∷ items)).version ∷ [] else []) ++ places)) (sym e) (last_new (kept (item ∷ items)).version places);
       }
       by_commit false e = record {
-        count = (λ j. length ((if e j then place_of all (kept (item ∷ items)).version ∷ [] else []) ++ places)) ∙ h.count ∙ (λ j. if sym e j then suc (commits_in items) else commits_in items);
-        last = subst (λ b. IsLastPlace all (kept (item ∷ items)).version ((if b then place_of all (kept (item ∷ items)).version ∷ [] else []) ++ places)) (sym e)
+        count = (λ j. length ((if e j then version_place_of all (kept (item ∷ items)).version ∷ [] else []) ++ places)) ∙ h.count ∙ (λ j. if sym e j then suc (commits_in items) else commits_in items);
+        last = subst (λ b. IsLastPlace all (kept (item ∷ items)).version ((if b then version_place_of all (kept (item ∷ items)).version ∷ [] else []) ++ places)) (sym e)
             (last_left (kept items).version (kept (item ∷ items)).version places (item_leaves item items e) h.last);
       }
 
-  more : (items before : List Item) (places : List (Option Place)) → HasPlaces all before places → HasPlaces all (items ++ before) (places_of all items before ++ places)
+  more : (items before : List Item) (places : List (Option VersionPlace)) → HasPlaces all before places → HasPlaces all (items ++ before) (places_of all items before ++ places)
   more [] before places h = h
   more (item ∷ items) before places h =
       subst (λ x. HasPlaces all (item ∷ (items ++ before)) x)
-      (sym (append_assoc (if is_commit (item ∷ (items ++ before)) then place_of all (kept (item ∷ (items ++ before))).version ∷ [] else []) (places_of all items before) places))
+      (sym (append_assoc (if is_commit (item ∷ (items ++ before)) then version_place_of all (kept (item ∷ (items ++ before))).version ∷ [] else []) (places_of all items before) places))
       (one_more item (items ++ before) (places_of all items before ++ places) (more items before places h))
 
   abbrev SidePlaces : Side → Type 0
@@ -147,7 +148,7 @@ same_rank : (m n : ℕ) → Some m ≡ Some n → m ≡ n
 same_rank m n e = cc
 
 place_published : (past : List Instance) (i : Instance) (y : VrpSet) → Present (i ∷ past) i → (version : Option Committed) (table : VrpSet) → room_for i version ≡ true → TableAt (i ∷ past) version table
-    → place_of (i ∷ past) version ≡ place_of (record i { sets = y ∷ i.sets } ∷ past) version
+    → version_place_of (i ∷ past) version ≡ version_place_of (record i { sets = y ∷ i.sets } ∷ past) version
 place_published past i y p None table room t = refl
 place_published past i y p (Some version) table room t =
     let s = stands_published past i y version.session version.serial table t (room_after 0 past i y p version table t room) in
@@ -156,7 +157,7 @@ place_published past i y p (Some version) table room t =
     let ranks : f.rank ≡ g.rank = same_rank f.rank g.rank (sym f.is ∙ g.is) in
     f.named ∙ (λ j. Some (place_at (ranks j) (length (sym s.1 j)))) ∙ sym g.named
 
-place_restarted : (all : List Instance) (i : Instance) → find_session i.session all ≡ None → (version : Option Committed) (table : VrpSet) → TableAt all version table → place_of all version ≡ place_of (i ∷ all) version
+place_restarted : (all : List Instance) (i : Instance) → find_session i.session all ≡ None → (version : Option Committed) (table : VrpSet) → TableAt all version table → version_place_of all version ≡ version_place_of (i ∷ all) version
 place_restarted all i new None table t = refl
 place_restarted all i new (Some version) table t =
     let s = stands_restarted all i version.session version.serial table new t in
@@ -165,15 +166,15 @@ place_restarted all i new (Some version) table t =
     let ranks : f.rank ≡ g.rank = same_rank f.rank g.rank (sym (rank_restarted i all version.session f.rank new f.is) ∙ g.is) in
     f.named ∙ (λ j. Some (place_at (ranks j) (length (sym s.1 j)))) ∙ sym g.named
 
-last_moved : (all more : List Instance) (version : Option Committed) (places : List (Option Place)) → place_of all version ≡ place_of more version → IsLastPlace all version places → IsLastPlace more version places
+last_moved : (all more : List Instance) (version : Option Committed) (places : List (Option VersionPlace)) → version_place_of all version ≡ version_place_of more version → IsLastPlace all version places → IsLastPlace more version places
 last_moved all more None places same h = tt
 last_moved all more (Some version) [] same h = h
 last_moved all more (Some version) (last ∷ earlier) same h = h ∙ same
 
-places_moved : (all more : List Instance) (s : Side) → SideTells s → place_of all s.router.version ≡ place_of more s.router.version → SidePlaces all s → SidePlaces more s
+places_moved : (all more : List Instance) (s : Side) → SideTells s → version_place_of all s.router.version ≡ version_place_of more s.router.version → SidePlaces all s → SidePlaces more s
 places_moved all more s t same h =
     let e : (kept s.items).version ≡ s.router.version = ap (λ k. k.version) t.tells.kept_is in
-    record { count = h.count; last = last_moved all more (kept s.items).version s.places (subst (λ v. place_of all v ≡ place_of more v) (sym e) same) h.last }
+    record { count = h.count; last = last_moved all more (kept s.items).version s.places (subst (λ v. version_place_of all v ≡ version_place_of more v) (sym e) same) h.last }
 
 -- what is known at an event
 abbrev AllPlaces : World → Type 0

@@ -2,7 +2,7 @@
 use Rattle.std.specs.Prelude.{◌≡◌, ℕ, ◌+◌, ◌-◌, ◌%◌, ◌^◌, ◌<◌, ◌==◌, ◌&&◌, ◌||◌, Bool, true, false, List, [], ◌∷◌, length, find, Option, Some, None, is_some, Result, Ok, Err, if◌then◌else◌, refl, ⊤}
 use Rattle.std.proofs.Common.{sym, ap, ◌∙◌, subst, arith, zero, suc}
 use Rattle.std.specs.declared.alloc.AllocError.{AllocError}
-use Rattle.vrps.specs.Instance.{Instance, Version, versions_from}
+use Rattle.vrps.specs.Instance.{Instance, NumberedSet, versions_from}
 use Rattle.vrps.specs.Serial.{serial_at}
 use Rattle.vrps.specs.Store.{is_current, is_same, published}
 use Rattle.vrps.specs.Steps.{HoldsSteps}
@@ -14,8 +14,8 @@ use Rattle.vrps.specs.declared.store.Published.TheVariants.{New, Unchanged}
 use Rattle.rtr_ends.specs.Cache.{Conn}
 use Rattle.rtr_ends.specs.CacheState.{ShowsCache}
 use Rattle.rtr_world.specs.History.{Done, Memory, TooManyVersions, MayEnd, Reached, after, all_have_room, is_near, is_used, refusal, room_for, room_since, side_at}
-use Rattle.rtr_world.specs.Reached.{ShowsAt, ShowsParts, ShowsRest, ShowsWorld, Steps}
-use Rattle.rtr_world.specs.Shown.{MadeAt, MadeTo, MadeWhere, state_of}
+use Rattle.rtr_world.specs.Reached.{ShowsAt, ShowsParts, ShowsRest, ShowsWorld, StepsOnce}
+use Rattle.rtr_world.specs.SideShown.{MadeAt, MadeTo, MadeWhere, state_of}
 use Rattle.rtr_world.specs.World.{World, Side, Publish, goes_through, instances, is_refused, settled}
 use Rattle.rtr_world.specs.declared.event.WorldFault.{WorldFault}
 use Rattle.rtr_world.specs.declared.event.WorldFault.TheVariants as faults
@@ -29,28 +29,28 @@ use Rattle.rtr_world.proofs.Versions.{lt_of}
 -- the current set
 pub no_current : (sets : List VrpSet) (start : ℕ) (set : VrpSet) → None ≡ newest (versions_from start sets) → false ≡ is_current sets set
 no_current [] start set h = refl
-no_current (now ∷ older) start set h = absurd (let k : ◌≡◌ {A = Option Version} None (newest (versions_from start (now ∷ older))) = h in cc)
+no_current (now ∷ older) start set h = absurd (let k : ◌≡◌ {A = Option NumberedSet} None (newest (versions_from start (now ∷ older))) = h in cc)
 
-pub some_current : (sets : List VrpSet) (start : ℕ) (set : VrpSet) (v : Version) → Some v ≡ newest (versions_from start sets) → is_same v.set set ≡ is_current sets set
-some_current [] start set v h = absurd (let k : ◌≡◌ {A = Option Version} (Some v) None = h in cc)
-some_current (now ∷ older) start set v h = ap (λ (x : Version). is_same x.set set) (inside h)
+pub some_current : (sets : List VrpSet) (start : ℕ) (set : VrpSet) (v : NumberedSet) → Some v ≡ newest (versions_from start sets) → is_same v.set set ≡ is_current sets set
+some_current [] start set v h = absurd (let k : ◌≡◌ {A = Option NumberedSet} (Some v) None = h in cc)
+some_current (now ∷ older) start set v h = ap (λ (x : NumberedSet). is_same x.set set) (inside h)
   where
-    inside : {a b : Version} → Some a ≡ Some b → a ≡ b
+    inside : {a b : NumberedSet} → Some a ≡ Some b → a ≡ b
     inside h = cc
 
 -- the serial of the next version
 pub first_next : (start : ℕ) (sets : List VrpSet) (serial : ℕ) → start ≡ serial → start < 2 ^ 32 → None ≡ newest (versions_from start sets) → serial ≡ serial_at start (length sets)
 first_next start [] serial is fits h = grind (arith, is, fits)
-first_next start (set ∷ older) serial is fits h = absurd (let k : ◌≡◌ {A = Option Version} None (newest (versions_from start (set ∷ older))) = h in cc)
+first_next start (set ∷ older) serial is fits h = absurd (let k : ◌≡◌ {A = Option NumberedSet} None (newest (versions_from start (set ∷ older))) = h in cc)
 
-pub later_next : (start : ℕ) (sets : List VrpSet) (v : Version) → Some v ≡ newest (versions_from start sets) → (v.serial + 1) % 2 ^ 32 ≡ serial_at start (length sets)
-later_next start [] v h = absurd (let k : ◌≡◌ {A = Option Version} (Some v) None = h in cc)
+pub later_next : (start : ℕ) (sets : List VrpSet) (v : NumberedSet) → Some v ≡ newest (versions_from start sets) → (v.serial + 1) % 2 ^ 32 ≡ serial_at start (length sets)
+later_next start [] v h = absurd (let k : ◌≡◌ {A = Option NumberedSet} (Some v) None = h in cc)
 later_next start (now ∷ older) v h =
-    let e : v.serial ≡ serial_at start (length older) = ap (λ (x : Version). x.serial) (inside h) in
+    let e : v.serial ≡ serial_at start (length older) = ap (λ (x : NumberedSet). x.serial) (inside h) in
     ap (λ n. (n + 1) % 2 ^ 32) e ∙ (let k : ((start + length older) % 2 ^ 32 + 1) % 2 ^ 32 ≡ (start + (length older + 1)) % 2 ^ 32 = omega arith in k)
     ∙ ap (λ n. (start + n) % 2 ^ 32) (let k : length older + 1 ≡ length (now ∷ older) = omega arith in k)
   where
-    inside : {a b : Version} → Some a ≡ Some b → a ≡ b
+    inside : {a b : NumberedSet} → Some a ≡ Some b → a ≡ b
     inside h = cc
 
 -- What is refused
@@ -62,7 +62,7 @@ pub too_many : (w : World) (set : VrpSet) → (is_current w.present.sets set || 
 unfolding refusal
 too_many w set h = ap (λ b. if b then None else Some TooManyVersions) h
 
-pub refuses_more : (w : World) (v : code.World) (set : VrpSet) → ShowsWorld w v → IsVrpSet set → is_current w.present.sets set ≡ false → all_have_room w.present w.sides ≡ false → Steps w (Publish set) (Err faults.TooManyVersions) v
+pub refuses_more : (w : World) (v : code.World) (set : VrpSet) → ShowsWorld w v → IsVrpSet set → is_current w.present.sets set ≡ false → all_have_room w.present w.sides ≡ false → StepsOnce w (Publish set) (Err faults.TooManyVersions) v
 refuses_more w v set h fits other none = record {
   outcome = TooManyVersions;
   fits = fits;
@@ -85,7 +85,7 @@ publish_sides : (w : World) (set : VrpSet) → Reached w → after (Publish set)
 unfolding settled goes_through
 publish_sides w set was = ap (λ sides. record w { present = published set w.present; sides = sides }) (unsettled (published set w.present ∷ w.past) w.sides (history_rests was.made was.history w was.leads))
 
-pub publishes_nothing : (w : World) (v : code.World) (set : VrpSet) → Reached w → ShowsWorld w v → IsVrpSet set → is_current w.present.sets set ≡ true → Steps w (Publish set) (Ok tt) v
+pub publishes_nothing : (w : World) (v : code.World) (set : VrpSet) → Reached w → ShowsWorld w v → IsVrpSet set → is_current w.present.sets set ≡ true → StepsOnce w (Publish set) (Ok tt) v
 publishes_nothing w v set was h fits same =
     let is : after (Publish set) (Done None) w ≡ w = publish_sides w set was ∙ ap (λ i. record w { present = i }) (unchanged w.present set same) in
     record {
@@ -105,7 +105,7 @@ unfolding is_refused
 shows_same w set v h = h
 
 pub publish_fails : (w : World) (v n : code.World) (set : VrpSet) (result : Result ⊤ WorldFault) → (h : ShowsWorld w v) → IsVrpSet set → all_have_room w.present w.sides ≡ true → result ≡ Err faults.Memory → n ≡ record v { cache = n.cache }
-    → ShowsCache HoldsSteps (state_of w h.at) n.cache → Steps w (Publish set) result n
+    → ShowsCache HoldsSteps (state_of w h.at) n.cache → StepsOnce w (Publish set) result n
 publish_fails w v n set result h fits room is_err same served = record {
   outcome = Memory 0 None;
   fits = fits;
@@ -167,7 +167,7 @@ rooms i (t ∷ sides) h (suc r) s is = rooms i sides (and_right (room_for i t.ro
     and_right false b h = absurd (let k : false ≡ true = h in cc)
 
 pub publishes_new : (w : World) (v n : code.World) (set : VrpSet) (result : Result Published AllocError) (published : Published) → Reached w → (h : ShowsWorld w v) → IsVrpSet set → is_current w.present.sets set ≡ false → all_have_room w.present w.sides ≡ true
-    → n ≡ record v { cache = n.cache } → result ≡ Ok published → Publishes (λ i cache. ShowsCache HoldsSteps (record (state_of w h.at) { cache = i }) cache) result set w.present n.cache → Steps w (Publish set) (Ok tt) n
+    → n ≡ record v { cache = n.cache } → result ≡ Ok published → Publishes (λ i cache. ShowsCache HoldsSteps (record (state_of w h.at) { cache = i }) cache) result set w.present n.cache → StepsOnce w (Publish set) (Ok tt) n
 publishes_new w v n set result published was h fits other room same went told =
     let is : after (Publish set) (Done None) w ≡ with_set w set = publish_sides w set was ∙ ap (λ i. record w { present = i }) (added w.present set other) in
     record {

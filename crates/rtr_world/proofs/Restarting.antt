@@ -7,11 +7,11 @@ use Rattle.vrps.specs.Instance.{Instance}
 use Rattle.vrps.specs.Steps.{HoldsSteps, Steps as Log}
 use Rattle.rtr_ends.specs.Cache.{Conn}
 use Rattle.rtr_ends.specs.CacheState.{ShowsCache}
-use Rattle.rtr_ends.specs.Shown.{IsShown}
+use Rattle.rtr_ends.specs.RouterShown.{IsShown}
 use Rattle.rtr_ends.specs.declared.cache.Cache.{Cache}
 use Rattle.rtr_world.specs.History.{Done, Memory, SessionUsed, MayEnd, after, is_used, refusal, side_at}
-use Rattle.rtr_world.specs.Reached.{HasAt, Lost, LostAt, LoseAll, SettledAll, ShowsAt, ShowsParts, ShowsWorld, Steps}
-use Rattle.rtr_world.specs.Shown.{ConnIs, Has, MadeAt, MadeTo, MadeWhere, ShowsSide, state_of}
+use Rattle.rtr_world.specs.Reached.{HasAt, Lost, LostAt, LoseAll, SettledAll, ShowsAt, ShowsParts, ShowsWorld, StepsOnce}
+use Rattle.rtr_world.specs.SideShown.{ConnIs, Has, MadeAt, MadeTo, MadeWhere, ShowsSide, state_of}
 use Rattle.rtr_world.specs.World.{World, Side, Restart, cache_gone, goes_through, instances, is_refused, settle, settled}
 use Rattle.rtr_world.specs.declared.event.WorldFault.{WorldFault}
 use Rattle.rtr_world.specs.declared.event.WorldFault.TheVariants as faults
@@ -29,7 +29,7 @@ is_taken : (w : World) (session start : ℕ) → is_used (instances w) session �
 unfolding refusal
 is_taken w session start h = ap (λ b. if b then Some SessionUsed else None) h
 
-pub session_used : (w : World) (v : code.World) (session start : ℕ) → ShowsWorld w v → session < 2 ^ 16 → start < 2 ^ 32 → is_used (instances w) session ≡ true → Steps w (Restart session start) (Err faults.SessionUsed) v
+pub session_used : (w : World) (v : code.World) (session start : ℕ) → ShowsWorld w v → session < 2 ^ 16 → start < 2 ^ 32 → is_used (instances w) session ≡ true → StepsOnce w (Restart session start) (Err faults.SessionUsed) v
 session_used w v session start h low fits used = record {
   outcome = SessionUsed;
   fits = (low, fits);
@@ -43,7 +43,7 @@ unfolding is_refused
 stays_so w session start v h = h
 
 pub restart_fails : (w : World) (v n : code.World) (session start : ℕ) (result : Result ⊤ WorldFault) → ShowsWorld w v → session < 2 ^ 16 → start < 2 ^ 32 → is_used (instances w) session ≡ false → result ≡ Err faults.Memory
-    → n.keep ≡ v.keep → n.sessions.items ≡ v.sessions.items → n.session ≡ v.session → n.start ≡ v.start → n.cache ≡ v.cache → n.sides ≡ v.sides → Steps w (Restart session start) result n
+    → n.keep ≡ v.keep → n.sessions.items ≡ v.sessions.items → n.session ≡ v.session → n.start ≡ v.start → n.cache ≡ v.cache → n.sides ≡ v.sides → StepsOnce w (Restart session start) result n
 restart_fails w v n session start result h low fits free is_err keep sessions same_session same_start cache sides = record {
   outcome = Memory 0 None;
   fits = (low, fits);
@@ -130,7 +130,7 @@ unfolding settled goes_through
 after_restart w session start = refl
 
 pub restarts : (w : World) (v n : code.World) (session start : ℕ) → ShowsWorld w v → session < 2 ^ 16 → start < 2 ^ 32 → is_used (instances w) session ≡ false → n.keep ≡ v.keep → n.sessions.items ≡ v.sessions.items ++ session ∷ [] → n.session ≡ session → n.start ≡ start
-    → SettledAll (restarted w session start) n.cache n.sides.items → Steps w (Restart session start) (Ok tt) n
+    → SettledAll (restarted w session start) n.cache n.sides.items → StepsOnce w (Restart session start) (Ok tt) n
 restarts w v n session start h low fits free keep sessions session_is start_is settled_so = record {
   outcome = Done None;
   fits = (low, fits);

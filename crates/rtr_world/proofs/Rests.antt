@@ -4,16 +4,17 @@ use Rattle.std.proofs.Common.{sym, ap, ◌∙◌, subst}
 use Rattle.std.specs.List.{AllByRecursion}
 use Rattle.vrps.specs.Instance.{Instance}
 use Rattle.rtr_ends.specs.Cache.{Conn}
-use Rattle.rtr_ends.specs.Router.{Link, Closed, Idle, Asked, Answering, Ended, closed_at, is_closed}
+use Rattle.rtr_ends.specs.Router.{closed_at}
+use Rattle.rtr_ends.specs.RouterLink.{Link, Closed, Idle, Asked, Answering, Ended, is_closed}
 use Rattle.rtr_ends.proofs.TableLaws.{false_true}
 use Rattle.rtr_world.specs.Claims.{Settles}
 use Rattle.rtr_world.specs.History.{Entry, IsEvent, Leads, LeadsFrom, Made, MayEnd, Memory, NoSuchRouter, Outcome, Done, SessionUsed, TooManyVersions, after, refusal}
 use Rattle.rtr_world.specs.World.{Event, On, Publish, Restart, Side, World, goes_through, close_ended, instances, is_ended, is_refused, new_world, noted, on_side, settle, settle_conn, settle_link, settle_rest, settle_wire, settled, side_refused, tell_closed}
-use Rattle.rtr_world.proofs.Answered.{told_closes}
+use Rattle.rtr_world.proofs.AnswersRead.{told_closes}
 use Rattle.rtr_world.proofs.Folding.{leads_keep}
 use Rattle.rtr_world.proofs.Invariant.{Good, GoodLink}
 use Rattle.rtr_world.proofs.SideLaws.{all_map, all_new}
-use Rattle.rtr_world.proofs.TableLaws.{AllTell, SideTells, after_tells, new_side_tells}
+use Rattle.rtr_world.proofs.KeptTables.{AllTell, SideTells, after_tells, new_side_tells}
 use Rattle.rtr_world.proofs.WorldSteps.{GoodWorld, after_good, new_good, part_so, through_good}
 
 -- a connection at the cache that has not ended, or has bytes due

@@ -11,13 +11,13 @@ use Rattle.vrps.specs.Serial.{serial_at}
 use Rattle.vrps.specs.declared.serial.Serial.{Serial}
 use Rattle.rtr_ends.specs.Transcript.{Committed}
 use Rattle.rtr_world.specs.History.{Reached, all_have_room, is_near, room_for, room_since, side_at}
-use Rattle.rtr_world.specs.Place.{position_of}
-use Rattle.rtr_world.specs.Shown.{MadeAt, MadeWhere, held_of}
+use Rattle.rtr_world.specs.VersionPlaces.{position_of}
+use Rattle.rtr_world.specs.SideShown.{MadeAt, MadeWhere, held_of}
 use Rattle.rtr_world.specs.World.{World, Side, instances}
 use Rattle.rtr_world.proofs.Histories.{Known, history_known}
 use Rattle.rtr_world.proofs.Versions.{Present, Stands, TableAt, equal_of, of_present, position_at}
 use Rattle.rtr_world.proofs.WorldSteps.{GoodWorld, history_good, new_good}
-use Rattle.rtr_world.proofs.TableLaws.{new_side_tells}
+use Rattle.rtr_world.proofs.KeptTables.{new_side_tells}
 use Rattle.rtr_world.proofs.SideLaws.{all_new}
 
 -- a fact of each side is one of this

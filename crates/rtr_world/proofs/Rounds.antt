@@ -5,9 +5,9 @@ use Rattle.std.specs.List.{AllByRecursion}
 use Rattle.std.proofs.lemmas.List.{append-nil}
 use Rattle.rtr_world.specs.CatchUp.{AreMoves, IsMove, IsMoveOf, stepped}
 use Rattle.rtr_world.specs.CaughtUp.{AllWent, AreDone, By, GoesRound, IsCutOff, IsDone, KeepOpen, KeepsOpen, Lacks, Rounded, all_bytes}
-use Rattle.rtr_world.specs.Events.{Answers, fault_of}
+use Rattle.rtr_world.specs.Events.{AnswersOutcome, outcome_fault}
 use Rattle.rtr_world.specs.History.{Outcome, Done, SessionUsed, TooManyVersions, NoSuchRouter, Memory, Entry, Made, Leads, MayEnd, Reached, after, refusal, side_at}
-use Rattle.rtr_world.specs.Reached.{LeadsTo, ShowsWorld, Steps}
+use Rattle.rtr_world.specs.Reached.{LeadsTo, ShowsWorld, StepsOnce}
 use Rattle.rtr_world.specs.World.{World, Side, SideEvent, RouterSends, CacheGets, CacheSends, RouterGets, Cut, On}
 use Rattle.rtr_world.specs.declared.event.WorldFault.{WorldFault}
 use Rattle.rtr_world.specs.declared.world.World as code
@@ -31,7 +31,7 @@ lacks_behind r xs ys w h = record { wanting = λ all. h.wanting (parted (λ e. e
 
 -- what the call on one router promises
 abbrev pub Promises : ℕ → SideEvent → Result ⊤ WorldFault → code.World → code.World → Type 0
-Promises r e result old new = (w : World) → Reached w → ShowsWorld w old → Steps w (On r e) result new
+Promises r e result old new = (w : World) → Reached w → ShowsWorld w old → StepsOnce w (On r e) result new
 
 abbrev pub entry_of : ℕ → SideEvent → Outcome → Entry
 entry_of r e outcome = record { event = On r e; outcome = outcome }
@@ -39,7 +39,7 @@ entry_of r e outcome = record { event = On r e; outcome = outcome }
 -- one step from this world
 pub record Stepped (made : Made) (history : List Entry) (w : World) (r : ℕ) (e : SideEvent) (result : Result ⊤ WorldFault) (new : code.World) : Type 0 where
   pub outcome : Outcome
-  pub answers : Answers (fault_of outcome) result
+  pub answers : AnswersOutcome (outcome_fault outcome) result
   pub may : MayEnd (refusal w (On r e)) w (On r e) outcome
   pub leads : LeadsTo made (history ++ entry_of r e outcome ∷ []) new
   pub is : leads.world ≡ after (On r e) outcome w
@@ -50,7 +50,7 @@ step_of made history old new r e result l on =
     let n : World = after (On r e) s.outcome l.world in
     record { outcome = s.outcome; answers = s.answers; may = s.may; leads = record { world = n; leads = leads_on made history l.world (entry_of r e s.outcome) n l.leads (s.fits, s.may, refl); shows = s.shows }; is = refl }
 
-pub went : (o : Outcome) → Answers (fault_of o) (Ok tt) → (wanting : Option ℕ) × (o ≡ Done wanting)
+pub went : (o : Outcome) → AnswersOutcome (outcome_fault o) (Ok tt) → (wanting : Option ℕ) × (o ≡ Done wanting)
 went (Done wanting) h = (wanting, refl)
 went SessionUsed h = absurd (let k : Err _ ≡ Ok _ = sym h in cc)
 went TooManyVersions h = absurd (let k : Err _ ≡ Ok _ = sym h in cc)
@@ -62,7 +62,7 @@ module _ (r : ℕ) (e : SideEvent) (w : World) (s : Side) (found : side_at r w.s
   no_refusal o may = subst (λ x. MayEnd x w (On r e) o) (found_router w r e (low_of r w.sides s found)) may
 
   -- Where it failed, memory was wanting, and the connection is cut.
-  pub lacked : (o : Outcome) (fault : WorldFault) → Answers (fault_of o) (Err fault) → MayEnd (refusal w (On r e)) w (On r e) o → IsCutOff r (after (On r e) o w) × (o ≡ Done None → ⊥)
+  pub lacked : (o : Outcome) (fault : WorldFault) → AnswersOutcome (outcome_fault o) (Err fault) → MayEnd (refusal w (On r e)) w (On r e) o → IsCutOff r (after (On r e) o w) × (o ≡ Done None → ⊥)
   lacked (Done wanting) fault h may = absurd (let k : ◌≡◌ {A = Bool} false true = h in cc)
   lacked SessionUsed fault h may = absurd (no_refusal SessionUsed may)
   lacked TooManyVersions fault h may = absurd (no_refusal TooManyVersions may)
@@ -121,7 +121,7 @@ module _ (made : Made) (history : List Entry) (r : ℕ) where
     -- One step more went through,
     onward : step ≡ Ok tt → (wanting : Option ℕ) × Along made history r (stepped r e wanting x) (P × (wanting ≡ None)) new
     onward ok =
-        let o = went s.outcome (subst (λ y. Answers (fault_of s.outcome) y) ok s.answers) in (
+        let o = went s.outcome (subst (λ y. AnswersOutcome (outcome_fault s.outcome) y) ok s.answers) in (
           o.0,
           record {
             more = a.more ++ one;
@@ -138,7 +138,7 @@ module _ (made : Made) (history : List Entry) (r : ℕ) where
     pub stops : r < made.routers → (fault : WorldFault) → step ≡ Err fault → (old : World) (result : Result ⊤ WorldFault) (last : WorldFault) → result ≡ Err last → Rounded made history r old result new
     stops low fault err old result last was =
         let there = side_in r a.leads.world.sides (let size = routers_stay made (history ++ a.more) a.leads.world a.leads.leads in omega (arith, low, size)) in
-        let k = lacked r e a.leads.world there.0 there.1 s.outcome fault (subst (λ y. Answers (fault_of s.outcome) y) err s.answers) s.may in
+        let k = lacked r e a.leads.world there.0 there.1 s.outcome fault (subst (λ y. AnswersOutcome (outcome_fault s.outcome) y) err s.answers) s.may in
         let cut : Lacks r one s.leads.world = record { wanting = λ all. k.1 all.0; off = subst (IsCutOff r) (sym s.is) k.0 } in
         record {
           more = a.more ++ one;

@@ -6,7 +6,9 @@ use Rattle.vrps.specs.Instance.{Instance}
 use Rattle.rtr_pdu.specs.declared.version.Version.TheVariants.{V1}
 use Rattle.rtr_pdu.specs.Judging.{Judgement, Begins, Whole, Faulty, judge}
 use Rattle.rtr_ends.specs.Cache.{finds_memory}
-use Rattle.rtr_ends.specs.Router.{Router, Link, Closed, Idle, Asked, Answering, Ended, Call, Connects, Receives, Pulls, Closes, AsksNow, Ticks, called, asked_by, on_unit, may_lack, reads, lacks, with_bytes, router_stops, router_byte, clocked, is_closed, is_due, is_idle, asks, asks_if, connects_at, closed_at, ticks_at, receives}
+use Rattle.rtr_ends.specs.LinkRules.{Router, on_unit, may_lack}
+use Rattle.rtr_ends.specs.Router.{RouterCall, Connects, Receives, Pulls, Closes, AsksNow, Ticks, called, asked_by, reads, lacks, with_bytes, router_stops, router_byte, clocked, asks, asks_if, connects_at, closed_at, ticks_at, receives}
+use Rattle.rtr_ends.specs.RouterLink.{Link, Closed, Idle, Asked, Answering, Ended, is_closed, is_due, is_idle}
 use Rattle.rtr_ends.specs.Transcript.{Item, At, Opened, Asks, Reads, Lacks, Breaks, Shut, Refused, Restarts}
 use Rattle.rtr_ends.proofs.FeedingLaws.{feed_keeps}
 use Rattle.rtr_world.specs.Claims.{IsRun, RoutersRun, since_restart}
@@ -76,7 +78,7 @@ asks_of_call : (b : Bool) (r : Router) → AreOfCall (asks_if b r).items
 asks_of_call true r = (tt, tt)
 asks_of_call false r = tt
 
-call_of_call : (call : Call) (r : Router) → AreOfCall (called call r).items
+call_of_call : (call : RouterCall) (r : Router) → AreOfCall (called call r).items
 unfolding connects_at closed_at ticks_at asks
 call_of_call (Connects now) r = (tt, (tt, (tt, tt)))
 call_of_call (Receives now wanting piece) r = receives_of_call now wanting piece r
@@ -88,7 +90,7 @@ call_of_call (Ticks now) r =
     both_of_call (asks_if (is_due told.link told.due told.now) told).items (At now ∷ []) (asks_of_call (is_due told.link told.due told.now) told) (tt, tt)
 
 -- one call more
-one_more : (call : Call) (r : Router) (items : List Item) → IsRun r items → IsRun (called call r).router ((called call r).items ++ items)
+one_more : (call : RouterCall) (r : Router) (items : List Item) → IsRun r items → IsRun (called call r).router ((called call r).items ++ items)
 one_more call r items h = record {
   calls = call ∷ h.calls;
   router_is = ap (λ x. (called call x).router) h.router_is;

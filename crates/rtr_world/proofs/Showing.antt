@@ -11,8 +11,8 @@ use Rattle.rtr_ends.specs.Cache.{Conn}
 use Rattle.rtr_ends.specs.declared.cache.Cache.{Cache}
 use Rattle.rtr_ends.specs.declared.cache.Conn.{Conn as Number}
 use Rattle.rtr_world.specs.History.{Entry, Leads, LeadsFrom, Made, Reached, WorldStep, after, is_used, side_at}
-use Rattle.rtr_world.specs.Reached.{AreOwn, HasAt, LeadsTo, Lost, LostAt, SettledAll, ShowsAt, ShowsParts, Steps as StepsSo, StepsTo}
-use Rattle.rtr_world.specs.Shown.{ConnIs, Goes, Has, IsNewSide, Moves, ShowsSide}
+use Rattle.rtr_world.specs.Reached.{AreOwn, HasAt, LeadsTo, Lost, LostAt, SettledAll, ShowsAt, ShowsParts, StepsOnce as StepsSo, StepsTo}
+use Rattle.rtr_world.specs.SideShown.{ConnIs, Goes, Has, IsNewSide, Moves, ShowsSide}
 use Rattle.rtr_world.specs.World.{World, Side, Event, instances, new_side, new_sides, on_side, settle}
 use Rattle.rtr_world.specs.declared.event.WorldFault.{WorldFault}
 use Rattle.rtr_world.specs.declared.side.Side as values

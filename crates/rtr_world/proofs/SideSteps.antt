@@ -11,17 +11,19 @@ use Rattle.rtr_pdu.specs.declared.unit.Unit.TheVariants.{SerialNotify}
 use Rattle.rtr_ends.specs.declared.link.End.TheVariants as ends
 use Rattle.rtr_ends.specs.Answer.{sent_all}
 use Rattle.rtr_ends.specs.Cache.{Conn, is_none, finds_memory}
-use Rattle.rtr_ends.specs.Router.{Router, Receiving, Link, Closed, Idle, Asked, Answering, Ended, emptied, on_unit, may_lack, lacks, reads, with_bytes, is_reading, router_stops, router_byte, expired, clocked, is_closed, close, is_idle, asks_if}
+use Rattle.rtr_ends.specs.LinkRules.{Router, emptied, on_unit, may_lack}
+use Rattle.rtr_ends.specs.Router.{Receiving, lacks, reads, with_bytes, router_stops, router_byte, expired, clocked, close, asks_if}
+use Rattle.rtr_ends.specs.RouterLink.{Link, Closed, Idle, Asked, Answering, Ended, is_reading, is_closed, is_idle}
 use Rattle.rtr_ends.specs.Transcript.{choose, Question, AskReset, AskSerial, query, is_serial, is_over, later, sum_of, retry_of}
 use Rattle.rtr_ends.proofs.KeptLaws.{none_is, not_true, same_base}
 use Rattle.rtr_ends.proofs.TableLaws.{false_true}
 use Rattle.rtr_world.specs.History.{conn_due}
 use Rattle.rtr_world.specs.OneAnswer.{NotifiesOf, without_notifies}
 use Rattle.rtr_world.proofs.Invariant.{OfAnswer, Shape, QuestionFits, IfOpen, Open, Flow, Live, GoodLink, GoodRouter}
-use Rattle.rtr_world.proofs.RouterSteps.{Reads, on_notify, on_other, live_link, question_fits, query_unit, open_asking}
-use Rattle.rtr_world.proofs.Streams.{Stream, ByteCase, partly, wholly, byte_case}
+use Rattle.rtr_world.proofs.UnitsAtRouters.{Reads, on_notify, on_other, live_link, question_fits, query_unit, open_asking}
+use Rattle.rtr_world.proofs.UnitStreams.{Stream, ByteCase, partly, wholly, byte_case}
 use Rattle.rtr_world.proofs.Versions.{TableAt}
-use Rattle.rtr_world.proofs.Seen.{Seen}
+use Rattle.rtr_world.proofs.LinkedSides.{Seen}
 
 -- A link keeps its state; what lives goes on to live.
 pub live_map : (l : Link) (all all' : List Instance) (i i' : Instance) (home home' : Option Seen) (r r' : Router) (conn conn' : Option Conn) (up up' down down' : List ℕ)

@@ -6,10 +6,10 @@ use Rattle.std.specs.List.{list_any}
 use Rattle.std.specs.declared.alloc.AllocError.{AllocError}
 use Rattle.vrps.specs.Instance.{Instance}
 use Rattle.rtr_ends.specs.Cache.{Conn}
-use Rattle.rtr_ends.specs.Router.{Link, Closed, Idle, Asked, Answering, Ended, is_closed}
+use Rattle.rtr_ends.specs.RouterLink.{Link, Closed, Idle, Asked, Answering, Ended, is_closed}
 use Rattle.rtr_world.specs.History.{Done, Memory, NoSuchRouter, MayEnd, IsWanted, Reached, after, may_refuse_at, most_of, moved_at, refusal, side_at, wants_at}
-use Rattle.rtr_world.specs.Reached.{ShowsParts, ShowsRest, ShowsWorld, Steps}
-use Rattle.rtr_world.specs.Shown.{Happens, MayFail, Moves}
+use Rattle.rtr_world.specs.Reached.{ShowsParts, ShowsRest, ShowsWorld, StepsOnce}
+use Rattle.rtr_world.specs.SideShown.{Happens, MayFail, Moves}
 use Rattle.rtr_world.specs.World.{World, Side, SideEvent, RouterRestart, Connect, RouterSends, CacheGets, CacheSends, RouterGets, Cut, NotifyRouter, Ask, Tick, On, goes_through, instances, is_refused, on_side, settle, settled, side_refused, side_step}
 use Rattle.rtr_world.specs.declared.event.WorldFault.{WorldFault}
 use Rattle.rtr_world.specs.declared.event.WorldFault.TheVariants as faults
@@ -18,7 +18,7 @@ use Rattle.rtr_world.specs.declared.world.World as code
 use Rattle.rtr_world.proofs.Invariant.{Good, GoodLink}
 use Rattle.rtr_world.proofs.Rests.{history_rests}
 use Rattle.rtr_world.proofs.Room.{reached_known}
-use Rattle.rtr_world.proofs.Seen.{Seen}
+use Rattle.rtr_world.proofs.LinkedSides.{Seen}
 use Rattle.rtr_world.proofs.Showing.{moved, settled_on, shown_length}
 
 -- what the calls on sides leave alone
@@ -53,7 +53,7 @@ no_router : (w : World) (r : ℕ) (e : SideEvent) → length w.sides ≤ r → r
 unfolding refusal
 no_router w r e high = ap (λ b. if b then None else Some NoSuchRouter) (not_less r (length w.sides) high)
 
-pub no_such : (w : World) (v : code.World) (r : ℕ) (e : SideEvent) → ShowsWorld w v → length v.sides.items ≤ r → Steps w (On r e) (Err faults.NoSuchRouter) v
+pub no_such : (w : World) (v : code.World) (r : ℕ) (e : SideEvent) → ShowsWorld w v → length v.sides.items ≤ r → StepsOnce w (On r e) (Err faults.NoSuchRouter) v
 no_such w v r e h high = record {
   outcome = NoSuchRouter;
   fits = tt;
@@ -106,8 +106,8 @@ module _ (w : World) (v n : code.World) (r : ℕ) (e : SideEvent) (s : Side) (ol
   wanted None h = tt
   wanted (Some unit) h = ap (wants_at w e (most_of e) unit) is ∙ h
 
-  pub done : (result : Result ⊤ WorldFault) → result ≡ Ok tt → Happens w h.at e s (λ t. Moves w h.at old.conn t n.cache new) (Ok tt) → Steps w (On router e) result n
-  done result ok p = subst (λ k. Steps w (On k e) result n) router_is (record {
+  pub done : (result : Result ⊤ WorldFault) → result ≡ Ok tt → Happens w h.at e s (λ t. Moves w h.at old.conn t n.cache new) (Ok tt) → StepsOnce w (On router e) result n
+  done result ok p = subst (λ k. StepsOnce w (On k e) result n) router_is (record {
     outcome = Done p.wanting;
     fits = tt;
     may = subst (λ o. MayEnd o w (On r e) (Done p.wanting)) (sym (found_router w r e in_range)) (wanted p.wanting p.wanted);
@@ -115,8 +115,8 @@ module _ (w : World) (v n : code.World) (r : ℕ) (e : SideEvent) (s : Side) (ol
     shows = subst (λ x. ShowsWorld x n) (sym (after_done w r e p.wanting was)) (shown_now (λ s. settle (instances w) (side_step w e p.wanting s)) p.now);
   })
 
-  pub refused : (result : Result ⊤ WorldFault) (error : AllocError) → result ≡ Err faults.Memory → Happens w h.at e s (λ t. Moves w h.at old.conn t n.cache new) (Err error) → Steps w (On router e) result n
-  refused result error is_err p = subst (λ k. Steps w (On k e) result n) router_is (record {
+  pub refused : (result : Result ⊤ WorldFault) (error : AllocError) → result ≡ Err faults.Memory → Happens w h.at e s (λ t. Moves w h.at old.conn t n.cache new) (Err error) → StepsOnce w (On router e) result n
+  refused result error is_err p = subst (λ k. StepsOnce w (On k e) result n) router_is (record {
     outcome = Memory p.bytes None;
     fits = tt;
     may = subst (λ o. MayEnd o w (On r e) (Memory p.bytes None)) (sym (found_router w r e in_range))

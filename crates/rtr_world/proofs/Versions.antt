@@ -4,12 +4,12 @@ use Rattle.std.proofs.Common.{sym, ap, ◌∙◌, subst, arith, inl, inr}
 use Rattle.std.specs.Option.{option_map}
 use Rattle.std.proofs.lemmas.Bool.Decides.{nat_tests}
 use Rattle.std.proofs.lemmas.List.{length-append}
-use Rattle.vrps.specs.Instance.{Instance, IsInstance, Version, versions, versions_from, with_serial, named}
+use Rattle.vrps.specs.Instance.{Instance, IsInstance, NumberedSet, versions, versions_from, with_serial, named}
 use Rattle.vrps.specs.Serial.{serial_at}
 use Rattle.vrps.specs.VrpSet.{VrpSet, empty}
 use Rattle.vrps.proofs.VersionLaws.{names_itself, kept_is_itself}
 use Rattle.rtr_ends.specs.Transcript.{Committed}
-use Rattle.rtr_world.specs.Place.{position_of}
+use Rattle.rtr_world.specs.VersionPlaces.{position_of}
 use Rattle.rtr_world.specs.Claims.{IsNamed}
 
 pub same_number : (n : ℕ) → (n == n) ≡ true
@@ -48,7 +48,7 @@ pub record Stands (all : List Instance) (session serial : ℕ) (set : VrpSet) : 
   pub young : length newer < 2 ^ 31
   pub low : session < 2 ^ 16
 
-abbrev set_in : Option Version → Option VrpSet
+abbrev set_in : Option NumberedSet → Option VrpSet
 set_in o = option_map (λ v. v.set) o
 
 -- so it is named

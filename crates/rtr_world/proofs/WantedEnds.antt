@@ -12,7 +12,9 @@ use Rattle.rtr_ends.specs.declared.link.End.TheVariants as ends
 use Rattle.rtr_ends.specs.Cache.{counted, finds_memory}
 use Rattle.rtr_ends.specs.Connection.{fault_code}
 use Rattle.rtr_ends.specs.Feeding.{feed}
-use Rattle.rtr_ends.specs.Router.{Router, Link, Closed, Idle, Asked, Answering, Ended, Noted, Receiving, Staged, Stays, Wrong, Over, ask, asks, asks_if, clocked, close, closed_at, commit, connects_at, emptied, expired, fails, is_closed, is_due, is_idle, is_news, is_strange, lacks, may_lack, of_received, on_unit, reads, receives, router_byte, router_pulled, router_stops, stage, staged, ticks_at, told, told_off, with_bytes}
+use Rattle.rtr_ends.specs.LinkRules.{Router, Staged, Stays, Wrong, Over, ask, commit, emptied, fails, is_news, is_strange, may_lack, on_unit, stage, staged, ended_by, told_off}
+use Rattle.rtr_ends.specs.Router.{Noted, Receiving, asks, asks_if, clocked, close, closed_at, connects_at, expired, lacks, of_received, reads, receives, router_byte, router_pulled, router_stops, ticks_at, with_bytes}
+use Rattle.rtr_ends.specs.RouterLink.{Link, Closed, Idle, Asked, Answering, Ended, is_closed, is_due, is_idle}
 use Rattle.rtr_ends.specs.Transcript.{At, Question, AskReset, AskSerial, base_of, bounded, is_over, is_serial, is_wrong, later, retry_of, sum_of}
 use Rattle.rtr_ends.proofs.FeedingLaws.{feed_keeps}
 use Rattle.rtr_world.specs.Claims.{NamesNone, NoneByMemory, NotByMemory}
@@ -41,14 +43,14 @@ notified_free : (b c : Bool) (u : Unit) (r : Router) → Free r.link → Free (i
 notified_free true c u r h = tt
 notified_free false c u r h = news_free c r h
 
-report_free : (b : Bool) (code : ℕ) (r : Router) → Free r.link → Free (if b then r else told code r).link
+report_free : (b : Bool) (code : ℕ) (r : Router) → Free r.link → Free (if b then r else ended_by code r).link
 report_free true code r h = h
 report_free false code r h = tt
 
 told_free : (question : Question) (code : ℕ) (r : Router) → Free (told_off question code r).link
 told_free question code r = by_code (code == 2) (code == 0 && is_serial (Some question))
   where
-    by_code : (b c : Bool) → Free (if b then record r { link = Idle; due = Some (sum_of r.now (retry_of r.version)); no_data = true } else if c then told code (emptied r) else told code r).link
+    by_code : (b c : Bool) → Free (if b then record r { link = Idle; due = Some (sum_of r.now (retry_of r.version)); no_data = true } else if c then ended_by code (emptied r) else ended_by code r).link
     by_code true c = tt
     by_code false true = tt
     by_code false false = tt

@@ -9,14 +9,16 @@ use Rattle.rtr_pdu.specs.Stream.{as_read}
 use Rattle.rtr_pdu.specs.declared.unit.Unit.TheVariants.{CacheResponse, EndOfData, Prefix}
 use Rattle.rtr_ends.specs.Answer.{sent_all}
 use Rattle.rtr_ends.specs.Cache.{Conn, new_conn, conn_takes, conn_byte, conn_pulled}
-use Rattle.rtr_ends.specs.Feeding.{Fed, feed}
-use Rattle.rtr_ends.specs.Router.{Router, Receiving, Staged, Stays, Wrong, Over, Idle, Asked, Answering, new_router, stage, staged, is_staged, lacks, asked_by, Noted, on_unit, router_byte, router_stops, receives, clocked, connects_at, closed_at, router_pulled, of_received}
+use Rattle.rtr_ends.specs.Feeding.{FedPiece, feed}
+use Rattle.rtr_ends.specs.LinkRules.{Router, Staged, Stays, Wrong, Over, new_router, stage, staged, is_staged, on_unit}
+use Rattle.rtr_ends.specs.Router.{Receiving, lacks, asked_by, Noted, router_byte, router_stops, receives, clocked, connects_at, closed_at, router_pulled, of_received}
+use Rattle.rtr_ends.specs.RouterLink.{Idle, Asked, Answering}
 use Rattle.rtr_ends.specs.Timing.{default_intervals}
 use Rattle.rtr_ends.specs.Transcript.{At, Opened, Asks, Reads, Shut, Item, Begun, AskReset, Committed, Kept, led_to, nothing}
-use Rattle.rtr_ends.proofs.Rows.{v, w, v_ascends, cache, with_all_of, reset_bytes, response_bytes, v_bytes, end_bytes}
+use Rattle.rtr_ends.proofs.WholeAnswerRows.{v, w, v_ascends, cache, with_all_of, reset_bytes, response_bytes, v_bytes, end_bytes}
 use Rattle.rtr_ends.proofs.FeedingLaws.{feed_on}
 use Rattle.rtr_ends.proofs.TableLaws.{led_from_empty}
-use Rattle.rtr_world.specs.Place.{place_of}
+use Rattle.rtr_world.specs.VersionPlaces.{version_place_of}
 use Rattle.rtr_world.specs.History.{Done, SessionUsed, NoSuchRouter, after, refusal, wants_at}
 use Rattle.rtr_world.specs.World.{Side, World, Publish, Restart, On, Connect, RouterSends, CacheGets, CacheSends, RouterGets, Cut, new_side, new_world, noted, connects, router_sends, cache_gets, cache_sends, router_gets, cut, side_step, settle, goes_through, settled}
 
@@ -77,7 +79,7 @@ unfolding goes_through settled settle side_step cache_sends conn_pulled
 answer_sent = refl
 
 -- What the router reads of it
-abbrev fed : Receiving → List ℕ → Fed Receiving
+abbrev fed : Receiving → List ℕ → FedPiece Receiving
 fed m piece = feed (λ x. router_stops x.router) router_byte m piece
 
 abbrev hears : Receiving
@@ -103,7 +105,7 @@ unfolding router_byte on_unit judge as_read
 response_read = refl
 
 -- a record, by how it is staged
-abbrev by_stage : Staged → Fed Receiving
+abbrev by_stage : Staged → FedPiece Receiving
 by_stage st =
     let k : Router = staged (Prefix true v) st (answering nothing_yet) in
     let n : Noted = if is_staged st && false then lacks (Prefix true v) (answering nothing_yet) else record { router = k; items = asked_by k.link k.out ++ Reads (Prefix true v) ∷ [] } in
@@ -133,7 +135,7 @@ first_51 =
 abbrev read_side : Option Conn → List ℕ → Side
 read_side conn down = record (open_side third.router (replied []) [] down) { conn = conn; items = third.items ++ Asks AskReset ∷ Opened ∷ At 0 ∷ [] }
 
-abbrev after_fed : List ℕ → Fed Receiving → World
+abbrev after_fed : List ℕ → FedPiece Receiving → World
 after_fed left f = settled (world (record (noted (with_v ∷ []) (of_received f) (open_side asking (replied []) [] answer_bytes)) { down = f.rest ++ left }))
 
 read_51 : after (On 0 (RouterGets 51)) (Done None) (world (open_side asking (replied []) [] answer_bytes)) ≡ world (read_side (Some (replied [])) (0x20 ∷ []))
@@ -187,7 +189,7 @@ abbrev noted_by : List Instance → Bool → VrpSet → List Item → Side
 noted_by all once set items = record (read_side None []) {
   router = committing set;
   items = items;
-  places = ((if once then place_of all (kept_by once).version ∷ [] else []) ++ []) ++ [];
+  places = ((if once then version_place_of all (kept_by once).version ∷ [] else []) ++ []) ++ [];
 }
 
 late_byte : after (On 0 (RouterGets 1)) (Done None) (world (read_side None (0x20 ∷ []))) ≡ world (commits_v (Shut ∷ At 0 ∷ end_of_v ∷ At 0 ∷ told_items))
@@ -228,7 +230,7 @@ all_52 =
     feed_on (λ x. router_stops x.router) router_byte hears first response_bytes (v_bytes ++ end_bytes 5) response_read
     ∙ feed_on (λ x. router_stops x.router) router_byte first second v_bytes (end_bytes 5) record_read ∙ end_read
 
-abbrev after_late : Fed Receiving → World
+abbrev after_late : FedPiece Receiving → World
 after_late f = settled (later_world (just_w ∷ []) (record (noted (later (just_w ∷ []) ∷ with_v ∷ []) (of_received f) left_side) { down = f.rest ++ [] }))
 
 late_answer : after (On 0 (RouterGets 52)) (Done None) (later_world (just_w ∷ []) left_side) ≡ later_world (just_w ∷ []) (commits_v (Shut ∷ At 0 ∷ end_of_v ∷ told_items))

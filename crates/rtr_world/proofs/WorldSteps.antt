@@ -14,12 +14,14 @@ use Rattle.vrps.proofs.VersionLaws.{published_is_instance}
 use Rattle.rtr_pdu.specs.declared.unit.Unit.{Unit}
 use Rattle.rtr_ends.specs.Cache.{Conn}
 use Rattle.rtr_ends.specs.Connection.{IsLater}
-use Rattle.rtr_ends.specs.Router.{Router, Link, Closed, Idle, Asked, Answering, Ended, IsKept}
+use Rattle.rtr_ends.specs.LinkRules.{Router}
+use Rattle.rtr_ends.specs.RouterLaws.{IsKept}
+use Rattle.rtr_ends.specs.RouterLink.{Link, Closed, Idle, Asked, Answering, Ended}
 use Rattle.rtr_ends.specs.Transcript.{Begun, Committed, Question, base_of, kept}
-use Rattle.rtr_world.specs.Claims.{ActExactlyOnce, Always, EachOnce, HoldsNamed, IsJudged, IsNamed, Headline, NoWayBack, RouteStates}
+use Rattle.rtr_world.specs.Claims.{ActExactlyOnce, Always, EachOnce, HoldsNamed, IsRouteJudged, IsNamed, Headline, NoWayBack, RouteStates}
 use Rattle.rtr_world.specs.History.{Outcome, Done, SessionUsed, TooManyVersions, NoSuchRouter, Memory, is_near, room_for, room_since, all_have_room, is_used, refusal, MayEnd, after, IsEvent, Entry, LeadsFrom, Made, IsMade, conn_due}
 use Rattle.rtr_world.specs.OneAnswer.{without_notifies}
-use Rattle.rtr_world.specs.Place.{NeverBack, position_of}
+use Rattle.rtr_world.specs.VersionPlaces.{NeverBack, position_of}
 use Rattle.rtr_world.specs.World.{Side, SideEvent, World, instances, Event, Publish, Restart, On, cache_gone, on_side, goes_through, settled, is_refused, side_step, side_refused, settle, new_world}
 use Rattle.rtr_world.proofs.EventSteps.{step_good, refused_good, settle_good}
 use Rattle.rtr_world.proofs.Folding.{leads_keep}
@@ -27,10 +29,10 @@ use Rattle.rtr_world.proofs.Invariant.{WasCache, OfAnswer, OneReply, Replies, no
 use Rattle.rtr_world.proofs.Places.{ordered_published, ordered_restarted}
 use Rattle.rtr_world.proofs.SideLaws.{all_new, all_on_side, all_map, all_both}
 use Rattle.rtr_world.proofs.SideSteps.{live_map}
-use Rattle.rtr_world.proofs.Streams.{Stream}
-use Rattle.rtr_world.proofs.TableLaws.{AllTell, SideTells, after_tells, new_side_tells, tables}
+use Rattle.rtr_world.proofs.UnitStreams.{Stream}
+use Rattle.rtr_world.proofs.KeptTables.{AllTell, SideTells, after_tells, new_side_tells, tables}
 use Rattle.rtr_world.proofs.Versions.{Stands, TableAt, Present, table_named, position_at, of_present, stands_published, stands_restarted, find_session, same_number, equal_of, equal_true, lt_of, lt_true, some_is}
-use Rattle.rtr_world.proofs.Seen.{Seen, IsSeen}
+use Rattle.rtr_world.proofs.LinkedSides.{Seen, IsSeen}
 use Rattle.rtr_world.proofs.ActingOnce.{each_once}
 
 pub record GoodWorld (w : World) : Type 0 where
@@ -315,7 +317,7 @@ headline made history w leads =
     named_all (s ∷ sides) g k = (subst (λ v. IsNamed (instances w) v s.router.table) k.0.version (table_named (instances w) s.router.version s.router.table g.0.router.table), named_all sides g.1 k.1)
 
 -- and so do the states of routes
-judged : (all : List Instance) (version : Option Committed) (table : VrpSet) (route : Route) → IsNamed all version table → IsJudged all version route (state table route)
+judged : (all : List Instance) (version : Option Committed) (table : VrpSet) (route : Route) → IsNamed all version table → IsRouteJudged all version route (state table route)
 judged all None table route is = subst (λ t. HasState t route (state table route)) is (state_is table route)
 judged all (Some version) table route is = (table, is, state_is table route)
 
@@ -323,7 +325,7 @@ pub route_states : RouteStates
 route_states made history w leads = each w.sides (headline made history w leads)
   where
     each : (sides : List Side) → AllByRecursion (λ s. IsNamed (instances w) (kept s.items).version s.router.table) sides
-        → AllByRecursion (λ s. (route : Route) → IsJudged (instances w) (kept s.items).version route (state s.router.table route)) sides
+        → AllByRecursion (λ s. (route : Route) → IsRouteJudged (instances w) (kept s.items).version route (state s.router.table route)) sides
     each [] h = tt
     each (s ∷ sides) h = (λ route. judged (instances w) (kept s.items).version s.router.table route h.0, each sides h.1)
 
@@ -340,7 +342,7 @@ no_way_back made history w leads =
 pub sentence : Always (λ w s. HoldsNamed (instances w) s.items s.router.table)
 sentence made history w leads = each w.sides (headline made history w leads) (route_states made history w leads)
   where
-    each : (sides : List Side) → AllByRecursion (λ s. IsNamed (instances w) (kept s.items).version s.router.table) sides → AllByRecursion (λ s. (route : Route) → IsJudged (instances w) (kept s.items).version route (state s.router.table route)) sides
+    each : (sides : List Side) → AllByRecursion (λ s. IsNamed (instances w) (kept s.items).version s.router.table) sides → AllByRecursion (λ s. (route : Route) → IsRouteJudged (instances w) (kept s.items).version route (state s.router.table route)) sides
         → AllByRecursion (λ s. HoldsNamed (instances w) s.items s.router.table) sides
     each [] h k = tt
     each (s ∷ sides) h k = (record { named_so = h.0; once = each_once s.items; routes = k.0 }, each sides h.1 k.1)

@@ -1,9 +1,10 @@
 -- Catching up: what a router holds once a connection is made and bytes are moved (RFC 8210 sections 5 and 8).
 use Rattle.std.specs.Prelude.{◌≡◌, ◌⊎◌, ℕ, ◌≤◌, ◌^◌, List, [], ◌∷◌, ◌++◌, Option, Some, None, IsSome, ⊤}
 use Rattle.std.specs.List.{AllByRecursion}
-use Rattle.vrps.specs.Instance.{Instance, Version, versions}
+use Rattle.vrps.specs.Instance.{Instance, NumberedSet, versions}
 use Rattle.vrps.specs.VrpSet.{VrpSet, empty}
-use Rattle.rtr_ends.specs.Router.{Router, Link, Closed, Idle, Asked, Ended}
+use Rattle.rtr_ends.specs.LinkRules.{Router}
+use Rattle.rtr_ends.specs.RouterLink.{Link, Closed, Idle, Asked, Ended}
 use Rattle.rtr_ends.specs.Transcript.{AskReset, Committed}
 use Rattle.rtr_world.specs.Claims.{Always}
 use Rattle.rtr_world.specs.World.{Side, World, instances, SideEvent, Connect, RouterSends, CacheGets, CacheSends, RouterGets, Cut, Event, On, cache_gets, cache_sends, connects, router_gets, router_sends, settle}
@@ -27,7 +28,7 @@ abbrev pub AreMoves : ℕ → List Entry → Type 0
 AreMoves r entries = AllByRecursion (λ e. IsMoveOf r e.event) entries
 
 -- What is held is the newest of these versions of a session; where there is none, no session is held, and the table is empty.
-abbrev pub HoldsNewest : ℕ → List Version → Option Committed → VrpSet → Type 0
+abbrev pub HoldsNewest : ℕ → List NumberedSet → Option Committed → VrpSet → Type 0
 HoldsNewest session [] version table = (version ≡ None) × (table ≡ empty)
 HoldsNewest session (now ∷ older) None table = ⊥
 HoldsNewest session (now ∷ older) (Some version) table = (version.session ≡ session) × (version.serial ≡ now.serial) × (table ≡ now.set)
@@ -110,8 +111,8 @@ IdleAfter w held s =
 abbrev pub IdleSoon : World → Option Committed → Side → Type 0
 IdleSoon w held s = (most : ℕ) → IsAll most → IdleAfter w held (round w most None None s)
 
-abbrev pub CatchesUp : Type 0
-CatchesUp = Always (λ w s. IdleSoon w s.router.version (settle (instances w) (connects w s)))
+abbrev pub EachCatchesUp : Type 0
+EachCatchesUp = Always (λ w s. IdleSoon w s.router.version (settle (instances w) (connects w s)))
 
 -- The router's side after an event of it that goes through, and the four events that make a round
 abbrev pub stepped : ℕ → SideEvent → Option ℕ → World → World
@@ -121,9 +122,9 @@ abbrev pub rounded : ℕ → ℕ → Option ℕ → Option ℕ → World → Wor
 rounded r most at_cache at_router w =
     stepped r (RouterGets most) at_router (stepped r (CacheSends most) None (stepped r (CacheGets most) at_cache (stepped r (RouterSends most) None w)))
 
-pub record AreSteps (r : ℕ) (w : World) (s : Side) : Type 0 where
+pub record AreRouterMoves (r : ℕ) (w : World) (s : Side) : Type 0 where
   pub connected : (wanting : Option ℕ) → side_at r (stepped r Connect wanting w).sides ≡ Some (settle (instances w) (connects w s))
   pub round_is : (most : ℕ) (at_cache at_router : Option ℕ) → side_at r (rounded r most at_cache at_router w).sides ≡ Some (round w most at_cache at_router s)
 
 abbrev pub RoundsAreSteps : Type 0
-RoundsAreSteps = (r : ℕ) (w : World) (s : Side) → side_at r w.sides ≡ Some s → AreSteps r w s
+RoundsAreSteps = (r : ℕ) (w : World) (s : Side) → side_at r w.sides ≡ Some s → AreRouterMoves r w s

@@ -1,10 +1,10 @@
 -- What catching up does to a world of the program.
 use Rattle.std.specs.Prelude.{◌≡◌, ◌⊎◌, ℕ, ◌+◌, ◌-◌, ◌≤◌, ◌^◌, List, [], ◌∷◌, ◌++◌, length, Option, Some, None, IsSome, Result, Ok, Err, ⊤}
 use Rattle.std.specs.List.{AllByRecursion}
-use Rattle.vrps.specs.Instance.{Version, versions}
+use Rattle.vrps.specs.Instance.{NumberedSet, versions}
 use Rattle.vrps.specs.Stores.{newest}
-use Rattle.rtr_ends.specs.Links.{name_of}
-use Rattle.rtr_ends.specs.Router.{Closed, Idle}
+use Rattle.rtr_ends.specs.RouterLink.{name_of}
+use Rattle.rtr_ends.specs.RouterLink.{Closed, Idle}
 use Rattle.rtr_world.specs.CatchUp.{AreMoves, IsQuiet, Rests, rounded}
 use Rattle.rtr_world.specs.History.{Outcome, Done, Entry, Made, side_at}
 use Rattle.rtr_world.specs.Reached.{LeadsTo}
@@ -122,7 +122,7 @@ pub record HoldsNow (r : ℕ) (w : World) : Type 0 where
   pub found : side_at r w.sides ≡ Some side
   pub idle : side.router.link ≡ Idle
   pub quiet : IsQuiet side
-  pub now : Version
+  pub now : NumberedSet
   pub newest_is : newest (versions w.present) ≡ Some now
   pub name : name_of side.router.version ≡ Some (w.present.session, now.serial)
   pub table : side.router.table ≡ now.set
@@ -151,11 +151,11 @@ pub record CatchesUp (made : Made) (history : List Entry) (r : ℕ) (result : Re
   pub leads : LeadsTo made (history ++ more) new
   pub caught : Caught result r leads.world more
 
-abbrev pub Holds : Result ⊤ CatchFault → ℕ → Side → World → List Entry → Type 0
-Holds (Ok done) r old w more = HoldsNow r w × (more ≡ [])
-Holds (Err faults.NoData) r old w more = HoldsNothing r w × (more ≡ [])
-Holds (Err faults.Memory) r old w more = (old.router.link ≡ Idle → ⊥) × IsCutOff r w
-Holds (Err faults.NoSuchRouter) r old w more = ⊥
+abbrev pub HoldsThen : Result ⊤ CatchFault → ℕ → Side → World → List Entry → Type 0
+HoldsThen (Ok done) r old w more = HoldsNow r w × (more ≡ [])
+HoldsThen (Err faults.NoData) r old w more = HoldsNothing r w × (more ≡ [])
+HoldsThen (Err faults.Memory) r old w more = (old.router.link ≡ Idle → ⊥) × IsCutOff r w
+HoldsThen (Err faults.NoSuchRouter) r old w more = ⊥
 
 -- after the last connection
 pub record Concluded (made : Made) (history : List Entry) (r : ℕ) (old : Side) (result : Result ⊤ CatchFault) (new : code.World) : Type 0 where
@@ -163,4 +163,4 @@ pub record Concluded (made : Made) (history : List Entry) (r : ℕ) (old : Side)
   pub moves : AreMoves r more
   pub none : connections more ≡ 0
   pub leads : LeadsTo made (history ++ more) new
-  pub holds : Holds result r old leads.world more
+  pub holds : HoldsThen result r old leads.world more

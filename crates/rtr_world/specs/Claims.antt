@@ -9,10 +9,13 @@ use Rattle.vrps.specs.VrpSet.{VrpSet, empty}
 use Rattle.vrps.specs.declared.origin.OriginState.{OriginState}
 use Rattle.rtr_ends.specs.declared.link.End.{End}
 use Rattle.rtr_ends.specs.declared.link.End.TheVariants as ends
-use Rattle.rtr_ends.specs.Router.{Router, Call, Ended, IsKept, is_reading, played}
+use Rattle.rtr_ends.specs.LinkRules.{Router}
+use Rattle.rtr_ends.specs.Router.{RouterCall, played}
+use Rattle.rtr_ends.specs.RouterLaws.{IsKept}
+use Rattle.rtr_ends.specs.RouterLink.{Ended, is_reading}
 use Rattle.rtr_ends.specs.Transcript.{Begun, Item, Question, AskSerial, Committed, Refused, Restarts, base_of, is_commit, kept, outstanding, under_way}
 use Rattle.rtr_ends.specs.Commit.{Commits}
-use Rattle.rtr_world.specs.Place.{NeverBack, Place, place_of}
+use Rattle.rtr_world.specs.VersionPlaces.{NeverBack, VersionPlace, version_place_of}
 use Rattle.rtr_world.specs.World.{Side, World, Event, On, Publish, Ending, RouterGets, SideEvent, cache_gets, instances, settle, side_refused, side_step}
 use Rattle.rtr_world.specs.History.{Outcome, Done, Memory, refusal, MayEnd, Made, IsMade, Entry, IsEvent, Leads, after, conn_due}
 use Rattle.rtr_world.specs.OneAnswer.{Between, IsOfNow}
@@ -51,9 +54,9 @@ abbrev pub Headline : Type 0
 Headline = Always (λ w s. IsNamed (instances w) (kept s.items).version s.router.table)
 
 -- What a router answers for a route is its state over that set, or over the empty one (RFC 6811 section 2).
-abbrev pub IsJudged : List Instance → Option Committed → Route → OriginState → Type 0
-IsJudged all None route answer = HasState empty route answer
-IsJudged all (Some version) route answer = (set : VrpSet) × (named all version.session version.serial ≡ Some set) × HasState set route answer
+abbrev pub IsRouteJudged : List Instance → Option Committed → Route → OriginState → Type 0
+IsRouteJudged all None route answer = HasState empty route answer
+IsRouteJudged all (Some version) route answer = (set : VrpSet) × (named all version.session version.serial ≡ Some set) × HasState set route answer
 
 -- Each commit: from the table that was held, or from the empty one after a Reset Query, each announcement and each withdrawal of the
 -- answer acted, and acted once, and they led to the table that was held then.
@@ -73,10 +76,10 @@ ActExactlyOnce = Always (λ w s. EachOnce s.items)
 pub record HoldsNamed (all : List Instance) (items : List Item) (table : VrpSet) : Type 0 where
   pub named_so : IsNamed all (kept items).version table
   pub once : EachOnce items
-  pub routes : (route : Route) → IsJudged all (kept items).version route (state table route)
+  pub routes : (route : Route) → IsRouteJudged all (kept items).version route (state table route)
 
 abbrev pub RouteStates : Type 0
-RouteStates = Always (λ w s. (route : Route) → IsJudged (instances w) (kept s.items).version route (state s.router.table route))
+RouteStates = Always (λ w s. (route : Route) → IsRouteJudged (instances w) (kept s.items).version route (state s.router.table route))
 
 -- No way back: no version is committed that was published before one that was committed earlier.
 abbrev pub NoWayBack : Type 0
@@ -88,13 +91,13 @@ commits_in [] = 0
 commits_in (item ∷ items) = if is_commit (item ∷ items) then suc (commits_in items) else commits_in items
 
 -- Where a version is held, the last place is its own among all that was published so far.
-abbrev pub IsLastPlace : List Instance → Option Committed → List (Option Place) → Type 0
+abbrev pub IsLastPlace : List Instance → Option Committed → List (Option VersionPlace) → Type 0
 IsLastPlace all None places = ⊤
 IsLastPlace all (Some version) [] = ⊥
-IsLastPlace all (Some version) (last ∷ earlier) = last ≡ place_of all (Some version)
+IsLastPlace all (Some version) (last ∷ earlier) = last ≡ version_place_of all (Some version)
 
 -- Each commit has a place, and each place is a commit's.
-pub record HasPlaces (all : List Instance) (items : List Item) (places : List (Option Place)) : Type 0 where
+pub record HasPlaces (all : List Instance) (items : List Item) (places : List (Option VersionPlace)) : Type 0 where
   pub count : length places ≡ commits_in items
   pub last : IsLastPlace all (kept items).version places
 
@@ -184,7 +187,7 @@ since_restart (item ∷ items) = item ∷ since_restart items
 
 -- Calls lead to the router, and to its transcript since it was restarted, refused events aside.
 pub record IsRun (r : Router) (items : List Item) : Type 0 where
-  pub calls : List Call
+  pub calls : List RouterCall
   pub router_is : (played calls).router ≡ r
   pub items_are : (played calls).items ≡ since_restart items
 

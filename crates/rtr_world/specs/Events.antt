@@ -11,11 +11,11 @@ use Rattle.rtr_world.specs.declared.event.SideEvent.TheVariants as side_events
 use Rattle.rtr_world.specs.declared.event.WorldFault.{WorldFault}
 use Rattle.rtr_world.specs.declared.event.WorldFault.TheVariants as faults
 
-abbrev pub fault_number : WorldFault → ℕ
-fault_number faults.SessionUsed = 1
-fault_number faults.TooManyVersions = 2
-fault_number faults.NoSuchRouter = 3
-fault_number faults.Memory = 4
+abbrev pub world_fault_number : WorldFault → ℕ
+world_fault_number faults.SessionUsed = 1
+world_fault_number faults.TooManyVersions = 2
+world_fault_number faults.NoSuchRouter = 3
+world_fault_number faults.Memory = 4
 
 abbrev pub catch_fault_number : CatchFault → ℕ
 catch_fault_number catch_faults.Memory = 1
@@ -40,17 +40,17 @@ event_of (events.Restart session start) = model.Restart session start
 event_of (events.On router event) = model.On router (side_event_of event)
 
 -- the refusal that an outcome is
-abbrev pub fault_of : Outcome → Option WorldFault
-fault_of (Done wanting) = None
-fault_of SessionUsed = Some faults.SessionUsed
-fault_of TooManyVersions = Some faults.TooManyVersions
-fault_of NoSuchRouter = Some faults.NoSuchRouter
-fault_of (Memory bytes wanting) = Some faults.Memory
+abbrev pub outcome_fault : Outcome → Option WorldFault
+outcome_fault (Done wanting) = None
+outcome_fault SessionUsed = Some faults.SessionUsed
+outcome_fault TooManyVersions = Some faults.TooManyVersions
+outcome_fault NoSuchRouter = Some faults.NoSuchRouter
+outcome_fault (Memory bytes wanting) = Some faults.Memory
 
 -- A call answers its outcome.
-abbrev pub Answers : Option WorldFault → Result ⊤ WorldFault → Type 0
-Answers None result = IsOk result
-Answers (Some fault) result = result ≡ Err fault
+abbrev pub AnswersOutcome : Option WorldFault → Result ⊤ WorldFault → Type 0
+AnswersOutcome None result = IsOk result
+AnswersOutcome (Some fault) result = result ≡ Err fault
 
 -- how many outcomes are refusals
 abbrev pub counts : Option WorldFault → ℕ
@@ -59,4 +59,4 @@ counts (Some fault) = 1
 
 abbrev pub refused : List Entry → ℕ
 refused [] = 0
-refused (entry ∷ entries) = counts (fault_of entry.outcome) + refused entries
+refused (entry ∷ entries) = counts (outcome_fault entry.outcome) + refused entries

@@ -6,10 +6,11 @@ use Rattle.vrps.specs.Store.{is_current}
 use Rattle.vrps.specs.VrpSet.{IsVrpSet}
 use Rattle.rtr_ends.specs.Cache.{Conn, conn_takes}
 use Rattle.rtr_ends.specs.Connection.{is_wanting}
-use Rattle.rtr_ends.specs.Router.{is_closed, receives}
-use Rattle.rtr_ends.specs.Shown.{is_lacking}
+use Rattle.rtr_ends.specs.Router.{receives}
+use Rattle.rtr_ends.specs.RouterLink.{is_closed}
+use Rattle.rtr_ends.specs.RouterShown.{is_lacking}
 use Rattle.rtr_ends.specs.Transcript.{Committed}
-use Rattle.rtr_world.specs.Place.{position_of}
+use Rattle.rtr_world.specs.VersionPlaces.{position_of}
 use Rattle.rtr_world.specs.World.{Side, World, instances, SideEvent, RouterRestart, Connect, RouterSends, CacheGets, CacheSends, RouterGets, Event, Publish, Restart, On, cache_gets, router_gets, goes_through, settled, is_refused, new_world, timing}
 
 -- How an event ended: it went through, and at this unit of it an end met want of memory, if at any; or it was refused: the session

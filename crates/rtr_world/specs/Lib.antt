@@ -4,7 +4,7 @@ pub mod Claims
 pub mod Events
 pub mod History
 pub mod OneAnswer
-pub mod Place
 pub mod Reached
-pub mod Shown
+pub mod SideShown
+pub mod VersionPlaces
 pub mod World

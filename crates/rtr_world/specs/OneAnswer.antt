@@ -9,7 +9,7 @@ use Rattle.rtr_pdu.specs.declared.unit.Unit.TheVariants.{SerialNotify, CacheResp
 use Rattle.rtr_ends.specs.Answer.{answer, report, sent, sent_all}
 use Rattle.rtr_ends.specs.Commit.{Commits}
 use Rattle.rtr_ends.specs.Connection.{IsLater, takes_memory}
-use Rattle.rtr_ends.specs.Router.{Link, Closed, Idle, Asked, Answering, Ended}
+use Rattle.rtr_ends.specs.RouterLink.{Link, Closed, Idle, Asked, Answering, Ended}
 use Rattle.rtr_ends.specs.Transcript.{Question, AskReset, AskSerial, query, Item, At, Reads, Committed, base_of, under_way}
 use Rattle.rtr_world.specs.World.{Side, World, instances, timing}
 use Rattle.rtr_world.specs.History.{conn_due}
@@ -56,14 +56,14 @@ pub record IsAnswer (w : World) (home : Instance) (question : Question) (units :
   pub are : units ≡ (answer cache w.keep timing (query question)).units
 
 -- or Error Report 1 in the place of one that may take memory.
-pub record IsWanting (w : World) (home : Instance) (question : Question) (units : List Unit) : Type 0 where
+pub record IsWantingAnswer (w : World) (home : Instance) (question : Question) (units : List Unit) : Type 0 where
   pub cache : Instance
   pub was : WasSo w home cache
   pub takes : takes_memory cache (query question) ≡ true
   pub are : units ≡ report INTERNAL_ERROR [] ∷ []
 
 abbrev pub IsReply : World → Instance → Question → List Unit → Type 0
-IsReply w home question units = IsAnswer w home question units ⊎ IsWanting w home question units
+IsReply w home question units = IsAnswer w home question units ⊎ IsWantingAnswer w home question units
 
 -- the records of an answer
 abbrev pub withdrawn_in : List Unit → List Payload
@@ -83,7 +83,7 @@ EndsWith session serial (EndOfData one number refresh retry expire ∷ []) = (on
 EndsWith session serial (unit ∷ units) = EndsWith session serial units
 
 -- The records of an answer lead from a base to the set that was published under the name of its End of Data.
-pub record LeadsTo (all : List Instance) (base : VrpSet) (session : ℕ) (units : List Unit) : Type 0 where
+pub record LeadsToPublished (all : List Instance) (base : VrpSet) (session : ℕ) (units : List Unit) : Type 0 where
   pub serial : ℕ
   pub ends : EndsWith session serial units
   pub set : VrpSet
@@ -91,12 +91,12 @@ pub record LeadsTo (all : List Instance) (base : VrpSet) (session : ℕ) (units 
   pub published : named all session serial ≡ Some set
 
 abbrev pub IfResponse : List Instance → VrpSet → List Unit → Type 0
-IfResponse all base (CacheResponse session ∷ units) = LeadsTo all base session units
+IfResponse all base (CacheResponse session ∷ units) = LeadsToPublished all base session units
 IfResponse all base units = ⊤
 
 -- One whole answer to this question, over this table
-abbrev pub IsWhole : World → Instance → Question → VrpSet → List Unit → Type 0
-IsWhole w home question table units = IsReply w home question units × IfResponse (instances w) (base_of question table) units
+abbrev pub IsWholeAnswer : World → Instance → Question → VrpSet → List Unit → Type 0
+IsWholeAnswer w home question table units = IsReply w home question units × IfResponse (instances w) (base_of question table) units
 
 -- a question is of what is committed
 abbrev pub Fits : Question → Option Committed → Type 0
@@ -108,9 +108,9 @@ Fits (AskSerial session serial) (Some version) = (session ≡ version.session) �
 -- question is outstanding; and the rest of one that has begun. What is staged is what was read of it.
 abbrev pub ComesOn : World → Instance → Side → Link → List Unit → Type 0
 ComesOn w home s Idle rest = rest ≡ []
-ComesOn w home s (Asked question) rest = Fits question s.router.version × ((rest ≡ []) ⊎ IsWhole w home question s.router.table rest)
+ComesOn w home s (Asked question) rest = Fits question s.router.version × ((rest ≡ []) ⊎ IsWholeAnswer w home question s.router.table rest)
 ComesOn w home s (Answering a) rest =
-    Fits a.question s.router.version × (under_way s.items ≡ Some a) × IsWhole w home a.question s.router.table (answered s.items ++ rest)
+    Fits a.question s.router.version × (under_way s.items ≡ Some a) × IsWholeAnswer w home a.question s.router.table (answered s.items ++ rest)
 ComesOn w home s link rest = ⊤
 
 -- The bytes that are held, on the wire, still to be pulled, and lost by a cut or a restart are the units to come.

@@ -8,8 +8,8 @@ use Rattle.rtr_ends.specs.declared.cache.Cache.{Cache}
 use Rattle.rtr_world.specs.World as model
 use Rattle.rtr_world.specs.World.{World, Side, instances, settle}
 use Rattle.rtr_world.specs.History.{Outcome, Entry, IsEvent, Leads, Made, MayEnd, after, is_used, refusal, side_at}
-use Rattle.rtr_world.specs.Events.{Answers, fault_of, refused}
-use Rattle.rtr_world.specs.Shown.{Has, ShowsSide, state_of}
+use Rattle.rtr_world.specs.Events.{AnswersOutcome, outcome_fault, refused}
+use Rattle.rtr_world.specs.SideShown.{Has, ShowsSide, state_of}
 use Rattle.rtr_world.specs.declared.event.WorldFault.{WorldFault}
 use Rattle.rtr_world.specs.declared.side.Side as values
 use Rattle.rtr_world.specs.declared.world.World as code
@@ -75,11 +75,11 @@ pub record SettledAll (w : World) (cache : Cache Log) (sides : List values.Side)
   pub parts : ShowsParts (record w { sides = map (settle (instances w)) w.sides }) at cache sides
 
 -- One event: an outcome that it may have, and what is shown afterwards
-pub record Steps (w : World) (event : model.Event) (result : Result ⊤ WorldFault) (new : code.World) : Type 0 where
+pub record StepsOnce (w : World) (event : model.Event) (result : Result ⊤ WorldFault) (new : code.World) : Type 0 where
   pub outcome : Outcome
   pub fits : IsEvent event
   pub may : MayEnd (refusal w event) w event outcome
-  pub answers : Answers (fault_of outcome) result
+  pub answers : AnswersOutcome (outcome_fault outcome) result
   pub shows : ShowsWorld (after event outcome w) new
 
 -- The value shows the world to which this history leads.
@@ -91,7 +91,7 @@ pub record LeadsTo (made : Made) (history : List Entry) (v : code.World) : Type 
 -- One event more, with an outcome that the answer of the call is
 pub record StepsTo (made : Made) (history : List Entry) (event : model.Event) (result : Result ⊤ WorldFault) (new : code.World) : Type 0 where
   pub outcome : Outcome
-  pub answers : Answers (fault_of outcome) result
+  pub answers : AnswersOutcome (outcome_fault outcome) result
   pub leads : LeadsTo made (history ++ record { event = event; outcome = outcome } ∷ []) new
 
 -- Events more, one outcome for each, and so many refusals

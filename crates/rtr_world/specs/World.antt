@@ -5,11 +5,13 @@ use Rattle.vrps.specs.Store.{published}
 use Rattle.vrps.specs.VrpSet.{VrpSet}
 use Rattle.rtr_ends.specs.declared.link.End.{End}
 use Rattle.rtr_ends.specs.Cache.{Conn, Taking, new_conn, conn_takes, conn_notified, conn_pulled}
-use Rattle.rtr_ends.specs.Feeding.{Fed}
-use Rattle.rtr_ends.specs.Router.{Router, Link, Closed, Ended, Noted, Receiving, new_router, is_closed, of_received, receives, router_pulled, connects_at, closed_at, ticks_at, asks}
+use Rattle.rtr_ends.specs.Feeding.{FedPiece}
+use Rattle.rtr_ends.specs.LinkRules.{Router, new_router}
+use Rattle.rtr_ends.specs.Router.{Noted, Receiving, of_received, receives, router_pulled, connects_at, closed_at, ticks_at, asks}
+use Rattle.rtr_ends.specs.RouterLink.{Link, Closed, Ended, is_closed}
 use Rattle.rtr_ends.specs.Timing.{Intervals, default_intervals}
 use Rattle.rtr_ends.specs.Transcript.{Question, Item, Refused, Restarts, kept, is_commit, outstanding}
-use Rattle.rtr_world.specs.Place.{Place, place_of}
+use Rattle.rtr_world.specs.VersionPlaces.{VersionPlace, version_place_of}
 
 -- how a link ended: which question was outstanding, and the instance of the connection
 pub record Ending : Type 0 where
@@ -29,7 +31,7 @@ pub record Side : Type 0 where
   pub home : Option Instance
   pub items : List Item
   pub endings : List Ending
-  pub places : List (Option Place)
+  pub places : List (Option VersionPlace)
 
 -- the instances of the cache, those of the past with the newest first, and the routers, which are numbered from 0
 pub record World : Type 0 where
@@ -89,10 +91,10 @@ ending_of false (Ended end) home items = record { end = end; question = outstand
 ending_of ended link home items = []
 
 -- Each item is judged as a commit by what the transcript keeps of it and of those before it.
-abbrev pub places_of : List Instance → List Item → List Item → List (Option Place)
+abbrev pub places_of : List Instance → List Item → List Item → List (Option VersionPlace)
 places_of all [] before = []
 places_of all (item ∷ items) before =
-    (if is_commit (item ∷ (items ++ before)) then place_of all (kept (item ∷ (items ++ before))).version ∷ [] else [])
+    (if is_commit (item ∷ (items ++ before)) then version_place_of all (kept (item ∷ (items ++ before))).version ∷ [] else [])
     ++ places_of all items before
 
 abbrev pub noted : List Instance → Noted → Side → Side
@@ -130,7 +132,7 @@ cache_sends w most s = sends_from w.keep most s s.conn
 abbrev pub gets_at : World → ℕ → Option ℕ → Side → Option Conn → Side
 gets_at w most wanting s None = s
 gets_at w most wanting s (Some o) =
-    let f : Fed Taking = conn_takes w.keep timing w.present wanting (take most s.up) o in
+    let f : FedPiece Taking = conn_takes w.keep timing w.present wanting (take most s.up) o in
     record s { conn = Some f.machine.conn; up = f.rest ++ drop most s.up }
 
 unfoldable pub cache_gets : World → ℕ → Option ℕ → Side → Side
@@ -138,7 +140,7 @@ cache_gets w most wanting s = gets_at w most wanting s s.conn
 
 unfoldable pub router_gets : World → ℕ → Option ℕ → Side → Side
 router_gets w most wanting s =
-    let f : Fed Receiving = receives s.router.now wanting (take most s.down) s.router in
+    let f : FedPiece Receiving = receives s.router.now wanting (take most s.down) s.router in
     record (noted (instances w) (of_received f) s) { down = f.rest ++ drop most s.down }
 
 -- The cache's side is closed; what is left of the bytes towards the router still comes.

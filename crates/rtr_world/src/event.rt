@@ -54,11 +54,11 @@ pub enum WorldFault {
 }
 
 impl WorldFault {
-    ghost use Rattle.rtr_world.specs.Events.{fault_number};
+    ghost use Rattle.rtr_world.specs.Events.{world_fault_number};
 
     /// Its number.
     pub fn number(self) -> u8
-        ensures { result ≡ fault_number self }
+        ensures { result ≡ world_fault_number self }
     {
         self as u8
     }

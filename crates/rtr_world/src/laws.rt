@@ -1,5 +1,5 @@
 //! Laws of the definitions. These functions do nothing: their contracts are the laws.
-ghost use Rattle.rtr_world.specs.CatchUp.{CatchesUp, IdleIsCurrent, RoundsAreSteps, RoundsEnd};
+ghost use Rattle.rtr_world.specs.CatchUp.{EachCatchesUp, IdleIsCurrent, RoundsAreSteps, RoundsEnd};
 ghost use Rattle.rtr_world.specs.Claims.{ActExactlyOnce, AnswersNow, EachLeads, EndsKept, EndsNoted, Headline, LawfulEnds, NoWayBack, NoneByMemory, OneAnswerAlways, OneWorld, PlacesNoted, RefusesRightly, RouteStates, RoutersRun, Settles, Tables};
 
 /// A history of events with their outcomes leads to one world, and every list of events has outcomes with which it leads to one. The
@@ -83,5 +83,5 @@ pub fn rounds_end()
 /// Cache Reset, and its link is idle after the second; or it held a session when it connected, is closed and holds none, and its link is
 /// idle after one round on a new connection.
 pub fn catches_up()
-    ensures { CatchesUp }
+    ensures { EachCatchesUp }
 {}

@@ -3,13 +3,13 @@ ghost use Rattle.std.specs.Prelude.{◌≡◌, ℕ, ◌+◌, ◌-◌, ◌≤◌,
 ghost use Rattle.vrps.specs.Serial.{serial_at};
 ghost use Rattle.vrps.specs.Steps.{HoldsSteps};
 ghost use Rattle.rtr_ends.specs.CacheState.{ShowsCache};
-ghost use Rattle.rtr_ends.specs.Router.{Router as Routed};
-ghost use Rattle.rtr_ends.specs.Shown.{IsShown};
+ghost use Rattle.rtr_ends.specs.LinkRules.{Router as Routed};
+ghost use Rattle.rtr_ends.specs.RouterShown.{IsShown};
 ghost use Rattle.rtr_world.specs.History.{Reached, room_for, room_since, side_at};
 ghost use Rattle.rtr_world.specs.Reached.{Lost};
 ghost use Rattle.rtr_ends.specs.Cache.{Conn as Conned};
 ghost use Rattle.rtr_world.specs.Events.{side_event_of};
-ghost use Rattle.rtr_world.specs.Shown.{Begins, Goes, Happens, IsNewSide, Moves, Shows, ShowsSide, held_of, state_of};
+ghost use Rattle.rtr_world.specs.SideShown.{BeginsEvent, Goes, Happens, IsNewSide, Moves, ShowsBoth, ShowsSide, held_of, state_of};
 ghost use Rattle.rtr_world.specs.World as model;
 
 use crate::event::SideEvent;
@@ -99,8 +99,8 @@ impl Side {
 
     /// A connection is made, to an instance whose first version has the serial `start`.
     fn connect(&mut self, cache: &mut Cache<VersionLog>, start: u32) -> Result<(), AllocError>
-        ensures { (w : model.World) (at : ℕ → Option Conned) (s : model.Side) → w.present.start ≡ start → Shows w at s cache.old self.old →
-            Begins w at model.Connect s (λ t. Moves w at self.old.conn t cache.new self.new) result }
+        ensures { (w : model.World) (at : ℕ → Option Conned) (s : model.Side) → w.present.start ≡ start → ShowsBoth w at s cache.old self.old →
+            BeginsEvent w at model.Connect s (λ t. Moves w at self.old.conn t cache.new self.new) result }
     {
         self.close(cache);
         let conn = cache.open()?;
@@ -129,8 +129,8 @@ impl Side {
         start: u32,
         event: SideEvent,
     ) -> Result<(), AllocError>
-        ensures { (w : model.World) (at : ℕ → Option Conned) (s : model.Side) → w.present.start ≡ start → Shows w at s cache.old self.old →
-            Begins w at (side_event_of event) s (λ t. Moves w at self.old.conn t cache.new self.new) result }
+        ensures { (w : model.World) (at : ℕ → Option Conned) (s : model.Side) → w.present.start ≡ start → ShowsBoth w at s cache.old self.old →
+            BeginsEvent w at (side_event_of event) s (λ t. Moves w at self.old.conn t cache.new self.new) result }
     {
         match event {
             SideEvent::RouterRestart => self.restart(cache, alloc),
@@ -157,7 +157,7 @@ impl Side {
         start: u32,
         event: SideEvent,
     ) -> Result<(), AllocError>
-        ensures { (w : model.World) (at : ℕ → Option Conned) (s : model.Side) → w.present.start ≡ start → Shows w at s cache.old self.old →
+        ensures { (w : model.World) (at : ℕ → Option Conned) (s : model.Side) → w.present.start ≡ start → ShowsBoth w at s cache.old self.old →
             Happens w at (side_event_of event) s (λ t. Moves w at self.old.conn t cache.new self.new) result }
     {
         let done = self.begin(cache, alloc, start, event);

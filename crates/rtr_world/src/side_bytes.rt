@@ -1,7 +1,7 @@
 //! The bytes that an event moves.
 ghost use Rattle.std.specs.Prelude.{◌≡◌, ◌≤◌, ℕ, Option, IfOk, min};
 ghost use Rattle.rtr_ends.specs.Cache.{Conn as Conned};
-ghost use Rattle.rtr_world.specs.Shown.{AloneAt, Begins, Moves, Passes, SendsSome, Shows, ShowsSide};
+ghost use Rattle.rtr_world.specs.SideShown.{AloneAt, BeginsEvent, Moves, Passes, SendsSome, ShowsBoth, ShowsSide};
 ghost use Rattle.rtr_world.specs.World as model;
 
 use crate::side::Side;
@@ -25,7 +25,7 @@ impl Side {
     /// At most so many bytes are pulled from the router, and put on the wire to the cache.
     pub fn router_sends(&mut self, most: u64) -> Result<(), AllocError>
         ensures { (w : model.World) (at : ℕ → Option Conned) (s : model.Side) → ShowsSide w at s self.old →
-            Begins w at (model.RouterSends most) s (λ t. AloneAt w at t self.old self.new) result }
+            BeginsEvent w at (model.RouterSends most) s (λ t. AloneAt w at t self.old self.new) result }
     {
         rtr_ends::laws::router_has_room(&self.router);
         let mut room = [0; MAX_UNIT_LEN];
@@ -39,7 +39,7 @@ impl Side {
 
     /// At most so many bytes arrive at the cache.
     pub fn cache_gets(&mut self, cache: &mut Cache<VersionLog>, most: u64)
-        ensures { (w : model.World) (at : ℕ → Option Conned) (s : model.Side) → Shows w at s cache.old self.old →
+        ensures { (w : model.World) (at : ℕ → Option Conned) (s : model.Side) → ShowsBoth w at s cache.old self.old →
             Passes w at (model.CacheGets most) s (λ t. Moves w at self.old.conn t cache.new self.new) }
     {
         match self.conn {
@@ -58,7 +58,7 @@ impl Side {
         conn: Conn,
         most: u64,
     ) -> Result<usize, AllocError>
-        ensures sends { (w : model.World) (at : ℕ → Option Conned) (s : model.Side) (o : Conned) → Shows w at s cache.old self.old → s.conn ≡ Option.Some o → self.old.conn ≡ Option.Some conn →
+        ensures sends { (w : model.World) (at : ℕ → Option Conned) (s : model.Side) (o : Conned) → ShowsBoth w at s cache.old self.old → s.conn ≡ Option.Some o → self.old.conn ≡ Option.Some conn →
             SendsSome w at most s o (λ t. Moves w at self.old.conn t cache.new self.new) result }
         ensures conn { self.new.conn ≡ self.old.conn }
         ensures few { IfOk result (λ count. count ≤ most) }
@@ -77,8 +77,8 @@ impl Side {
         conn: Conn,
         most: u64,
     ) -> Result<(), AllocError>
-        ensures { (w : model.World) (at : ℕ → Option Conned) (s : model.Side) (o : Conned) → Shows w at s cache.old self.old → s.conn ≡ Option.Some o → self.old.conn ≡ Option.Some conn →
-            Begins w at (model.CacheSends most) s (λ t. Moves w at self.old.conn t cache.new self.new) result }
+        ensures { (w : model.World) (at : ℕ → Option Conned) (s : model.Side) (o : Conned) → ShowsBoth w at s cache.old self.old → s.conn ≡ Option.Some o → self.old.conn ≡ Option.Some conn →
+            BeginsEvent w at (model.CacheSends most) s (λ t. Moves w at self.old.conn t cache.new self.new) result }
     {
         let mut left = most;
         while left > 0 {
@@ -97,8 +97,8 @@ impl Side {
         cache: &mut Cache<VersionLog>,
         most: u64,
     ) -> Result<(), AllocError>
-        ensures { (w : model.World) (at : ℕ → Option Conned) (s : model.Side) → Shows w at s cache.old self.old →
-            Begins w at (model.CacheSends most) s (λ t. Moves w at self.old.conn t cache.new self.new) result }
+        ensures { (w : model.World) (at : ℕ → Option Conned) (s : model.Side) → ShowsBoth w at s cache.old self.old →
+            BeginsEvent w at (model.CacheSends most) s (λ t. Moves w at self.old.conn t cache.new self.new) result }
     {
         match self.conn {
             None => Ok(()),

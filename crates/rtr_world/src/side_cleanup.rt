@@ -1,8 +1,9 @@
 //! The clean-up after an event: what has ended is closed, and told.
 ghost use Rattle.std.specs.Prelude.{◌≡◌};
-ghost use Rattle.rtr_ends.specs.Router.{Router, is_closed};
-ghost use Rattle.rtr_ends.specs.Shown.{IsShown};
-ghost use Rattle.rtr_world.specs.Shown.{Alone, Goes};
+ghost use Rattle.rtr_ends.specs.LinkRules.{Router};
+ghost use Rattle.rtr_ends.specs.RouterLink.{is_closed};
+ghost use Rattle.rtr_ends.specs.RouterShown.{IsShown};
+ghost use Rattle.rtr_world.specs.SideShown.{Alone, Goes};
 ghost use Rattle.rtr_world.specs.World as model;
 
 use crate::side::Side;

@@ -5,17 +5,17 @@ ghost use Rattle.vrps.specs.Origin.{state};
 ghost use Rattle.vrps.specs.Serial.{serial_at};
 ghost use Rattle.vrps.specs.Store.{is_current};
 ghost use Rattle.rtr_ends.specs.Cache.{Conn};
-ghost use Rattle.rtr_ends.specs.Links.{name_of, told_link};
-ghost use Rattle.rtr_ends.specs.Router.{IsKept};
+ghost use Rattle.rtr_ends.specs.RouterLink.{name_of, told_link};
+ghost use Rattle.rtr_ends.specs.RouterLaws.{IsKept};
 ghost use Rattle.rtr_world.specs.CatchUp.{Rests};
 ghost use Rattle.rtr_world.specs.CaughtUp.{CatchesUp, Concluded, IdleOrDropped, IsIdle, Reconnected, Rounded, StaysOpen};
 ghost use Rattle.rtr_world.specs.Claims.{AreLawful, HoldsNamed};
 ghost use Rattle.rtr_world.specs.Events.{event_of, side_event_of};
 ghost use Rattle.rtr_world.specs.History.{Entry, Made, Reached, all_have_room, side_at};
 ghost use Rattle.rtr_world.specs.OneAnswer.{Between};
-ghost use Rattle.rtr_world.specs.Place.{NeverBack};
-ghost use Rattle.rtr_world.specs.Reached.{LeadsTo, LoseAll, RunsSo, RunsTo, SettledAll, ShowsParts, ShowsWorld, Steps, StepsTo};
-ghost use Rattle.rtr_world.specs.Shown.{IsNewSide};
+ghost use Rattle.rtr_world.specs.VersionPlaces.{NeverBack};
+ghost use Rattle.rtr_world.specs.Reached.{LeadsTo, LoseAll, RunsSo, RunsTo, SettledAll, ShowsParts, ShowsWorld, StepsOnce, StepsTo};
+ghost use Rattle.rtr_world.specs.SideShown.{IsNewSide};
 ghost use Rattle.rtr_world.specs.World as model;
 
 use crate::event::{CatchFault, Event, SideEvent, WorldFault};
@@ -120,7 +120,7 @@ impl World {
 
     /// The cache publishes a set.
     fn publish(&mut self, set: &VrpSet) -> Result<(), WorldFault>
-        ensures { (w : model.World) → Reached w → ShowsWorld w self.old → Steps w (model.Publish set.now) result self.new }
+        ensures { (w : model.World) → Reached w → ShowsWorld w self.old → StepsOnce w (model.Publish set.now) result self.new }
     {
         let _size = set.len();
         if self.is_current(set) {
@@ -143,7 +143,7 @@ impl World {
 
     /// A new instance of the cache begins.
     fn restart(&mut self, session: u16, start: u32) -> Result<(), WorldFault>
-        ensures { (w : model.World) → Reached w → ShowsWorld w self.old → Steps w (model.Restart session start) result self.new }
+        ensures { (w : model.World) → Reached w → ShowsWorld w self.old → StepsOnce w (model.Restart session start) result self.new }
     {
         if self.is_used(session) {
             return Err(WorldFault::SessionUsed);
@@ -162,7 +162,7 @@ impl World {
 
     /// Something happens at one router.
     fn on(&mut self, router: u16, event: SideEvent) -> Result<(), WorldFault>
-        ensures { (w : model.World) → Reached w → ShowsWorld w self.old → Steps w (model.On router (side_event_of event)) result self.new }
+        ensures { (w : model.World) → Reached w → ShowsWorld w self.old → StepsOnce w (model.On router (side_event_of event)) result self.new }
     {
         let number = usize::from(router);
         if number >= self.sides.len() {

@@ -13,7 +13,7 @@ use Rattle.prefixes.specs.Payload.{Payload, vrp_cmp}
 use Rattle.prefixes.specs.contracts.vrp.VrpPartialEq.TheImpl as derived_eq
 use Rattle.prefixes.specs.contracts.vrp.VrpOrd.TheImpl.Laws.{matches_eq-law}
 use Rattle.prefixes.specs.Orders.{vrp_total, vrp_exact}
-use Rattle.vrps.specs.Instance.{Instance, IsInstance, AreNews, Version, versions_from, with_serial}
+use Rattle.vrps.specs.Instance.{Instance, IsInstance, AreNews, NumberedSet, versions_from, with_serial}
 use Rattle.vrps.specs.Serial.{serial_at, steps_to}
 use Rattle.vrps.specs.Store.{same_list, is_same, SameExactly, is_current, PublishedIsInstance, NamesItself, KeptIsItself, IsBeforeNewer}
 use Rattle.vrps.specs.VrpSet.{VrpSet, IsVrpSet, listing, set_of}
@@ -90,7 +90,7 @@ passed start x newer set older few =
     ap (λ k. serial_at start k == serial_at start (length older)) (place_of newer set older)
     ∙ serial_differs start (length older) (length newer + 1) (omega arith) few
 
-abbrev the_version : ℕ → VrpSet → List VrpSet → Version
+abbrev the_version : ℕ → VrpSet → List VrpSet → NumberedSet
 the_version start set older = record { serial = serial_at start (length older); set = set }
 
 pub names_itself : NamesItself

@@ -6,7 +6,7 @@ use Rattle.std.proofs.lemmas.Bool.Decides.{nat_tests}
 use Rattle.std.proofs.lemmas.List.{length-append}
 use Rattle.std.proofs.Math.Seq.{take-append_seam}
 use Rattle.vrps.specs.Change.{between}
-use Rattle.vrps.specs.Instance.{Instance, Version, versions_from, with_serial}
+use Rattle.vrps.specs.Instance.{Instance, NumberedSet, versions_from, with_serial}
 use Rattle.vrps.specs.Wholes.{HoldsSets, IsBehind}
 use Rattle.vrps.specs.Serial.{serial_at}
 use Rattle.vrps.specs.Store.{Known, Unknown, is_current, published, since, step_from}
@@ -26,7 +26,7 @@ other_serial a serial behind e low few = differ a serial (λ same. absurd (omega
 this_serial : (a serial : ℕ) → a ≡ (serial + 0) % 2 ^ 32 → serial < 2 ^ 32 → (a == serial) ≡ true
 this_serial a serial e low = let same : a ≡ serial = omega (arith, e, low) in ap (λ x. x == serial) same ∙ same_serial serial
 
-abbrev set_with : ℕ → ℕ → List Version → Option VrpSet
+abbrev set_with : ℕ → ℕ → List NumberedSet → Option VrpSet
 set_with serial m vs = option_map (λ v. v.set) (with_serial serial (take m vs))
 
 found_at : (start m : ℕ) (sets : List VrpSet) (serial behind : ℕ) (d : VrpSet) → serial < 2 ^ 32 → behind < 2 ^ 32 → Behind start (length sets) serial behind → behind < length (take m sets)
@@ -54,7 +54,7 @@ not_found start (suc m) (x ∷ older) serial (suc behind) low few is past =
     ∙ not_found start m older serial behind low (omega (arith, few)) (omega (arith, here)) (omega (arith, past))
 
 -- What is known of a version that stands so far behind the current one
-known_by : (now : Version) (o : Option Version) (before : VrpSet) → option_map (λ v. v.set) o ≡ Some before → step_from now o ≡ Known (between before now.set)
+known_by : (now : NumberedSet) (o : Option NumberedSet) (before : VrpSet) → option_map (λ v. v.set) o ≡ Some before → step_from now o ≡ Known (between before now.set)
 known_by now None before e = absurd (let h : ◌≡◌ {A = Option VrpSet} None (Some before) = e in cc)
 known_by now (Some v) before e = let h : v.set ≡ before = cc in ap (λ s. Known (between s now.set)) h
 

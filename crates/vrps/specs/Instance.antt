@@ -12,16 +12,16 @@ pub record Instance : Type 0 where
   pub sets : List VrpSet
 
 -- a published set with its serial
-pub record Version : Type 0 where
+pub record NumberedSet : Type 0 where
   pub serial : ℕ
   pub set : VrpSet
 
 -- Each version under its serial, the newest first. The oldest set stands at position 0.
-abbrev pub versions_from : ℕ → List VrpSet → List Version
+abbrev pub versions_from : ℕ → List VrpSet → List NumberedSet
 versions_from start [] = []
 versions_from start (set ∷ older) = record { serial = serial_at start (length older); set = set } ∷ versions_from start older
 
-abbrev pub versions : Instance → List Version
+abbrev pub versions : Instance → List NumberedSet
 versions i = versions_from i.start i.sets
 
 -- No set equals the one published before it.
@@ -37,7 +37,7 @@ pub record IsInstance (i : Instance) : Type 0 where
   pub news : AreNews i.sets
 
 -- the newest of these versions that has this serial
-abbrev pub with_serial : ℕ → List Version → Option Version
+abbrev pub with_serial : ℕ → List NumberedSet → Option NumberedSet
 with_serial serial vs = find (λ v. v.serial == serial) vs
 
 -- What was published under a session and a serial: the newest such set of the instance with that session. The newest instance

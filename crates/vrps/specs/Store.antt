@@ -4,7 +4,7 @@ use Rattle.std.specs.Ordering.{eq_by_cmp}
 use Rattle.prefixes.specs.Payload.{Payload, vrp_cmp}
 use Rattle.vrps.specs.declared.change.Change.{Change}
 use Rattle.vrps.specs.Change.{between}
-use Rattle.vrps.specs.Instance.{Instance, IsInstance, Version, versions_from, with_serial}
+use Rattle.vrps.specs.Instance.{Instance, IsInstance, NumberedSet, versions_from, with_serial}
 use Rattle.vrps.specs.Serial.{serial_at, is_before}
 use Rattle.vrps.specs.VrpSet.{VrpSet, IsVrpSet, listing}
 
@@ -36,12 +36,12 @@ pub data Since : Type 0 where
   Unknown : Since
   Known : Change → Since
 
-abbrev pub step_from : Version → Option Version → Since
+abbrev pub step_from : NumberedSet → Option NumberedSet → Since
 step_from now None = Unknown
 step_from now (Some before) = Known (between before.set now.set)
 
 -- Kept are the current version and the keep versions before it; of two with one serial the newer counts.
-abbrev pub since : ℕ → ℕ → List Version → Since
+abbrev pub since : ℕ → ℕ → List NumberedSet → Since
 since keep serial [] = NoData
 since keep serial (now ∷ older) = step_from now (with_serial serial (now ∷ take keep older))
 

@@ -1,7 +1,7 @@
 -- What the calls of a store of versions answer.
 use Rattle.std.specs.Prelude.{◌≡◌, false, true, List, [], ◌∷◌, length, Option, Some, None, Result, Ok, Err}
 use Rattle.std.specs.declared.alloc.AllocError.{AllocError}
-use Rattle.vrps.specs.Instance.{Instance, Version}
+use Rattle.vrps.specs.Instance.{Instance, NumberedSet}
 use Rattle.vrps.specs.Serial.{serial_at}
 use Rattle.vrps.specs.Store as store
 use Rattle.vrps.specs.Store.{is_current, published}
@@ -19,7 +19,7 @@ Publishes holds (Ok Unchanged) set i new = holds i new × (is_current i.sets set
 Publishes holds (Err error) set i new = holds i new
 
 -- the newest of versions
-abbrev pub newest : List Version → Option Version
+abbrev pub newest : List NumberedSet → Option NumberedSet
 newest [] = None
 newest (now ∷ older) = Some now
 

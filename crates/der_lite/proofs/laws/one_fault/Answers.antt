@@ -1,7 +1,7 @@
 use Rattle.der_lite.specs.Grammar.{plain}
-use Rattle.der_lite.specs.Reading.{content_at}
+use Rattle.der_lite.specs.DerReading.{content_at}
 use Rattle.der_lite.proofs.GrammarLaws.{element_fault, element_apart, element_either}
-use Rattle.der_lite.proofs.Plain.{exact_plain}
+use Rattle.der_lite.proofs.ContentReads.{exact_plain}
 use Rattle.der_lite.proofs.laws.one_fault.Goals as goal
 
 pub returns : goal.returns

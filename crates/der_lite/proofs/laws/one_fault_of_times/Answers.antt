@@ -1,6 +1,6 @@
 use Rattle.der_lite.specs.Times.{timed, timed_at}
 use Rattle.der_lite.proofs.GrammarLaws.{element_fault, element_apart, element_either}
-use Rattle.der_lite.proofs.Times.{exact_timed}
+use Rattle.der_lite.proofs.TimeLaws.{exact_timed}
 use Rattle.der_lite.proofs.laws.one_fault_of_times.Goals as goal
 
 pub returns : goal.returns

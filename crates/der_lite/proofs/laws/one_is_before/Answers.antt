@@ -1,4 +1,4 @@
-use Rattle.der_lite.proofs.Times.{not_before_itself, before_chain, one_before}
+use Rattle.der_lite.proofs.TimeLaws.{not_before_itself, before_chain, one_before}
 use Rattle.der_lite.proofs.laws.one_is_before.Goals as goal
 
 pub returns : goal.returns

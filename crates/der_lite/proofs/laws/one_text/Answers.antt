@@ -1,5 +1,5 @@
 use Rattle.std.proofs.Common.{sym, ◌∙◌}
-use Rattle.der_lite.proofs.Moments.{says, spelled_is, text_found}
+use Rattle.der_lite.proofs.MomentLaws.{says, spelled_is, text_found}
 use Rattle.der_lite.proofs.laws.one_text.Goals as goal
 
 pub returns : goal.returns

@@ -1,4 +1,4 @@
-use Rattle.der_lite.proofs.Plain.{opens_found, found_opens, opens_breaks, breaks_opens}
+use Rattle.der_lite.proofs.ContentReads.{opens_found, found_opens, opens_breaks, breaks_opens}
 use Rattle.der_lite.proofs.laws.opens_exactly.Goals as goal
 
 pub returns : goal.returns

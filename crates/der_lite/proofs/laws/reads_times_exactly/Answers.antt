@@ -1,8 +1,8 @@
 use Rattle.std.proofs.Common.{[]}
-use Rattle.der_lite.specs.Reading.{time_at}
+use Rattle.der_lite.specs.DerReading.{time_at}
 use Rattle.der_lite.specs.Times.{timed}
 use Rattle.der_lite.proofs.GrammarLaws.{stands_read, read_stands}
-use Rattle.der_lite.proofs.Times.{exact_time}
+use Rattle.der_lite.proofs.TimeLaws.{exact_time}
 use Rattle.der_lite.proofs.laws.reads_times_exactly.Goals as goal
 
 pub returns : goal.returns

@@ -1,7 +1,7 @@
 use Rattle.std.proofs.Common.{subst, sym}
 use Rattle.feed.specs.Feed.{IsRefused}
 use Rattle.feed.specs.declared.fault.FeedFault.{FeedFault}
-use Rattle.feed.proofs.Taking.{is_refused, is_taken, one_more}
+use Rattle.feed.proofs.TakingOffers.{is_refused, is_taken, one_more}
 use Rattle.feed.proofs.offers.take_all.Goals as goal
 
 pub returns-in-Err : goal.returns-in-Err

@@ -1,6 +1,6 @@
 use Rattle.std.proofs.Common.{ap, ◌∙◌, Err}
 use Rattle.std.proofs.lemmas.Result.{err_from_is_err_and}
-use Rattle.feed.proofs.Using.{is_used, set_refused, state_over}
+use Rattle.feed.proofs.PayloadsInUse.{is_used, set_refused, state_over}
 use Rattle.feed.proofs.route.route_from_payloads.Goals as goal
 
 pub returns-in_err-set-clause-refused : goal.returns-in_err-set-clause-refused

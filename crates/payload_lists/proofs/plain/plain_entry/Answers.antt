@@ -1,6 +1,6 @@
 use Rattle.std.proofs.Common.{Some, ◌∷◌, ap, ◌∙◌, subst, option_map}
 use Rattle.json.specs.Reads.{token_of}
-use Rattle.payload_lists.specs.Plain.{ReadsMember}
+use Rattle.payload_lists.specs.PlainForm.{ReadsMember}
 use Rattle.payload_lists.proofs.PlainTurns.{entry_is}
 use Rattle.payload_lists.proofs.plain.plain_entry.Goals as goal
 

@@ -1,7 +1,7 @@
 use Rattle.std.proofs.Common.{◌∷◌, sym, ap, ◌∙◌, subst}
 use Rattle.std.specs.Prelude.{IfSome}
 use Rattle.json.specs.Reads.{token_of}
-use Rattle.payload_lists.specs.Plain.{ReadsItems}
+use Rattle.payload_lists.specs.PlainForm.{ReadsItems}
 use Rattle.payload_lists.proofs.PlainLoop.{list_is}
 use Rattle.payload_lists.proofs.PlainMembers.{if_none}
 use Rattle.payload_lists.proofs.plain.plain_list.Goals as goal

@@ -1,5 +1,5 @@
 use Rattle.std.proofs.Common.{sym, subst}
-use Rattle.payload_lists.specs.Plain.{ReadsEntry}
+use Rattle.payload_lists.specs.PlainForm.{ReadsEntry}
 use Rattle.payload_lists.proofs.PlainLoop.{Begun, begun, begun_more, begun_ends}
 use Rattle.payload_lists.proofs.plain.plain_records.Goals as goal
 

@@ -1,6 +1,6 @@
 use Rattle.std.proofs.Common.{Some, sym, subst}
 use Rattle.serde_json.specs.Data.{number, put, unsigned}
-use Rattle.payload_lists.specs.Plain.{Holds}
+use Rattle.payload_lists.specs.PlainForm.{HoldsMembers}
 use Rattle.payload_lists.proofs.PlainMembers.{holds_asn, holds_max_len, none_is}
 use Rattle.payload_lists.proofs.plain.with_number.Goals as goal
 
@@ -8,9 +8,9 @@ use Rattle.payload_lists.proofs.plain.with_number.Goals as goal
 pub returns-in-asn : goal.returns-in-asn
 returns-in-asn c ms h =
     let new = none_is c.args.found.asn (c.if-is_none.ensures) in
-    subst (λ k. Holds (put k (number (unsigned c.args.count)) ms) (record c.args.found { asn = Some c.args.count })) (sym c.in-asn.is) (holds_asn ms c.args.found c.args.count new h)
+    subst (λ k. HoldsMembers (put k (number (unsigned c.args.count)) ms) (record c.args.found { asn = Some c.args.count })) (sym c.in-asn.is) (holds_asn ms c.args.found c.args.count new h)
 
 pub returns-in-maxLength : goal.returns-in-maxLength
 returns-in-maxLength c ms h =
     let new = none_is c.args.found.max_len (c.if-is_none-2.ensures) in
-    subst (λ k. Holds (put k (number (unsigned c.args.count)) ms) (record c.args.found { max_len = Some c.args.count })) (sym c.in-maxLength.is) (holds_max_len ms c.args.found c.args.count new h)
+    subst (λ k. HoldsMembers (put k (number (unsigned c.args.count)) ms) (record c.args.found { max_len = Some c.args.count })) (sym c.in-maxLength.is) (holds_max_len ms c.args.found c.args.count new h)

@@ -1,6 +1,6 @@
 use Rattle.std.proofs.Common.{arith, subst, sym, ◌∙◌, List, ℕ}
 use Rattle.std.proofs.lemmas.List.{length-take-le}
-use Rattle.rpkirtr.specs.Serves.{Serves}
+use Rattle.rpkirtr.specs.Serves.{ServesOn}
 use Rattle.rpkirtr.proofs.Exchanging.{pulled_all, pulled_fits, pulled_size, pulls_less, serves_pull}
 use Rattle.rpkirtr.proofs.answering.pull_all.Goals as goal
 
@@ -25,7 +25,7 @@ loop-conn-preserved c =
       pulled_size t.state c.args.conn.0 c.loop-conn.buffer c.pull-count.result c.pull-count.new.out c.pull-count.new.self (c.pull-count.ensures.gives t.state t.shows) ∙ c.loop-conn.invariant.0,
       λ i came before.
           let s = c.loop-conn.invariant.1 i came before in
-          subst (λ (x : List ℕ). Serves i c.args.conn.0 came x c.pull-count.new.self) (sym c.in_ok-extend_from_slice.ensures.items)
+          subst (λ (x : List ℕ). ServesOn i c.args.conn.0 came x c.pull-count.new.self) (sym c.in_ok-extend_from_slice.ensures.items)
           (serves_pull i c.args.conn.0 came c.loop-conn.replies.items c.loop-conn.cache c.pull-count.new.self c.loop-conn.buffer c.pull-count.result c.pull-count.new.out s (c.pull-count.ensures.gives s.state s.shows)),
     )
 

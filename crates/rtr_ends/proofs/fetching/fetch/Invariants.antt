@@ -2,8 +2,8 @@
 use Rattle.std.proofs.Common.{◌≡◌, ◌+◌, List, ◌∷◌, length}
 use Rattle.rtr_pdu.specs.Counted.{calls_of, device_of, failures_of}
 use Rattle.rtr_ends.specs.FetchStream.{Awaits}
-use Rattle.rtr_ends.specs.Router.{Call, Connects}
-use Rattle.rtr_ends.specs.Shown.{Leads}
+use Rattle.rtr_ends.specs.Router.{RouterCall, Connects}
+use Rattle.rtr_ends.specs.RouterShown.{CallsLead}
 use Rattle.rtr_ends.proofs.fetching.fetch.Given as goal
 
 abbrev pub invariant-loop-turn : goal.invariant-loop-turn
@@ -13,7 +13,7 @@ invariant-loop-turn g l = record {
   input_fails : failures_of l.input ≡ failures_of l.fn.input;
   output_fails : failures_of l.output ≡ failures_of l.fn.output;
   reads : calls_of l.input ≡ calls_of l.fn.input + l._turn;
-  awaits : (calls : List Call) → Leads (Connects l.now ∷ calls) l.fn.router
+  awaits : (calls : List RouterCall) → CallsLead (Connects l.now ∷ calls) l.fn.router
       → Awaits l.now calls (g.R.Read.remaining (device_of l.fn.input)) (g.R.Read.remaining (device_of l.input)) l._turn
       (g.W.Write.contents (device_of l.fn.output)) (g.W.Write.contents (device_of l.output)) l.router;
 }

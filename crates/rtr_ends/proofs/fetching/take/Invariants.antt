@@ -2,8 +2,8 @@
 use Rattle.std.proofs.Common.{◌≡◌, ◌-◌, ◌+◌, ◌≤◌, List, length, take}
 use Rattle.rtr_pdu.specs.Counted.{calls_of, device_of, failures_of}
 use Rattle.rtr_ends.specs.FetchStream.{TakenPart}
-use Rattle.rtr_ends.specs.Router.{Call}
-use Rattle.rtr_ends.specs.Shown.{Leads}
+use Rattle.rtr_ends.specs.Router.{RouterCall}
+use Rattle.rtr_ends.specs.RouterShown.{CallsLead}
 use Rattle.rtr_ends.proofs.fetching.take.Given as goal
 
 abbrev pub invariant-loop-room : goal.invariant-loop-room
@@ -11,7 +11,7 @@ invariant-loop-room g l = record {
   room : length l.room ≡ length l.initial.room;
   within : l.at ≤ length l.piece;
   fails : failures_of l.output ≡ failures_of l.initial.output;
-  part : (calls : List Call) → Leads calls l.initial.router
+  part : (calls : List RouterCall) → CallsLead calls l.initial.router
       → TakenPart l.now calls (take l.at l.piece) (g.W.Write.contents (device_of l.initial.output)) (g.W.Write.contents (device_of l.output)) l.router;
 }
 

@@ -2,7 +2,7 @@
 use Rattle.std.proofs.Common.{◌≡◌, ◌-◌, ◌+◌, ◌≤◌, List, length, take}
 use Rattle.std.specs.List.{AllByRecursion}
 use Rattle.rtr_pdu.specs.Counted.{calls_of, device_of, failures_of}
-use Rattle.rtr_ends.specs.Cache.{CacheCall}
+use Rattle.rtr_ends.specs.Cache.{ConnCall}
 use Rattle.rtr_ends.specs.CacheState.{CacheState}
 use Rattle.rtr_ends.specs.ServeStream.{IsTurn, Partly, StandsAt}
 use Rattle.rtr_ends.proofs.serving.answer.Given as goal
@@ -12,7 +12,7 @@ invariant-loop-room g l = record {
   room : length l.room ≡ length l.initial.room;
   within : l.at ≤ length l.piece;
   fails : failures_of l.output ≡ failures_of l.initial.output;
-  partly : (m : CacheState) (calls : List CacheCall) → AllByRecursion IsTurn calls → StandsAt g.S.VersionStore.holds m l.conn.0 calls l.initial.cache
+  partly : (m : CacheState) (calls : List ConnCall) → AllByRecursion IsTurn calls → StandsAt g.S.VersionStore.holds m l.conn.0 calls l.initial.cache
       → Partly g.S.VersionStore.holds m l.conn.0 calls (take l.at l.piece) (g.W.Write.contents (device_of l.initial.output)) (g.W.Write.contents (device_of l.output)) l.cache;
 }
 

@@ -1,5 +1,5 @@
 use Rattle.rtr_world.proofs.Rests.{settles}
-use Rattle.rtr_world.proofs.StepLaws.{each_leads, one_world, refuses_rightly}
+use Rattle.rtr_world.proofs.HistoryLeads.{each_leads, one_world, refuses_rightly}
 use Rattle.rtr_world.proofs.laws.steps.Goals as goal
 
 pub returns : goal.returns

@@ -1,6 +1,6 @@
 use Rattle.std.proofs.Common.{◌≡◌, length}
 use Rattle.std.specs.List.{AllByRecursion}
-use Rattle.rtr_world.specs.Shown.{IsNewSide}
+use Rattle.rtr_world.specs.SideShown.{IsNewSide}
 use Rattle.rtr_world.proofs.world.new_sides.Given as goal
 
 abbrev pub invariant-loop-number : goal.invariant-loop-number

@@ -1,6 +1,6 @@
 use Rattle.std.proofs.Common.{◌≡◌, true, false, sym, ap, ◌∙◌}
 use Rattle.der_lite.specs.Moments.{if_real, moment_in}
-use Rattle.der_lite.proofs.Moments.{not_zone, zone_is, not_digits, read_digits, told_digits, found_real}
+use Rattle.der_lite.proofs.MomentLaws.{not_zone, zone_is, not_digits, read_digits, told_digits, found_real}
 use Rattle.der_lite.proofs.moment.Moment.from_text.Goals.{then-digits-ne-DIGITS-via-then-digits-ne-DIGITS, then-digits-ne-DIGITS-via-else-digits-ne-DIGITS+then-not-are_digits}
 use Rattle.der_lite.proofs.moment.Moment.from_text.Goals as goal
 

@@ -1,6 +1,6 @@
 use Rattle.std.proofs.Common.{◌≡◌, Option, sym, ap, ◌∙◌, subst}
 use Rattle.der_lite.specs.Moments.{CivilMoment, moment_in, IsMomentOf}
-use Rattle.der_lite.proofs.Moments.{says}
+use Rattle.der_lite.proofs.MomentLaws.{says}
 use Rattle.der_lite.proofs.moment.Moment.parse.Goals as goal
 
 pub returns : goal.returns

@@ -1,4 +1,4 @@
-use Rattle.der_lite.proofs.Moments.{text_by_twos}
+use Rattle.der_lite.proofs.MomentLaws.{text_by_twos}
 use Rattle.der_lite.proofs.moment.Moment.text.Goals as goal
 
 pub returns-clause-value : goal.returns-clause-value

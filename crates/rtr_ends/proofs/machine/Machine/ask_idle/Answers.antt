@@ -1,5 +1,5 @@
 use Rattle.std.proofs.Common.{ap, []}
-use Rattle.rtr_ends.specs.Router.{is_idle}
+use Rattle.rtr_ends.specs.RouterLink.{is_idle}
 use Rattle.rtr_ends.specs.Seen.{seen_link}
 use Rattle.rtr_ends.proofs.MachineCells.{asks_idle, asks_not}
 use Rattle.rtr_ends.proofs.machine.Machine.ask_idle.Goals as goal

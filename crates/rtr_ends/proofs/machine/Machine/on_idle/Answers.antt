@@ -1,5 +1,5 @@
 use Rattle.std.proofs.Common.{sym, ap, ◌∙◌}
-use Rattle.rtr_ends.specs.Router.{ask}
+use Rattle.rtr_ends.specs.LinkRules.{ask}
 use Rattle.rtr_ends.specs.Seen.{seen}
 use Rattle.rtr_ends.specs.declared.machine.State.TheVariants as states
 use Rattle.rtr_ends.proofs.MachineCells.{does_so, fails_so, foreign_idle, idle_news, idle_old, idle_rejects, idle_strange, reports_so, stays_so, told_so, idle_told, idle_no_data, is_code, no_code}

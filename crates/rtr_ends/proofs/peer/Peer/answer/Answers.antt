@@ -1,5 +1,5 @@
 use Rattle.std.proofs.Common.{sym, subst, [], ◌∷◌}
-use Rattle.rtr_ends.specs.Peer.{Ends}
+use Rattle.rtr_ends.specs.Peer.{EndsConnection}
 use Rattle.rtr_ends.proofs.AnsweringLaws.{Unitwise, unit_other, unit_serial}
 use Rattle.rtr_ends.proofs.peer.Peer.answer.Goals as goal
 
@@ -11,4 +11,4 @@ returns-in-SerialQuery g c = λ keep t i holds k.
 pub returns-in_default : goal.returns-in_default
 returns-in_default g c = λ keep t i holds k.
     unit_other keep t i c.args.self.now c.end.new.self c.args.unit.now k c.in_default.not-ResetQuery c.in_default.not-SerialQuery c.in_default.not-ErrorReport
-    (subst (λ u. Ends c.args.self.now (u ∷ []) c.end.new.self) c.report_on.ensures c.end.ensures)
+    (subst (λ u. EndsConnection c.args.self.now (u ∷ []) c.end.new.self) c.report_on.ensures c.end.ensures)

@@ -1,5 +1,6 @@
 use Rattle.std.proofs.Common.{ap, refl, []}
-use Rattle.rtr_ends.specs.Router.{AsksNow, is_idle}
+use Rattle.rtr_ends.specs.Router.{AsksNow}
+use Rattle.rtr_ends.specs.RouterLink.{is_idle}
 use Rattle.rtr_ends.specs.Seen.{seen_link}
 use Rattle.rtr_ends.proofs.MachineCells.{asks_not}
 use Rattle.rtr_ends.proofs.RouterSteps.{idle_shown, leads_on}

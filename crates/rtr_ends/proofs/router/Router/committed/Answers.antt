@@ -1,6 +1,6 @@
 use Rattle.std.proofs.Common.{ap, sym, ◌∙◌}
-use Rattle.rtr_ends.specs.Links.{name_of}
-use Rattle.rtr_ends.specs.Router.{Router}
+use Rattle.rtr_ends.specs.RouterLink.{name_of}
+use Rattle.rtr_ends.specs.LinkRules.{Router}
 use Rattle.rtr_ends.specs.Seen.{seen_versions}
 use Rattle.rtr_ends.proofs.KeptLaws.{router_keeps}
 use Rattle.rtr_ends.proofs.router.Router.committed.Goals as goal

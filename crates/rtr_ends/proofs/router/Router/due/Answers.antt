@@ -1,5 +1,5 @@
 use Rattle.std.proofs.Common.{ap, sym, ◌∙◌}
-use Rattle.rtr_ends.specs.Router.{Router}
+use Rattle.rtr_ends.specs.LinkRules.{Router}
 use Rattle.rtr_ends.proofs.KeptLaws.{router_keeps}
 use Rattle.rtr_ends.proofs.router.Router.due.Goals as goal
 

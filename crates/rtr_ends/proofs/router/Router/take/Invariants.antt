@@ -1,10 +1,10 @@
 use Rattle.std.proofs.Common.{◌≤◌, length, true}
-use Rattle.rtr_ends.specs.Shown.{Takes}
+use Rattle.rtr_ends.specs.RouterShown.{TakesOn}
 use Rattle.rtr_ends.proofs.router.Router.take.Given as goal
 
 abbrev pub invariant-loop-self : goal.invariant-loop-self
 invariant-loop-self l = record {
-  goes : Takes true l.fn.self l.fn.piece.now l.self l.piece.now;
+  goes : TakesOn true l.fn.self l.fn.piece.now l.self l.piece.now;
   less : length l.piece.now ≤ length l.fn.piece.now;
 }
 

@@ -1,5 +1,5 @@
 use Rattle.std.proofs.Common.{◌≡◌, ◌∙◌, ◌<◌, ap, subst, sym, arith, length, None, Some}
-use Rattle.rtr_ends.specs.Sender.{Gives, Stays, due_of, left}
+use Rattle.rtr_ends.specs.Sender.{PullsBytes, Stays, due_of, left}
 use Rattle.rtr_ends.specs.declared.sender.Sender.{Sender}
 use Rattle.rtr_ends.proofs.SenderLaws.{none_filled, gives_more, all_given, gives_all, gives_rest, rests, without_answer, hands_more, hands_less, left_stays}
 use Rattle.rtr_ends.proofs.sender.Sender.pull.Goals as goal
@@ -21,7 +21,7 @@ returns-in_default-clause-gives c =
     let none : c.give-filled.new.self.answer ≡ None = sym c.take.ensures.value ∙ c.in_default.is in
     let given = all_given _ _ _ _ _ _ _ _ c.loop-filled.invariant c.give-filled.ensures
     (omega (arith, c.if-filled-out.false, f.low, c.give-filled.auto.out)) in
-    let P : Sender → Type 0 = λ s. Gives (due_of c.args.self.now) c.args.out.now c.give-filled.result c.give-filled.new.out (due_of s) in
+    let P : Sender → Type 0 = λ s. PullsBytes (due_of c.args.self.now) c.args.out.now c.give-filled.result c.give-filled.new.out (due_of s) in
     subst P (sym (without_answer c.give-filled.new.self c.take.new.self none c.take.ensures.after))
     (gives_rest c.args.self.now c.args.out.now c.give-filled.new.self c.give-filled.new.out c.give-filled.result (c.give-filled.auto.out ∙ c.loop-filled.auto.out) (rests c.give-filled.new.self given none) f)
 

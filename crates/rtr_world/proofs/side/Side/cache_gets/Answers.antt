@@ -1,5 +1,5 @@
 use Rattle.std.proofs.Common.{ap}
-use Rattle.rtr_world.proofs.Bytes.{cache_got, none_got}
+use Rattle.rtr_world.proofs.MovedBytes.{cache_got, none_got}
 use Rattle.rtr_world.proofs.Moving.{no_conn}
 use Rattle.rtr_world.proofs.side.Side.cache_gets.Goals as goal
 

@@ -1,4 +1,4 @@
-use Rattle.rtr_world.proofs.Bytes.{none_sends}
+use Rattle.rtr_world.proofs.MovedBytes.{none_sends}
 use Rattle.rtr_world.proofs.Moving.{no_conn, on_conn}
 use Rattle.rtr_world.proofs.side.Side.cache_sends.Goals as goal
 

@@ -1,7 +1,7 @@
 use Rattle.std.specs.Prelude.{◌≡◌, ◌⊎◌, false}
 use Rattle.std.proofs.Common.{◌∙◌, inl, inr, refl, subst, sym}
 use Rattle.rtr_ends.specs.Cache.{is_none}
-use Rattle.rtr_world.specs.Shown.{Moves}
+use Rattle.rtr_world.specs.SideShown.{Moves}
 use Rattle.rtr_world.proofs.Moving.{alone, conn_ended, conn_goes_on, ended_at, none_due, on_conn, open_at, some_due}
 use Rattle.rtr_world.proofs.side.Side.close_ended.Goals as goal
 use Rattle.rtr_world.proofs.side.Side.close_ended.Goals.{else-not-is_open-via-then-not-is_open+else-not-has_bytes, else-not-is_open-via-else-not-is_open}

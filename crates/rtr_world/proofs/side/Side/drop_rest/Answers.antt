@@ -1,6 +1,6 @@
 use Rattle.std.proofs.Common.{◌∙◌, [], ap, sym, subst}
 use Rattle.rtr_ends.specs.Cache.{is_none}
-use Rattle.rtr_world.specs.Shown.{Moves}
+use Rattle.rtr_world.specs.SideShown.{Moves}
 use Rattle.rtr_world.proofs.Moving.{rest_closed}
 use Rattle.rtr_world.proofs.side.Side.drop_rest.Goals as goal
 

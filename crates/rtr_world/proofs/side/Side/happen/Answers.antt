@@ -1,7 +1,7 @@
 use Rattle.std.specs.Prelude.{◌≡◌, Bool, false, true}
 use Rattle.std.proofs.Common.{◌∙◌, subst, sym}
 use Rattle.rtr_world.specs.Events.{side_event_of}
-use Rattle.rtr_world.specs.Shown.{Goes}
+use Rattle.rtr_world.specs.SideShown.{Goes}
 use Rattle.rtr_world.specs.World as model
 use Rattle.rtr_world.proofs.Happening.{happens}
 use Rattle.rtr_world.proofs.side.Side.happen.Goals as goal

@@ -1,7 +1,7 @@
 use Rattle.std.specs.Prelude.{◌&&◌}
 use Rattle.std.proofs.Common.{◌∙◌, ap, sym}
 use Rattle.rtr_world.specs.History.{room_since}
-use Rattle.rtr_world.specs.Shown.{held_of}
+use Rattle.rtr_world.specs.SideShown.{held_of}
 use Rattle.rtr_world.proofs.Room.{reached_good, reached_known, room_held, room_made}
 use Rattle.rtr_world.proofs.side.Side.has_room.Goals as goal
 

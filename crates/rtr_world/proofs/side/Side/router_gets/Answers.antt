@@ -1,5 +1,5 @@
 use Rattle.std.proofs.Common.{ap}
-use Rattle.rtr_world.proofs.Bytes.{router_got}
+use Rattle.rtr_world.proofs.MovedBytes.{router_got}
 use Rattle.rtr_world.proofs.side.Side.router_gets.Goals as goal
 
 pub returns : goal.returns

@@ -1,6 +1,6 @@
 use Rattle.std.specs.Prelude.{length}
 use Rattle.std.proofs.Common.{ap, arith, refl}
-use Rattle.rtr_world.proofs.Bytes.{none_sent, pulled, room_for, some_sent}
+use Rattle.rtr_world.proofs.MovedBytes.{none_sent, pulled, room_for, some_sent}
 use Rattle.rtr_world.proofs.side.Side.router_sends.Goals as goal
 
 pub returns-then-count-eq0 : goal.returns-then-count-eq0

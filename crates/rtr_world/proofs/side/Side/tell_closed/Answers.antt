@@ -1,5 +1,5 @@
 use Rattle.std.proofs.Common.{◌∙◌, ap, sym, subst, None}
-use Rattle.rtr_world.specs.Shown.{ShowsSide}
+use Rattle.rtr_world.specs.SideShown.{ShowsSide}
 use Rattle.rtr_world.specs.World as model
 use Rattle.rtr_world.proofs.Moving.{tells_closed, tells_open}
 use Rattle.rtr_world.proofs.side.Side.tell_closed.Goals as goal

@@ -1,5 +1,5 @@
 use Rattle.std.proofs.Common.{◌∙◌, ap, not, sym, subst}
-use Rattle.rtr_world.specs.Shown.{AloneAt}
+use Rattle.rtr_world.specs.SideShown.{AloneAt}
 use Rattle.rtr_world.specs.World as model
 use Rattle.rtr_world.proofs.Moving.{ended_told}
 use Rattle.rtr_world.proofs.side.Side.tell_ended.Goals as goal

@@ -3,7 +3,7 @@ use Rattle.std.proofs.Common.{◌∙◌, arith, refl, sym}
 use Rattle.rtr_world.specs.World.{Cut}
 use Rattle.rtr_world.specs.declared.event.CatchFault.{CatchFault}
 use Rattle.rtr_world.specs.declared.event.CatchFault.TheVariants.{Memory, NoSuchRouter}
-use Rattle.rtr_world.proofs.CaughtUp.{ends_so, fails_so, found_cut, no_error, no_router}
+use Rattle.rtr_world.proofs.CaughtUpLaws.{ends_so, fails_so, found_cut, no_error, no_router}
 use Rattle.rtr_world.proofs.Rounds.{step_of}
 use Rattle.rtr_world.proofs.Routers.{routers_stay}
 use Rattle.rtr_world.proofs.Showing.{shown_length}

@@ -1,6 +1,6 @@
 use Rattle.std.proofs.Common.{◌∙◌, sym}
 use Rattle.rtr_world.specs.World.{Cut}
-use Rattle.rtr_world.proofs.CaughtUp.{cut_at_last, has_nothing, is_current_now, told_idle}
+use Rattle.rtr_world.proofs.CaughtUpLaws.{cut_at_last, has_nothing, is_current_now, told_idle}
 use Rattle.rtr_world.proofs.Rounds.{step_of}
 use Rattle.rtr_world.proofs.world.World.conclude.Goals as goal
 

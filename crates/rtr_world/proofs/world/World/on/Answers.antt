@@ -3,7 +3,7 @@ use Rattle.std.proofs.Common.{◌∙◌, ap, arith, refl, subst}
 use Rattle.std.proofs.lemmas.Option.{slice_get_read}
 use Rattle.std.proofs.lemmas.Result.{err_from_is_err_and}
 use Rattle.rtr_world.specs.Events.{side_event_of}
-use Rattle.rtr_world.specs.Shown.{Happens, Moves}
+use Rattle.rtr_world.specs.SideShown.{Happens, Moves}
 use Rattle.rtr_world.proofs.Showing.{found_side}
 use Rattle.rtr_world.proofs.Stepping.{done, no_such, refused}
 use Rattle.rtr_world.proofs.world.World.on.Goals as goal

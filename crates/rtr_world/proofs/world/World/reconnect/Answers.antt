@@ -1,7 +1,7 @@
 use Rattle.std.proofs.Common.{◌∙◌, sym}
 use Rattle.std.proofs.lemmas.Result.{err_from_is_err_and}
 use Rattle.rtr_world.specs.World.{Connect}
-use Rattle.rtr_world.proofs.CaughtUp.{connected, first_failed, found_asking, found_there, not_connected, ok_round, rests_at_once, rests_then}
+use Rattle.rtr_world.proofs.CaughtUpLaws.{connected, first_failed, found_asking, found_there, not_connected, ok_round, rests_at_once, rests_then}
 use Rattle.rtr_world.proofs.Rounds.{step_of}
 use Rattle.rtr_world.proofs.world.World.reconnect.Goals as goal
 

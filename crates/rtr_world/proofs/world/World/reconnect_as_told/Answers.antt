@@ -1,6 +1,6 @@
 use Rattle.std.proofs.Common.{◌∙◌, sym}
 use Rattle.std.proofs.lemmas.Result.{err_from_is_err_and}
-use Rattle.rtr_world.proofs.CaughtUp.{and_again, failed_once, found_name, is_held, is_named, just_once, none_told, not_named, ok_once, some_told}
+use Rattle.rtr_world.proofs.CaughtUpLaws.{and_again, failed_once, found_name, is_held, is_named, just_once, none_told, not_named, ok_once, some_told}
 use Rattle.rtr_world.proofs.world.World.reconnect_as_told.Goals as goal
 use Rattle.rtr_world.proofs.world.World.reconnect_as_told.Goals.{else-held-via-then-held+else-is_none, else-held-via-else-held}
 

@@ -10,16 +10,16 @@ use Rattle.std.proofs.lemmas.Map.Text.{is_eq-slice_cmp}
 use Rattle.std.proofs.lemmas.Slice.Eq.{bytes_eq-Decides}
 use Rattle.der_lite.specs.Place.{Place, Fault}
 use Rattle.der_lite.specs.Der.{tlv, head_rules}
-use Rattle.der_lite.specs.Moments.{CivilMoment, told, numbers_of, moment_cmp, moment_before, moment_of, is_time, TimeSpells}
+use Rattle.der_lite.specs.Moments.{CivilMoment, told_moment, numbers_of, moment_cmp, moment_before, moment_of, is_time, TimeSpells}
 use Rattle.der_lite.specs.Grammar.{primitive}
-use Rattle.der_lite.specs.Reading.{◌>>=◌, judged, element_at, content_at, time_at}
+use Rattle.der_lite.specs.DerReading.{◌>>=◌, judged, element_at, content_at, time_at}
 use Rattle.der_lite.specs.Decoding.{ReadContent, read_element, read_primitive}
 use Rattle.der_lite.specs.Times.{time_rules, timed, timed_at}
 use Rattle.der_lite.proofs.Rules.{judged-bind, kept_first}
 use Rattle.der_lite.proofs.Exact.{ExactElement, exact_element, exact_primitive}
 use Rattle.der_lite.proofs.Once.{Once}
-use Rattle.der_lite.proofs.Plain.{usual_head, element_is, exact_along}
-use Rattle.der_lite.proofs.Moments.{time_is, spelled_is}
+use Rattle.der_lite.proofs.ContentReads.{usual_head, element_is, exact_along}
+use Rattle.der_lite.proofs.MomentLaws.{time_is, spelled_is}
 
 module _ (rules : CivilMoment → List (ℕ × Bool)) where
   -- the content as the grammar reads it
@@ -127,7 +127,7 @@ before_chain m n k h g = ap is_lt (total.trans (numbers_of m) (numbers_of n) (nu
 
 -- moments of the same numbers are one
 pub same_moment : (m n : CivilMoment) → numbers_of m ≡ numbers_of n → m ≡ n
-same_moment m n same = λ i. told (get_or (same i) 0 0) (get_or (same i) 1 0) (get_or (same i) 2 0) (get_or (same i) 3 0) (get_or (same i) 4 0) (get_or (same i) 5 0)
+same_moment m n same = λ i. told_moment (get_or (same i) 0 0) (get_or (same i) 1 0) (get_or (same i) 2 0) (get_or (same i) 3 0) (get_or (same i) 4 0) (get_or (same i) 5 0)
 
 -- and those that tie
 tied : (m n : CivilMoment) → moment_cmp m n ≡ Equal → m ≡ n

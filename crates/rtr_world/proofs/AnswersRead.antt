@@ -11,7 +11,9 @@ use Rattle.rtr_pdu.specs.declared.unit.Unit.TheVariants.{SerialNotify, Prefix}
 use Rattle.rtr_ends.specs.declared.link.End.TheVariants as ends
 use Rattle.rtr_ends.specs.Cache.{Conn, is_none, finds_memory}
 use Rattle.rtr_ends.specs.Feeding.{feed}
-use Rattle.rtr_ends.specs.Router.{Router, Link, Closed, Idle, Asked, Answering, Ended, Noted, Receiving, asked_by, on_unit, may_lack, reads, lacks, with_bytes, is_reading, router_stops, router_byte, expired, clocked, is_closed, close, is_due, is_idle, asks_if, emptied, connects_at, closed_at, ticks_at, asks, receives, router_pulled}
+use Rattle.rtr_ends.specs.LinkRules.{Router, on_unit, may_lack, emptied}
+use Rattle.rtr_ends.specs.Router.{Noted, Receiving, asked_by, reads, lacks, with_bytes, router_stops, router_byte, expired, clocked, close, asks_if, connects_at, closed_at, ticks_at, asks, receives, router_pulled}
+use Rattle.rtr_ends.specs.RouterLink.{Link, Closed, Idle, Asked, Answering, Ended, is_reading, is_closed, is_due, is_idle}
 use Rattle.rtr_ends.specs.Transcript.{AskReset, AskSerial, Item, At, Reads, is_serial, is_over, later, sum_of, retry_of}
 use Rattle.rtr_ends.proofs.FeedingLaws.{feed_keeps}
 use Rattle.rtr_ends.proofs.TableLaws.{false_true}
@@ -22,10 +24,10 @@ use Rattle.rtr_world.specs.World.{Side, World, instances, SideEvent, RouterResta
 use Rattle.rtr_world.proofs.Histories.{Kept, Known}
 use Rattle.rtr_world.proofs.Folding.{Blind, sends_keep, gets_keep, notifies_keep, settle_keeps}
 use Rattle.rtr_world.proofs.Invariant.{Flow, GoodRouter, Good, Shape, read_of}
-use Rattle.rtr_world.proofs.RouterSteps.{right_response}
-use Rattle.rtr_world.proofs.Seen.{Seen}
+use Rattle.rtr_world.proofs.UnitsAtRouters.{right_response}
+use Rattle.rtr_world.proofs.LinkedSides.{Seen}
 use Rattle.rtr_world.proofs.SideSteps.{live_of, byte_good, clocked_good}
-use Rattle.rtr_world.proofs.Streams.{ByteCase, partly, wholly, byte_case}
+use Rattle.rtr_world.proofs.UnitStreams.{ByteCase, partly, wholly, byte_case}
 use Rattle.rtr_world.proofs.UnitCases.{Brings, goes_on, ends_other, ends_memory, commits, stays, begins, stages, leaves, is_answering, unit_brings}
 
 -- what was read of the answer that is under way

@@ -8,7 +8,7 @@ use Rattle.std.proofs.Math.Nat.{pow-le-pow_right}
 use Rattle.std.specs.Char.{digit_value}
 use Rattle.std.specs.Fmt.{decimal}
 use Rattle.std.specs.Net.Grammar.{IsDotted, IsGroupsAfter, IsGroups, IsColonHex}
-use Rattle.prefixes.specs.Text.{IsGroup, AreGroups, joined_by_colons, IsFull, IsCompressed}
+use Rattle.prefixes.specs.Text.{IsGroup, AreHexGroups, joined_by_colons, IsFull, IsCompressed}
 use Rattle.prefixes.proofs.Lacks.{Lacks, both, left, right, digits_lack}
 
 -- texts with a colon before each
@@ -21,14 +21,14 @@ joined t [] = sym (append-nil t)
 joined t (u ∷ us) = ap (λ xs. t ++ (58 ∷ xs)) (joined u us)
 
 -- What Text.antt calls groups, the grammar reads: those after the first,
-after : (ipv4 : Bool) (gs : List ℕ) (ts : List (List ℕ)) → AreGroups gs ts → IsGroupsAfter ipv4 (58 ∷ []) (after_colons ts) gs
+after : (ipv4 : Bool) (gs : List ℕ) (ts : List (List ℕ)) → AreHexGroups gs ts → IsGroupsAfter ipv4 (58 ∷ []) (after_colons ts) gs
 after ipv4 [] [] h = refl
 after ipv4 (g ∷ gs) (t ∷ ts) h = inl (t, after_colons ts, refl, ((h.0.0, h.0.2), h.0.1), after ipv4 gs ts h.1)
 after ipv4 [] (t ∷ ts) h = absurd h
 after ipv4 (g ∷ gs) [] h = absurd h
 
 -- and all.
-to_groups : (ipv4 : Bool) (gs : List ℕ) (ts : List (List ℕ)) → AreGroups gs ts → IsGroups ipv4 (joined_by_colons ts) gs
+to_groups : (ipv4 : Bool) (gs : List ℕ) (ts : List (List ℕ)) → AreHexGroups gs ts → IsGroups ipv4 (joined_by_colons ts) gs
 to_groups ipv4 [] [] h = refl
 to_groups ipv4 (g ∷ gs) (t ∷ ts) h = inl (t, after_colons ts, joined t ts, ((h.0.0, h.0.2), h.0.1), after ipv4 gs ts h.1)
 to_groups ipv4 [] (t ∷ ts) h = absurd h
@@ -64,7 +64,7 @@ dotted_has_dot text octets h bare =
     (right 46 front (46 ∷ []) (left 46 (front ++ (46 ∷ [])) (decimal h.d) shown)).0 refl
 
 -- Where no dot is, what the grammar reads are groups: those after the first,
-from_after : (ipv4 : Bool) (gs text : List ℕ) → IsGroupsAfter ipv4 (58 ∷ []) text gs → Lacks 46 text → (ts : List (List ℕ)) × AreGroups gs ts × (text ≡ after_colons ts)
+from_after : (ipv4 : Bool) (gs text : List ℕ) → IsGroupsAfter ipv4 (58 ∷ []) text gs → Lacks 46 text → (ts : List (List ℕ)) × AreHexGroups gs ts × (text ≡ after_colons ts)
 from_after ipv4 [] text h bare = ([], tt, h)
 from_after ipv4 (g ∷ gs) text (inl h) bare =
     let (group, rest, split, is, more) = h in
@@ -77,7 +77,7 @@ from_after ipv4 (g ∷ gs) text (inr h) bare =
     absurd (dotted_has_dot last octets dotted shown.1)
 
 -- and all.
-from_groups : (ipv4 : Bool) (gs text : List ℕ) → IsGroups ipv4 text gs → Lacks 46 text → (ts : List (List ℕ)) × AreGroups gs ts × (text ≡ joined_by_colons ts)
+from_groups : (ipv4 : Bool) (gs text : List ℕ) → IsGroups ipv4 text gs → Lacks 46 text → (ts : List (List ℕ)) × AreHexGroups gs ts × (text ≡ joined_by_colons ts)
 from_groups ipv4 [] text h bare = ([], tt, h)
 from_groups ipv4 (g ∷ gs) text (inl h) bare =
     let (group, rest, split, is, more) = h in
@@ -111,14 +111,14 @@ read_as_groups text all (inr h) bare =
 -- an address lacks what is neither a hexadecimal digit nor a colon
 module _ (c : ℕ) (no_digit : 16 ≤ digit_value c) (no_colon : 58 ≢ c) where
   -- the groups after the first,
-  after_lack : (gs : List ℕ) (ts : List (List ℕ)) → AreGroups gs ts → Lacks c (after_colons ts)
+  after_lack : (gs : List ℕ) (ts : List (List ℕ)) → AreHexGroups gs ts → Lacks c (after_colons ts)
   after_lack [] [] h = tt
   after_lack (g ∷ gs) (t ∷ ts) h = (no_colon, both c t (after_colons ts) (digits_lack c 16 no_digit t h.0.0.1) (after_lack gs ts h.1))
   after_lack [] (t ∷ ts) h = absurd h
   after_lack (g ∷ gs) [] h = absurd h
 
   -- all groups of a list,
-  joined_lack : (gs : List ℕ) (ts : List (List ℕ)) → AreGroups gs ts → Lacks c (joined_by_colons ts)
+  joined_lack : (gs : List ℕ) (ts : List (List ℕ)) → AreHexGroups gs ts → Lacks c (joined_by_colons ts)
   joined_lack [] [] h = tt
   joined_lack (g ∷ gs) (t ∷ ts) h = subst (λ x. Lacks c x) (sym (joined t ts)) (both c t (after_colons ts) (digits_lack c 16 no_digit t h.0.0.1) (after_lack gs ts h.1))
   joined_lack [] (t ∷ ts) h = absurd h
@@ -163,7 +163,7 @@ small_group g t h =
     omega arith
 
 -- So have all groups,
-small_groups : (gs : List ℕ) (ts : List (List ℕ)) → AreGroups gs ts → Small gs
+small_groups : (gs : List ℕ) (ts : List (List ℕ)) → AreHexGroups gs ts → Small gs
 small_groups [] [] h = tt
 small_groups (g ∷ gs) (t ∷ ts) h = (small_group g t h.0, small_groups gs ts h.1)
 small_groups [] (t ∷ ts) h = absurd h

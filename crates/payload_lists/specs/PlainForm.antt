@@ -14,7 +14,7 @@ one_if None = 0
 one_if (Some a) = 1
 
 -- The members are those that were read, and no others.
-pub record Holds (ms : Members) (p : Plain) : Type 0 where
+pub record HoldsMembers (ms : Members) (p : Plain) : Type 0 where
   pub asn : get_member (codes "asn") ms ≡ option_map (λ n. number (unsigned n)) p.asn
   pub max_len : get_member (codes "maxLength") ms ≡ option_map (λ n. number (unsigned n)) p.max_len
   pub prefix : get_member (codes "prefix") ms ≡ option_map (λ s. string s.now) p.prefix
@@ -24,8 +24,8 @@ pub record Holds (ms : Members) (p : Plain) : Type 0 where
 abbrev pub ReadsMember : List Token → List Token → Plain → Plain → Type 0
 ReadsMember old new before after =
     (length new < length old)
-    × ((depth n : ℕ) (ms : Members) → 0 < n → Holds ms before →
-    (more : Members) × Holds more after × (converted (λ x. of_members x ms) (members (value depth) n old) ≡ converted (λ x. of_members x more) (members (value depth) (n - 1) new)))
+    × ((depth n : ℕ) (ms : Members) → 0 < n → HoldsMembers ms before →
+    (more : Members) × HoldsMembers more after × (converted (λ x. of_members x ms) (members (value depth) n old) ≡ converted (λ x. of_members x more) (members (value depth) (n - 1) new)))
 
 -- An entry of this payload was read.
 abbrev pub ReadsEntry : List Token → List Token → Payload → Type 0

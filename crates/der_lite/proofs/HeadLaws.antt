@@ -5,7 +5,7 @@ use Rattle.std.proofs.lemmas.List.{take_all}
 use Rattle.der_lite.specs.declared.head.Head.{Head}
 use Rattle.der_lite.specs.Place.{place_of, first_of}
 use Rattle.der_lite.specs.Der.{head_rules}
-use Rattle.der_lite.specs.Reading.{element_at, content_place, next_place}
+use Rattle.der_lite.specs.DerReading.{element_at, content_place, next_place}
 use Rattle.der_lite.specs.Cursors.{HeadOf}
 use Rattle.der_lite.proofs.Rules.{judged-kept, judged-broken}
 

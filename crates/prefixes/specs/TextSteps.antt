@@ -5,7 +5,7 @@ use Rattle.prefixes.specs.declared.fault.PrefixFault.{PrefixFault}
 use Rattle.prefixes.specs.declared.fault.PrefixFault.TheVariants as faults
 
 -- A text of decimal digits without leading zeros begins with no sign, and with 0 only where 0 is all of it.
-pub record Begins (text : List ℕ) : Type 0 where
+pub record BeginsNumeral (text : List ℕ) : Type 0 where
   pub some : 0 < length text
   pub digit : 48 ≤ slice_index text 0
   pub lone_zero : slice_index text 0 ≡ 48 → length text ≡ 1
@@ -16,9 +16,9 @@ IsOnly bound IsText (Some n) = (n < bound) × IsText n
 IsOnly bound IsText None = (n : ℕ) → n < bound → ¬ (IsText n)
 
 -- The prefix of an address and a length, or its first fault: a length over the width, then host bits
-abbrev pub IsJudged : ℕ → Block → Result Block PrefixFault → Type 0
-IsJudged width p (Ok q) = (q ≡ p) × IsPrefix width p
-IsJudged width p (Err faults.TooLong) = width < p.len
-IsJudged width p (Err faults.HostBits) = (p.len ≤ width) × ¬ (HasNoHostBits width p.addr p.len)
-IsJudged width p (Err faults.BadText) = ⊥
-IsJudged width p (Err faults.MaxLength) = ⊥
+abbrev pub IsBlockJudged : ℕ → Block → Result Block PrefixFault → Type 0
+IsBlockJudged width p (Ok q) = (q ≡ p) × IsPrefix width p
+IsBlockJudged width p (Err faults.TooLong) = width < p.len
+IsBlockJudged width p (Err faults.HostBits) = (p.len ≤ width) × ¬ (HasNoHostBits width p.addr p.len)
+IsBlockJudged width p (Err faults.BadText) = ⊥
+IsBlockJudged width p (Err faults.MaxLength) = ⊥

@@ -8,8 +8,8 @@ use Rattle.std.proofs.Math.Seq.{drop-append_seam}
 use Rattle.std.proofs.lemmas.List.{append_cancel_right, take-append-le, drop-append-le, take-append-drop, append-nil, nil_from_length, length-take-le}
 use Rattle.std.proofs.lemmas.List.Folds.{list_all-append, drop_split}
 use Rattle.std.proofs.lemmas.Slice.Eq.{bytes_eq-Decides}
-use Rattle.der_lite.specs.Moments.{CivilMoment, told, days_of_month, is_moment, decimals, decimal_number, moment_digits, moment_text, moment_of, is_time, if_real, moment_in, TimeSpells, IsMomentOf}
-use Rattle.der_lite.specs.Civils.{civil_moment, IsWhole, IsReal, real_from, whole_moment}
+use Rattle.der_lite.specs.Moments.{CivilMoment, told_moment, days_of_month, is_moment, decimals, decimal_number, moment_digits, moment_text, moment_of, is_time, if_real, moment_in, TimeSpells, IsMomentOf}
+use Rattle.der_lite.specs.Civils.{civil_moment, HasWholeSecond, IsReal, real_from, whole_moment}
 use Rattle.jiff.specs.Types.{DateTime}
 use Rattle.jiff.specs.Words.{IsDate, IsTime, IsYmd, IsHms}
 use Rattle.jiff.proofs.SpanFacts.{signed_arith}
@@ -213,9 +213,9 @@ zone_is text digits h e =
 pub told_digits : (digits : List ℕ) (year month day hour minute second : ℕ)
     → year ≡ decimal_number (take 4 digits) → month ≡ decimal_number (slice_range digits 4 6) → day ≡ decimal_number (slice_range digits 6 8)
     → hour ≡ decimal_number (slice_range digits 8 10) → minute ≡ decimal_number (slice_range digits 10 12) → second ≡ decimal_number (slice_range digits 12 14)
-    → told year month day hour minute second ≡ moment_of digits
+    → told_moment year month day hour minute second ≡ moment_of digits
 unfolding moment_of
-told_digits digits year month day hour minute second y m d h n s = λ i. told (y i) (m i) (d i) (h i) (n i) (s i)
+told_digits digits year month day hour minute second y m d h n s = λ i. told_moment (y i) (m i) (d i) (h i) (n i) (s i)
 
 -- numbers that are no moment
 pub not_real : (m : CivilMoment) → (IsReal m → ⊥) → None ≡ if_real m
@@ -235,8 +235,8 @@ pub civil_real : (dt : DateTime) (m : CivilMoment) (year month day hour minute s
     → IsYmd year month day dt.date → IsHms hour minute second (pos 0) dt.time → 1970 ≤ m.year → Some (civil_moment dt) ≡ if_real m
 civil_real dt m year month day hour minute second told_by date time low =
     let y = date.0 ∙ told_by.year in
-    let whole : IsWhole dt = record { year = subst (λ (y : ℤ). pos 1970 ≤ℤ y) (sym y) (omega (arith, signed_arith, low)); whole = ap unsigned_abs time.3 } in
-    let same : civil_moment dt ≡ m = λ i. told
+    let whole : HasWholeSecond dt = record { year = subst (λ (y : ℤ). pos 1970 ≤ℤ y) (sym y) (omega (arith, signed_arith, low)); whole = ap unsigned_abs time.3 } in
+    let same : civil_moment dt ≡ m = λ i. told_moment
     (unsigned_abs (y i))
     (unsigned_abs ((date.1 ∙ told_by.month) i))
     (unsigned_abs ((date.2 ∙ told_by.day) i))
@@ -273,7 +273,7 @@ pub text_said : (m : CivilMoment) → is_moment m ≡ true → moment_of (moment
 unfolding moment_of moment_text moment_digits
 text_said m h =
     let r = real_from m h in
-    λ i. told
+    λ i. told_moment
     (number_of_four m.year (omega (arith, r.year)) i)
     (number_of_two m.month (omega (arith, r.month)) i)
     (number_of_two m.day (days_below m.year m.month m.day r.day.1) i)

@@ -3,14 +3,14 @@ use Rattle.std.proofs.Common.{◌≡◌, ℕ, ◌<◌, Bool, true, false, eqb, c
 use Rattle.der_lite.specs.Place.{Place, Fault}
 use Rattle.der_lite.specs.Der.{head_rules, content_end, length_end}
 use Rattle.der_lite.specs.Grammar.{Element, Members, element, primitive, constructed, last, optional}
-use Rattle.der_lite.specs.Reading.{◌>>=◌, judged, element_at, content_at, end_at, content_place, next_place}
+use Rattle.der_lite.specs.DerReading.{◌>>=◌, judged, element_at, content_at, end_at, content_place, next_place}
 use Rattle.der_lite.specs.Decoding.{Read, ReadAll, read_element, read_primitive, read_constructed, read_last, read_optional, ended}
 use Rattle.der_lite.specs.Fields.{field_at, sequence_at, last_at, optional_at, valued_at, valued}
 use Rattle.der_lite.proofs.Rules.{judged-bind, judged_ok, bind_ok, ok, err, ok_is}
 use Rattle.der_lite.proofs.Elements.{head_kept, ends_stand}
 use Rattle.der_lite.proofs.Exact.{ExactElement, ExactMembers, ExactContent, exact_element, exact_constructed, exact_last, exact_optional, mapped_err}
 use Rattle.der_lite.proofs.Once.{Once}
-use Rattle.der_lite.proofs.Plain.{usual_head, exact_along}
+use Rattle.der_lite.proofs.ContentReads.{usual_head, exact_along}
 
 -- rules in two parts are judged one part after the other
 pub judged-append : {A : Type 0} (rules others : List (ℕ × Bool)) (at : ℕ) (r : Result A Fault) → judged (rules ++ others) at r ≡ judged rules at (judged others at r)

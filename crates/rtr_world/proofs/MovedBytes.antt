@@ -11,20 +11,21 @@ use Rattle.vrps.specs.Steps.{HoldsSteps, Steps}
 use Rattle.rtr_pdu.specs.declared.version.Version.TheVariants.{V1}
 use Rattle.rtr_pdu.specs.Judging.{Judgement, judge}
 use Rattle.rtr_ends.specs.Cache.{Conn, Taking, conn_byte, conn_pulled, conn_stops, conn_takes, counted, finds_memory}
-use Rattle.rtr_ends.specs.CacheState.{GivesBytes, ShowsCache, TakesPiece, consumed, due_at, is_wanted_at}
-use Rattle.rtr_ends.specs.Feeding.{Fed, feed}
-use Rattle.rtr_ends.specs.Peer.{is_wanted}
-use Rattle.rtr_ends.specs.Connection.{Pull, after}
-use Rattle.rtr_ends.specs.Router.{Noted, Pulls, Receiving, Router, called, clocked, receives, router_byte, router_stops, router_pulled, with_bytes}
-use Rattle.rtr_ends.specs.Sender.{Gives}
-use Rattle.rtr_ends.specs.Shown.{IsShown, Received, ReceivesSo, fed, is_lacking, taking}
+use Rattle.rtr_ends.specs.CacheState.{GivesBytes, ShowsCache, TakesPiece, conn_consumed, due_at, is_wanted_at}
+use Rattle.rtr_ends.specs.Feeding.{FedPiece, feed}
+use Rattle.rtr_ends.specs.Peer.{is_wanted_by_peer}
+use Rattle.rtr_ends.specs.Connection.{Pull, conn_after}
+use Rattle.rtr_ends.specs.LinkRules.{Router}
+use Rattle.rtr_ends.specs.Router.{Noted, Pulls, Receiving, called, clocked, receives, router_byte, router_stops, router_pulled, with_bytes}
+use Rattle.rtr_ends.specs.Sender.{PullsBytes}
+use Rattle.rtr_ends.specs.RouterShown.{IsShown, Received, ReceivesSo, fed, is_lacking, taking}
 use Rattle.rtr_ends.specs.Transcript.{Item, At}
 use Rattle.rtr_ends.specs.declared.cache.Cache.{Cache}
 use Rattle.rtr_ends.specs.declared.cache.Conn.{Conn as Number}
 use Rattle.rtr_ends.specs.declared.router.Router as routers
 use Rattle.rtr_ends.proofs.FeedingLaws.{feed_takes}
 use Rattle.rtr_world.specs.History.{conn_wants, wants_at}
-use Rattle.rtr_world.specs.Shown.{AloneAt, Begins, ConnIs, MadeAt, Moves, Passes, SendsSome, Shows, ShowsSide, state_of}
+use Rattle.rtr_world.specs.SideShown.{AloneAt, BeginsEvent, ConnIs, MadeAt, Moves, Passes, SendsSome, ShowsBoth, ShowsSide, state_of}
 use Rattle.rtr_world.specs.World.{World, Side, CacheGets, CacheSends, RouterGets, RouterSends, cache_gets, cache_sends, cut, gets_at, router_gets, router_sends, sends_from, side_step, timing}
 use Rattle.rtr_world.specs.declared.side.Side as values
 use Rattle.rtr_world.proofs.Moving.{OnConn, alone, and_then, clocked_same, conn_here, on_cache, on_conn, put, served_as}
@@ -42,7 +43,7 @@ left_over most count bytes taken rest piece is =
     (λ i. drop (count_is i) (whole i)) ∙ drop_front taken (rest ++ drop most bytes)
 
 -- A transcript so far does not matter to what a router does.
-record Alike (f g : Fed Receiving) : Type 0 where
+record Alike (f g : FedPiece Receiving) : Type 0 where
   pub router : f.machine.router ≡ g.machine.router
   pub rest : f.rest ≡ g.rest
   pub lacks : list_any is_lacking f.machine.items ≡ list_any is_lacking g.machine.items
@@ -116,7 +117,7 @@ conn_left w o wanting bytes most count is =
     let t = feed_takes (λ (m : Taking). conn_stops m.conn) (conn_byte w.keep timing w.present) (record { conn = o; moments = []; wanting = wanting }) (take most bytes) in
     left_over most count bytes t.0 (conn_takes w.keep timing w.present wanting (take most bytes) o).rest t.1.piece_is is
 
-pub none_got : (w : World) (at : ℕ → Option Conn) (s : Side) (cache : Cache Steps) (v : values.Side) (most : ℕ) → Shows w at s cache v → s.conn ≡ None → Passes w at (CacheGets most) s (λ t. Moves w at v.conn t cache v)
+pub none_got : (w : World) (at : ℕ → Option Conn) (s : Side) (cache : Cache Steps) (v : values.Side) (most : ℕ) → ShowsBoth w at s cache v → s.conn ≡ None → Passes w at (CacheGets most) s (λ t. Moves w at v.conn t cache v)
 unfolding side_step cache_gets
 none_got w at s cache v most h none = record {
   wanting = None;
@@ -124,7 +125,7 @@ none_got w at s cache v most h none = record {
   now = subst (λ o. Moves w at v.conn (gets_at w most None s o) cache v) (sym none) (alone w at s s cache v v h (record { shows = h.side; conn = refl }));
 }
 
-pub cache_got : (w : World) (at : ℕ → Option Conn) (s : Side) (cache later : Cache Steps) (v n : values.Side) (number : Number) (most count : ℕ) (piece : List ℕ) → Shows w at s cache v → v.conn ≡ Some number → piece ≡ take most v.up
+pub cache_got : (w : World) (at : ℕ → Option Conn) (s : Side) (cache later : Cache Steps) (v n : values.Side) (number : Number) (most count : ℕ) (piece : List ℕ) → ShowsBoth w at s cache v → v.conn ≡ Some number → piece ≡ take most v.up
     → TakesPiece HoldsSteps (state_of w at) number.0 piece count later → n ≡ record v { up = drop count v.up } → Passes w at (CacheGets most) s (λ t. Moves w at v.conn t later n)
 unfolding side_step cache_gets
 cache_got w at s cache later v n number most count piece h is piece_is took same =
@@ -135,7 +136,7 @@ cache_got w at s cache later v n number most count piece h is piece_is took same
     let wanted : IfSome took.wanting (λ unit. wants_at w (CacheGets most) most unit (Some s) ≡ true) = wants took.wanting took.wanted there got in
     let next : Conn = (conn_takes w.keep timing w.present took.wanting (take most s.up) x).machine.conn in
     let count_is : count ≡ length (take most s.up) - length (conn_takes w.keep timing w.present took.wanting (take most s.up) x).rest =
-    took.result_is ∙ ap (λ o. consumed took.wanting piece (state_of w at) o) there.at_is ∙ ap (λ p. length p - length (conn_takes w.keep timing w.present took.wanting p x).rest) got in
+    took.result_is ∙ ap (λ o. conn_consumed took.wanting piece (state_of w at) o) there.at_is ∙ ap (λ p. length p - length (conn_takes w.keep timing w.present took.wanting p x).rest) got in
     record {
       wanting = took.wanting;
       wanted = wanted;
@@ -156,7 +157,7 @@ cache_got w at s cache later v n number most count piece h is piece_is took same
     wants : (wanting : Option ℕ) → IfSome wanting (λ unit. is_wanted_at piece (state_of w at) (at number.0) unit ≡ true) → OnConn at number s.conn → piece ≡ take most s.up
         → IfSome wanting (λ unit. wants_at w (CacheGets most) most unit (Some s) ≡ true)
     wants None h t e = tt
-    wants (Some unit) h t e = ap (conn_wants w most unit s) t.is ∙ ap (λ p. is_wanted w.keep timing w.present t.conn p unit) (sym e) ∙ ap (λ o. is_wanted_at piece (state_of w at) o unit) (sym t.at_is) ∙ h
+    wants (Some unit) h t e = ap (conn_wants w most unit s) t.is ∙ ap (λ p. is_wanted_by_peer w.keep timing w.present t.conn p unit) (sym e) ∙ ap (λ o. is_wanted_at piece (state_of w at) o unit) (sym t.at_is) ∙ h
 
 -- What a router puts on the wire
 front_of : (most count : ℕ) (bytes behind : List ℕ) → count ≡ min most (length bytes) → take count (take most bytes ++ behind) ≡ take most bytes
@@ -220,7 +221,7 @@ none_sent w at s v n most count room h p none same =
     }
 
 pub some_sent : (w : World) (at : ℕ → Option Conn) (s : Side) (v n : values.Side) (most count : ℕ) (room : List ℕ) (result : Result ⊤ AllocError) → ShowsSide w at s v → Pulled most count room s.router n.router → ¬ (count ≡ 0)
-    → n ≡ record v { router = n.router; up = if is_ok result then v.up ++ take count room else v.up } → Begins w at (RouterSends most) s (λ t. AloneAt w at t v n) result
+    → n ≡ record v { router = n.router; up = if is_ok result then v.up ++ take count room else v.up } → BeginsEvent w at (RouterSends most) s (λ t. AloneAt w at t v n) result
 unfolding side_step router_sends cut
 some_sent w at s v n most count room (Ok done) h p some same = record {
   wanting = None;
@@ -262,7 +263,7 @@ some_sent w at s v n most count room (Err error) h p some same =
 -- What the cache puts on the wire
 conn_pulled_as : (keep a b : ℕ) (o : Conn) → min a (length o.state.due) ≡ min b (length o.state.due) → conn_pulled keep timing a o ≡ conn_pulled keep timing b o
 unfolding conn_pulled
-conn_pulled_as keep a b o h = ap (λ n. record o { state = after keep timing o.state (Pull n) }) h
+conn_pulled_as keep a b o h = ap (λ n. record o { state = conn_after keep timing o.state (Pull n) }) h
 
 take_as : (a b : ℕ) (xs : List ℕ) → min a (length xs) ≡ min b (length xs) → take a xs ≡ take b xs
 take_as a b xs h = sym (take_min a xs) ∙ ap (λ n. take n xs) h ∙ take_min b xs
@@ -323,14 +324,14 @@ given_side w at s v n number next down went h is same down_is = record {
   made_to = h.made_to;
 }
 
-pub clipped : (due out now rest : List ℕ) (count : ℕ) → Gives due out count now rest → min count (length now) ≡ count
+pub clipped : (due out now rest : List ℕ) (count : ℕ) → PullsBytes due out count now rest → min count (length now) ≡ count
 clipped due out now rest count g =
     let len : length now ≡ length (take count due) + length (drop count out) = ap length g.now_is ∙ length-append (take count due) (drop count out) in
     let front = length-take count due in
     let behind = length-drop count out in
     omega (arith, len, front, behind, g.count_is)
 
-module _ (w : World) (at : ℕ → Option Conn) (s : Side) (cache later : Cache Steps) (v n : values.Side) (number : Number) (o : Conn) (most count : ℕ) (old room : List ℕ) (h : Shows w at s cache v) (is : v.conn ≡ Some number) (has : s.conn ≡ Some o) (len : length old ≡ min most 4096) (gives : GivesBytes HoldsSteps (state_of w at) number.0 old count room later) where
+module _ (w : World) (at : ℕ → Option Conn) (s : Side) (cache later : Cache Steps) (v n : values.Side) (number : Number) (o : Conn) (most count : ℕ) (old room : List ℕ) (h : ShowsBoth w at s cache v) (is : v.conn ≡ Some number) (has : s.conn ≡ Some o) (len : length old ≡ min most 4096) (gives : GivesBytes HoldsSteps (state_of w at) number.0 old count room later) where
   abbrev Now : Side → Type 0
   Now t = Moves w at v.conn t later n
 
@@ -374,7 +375,7 @@ conn_as_it_was keep o = ap (λ n. record o { state = record o.state { due = drop
 as_it_was : (w : World) (s : Side) (o : Conn) → s.conn ≡ Some o → so_far w 0 s o ≡ s
 as_it_was w s o has = λ i. record s { conn = (ap (λ x. Some x) (conn_as_it_was w.keep o) ∙ sym has) i; down = append-nil s.down i }
 
-pub nothing_sent : (w : World) (at : ℕ → Option Conn) (s : Side) (o : Conn) (cache : Cache Steps) (v : values.Side) (most : ℕ) → Shows w at s cache v → s.conn ≡ Some o → SentSo w at s o (most - most) v.conn cache v
+pub nothing_sent : (w : World) (at : ℕ → Option Conn) (s : Side) (o : Conn) (cache : Cache Steps) (v : values.Side) (most : ℕ) → ShowsBoth w at s cache v → s.conn ≡ Some o → SentSo w at s o (most - most) v.conn cache v
 nothing_sent w at s o cache v most h has =
     let none : 0 ≡ most - most = omega arith in
     subst (λ n. SentSo w at s o n v.conn cache v) none (record {
@@ -395,7 +396,7 @@ sent_more w at s o most left count next old cache later v n sent some went sends
     })
 
 pub sent_whole : (w : World) (at : ℕ → Option Conn) (s : Side) (o : Conn) (most count : ℕ) (old : Option Number) (cache : Cache Steps) (v : values.Side) → s.conn ≡ Some o → SentSo w at s o count old cache v
-    → min count (length o.state.due) ≡ min most (length o.state.due) → Begins w at (CacheSends most) s (λ t. Moves w at old t cache v) (Ok tt)
+    → min count (length o.state.due) ≡ min most (length o.state.due) → BeginsEvent w at (CacheSends most) s (λ t. Moves w at old t cache v) (Ok tt)
 unfolding side_step cache_sends
 sent_whole w at s o most count old cache v has sent all = record {
   wanting = None;
@@ -406,14 +407,14 @@ sent_whole w at s o most count old cache v has sent all = record {
 -- where no more is due
 pub sent_due : (w : World) (at : ℕ → Option Conn) (s : Side) (o : Conn) (most left : ℕ) (old : Option Number) (cache later : Cache Steps) (v n : values.Side) (sent : SentSo w at s o (most - left) old cache v)
     → (some : Result ℕ AllocError) → some ≡ Ok 0 → SendsSome w sent.moves.now left (so_far w (most - left) s o) (conn_pulled w.keep timing (most - left) o) (λ t. Moves w sent.moves.now v.conn t later n) some → left ≤ most → 0 < left → s.conn ≡ Some o
-    → Begins w at (CacheSends most) s (λ t. Moves w at old t later n) (Ok tt)
+    → BeginsEvent w at (CacheSends most) s (λ t. Moves w at old t later n) (Ok tt)
 sent_due w at s o most left old cache later v n sent some went sends few more has =
     let none = (subst (λ r. SendsSome w sent.moves.now left (so_far w (most - left) s o) (conn_pulled w.keep timing (most - left) o) (λ t. Moves w sent.moves.now v.conn t later n) r) went sends).0 in
     let due = ap length (due_left w.keep (most - left) o sent.few) ∙ length-drop (most - left) o.state.due in
     let all : min (most - left) (length o.state.due) ≡ min most (length o.state.due) = omega (arith, none, due, few, more, sent.few) in
     sent_whole w at s o most (most - left) old later n has (sent_more w at s o most left 0 left old cache later v n sent some went sends few (omega arith)) all
 
-pub none_sends : (w : World) (at : ℕ → Option Conn) (s : Side) (cache : Cache Steps) (v : values.Side) (most : ℕ) → Shows w at s cache v → s.conn ≡ None → Begins w at (CacheSends most) s (λ t. Moves w at v.conn t cache v) (Ok tt)
+pub none_sends : (w : World) (at : ℕ → Option Conn) (s : Side) (cache : Cache Steps) (v : values.Side) (most : ℕ) → ShowsBoth w at s cache v → s.conn ≡ None → BeginsEvent w at (CacheSends most) s (λ t. Moves w at v.conn t cache v) (Ok tt)
 unfolding side_step cache_sends
 none_sends w at s cache v most h none = record {
   wanting = None;
@@ -423,11 +424,11 @@ none_sends w at s cache v most h none = record {
 
 pub send_fails : (w : World) (at : ℕ → Option Conn) (s : Side) (o : Conn) (most left k : ℕ) (old : Option Number) (cache later : Cache Steps) (v n : values.Side) (sent : SentSo w at s o k old cache v) (some : Result ℕ AllocError) (result : Result ⊤ AllocError) (was error : AllocError)
     → s.conn ≡ Some o → some ≡ Err was → result ≡ Err error → SendsSome w sent.moves.now left (so_far w k s o) (conn_pulled w.keep timing k o) (λ t. Moves w sent.moves.now v.conn t later n) some
-    → Begins w at (CacheSends most) s (λ t. Moves w at old t later n) result
+    → BeginsEvent w at (CacheSends most) s (λ t. Moves w at old t later n) result
 unfolding cache_sends cut
 send_fails w at s o most left k old cache later v n sent some result was error has failed is fails =
     let f = subst (λ r. SendsSome w sent.moves.now left (so_far w k s o) (conn_pulled w.keep timing k o) (λ t. Moves w sent.moves.now v.conn t later n) r) failed fails in
-    subst (λ r. Begins w at (CacheSends most) s (λ t. Moves w at old t later n) r) (sym is) (record {
+    subst (λ r. BeginsEvent w at (CacheSends most) s (λ t. Moves w at old t later n) r) (sym is) (record {
       bytes = 0;
       fewer = omega arith;
       may = λ none. absurd (let e : ◌≡◌ {A = Option Conn} None (Some o) = sym none ∙ has in cc);

@@ -3,9 +3,9 @@ use Rattle.std.proofs.Common.{◌≡◌, ℕ, Bool, List, [], ◌++◌, Result, 
 use Rattle.der_lite.specs.Place.{Place, Fault, place_of}
 use Rattle.der_lite.specs.Der.{IsBytes, head_rules, tlv}
 use Rattle.der_lite.specs.Grammar.{Element, Breaks, inside, primitive, plain}
-use Rattle.der_lite.specs.Reading.{◌>>=◌, judged, element_at, content_at, content_place, next_place}
+use Rattle.der_lite.specs.DerReading.{◌>>=◌, judged, element_at, content_at, content_place, next_place}
 use Rattle.der_lite.specs.Decoding.{Read, ReadContent, read_element, read_primitive}
-use Rattle.der_lite.specs.Laws.{Found}
+use Rattle.der_lite.specs.DerLaws.{Found}
 use Rattle.der_lite.proofs.Rules.{judged-bind, judged-kept, judged_ok, judged_err, judged_breaks, ok_is}
 use Rattle.der_lite.proofs.Elements.{Opens, behind, stands, stands_again}
 use Rattle.der_lite.proofs.Exact.{ExactElement, IsHead, exact_element, exact_primitive, next_is}

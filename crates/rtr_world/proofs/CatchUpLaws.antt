@@ -3,7 +3,8 @@ use Rattle.std.specs.Prelude.{◌≡◌, ℕ, List, [], ◌∷◌, ◌++◌, map
 use Rattle.std.proofs.Common.{sym, ap, subst, zero, suc}
 use Rattle.std.specs.List.{AllByRecursion}
 use Rattle.vrps.specs.Instance.{Instance}
-use Rattle.rtr_ends.specs.Router.{Router, Link, Closed, Idle, Asked, Answering, Ended, is_reading}
+use Rattle.rtr_ends.specs.LinkRules.{Router}
+use Rattle.rtr_ends.specs.RouterLink.{Link, Closed, Idle, Asked, Answering, Ended, is_reading}
 use Rattle.rtr_world.specs.CatchUp.{AreMoves, IdleIsCurrent, IsFresh, IsMove, IsMoveOf}
 use Rattle.rtr_world.specs.History.{Outcome, Done, SessionUsed, TooManyVersions, NoSuchRouter, Memory, after, Entry, LeadsFrom, side_at}
 use Rattle.rtr_world.specs.World.{Side, World, instances, SideEvent, Connect, Event, Publish, Restart, On, goes_through, is_refused, new_world, on_side, settle, settled, side_refused, side_step}
@@ -11,7 +12,7 @@ use Rattle.rtr_world.proofs.CatchUpSides.{Fresh, FreshLink, connects_fresh, refu
 use Rattle.rtr_world.proofs.CatchUpUnits.{Current}
 use Rattle.rtr_world.proofs.Invariant.{Good}
 use Rattle.rtr_world.proofs.SideLaws.{all_new}
-use Rattle.rtr_world.proofs.TableLaws.{AllTell, SideTells, after_tells, new_side_tells}
+use Rattle.rtr_world.proofs.KeptTables.{AllTell, SideTells, after_tells, new_side_tells}
 use Rattle.rtr_world.proofs.WorldSteps.{GoodWorld, after_good, new_good}
 
 -- a fact of the side of this number

@@ -9,8 +9,8 @@ use Rattle.vrps.specs.Origin.{state}
 use Rattle.vrps.specs.VrpSet.{VrpSet, set_of, size}
 use Rattle.vrps.specs.declared.set.SetFault.{SetFault}
 use Rattle.vrps.specs.declared.set.SetFault.TheVariants as sets
-use Rattle.rtr_ends.specs.Router as model
-use Rattle.rtr_ends.specs.Shown.{IsShown}
+use Rattle.rtr_ends.specs.LinkRules as rules
+use Rattle.rtr_ends.specs.RouterShown.{IsShown}
 use Rattle.rtr_ends.specs.declared.router.Router as code
 use Rattle.vrps.specs.declared.origin.OriginState.{OriginState}
 use Rattle.feed.specs.Feed.{AreTaken, IsRefused, IsUsed}
@@ -29,5 +29,5 @@ set_refused now offers points vs sets.TooMany taken lists many = (set_of vs, is_
 set_refused now offers points vs sets.Memory taken lists many = tt
 
 -- The state of a route at a router that holds a set
-pub state_over : (set : VrpSet) (router : code.Router) (route : Route) (told : OriginState) → HasTable set router → ((r : model.Router) → IsShown r router → told ≡ state r.table route) → told ≡ state set route
+pub state_over : (set : VrpSet) (router : code.Router) (route : Route) (told : OriginState) → HasTable set router → ((r : rules.Router) → IsShown r router → told ≡ state r.table route) → told ≡ state set route
 state_over set router route told h is = is h.machine h.shown ∙ ap (λ s. state s route) h.table

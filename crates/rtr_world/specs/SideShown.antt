@@ -8,8 +8,8 @@ use Rattle.vrps.specs.declared.serial.Serial.{Serial}
 use Rattle.rtr_pdu.specs.Unit.{MAX_UNIT_LEN}
 use Rattle.rtr_ends.specs.Cache.{Conn}
 use Rattle.rtr_ends.specs.CacheState.{CacheState, ShowsCache}
-use Rattle.rtr_ends.specs.Router.{new_router}
-use Rattle.rtr_ends.specs.Shown.{IsShown}
+use Rattle.rtr_ends.specs.LinkRules.{new_router}
+use Rattle.rtr_ends.specs.RouterShown.{IsShown}
 use Rattle.rtr_ends.specs.Transcript.{Committed}
 use Rattle.rtr_ends.specs.declared.cache.Cache.{Cache}
 use Rattle.rtr_ends.specs.declared.cache.Conn.{Conn as Number}
@@ -56,7 +56,7 @@ pub record ShowsSide (w : World) (at : ℕ → Option Conn) (s : Side) (v : valu
   pub made_to : MadeTo (instances w) s.home
 
 -- a side and the cache
-pub record Shows (w : World) (at : ℕ → Option Conn) (s : Side) (cache : Cache Steps) (v : values.Side) : Type 0 where
+pub record ShowsBoth (w : World) (at : ℕ → Option Conn) (s : Side) (cache : Cache Steps) (v : values.Side) : Type 0 where
   pub serves : ShowsCache HoldsSteps (state_of w at) cache
   pub side : ShowsSide w at s v
 
@@ -69,14 +69,14 @@ Has (Some number) n = number.0 ≡ n
 -- sides are as they were; what else is open at the cache was so before, and not this side's.
 pub record Moves (w : World) (at : ℕ → Option Conn) (old : Option Number) (s : Side) (cache : Cache Steps) (v : values.Side) : Type 0 where
   pub now : ℕ → Option Conn
-  pub shows : Shows w now s cache v
+  pub shows : ShowsBoth w now s cache v
   pub others : (n : ℕ) → IsSome (at n) → ¬ (Has old n) → now n ≡ at n
   pub own : (n : ℕ) → Has v.conn n → Has old n ⊎ (at n ≡ None)
   pub only : (n : ℕ) → IsSome (now n) → Has v.conn n ⊎ ((Has old n → ⊥) × (now n ≡ at n))
 
 -- A call: each side that the value shows becomes this one.
 abbrev pub Goes : (World → Side → Side) → Cache Steps → values.Side → Cache Steps → values.Side → Type 0
-Goes f cache old later new = (w : World) (at : ℕ → Option Conn) (s : Side) → Shows w at s cache old → Moves w at old.conn (f w s) later new
+Goes f cache old later new = (w : World) (at : ℕ → Option Conn) (s : Side) → ShowsBoth w at s cache old → Moves w at old.conn (f w s) later new
 
 -- A call that leaves the cache alone
 pub record AloneAt (w : World) (at : ℕ → Option Conn) (s : Side) (old new : values.Side) : Type 0 where
@@ -100,7 +100,7 @@ pub record Passes (w : World) (at : ℕ → Option Conn) (event : SideEvent) (s 
   pub now : Now (side_step w event wanting s)
 
 -- It fails for want of memory after so many bytes, and the cut is still to come.
-pub record Fails (w : World) (at : ℕ → Option Conn) (event : SideEvent) (s : Side) (Now : Side → Type 0) : Type 0 where
+pub record FailsForMemory (w : World) (at : ℕ → Option Conn) (event : SideEvent) (s : Side) (Now : Side → Type 0) : Type 0 where
   pub bytes : ℕ
   pub fewer : bytes ≤ moved_at w event None (Some s)
   pub may : MayFail event s
@@ -108,9 +108,9 @@ pub record Fails (w : World) (at : ℕ → Option Conn) (event : SideEvent) (s :
   pub cut_is : cut 0 part ≡ cut 0 (side_part w event bytes None s)
   pub now : Now part
 
-abbrev pub Begins : World → (ℕ → Option Conn) → SideEvent → Side → (Side → Type 0) → Result ⊤ AllocError → Type 0
-Begins w at event s Now (Ok done) = Passes w at event s Now
-Begins w at event s Now (Err error) = Fails w at event s Now
+abbrev pub BeginsEvent : World → (ℕ → Option Conn) → SideEvent → Side → (Side → Type 0) → Result ⊤ AllocError → Type 0
+BeginsEvent w at event s Now (Ok done) = Passes w at event s Now
+BeginsEvent w at event s Now (Err error) = FailsForMemory w at event s Now
 
 -- After the clean-up
 pub record Refused (w : World) (event : SideEvent) (s : Side) (Now : Side → Type 0) : Type 0 where

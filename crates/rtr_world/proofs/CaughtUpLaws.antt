@@ -2,16 +2,16 @@
 use Rattle.std.specs.Prelude.{◌≡◌, ◌⊎◌, ℕ, ◌+◌, ◌≤◌, ◌<◌, Bool, true, false, not, List, [], ◌∷◌, ◌++◌, length, Option, Some, None, IsSome, is_some, option_and_then, option_map, Result, Ok, Err, is_err, refl, ⊤}
 use Rattle.std.proofs.Common.{sym, ap, ◌∙◌, subst, append_assoc, arith, inl, inr}
 use Rattle.std.proofs.lemmas.List.{append-nil}
-use Rattle.vrps.specs.Instance.{Version, versions, versions_from}
+use Rattle.vrps.specs.Instance.{NumberedSet, versions, versions_from}
 use Rattle.vrps.specs.Stores.{newest}
 use Rattle.vrps.specs.VrpSet.{VrpSet}
-use Rattle.rtr_ends.specs.Links.{name_of, told_link}
-use Rattle.rtr_ends.specs.Router.{Link, Closed, Idle, Asked, Answering, Ended}
+use Rattle.rtr_ends.specs.RouterLink.{name_of, told_link}
+use Rattle.rtr_ends.specs.RouterLink.{Link, Closed, Idle, Asked, Answering, Ended}
 use Rattle.rtr_ends.specs.Transcript.{AskReset, Committed}
 use Rattle.rtr_ends.specs.declared.link.Link.TheVariants as links
 use Rattle.rtr_world.specs.CatchUp.{AreMoves, HoldsNewest, IdleAfter, IdleSoon, IsFresh, IsMoveOf, IsQuiet, Rests, RestsNext, RestsSo, RestsSoon, round, stepped}
-use Rattle.rtr_world.specs.CaughtUp.{AllWent, By, Caught, CatchesUp, ComesToRest, Concluded, GoesRound, Holds, IdleOrDropped, IsCutOff, IsIdle, KeepOpen, KeepsOpen, Lacks, Reconnected, Rounded, StaysOpen, all_bytes, connecting, connections}
-use Rattle.rtr_world.specs.Events.{Answers, fault_of}
+use Rattle.rtr_world.specs.CaughtUp.{AllWent, By, Caught, CatchesUp, ComesToRest, Concluded, GoesRound, HoldsThen, IdleOrDropped, IsCutOff, IsIdle, KeepOpen, KeepsOpen, Lacks, Reconnected, Rounded, StaysOpen, all_bytes, connecting, connections}
+use Rattle.rtr_world.specs.Events.{AnswersOutcome, outcome_fault}
 use Rattle.rtr_world.specs.History.{Done, Entry, Made, Leads, after, side_at}
 use Rattle.rtr_world.specs.Reached.{LeadsTo}
 use Rattle.rtr_world.specs.World.{World, Side, RouterRestart, Connect, RouterSends, CacheGets, CacheSends, RouterGets, Cut, NotifyRouter, Ask, Tick, Event, Publish, Restart, On, connects, instances, settle}
@@ -19,7 +19,7 @@ use Rattle.rtr_world.specs.declared.event.CatchFault.{CatchFault}
 use Rattle.rtr_world.specs.declared.event.CatchFault.TheVariants as faults
 use Rattle.rtr_world.specs.declared.event.WorldFault.{WorldFault}
 use Rattle.rtr_world.specs.declared.world.World as code
-use Rattle.rtr_world.proofs.CatchUp.{idle_is_current}
+use Rattle.rtr_world.proofs.CatchUpLaws.{idle_is_current}
 use Rattle.rtr_world.proofs.CatchUpEnds.{catches_up, rounds_end}
 use Rattle.rtr_world.proofs.CatchUpSteps.{SameCache, round_same, rounded_cache, rounds_are_steps, same_cache, stepped_cache}
 use Rattle.rtr_world.proofs.Rounds.{Along, Stepped, both, cut_leaves, entry_of, further, lacked, lacks_behind, parted, went}
@@ -97,7 +97,7 @@ module _ (made : Made) (history : List Entry) (r : ℕ) (v : code.World) (l : Le
   -- no connection was made
   pub not_connected : (step result : Result ⊤ WorldFault) (fault last : WorldFault) (new : code.World) → Stepped made history w r Connect step new → step ≡ Err fault → result ≡ Err last → Reconnected 1 made history r s IdleOrDropped result new
   not_connected step result fault last new t failed is =
-      let k = lacked r Connect w s found t.outcome fault (subst (λ x. Answers (fault_of t.outcome) x) failed t.answers) t.may in
+      let k = lacked r Connect w s found t.outcome fault (subst (λ x. AnswersOutcome (outcome_fault t.outcome) x) failed t.answers) t.may in
       let cut : Lacks r (entry_of r Connect t.outcome ∷ []) t.leads.world = record { wanting = λ all. k.1 all.0; off = subst (IsCutOff r) (sym t.is) k.0 } in
       record {
         more = entry_of r Connect t.outcome ∷ [];
@@ -115,7 +115,7 @@ module _ (made : Made) (history : List Entry) (r : ℕ) (v : code.World) (l : Le
 
   pub connected : (step : Result ⊤ WorldFault) (new : code.World) → Stepped made history w r Connect step new → step ≡ Ok tt → Connected new
   connected step new t ok =
-      let o = went t.outcome (subst (λ x. Answers (fault_of t.outcome) x) ok t.answers) in
+      let o = went t.outcome (subst (λ x. AnswersOutcome (outcome_fault t.outcome) x) ok t.answers) in
       record {
         wanting = o.0;
         leads = record { world = t.leads.world; leads = subst (λ x. Leads made (history ++ entry_of r Connect x ∷ []) t.leads.world) o.1 t.leads.leads; shows = t.leads.shows };
@@ -327,25 +327,25 @@ idle_holds made history v r l o s found idle =
     let fresh = idle_is_current made o.before o.later r o.wanting l.world s (subst (λ h. Leads made h l.world) o.are l.leads) o.moves found in
     (subst (IsFresh l.world.present s.home s.router) idle fresh).1
 
-holds_now : (session : ℕ) (vs : List Version) (version : Option Committed) (table : VrpSet) (now : Version) → newest vs ≡ Some now → HoldsNewest session vs version table → (name_of version ≡ Some (session, now.serial)) × (table ≡ now.set)
-holds_now session [] version table now is h = absurd (let k : ◌≡◌ {A = Option Version} None (Some now) = is in cc)
+holds_now : (session : ℕ) (vs : List NumberedSet) (version : Option Committed) (table : VrpSet) (now : NumberedSet) → newest vs ≡ Some now → HoldsNewest session vs version table → (name_of version ≡ Some (session, now.serial)) × (table ≡ now.set)
+holds_now session [] version table now is h = absurd (let k : ◌≡◌ {A = Option NumberedSet} None (Some now) = is in cc)
 holds_now session (v ∷ older) None table now is h = absurd h
 holds_now session (v ∷ older) (Some version) table now is h =
-    ((λ i. Some (h.0 i, (h.1 ∙ ap (λ (x : Version). x.serial) (inside is)) i)), h.2 ∙ ap (λ (x : Version). x.set) (inside is))
+    ((λ i. Some (h.0 i, (h.1 ∙ ap (λ (x : NumberedSet). x.serial) (inside is)) i)), h.2 ∙ ap (λ (x : NumberedSet). x.set) (inside is))
   where
-    inside : {a b : Version} → Some a ≡ Some b → a ≡ b
+    inside : {a b : NumberedSet} → Some a ≡ Some b → a ≡ b
     inside h = cc
 
 none_newest : (start : ℕ) (sets : List VrpSet) → newest (versions_from start sets) ≡ None → sets ≡ []
 none_newest start [] h = refl
-none_newest start (set ∷ older) h = absurd (let k : ◌≡◌ {A = Option Version} (newest (versions_from start (set ∷ older))) None = h in cc)
+none_newest start (set ∷ older) h = absurd (let k : ◌≡◌ {A = Option NumberedSet} (newest (versions_from start (set ∷ older))) None = h in cc)
 
 -- what an idle side that rests is
 quiet_idle : (s : Side) → Rests s → s.router.link ≡ Idle → IsQuiet s
 quiet_idle s rests idle = subst (RestsSo s) idle rests
 
 module _ (made : Made) (history : List Entry) (v : code.World) (r : ℕ) (l : LeadsTo made history v) (o : StaysOpen r history) (s : Side) (found : side_at r l.world.sides ≡ Some s) (rests : Rests s) where
-  pub is_current_now : s.router.link ≡ Idle → (now : Version) → newest (versions l.world.present) ≡ Some now → Concluded made history r s (Ok tt) v
+  pub is_current_now : s.router.link ≡ Idle → (now : NumberedSet) → newest (versions l.world.present) ≡ Some now → Concluded made history r s (Ok tt) v
   is_current_now idle now is =
       let held = holds_now l.world.present.session (versions l.world.present) s.router.version s.router.table now is (idle_holds made history v r l o s found idle) in
       record {
@@ -424,7 +424,7 @@ module _ (made : Made) (history : List Entry) (r : ℕ) (w : World) (step : Resu
       opens : (xs ys : List Entry) → StaysOpen r xs → ys ≡ [] → StaysOpen r (first_cut ∷ (xs ++ ys))
       opens xs ys o is = subst (StaysOpen r) (ap (λ l. first_cut ∷ l) (sym (append-nil xs) ∙ ap (λ l. xs ++ l) (sym is))) (behind r (first_cut ∷ []) xs o)
 
-      by_result : (result : Result ⊤ CatchFault) (xs ys : List Entry) (x : World) → StaysOpen r xs → (t : Side) → (AllWent xs → t.router.link ≡ Idle) → Holds result r t x ys → Caught result r x (first_cut ∷ (xs ++ ys))
+      by_result : (result : Result ⊤ CatchFault) (xs ys : List Entry) (x : World) → StaysOpen r xs → (t : Side) → (AllWent xs → t.router.link ≡ Idle) → HoldsThen result r t x ys → Caught result r x (first_cut ∷ (xs ++ ys))
       by_result (Ok done) xs ys x o t idle h = (h.0, opens xs ys o h.1)
       by_result (Err faults.NoData) xs ys x o t idle h = (h.0, opens xs ys o h.1)
       by_result (Err faults.Memory) xs ys x o t idle h = record { wanting = λ all. h.0 (idle (parted (λ e. e.outcome ≡ Done None) xs ys all.1).0); off = h.1 }

@@ -4,9 +4,12 @@ use Rattle.std.proofs.Common.{sym, ap, subst}
 use Rattle.std.specs.List.{AllByRecursion}
 use Rattle.vrps.specs.Instance.{Instance}
 use Rattle.rtr_ends.specs.Cache.{Conn}
-use Rattle.rtr_ends.specs.Router.{Link, Closed, Idle, Asked, Answering, Ended, Call, Connects, Receives, Pulls, Closes, AsksNow, Ticks, called, is_closed, closed_at, IsKept}
+use Rattle.rtr_ends.specs.Router.{RouterCall, Connects, Receives, Pulls, Closes, AsksNow, Ticks, called, closed_at}
+use Rattle.rtr_ends.specs.RouterLaws.{IsKept}
+use Rattle.rtr_ends.specs.RouterLink.{Link, Closed, Idle, Asked, Answering, Ended, is_closed}
 use Rattle.rtr_ends.specs.Transcript.{Item, Refused}
-use Rattle.rtr_ends.proofs.KeptLaws.{Tells, called_tells, is_kept, new_tells, refused_closed, refused_closes}
+use Rattle.rtr_ends.proofs.KeptUnits.{Tells}
+use Rattle.rtr_ends.proofs.KeptLaws.{called_tells, is_kept, new_tells, refused_closed, refused_closes}
 use Rattle.rtr_world.specs.World.{Side, World, instances, SideEvent, RouterRestart, Connect, RouterSends, CacheGets, CacheSends, RouterGets, Cut, NotifyRouter, Ask, Tick, Event, Publish, Restart, On, noted, connects, router_restarts, router_sends, cache_sends, cache_gets, router_gets, cut, side_step, side_part, side_refused, tell_closed, settle_conn, settle_link, settle_rest, settle_wire, settle, cache_gone, goes_through, settled, is_refused, on_side, new_side, new_world}
 use Rattle.rtr_world.specs.History.{Outcome, Done, SessionUsed, TooManyVersions, NoSuchRouter, Memory, after, Entry, LeadsFrom}
 use Rattle.rtr_world.specs.Claims.{Tables}
@@ -17,7 +20,7 @@ pub record SideTells (s : Side) : Type 0 where
   pub tells : Tells s.router s.items
 
 -- what a call notes
-noted_tells : (all : List Instance) (call : Call) (s : Side) → SideTells s → SideTells (noted all (called call s.router) s)
+noted_tells : (all : List Instance) (call : RouterCall) (s : Side) → SideTells s → SideTells (noted all (called call s.router) s)
 noted_tells all call s t = record { tells = called_tells call s.router s.items t.tells }
 
 blind_tells : Blind SideTells

@@ -6,7 +6,7 @@ use Rattle.std.proofs.lemmas.Bool.Decides.{nat_tests}
 use Rattle.std.proofs.lemmas.List.{take_all, take-append-le}
 use Rattle.std.proofs.Math.Nat.{pow-suc, div-one, div-div-eq-div-mul}
 use Rattle.der_lite.specs.Der.{IsBytes, number, base_256, length_bytes, tlv, is_integer}
-use Rattle.der_lite.specs.Grammar.{Keeps}
+use Rattle.der_lite.specs.Grammar.{KeepsRules}
 use Rattle.der_lite.specs.Values.{is_negative, integer_between, unsigned_bytes}
 use Rattle.der_lite.proofs.Integers.{number_more, value_is}
 
@@ -143,7 +143,7 @@ unsigned_is n h =
     ]
 
 -- two rules that are kept
-kept_both : (fault : ℕ) (a b c d : Bool) → a ≡ true → b ≡ false → c ≡ false → d ≡ false → Keeps ((4, not a) ∷ (fault, b || c || d) ∷ [])
+kept_both : (fault : ℕ) (a b c d : Bool) → a ≡ true → b ≡ false → c ≡ false → d ≡ false → KeepsRules ((4, not a) ∷ (fault, b || c || d) ∷ [])
 kept_both fault a b c d ha hb hc hd = rw (ha, hb, hc, hd) refl
 
 -- an integer between its bounds is spelled by its bytes

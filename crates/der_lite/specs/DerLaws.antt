@@ -4,7 +4,7 @@ use Rattle.der_lite.specs.Place.{Place, Fault}
 use Rattle.der_lite.specs.Der.{IsBytes, BitsSpell, head_rules, is_bit_string}
 use Rattle.der_lite.specs.Moments.{CivilMoment, is_moment, moment_before, moment_text, moment_in, TimeSpells, IsMomentOf}
 use Rattle.der_lite.specs.Grammar.{Breaks, Stands, plain, inside}
-use Rattle.der_lite.specs.Reading.{element_at, content_at, time_at}
+use Rattle.der_lite.specs.DerReading.{element_at, content_at, time_at}
 use Rattle.der_lite.specs.Times.{timed}
 
 -- An element of this tag stands here, with this content.
@@ -26,16 +26,16 @@ OpensExactly =
     × ((fault : Fault) → (element_at tag p ≡ Err fault) ↔ Breaks (head_rules tag p.rest) p.at fault)
 
 -- At most one fault stands at a place, none where an element stands, and one everywhere else.
-abbrev pub OneFault : Type 0
-OneFault =
+abbrev pub OneDerFault : Type 0
+OneDerFault =
     (tag : ℕ) (rules : List ℕ → List (ℕ × Bool)) (p : Place)
     → ((f g : Fault) → (plain tag rules).FaultAt p f → (plain tag rules).FaultAt p g → f ≡ g)
     × ((content : List ℕ) (q : Place) (f : Fault) → Found tag rules p content q → (plain tag rules).FaultAt p f → ⊥)
     × (IsBytes p.rest → ((content : List ℕ) × (q : Place) × Found tag rules p content q) ⊎ ((f : Fault) × (plain tag rules).FaultAt p f))
 
 -- No content has two spellings; and where one spelling begins with another, it is that one, of the same content.
-abbrev pub OneSpelling : Type 0
-OneSpelling =
+abbrev pub OneDerSpelling : Type 0
+OneDerSpelling =
     (tag : ℕ) (rules : List ℕ → List (ℕ × Bool))
     → ((v a b : List ℕ) → (plain tag rules).Spells v a → (plain tag rules).Spells v b → a ≡ b)
     × ((v w a b more rest : List ℕ) → (plain tag rules).Spells v a → (plain tag rules).Spells w b → a ++ more ≡ b ++ rest → (v ≡ w) × (more ≡ rest))

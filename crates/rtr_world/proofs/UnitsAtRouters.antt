@@ -13,15 +13,16 @@ use Rattle.rtr_ends.specs.declared.link.End.TheVariants as ends
 use Rattle.rtr_ends.specs.Answer.{report, sent, sent_all}
 use Rattle.rtr_ends.specs.Cache.{Conn}
 use Rattle.rtr_ends.specs.Commit.{Commits}
-use Rattle.rtr_ends.specs.Router.{Router, Link, Closed, Idle, Asked, Answering, Ended, Staged, Stays, Wrong, Over, asking, ask, emptied, told, fails, is_strange, is_news, stage, staged, commit, on_unit, is_reading}
-use Rattle.rtr_ends.specs.Transcript.{choose, Begun, Committed, Question, AskReset, AskSerial, query, is_listed, led_to, base_of, session_of, differs, is_serial, is_wrong, bounded, sum_of, retry_of}
+use Rattle.rtr_ends.specs.LinkRules.{Router, Staged, Stays, Wrong, Over, asking, ask, emptied, ended_by, fails, is_strange, is_news, stage, staged, commit, on_unit}
+use Rattle.rtr_ends.specs.RouterLink.{Link, Closed, Idle, Asked, Answering, Ended, is_reading}
+use Rattle.rtr_ends.specs.Transcript.{choose, Begun, Committed, Question, AskReset, AskSerial, query, is_among, led_to, base_of, session_of, differs, is_serial, is_wrong, bounded, sum_of, retry_of}
 use Rattle.rtr_ends.proofs.TableLaws.{false_true}
 use Rattle.rtr_world.specs.History.{conn_due}
 use Rattle.rtr_world.specs.OneAnswer.{EndsWith, NotifiesOf, announced_in, withdrawn_in, without_notifies}
 use Rattle.rtr_world.proofs.Invariant.{after_stage, FromCache, InOrder, Leads, NoneWithdrawn, WithdrawsFirst, read_of, records_of, Mine, OwnSession, QuestionFits, IsOwn, OfAnswer, nothing_yet, Replies, no_data, not_kept, other_session, no_memory, response, Shape, IfOpen, Open, Live, GoodLink, GoodRouter}
-use Rattle.rtr_world.proofs.Streams.{Stream, stream-append}
+use Rattle.rtr_world.proofs.UnitStreams.{Stream, stream-append}
 use Rattle.rtr_world.proofs.Versions.{Stands, TableAt, equal_true}
-use Rattle.rtr_world.proofs.Seen.{Seen}
+use Rattle.rtr_world.proofs.LinkedSides.{Seen}
 
 -- a query fits its fields
 pub query_unit : (all : List Instance) (session : ℕ) (q : Question) (version : Option Committed) (table : VrpSet) → QuestionFits session q version → TableAt all version table → IsUnit (query q)
@@ -61,12 +62,12 @@ no_unit u us e = cc
 
 -- what is staged belongs to the same question and session
 pub stage_keeps : (base : VrpSet) (a : Begun) (announce : Bool) (v : Payload) (b : Begun) → stage base a announce v ≡ Stays b → (b.question ≡ a.question) × (b.session ≡ a.session)
-stage_keeps base a false v b e = by_test (has base v && not (is_listed v a.withdrawn)) e
+stage_keeps base a false v b e = by_test (has base v && not (is_among v a.withdrawn)) e
   where
     by_test : (t : Bool) → (if t then Stays (record a { withdrawn = v ∷ a.withdrawn }) else Wrong 6) ≡ Stays b → (b.question ≡ a.question) × (b.session ≡ a.session)
     by_test true e = let same : record a { withdrawn = v ∷ a.withdrawn } ≡ b = cc in (ap (λ x. x.question) (sym same), ap (λ x. x.session) (sym same))
     by_test false e = absurd (let h : Wrong 6 ≡ Stays b = e in cc)
-stage_keeps base a true v b e = by_test (has base v || is_listed v a.announced) (nat_lt 16777215 (size (led_to base a.withdrawn (v ∷ a.announced)))) e
+stage_keeps base a true v b e = by_test (has base v || is_among v a.announced) (nat_lt 16777215 (size (led_to base a.withdrawn (v ∷ a.announced)))) e
   where
     by_test : (t s : Bool) → (if t then Wrong 7 else if s then Over else Stays (record a { announced = v ∷ a.announced })) ≡ Stays b → (b.question ≡ a.question) × (b.session ≡ a.session)
     by_test true s e = absurd (let h : Wrong 7 ≡ Stays b = e in cc)
@@ -94,7 +95,7 @@ read_announced : (a : Begun) (v : Payload) → read_of (record a { announced = v
 read_announced a v = ap (λ x. CacheResponse a.session ∷ x) (sym (append_assoc (records_of false a.withdrawn) (records_of true a.announced) (Prefix true v ∷ [])))
 
 pub stage_reads : (base : VrpSet) (a : Begun) (announce : Bool) (v : Payload) (b : Begun) (rest : List Unit) → stage base a announce v ≡ Stays b → InOrder a (Prefix announce v ∷ rest) → (read_of b ≡ read_of a ++ Prefix announce v ∷ []) × InOrder b rest
-stage_reads base a false v b rest e h = by_test (has base v && not (is_listed v a.withdrawn)) e
+stage_reads base a false v b rest e h = by_test (has base v && not (is_among v a.withdrawn)) e
   where
     by_test : (t : Bool) → (if t then Stays (record a { withdrawn = v ∷ a.withdrawn }) else Wrong 6) ≡ Stays b → (read_of b ≡ read_of a ++ Prefix false v ∷ []) × InOrder b rest
     by_test true e =
@@ -102,7 +103,7 @@ stage_reads base a false v b rest e h = by_test (has base v && not (is_listed v 
         let none : a.announced ≡ [] = first_withdraws a false v rest h refl in
         subst (λ x. (read_of x ≡ read_of a ++ Prefix false v ∷ []) × InOrder x rest) same (read_withdrawn a v none, (h.0, inl none))
     by_test false e = absurd (let h : Wrong 6 ≡ Stays b = e in cc)
-stage_reads base a true v b rest e h = by_test (has base v || is_listed v a.announced) (nat_lt 16777215 (size (led_to base a.withdrawn (v ∷ a.announced)))) e
+stage_reads base a true v b rest e h = by_test (has base v || is_among v a.announced) (nat_lt 16777215 (size (led_to base a.withdrawn (v ∷ a.announced)))) e
   where
     by_test : (t s : Bool) → (if t then Wrong 7 else if s then Over else Stays (record a { announced = v ∷ a.announced })) ≡ Stays b → (read_of b ≡ read_of a ++ Prefix true v ∷ []) × InOrder b rest
     by_test true s e = absurd (let h : Wrong 7 ≡ Stays b = e in cc)
@@ -301,13 +302,13 @@ module _ (all : List Instance) (i : Instance) (home : Option Seen) (conn : Optio
   unfolding on_unit
   zero_good r q copy table unmarked none = by_question (is_serial (Some q))
     where
-      by_question : (b : Bool) → GoodR (if b then told 0 (emptied (record r { agreed = true })) else told 0 (record r { agreed = true }))
-      by_question true = ended_good (told 0 (emptied (record r { agreed = true }))) (ends.Told 0) refl refl refl none
-      by_question false = ended_good (told 0 (record r { agreed = true })) (ends.Told 0) refl table unmarked none
+      by_question : (b : Bool) → GoodR (if b then ended_by 0 (emptied (record r { agreed = true })) else ended_by 0 (record r { agreed = true }))
+      by_question true = ended_good (ended_by 0 (emptied (record r { agreed = true }))) (ends.Told 0) refl refl refl none
+      by_question false = ended_good (ended_by 0 (record r { agreed = true })) (ends.Told 0) refl table unmarked none
 
   one_good : (r : Router) (q : Question) → TableAt all r.version r.table → r.mark ≡ false → r.out ≡ [] → GoodR (on_unit (Asked q) (report 1 []) r)
   unfolding on_unit
-  one_good r q table unmarked none = ended_good (told 1 (record r { agreed = true })) (ends.Told 1) refl table unmarked none
+  one_good r q table unmarked none = ended_good (ended_by 1 (record r { agreed = true })) (ends.Told 1) refl table unmarked none
 
   reset_good : (r : Router) (more : List Unit) (serial : ℕ) (d : Reads r more) → d.wanted ≡ [] → without_notifies more ≡ [] → Mine d.h.session r.version → GoodR (on_unit (Asked (AskSerial d.h.session serial)) CacheReset r)
   unfolding on_unit agreed_reads

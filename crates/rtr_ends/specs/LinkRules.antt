@@ -1,0 +1,138 @@
+-- What a router does at a unit, link by link (RFC 8210 sections 5 to 8 and 12).
+use Rattle.std.specs.Prelude.{ℕ, Bool, true, false, not, ◌&&◌, ◌||◌, ◌==◌, nat_lt, List, [], ◌∷◌, Option, Some, None, if◌then◌else◌}
+use Rattle.prefixes.specs.Payload.{Payload}
+use Rattle.vrps.specs.Serial.{is_before}
+use Rattle.vrps.specs.VrpSet.{VrpSet, empty, has, size}
+use Rattle.rtr_pdu.specs.Code.{CORRUPT_DATA, NO_DATA_AVAILABLE, UNKNOWN_WITHDRAWAL, DUPLICATE_ANNOUNCEMENT}
+use Rattle.rtr_pdu.specs.declared.unit.Unit.{Unit}
+use Rattle.rtr_pdu.specs.declared.unit.Unit.TheVariants.{SerialNotify, CacheResponse, Prefix, EndOfData, CacheReset, RouterKey, ErrorReport}
+use Rattle.rtr_ends.specs.declared.link.End.TheVariants as ends
+use Rattle.rtr_ends.specs.Answer.{report, sent}
+use Rattle.rtr_ends.specs.Transcript.{Question, AskReset, AskSerial, query, Begun, Committed, choose, is_among, led_to, base_of, session_of, differs, is_serial, is_wrong, bounded, sum_of, retry_of, due, moment}
+use Rattle.rtr_ends.specs.RouterLink.{Link, Closed, Idle, Asked, Answering, Ended}
+
+-- What a router holds: the committed table and version; the mark that the next query must be a Reset Query; when an idle link
+-- asks; whether code 2, No Data Available, and no commit brought a link to idle last; the greatest moment so far; and of its
+-- connection the link, whether a version is agreed on, the session of the latest Cache Response, what has come of a unit, and the
+-- bytes to be pulled
+pub record Router : Type 0 where
+  pub table : VrpSet
+  pub version : Option Committed
+  pub mark : Bool
+  pub due : Option ℕ
+  pub no_data : Bool
+  pub now : ℕ
+  pub link : Link
+  pub agreed : Bool
+  pub session : Option ℕ
+  pub held : List ℕ
+  pub out : List ℕ
+
+abbrev pub new_router : Router
+new_router = record { table = empty; version = None; mark = false; due = None; no_data = false; now = 0; link = Closed; agreed = false; session = None; held = []; out = [] }
+
+abbrev pub asking : Question → Router → Router
+asking question r = record r { link = Asked question; out = sent (query question) }
+
+abbrev pub ask : Router → Router
+ask r = asking (choose r.version r.mark) r
+
+-- Emptied: no table, no session, no mark
+abbrev pub emptied : Router → Router
+emptied r = record r { table = empty; version = None; mark = false }
+
+-- The link ends: with a report on a unit, or by one that was read.
+abbrev pub reports : ℕ → Unit → Router → Router
+reports code u r = record r { link = Ended (ends.Reported code); out = sent (report code (sent u)) }
+
+abbrev pub ended_by : ℕ → Router → Router
+ended_by code r = record r { link = Ended (ends.Told code) }
+
+-- with code 0, Corrupt Data, and emptied
+abbrev pub fails : Unit → Router → Router
+fails u r = reports 0 u (emptied r)
+
+-- After agreement, a unit of another session than the connection's
+abbrev pub is_strange : Router → ℕ → Bool
+is_strange r session = r.agreed && differs (session_of r.session r.version) session
+
+-- A notify of a serial that is not known yet
+abbrev pub is_news : Option Committed → ℕ → Bool
+is_news None serial = true
+is_news (Some version) serial = is_before version.serial serial
+
+-- What a record does to an answer: it is staged, or acts wrongly with this code, or makes the table too large.
+pub data Staged : Type 0 where
+  Stays : (answer : Begun) → Staged
+  Wrong : (code : ℕ) → Staged
+  Over : Staged
+
+-- Code 6, Withdrawal of Unknown Record: it is not in the base, or was withdrawn already. Code 7, Duplicate Announcement Received:
+-- it is in the base, or was announced already.
+abbrev pub stage : VrpSet → Begun → Bool → Payload → Staged
+stage base a false v =
+    if has base v && not (is_among v a.withdrawn) then Stays (record a { withdrawn = v ∷ a.withdrawn }) else Wrong UNKNOWN_WITHDRAWAL
+stage base a true v =
+    if has base v || is_among v a.announced then Wrong DUPLICATE_ANNOUNCEMENT
+    else if nat_lt 16777215 (size (led_to base a.withdrawn (v ∷ a.announced))) then Over
+    else Stays (record a { announced = v ∷ a.announced })
+
+abbrev pub staged : Unit → Staged → Router → Router
+staged u (Stays a) r = record r { link = Answering a }
+staged u (Wrong code) r = record (reports code u r) { mark = true }
+staged u Over r = record r { link = Ended ends.TooMany }
+
+abbrev pub commit : Begun → Committed → Router → Router
+commit a version r = record r {
+  table = led_to (base_of a.question r.table) a.withdrawn a.announced;
+  version = Some version;
+  mark = false;
+  due = Some (sum_of version.moment version.intervals.refresh);
+  no_data = false;
+  link = Idle;
+}
+
+-- An Error Report to the question that is outstanding: code 2, No Data Available, leaves the link idle; code 0, Corrupt Data, to
+-- a Serial Query empties; all but 2 end the link.
+abbrev pub told_off : Question → ℕ → Router → Router
+told_off question code r =
+    if code == NO_DATA_AVAILABLE then record r { link = Idle; due = Some (sum_of r.now (retry_of r.version)); no_data = true }
+    else if code == CORRUPT_DATA && is_serial (Some question) then ended_by code (emptied r)
+    else ended_by code r
+
+-- A unit is read on a link, with memory.
+unfoldable pub on_unit : Link → Unit → Router → Router
+on_unit Closed u r = r
+on_unit (Ended end) u r = r
+on_unit Idle (SerialNotify session serial) r =
+    if is_strange r session then fails (SerialNotify session serial) r
+    else if is_news r.version serial then ask r
+    else r
+on_unit Idle (ErrorReport e) r = if e.code == NO_DATA_AVAILABLE then r else ended_by e.code r
+on_unit Idle u r = reports 0 u r
+on_unit (Asked question) (SerialNotify session serial) r = if is_strange r session then fails (SerialNotify session serial) r else r
+on_unit (Asked question) (CacheResponse session) r =
+    if is_wrong (Some question) r.version session then fails (CacheResponse session) r
+    else record r { agreed = true; session = Some session; link = Answering (record { question = question; session = session; withdrawn = []; announced = [] }) }
+on_unit (Asked (AskSerial session serial)) CacheReset r = asking AskReset (record r { agreed = true })
+on_unit (Asked question) (ErrorReport e) r = told_off question e.code (record r { agreed = true })
+on_unit (Asked question) u r = reports 0 u r
+on_unit (Answering a) (SerialNotify session serial) r = if is_strange r session then fails (SerialNotify session serial) r else r
+on_unit (Answering a) (Prefix announce v) r = staged (Prefix announce v) (stage (base_of a.question r.table) a announce v) r
+on_unit (Answering a) (RouterKey key) r = r
+on_unit (Answering a) (EndOfData session serial refresh retry expire) r =
+    if session == a.session
+    then commit a (record { session = session; serial = serial; moment = r.now; intervals = bounded refresh retry expire }) r
+    else fails (EndOfData session serial refresh retry expire) r
+on_unit (Answering a) (ErrorReport e) r = told_off a.question e.code r
+on_unit (Answering a) u r = reports 0 u r
+
+-- The units at which memory is taken: those that stage a record, or commit
+abbrev pub is_staged : Staged → Bool
+is_staged (Stays a) = true
+is_staged other = false
+
+abbrev pub may_lack : Link → Unit → Router → Bool
+may_lack (Answering a) (Prefix announce v) r = is_staged (stage (base_of a.question r.table) a announce v)
+may_lack (Answering a) (EndOfData session serial refresh retry expire) r = session == a.session
+may_lack link u r = false
