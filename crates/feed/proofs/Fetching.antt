@@ -125,9 +125,9 @@ are_units (v ∷ vs) h = (All-head IsPayload v vs h, are_units vs (All-tail IsPa
 all_units : (vs : List Payload) → All IsPayload vs → AllByRecursion IsUnit (answer_units vs)
 all_units vs h = (omega arith, are_units vs h)
 
-answer_is : (set : VrpSet) → answer_bytes set ≡ sent_all (answer_units (listing set))
+answer_is : (set : VrpSet) → answer_bytes set ≡ sent_all V1 (answer_units (listing set))
 unfolding answer_bytes
-answer_is set = ap sent_all (append-nil (answer_units (listing set)))
+answer_is set = ap (sent_all V1) (append-nil (answer_units (listing set)))
 
 module _ (apart : NoBeginning) (written : WrittenIsRead) (same : SameMembers) where
   -- What such a router has committed is the set.
@@ -136,7 +136,7 @@ module _ (apart : NoBeginning) (written : WrittenIsRead) (same : SameMembers) wh
   fetched set wire left reads had has result new name payloads wire_is (f, led) named =
       let calls : List RouterCall = Closes 0 ∷ calls_since f.turns 0 [] in
       let s = led.split (tt, are_calls f.turns f.each) in
-      let stream : s.split.front ++ (s.rest ++ (f.unread ++ left)) ≡ sent_all (answer_units (listing set)) =
+      let stream : s.split.front ++ (s.rest ++ (f.unread ++ left)) ≡ sent_all V1 (answer_units (listing set)) =
       sym (append_assoc s.split.front s.rest (f.unread ++ left)) ∙ ap (λ b. b ++ (f.unread ++ left)) (sym s.split.whole ∙ append-nil (came (calls_since f.turns 0 []))) ∙ sym (append_assoc (came (calls_since f.turns 0 [])) f.unread left)
       ∙ sym f.consumed ∙ wire_is ∙ answer_is set in
       let first = read_are_first apart written true (answer_units (listing set)) (units_read_in (played calls).items) s.split.front (s.rest ++ (f.unread ++ left)) (all_units (listing set) payloads) s.split.read stream in

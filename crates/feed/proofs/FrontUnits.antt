@@ -12,7 +12,7 @@ use Rattle.rtr_pdu.specs.declared.version.Version.TheVariants.{V1}
 use Rattle.rtr_ends.specs.Answer.{sent, sent_all}
 
 -- Each unit is sent in version 1.
-begins : (u : Unit) → (bytes : List ℕ) × (sent u ≡ 1 ∷ bytes)
+begins : (u : Unit) → (bytes : List ℕ) × (sent V1 u ≡ 1 ∷ bytes)
 begins (SerialNotify session serial) = (_, refl)
 begins (SerialQuery session serial) = (_, refl)
 begins ResetQuery = (_, refl)
@@ -55,10 +55,10 @@ no_front (b ∷ front) back e = cc
 module _ (apart : NoBeginning) (written : WrittenIsRead) where
   -- No unit is without a byte.
   pub never_empty : (u : Unit) → Reads V1 u [] → ⊥
-  never_empty u r = let e = (apart V1 u ResetQuery [] (sent ResetQuery) (sent ResetQuery) [] r (written V1 ResetQuery tt) refl).1 in cc
+  never_empty u r = let e = (apart V1 u ResetQuery [] (sent V1 ResetQuery) (sent V1 ResetQuery) [] r (written V1 ResetQuery tt) refl).1 in cc
 
   -- What is read from a beginning of units as they are sent are the first of them.
-  pub read_are_first : (any : Bool) (all units : List Unit) (front back : List ℕ) → AllByRecursion IsUnit all → AreRead V1 any units front → front ++ back ≡ sent_all all → (rest : List Unit) × (units ++ rest ≡ all)
+  pub read_are_first : (any : Bool) (all units : List Unit) (front back : List ℕ) → AllByRecursion IsUnit all → AreRead V1 any units front → front ++ back ≡ sent_all V1 all → (rest : List Unit) × (units ++ rest ≡ all)
   read_are_first any all [] front back fit read e = (all, refl)
   read_are_first any [] (u ∷ units) front back fit read e =
       let parts : read.0 ++ (read.1 ++ back) ≡ [] = sym (append_assoc read.0 read.1 back) ∙ ap (λ f. f ++ back) (sym read.2) ∙ e in
@@ -66,8 +66,8 @@ module _ (apart : NoBeginning) (written : WrittenIsRead) where
       absurd (never_empty u (subst (λ b. Reads V1 u b) (ap (as_read V1 any) none ∙ read_none any) read.3))
   read_are_first any (v ∷ all) (u ∷ units) front back fit read e =
       let start = begins v in
-      let parts : read.0 ++ (read.1 ++ back) ≡ sent v ++ sent_all all = sym (append_assoc read.0 read.1 back) ∙ ap (λ f. f ++ back) (sym read.2) ∙ e in
-      let seen : as_read V1 any read.0 ≡ read.0 = read_front any read.0 (read.1 ++ back) (start.0 ++ sent_all all) (parts ∙ ap (λ b. b ++ sent_all all) start.1) in
-      let same = apart V1 u v read.0 (sent v) (read.1 ++ back) (sent_all all) (subst (λ b. Reads V1 u b) seen read.3) (written V1 v fit.0) parts in
+      let parts : read.0 ++ (read.1 ++ back) ≡ sent V1 v ++ sent_all V1 all = sym (append_assoc read.0 read.1 back) ∙ ap (λ f. f ++ back) (sym read.2) ∙ e in
+      let seen : as_read V1 any read.0 ≡ read.0 = read_front any read.0 (read.1 ++ back) (start.0 ++ sent_all V1 all) (parts ∙ ap (λ b. b ++ sent_all V1 all) start.1) in
+      let same = apart V1 u v read.0 (sent V1 v) (read.1 ++ back) (sent_all V1 all) (subst (λ b. Reads V1 u b) seen read.3) (written V1 v fit.0) parts in
       let later = read_are_first (any && is_notify u) all units read.1 back fit.1 read.4 same.1 in
       (later.0, λ i. same.0 i ∷ later.1 i)

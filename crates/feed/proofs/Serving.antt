@@ -29,6 +29,7 @@ use Rattle.rtr_ends.specs.declared.serving.Served.TheVariants.{PeerClosed}
 use Rattle.feed.specs.Feed.{answer_bytes, cache_publishing}
 use Rattle.feed.specs.Loopback.{StartsWithSet}
 use Rattle.feed.proofs.FrontUnits.{never_empty}
+use Rattle.prefixes.proofs.Basics.{not_both, all_both}
 
 abbrev empty_cache : Instance
 empty_cache = record { session = 1; start = 0; sets = [] }
@@ -50,10 +51,6 @@ IsOwn i (Wanting cache unit bytes) = cache ≡ i
 IsOwn i (Fault fault bytes) = ⊤
 IsOwn i (Notify cache) = ⊥
 IsOwn i (Pull count) = ⊤
-
-all_both : (P : ConnMoment → Type 0) (ms ns : List ConnMoment) → AllByRecursion P ms → AllByRecursion P ns → AllByRecursion P (ms ++ ns)
-all_both P [] ns h k = k
-all_both P (m ∷ ms) ns h k = (h.0, all_both P ms ns h.1 k)
 
 module _ {M : Type 0} (stops : M → Bool) (step : M → ℕ → M) (P : M → Type 0) (keeps : (m : M) (b : ℕ) → P m → P (step m b)) where
   -- What each byte keeps is kept of a piece.
@@ -102,12 +99,9 @@ module _ (m : CacheState) where
 -- ---- the replies to one Reset Query
 
 -- A query is split into itself.
-query_splits : WrittenIsRead → Splits V1 false (sent ResetQuery) (ResetQuery ∷ []) [] None
+query_splits : WrittenIsRead → Splits V1 false (sent V1 ResetQuery) (ResetQuery ∷ []) [] None
 unfolding as_read
-query_splits written = record { front = sent ResetQuery; whole = refl; read = (sent ResetQuery, [], refl, written V1 ResetQuery tt, refl); after = (refl, inl (omega arith)) }
-
-not_both : (b : Bool) → b ≡ true → b ≡ false → ⊥
-not_both b h k = let e : true ≡ false = sym h ∙ k in cc
+query_splits written = record { front = sent V1 ResetQuery; whole = refl; read = (sent V1 ResetQuery, [], refl, written V1 ResetQuery tt, refl); after = (refl, inl (omega arith)) }
 
 -- No fault shows where there are no bytes.
 shows_nothing : (fault : UnitFault) → Shows V1 [] fault → ⊥
@@ -147,16 +141,16 @@ module _ (apart : NoBeginning) (written : WrittenIsRead) (keep : ℕ) (t : Inter
   first_of u v us vs e = cc
 
   -- One Reset Query is replied to, and nothing else.
-  one_reply : (c : Connection) (moments : List ConnMoment) → AllByRecursion (IsOwn i) moments → IsHistory keep t c moments (sent ResetQuery) → units_of moments ≡ ResetQuery ∷ []
-      → replies_from keep t false moments ≡ (answer i keep t ResetQuery).units
+  one_reply : (c : Connection) (moments : List ConnMoment) → AllByRecursion (IsOwn i) moments → IsHistory keep t c moments (sent V1 ResetQuery) → units_of moments ≡ ResetQuery ∷ []
+      → replies_from keep t false moments ≡ (answer V1 i keep t ResetQuery).units
   one_reply c [] own h units = cc
   one_reply c (Pull count ∷ later) own h units =
       one_reply (conn_after keep t c (Pull count)) later own.1 (subst (λ b. IsHistory keep t (conn_after keep t c (Pull count)) later b) (sym h.1.1) h.1.2) units
   one_reply c (Read cache unit came ∷ later) own h units =
       let is : unit ≡ ResetQuery = first_of unit ResetQuery (units_of later) [] units in
-      let rest : h.1.0 ≡ [] = (apart V1 unit ResetQuery came (sent ResetQuery) h.1.0 [] h.0.4 (written V1 ResetQuery tt) (sym h.1.1)).1 in
+      let rest : h.1.0 ≡ [] = (apart V1 unit ResetQuery came (sent V1 ResetQuery) h.1.0 [] h.0.4 (written V1 ResetQuery tt) (sym h.1.1)).1 in
       let none : replies_from keep t true later ≡ [] = nothing_more true (conn_after keep t c (Read cache unit came)) later own.1 (subst (λ b. IsHistory keep t (conn_after keep t c (Read cache unit came)) later b) rest h.1.2) in
-      (λ j. replies_from keep t false (Read (own.0 j) (is j) came ∷ later)) ∙ ap (λ l. (answer i keep t ResetQuery).units ++ l) none ∙ append-nil (answer i keep t ResetQuery).units
+      (λ j. replies_from keep t false (Read (own.0 j) (is j) came ∷ later)) ∙ ap (λ l. (answer V1 i keep t ResetQuery).units ++ l) none ∙ append-nil (answer V1 i keep t ResetQuery).units
   one_reply c (Wanting cache unit came ∷ later) own h units =
       let is : unit ≡ ResetQuery = first_of unit ResetQuery (units_of later) [] units in
       absurd (let e : false ≡ true = subst (λ u. takes_memory cache u ≡ true) is h.0.4.1 in cc)
@@ -169,22 +163,22 @@ module _ (apart : NoBeginning) (written : WrittenIsRead) (keep : ℕ) (t : Inter
 
 module _ (apart : NoBeginning) (written : WrittenIsRead) (one_split : OneSplit) (history_splits : HistorySplits) where
   -- What went out is the answer.
-  answers : (set : VrpSet) (query left wire : List ℕ) (reads : ℕ) → IsInstance (cache_publishing set) → query ≡ sent ResetQuery
+  answers : (set : VrpSet) (query left wire : List ℕ) (reads : ℕ) → IsInstance (cache_publishing set) → query ≡ sent V1 ResetQuery
       → ServesConnection (without_conns 1 default_intervals (cache_publishing set)) (Some query) (Some left) reads (Some []) (Some wire) (Ok PeerClosed) → wire ≡ answer_bytes set
   unfolding answer_bytes
   answers set query left wire reads is query_is s =
       let m : CacheState = without_conns 1 default_intervals (cache_publishing set) in
       let v : IsServed 1 default_intervals (cache_publishing set) (stood m s.calls) = s.served is in
       let (all_out, goes_on, held, at_end) = s.ends in
-      let came : (stood m s.calls).came ≡ sent ResetQuery =
+      let came : (stood m s.calls).came ≡ sent V1 ResetQuery =
       sym (append-nil (stood m s.calls).came) ∙ ap (λ l. (stood m s.calls).came ++ l) (sym goes_on.0) ∙ sym (append-nil ((stood m s.calls).came ++ s.unread)) ∙ ap (λ l. ((stood m s.calls).came ++ s.unread) ++ l) (sym at_end) ∙ sym s.consumed ∙ query_is in
-      let history : IsHistory 1 default_intervals (opened (cache_publishing set)) (stood m s.calls).moments (sent ResetQuery) = subst (λ b. IsHistory 1 default_intervals (opened (cache_publishing set)) (stood m s.calls).moments b) came v.history in
-      let split = history_splits 1 default_intervals (cache_publishing set) (stood m s.calls).moments (sent ResetQuery) history in
-      let units : units_of (stood m s.calls).moments ≡ ResetQuery ∷ [] = (one_split V1 false (sent ResetQuery) (units_of (stood m s.calls).moments) (ResetQuery ∷ []) split.0 [] split.1 None split.2 (query_splits written)).units_are in
+      let history : IsHistory 1 default_intervals (opened (cache_publishing set)) (stood m s.calls).moments (sent V1 ResetQuery) = subst (λ b. IsHistory 1 default_intervals (opened (cache_publishing set)) (stood m s.calls).moments b) came v.history in
+      let split = history_splits 1 default_intervals (cache_publishing set) (stood m s.calls).moments (sent V1 ResetQuery) history in
+      let units : units_of (stood m s.calls).moments ≡ ResetQuery ∷ [] = (one_split V1 false (sent V1 ResetQuery) (units_of (stood m s.calls).moments) (ResetQuery ∷ []) split.0 [] split.1 None split.2 (query_splits written)).units_are in
       let replied = one_reply apart written 1 default_intervals (cache_publishing set) (opened (cache_publishing set)) (stood m s.calls).moments (own_calls m s.calls s.turns).1 history units in
-      all_out.1 ∙ sym (append-nil (stood m s.calls).given) ∙ ap (λ d. (stood m s.calls).given ++ d) (sym all_out.0) ∙ v.replies ∙ ap sent_all (replied ∙ sym (append-nil (answer (cache_publishing set) 1 default_intervals ResetQuery).units))
+      all_out.1 ∙ sym (append-nil (stood m s.calls).given) ∙ ap (λ d. (stood m s.calls).given ++ d) (sym all_out.0) ∙ v.replies ∙ ap (sent_all V1) (replied ∙ sym (append-nil (answer V1 (cache_publishing set) 1 default_intervals ResetQuery).units))
 
-  pub answered : (set : VrpSet) (query left had wire : List ℕ) (reads : ℕ) (served : Served) → IsInstance (cache_publishing set) → query ≡ sent ResetQuery → had ≡ [] → served ≡ PeerClosed
+  pub answered : (set : VrpSet) (query left had wire : List ℕ) (reads : ℕ) (served : Served) → IsInstance (cache_publishing set) → query ≡ sent V1 ResetQuery → had ≡ [] → served ≡ PeerClosed
       → ServesConnection (without_conns 1 default_intervals (cache_publishing set)) (Some query) (Some left) reads (Some had) (Some wire) (Ok served) → wire ≡ answer_bytes set
   answered set query left had wire reads served is query_is had_is served_is s =
       answers set query left wire reads is query_is

@@ -12,18 +12,8 @@ use Rattle.prefixes.specs.Payload.{Payload, vrp_cmp}
 use Rattle.points.specs.InUse.{Lists, Payloads, Points}
 use Rattle.vrps.specs.VrpSet.{SameMembers, VrpSet, empty, has, listing, set_of, with_all, without}
 use Rattle.rtr_ends.specs.Transcript.{is_among, led_to}
-
-some_or : (b : Bool) (x : Option (Unit {0})) → is_some (cond b (Some tt) x) ≡ (b || is_some x)
-some_or true x = refl
-some_or false x = refl
-
-or_swap : (a b c : Bool) → (a || (b || c)) ≡ (b || (a || c))
-or_swap true true c = refl
-or_swap true false c = refl
-or_swap false b c = refl
-
-has_empty : (q : Payload) → has empty q ≡ false
-has_empty q = ap is_some (map.get-empty vrp_cmp q)
+use Rattle.prefixes.proofs.Basics.{or_swap}
+use Rattle.vrps.proofs.SetLaws.{has-empty, some_or}
 
 has_with_all : (s : VrpSet) (vs : List Payload) (q : Payload) → has (with_all s vs) q ≡ (has s q || is_among q vs)
 has_with_all s [] q = sym (or-false _)
@@ -33,17 +23,17 @@ has_with_all s (v ∷ vs) q =
 
 -- A list's set has what is listed.
 has_set_of : (vs : List Payload) (q : Payload) → has (set_of vs) q ≡ is_among q vs
-has_set_of vs q = has_with_all empty vs q ∙ ap (λ b. b || is_among q vs) (has_empty q)
+has_set_of vs q = has_with_all empty vs q ∙ ap (λ b. b || is_among q vs) (has-empty q)
 
 none_in : (p : Payload → Bool) (q : Payload) → ((x : Payload) → p x ≡ true) → has (map.retain_keys empty p) q ≡ false
-none_in p q all = ap is_some (map.get-retain_keys empty p q (λ x e. all x ∙ sym (all q)) ∙ ap (λ b. cond b (map.get empty q) None) (all q)) ∙ has_empty q
+none_in p q all = ap is_some (map.get-retain_keys empty p q (λ x e. all x ∙ sym (all q)) ∙ ap (λ b. cond b (map.get empty q) None) (all q)) ∙ has-empty q
 
 -- From nothing, what is announced is all, in any order.
 pub led_from_nothing : SameMembers → (set : VrpSet) (vs : List Payload) → ((q : Payload) → is_among q vs ≡ is_among q (listing set)) → led_to empty [] vs ≡ set
 unfolding led_to
 led_from_nothing same set vs h = same _ _ (λ q.
     has_with_all (without empty (set_of [])) (listing (set_of vs)) q
-    ∙ ap (λ b. b || is_among q (listing (set_of vs))) (none_in (λ v. not (has (set_of []) v)) q (λ x. ap not (has_empty x)))
+    ∙ ap (λ b. b || is_among q (listing (set_of vs))) (none_in (λ v. not (has (set_of []) v)) q (λ x. ap not (has-empty x)))
     ∙ sym (map.contains_key-keys (set_of vs) q) ∙ has_set_of vs q ∙ h q ∙ sym (map.contains_key-keys set q))
 
 -- The set of the payloads that are listed as in use has these and no others.

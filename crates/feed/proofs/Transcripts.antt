@@ -11,6 +11,7 @@ use Rattle.rtr_ends.specs.Consumed.{units_read_in}
 use Rattle.rtr_ends.specs.RouterLink.{name_of}
 use Rattle.rtr_ends.specs.Transcript.{AskReset, AskSerial, Asks, At, Begun, Breaks, Committed, Item, Kept, Lacks, Opened, Question, Reads, Refused, Restarts, Shut, acts_once, at_end_of_data, base_of, begun, bounded, emptied_if, is_among, is_over, is_wrong, kept, later, led_to, moment, nothing, under_way, waiting, with_record}
 use Rattle.feed.proofs.Sets.{led_from_nothing}
+use Rattle.prefixes.proofs.Basics.{or_swap}
 
 abbrev announced : Payload → Unit
 announced v = Prefix true v
@@ -35,14 +36,9 @@ emptied : (b : Bool) (k : Kept) → k ≡ nothing → emptied_if b k ≡ nothing
 emptied true k e = refl
 emptied false k e = e
 
-swap : (a b c : Bool) → (a || (b || c)) ≡ (b || (a || c))
-swap true true c = refl
-swap true false c = refl
-swap false b c = refl
-
 listed_more : (q v : Payload) (vs : List Payload) → is_among q (vs ++ v ∷ []) ≡ is_among q (v ∷ vs)
 listed_more q v [] = refl
-listed_more q v (w ∷ vs) = ap (λ b. eq_by_cmp vrp_cmp q w || b) (listed_more q v vs) ∙ swap (eq_by_cmp vrp_cmp q w) (eq_by_cmp vrp_cmp q v) (is_among q vs)
+listed_more q v (w ∷ vs) = ap (λ b. eq_by_cmp vrp_cmp q w || b) (listed_more q v vs) ∙ or_swap (eq_by_cmp vrp_cmp q w) (eq_by_cmp vrp_cmp q v) (is_among q vs)
 
 -- An answer that has begun, if any has, has these records announced.
 abbrev Begins : List Payload → Option Begun → Type 0

@@ -12,6 +12,7 @@ use Rattle.vrps.specs.Instance.{Instance}
 use Rattle.vrps.specs.Origin.{state}
 use Rattle.vrps.specs.VrpSet.{VrpSet, has, size}
 use Rattle.rtr_pdu.specs.declared.unit.Unit.TheVariants.{ResetQuery}
+use Rattle.rtr_pdu.specs.declared.version.Version.TheVariants.{V1}
 use Rattle.rtr_ends.specs.Answer.{sent}
 use Rattle.rtr_ends.specs.Connection.{Read, replies}
 use Rattle.rtr_ends.specs.Timing.{default_intervals}
@@ -51,7 +52,7 @@ cache_publishing set = record { session = 1; start = 0; sets = set ∷ [] }
 
 -- its replies to one Reset Query
 unfoldable pub answer_bytes : VrpSet → List ℕ
-answer_bytes set = replies 1 default_intervals (Read (cache_publishing set) ResetQuery (sent ResetQuery) ∷ [])
+answer_bytes set = replies 1 default_intervals (Read (cache_publishing set) ResetQuery (sent V1 ResetQuery) ∷ [])
 
 -- The state of the route is that over the payloads in use, which a set can hold, and what the cache sent is its answer with them.
 pub record IsFed (now : CivilMoment) (offers : List Offer) (route : Route) (fed : Fed) : Type 0 where

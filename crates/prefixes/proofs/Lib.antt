@@ -1,5 +1,6 @@
 pub mod AddressNumbers
 pub mod Addresses
+pub mod Basics
 pub mod Decimals
 pub mod HexGroups
 pub mod Lacks

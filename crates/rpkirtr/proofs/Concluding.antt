@@ -24,27 +24,25 @@ use Rattle.rpkirtr.specs.Lines.{lines_of}
 use Rattle.rpkirtr.specs.Serves.{HasExchanged, HasLines, IsOwn, by_calls, is_internal_error}
 use Rattle.rpkirtr.specs.declared.answering.Answered.{Answered}
 use Rattle.rtr_ends.proofs.AnswerUnits.{agreed_on, replies_fit}
+use Rattle.prefixes.proofs.Basics.{not_both}
 
 -- units as they are sent are split into themselves
-read_sent : (units : List Unit) → AllByRecursion IsUnit units → AreRead V1 false units (sent_all units)
+read_sent : (units : List Unit) → AllByRecursion IsUnit units → AreRead V1 false units (sent_all V1 units)
 unfolding as_read
 read_sent [] h = refl
-read_sent (u ∷ units) h = (sent u, sent_all units, refl, written_is_read V1 u h.0, read_sent units h.1)
+read_sent (u ∷ units) h = (sent V1 u, sent_all V1 units, refl, written_is_read V1 u h.0, read_sent units h.1)
 
-splits_sent : (units : List Unit) → AllByRecursion IsUnit units → Splits V1 false (sent_all units) units [] None
-splits_sent units h = record { front = sent_all units; whole = sym (append-nil (sent_all units)); read = read_sent units h; after = none_after units }
+splits_sent : (units : List Unit) → AllByRecursion IsUnit units → Splits V1 false (sent_all V1 units) units [] None
+splits_sent units h = record { front = sent_all V1 units; whole = sym (append-nil (sent_all V1 units)); read = read_sent units h; after = none_after units }
   where
     none_after : (units : List Unit) → IsPartial V1 (as_read V1 (any_after false units) [])
     none_after units = partial_empty V1 (any_after false units)
 
 -- the lines tell these units
-same_units : (bytes text : List ℕ) (units : List Unit) → HasLines bytes text → bytes ≡ sent_all units → AllByRecursion IsUnit units → (text ≡ lines_of units) × AllByRecursion (λ u. is_internal_error u ≡ false) units
+same_units : (bytes text : List ℕ) (units : List Unit) → HasLines bytes text → bytes ≡ sent_all V1 units → AllByRecursion IsUnit units → (text ≡ lines_of units) × AllByRecursion (λ u. is_internal_error u ≡ false) units
 same_units bytes text units h e fit =
     let same = one_split V1 false bytes h.units units h.rest [] h.fault None h.splits (subst (λ x. Splits V1 false x units [] None) (sym e) (splits_sent units fit)) in
     (h.lines_are ∙ ap lines_of same.units_are, subst (AllByRecursion (λ u. is_internal_error u ≡ false)) same.units_are h.sound)
-
-not_both : (b : Bool) → b ≡ true → b ≡ false → ⊥
-not_both b h k = let e : true ≡ false = sym h ∙ k in cc
 
 front_sound : (us vs : List Unit) → AllByRecursion (λ u. is_internal_error u ≡ false) (us ++ vs) → AllByRecursion (λ u. is_internal_error u ≡ false) vs
 front_sound [] vs h = h
@@ -101,7 +99,7 @@ answers_all i c bytes given cache answered going each x lines opens on off =
     let moments = (by_calls i s.calls).moments in
     let units = replies_from 1 default_intervals false (by_calls i s.calls).moments in
     let none : (by_calls i s.calls).conn.state.due ≡ [] = ap due_at (sym s.at) ∙ x.served.none in
-    let all : given ≡ sent_all units = sym s.given_is ∙ sym (append-nil (by_calls i s.calls).given) ∙ ap (λ d. (by_calls i s.calls).given ++ d) (sym none) ∙ v.replies in
+    let all : given ≡ sent_all V1 units = sym s.given_is ∙ sym (append-nil (by_calls i s.calls).given) ∙ ap (λ d. (by_calls i s.calls).given ++ d) (sym none) ∙ v.replies in
     let history : IsHistory 1 default_intervals (opened i) (by_calls i s.calls).moments x.came = subst (λ b. IsHistory 1 default_intervals (opened i) (by_calls i s.calls).moments b) s.came_is v.history in
     let fit : AllByRecursion IsUnit (replies_from 1 default_intervals false (by_calls i s.calls).moments) = replies_fit 1 (opened i) (by_calls i s.calls).moments x.came history (bytes_front bytes x.came x.rest x.whole each) in
     let told = same_units given (string_bytes answered.lines) units lines all fit in

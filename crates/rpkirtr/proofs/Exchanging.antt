@@ -22,17 +22,9 @@ use Rattle.rtr_ends.specs.declared.peer.Peer.{Peer}
 use Rattle.rtr_ends.proofs.FeedingLaws.{feed_keeps, feed_takes, goes_on}
 use Rattle.rpkirtr.proofs.SplitLines.{tests_empty, tests_some}
 use Rattle.rpkirtr.specs.Serves.{HasExchanged, HasServed, IsOwn, ServesOn, by_calls}
-
-eq_self : (a : ℕ) → (a == a) ≡ true
-eq_self a = grind (arith, nat_tests)
-
--- what stands under a number that is set
-pub set_at : (c : ℕ) (o : Option Conn) (m : CacheState) → (with_conn c o m).at c ≡ o
-set_at c o m = ap (λ b. if b then o else m.at c) (eq_self c)
-
-all_both : (P : ConnMoment → Type 0) (ms ns : List ConnMoment) → AllByRecursion P ms → AllByRecursion P ns → AllByRecursion P (ms ++ ns)
-all_both P [] ns h k = k
-all_both P (m ∷ ms) ns h k = (h.0, all_both P ms ns h.1 k)
+use Rattle.prefixes.proofs.Basics.{eq_self, all_both}
+use Rattle.rtr_ends.proofs.CacheStateLaws.{with_conn_at}
+use Rattle.rtr_ends.proofs.AnswerUnits.{behind}
 
 -- the bytes that a connection has due
 abbrev pub due_in : Option Peer → List ℕ
@@ -68,7 +60,7 @@ module _ (i : Instance) (c : ℕ) where
         cache_is = s.cache_is;
         calls = Gives (length out) ∷ s.calls;
         each = (tt, s.each);
-        at = set_at c (option_map (conn_pulled s.state.keep s.state.timing (length out)) (s.state.at c)) s.state
+        at = with_conn_at c (option_map (conn_pulled s.state.keep s.state.timing (length out)) (s.state.at c)) s.state
             ∙ ap (λ k. option_map (conn_pulled k s.state.timing (length out)) (s.state.at c)) s.keep_is
             ∙ ap (λ t. option_map (conn_pulled 1 t (length out)) (s.state.at c)) s.timing_is
             ∙ ap (option_map (conn_pulled 1 default_intervals (length out))) s.at;
@@ -119,7 +111,7 @@ module _ (i : Instance) (c : ℕ) where
         cache_is = s.cache_is;
         calls = Takes p.wanting piece ∷ s.calls;
         each = (each, s.each);
-        at = set_at c (option_map (λ o. (conn_takes s.state.keep s.state.timing s.state.cache p.wanting piece o).machine.conn) (s.state.at c)) s.state
+        at = with_conn_at c (option_map (λ o. (conn_takes s.state.keep s.state.timing s.state.cache p.wanting piece o).machine.conn) (s.state.at c)) s.state
             ∙ ap (λ k. option_map (λ o. (conn_takes k s.state.timing s.state.cache p.wanting piece o).machine.conn) (s.state.at c)) s.keep_is
             ∙ ap (λ t. option_map (λ o. (conn_takes 1 t s.state.cache p.wanting piece o).machine.conn) (s.state.at c)) s.timing_is
             ∙ ap (λ j. option_map (λ o. (conn_takes 1 default_intervals j p.wanting piece o).machine.conn) (s.state.at c)) (s.cache_is ∙ sym s.cache_now)
@@ -202,11 +194,6 @@ pulls_less i c came old cache new out count now some s g room is some_is =
 pub pulled_all : (i : Instance) (c : ℕ) (came old : List ℕ) (cache : Cache Steps) (some : Bool) → (s : ServesOn i c came old cache) → some ≡ has_bytes_at (s.state.at c) → some ≡ false → HasServed i c came old cache
 pulled_all i c came old cache some s is none = record { serves = s; none = none_due (s.state.at c) (sym is ∙ none) }
 
--- what is left is made of bytes
-bytes_behind : (front rest : List ℕ) → AreBytes (front ++ rest) → AreBytes rest
-bytes_behind [] rest h = h
-bytes_behind (b ∷ front) rest h = bytes_behind front rest (λ k. h (suc k))
-
 -- A beginning of these bytes came, and nothing is due.
 pub record Exchanging (i : Instance) (c : ℕ) (bytes rest given : List ℕ) (cache : Cache Steps) : Type 0 where
   pub came : List ℕ
@@ -226,7 +213,7 @@ module _ (i : Instance) (c : ℕ) (bytes rest given : List ℕ) (cache : Cache S
 
   pub exchange_takes : (new : Cache Steps) → Receives new → ServesOn i c (e.came ++ take count rest) given new
   exchange_takes new r =
-      serves_take i c e.came given cache new rest count e.served.serves (bytes_behind e.came rest (subst AreBytes e.whole each)) (r e.served.serves.state e.served.serves.shows)
+      serves_take i c e.came given cache new rest count e.served.serves (behind e.came rest (subst AreBytes e.whole each)) (r e.served.serves.state e.served.serves.shows)
 
   pub exchange_less : (new : Cache Steps) (going empty : Bool) → Receives new → ((m : CacheState) → ShowsCache HoldsSteps m cache → going ≡ is_open_at (m.at c)) → going ≡ true → empty ≡ (length rest == 0) → empty ≡ false → length (drop count rest) < length rest
   exchange_less new going empty r opens is none some =

@@ -13,7 +13,7 @@ use Rattle.rtr_ends.specs.Timing.{default_intervals}
 use Rattle.rtr_ends.specs.declared.cache.Cache.{Cache}
 use Rattle.rpkirtr.specs.Lines.{cache_of}
 use Rattle.rpkirtr.specs.Serves.{HasServed, Starts}
-use Rattle.rpkirtr.proofs.Exchanging.{set_at}
+use Rattle.rtr_ends.proofs.CacheStateLaws.{with_conn_at}
 
 abbrev empty_cache : ℕ → ℕ → Instance
 empty_cache session serial = record { session = session; start = serial; sets = [] }
@@ -30,7 +30,7 @@ starts session serial set cache Unchanged low low_serial fits h = absurd (let e 
 -- A connection is opened.
 pub opens : (i : Instance) (cache new : Cache Steps) (c : ℕ) → Starts i cache → ShowsCache HoldsSteps (with_conn c (Some (new_conn i)) (without_conns 1 default_intervals i)) new → HasServed i c [] [] new
 opens i cache new c s shows =
-    let at = set_at c (Some (new_conn i)) (without_conns 1 default_intervals i) in
+    let at = with_conn_at c (Some (new_conn i)) (without_conns 1 default_intervals i) in
     record {
       serves = record {
         is = s.is;

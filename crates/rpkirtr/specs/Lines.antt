@@ -5,11 +5,12 @@ use Rattle.hex.specs.Hex.{encode_lower}
 use Rattle.vrps.specs.Instance.{Instance}
 use Rattle.vrps.specs.VrpSet.{VrpSet}
 use Rattle.rtr_pdu.specs.declared.unit.Unit.{Unit}
+use Rattle.rtr_pdu.specs.declared.version.Version.TheVariants.{V1}
 use Rattle.rtr_ends.specs.Answer.{sent}
 
 -- a unit as a line: its bytes in lower-case hexadecimal
 abbrev pub line_of : Unit → List ℕ
-line_of u = encode_lower (sent u) ++ codes "\n"
+line_of u = encode_lower (sent V1 u) ++ codes "\n"
 
 abbrev pub lines_of : List Unit → List ℕ
 lines_of units = flat_map line_of units

@@ -23,10 +23,11 @@ use Rattle.rtr_pdu.specs.declared.unit.Unit.TheVariants.{SerialNotify, SerialQue
 use Rattle.rtr_pdu.specs.declared.unit.UnitFault.{UnitFault}
 use Rattle.rtr_pdu.specs.declared.unit.UnitFault.TheVariants as faults
 use Rattle.rtr_pdu.proofs.ReadLaws.{AreBytes-take}
+use Rattle.rtr_pdu.specs.declared.version.Version.TheVariants.{V1}
 use Rattle.rtr_ends.specs.Answer.{and_end, and_on, announcements, answer, report, response, sent, serial_answer, step_answer, whole_answer, withdrawals}
 use Rattle.rtr_ends.specs.Connection.{Connection, IsHistory, MayCome, ConnMoment, Read, Wanting, Fault, Notify, Pull, conn_after, agreed_after, bytes_of, fault_code, fault_report, notice, replies_from, reply}
 use Rattle.rtr_ends.specs.Timing.{default_intervals}
-use Rattle.rtr_ends.proofs.ByteLists.{bytes_front}
+use Rattle.rtr_ends.proofs.ByteLists.{bytes_front, none_bytes}
 
 -- bytes, one behind the other
 abbrev Bytes : List ℕ → Type 0
@@ -66,7 +67,7 @@ flag_low : (b : Bool) → (if b then 1 else 0) + 2 * 0 < 256
 flag_low true = omega arith
 flag_low false = omega arith
 
-prefix_bytes : (announce : Bool) (p : IpPrefix) (max_len asn : ℕ) → IsPayload (record { prefix = p; max_len = max_len; asn = asn }) → Bytes (sent (Prefix announce (record { prefix = p; max_len = max_len; asn = asn })))
+prefix_bytes : (announce : Bool) (p : IpPrefix) (max_len asn : ℕ) → IsPayload (record { prefix = p; max_len = max_len; asn = asn }) → Bytes (sent V1 (Prefix announce (record { prefix = p; max_len = max_len; asn = asn })))
 prefix_bytes announce (V4 p) max_len asn h =
     headed 4 0 20 (((if announce then 1 else 0) + 2 * 0) ∷ p.len ∷ max_len ∷ 0 ∷ big_bytes 4 p.addr ++ big_bytes 4 asn) (omega arith)
     (flag_low announce, (omega (arith, h.not_shorter, h.in_family), (omega (arith, h.in_family), (omega arith, bytes-append (big_bytes 4 p.addr) (big_bytes 4 asn) (number 4 p.addr) (number 4 asn)))))
@@ -81,8 +82,8 @@ report_fit code copy low each = (low, short (length (take 4080 copy)) (length-ta
     short : (n : ℕ) → n ≡ min 4080 (length copy) → n + 0 ≤ 4080
     short n e = let m = min-le_left 4080 (length copy) in omega (arith, e, m)
 
-report_of : (code : ℕ) (u : Unit) → code < 2 ^ 16 → Bytes (sent u) → AllByRecursion IsUnit (report code (sent u) ∷ [])
-report_of code u low h = (report_fit code (sent u) low (as_bytes (sent u) h), tt)
+report_of : (code : ℕ) (u : Unit) → code < 2 ^ 16 → Bytes (sent V1 u) → AllByRecursion IsUnit (report code (sent V1 u) ∷ [])
+report_of code u low h = (report_fit code (sent V1 u) low (as_bytes (sent V1 u) h), tt)
 
 all_units : (us vs : List Unit) → AllByRecursion IsUnit us → AllByRecursion IsUnit vs → AllByRecursion IsUnit (us ++ vs)
 all_units [] vs h k = k
@@ -96,7 +97,7 @@ records_fit : (announce : Bool) (vs : List Payload) → All IsPayload vs → All
 records_fit announce [] h = tt
 records_fit announce (v ∷ vs) h = (All-head IsPayload v vs h, records_fit announce vs (All-tail IsPayload v vs h))
 
-response_fit : (session : ℕ) (now : NumberedSet) (records : List Unit) → session < 2 ^ 16 → now.serial < 2 ^ 32 → AllByRecursion IsUnit records → AllByRecursion IsUnit (response session default_intervals now records)
+response_fit : (session : ℕ) (now : NumberedSet) (records : List Unit) → session < 2 ^ 16 → now.serial < 2 ^ 32 → AllByRecursion IsUnit records → AllByRecursion IsUnit (response V1 session default_intervals now records)
 response_fit session now records low serial h = (low, all_units records _ h ((low, serial, omega arith, omega arith, omega arith), tt))
 
 serial_low : (start position : ℕ) → serial_at start position < 2 ^ 32
@@ -107,11 +108,11 @@ abbrev AreVersions : List NumberedSet → Type 0
 AreVersions vs = AllByRecursion (λ (v : NumberedSet). (v.serial < 2 ^ 32) × IsVrpSet v.set) vs
 
 module _ (session : ℕ) (low : session < 2 ^ 16) where
-  whole_fit : (vs : List NumberedSet) → AreVersions vs → AllByRecursion IsUnit (whole_answer session default_intervals vs)
+  whole_fit : (vs : List NumberedSet) → AreVersions vs → AllByRecursion IsUnit (whole_answer V1 session default_intervals vs)
   whole_fit [] h = report_of 2 ResetQuery (omega arith) (header_bytes 2 0 8 (omega arith))
   whole_fit (now ∷ older) h = response_fit session now (announcements now.set) low h.0.0 (records_fit true (listing now.set) h.0.1.payloads)
 
-  step_fit : (now : NumberedSet) (before : Option NumberedSet) → now.serial < 2 ^ 32 → IsVrpSet now.set → ((v : NumberedSet) → before ≡ Some v → IsVrpSet v.set) → AllByRecursion IsUnit (step_answer session default_intervals now before)
+  step_fit : (now : NumberedSet) (before : Option NumberedSet) → now.serial < 2 ^ 32 → IsVrpSet now.set → ((v : NumberedSet) → before ≡ Some v → IsVrpSet v.set) → AllByRecursion IsUnit (step_answer V1 session default_intervals now before)
   step_fit now None serial fits older = (tt, tt)
   step_fit now (Some before) serial fits older =
       response_fit session now (withdrawals (without before.set now.set) ++ announcements (without now.set before.set)) low serial
@@ -131,7 +132,7 @@ module _ (session : ℕ) (low : session < 2 ^ 16) where
   taken_fits (suc n) [] h = tt
   taken_fits (suc n) (v ∷ vs) h = (h.0, taken_fits n vs h.1)
 
-  serial_fit : (keep serial : ℕ) (vs : List NumberedSet) → AreVersions vs → AllByRecursion IsUnit (serial_answer session keep default_intervals serial vs)
+  serial_fit : (keep serial : ℕ) (vs : List NumberedSet) → AreVersions vs → AllByRecursion IsUnit (serial_answer V1 session keep default_intervals serial vs)
   serial_fit keep serial [] h = report_of 2 (SerialQuery session serial) (omega arith) (serial_bytes 1 session serial (omega arith))
   serial_fit keep serial (now ∷ older) h = step_fit now (with_serial serial (now ∷ take keep older)) h.0.0 h.0.1 (found_fits serial (now ∷ take keep older) (h.0, taken_fits keep older h.1))
 
@@ -140,11 +141,11 @@ versions_fit start [] h = tt
 versions_fit start (set ∷ older) h = ((serial_low start (length older), h.0), versions_fit start older h.1)
 
 -- The answer to a unit that was read
-answer_fit : (i : Instance) (keep : ℕ) (u : Unit) → IsInstance i → IsUnit u → AllByRecursion IsUnit (answer i keep default_intervals u).units
+answer_fit : (i : Instance) (keep : ℕ) (u : Unit) → IsInstance i → IsUnit u → AllByRecursion IsUnit (answer V1 i keep default_intervals u).units
 answer_fit i keep ResetQuery is h = whole_fit i.session is.session (versions i) (versions_fit i.start i.sets is.sets)
 answer_fit i keep (SerialQuery session serial) is h = by_test (session == i.session)
   where
-    by_test : (b : Bool) → AllByRecursion IsUnit (if b then and_on (serial_answer i.session keep default_intervals serial (versions i)) else and_end (report 0 (sent (SerialQuery session serial)) ∷ [])).units
+    by_test : (b : Bool) → AllByRecursion IsUnit (if b then and_on (serial_answer V1 i.session keep default_intervals serial (versions i)) else and_end (report 0 (sent V1 (SerialQuery session serial)) ∷ [])).units
     by_test true = serial_fit i.session is.session keep serial (versions i) (versions_fit i.start i.sets is.sets)
     by_test false = report_of 0 (SerialQuery session serial) (omega arith) (serial_bytes 1 session serial (omega arith))
 answer_fit i keep (ErrorReport r) is h = tt
@@ -189,9 +190,6 @@ notice_fit : (i : Instance) (sets : List VrpSet) → i.session < 2 ^ 16 → AllB
 notice_fit i [] low = tt
 notice_fit i (set ∷ older) low = ((low, serial_low i.start (length older)), tt)
 
-none_bytes : AreBytes []
-none_bytes i = omega arith
-
 reply_fit : (keep : ℕ) (c : Connection) (m : ConnMoment) → MayCome c m → AreBytes (bytes_of m) → AllByRecursion IsUnit (reply keep default_intervals c.agreed m).units
 reply_fit keep c (Read cache unit bytes) h each = answer_fit cache keep unit h.2 h.4.fits
 reply_fit keep c (Wanting cache unit bytes) h each = (report_fit 1 [] (omega arith) none_bytes, tt)
@@ -199,7 +197,7 @@ reply_fit keep c (Fault fault bytes) h each = fault_fit c.agreed fault bytes eac
 reply_fit keep c (Notify cache) h each = notice_fit cache cache.sets h.2.session
 reply_fit keep c (Pull count) h each = tt
 
-behind : (front rest : List ℕ) → AreBytes (front ++ rest) → AreBytes rest
+pub behind : (front rest : List ℕ) → AreBytes (front ++ rest) → AreBytes rest
 behind [] rest h = h
 behind (b ∷ front) rest h = behind front rest (λ k. h (suc k))
 

@@ -9,6 +9,7 @@ use Rattle.vrps.specs.VrpSet.{VrpSet}
 use Rattle.vrps.specs.declared.change.Change.{Change}
 use Rattle.rtr_pdu.specs.declared.unit.Unit.{Unit}
 use Rattle.rtr_pdu.specs.declared.unit.Unit.TheVariants.{SerialNotify, SerialQuery, ResetQuery, CacheResponse, Prefix, EndOfData, CacheReset, RouterKey, ErrorReport}
+use Rattle.rtr_pdu.specs.declared.version.Version.TheVariants.{V1}
 use Rattle.rtr_ends.specs.Answer.{and_on, and_end, announcements, answer, report, response, sent, sent_all, serial_answer, step_answer, withdrawals}
 use Rattle.rtr_ends.specs.Connection.{is_published, is_query, takes_memory}
 use Rattle.rtr_ends.specs.Peer.{SendsReply, EndsConnection, Knows, no_memory, read_reply, since_reply}
@@ -24,12 +25,12 @@ knows_stays t i old new s k = record { session = s.session ∙ k.session; timing
 pub record IsStep (session keep : ℕ) (t : Intervals) (serial : ℕ) (vs : List NumberedSet) (change : Change) : Type 0 where
   pub now : NumberedSet
   pub newest_is : newest vs ≡ Some now
-  pub answer_is : serial_answer session keep t serial vs ≡ response session t now (withdrawals change.withdraw ++ announcements change.announce)
+  pub answer_is : serial_answer V1 session keep t serial vs ≡ response V1 session t now (withdrawals change.withdraw ++ announcements change.announce)
 
 stepped : (session : ℕ) (t : Intervals) (now : NumberedSet) (found : Option NumberedSet) (change : Change) → Known change ≡ step_from now found
-    → step_answer session t now found ≡ response session t now (withdrawals change.withdraw ++ announcements change.announce)
+    → step_answer V1 session t now found ≡ response V1 session t now (withdrawals change.withdraw ++ announcements change.announce)
 stepped session t now None change h = absurd (let e : Known change ≡ Unknown = h in cc)
-stepped session t now (Some before) change h = ap (λ c. response session t now (withdrawals c.withdraw ++ announcements c.announce)) (sym (inside h))
+stepped session t now (Some before) change h = ap (λ c. response V1 session t now (withdrawals c.withdraw ++ announcements c.announce)) (sym (inside h))
   where
     inside : {a b : Change} → Known a ≡ Known b → a ≡ b
     inside h = cc
@@ -51,33 +52,33 @@ module _ (keep : ℕ) (t : Intervals) (i : Instance) where
   Since serial old new = (memory : Bool) × SendsReply t i (since_reply keep t i memory serial) old.agreed old new
 
   pub since_change : (serial : ℕ) (old : Peer) (change : Change) (sender : Sender) → old.ended ≡ false → Knows t i old.sender → Known change ≡ since keep serial (versions i)
-      → ((v : NumberedSet) → newest_of old.sender ≡ Some v → Sends old.sender (response old.sender.session old.sender.timing v (withdrawals change.withdraw ++ announcements change.announce)) sender)
+      → ((v : NumberedSet) → newest_of old.sender ≡ Some v → Sends old.sender (response V1 old.sender.session old.sender.timing v (withdrawals change.withdraw ++ announcements change.announce)) sender)
       → Since serial old (record old { sender = sender })
   since_change serial old change sender goes_on k h sends =
       let s = known_step i.session keep t serial (versions i) change h in
-      let sent = sends s.now (k.newest ∙ s.newest_is) in (
+      let sending = sends s.now (k.newest ∙ s.newest_is) in (
         true,
         record {
           reader = refl;
           agreed = refl;
           ended = goes_on;
-          due = sent.due ∙ (λ j. sent_all (response (k.session j) (k.timing j) s.now (withdrawals change.withdraw ++ announcements change.announce))) ∙ ap sent_all (sym s.answer_is);
-          knows = knows_stays t i old.sender sender sent.stays k;
-          room = sent.stays.room;
+          due = sending.due ∙ (λ j. sent_all V1 (response V1 (k.session j) (k.timing j) s.now (withdrawals change.withdraw ++ announcements change.announce))) ∙ ap (sent_all V1) (sym s.answer_is);
+          knows = knows_stays t i old.sender sender sending.stays k;
+          room = sending.stays.room;
         },
       )
 
   -- with memory an answer is what it is
-  with_memory : (u : Unit) → read_reply keep t i true u ≡ answer i keep t u
+  with_memory : (u : Unit) → read_reply keep t i true u ≡ answer V1 i keep t u
   with_memory u = by_test (takes_memory i u)
     where
-      by_test : (b : Bool) → (if b && not true then no_memory else answer i keep t u) ≡ answer i keep t u
+      by_test : (b : Bool) → (if b && not true then no_memory else answer V1 i keep t u) ≡ answer V1 i keep t u
       by_test true = refl
       by_test false = refl
 
-  same_session : (session serial : ℕ) → (session == i.session) ≡ true → answer i keep t (SerialQuery session serial) ≡ and_on (serial_answer i.session keep t serial (versions i))
+  same_session : (session serial : ℕ) → (session == i.session) ≡ true → answer V1 i keep t (SerialQuery session serial) ≡ and_on (serial_answer V1 i.session keep t serial (versions i))
   same_session session serial h =
-      ap (λ b. if b then and_on (serial_answer i.session keep t serial (versions i)) else and_end (report 0 (sent (SerialQuery session serial)) ∷ [])) h
+      ap (λ b. if b then and_on (serial_answer V1 i.session keep t serial (versions i)) else and_end (report 0 (sent V1 (SerialQuery session serial)) ∷ [])) h
 
   abbrev pub Serial : ℕ → ℕ → Peer → Peer → Type 0
   Serial session serial old new = (memory : Bool) × SendsReply t i (read_reply keep t i memory (SerialQuery session serial)) old.agreed old new
@@ -96,7 +97,7 @@ module _ (keep : ℕ) (t : Intervals) (i : Instance) where
 
       by_memory : (session == i.session) ≡ true → is_published i ≡ true → (memory : Bool) → read_reply keep t i memory (SerialQuery session serial) ≡ since_reply keep t i memory serial
       by_memory test published true = with_memory (SerialQuery session serial) ∙ same_session session serial test
-      by_memory test published false = λ j. if (test j && published j) && not false then no_memory else answer i keep t (SerialQuery session serial)
+      by_memory test published false = λ j. if (test j && published j) && not false then no_memory else answer V1 i keep t (SerialQuery session serial)
 
   abbrev pub Unitwise : Unit → Peer → Peer → Type 0
   Unitwise u old new = (memory : Bool) × SendsReply t i (read_reply keep t i memory u) (old.agreed || is_query u) old new
@@ -115,7 +116,7 @@ module _ (keep : ℕ) (t : Intervals) (i : Instance) where
     record { reader = s.1.reader; agreed = s.1.agreed ∙ sym (or_true old.agreed); ended = s.1.ended; due = s.1.due; knows = s.1.knows; room = s.1.room },
   )
 
-  pub unit_other : (old new : Peer) (u : Unit) → Knows t i old.sender → (u ≡ ResetQuery → ⊥) → ((session serial : ℕ) → u ≡ SerialQuery session serial → ⊥) → ((r : _) → u ≡ ErrorReport r → ⊥) → EndsConnection old (report 3 (sent u) ∷ []) new → Unitwise u old new
+  pub unit_other : (old new : Peer) (u : Unit) → Knows t i old.sender → (u ≡ ResetQuery → ⊥) → ((session serial : ℕ) → u ≡ SerialQuery session serial → ⊥) → ((r : _) → u ≡ ErrorReport r → ⊥) → EndsConnection old (report 3 (sent V1 u) ∷ []) new → Unitwise u old new
   unit_other old new u k no_reset no_serial no_report e =
       let is = others u no_reset no_serial no_report in (
         true,
@@ -123,7 +124,7 @@ module _ (keep : ℕ) (t : Intervals) (i : Instance) where
             (record { reader = e.reader; agreed = e.agreed ∙ sym (ap (λ b. old.agreed || b) is.1 ∙ or_false old.agreed); ended = e.ended; due = e.sends.due; knows = knows_stays t i old.sender new.sender e.sends.stays k; room = e.sends.stays.room }),
       )
     where
-      others : (u : Unit) → (u ≡ ResetQuery → ⊥) → ((session serial : ℕ) → u ≡ SerialQuery session serial → ⊥) → ((r : _) → u ≡ ErrorReport r → ⊥) → (answer i keep t u ≡ and_end (report 3 (sent u) ∷ [])) × (is_query u ≡ false)
+      others : (u : Unit) → (u ≡ ResetQuery → ⊥) → ((session serial : ℕ) → u ≡ SerialQuery session serial → ⊥) → ((r : _) → u ≡ ErrorReport r → ⊥) → (answer V1 i keep t u ≡ and_end (report 3 (sent V1 u) ∷ [])) × (is_query u ≡ false)
       others (SerialNotify s n) a b c = (refl, refl)
       others (SerialQuery s n) a b c = absurd (b s n refl)
       others ResetQuery a b c = absurd (a refl)

@@ -7,6 +7,7 @@ use Rattle.rtr_pdu.specs.Judging.{judge}
 use Rattle.rtr_pdu.specs.Stream.{as_read}
 use Rattle.rtr_pdu.specs.declared.unit.Unit.TheVariants.{SerialQuery, ResetQuery}
 use Rattle.rtr_pdu.specs.declared.unit.UnitFault.TheVariants as faults
+use Rattle.rtr_pdu.specs.declared.version.Version.TheVariants.{V1}
 use Rattle.rtr_ends.specs.Answer.{report, sent, sent_all}
 use Rattle.rtr_ends.specs.Cache.{Conn, Taking, new_conn, conn_byte, conn_takes, conn_notified, conn_pulled, serving, Takes, Gives, Notifies}
 use Rattle.rtr_ends.specs.Connection.{Read, Wanting, Fault}
@@ -27,7 +28,7 @@ answering due = record { state = record { cache = with_v; agreed = true; ended =
 pub two_queries : taken with_v None (reset_bytes ++ reset_bytes)
     ≡ record { machine = record { conn = answering (response_bytes ++ v_bytes ++ end_bytes 5); moments = Read with_v ResetQuery reset_bytes ∷ []; wanting = None }; rest = reset_bytes }
 unfolding conn_takes conn_byte judge as_read
-two_queries = ap (λ vs. record { machine = record { conn = answering (sent_all (with_all_of 5 (set_of (v ∷ [])) vs)); moments = Read with_v ResetQuery reset_bytes ∷ []; wanting = None }; rest = reset_bytes }) (listing-set_of (v ∷ []) v_ascends)
+two_queries = ap (λ vs. record { machine = record { conn = answering (sent_all V1 (with_all_of 5 (set_of (v ∷ [])) vs)); moments = Read with_v ResetQuery reset_bytes ∷ []; wanting = None }; rest = reset_bytes }) (listing-set_of (v ∷ []) v_ascends)
 
 -- A part of a query is held.
 half_a_query : taken with_v None (0x01 ∷ 0x02 ∷ 0 ∷ []) ≡ record { machine = record { conn = record (new_conn with_v) { held = 0x01 ∷ 0x02 ∷ 0 ∷ [] }; moments = []; wanting = None }; rest = [] }
@@ -70,10 +71,10 @@ unfolding conn_takes conn_byte conn_notified judge as_read
 notified_meanwhile = refl
 
 -- Want of memory where an answer takes memory, and where none does
-wants_memory : taken with_v (Some 0) (sent (SerialQuery 0x1234 5)) ≡ record {
+wants_memory : taken with_v (Some 0) (sent V1 (SerialQuery 0x1234 5)) ≡ record {
   machine = record {
-    conn = record { state = record { cache = with_v; agreed = true; ended = true; due = sent (report 1 []); notified = false }; held = [] };
-    moments = Wanting with_v (SerialQuery 0x1234 5) (sent (SerialQuery 0x1234 5)) ∷ [];
+    conn = record { state = record { cache = with_v; agreed = true; ended = true; due = sent V1 (report 1 []); notified = false }; held = [] };
+    moments = Wanting with_v (SerialQuery 0x1234 5) (sent V1 (SerialQuery 0x1234 5)) ∷ [];
     wanting = None;
   };
   rest = [];
@@ -84,10 +85,10 @@ wants_memory = refl
 -- A Reset Query takes none.
 reset_takes_none : (taken with_v (Some 0) reset_bytes).machine.conn ≡ answering (response_bytes ++ v_bytes ++ end_bytes 5)
 unfolding conn_takes conn_byte judge as_read
-reset_takes_none = ap (λ vs. answering (sent_all (with_all_of 5 (set_of (v ∷ [])) vs))) (listing-set_of (v ∷ []) v_ascends)
+reset_takes_none = ap (λ vs. answering (sent_all V1 (with_all_of 5 (set_of (v ∷ [])) vs))) (listing-set_of (v ∷ []) v_ascends)
 
-takes_none : (taken with_v (Some 0) (sent (SerialQuery 0x2222 5))).machine.conn ≡ record {
-  state = record { cache = with_v; agreed = true; ended = true; due = sent (report 0 (sent (SerialQuery 0x2222 5))); notified = false };
+takes_none : (taken with_v (Some 0) (sent V1 (SerialQuery 0x2222 5))).machine.conn ≡ record {
+  state = record { cache = with_v; agreed = true; ended = true; due = sent V1 (report 0 (sent V1 (SerialQuery 0x2222 5))); notified = false };
   held = [];
 }
 unfolding conn_takes conn_byte judge as_read

@@ -19,28 +19,7 @@ use Rattle.rtr_ends.specs.Timing.{Intervals}
 use Rattle.rtr_ends.specs.declared.cache.Cache.{Cache}
 use Rattle.rtr_ends.specs.declared.peer.Peer.{Peer}
 use Rattle.rtr_ends.specs.declared.sender.Share.{Share}
-
--- a slot that is set, and the others
-set_same : {X : Type 0} (xs : List X) (c : ℕ) (x : X) → c < length xs → slice_get (slice_set xs c x) c ≡ Some x
-set_same [] c x h = absurd (omega (arith, h))
-set_same (y ∷ xs) zero x h = refl
-set_same (y ∷ xs) (suc c) x h = set_same xs c x (omega (arith, h))
-
-set_other : {X : Type 0} (xs : List X) (c d : ℕ) (x : X) → ¬ (d ≡ c) → slice_get (slice_set xs c x) d ≡ slice_get xs d
-set_other [] c d x h = refl
-set_other (y ∷ xs) zero zero x h = absurd (h refl)
-set_other (y ∷ xs) zero (suc d) x h = refl
-set_other (y ∷ xs) (suc c) zero x h = refl
-set_other (y ∷ xs) (suc c) (suc d) x h = set_other xs c d x (λ e. h (ap (λ n. suc n) e))
-
-pub eq_of : (a b : ℕ) → (a == b) ≡ true → a ≡ b
-eq_of a b h = grind (arith, nat_tests)
-
-not_eq_of : (a b : ℕ) → (a == b) ≡ false → ¬ (a ≡ b)
-not_eq_of a b h e = grind (arith, nat_tests)
-
-eq_self : (a : ℕ) → (a == a) ≡ true
-eq_self a = grind (arith, nat_tests)
+use Rattle.prefixes.proofs.Basics.{eq_self, eq_of, not_eq_of, set_same, set_other}
 
 -- what stands under a number that is set
 pub with_conn_at : (c : ℕ) (o : Option Conn) (m : CacheState) → (with_conn c o m).at c ≡ o

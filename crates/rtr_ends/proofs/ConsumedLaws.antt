@@ -21,9 +21,10 @@ use Rattle.rtr_ends.specs.Transcript.{choose, AskReset, AskSerial, Item, At, Ope
 use Rattle.rtr_ends.proofs.ByteLists.{none_bytes, bytes_front, drop_none, front_of}
 use Rattle.rtr_ends.proofs.FeedingLaws.{feed_takes}
 use Rattle.rtr_ends.proofs.KeptUnits.{Tells}
-use Rattle.rtr_ends.proofs.KeptLaws.{called_tells, clocked_tells, new_tells, none_is, not_true}
+use Rattle.rtr_ends.proofs.KeptLaws.{called_tells, clocked_tells, new_tells, none_is}
 use Rattle.rtr_ends.proofs.TableLaws.{false_true}
-use Rattle.rtr_ends.proofs.ConsumedUnits.{Live, Split, Comes, live_splits, live_split, reads_so, bytes_come}
+use Rattle.rtr_ends.proofs.ConsumedUnits.{Live, Split, Comes, live_splits, live_split, reading_open, bytes_come}
+use Rattle.prefixes.proofs.Basics.{true_of_not}
 
 
 -- a piece, byte by byte
@@ -33,7 +34,7 @@ MComes m items bytes = Comes m.router (m.items ++ items) bytes
 byte_comes : (m : Receiving) (b : ℕ) (items : List Item) (bytes : List ℕ) → b < 256 → router_stops m.router ≡ false → MComes m items bytes → MComes (router_byte m b) items (bytes ++ b ∷ [])
 unfolding router_byte
 byte_comes m b items bytes byte goes_on c =
-    let parts = and_parts (is_reading m.router.link) (is_none m.router.out) (not_true (is_reading m.router.link && is_none m.router.out) goes_on) in
+    let parts = and_parts (is_reading m.router.link) (is_none m.router.out) (true_of_not (is_reading m.router.link && is_none m.router.out) goes_on) in
     let n : Noted = with_bytes (finds_memory m.wanting) (m.router.held ++ b ∷ []) m.router (judge V1 (not m.router.agreed) (m.router.held ++ b ∷ [])) in
     subst (λ x. Comes n.router x (bytes ++ b ∷ [])) (sym (append_assoc n.items m.items items))
     (bytes_come (finds_memory m.wanting) b m.router (m.items ++ items) bytes byte parts.0 (none_is m.router.out parts.1) c.tells (c.live parts.0))
@@ -143,7 +144,7 @@ closing_link r held out = by_test (is_closed r.link) refl
     by_test true is = record { closed = is; held = held is; out = out is }
     by_test false is = record { closed = refl; held = refl; out = refl }
 
-idle_reads : (l : Link) → is_idle l ≡ true → is_reading l ≡ true
+pub idle_reads : (l : Link) → is_idle l ≡ true → is_reading l ≡ true
 idle_reads Idle h = refl
 idle_reads Closed h = false_true h
 idle_reads (Ended end) h = false_true h
@@ -164,7 +165,7 @@ closed_comes now r items bytes c tells =
     let shut = closing_link (clocked now r) k.none_held k.none_out in
     record {
       tells = tells;
-      live = λ h. absurd (reads_so (close (clocked now r)).link h shut.closed);
+      live = λ h. absurd (reading_open (close (clocked now r)).link h shut.closed);
       split = quiet_split (At now ∷ items) (Shut ∷ At now ∷ items) bytes (record { units = refl; fault = refl; agreed = refl }) k.split;
       none_held = λ h. shut.held;
       none_out = λ h. shut.out;

@@ -56,12 +56,12 @@ pub live_split : (r : Router) (items : List Item) (bytes : List ℕ) → Live r 
 live_split r items bytes l = (r.held, live_splits r items bytes l)
 
 -- tests of links
-pub reads_so : (l : Link) → is_reading l ≡ true → is_closed l ≡ true → ⊥
-reads_so Closed h c = let e : false ≡ true = h in cc
-reads_so (Ended end) h c = let e : false ≡ true = h in cc
-reads_so Idle h c = let e : false ≡ true = c in cc
-reads_so (Asked q) h c = let e : false ≡ true = c in cc
-reads_so (Answering a) h c = let e : false ≡ true = c in cc
+pub reading_open : (l : Link) → is_reading l ≡ true → is_closed l ≡ true → ⊥
+reading_open Closed h c = let e : false ≡ true = h in cc
+reading_open (Ended end) h c = let e : false ≡ true = h in cc
+reading_open Idle h c = let e : false ≡ true = c in cc
+reading_open (Asked q) h c = let e : false ≡ true = c in cc
+reading_open (Answering a) h c = let e : false ≡ true = c in cc
 
 -- What a link that reads says of agreement
 agreed_of : (l : Link) (agreed : Bool) (session : Option ℕ) (table : VrpSet) (items : List Item) → is_reading l ≡ true → LinkTells l agreed session table items → has_agreed items ≡ agreed
@@ -257,8 +257,8 @@ bytes_come memory b r items bytes byte live none t l = by_case (judge_case V1 (n
           tells = added Begins;
           live = λ h. goes;
           split = live_split (record r { held = seen }) items (bytes ++ b ∷ []) goes;
-          none_held = λ c. absurd (reads_so r.link live c);
-          none_out = λ c. absurd (reads_so r.link live c);
+          none_held = λ c. absurd (reading_open r.link live c);
+          none_out = λ c. absurd (reading_open r.link live c);
         }
 
     shows : (fault : UnitFault) → Shows V1 (as_read V1 (not r.agreed) seen) fault → NowComes (Faulty fault)

@@ -99,7 +99,7 @@ none_received now wanting (b ∷ piece) r out none = by_test (router_stops (cloc
         absurd (omega (arith, none, rest, on))
 
 -- A connection stays open while bytes come.
-open_link : (l : Link) → is_reading l ≡ true → is_closed l ≡ false
+pub open_link : (l : Link) → is_reading l ≡ true → is_closed l ≡ false
 open_link Closed h = false_true h
 open_link Idle h = refl
 open_link (Asked question) h = refl

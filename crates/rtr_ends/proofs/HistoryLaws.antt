@@ -11,26 +11,27 @@ use Rattle.rtr_pdu.specs.declared.unit.UnitFault.{UnitFault}
 use Rattle.rtr_ends.specs.Answer.{Reply, sent, sent_all}
 use Rattle.rtr_ends.specs.Connection.{ConnMoment, Read, Wanting, Fault, Notify, Pull, Connection, IsHistory, MayHold, PulledAreReplies, HistorySplits, conn_after, after_all, agreed_after, opened, pulled, replies_from, reply, units_of}
 use Rattle.rtr_ends.specs.Timing.{Intervals}
+use Rattle.prefixes.proofs.Basics.{not_both}
 
 -- what is still to be sent
 abbrev to_come : ℕ → Intervals → Connection → List ConnMoment → List ℕ
-to_come keep t c moments = c.due ++ sent_all (if c.ended then [] else replies_from keep t c.agreed moments)
+to_come keep t c moments = c.due ++ sent_all V1 (if c.ended then [] else replies_from keep t c.agreed moments)
 
-none_to_come : (b : Bool) → sent_all (if b then [] else []) ≡ []
+none_to_come : (b : Bool) → sent_all V1 (if b then [] else []) ≡ []
 none_to_come true = refl
 none_to_come false = refl
 
 -- a reply that goes on or ends, and what comes after it
-with_reply : (now : Reply) (more : List Unit) → sent_all now.units ++ sent_all (if not now.goes_on then [] else more) ≡ sent_all (now.units ++ (if now.goes_on then more else []))
+with_reply : (now : Reply) (more : List Unit) → sent_all V1 now.units ++ sent_all V1 (if not now.goes_on then [] else more) ≡ sent_all V1 (now.units ++ (if now.goes_on then more else []))
 with_reply now more =
-    elim now.goes_on as (λ b. sent_all now.units ++ sent_all (if not b then [] else more) ≡ sent_all (now.units ++ (if b then more else []))) [
-      | true ↦ sym (flat_map-append sent now.units more)
-      | false ↦ sym (flat_map-append sent now.units [])
+    elim now.goes_on as (λ b. sent_all V1 now.units ++ sent_all V1 (if not b then [] else more) ≡ sent_all V1 (now.units ++ (if b then more else []))) [
+      | true ↦ sym (flat_map-append (sent V1) now.units more)
+      | false ↦ sym (flat_map-append (sent V1) now.units [])
     ]
 
 -- nothing is due, and the connection goes on
-at_rest : (due : List ℕ) (ended : Bool) (units : List Unit) → due ≡ [] → ended ≡ false → sent_all units ≡ due ++ sent_all (if ended then [] else units)
-at_rest due ended units d e = λ i. sym d i ++ sent_all (if sym e i then [] else units)
+at_rest : (due : List ℕ) (ended : Bool) (units : List Unit) → due ≡ [] → ended ≡ false → sent_all V1 units ≡ due ++ sent_all V1 (if ended then [] else units)
+at_rest due ended units d e = λ i. sym d i ++ sent_all V1 (if sym e i then [] else units)
 
 sent_so_far : (keep : ℕ) (t : Intervals) (c : Connection) (moments : List ConnMoment) (bytes : List ℕ) → IsHistory keep t c moments bytes →
     pulled keep t c moments ++ (after_all keep t c moments).due ≡ to_come keep t c moments
@@ -39,7 +40,7 @@ sent_so_far keep t c (Pull count ∷ later) bytes h =
     append_assoc (take count c.due) (pulled keep t (conn_after keep t c (Pull count)) later) _
     ∙ ap (λ x. take count c.due ++ x) (sent_so_far keep t (conn_after keep t c (Pull count)) later h.1.0 h.1.2)
     ∙ sym (append_assoc (take count c.due) (drop count c.due) _)
-    ∙ ap (λ x. x ++ sent_all (if c.ended then [] else replies_from keep t c.agreed later)) (take-append-drop count c.due)
+    ∙ ap (λ x. x ++ sent_all V1 (if c.ended then [] else replies_from keep t c.agreed later)) (take-append-drop count c.due)
 sent_so_far keep t c (Read cache unit bytes' ∷ later) bytes h =
     let m = Read cache unit bytes' in
     sent_so_far keep t (conn_after keep t c m) later h.1.0 h.1.2
@@ -64,12 +65,9 @@ sent_so_far keep t c (Notify cache ∷ later) bytes h =
 pub pulled_are_replies : PulledAreReplies
 pulled_are_replies keep t i moments bytes h = sent_so_far keep t (opened i) moments bytes h
 
-read_plainly : (bytes : List ℕ) → as_read V1 false bytes ≡ bytes
+pub read_plainly : (bytes : List ℕ) → as_read V1 false bytes ≡ bytes
 unfolding as_read
 read_plainly bytes = refl
-
-not_both : (b : Bool) → b ≡ true → b ≡ false → ⊥
-not_both b ended goes_on = cc
 
 -- After an end nothing comes and no unit is read.
 record Nothing (moments : List ConnMoment) (bytes : List ℕ) : Type 0 where

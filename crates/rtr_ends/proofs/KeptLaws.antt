@@ -15,15 +15,12 @@ use Rattle.rtr_ends.specs.RouterLink.{Link, Closed, Idle, Asked, Answering, Ende
 use Rattle.rtr_ends.specs.Transcript.{choose, Question, AskReset, AskSerial, Item, At, Opened, Asks, Refused, Shut, is_connected, moment, later, acts_once, nothing, base_of, is_serial, emptied_if, kept, is_over, sum_of, retry_of, due}
 use Rattle.rtr_ends.proofs.TableLaws.{false_true}
 use Rattle.rtr_ends.proofs.KeptUnits.{holds, Tells, bytes_add}
+use Rattle.prefixes.proofs.Basics.{true_of_not}
 
 -- a piece
 pub none_is : (out : List ℕ) → is_none out ≡ true → out ≡ []
 none_is [] h = refl
 none_is (b ∷ out) h = absurd (let e : false ≡ true = h in cc)
-
-pub not_true : (b : Bool) → not b ≡ false → b ≡ true
-not_true true h = refl
-not_true false h = absurd (let e : true ≡ false = h in cc)
 
 abbrev MTells : Receiving → List Item → Type 0
 MTells m items = Tells m.router (m.items ++ items)
@@ -31,7 +28,7 @@ MTells m items = Tells m.router (m.items ++ items)
 pub byte_tells : (m : Receiving) (b : ℕ) (items : List Item) → router_stops m.router ≡ false → MTells m items → MTells (router_byte m b) items
 unfolding router_byte
 byte_tells m b items goes_on t =
-    let parts = and_parts (is_reading m.router.link) (is_none m.router.out) (not_true (is_reading m.router.link && is_none m.router.out) goes_on) in
+    let parts = and_parts (is_reading m.router.link) (is_none m.router.out) (true_of_not (is_reading m.router.link && is_none m.router.out) goes_on) in
     let bytes : List ℕ = m.router.held ++ b ∷ [] in
     let j : Judgement = judge V1 (not m.router.agreed) (m.router.held ++ b ∷ []) in
     let n : Noted = with_bytes (finds_memory m.wanting) (m.router.held ++ b ∷ []) m.router (judge V1 (not m.router.agreed) (m.router.held ++ b ∷ [])) in

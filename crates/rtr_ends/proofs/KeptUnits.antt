@@ -12,6 +12,7 @@ use Rattle.rtr_pdu.specs.declared.unit.Unit.{Unit}
 use Rattle.rtr_pdu.specs.declared.unit.Unit.TheVariants.{SerialNotify, SerialQuery, ResetQuery, CacheResponse, Prefix, EndOfData, CacheReset, RouterKey, ErrorReport}
 use Rattle.rtr_ends.specs.declared.link.End.{End}
 use Rattle.rtr_ends.specs.declared.link.End.TheVariants as ends
+use Rattle.rtr_pdu.specs.declared.version.Version.TheVariants.{V1}
 use Rattle.rtr_ends.specs.Answer.{sent}
 use Rattle.rtr_ends.specs.LinkRules.{Router, Staged, Stays, Wrong, Over, asking, ask, emptied, reports, ended_by, fails, is_strange, is_news, stage, staged, commit, told_off, on_unit, may_lack}
 use Rattle.rtr_ends.specs.Router.{Noted, asked_by, reads, lacks, with_bytes, asks}
@@ -64,7 +65,7 @@ stays_after r u items l is none h t =
     (record { kept_is = h.kept_is; due_is = h.due_is; now_is = h.now_is; link = subst (λ x. LinkTells x r.agreed r.session r.table (Reads u ∷ items)) (sym is) t })
 
 -- a question that is put stands in the transcript
-put_asks : (q : Question) → asked_by (Asked q) (sent (query q)) ≡ Asks q ∷ []
+put_asks : (q : Question) → asked_by (Asked q) (sent V1 (query q)) ≡ Asks q ∷ []
 put_asks AskReset = refl
 put_asks (AskSerial session serial) = refl
 

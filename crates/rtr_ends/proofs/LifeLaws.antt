@@ -8,8 +8,8 @@ use Rattle.vrps.proofs.VersionLaws.{published_is_instance}
 use Rattle.rtr_ends.specs.Cache.{ConnCall, Conn, Gives, IsConnCall, IsServed, Notifies, Publishes, Takes, conn_notified, conn_pulled, conn_takes, new_conn, serve, serving}
 use Rattle.rtr_ends.specs.CacheState.{CacheCall, CacheState, Close, EachIsServed, Pull, IsCacheCall, IsLife, Life, Open, Publish, Receive, Notify, cache_called, life, life_after, ran, serves, without_conns}
 use Rattle.rtr_ends.specs.Timing.{Intervals}
-use Rattle.rtr_ends.proofs.CacheStateLaws.{eq_of}
 use Rattle.rtr_ends.proofs.ServingLaws.{serves_history}
+use Rattle.prefixes.proofs.Basics.{eq_of}
 
 -- what a connection is, by its own calls
 record Stands (keep : ℕ) (t : Intervals) (i : Instance) (x : Life) : Type 0 where

@@ -11,6 +11,7 @@ use Rattle.rtr_pdu.specs.Stream.{as_read}
 use Rattle.rtr_pdu.specs.declared.unit.Unit.{Unit}
 use Rattle.rtr_pdu.specs.declared.unit.Unit.TheVariants.{SerialQuery, ResetQuery, CacheResponse, Prefix, EndOfData, CacheReset, RouterKey, ErrorReport}
 use Rattle.rtr_ends.specs.declared.link.End.TheVariants as ends
+use Rattle.rtr_pdu.specs.declared.version.Version.TheVariants.{V1}
 use Rattle.rtr_ends.specs.Answer.{report, sent}
 use Rattle.rtr_ends.specs.LinkRules.{Router, Stays, Wrong, Over, emptied, ended_by, told_off, on_unit, stage}
 use Rattle.rtr_ends.specs.Router.{router_byte, receives, clocked, connects_at, closed_at, ticks_at, called, Connects, Receives, Closes, Ticks}
@@ -25,7 +26,7 @@ use Rattle.rtr_ends.proofs.RouterRows.{just_v, asked_all, answering, by_stage, v
 
 -- A report with code 0 and a copy of the unit. The link ends, and what is held stays.
 abbrev Rejects : Link → Unit → Router → Type 0
-Rejects link u r = on_unit link u r ≡ record r { link = Ended (ends.Reported 0); out = sent (report 0 (sent u)) }
+Rejects link u r = on_unit link u r ≡ record r { link = Ended (ends.Reported 0); out = sent V1 (report 0 (sent V1 u)) }
 
 idle_rejects : (r : Router) (announce : Bool) (x : Payload) (key : Key) (session serial refresh retry expire : ℕ)
     → Rejects Idle (CacheResponse session) r × Rejects Idle (Prefix announce x) r × Rejects Idle (RouterKey key) r
@@ -56,7 +57,7 @@ abbrev pub report_bytes : ℕ → List ℕ → List ℕ
 report_bytes code copy = 0x01 ∷ 0x0a ∷ 0 ∷ code ∷ 0 ∷ 0 ∷ 0 ∷ (16 + length copy) ∷ 0 ∷ 0 ∷ 0 ∷ length copy ∷ copy ++ 0 ∷ 0 ∷ 0 ∷ 0 ∷ []
 
 -- the same, byte by byte: a Cache Reset on an idle link, and a record before the Cache Response
-idle_reset : (called (Receives 100 None (sent CacheReset)) holds_v).router
+idle_reset : (called (Receives 100 None (sent V1 CacheReset)) holds_v).router
     ≡ record holds_v { link = Ended (ends.Reported 0); out = report_bytes 0 (0x01 ∷ 0x08 ∷ 0 ∷ 0 ∷ 0 ∷ 0 ∷ 0 ∷ 0x08 ∷ []) }
 unfolding receives router_byte clocked on_unit judge as_read
 idle_reset = refl
@@ -68,18 +69,18 @@ record_too_early = refl
 
 -- Another session: the same report, and emptied. The mark goes with the rest.
 
-end_of_other_session : (called (Receives 100 None (sent (EndOfData 0x2222 6 3600 600 7200))) (record changes { mark = true })).router
-    ≡ record changes { table = empty; version = None; link = Ended (ends.Reported 0); out = sent (report 0 (sent (EndOfData 0x2222 6 3600 600 7200))) }
+end_of_other_session : (called (Receives 100 None (sent V1 (EndOfData 0x2222 6 3600 600 7200))) (record changes { mark = true })).router
+    ≡ record changes { table = empty; version = None; link = Ended (ends.Reported 0); out = sent V1 (report 0 (sent V1 (EndOfData 0x2222 6 3600 600 7200))) }
 unfolding receives router_byte clocked on_unit judge as_read
 end_of_other_session = refl
 
 other_session_asked : (called (Receives 100 None (notify_bytes 0x2222 6)) asks_since).router
-    ≡ record asks_since { table = empty; version = None; link = Ended (ends.Reported 0); out = sent (report 0 (notify_bytes 0x2222 6)) }
+    ≡ record asks_since { table = empty; version = None; link = Ended (ends.Reported 0); out = sent V1 (report 0 (notify_bytes 0x2222 6)) }
 unfolding receives router_byte clocked on_unit judge as_read
 other_session_asked = refl
 
 other_session_answering : (called (Receives 100 None (notify_bytes 0x2222 6)) changes).router
-    ≡ record changes { table = empty; version = None; link = Ended (ends.Reported 0); out = sent (report 0 (notify_bytes 0x2222 6)) }
+    ≡ record changes { table = empty; version = None; link = Ended (ends.Reported 0); out = sent V1 (report 0 (notify_bytes 0x2222 6)) }
 unfolding receives router_byte clocked on_unit judge as_read
 other_session_answering = refl
 
@@ -96,7 +97,7 @@ same_session_answering = refl
 abbrev renews : Begun
 renews = record { question = AskReset; session = 0x2222; withdrawn = []; announced = [] }
 
-new_session : (called (Receives 100 None (sent (CacheResponse 0x2222))) (record holds_v { link = Asked AskReset })).router ≡ record holds_v { session = Some 0x2222; link = Answering renews }
+new_session : (called (Receives 100 None (sent V1 (CacheResponse 0x2222))) (record holds_v { link = Asked AskReset })).router ≡ record holds_v { session = Some 0x2222; link = Answering renews }
 unfolding receives router_byte clocked on_unit judge as_read
 new_session = refl
 
@@ -105,7 +106,7 @@ unfolding receives router_byte clocked on_unit judge as_read
 of_new_session = refl
 
 of_old_session : (called (Receives 100 None (notify_bytes 0x1234 6)) (record holds_v { session = Some 0x2222; link = Answering renews })).router
-    ≡ record holds_v { table = empty; version = None; session = Some 0x2222; link = Ended (ends.Reported 0); out = sent (report 0 (notify_bytes 0x1234 6)) }
+    ≡ record holds_v { table = empty; version = None; session = Some 0x2222; link = Ended (ends.Reported 0); out = sent V1 (report 0 (notify_bytes 0x1234 6)) }
 unfolding receives router_byte clocked on_unit judge as_read
 of_old_session = refl
 
@@ -127,7 +128,7 @@ older_serial = refl
 abbrev holds_last : Router
 holds_last = record holds_v { version = Some (record (committed_at 100) { serial = 4294967295 }) }
 
-goes_round : (called (Receives 100 None (notify_bytes 0x1234 0)) holds_last).router ≡ record holds_last { link = Asked (AskSerial 0x1234 4294967295); out = sent (SerialQuery 0x1234 4294967295) }
+goes_round : (called (Receives 100 None (notify_bytes 0x1234 0)) holds_last).router ≡ record holds_last { link = Asked (AskSerial 0x1234 4294967295); out = sent V1 (SerialQuery 0x1234 4294967295) }
 unfolding receives router_byte clocked on_unit judge as_read
 goes_round = refl
 
@@ -137,7 +138,7 @@ unfolding receives router_byte clocked on_unit judge as_read
 begins_change = refl
 
 -- A Cache Reset as the first unit is the agreement on the version.
-reset_agrees : (called (Receives 100 None (sent CacheReset)) (record asks_since { agreed = false; session = None })).router ≡ record asks_since { session = None; link = Asked AskReset; out = reset_bytes }
+reset_agrees : (called (Receives 100 None (sent V1 CacheReset)) (record asks_since { agreed = false; session = None })).router ≡ record asks_since { session = None; link = Asked AskReset; out = reset_bytes }
 unfolding receives router_byte clocked on_unit judge as_read
 reset_agrees = refl
 
@@ -152,12 +153,12 @@ abbrev pub slow : Committed
 slow = record (committed_at 100) { intervals = intervals 7200 900 86400 }
 
 -- Code 2 drops what was staged; the router asks again after retry, 600 where nothing is committed.
-no_data_answering : (called (Receives 1000 None (sent (report 2 serial_bytes))) (record changes { version = Some slow; link = Answering (record since_v { withdrawn = v ∷ [] }) })).router
+no_data_answering : (called (Receives 1000 None (sent V1 (report 2 serial_bytes))) (record changes { version = Some slow; link = Answering (record since_v { withdrawn = v ∷ [] }) })).router
     ≡ record changes { version = Some slow; now = 1000; link = Idle; due = Some 1900; no_data = true }
 unfolding receives router_byte clocked on_unit judge as_read is_utf8 chars
 no_data_answering = refl
 
-no_data_at_all : (called (Receives 1000 None (sent (report 2 reset_bytes))) asked_all).router ≡ record asked_all { agreed = true; now = 1000; link = Idle; due = Some 1600; no_data = true }
+no_data_at_all : (called (Receives 1000 None (sent V1 (report 2 reset_bytes))) asked_all).router ≡ record asked_all { agreed = true; now = 1000; link = Idle; due = Some 1600; no_data = true }
 unfolding receives router_byte clocked on_unit judge as_read is_utf8 chars
 no_data_at_all = refl
 
@@ -181,11 +182,11 @@ unfolding on_unit
 told_other e q a r h g =
     (ends_told q e.code (record r { agreed = true }) h (ap (λ c. c && is_serial (Some q)) g), ends_told a.question e.code r h (ap (λ c. c && is_serial (Some a.question)) g))
 
-corrupt_answering : (called (Receives 100 None (sent (report 0 serial_bytes))) (record changes { mark = true })).router ≡ record changes { table = empty; version = None; link = Ended (ends.Told 0) }
+corrupt_answering : (called (Receives 100 None (sent V1 (report 0 serial_bytes))) (record changes { mark = true })).router ≡ record changes { table = empty; version = None; link = Ended (ends.Told 0) }
 unfolding receives router_byte clocked on_unit judge as_read is_utf8 chars
 corrupt_answering = refl
 
-internal_answering : (called (Receives 100 None (sent (report 1 []))) changes).router ≡ record changes { link = Ended (ends.Told 1) }
+internal_answering : (called (Receives 100 None (sent V1 (report 1 []))) changes).router ≡ record changes { link = Ended (ends.Told 1) }
 unfolding receives router_byte clocked on_unit judge as_read is_utf8 chars
 internal_answering = refl
 
@@ -209,25 +210,25 @@ withdrawn_before base a x h =
     (λ i. if has base x && not (h i) then Stays (record a { withdrawn = x ∷ a.withdrawn }) else Wrong 6)
     ∙ (λ i. if and-false (has base x) i then Stays (record a { withdrawn = x ∷ a.withdrawn }) else Wrong 6)
 
-announced_twice : (called (Receives 100 None v_bytes) (answering v_read)).router ≡ record (answering v_read) { mark = true; link = Ended (ends.Reported 7); out = sent (report 7 v_bytes) }
+announced_twice : (called (Receives 100 None v_bytes) (answering v_read)).router ≡ record (answering v_read) { mark = true; link = Ended (ends.Reported 7); out = sent V1 (report 7 v_bytes) }
 unfolding receives router_byte clocked on_unit judge as_read
 announced_twice = ap (λ st. (by_stage 100 v true (answering v_read) st).router) (duplicate_of_answer empty v_read v refl)
 
 abbrev pub without_v : Begun
 without_v = record since_v { withdrawn = v ∷ [] }
 
-withdrawn_first : (called (Receives 100 None v_bytes) (record changes { link = Answering without_v })).router ≡ record changes { mark = true; link = Ended (ends.Reported 7); out = sent (report 7 v_bytes) }
+withdrawn_first : (called (Receives 100 None v_bytes) (record changes { link = Answering without_v })).router ≡ record changes { mark = true; link = Ended (ends.Reported 7); out = sent V1 (report 7 v_bytes) }
 unfolding receives router_byte clocked on_unit judge as_read
 withdrawn_first = ap (λ st. (by_stage 100 v true (record changes { link = Answering without_v }) st).router) (duplicate_of_base just_v without_v v has_v)
 
-withdrawn_twice : (called (Receives 100 None (sent (Prefix false v))) (record changes { link = Answering without_v })).router ≡ record changes { mark = true; link = Ended (ends.Reported 6); out = sent (report 6 (sent (Prefix false v))) }
+withdrawn_twice : (called (Receives 100 None (sent V1 (Prefix false v))) (record changes { link = Answering without_v })).router ≡ record changes { mark = true; link = Ended (ends.Reported 6); out = sent V1 (report 6 (sent V1 (Prefix false v))) }
 unfolding receives router_byte clocked on_unit judge as_read
 withdrawn_twice = ap (λ st. (by_stage 100 v false (record changes { link = Answering without_v }) st).router) (withdrawn_before just_v without_v v refl)
 
 abbrev with_w : Begun
 with_w = record since_v { announced = w ∷ [] }
 
-announced_first : (called (Receives 100 None (sent (Prefix false w))) (record changes { link = Answering with_w })).router ≡ record changes { mark = true; link = Ended (ends.Reported 6); out = sent (report 6 (sent (Prefix false w))) }
+announced_first : (called (Receives 100 None (sent V1 (Prefix false w))) (record changes { link = Answering with_w })).router ≡ record changes { mark = true; link = Ended (ends.Reported 6); out = sent V1 (report 6 (sent V1 (Prefix false w))) }
 unfolding receives router_byte clocked on_unit judge as_read
 announced_first = ap (λ st. (by_stage 100 w false (record changes { link = Answering with_w }) st).router) (unknown_to_base just_v with_w w has_not_w)
 
@@ -235,7 +236,7 @@ announced_first = ap (λ st. (by_stage 100 w false (record changes { link = Answ
 pub stage_withdrawn : stage just_v since_v false v ≡ Stays without_v
 stage_withdrawn = λ i. if has_v i && true then Stays without_v else Wrong 6
 
-withdrawn_v : (called (Receives 100 None (sent (Prefix false v))) changes).router ≡ record changes { link = Answering without_v }
+withdrawn_v : (called (Receives 100 None (sent V1 (Prefix false v))) changes).router ≡ record changes { link = Answering without_v }
 unfolding receives router_byte clocked on_unit judge as_read
 withdrawn_v = ap (λ st. (by_stage 100 v false changes st).router) stage_withdrawn
 
@@ -247,13 +248,13 @@ announced_anew : (called (Receives 100 None v_bytes) (record holds_v { link = An
 unfolding receives router_byte clocked on_unit judge as_read
 announced_anew = ap (λ st. (by_stage 100 v true (record holds_v { link = Answering renews }) st).router) stage_anew
 
-commits_anew : (called (Receives 200 None (sent (EndOfData 0x2222 9 3600 600 7200))) (record holds_v { link = Answering (record renews { announced = w ∷ [] }) })).router
+commits_anew : (called (Receives 200 None (sent V1 (EndOfData 0x2222 9 3600 600 7200))) (record holds_v { link = Answering (record renews { announced = w ∷ [] }) })).router
     ≡ record holds_v { table = set_of (w ∷ []); version = Some (record (committed_at 200) { session = 0x2222; serial = 9 }); now = 200; due = Some 3800 }
 unfolding receives router_byte clocked on_unit judge as_read
 commits_anew = ap (λ s. record holds_v { table = s; version = Some (record (committed_at 200) { session = 0x2222; serial = 9 }); now = 200; due = Some 3800 }) (led_from_empty (w ∷ []))
 
 -- With the mark the next connection asks for all, though something is committed. Asking leaves the mark, and a commit clears it.
-asks_all_by_mark : (called (Connects 100) (record changes { mark = true; link = Ended (ends.Reported 7); out = sent (report 7 v_bytes) })).router
+asks_all_by_mark : (called (Connects 100) (record changes { mark = true; link = Ended (ends.Reported 7); out = sent V1 (report 7 v_bytes) })).router
     ≡ record holds_v { mark = true; due = Some 700; agreed = false; session = None; link = Asked AskReset; out = reset_bytes }
 unfolding connects_at clocked
 asks_all_by_mark = refl
@@ -278,7 +279,7 @@ too_many a h = ap (λ st. (by_stage 100 v true (record changes { link = Answerin
 -- Intervals are brought to the nearest bound at a commit.
 
 abbrev commits_with : ℕ → ℕ → ℕ → Router
-commits_with refresh retry expire = (called (Receives 100 None (sent (EndOfData 0x1234 5 refresh retry expire))) (answering v_read)).router
+commits_with refresh retry expire = (called (Receives 100 None (sent V1 (EndOfData 0x1234 5 refresh retry expire))) (answering v_read)).router
 
 abbrev holds_with : Intervals → ℕ → Router
 holds_with t due = record holds_v { version = Some (record (committed_at 100) { intervals = t }); due = Some due }
@@ -348,7 +349,7 @@ unfolding ticks_at clocked
 expires_due = refl
 
 -- A link that has ended keeps its end and its report.
-expires_ended : (called (Ticks 7301) (record changes { mark = true; link = Ended (ends.Reported 7); out = sent (report 7 v_bytes) })).router
-    ≡ record changes { now = 7301; table = empty; version = None; link = Ended (ends.Reported 7); out = sent (report 7 v_bytes) }
+expires_ended : (called (Ticks 7301) (record changes { mark = true; link = Ended (ends.Reported 7); out = sent V1 (report 7 v_bytes) })).router
+    ≡ record changes { now = 7301; table = empty; version = None; link = Ended (ends.Reported 7); out = sent V1 (report 7 v_bytes) }
 unfolding ticks_at clocked
 expires_ended = refl

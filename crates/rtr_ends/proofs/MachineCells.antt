@@ -11,6 +11,7 @@ use Rattle.rtr_pdu.specs.declared.unit.Unit.{Unit}
 use Rattle.rtr_pdu.specs.declared.unit.Unit.TheVariants.{SerialNotify, SerialQuery, ResetQuery, CacheResponse, Prefix, EndOfData, CacheReset, RouterKey, ErrorReport}
 use Rattle.rtr_ends.specs.declared.link.End.{End}
 use Rattle.rtr_ends.specs.declared.link.End.TheVariants as ends
+use Rattle.rtr_pdu.specs.declared.version.Version.TheVariants.{V1}
 use Rattle.rtr_ends.specs.Answer.{report, sent}
 use Rattle.rtr_ends.specs.LinkRules as rules
 use Rattle.rtr_ends.specs.LinkRules.{Router, ask, asking, commit, fails, is_news, is_staged, is_strange, may_lack, on_unit, reports, stage, staged, ended_by, told_off}
@@ -30,6 +31,7 @@ use Rattle.rtr_ends.specs.declared.machine.State.{State}
 use Rattle.rtr_ends.specs.declared.machine.State.TheVariants as states
 use Rattle.rtr_ends.proofs.SeenLaws.{does_from, shown, shown_as, unit_does}
 use Rattle.rtr_ends.proofs.TableLaws.{false_true}
+use Rattle.prefixes.proofs.Basics.{eq_self}
 
 -- What a step does in one state, whatever was staged
 abbrev Steps : State → Unit → (Router → Router) → Machine → Type 0
@@ -37,19 +39,19 @@ Steps s u step old = (withdrawn announced : List Payload) (held : List ℕ) → 
 
 -- The link ends with a report, and what is held stays.
 pub reports_so : (u : Unit) (s : State) (old new : Machine) → old.state ≡ s → Steps s u (reports 0 u) old
-    → new ≡ record old { state = states.Ended (ends.Reported 0); out = sent (report 0 (sent u)) } → Does (λ r. on_unit r.link u r) old new
+    → new ≡ record old { state = states.Ended (ends.Reported 0); out = sent V1 (report 0 (sent V1 u)) } → Does (λ r. on_unit r.link u r) old new
 reports_so u s old new is steps e =
     unit_does u s old new is (λ withdrawn announced held staged.
     subst (λ n. ShowsRouter (on_unit (seen_link s withdrawn announced) u (seen old withdrawn announced held)) n) (sym e)
-    (shown_as _ (record old { state = states.Ended (ends.Reported 0); out = sent (report 0 (sent u)) }) withdrawn announced held (steps withdrawn announced held) tt))
+    (shown_as _ (record old { state = states.Ended (ends.Reported 0); out = sent V1 (report 0 (sent V1 u)) }) withdrawn announced held (steps withdrawn announced held) tt))
 
 -- The same, and emptied.
 pub fails_so : (u : Unit) (s : State) (old new : Machine) → old.state ≡ s → Steps s u (fails u) old
-    → new ≡ record old { table = empty; version = None; mark = false; state = states.Ended (ends.Reported 0); out = sent (report 0 (sent u)) } → Does (λ r. on_unit r.link u r) old new
+    → new ≡ record old { table = empty; version = None; mark = false; state = states.Ended (ends.Reported 0); out = sent V1 (report 0 (sent V1 u)) } → Does (λ r. on_unit r.link u r) old new
 fails_so u s old new is steps e =
     unit_does u s old new is (λ withdrawn announced held staged.
     subst (λ n. ShowsRouter (on_unit (seen_link s withdrawn announced) u (seen old withdrawn announced held)) n) (sym e)
-    (shown_as _ (record old { table = empty; version = None; mark = false; state = states.Ended (ends.Reported 0); out = sent (report 0 (sent u)) }) withdrawn announced held (steps withdrawn announced held) tt))
+    (shown_as _ (record old { table = empty; version = None; mark = false; state = states.Ended (ends.Reported 0); out = sent V1 (report 0 (sent V1 u)) }) withdrawn announced held (steps withdrawn announced held) tt))
 
 -- Nothing happens.
 pub stays_so : (u : Unit) (s : State) (old : Machine) → old.state ≡ s → Steps s u (λ r. r) old → Does (λ r. on_unit r.link u r) old old
@@ -92,7 +94,7 @@ no_code ended_by code n e h = by_test (code == n) refl
     by_test true is = absurd (h (let same : code ≡ n = grind (arith, nat_tests) in e ∙ same))
 
 -- A Reset Query is asked, after agreement.
-pub asks_again : (old new : Machine) → new ≡ record old { agreed = true; state = states.Asked questions.Reset; out = sent (query AskReset) } → Does (λ r. asking AskReset (record r { agreed = true })) old new
+pub asks_again : (old new : Machine) → new ≡ record old { agreed = true; state = states.Asked questions.Reset; out = sent V1 (query AskReset) } → Does (λ r. asking AskReset (record r { agreed = true })) old new
 asks_again old new e r s =
     subst (λ n. ShowsRouter (asking AskReset (record r { agreed = true })) n) (sym e)
     (record { withdrawn = s.withdrawn; announced = s.announced; staged = tt; is = ap (λ (x : Router). asking AskReset (record x { agreed = true })) s.is })
@@ -269,7 +271,7 @@ module _ (old : Machine) (q : Question.Question) (session : ℕ) (is : old.state
       by_staged withdrawn announced held (rules.Wrong code) e h = absurd h
       by_staged withdrawn announced held rules.Over e h = absurd h
 
-  pub wrong_staged : (s : Staging) (n : ℕ) (new : Machine) → Goes (Ok (code.Wrong n)) s → new ≡ record old { staging = s; state = states.Ended (ends.Reported n); out = sent (report n (sent u)) }
+  pub wrong_staged : (s : Staging) (n : ℕ) (new : Machine) → Goes (Ok (code.Wrong n)) s → new ≡ record old { staging = s; state = states.Ended (ends.Reported n); out = sent V1 (report n (sent V1 u)) }
       → Does (λ r. on_unit r.link u r) old (record new { mark = true })
   wrong_staged s n new g e = unit_does u (states.Answering q session) old (record new { mark = true }) is (λ withdrawn announced held st.
       by_staged withdrawn announced held (stage base (a_of withdrawn announced) announce v) refl (goes (Ok (code.Wrong n)) s g withdrawn announced st))
@@ -279,7 +281,7 @@ module _ (old : Machine) (q : Question.Question) (session : ℕ) (is : old.state
       by_staged withdrawn announced held (rules.Stays a) k h = absurd h
       by_staged withdrawn announced held (rules.Wrong m) k h =
           subst (λ y. ShowsRouter (on_unit (Answering (a_of withdrawn announced)) u (seen old withdrawn announced held)) (record y { mark = true })) (sym e)
-          (shown_as (on_unit (Answering (a_of withdrawn announced)) u (seen old withdrawn announced held)) (record old { staging = s; state = states.Ended (ends.Reported n); out = sent (report n (sent u)); mark = true }) withdrawn announced held
+          (shown_as (on_unit (Answering (a_of withdrawn announced)) u (seen old withdrawn announced held)) (record old { staging = s; state = states.Ended (ends.Reported n); out = sent V1 (report n (sent V1 u)); mark = true }) withdrawn announced held
           (reads_record (a_of withdrawn announced) (seen old withdrawn announced held) ∙ ap (λ x. staged u x (seen old withdrawn announced held)) k
           ∙ ap (λ c. record (reports c u (seen old withdrawn announced held)) { mark = true }) (sym h)) tt)
       by_staged withdrawn announced held rules.Over k h = absurd h
@@ -314,10 +316,6 @@ module _ (old : Machine) (q : Question.Question) (session : ℕ) (is : old.state
           ∙ by_staged m (a_of shows.withdrawn shows.announced) (stage base (a_of shows.withdrawn shows.announced) announce v) (goes (Err TooMany) s g shows.withdrawn shows.announced st)
           ∙ ap (λ (x : Router). record x { link = Ended ends.TooMany }) (sym shows.is)
 
--- The end of an answer
-same_session : (n : ℕ) → (n == n) ≡ true
-same_session n = grind (arith, nat_tests)
-
 module _ (old : Machine) (q : Question.Question) (session serial refresh retry expire : ℕ) (is : old.state ≡ states.Answering q session) where
   abbrev last_unit : Unit
   last_unit = EndOfData session serial refresh retry expire
@@ -329,7 +327,7 @@ module _ (old : Machine) (q : Question.Question) (session serial refresh retry e
   unfolding on_unit
   reads_end a r e =
       ap (λ b. if b then commit a (record { session = session; serial = serial; moment = r.now; intervals = bounded refresh retry expire }) r else fails last_unit r)
-      (ap (λ n. session == n) e ∙ same_session session)
+      (ap (λ n. session == n) e ∙ eq_self session)
 
   -- what is led to
   abbrev LeadsSo : Result VrpSet SetFault → Type 0
@@ -346,7 +344,7 @@ module _ (old : Machine) (q : Question.Question) (session serial refresh retry e
       (reads_end a r refl ∙ (λ i. record r { table = sym (leads a st) i; version = Some (seen_version version_now); mark = false; due = Some (sym at i); no_data = false; link = Idle })) tt))
 
   pub lacks_end : (s : Staging) (fault : SetFault) → LeadsSo (Err fault) → UnitIsRead (Err fault) last_unit old (record old { staging = s })
-  lacks_end s Memory leads = (ends_so old s, λ r shows. ap (λ (x : Router). may_lack x.link last_unit x) shows.is ∙ ap (λ x. may_lack (seen_link x shows.withdrawn shows.announced) last_unit (seen old shows.withdrawn shows.announced r.held)) is ∙ same_session session)
+  lacks_end s Memory leads = (ends_so old s, λ r shows. ap (λ (x : Router). may_lack x.link last_unit x) shows.is ∙ ap (λ x. may_lack (seen_link x shows.withdrawn shows.announced) last_unit (seen old shows.withdrawn shows.announced r.held)) is ∙ eq_self session)
   lacks_end s TooMany leads = (ends_so old s, λ r shows. absurd (never r shows))
     where
       never : (r : Router) → ShowsRouter r old → ⊥

@@ -100,21 +100,21 @@ module _ (keep : ℕ) (t : Intervals) (i : Instance) (o : Conn) where
   read_stops : (u : Unit) (bytes : List ℕ) → conn_stops (record { state = conn_after keep t o.state (Read i u bytes); held = [] }) ≡ true
   read_stops ResetQuery bytes = by_versions (versions i)
     where
-      by_versions : (vs : List NumberedSet) → (false || not (is_none (sent_all (whole_answer i.session t vs)))) ≡ true
+      by_versions : (vs : List NumberedSet) → (false || not (is_none (sent_all V1 (whole_answer V1 i.session t vs)))) ≡ true
       by_versions [] = refl
       by_versions (now ∷ older) = refl
   read_stops (SerialQuery session serial) bytes = by_test (session == i.session)
     where
-      by_found : (now : NumberedSet) (found : Option NumberedSet) → (false || not (is_none (sent_all (step_answer i.session t now found)))) ≡ true
+      by_found : (now : NumberedSet) (found : Option NumberedSet) → (false || not (is_none (sent_all V1 (step_answer V1 i.session t now found)))) ≡ true
       by_found now None = refl
       by_found now (Some before) = refl
 
-      by_versions : (vs : List NumberedSet) → (false || not (is_none (sent_all (serial_answer i.session keep t serial vs)))) ≡ true
+      by_versions : (vs : List NumberedSet) → (false || not (is_none (sent_all V1 (serial_answer V1 i.session keep t serial vs)))) ≡ true
       by_versions [] = refl
       by_versions (now ∷ older) = by_found now (with_serial serial (now ∷ take keep older))
 
       by_test : (b : Bool)
-          → (let r : Reply = if b then and_on (serial_answer i.session keep t serial (versions i)) else and_end (report 0 (sent (SerialQuery session serial)) ∷ []) in not r.goes_on || not (is_none (sent_all r.units))) ≡ true
+          → (let r : Reply = if b then and_on (serial_answer V1 i.session keep t serial (versions i)) else and_end (report 0 (sent V1 (SerialQuery session serial)) ∷ []) in not r.goes_on || not (is_none (sent_all V1 r.units))) ≡ true
       by_test true = by_versions (versions i)
       by_test false = refl
   read_stops (ErrorReport r) bytes = refl
@@ -134,7 +134,7 @@ module _ (keep : ℕ) (t : Intervals) (i : Instance) (o : Conn) where
   moment_stops false u bytes = read_stops u bytes
 
   moment_shown : (b : Bool) (u : Unit) (bytes : List ℕ) (mid new : Peer) → mid.reader ≡ fresh false → mid.agreed ≡ o.state.agreed → ready_in mid.sender ≤ 4096
-      → SendsReply t i (if b then no_memory else answer i keep t u) (mid.agreed || is_query u) mid new → ShowsPeer t i (record { state = moment b u bytes; held = [] }) new
+      → SendsReply t i (if b then no_memory else answer V1 i keep t u) (mid.agreed || is_query u) mid new → ShowsPeer t i (record { state = moment b u bytes; held = [] }) new
   moment_shown true u bytes mid new reader agreed room a =
       record { reader = a.reader ∙ reader; agreed = a.agreed ∙ ap (λ x. x || is_query u) agreed; ended = a.ended; due = a.due; knows = a.knows; room = fresh_room new (a.reader ∙ reader) (a.room room) }
   moment_shown false u bytes mid new reader agreed room a =
@@ -157,12 +157,12 @@ module _ (keep : ℕ) (t : Intervals) (i : Instance) (o : Conn) where
       to w stop = ap (λ x. conn_takes keep t i w x o) k.piece_is ∙ takes_unit keep t i o w (after_unit w) k.taken rest u runs part k.gives.1 (λ held. refl) stop
 
       -- memory was there, or not taken
-      read : (b : Bool) → (takes_memory i u && not true) ≡ b → SendsReply t i (if b then no_memory else answer i keep t u) (p.agreed || is_query u) (record p { reader = reader }) new → Receives keep t i o piece (length piece - length rest) new
+      read : (b : Bool) → (takes_memory i u && not true) ≡ b → SendsReply t i (if b then no_memory else answer V1 i keep t u) (p.agreed || is_query u) (record p { reader = reader }) new → Receives keep t i o piece (length piece - length rest) new
       read b e a = record {
         wanting = None;
         wanted = tt;
         shows = subst (λ f. ShowsPeer t i f.machine.conn new) (sym (to None (moment_stops (takes_memory i u && not true) u (o.held ++ k.taken))))
-            (moment_shown (takes_memory i u && not true) u (o.held ++ k.taken) (record p { reader = reader }) new k.gives.2 shows.agreed shows.room.ready (subst (λ c. SendsReply t i (if c then no_memory else answer i keep t u) (p.agreed || is_query u) (record p { reader = reader }) new) (sym e) a));
+            (moment_shown (takes_memory i u && not true) u (o.held ++ k.taken) (record p { reader = reader }) new k.gives.2 shows.agreed shows.room.ready (subst (λ c. SendsReply t i (if c then no_memory else answer V1 i keep t u) (p.agreed || is_query u) (record p { reader = reader }) new) (sym e) a));
         consumed_is = subst (λ f. length piece - length rest ≡ length piece - length f.rest) (sym (to None (moment_stops (takes_memory i u && not true) u (o.held ++ k.taken)))) refl;
       }
 
@@ -172,7 +172,7 @@ module _ (keep : ℕ) (t : Intervals) (i : Instance) (o : Conn) where
 
       by_memory : (memory takes : Bool) → takes_memory i u ≡ takes → SendsReply t i (read_reply keep t i memory u) (p.agreed || is_query u) (record p { reader = reader }) new → Receives keep t i o piece (length piece - length rest) new
       by_memory true takes e a = read (takes_memory i u && not true) refl a
-      by_memory false false e a = read false (not_true (takes_memory i u)) (subst (λ b. SendsReply t i (if b && not false then no_memory else answer i keep t u) (p.agreed || is_query u) (record p { reader = reader }) new) e a)
+      by_memory false false e a = read false (not_true (takes_memory i u)) (subst (λ b. SendsReply t i (if b && not false then no_memory else answer V1 i keep t u) (p.agreed || is_query u) (record p { reader = reader }) new) e a)
       by_memory false true e a =
           let all = to (Some 0) (moment_stops (takes_memory i u && not false) u (o.held ++ k.taken)) in
           record {
@@ -206,7 +206,7 @@ module _ (keep : ℕ) (t : Intervals) (i : Instance) (o : Conn) where
               reader = f.reader;
               agreed = f.agreed ∙ shows.agreed;
               ended = f.ended;
-              due = f.due ∙ (λ j. sent_all (fault_report (shows.agreed j) fault (first.2 j).held));
+              due = f.due ∙ (λ j. sent_all V1 (fault_report (shows.agreed j) fault (first.2 j).held));
               knows = knows_stays t i p.sender new.sender f.stays shows.knows;
               room = fresh_room new f.reader (f.stays.room shows.room.ready);
             });
@@ -249,7 +249,7 @@ module _ (keep : ℕ) (t : Intervals) (i : Instance) (o : Conn) where
               reader = shows.reader;
               agreed = shows.agreed;
               ended = shows.ended ∙ (or_parts o.state.ended (not (is_none o.state.due)) runs).0;
-              due = sends.due ∙ (λ j. sent_all (SerialNotify ((own ∙ shows.knows.session) j) (sym now.serial_is j) ∷ [])) ∙ ap sent_all (sym (notices (versions i) now.version now.is));
+              due = sends.due ∙ (λ j. sent_all V1 (SerialNotify ((own ∙ shows.knows.session) j) (sym now.serial_is j) ∷ [])) ∙ ap (sent_all V1) (sym (notices (versions i) now.version now.is));
               knows = knows_stays t i p.sender sender sends.stays shows.knows;
               room = record { received = shows.room.received; ready = sends.stays.room shows.room.ready };
             }),

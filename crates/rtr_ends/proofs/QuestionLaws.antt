@@ -20,8 +20,9 @@ use Rattle.rtr_ends.specs.RouterLink.{is_closed, is_due, Link, Closed, Idle, Ask
 use Rattle.rtr_ends.specs.Transcript.{Question, AskReset, AskSerial, AsksRightly, Begun, Item, At, Opened, Asks, Reads, Lacks, Breaks, Refused, Restarts, Shut, acts_once, acts_wrongly, base_of, bounded, choose, does_commit, is_among, is_serial, is_wrong, is_over, kept, later, led_to, marked, next_question, query, retry_of, sum_of, under_way}
 use Rattle.rtr_ends.proofs.FeedingLaws.{feed_keeps}
 use Rattle.rtr_ends.proofs.KeptUnits.{Tells, bytes_add, holds}
-use Rattle.rtr_ends.proofs.KeptLaws.{called_tells, clocked_tells, new_tells, none_is, not_true}
+use Rattle.rtr_ends.proofs.KeptLaws.{called_tells, clocked_tells, new_tells, none_is}
 use Rattle.rtr_ends.proofs.TableLaws.{false_true}
+use Rattle.prefixes.proofs.Basics.{true_of_not}
 
 -- The mark is the one of the transcript, where something is committed.
 abbrev MarkTells : Router → List Item → Type 0
@@ -58,7 +59,7 @@ puts_none u n (Asked q) [] e = tt
 puts_none u n (Asked q) (b ∷ out) e = absurd (let h : b ∷ out ≡ [] = e in cc)
 
 -- a question that is put
-puts_it : (u : Unit) (n : Router) (q : Question) → q ≡ put_by u n → Puts u n (Asked q) (sent (query q))
+puts_it : (u : Unit) (n : Router) (q : Question) → q ≡ put_by u n → Puts u n (Asked q) (sent V1 (query q))
 puts_it u n AskReset e = e
 puts_it u n (AskSerial session serial) e = e
 
@@ -316,7 +317,7 @@ bytes_choose memory bytes r (Whole u) items live none c = by_memory (may_lack r.
 byte_chooses : (items : List Item) (m : Receiving) (b : ℕ) → router_stops m.router ≡ false → Chooses m.router (m.items ++ items) → Chooses (router_byte m b).router ((router_byte m b).items ++ items)
 unfolding router_byte
 byte_chooses items m b goes_on c =
-    let parts = and_parts (is_reading m.router.link) (is_none m.router.out) (not_true (is_reading m.router.link && is_none m.router.out) goes_on) in
+    let parts = and_parts (is_reading m.router.link) (is_none m.router.out) (true_of_not (is_reading m.router.link && is_none m.router.out) goes_on) in
     let n : Noted = with_bytes (finds_memory m.wanting) (m.router.held ++ b ∷ []) m.router (judge V1 (not m.router.agreed) (m.router.held ++ b ∷ [])) in
     subst (λ x. Chooses n.router x) (sym (append_assoc n.items m.items items))
     (bytes_choose (finds_memory m.wanting) (m.router.held ++ b ∷ []) m.router (judge V1 (not m.router.agreed) (m.router.held ++ b ∷ [])) (m.items ++ items) parts.0 (none_is m.router.out parts.1) c)

@@ -117,7 +117,7 @@ unfolding closed_at clocked
 closes_expired = refl
 
 -- A link that has ended is closed like another; what was not pulled is dropped.
-closes_ended : (called (Closes 1000) (record changes { version = Some slow; mark = true; link = Ended (ends.Reported 7); out = sent (report 7 v_bytes) })).router
+closes_ended : (called (Closes 1000) (record changes { version = Some slow; mark = true; link = Ended (ends.Reported 7); out = sent V1 (report 7 v_bytes) })).router
     ≡ record holds_v { version = Some slow; mark = true; now = 1000; due = Some 1900; agreed = false; session = None; link = Closed }
 unfolding closed_at clocked
 closes_ended = refl
@@ -168,7 +168,7 @@ stops_at_asking : Leaves 100 (notify_bytes 0x1234 6 ++ response_bytes) holds_v r
 unfolding receives router_byte clocked on_unit judge as_read
 stops_at_asking = (refl, refl)
 
-stops_at_end : Leaves 100 (sent CacheReset ++ v_bytes) changes v_bytes (record changes { link = Ended (ends.Reported 0); out = report_bytes 0 (sent CacheReset) })
+stops_at_end : Leaves 100 (sent V1 CacheReset ++ v_bytes) changes v_bytes (record changes { link = Ended (ends.Reported 0); out = report_bytes 0 (sent V1 CacheReset) })
 unfolding receives router_byte clocked on_unit judge as_read
 stops_at_end = (refl, refl)
 
@@ -188,13 +188,13 @@ unfolding receives router_byte clocked on_unit judge as_read
 lacks_at_end = refl
 
 -- and not where the session is another one,
-session_before_memory : (called (Receives 100 (Some 0) (sent (CacheResponse 0x2222))) asks_since).router
-    ≡ record asks_since { table = empty; version = None; link = Ended (ends.Reported 0); out = sent (report 0 (sent (CacheResponse 0x2222))) }
+session_before_memory : (called (Receives 100 (Some 0) (sent V1 (CacheResponse 0x2222))) asks_since).router
+    ≡ record asks_since { table = empty; version = None; link = Ended (ends.Reported 0); out = sent V1 (report 0 (sent V1 (CacheResponse 0x2222))) }
 unfolding receives router_byte clocked on_unit judge as_read
 session_before_memory = refl
 
-end_before_memory : (called (Receives 100 (Some 0) (sent (EndOfData 0x2222 6 3600 600 7200))) changes).router
-    ≡ record changes { table = empty; version = None; link = Ended (ends.Reported 0); out = sent (report 0 (sent (EndOfData 0x2222 6 3600 600 7200))) }
+end_before_memory : (called (Receives 100 (Some 0) (sent V1 (EndOfData 0x2222 6 3600 600 7200))) changes).router
+    ≡ record changes { table = empty; version = None; link = Ended (ends.Reported 0); out = sent V1 (report 0 (sent V1 (EndOfData 0x2222 6 3600 600 7200))) }
 unfolding receives router_byte clocked on_unit judge as_read
 end_before_memory = refl
 
@@ -209,7 +209,7 @@ lacks_at_record : (called (Receives 100 (Some 0) v_bytes) (answering nothing_yet
 unfolding receives router_byte clocked on_unit judge as_read
 lacks_at_record = ap (by_stage_wanting v true (answering nothing_yet)) stage_v
 
-wrong_before_memory : (called (Receives 100 (Some 0) v_bytes) (answering v_read)).router ≡ record (answering v_read) { mark = true; link = Ended (ends.Reported 7); out = sent (report 7 v_bytes) }
+wrong_before_memory : (called (Receives 100 (Some 0) v_bytes) (answering v_read)).router ≡ record (answering v_read) { mark = true; link = Ended (ends.Reported 7); out = sent V1 (report 7 v_bytes) }
 unfolding receives router_byte clocked on_unit judge as_read
 wrong_before_memory = ap (by_stage_wanting v true (answering v_read)) (duplicate_of_answer empty v_read v refl)
 
@@ -347,7 +347,7 @@ not_cut =
 
 -- A change that is cut leaves what was committed before.
 abbrev change_bytes : List ℕ
-change_bytes = response_bytes ++ sent (Prefix false v) ++ end_bytes 6
+change_bytes = response_bytes ++ sent V1 (Prefix false v) ++ end_bytes 6
 
 abbrev before_change : Receiving
 before_change = amid changes (Reads (CacheResponse 0x1234) ∷ At 100 ∷ [])
@@ -359,16 +359,16 @@ to_change : fed (amid asks_since (At 100 ∷ [])) response_bytes ≡ record { ma
 unfolding router_byte on_unit judge as_read
 to_change = refl
 
-over_change : fed before_change (sent (Prefix false v)) ≡ record { machine = after_change; rest = [] }
+over_change : fed before_change (sent V1 (Prefix false v)) ≡ record { machine = after_change; rest = [] }
 unfolding router_byte on_unit judge as_read
 over_change = ap (after_record false v before_change) stage_withdrawn
 
 cut_change : (k : ℕ) → let r = (called (Receives 100 None (take k (take 51 change_bytes))) asks_since).router in (r.version ≡ Some (committed_at 100)) × (r.table ≡ just_v)
 unfolding receives clocked judge as_read
-cut_change = keeps_on asks_since (amid asks_since (At 100 ∷ [])) before_change response_bytes (sent (Prefix false v) ++ take 23 (end_bytes 6)) to_change
+cut_change = keeps_on asks_since (amid asks_since (At 100 ∷ [])) before_change response_bytes (sent V1 (Prefix false v) ++ take 23 (end_bytes 6)) to_change
     (keeps_unit asks_since (amid asks_since (At 100 ∷ [])) before_change (take 7 response_bytes) 0x08 refl refl to_change (refl, refl) (refl, refl))
-    (keeps_on asks_since before_change after_change (sent (Prefix false v)) (take 23 (end_bytes 6)) over_change
-    (keeps_unit asks_since before_change after_change (take 19 (sent (Prefix false v))) 0xf0 refl refl over_change (refl, refl) (refl, refl))
+    (keeps_on asks_since before_change after_change (sent V1 (Prefix false v)) (take 23 (end_bytes 6)) over_change
+    (keeps_unit asks_since before_change after_change (take 19 (sent V1 (Prefix false v))) 0xf0 refl refl over_change (refl, refl) (refl, refl))
     (keeps_held asks_since after_change (take 23 (end_bytes 6)) refl refl (refl, refl)))
 
 -- Sums stop at the greatest moment: it is not told yet, and the sum passes it;
@@ -382,7 +382,7 @@ unfolding closed_at clocked
 closes_at_the_last = refl
 
 -- No memory is wanting at a Cache Reset, at a notify, or at a Cache Response of another session.
-none_at_reset : called (Receives 100 (Some 0) (sent CacheReset)) asks_since ≡ called (Receives 100 None (sent CacheReset)) asks_since
+none_at_reset : called (Receives 100 (Some 0) (sent V1 CacheReset)) asks_since ≡ called (Receives 100 None (sent V1 CacheReset)) asks_since
 unfolding receives router_byte clocked on_unit judge as_read
 none_at_reset = refl
 
@@ -390,6 +390,6 @@ none_at_notify : called (Receives 100 (Some 0) (notify_bytes 0x1234 6)) asks_sin
 unfolding receives router_byte clocked on_unit judge as_read
 none_at_notify = refl
 
-none_at_other_session : called (Receives 100 (Some 0) (sent (CacheResponse 0x2222))) asks_since ≡ called (Receives 100 None (sent (CacheResponse 0x2222))) asks_since
+none_at_other_session : called (Receives 100 (Some 0) (sent V1 (CacheResponse 0x2222))) asks_since ≡ called (Receives 100 None (sent V1 (CacheResponse 0x2222))) asks_since
 unfolding receives router_byte clocked on_unit judge as_read
 none_at_other_session = refl

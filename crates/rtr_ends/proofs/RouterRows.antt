@@ -9,6 +9,7 @@ use Rattle.rtr_pdu.specs.Stream.{as_read}
 use Rattle.rtr_pdu.specs.declared.unit.Unit.TheVariants.{SerialNotify, CacheResponse, Prefix, EndOfData, CacheReset}
 use Rattle.rtr_pdu.specs.declared.unit.UnitFault.TheVariants as faults
 use Rattle.rtr_ends.specs.declared.link.End.TheVariants as ends
+use Rattle.rtr_pdu.specs.declared.version.Version.TheVariants.{V1}
 use Rattle.rtr_ends.specs.Answer.{report, sent}
 use Rattle.rtr_ends.specs.LinkRules.{Router, Staged, Stays, Wrong, Over, on_unit, new_router, stage, staged, is_staged}
 use Rattle.rtr_ends.specs.Router.{Noted, router_byte, receives, clocked, connects_at, closed_at, ticks_at, asks, router_pulled, played, called, Connects, Receives, Pulls, Closes, AsksNow, Ticks, lacks, asked_by}
@@ -133,7 +134,7 @@ goes_not_back = refl
 -- Notifies
 
 abbrev pub notify_bytes : ℕ → ℕ → List ℕ
-notify_bytes session serial = sent (SerialNotify session serial)
+notify_bytes session serial = sent V1 (SerialNotify session serial)
 
 wakes : (called (Receives 100 None (notify_bytes 0x1234 2147483652)) holds_v).router ≡ record holds_v { link = Asked (AskSerial 0x1234 5); out = serial_bytes }
 unfolding receives router_byte clocked on_unit judge as_read
@@ -149,7 +150,7 @@ same_serial = refl
 
 -- of another session: a report, and emptied
 other_session : called (Receives 100 None (notify_bytes 0x2222 6)) holds_v
-    ≡ record { router = record holds_v { table = empty; version = None; link = Ended (ends.Reported 0); out = sent (report 0 (notify_bytes 0x2222 6)) }; items = Reads (SerialNotify 0x2222 6) ∷ At 100 ∷ [] }
+    ≡ record { router = record holds_v { table = empty; version = None; link = Ended (ends.Reported 0); out = sent V1 (report 0 (notify_bytes 0x2222 6)) }; items = Reads (SerialNotify 0x2222 6) ∷ At 100 ∷ [] }
 unfolding receives router_byte clocked on_unit judge as_read
 other_session = refl
 
@@ -168,7 +169,7 @@ busy = refl
 abbrev pub asks_since : Router
 asks_since = record holds_v { link = Asked (AskSerial 0x1234 5) }
 
-corrupt : (called (Receives 100 None (sent (report 0 serial_bytes))) asks_since).router ≡ record asks_since { agreed = true; table = empty; version = None; link = Ended (ends.Told 0) }
+corrupt : (called (Receives 100 None (sent V1 (report 0 serial_bytes))) asks_since).router ≡ record asks_since { agreed = true; table = empty; version = None; link = Ended (ends.Told 0) }
 unfolding receives router_byte clocked on_unit judge as_read is_utf8 chars
 corrupt = refl
 
@@ -178,21 +179,21 @@ asks_anew : (called (Connects 100) (record asks_since { table = empty; version =
 unfolding connects_at clocked
 asks_anew = refl
 
-cache_reset : (called (Receives 100 None (sent CacheReset)) asks_since).router ≡ record asks_since { link = Asked AskReset; out = reset_bytes }
+cache_reset : (called (Receives 100 None (sent V1 CacheReset)) asks_since).router ≡ record asks_since { link = Asked AskReset; out = reset_bytes }
 unfolding receives router_byte clocked on_unit judge as_read
 cache_reset = refl
 
-wrong_session : (called (Receives 100 None (sent (CacheResponse 0x2222))) asks_since).router
-    ≡ record asks_since { table = empty; version = None; link = Ended (ends.Reported 0); out = sent (report 0 (sent (CacheResponse 0x2222))) }
+wrong_session : (called (Receives 100 None (sent V1 (CacheResponse 0x2222))) asks_since).router
+    ≡ record asks_since { table = empty; version = None; link = Ended (ends.Reported 0); out = sent V1 (report 0 (sent V1 (CacheResponse 0x2222))) }
 unfolding receives router_byte clocked on_unit judge as_read
 wrong_session = refl
 
-no_data : (called (Receives 100 None (sent (report 2 serial_bytes))) asks_since).router ≡ record asks_since { due = Some 700; link = Idle; no_data = true }
+no_data : (called (Receives 100 None (sent V1 (report 2 serial_bytes))) asks_since).router ≡ record asks_since { due = Some 700; link = Idle; no_data = true }
 unfolding receives router_byte clocked on_unit judge as_read is_utf8 chars
 no_data = refl
 
 -- a report on nothing that was asked
-idle_no_data : (called (Receives 100 None (sent (report 2 serial_bytes))) holds_v).router ≡ holds_v
+idle_no_data : (called (Receives 100 None (sent V1 (report 2 serial_bytes))) holds_v).router ≡ holds_v
 unfolding receives router_byte clocked on_unit judge as_read is_utf8 chars
 idle_no_data = refl
 
@@ -213,21 +214,21 @@ stage_again : stage just_v since_v true v ≡ Wrong 7
 stage_again = λ i. if has_v i || false then Wrong 7 else if nat_lt 16777215 (size (led_to just_v [] (v ∷ []))) then Over else Stays (record since_v { announced = v ∷ [] })
 
 announced_again : called (Receives 100 None v_bytes) changes
-    ≡ record { router = record changes { mark = true; link = Ended (ends.Reported 7); out = sent (report 7 v_bytes) }; items = Reads (Prefix true v) ∷ At 100 ∷ [] }
+    ≡ record { router = record changes { mark = true; link = Ended (ends.Reported 7); out = sent V1 (report 7 v_bytes) }; items = Reads (Prefix true v) ∷ At 100 ∷ [] }
 unfolding receives router_byte clocked on_unit judge as_read
 announced_again = ap (by_stage 100 v true changes) stage_again
 
 -- The copy is written anew, without what was ignored.
 copied_anew : called (Receives 100 None (take 8 v_bytes ++ 0x81 ∷ drop 9 v_bytes)) changes
-    ≡ record { router = record changes { mark = true; link = Ended (ends.Reported 7); out = sent (report 7 v_bytes) }; items = Reads (Prefix true v) ∷ At 100 ∷ [] }
+    ≡ record { router = record changes { mark = true; link = Ended (ends.Reported 7); out = sent V1 (report 7 v_bytes) }; items = Reads (Prefix true v) ∷ At 100 ∷ [] }
 unfolding receives router_byte clocked on_unit judge as_read
 copied_anew = ap (by_stage 100 v true changes) stage_again
 
 stage_unknown : stage just_v since_v false w ≡ Wrong 6
 stage_unknown = λ i. if has_not_w i && true then Stays (record since_v { withdrawn = w ∷ [] }) else Wrong 6
 
-withdrawn_unknown : called (Receives 100 None (sent (Prefix false w))) changes
-    ≡ record { router = record changes { mark = true; link = Ended (ends.Reported 6); out = sent (report 6 (sent (Prefix false w))) }; items = Reads (Prefix false w) ∷ At 100 ∷ [] }
+withdrawn_unknown : called (Receives 100 None (sent V1 (Prefix false w))) changes
+    ≡ record { router = record changes { mark = true; link = Ended (ends.Reported 6); out = sent V1 (report 6 (sent V1 (Prefix false w))) }; items = Reads (Prefix false w) ∷ At 100 ∷ [] }
 unfolding receives router_byte clocked on_unit judge as_read
 withdrawn_unknown = ap (by_stage 100 w false changes) stage_unknown
 
@@ -256,6 +257,6 @@ unfolding receives router_byte clocked on_unit judge as_read
 lacks_memory = refl
 
 -- where none is taken, nothing differs
-takes_none : called (Receives 100 (Some 0) (sent (report 0 serial_bytes))) asks_since ≡ called (Receives 100 None (sent (report 0 serial_bytes))) asks_since
+takes_none : called (Receives 100 (Some 0) (sent V1 (report 0 serial_bytes))) asks_since ≡ called (Receives 100 None (sent V1 (report 0 serial_bytes))) asks_since
 unfolding receives router_byte clocked on_unit judge as_read is_utf8 chars
 takes_none = refl

@@ -30,12 +30,14 @@ use Rattle.rtr_ends.specs.declared.machine.Machine.{Machine}
 use Rattle.rtr_ends.specs.declared.machine.State.{State}
 use Rattle.rtr_ends.specs.declared.machine.State.TheVariants as states
 use Rattle.rtr_ends.specs.declared.router.Router as code
-use Rattle.rtr_ends.proofs.ConsumedLaws.{router_splits}
+use Rattle.rtr_ends.proofs.ConsumedLaws.{router_splits, idle_reads}
 use Rattle.rtr_ends.proofs.KeptLaws.{router_keeps}
 use Rattle.rtr_ends.proofs.QuestionLaws.{router_asks}
 use Rattle.rtr_ends.proofs.RouterBytes.{counts_back, fault_taken, has_memory, more_taken, shifted, stopped, stops, unit_taken}
 use Rattle.rtr_ends.proofs.UnitByUnit.{but_last}
 use Rattle.rtr_ends.proofs.TableLaws.{false_true}
+use Rattle.prefixes.proofs.Basics.{false_if_never}
+use Rattle.rtr_ends.proofs.ConsumedUnits.{reading_open}
 
 -- What a unit leaves: what is held; agreement; and a connection
 pub record Keeps (r n : Router) : Type 0 where
@@ -134,20 +136,9 @@ reads_of r h = (and_parts (is_reading r.link) (is_none r.out) (not_false (is_rea
     not_false true h = refl
     not_false false h = false_true (sym h)
 
-reading_open : (l : Link) → is_reading l ≡ true → is_closed l ≡ true → ⊥
-reading_open Closed h c = false_true h
-reading_open (Ended end) h c = false_true h
-reading_open Idle h c = false_true c
-reading_open (Asked q) h c = false_true c
-reading_open (Answering a) h c = false_true c
-
 -- the agreement that a machine has
 agreed_is : (m : Machine) (r : Router) → ShowsRouter r m → r.agreed ≡ m.agreed
 agreed_is m r s = ap (λ (x : Router). x.agreed) s.is
-
-false_not_true : (b : Bool) → (b ≡ true → ⊥) → b ≡ false
-false_not_true true h = absurd (h refl)
-false_not_true false h = refl
 
 wanted_shifted : (w : Option ℕ) (f : FedPiece Receiving) → IsLacking w f → IsLacking (shifted w) f
 wanted_shifted None f h = tt
@@ -180,7 +171,7 @@ module _ (old : code.Router) (piece rest : List ℕ) (takes : (is_reading (seen_
     told_reader : (b : Bool) (n r : Router) → Keeps r n → n.agreed ≡ b → new ≡ fresh (not r.agreed) → (if b then after_agreed new else new) ≡ reading b []
     told_reader true n r k is e = ap (λ x. after_agreed x) e
     told_reader false n r k is e =
-        let fell : r.agreed ≡ false = false_not_true r.agreed (λ h. false_true (sym is ∙ k.agreed h)) in
+        let fell : r.agreed ≡ false = false_if_never r.agreed (λ h. false_true (sym is ∙ k.agreed h)) in
         e ∙ ap (λ b. fresh (not b)) fell
 
     read_shown : (r : Router) → IsShown r old → Does (λ x. on_unit x.link u x) old.machine m → IsShown (on_unit r.link u (cleared r)) after_unit
@@ -403,13 +394,6 @@ closes_shown old new now r s machine =
 asks_shown : (old new : code.Router) (r : Router) (b : Bool) → (b ≡ true → is_reading r.link ≡ true) → IsShown r old → ShowsRouter (asks_if b r).router new.machine → new.reader ≡ old.reader → IsShown (asks_if b r).router new
 asks_shown old new r true idle s machine same = keeps_shown old new r (ask r) machine same s refl refl (λ h. idle refl) (λ h. false_true h)
 asks_shown old new r false idle s machine same = keeps_shown old new r r machine same s refl refl (λ h. h) (λ h. h)
-
-idle_reads : (l : Link) → is_idle l ≡ true → is_reading l ≡ true
-idle_reads Idle h = refl
-idle_reads Closed h = false_true h
-idle_reads (Asked q) h = false_true h
-idle_reads (Answering a) h = false_true h
-idle_reads (Ended end) h = false_true h
 
 due_reads : (l : Link) (due : Option ℕ) (now : ℕ) → is_due l due now ≡ true → is_reading l ≡ true
 due_reads Idle due now h = refl

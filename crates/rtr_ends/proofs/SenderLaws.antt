@@ -25,7 +25,7 @@ use Rattle.rtr_ends.specs.declared.sender.Records.{Records}
 use Rattle.rtr_ends.specs.declared.sender.Records.TheVariants.{Step, Whole}
 use Rattle.rtr_ends.specs.declared.sender.Sender.{Sender}
 use Rattle.rtr_ends.specs.declared.sender.Share.{Share}
-use Rattle.rtr_ends.specs.declared.sender.Cursor.{Cursor}
+use Rattle.rtr_ends.specs.declared.sender.AnswerCursor.{AnswerCursor}
 
 -- nothing in front and nothing behind
 both_none : {X : Type 0} (xs ys : List X) → xs ++ ys ≡ [] → (xs ≡ []) × (ys ≡ [])
@@ -33,26 +33,26 @@ both_none [] ys e = (refl, e)
 both_none (x ∷ xs) ys e = absurd (let h : x ∷ (xs ++ ys) ≡ [] = e in cc)
 
 -- units have bytes
-none_sent : (units : List Unit) → sent_all units ≡ [] → units ≡ []
+none_sent : (units : List Unit) → sent_all V1 units ≡ [] → units ≡ []
 none_sent [] e = refl
-none_sent (u ∷ units) e = absurd (some_sent V1 u (both_none (sent u) (sent_all units) e).0)
+none_sent (u ∷ units) e = absurd (some_sent V1 u (both_none (sent V1 u) (sent_all V1 units) e).0)
 
 -- Of a unit at most 4,096 bytes are ready.
-pub unit_ready : (s : Sender) (u : Unit) → IsUnit u → s.pulled ≡ 0 → s.buffer.items ≡ sent u → ready_in s ≤ 4096
+pub unit_ready : (s : Sender) (u : Unit) → IsUnit u → s.pulled ≡ 0 → s.buffer.items ≡ sent V1 u → ready_in s ≤ 4096
 unfolding ready_in
-unit_ready s u fits start bytes = let is : drop s.pulled s.buffer.items ≡ sent u = λ i. drop (start i) (bytes i) in omega (arith, ap length is, sent_most V1 u fits)
+unit_ready s u fits start bytes = let is : drop s.pulled s.buffer.items ≡ sent V1 u = λ i. drop (start i) (bytes i) in omega (arith, ap length is, sent_most V1 u fits)
 
 -- an answer under way has bytes
-some_left : (units : List Unit) (session serial : ℕ) (t : Intervals) → is_none (sent_all (units ++ EndOfData session serial t.refresh t.retry t.expire ∷ [])) ≡ false
+some_left : (units : List Unit) (session serial : ℕ) (t : Intervals) → is_none (sent_all V1 (units ++ EndOfData session serial t.refresh t.retry t.expire ∷ [])) ≡ false
 some_left [] session serial t = refl
-some_left (u ∷ units) session serial t = over (sent u) (sent_all (units ++ EndOfData session serial t.refresh t.retry t.expire ∷ [])) (some_left units session serial t)
+some_left (u ∷ units) session serial t = over (sent V1 u) (sent_all V1 (units ++ EndOfData session serial t.refresh t.retry t.expire ∷ [])) (some_left units session serial t)
   where
     over : (xs ys : List ℕ) → is_none ys ≡ false → is_none (xs ++ ys) ≡ false
     over [] ys e = e
     over (x ∷ xs) ys e = refl
 
 -- bytes are due of an answer under way
-due_left : (session : ℕ) (t : Intervals) (a : Option Cursor) → is_some a ≡ not (is_none (sent_all (left_in session t a)))
+due_left : (session : ℕ) (t : Intervals) (a : Option AnswerCursor) → is_some a ≡ not (is_none (sent_all V1 (left_in session t a)))
 due_left session t None = refl
 due_left session t (Some a) = ap not (sym (some_left (drop a.place (units_in a.records)) session (serial_in a.records) t))
 
@@ -62,16 +62,16 @@ is_none-append (x ∷ xs) ys h = refl
 
 pub due_some : (s : Sender) → s.pulled < length s.buffer.items → true ≡ not (is_none (due_of s))
 unfolding due_of
-due_some s h = ap not (sym (is_none-append (drop s.pulled s.buffer.items) (sent_all (left s)) (omega (arith, length-drop s.pulled s.buffer.items, h))))
+due_some s h = ap not (sym (is_none-append (drop s.pulled s.buffer.items) (sent_all V1 (left s)) (omega (arith, length-drop s.pulled s.buffer.items, h))))
 
 pub due_answer : (s : Sender) → length s.buffer.items ≤ s.pulled → is_some s.answer ≡ not (is_none (due_of s))
 unfolding due_of left
-due_answer s h = due_left s.session s.timing s.answer ∙ ap (λ x. not (is_none (x ++ sent_all (left_in s.session s.timing s.answer)))) (sym (drop_all s.pulled s.buffer.items h))
+due_answer s h = due_left s.session s.timing s.answer ∙ ap (λ x. not (is_none (x ++ sent_all V1 (left_in s.session s.timing s.answer)))) (sym (drop_all s.pulled s.buffer.items h))
 
 -- nothing is due where no answer is under way
 pub none_due : (s : Sender) → due_of s ≡ [] → left_in s.session s.timing s.answer ≡ []
 unfolding due_of left
-none_due s e = none_sent (left s) (both_none (drop s.pulled s.buffer.items) (sent_all (left s)) e).1
+none_due s e = none_sent (left s) (both_none (drop s.pulled s.buffer.items) (sent_all V1 (left s)) e).1
 
 at_place : {X : Type 0} (xs : List X) (i : ℕ) (x : X) → slice_get xs i ≡ Some x → drop i xs ≡ x ∷ drop (i + 1) xs
 at_place xs i x e =
@@ -99,12 +99,12 @@ pub ready_newest : (o : Option Share) → newest_in o None ≡ option_map number
 ready_newest None = refl
 ready_newest (Some share) = refl
 
-newest_same : (ready : Option Share) (a b : Option Cursor) → newest_in None a ≡ newest_in None b → newest_in ready a ≡ newest_in ready b
+newest_same : (ready : Option Share) (a b : Option AnswerCursor) → newest_in None a ≡ newest_in None b → newest_in ready a ≡ newest_in ready b
 newest_same None a b e = e
 newest_same (Some share) a b e = refl
 
-pub hands_record : (s : Sender) (w : Cursor) (u : Unit) (new : Sender) → Some u ≡ slice_get (units_in w.records) w.place
-    → new.session ≡ s.session → new.timing ≡ s.timing → new.ready ≡ s.ready → new.pulled ≡ 0 → new.answer ≡ Some (record { records = w.records; place = w.place + 1 }) → new.buffer.items ≡ sent u → IsUnit u
+pub hands_record : (s : Sender) (w : AnswerCursor) (u : Unit) (new : Sender) → Some u ≡ slice_get (units_in w.records) w.place
+    → new.session ≡ s.session → new.timing ≡ s.timing → new.ready ≡ s.ready → new.pulled ≡ 0 → new.answer ≡ Some (record { records = w.records; place = w.place + 1 }) → new.buffer.items ≡ sent V1 u → IsUnit u
     → Hands (record s { answer = Some w }) new
 unfolding left newest_of
 hands_record s w u new at session timing ready pulled answer bytes fits =
@@ -120,12 +120,12 @@ hands_record s w u new at session timing ready pulled answer bytes fits =
     }
 
 -- what was written
-pub written : {B : Type 0} (o : Option Unit) (w : Bool) (old : B) (bytes : List ℕ) (new : B) → w ≡ true → Writes o w old bytes new → (u : Unit) × (Some u ≡ o) × (bytes ≡ sent u) × IsUnit u
+pub written : {B : Type 0} (o : Option Unit) (w : Bool) (old : B) (bytes : List ℕ) (new : B) → w ≡ true → Writes o w old bytes new → (u : Unit) × (Some u ≡ o) × (bytes ≡ sent V1 u) × IsUnit u
 written None w old bytes new e h = absurd (let k : false ≡ true = sym h.0 ∙ e in cc)
 written (Some u) w old bytes new e h = (u, refl, h.1, h.2)
 
-pub hands_end : (s : Sender) (w : Cursor) (mid new : Sender) → None ≡ slice_get (units_in w.records) w.place
-    → mid.buffer.items ≡ sent (EndOfData s.session (serial_in w.records) s.timing.refresh s.timing.retry s.timing.expire)
+pub hands_end : (s : Sender) (w : AnswerCursor) (mid new : Sender) → None ≡ slice_get (units_in w.records) w.place
+    → mid.buffer.items ≡ sent V1 (EndOfData s.session (serial_in w.records) s.timing.refresh s.timing.retry s.timing.expire)
     → mid.session ≡ s.session → mid.timing ≡ s.timing → mid.ready ≡ s.ready → mid.pulled ≡ 0 → IsUnit (EndOfData s.session (serial_in w.records) s.timing.refresh s.timing.retry s.timing.expire) → KeepsRecords mid w.records new → Hands (record s { answer = Some w }) new
 unfolding left newest_of
 hands_end s w mid new at bytes same_session same_timing same_ready pulled fits k =
@@ -181,11 +181,11 @@ module _ (start : Sender) (given : List ℕ) (s : Sender) (out : List ℕ) (fill
   unfolding left
   left_stays = λ i. left_in (g.session i) (g.timing i) (g.answer i)
 
-  due_is : due_of s ≡ drop s.pulled s.buffer.items ++ sent_all (left s)
+  due_is : due_of s ≡ drop s.pulled s.buffer.items ++ sent_all V1 (left s)
   unfolding due_of
   due_is = refl
 
-  due_now : due_of new ≡ drop new.pulled new.buffer.items ++ sent_all (left new)
+  due_now : due_of new ≡ drop new.pulled new.buffer.items ++ sent_all V1 (left new)
   unfolding due_of
   due_now = refl
 
@@ -201,7 +201,7 @@ module _ (start : Sender) (given : List ℕ) (s : Sender) (out : List ℕ) (fill
   back = drop s.pulled s.buffer.items
 
   front : take g.count back ≡ take g.count (drop filled (due_of start))
-  front = sym (take-append-le g.count back (sent_all (left s)) (omega (arith, g.count_is))) ∙ ap (take g.count) (sym due_is ∙ f.due)
+  front = sym (take-append-le g.count back (sent_all V1 (left s)) (omega (arith, g.count_is))) ∙ ap (take g.count) (sym due_is ∙ f.due)
 
   sizes : length (due_of s) ≡ length (due_of start) - filled
   sizes = ap length f.due ∙ length-drop filled (due_of start)
@@ -213,11 +213,11 @@ module _ (start : Sender) (given : List ℕ) (s : Sender) (out : List ℕ) (fill
       let last : drop (filled + g.count) out ≡ drop (filled + g.count) given =
       ap (drop (filled + g.count)) f.now ∙ ap (λ n. drop (n + g.count) (take filled (due_of start) ++ drop filled given)) (sym size)
       ∙ drop-append-add (take filled (due_of start)) (drop filled given) g.count ∙ drop-drop g.count filled given in
-      let all : length (due_of s) ≡ length back + length (sent_all (left s)) = ap length due_is ∙ length-append back (sent_all (left s)) in
+      let all : length (due_of s) ≡ length back + length (sent_all V1 (left s)) = ap length due_is ∙ length-append back (sent_all V1 (left s)) in
       let is : now ≡ take (filled + g.count) (due_of start) ++ drop (filled + g.count) given =
       g.now_is ∙ (λ i. first i ++ front i ++ last i) ∙ ap (λ x. x ++ drop (filled + g.count) given) (sym (take-add filled g.count (due_of start))) in
       let back_due : due_of new ≡ drop g.count (due_of s) =
-      due_now ∙ (λ i. g.left i ++ sent_all (left_stays i)) ∙ sym (drop-append-le g.count back (sent_all (left s)) (omega (arith, g.count_is))) ∙ ap (drop g.count) (sym due_is) in
+      due_now ∙ (λ i. g.left i ++ sent_all V1 (left_stays i)) ∙ sym (drop-append-le g.count back (sent_all V1 (left s)) (omega (arith, g.count_is))) ∙ ap (drop g.count) (sym due_is) in
       record {
         low = omega (arith, g.result_is, g.count_is, f.low, ap length is, length-append (take (filled + g.count) (due_of start)) (drop (filled + g.count) given), length-take (filled + g.count) (due_of start), sizes, all, f.within);
         within = omega (arith, g.result_is, g.count_is, f.within, sizes, all);
@@ -243,20 +243,20 @@ gives_rest start given s out filled same none f = record {
 }
 
 -- no answer is under way
-pub without_answer : (s : Sender) (a : Option Cursor) → s.answer ≡ None → a ≡ None → record s { answer = a } ≡ s
+pub without_answer : (s : Sender) (a : Option AnswerCursor) → s.answer ≡ None → a ≡ None → record s { answer = a } ≡ s
 without_answer s a e f = λ i. record s { answer = (f ∙ sym e) i }
 
 pub rests : (s : Sender) → drop s.pulled s.buffer.items ≡ [] → s.answer ≡ None → due_of s ≡ []
 unfolding due_of left
-rests s none e = λ i. none i ++ sent_all (left_in s.session s.timing (e i))
+rests s none e = λ i. none i ++ sent_all V1 (left_in s.session s.timing (e i))
 
 hands_due : (s new : Sender) → drop s.pulled s.buffer.items ≡ [] → Hands s new → due_of new ≡ due_of s
 unfolding due_of
 hands_due s new none h =
-    (λ i. drop (h.pulled i) (h.bytes i) ++ sent_all (left new)) ∙ ap sent_all (sym h.was) ∙ ap (λ x. x ++ sent_all (left s)) (sym none)
+    (λ i. drop (h.pulled i) (h.bytes i) ++ sent_all V1 (left new)) ∙ ap (sent_all V1) (sym h.was) ∙ ap (λ x. x ++ sent_all V1 (left s)) (sym none)
 
 -- the next unit
-pub hands_more : (start : Sender) (given : List ℕ) (s : Sender) (out : List ℕ) (filled : ℕ) (w : Cursor) (new : Sender) → s.answer ≡ Some w → drop s.pulled s.buffer.items ≡ [] → Hands (record s { answer = Some w }) new
+pub hands_more : (start : Sender) (given : List ℕ) (s : Sender) (out : List ℕ) (filled : ℕ) (w : AnswerCursor) (new : Sender) → s.answer ≡ Some w → drop s.pulled s.buffer.items ≡ [] → Hands (record s { answer = Some w }) new
     → IsFilled start given s out filled → IsFilled start given new out filled
 hands_more start given s out filled w new e none h f =
     let same : record s { answer = Some w } ≡ s = λ i. record s { answer = sym e i } in
@@ -273,7 +273,7 @@ hands_more start given s out filled w new e none h f =
       };
     }
 
-pub hands_less : (s : Sender) (w : Cursor) (new : Sender) → s.answer ≡ Some w → Hands (record s { answer = Some w }) new → length (left new) < length (left s)
+pub hands_less : (s : Sender) (w : AnswerCursor) (new : Sender) → s.answer ≡ Some w → Hands (record s { answer = Some w }) new → length (left new) < length (left s)
 hands_less s w new e h =
     let same : record s { answer = Some w } ≡ s = λ i. record s { answer = sym e i } in
     omega (arith, ap length (sym (ap left same) ∙ h.was))
@@ -285,7 +285,7 @@ no_answer s e = by_case s.answer (none_due s e)
     some : (units : List Unit) (u : Unit) → units ++ u ∷ [] ≡ [] → ⊥
     some units u e = let h : u ∷ [] ≡ [] = (both_none units (u ∷ []) e).1 in cc
 
-    by_case : (a : Option Cursor) → left_in s.session s.timing a ≡ [] → a ≡ None
+    by_case : (a : Option AnswerCursor) → left_in s.session s.timing a ≡ [] → a ≡ None
     by_case None h = refl
     by_case (Some a) h = absurd (some (drop a.place (units_in a.records)) (EndOfData s.session (serial_in a.records) s.timing.refresh s.timing.retry s.timing.expire) h)
 
@@ -297,10 +297,10 @@ pub newest_ready : (s : Sender) (share : Share) → s.ready ≡ Some share → n
 unfolding newest_of
 newest_ready s share h = ap (λ r. newest_in r s.answer) h
 
-pub due_begins : (s : Sender) (session : ℕ) (t : Intervals) (records : Records) → s.session ≡ session → s.timing ≡ t → s.pulled ≡ 0 → s.buffer.items ≡ sent (CacheResponse session) → s.answer ≡ Some (record { records = records; place = 0 })
-    → due_of s ≡ sent_all (CacheResponse session ∷ units_in records ++ EndOfData session (serial_in records) t.refresh t.retry t.expire ∷ [])
+pub due_begins : (s : Sender) (session : ℕ) (t : Intervals) (records : Records) → s.session ≡ session → s.timing ≡ t → s.pulled ≡ 0 → s.buffer.items ≡ sent V1 (CacheResponse session) → s.answer ≡ Some (record { records = records; place = 0 })
+    → due_of s ≡ sent_all V1 (CacheResponse session ∷ units_in records ++ EndOfData session (serial_in records) t.refresh t.retry t.expire ∷ [])
 unfolding due_of left
-due_begins s session t records a b c d e = λ i. drop (c i) (d i) ++ sent_all (left_in (a i) (b i) (e i))
+due_begins s session t records a b c d e = λ i. drop (c i) (d i) ++ sent_all V1 (left_in (a i) (b i) (e i))
 
 -- another share that is ready, and the same bytes
 pub same_due : (s : Sender) (ready : Option Share) → due_of (record s { ready = ready }) ≡ due_of s
@@ -312,30 +312,30 @@ unfolding newest_of
 offers s ready share e = ap (λ r. newest_in r s.answer) e
 
 -- an answer to a Reset Query, where nothing is published
-pub resets_none : (s new : Sender) (ready : Option Share) → due_of s ≡ [] → s.ready ≡ None → ready ≡ None → Sends (record s { ready = ready }) (report 2 (sent ResetQuery) ∷ []) new
-    → Sends s (whole_answer s.session s.timing (as_list (newest_of s))) new
+pub resets_none : (s new : Sender) (ready : Option Share) → due_of s ≡ [] → s.ready ≡ None → ready ≡ None → Sends (record s { ready = ready }) (report 2 (sent V1 ResetQuery) ∷ []) new
+    → Sends s (whole_answer V1 s.session s.timing (as_list (newest_of s))) new
 unfolding newest_of ready_in
 resets_none s new ready e h k sends = record {
-  due = sends.due ∙ ap (λ v. sent_all (whole_answer s.session s.timing (as_list v))) (sym (newest_none s e h));
+  due = sends.due ∙ ap (λ v. sent_all V1 (whole_answer V1 s.session s.timing (as_list v))) (sym (newest_none s e h));
   stays = record { session = sends.stays.session; timing = sends.stays.timing; newest = sends.stays.newest ∙ ap (λ r. newest_in r s.answer) (k ∙ sym h); room = sends.stays.room };
 }
 
 -- and of a version
 pub resets_some : (s new : Sender) (share : Share) (ready : Option Share) → s.ready ≡ Some share → ready ≡ None → BeginsAnswer (record s { ready = ready }) (Whole share) new
-    → Sends s (whole_answer s.session s.timing (as_list (newest_of s))) new
+    → Sends s (whole_answer V1 s.session s.timing (as_list (newest_of s))) new
 unfolding newest_of
 resets_some s new share ready h k b = record {
-  due = b.due ∙ ap (λ v. sent_all (whole_answer s.session s.timing (as_list v))) (sym (newest_ready s share h));
+  due = b.due ∙ ap (λ v. sent_all V1 (whole_answer V1 s.session s.timing (as_list v))) (sym (newest_ready s share h));
   stays = record { session = b.session; timing = b.timing; newest = (λ i. newest_in ((b.ready ∙ k) i) (b.answer i)) ∙ sym (newest_ready s share h); room = λ before. b.room };
 }
 
 pub steps : (s new : Sender) (serial : Serial) (change : Change) (v : NumberedSet) → due_of s ≡ [] → Some serial.0 ≡ option_map (λ (v : NumberedSet). v.serial) (newest_of s) → newest_of s ≡ Some v → BeginsAnswer s (Step serial change) new
-    → Sends s (response s.session s.timing v (withdrawals change.withdraw ++ announcements change.announce)) new
+    → Sends s (response V1 s.session s.timing v (withdrawals change.withdraw ++ announcements change.announce)) new
 unfolding newest_of
 steps s new serial change v e same is b =
     let serial_is : serial.0 ≡ v.serial = inside (same ∙ ap (option_map (λ (v : NumberedSet). v.serial)) is) in
     record {
-      due = b.due ∙ ap (λ n. sent_all (CacheResponse s.session ∷ (withdrawals change.withdraw ++ announcements change.announce) ++ EndOfData s.session n s.timing.refresh s.timing.retry s.timing.expire ∷ [])) serial_is;
+      due = b.due ∙ ap (λ n. sent_all V1 (CacheResponse s.session ∷ (withdrawals change.withdraw ++ announcements change.announce) ++ EndOfData s.session n s.timing.refresh s.timing.retry s.timing.expire ∷ [])) serial_is;
       stays = record {
         session = b.session;
         timing = b.timing;

@@ -24,10 +24,11 @@ use Rattle.rtr_ends.specs.declared.serving.Served.{Served}
 use Rattle.rtr_ends.specs.declared.serving.Served.TheVariants.{PeerClosed, Truncated, CacheEnded, Limit}
 use Rattle.rtr_ends.specs.declared.streams.StreamFault.{StreamFault}
 use Rattle.rtr_ends.specs.declared.streams.StreamFault.TheVariants.{ReadFailed, WriteFailed, Memory}
-use Rattle.rtr_ends.proofs.CacheStateLaws.{eq_of, with_conn_at}
+use Rattle.rtr_ends.proofs.CacheStateLaws.{with_conn_at}
 use Rattle.rtr_ends.proofs.FeedingLaws.{feed_takes, goes_on, stopped}
 use Rattle.rtr_ends.proofs.ServingLaws.{serves_history}
 use Rattle.rtr_ends.proofs.TableLaws.{false_true}
+use Rattle.prefixes.proofs.Basics.{eq_of}
 
 -- A call is counted, or it is not made.
 pub not_less : {D A : Type 0} (old new : Counted D) → (¬ (IsSpent old) → calls_of new ≡ calls_of old + 1) → (IsSpent old → A × (new ≡ old)) → calls_of old ≤ calls_of new

@@ -26,13 +26,8 @@ use Rattle.rtr_ends.specs.Feeding.{feed, run}
 use Rattle.rtr_ends.specs.Timing.{Intervals}
 use Rattle.rtr_ends.proofs.ByteLists.{none_bytes, more_bytes, bytes_front, front_of}
 use Rattle.rtr_ends.proofs.FeedingLaws.{feed_takes}
-use Rattle.rtr_ends.proofs.HistoryLaws.{pulled_are_replies}
+use Rattle.rtr_ends.proofs.HistoryLaws.{pulled_are_replies, read_plainly}
 use Rattle.rtr_ends.proofs.TableLaws.{false_true}
-
--- at a cache bytes are read as they stand
-as_they_stand : (bytes : List ℕ) → as_read V1 false bytes ≡ bytes
-unfolding as_read
-as_they_stand bytes = refl
 
 -- from one connection to another by moments, with the bytes of these
 abbrev Runs : ℕ → Intervals → Connection → List ConnMoment → List ℕ → Connection → Type 0
@@ -104,7 +99,7 @@ module _ (keep : ℕ) (t : Intervals) where
     where
       by_end : (b : Bool) → MatchBool b (◌≡◌ {A = List ℕ} [] []) (IsPartial V1 [] × ((◌≡◌ {A = List ℕ} [] []) ⊎ ((c.due ≡ []) ⊎ (c.notified ≡ true))))
       by_end true = refl
-      by_end false = (subst (λ x. IsPartial V1 x) (as_they_stand []) (partial_empty V1 false), inl refl)
+      by_end false = (subst (λ x. IsPartial V1 x) (read_plainly []) (partial_empty V1 false), inl refl)
 
   -- what is held on a connection that goes on is the beginning of a unit
   holds_part : (c : Connection) (held : List ℕ) → c.ended ≡ false → MayHold c held → IsPartial V1 held
@@ -169,7 +164,7 @@ module _ (keep : ℕ) (t : Intervals) where
           at_rest = none m.conn.state.due tests.1
 
           part : IsPartial V1 (as_read V1 false m.conn.held)
-          part = subst (λ x. IsPartial V1 x) (sym (as_they_stand m.conn.held)) (holds_part m.conn.state m.conn.held tests.0 s.goes.holds)
+          part = subst (λ x. IsPartial V1 x) (sym (read_plainly m.conn.held)) (holds_part m.conn.state m.conn.held tests.0 s.goes.holds)
 
           each : AreBytes bytes
           each = more_bytes m.conn.held b s.goes.bytes byte
@@ -211,12 +206,12 @@ module _ (keep : ℕ) (t : Intervals) where
           so j e h = subst (λ x. Stands i before (next m b x) (came ++ b ∷ []) given) (sym e) h
 
           by_case : judging.Case V1 (as_read V1 false bytes) (judge V1 false bytes) → Stands i before (next m b (judge V1 false bytes)) (came ++ b ∷ []) given
-          by_case (judging.begins e partial) = so Begins e (begins e (subst (λ x. IsPartial V1 x) (as_they_stand bytes) partial))
-          by_case (judging.shows fault e h) = so (Faulty fault) e (shows fault (subst (λ x. Shows V1 x fault) (as_they_stand bytes) h))
+          by_case (judging.begins e partial) = so Begins e (begins e (subst (λ x. IsPartial V1 x) (read_plainly bytes) partial))
+          by_case (judging.shows fault e h) = so (Faulty fault) e (shows fault (subst (λ x. Shows V1 x fault) (read_plainly bytes) h))
           by_case (judging.whole e w sound) =
               let u : Unit = unit_in V1 (as_read V1 false bytes) in
               so (Whole (unit_in V1 (as_read V1 false bytes))) e
-              (reads (unit_in V1 (as_read V1 false bytes)) (subst (λ x. Reads V1 (unit_in V1 (as_read V1 false bytes)) x) (as_they_stand bytes)
+              (reads (unit_in V1 (as_read V1 false bytes)) (subst (λ x. Reads V1 (unit_in V1 (as_read V1 false bytes)) x) (read_plainly bytes)
               ((whole_exactly V1 false bytes (unit_in V1 (as_read V1 false bytes)) each (next_size V1 false m.conn.held b part w)).0 e)))
 
       -- a piece, byte by byte

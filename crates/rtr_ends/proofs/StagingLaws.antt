@@ -28,16 +28,8 @@ use Rattle.rtr_ends.specs.declared.question.Question.{Question}
 use Rattle.rtr_ends.specs.declared.staging.Staging.{Staging}
 use Rattle.rtr_ends.specs.declared.staging.Staged.TheVariants.{Stays, Wrong}
 use Rattle.rtr_ends.proofs.TableLaws.{acts_exactly, false_true}
-
--- A set that has the members of another is no smaller.
-pub size_le : (s t : VrpSet) → ((q : Payload) → has s q ≡ true → has t q ≡ true) → size s ≤ size t
-size_le s t h =
-    let le = length-le_from_is_member (eq_by_cmp_equiv vrp_total) (listing s) (listing t) (IsDistinct-from_sorted vrp_cmp (listing s) (listing_ascends s)) (λ q one. sym (has-listing t q) ∙ h q (has-listing s q ∙ one)) in
-    omega (arith, le, size_of_listing s, size_of_listing t)
-
--- one member more
-pub size_more : (s : VrpSet) (v : Payload) → has s v ≡ false → size (with_member s v) ≡ size s + 1
-size_more s v h = map.len-insert vrp_total s v tt ∙ ap (λ b. cond b (size s) (size s + 1)) h
+use Rattle.prefixes.proofs.Basics.{or_swap}
+use Rattle.vrps.proofs.Sizes.{size_le, size_more}
 
 -- what a staged set has
 module _ (base : VrpSet) (w a : List Payload) where
@@ -52,11 +44,6 @@ none_staged false = refl
 
 pub led_none : (base : VrpSet) → led_to base [] [] ≡ base
 led_none base = same_set _ _ (λ q. has-led base [] [] q ∙ none_staged (has base q))
-
-or_swap : (a b c : Bool) → (a || (b || c)) ≡ (b || (a || c))
-or_swap true true c = refl
-or_swap true false c = refl
-or_swap false b c = refl
 
 -- A record more is announced.
 pub led_announced : (base : VrpSet) (w a : List Payload) (v : Payload) → led_to base w (v ∷ a) ≡ with_member (led_to base w a) v

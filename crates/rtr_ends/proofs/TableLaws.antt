@@ -9,13 +9,10 @@ use Rattle.vrps.specs.VrpSet.{VrpSet, empty, has, set_of, without}
 use Rattle.vrps.proofs.SetLaws.{same_set, has-empty, has-union, has-without}
 use Rattle.rtr_ends.specs.Commit.{Commits}
 use Rattle.rtr_ends.specs.Transcript.{is_among, may_withdraw, may_announce, acts_once, led_to, ActsExactly}
+use Rattle.prefixes.proofs.Basics.{false_of_not}
 
 pub false_true : {P : Type 0} → false ≡ true → P
 false_true h = absurd (let e : false ≡ true = h in cc)
-
-not_true : (b : Bool) → not b ≡ true → b ≡ false
-not_true true h = false_true h
-not_true false h = refl
 
 not_false : (b : Bool) → b ≡ false → not b ≡ true
 not_false b h = ap not h
@@ -44,7 +41,7 @@ withdraws base (v ∷ vs) h =
     let parts = and_parts (has base v && not (is_among v vs)) (may_withdraw base vs) h in
     let first = and_parts (has base v) (not (is_among v vs)) parts.0 in
     let rest = withdraws base vs parts.1 in
-    ((first.0, rest.0), (apart v vs (not_true (is_among v vs) first.1), rest.1))
+    ((first.0, rest.0), (apart v vs (false_of_not (is_among v vs) first.1), rest.1))
 
 may_withdraw_so : (base : VrpSet) (vs : List Payload) → AllByRecursion (λ v. has base v ≡ true) vs → IsDistinct (eq_by_cmp vrp_cmp) vs → may_withdraw base vs ≡ true
 unfolding IsDistinct
@@ -59,7 +56,7 @@ announces base (v ∷ vs) h =
     let parts = and_parts (not (has base v) && not (is_among v vs)) (may_announce base vs) h in
     let first = and_parts (not (has base v)) (not (is_among v vs)) parts.0 in
     let rest = announces base vs parts.1 in
-    ((not_true (has base v) first.0, rest.0), (apart v vs (not_true (is_among v vs) first.1), rest.1))
+    ((false_of_not (has base v) first.0, rest.0), (apart v vs (false_of_not (is_among v vs) first.1), rest.1))
 
 may_announce_so : (base : VrpSet) (vs : List Payload) → AllByRecursion (λ v. has base v ≡ false) vs → IsDistinct (eq_by_cmp vrp_cmp) vs → may_announce base vs ≡ true
 unfolding IsDistinct

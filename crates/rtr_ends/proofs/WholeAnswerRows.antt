@@ -65,46 +65,46 @@ end_bytes serial = 0x01 ∷ 0x07 ∷ 0x12 ∷ 0x34 ∷ 0 ∷ 0 ∷ 0 ∷ 0x18 �
 abbrev pub no_data_bytes : List ℕ
 no_data_bytes = 0x01 ∷ 0x0a ∷ 0 ∷ 0x02 ∷ 0 ∷ 0 ∷ 0 ∷ 0x18 ∷ 0 ∷ 0 ∷ 0 ∷ 0x08 ∷ reset_bytes ++ 0 ∷ 0 ∷ 0 ∷ 0 ∷ []
 
-reset_query : sent ResetQuery ≡ reset_bytes
+reset_query : sent V1 ResetQuery ≡ reset_bytes
 reset_query = refl
 
-serial_query : sent (SerialQuery 0x1234 5) ≡ serial_bytes
+serial_query : sent V1 (SerialQuery 0x1234 5) ≡ serial_bytes
 serial_query = refl
 
 -- an announcement of 2001:db8::/32 maximum 48 AS64496
-announced_v6 : sent (Prefix true (record { prefix = V6 (record { addr = 0x20010db8000000000000000000000000; len = 32 }); max_len = 48; asn = 64496 }))
+announced_v6 : sent V1 (Prefix true (record { prefix = V6 (record { addr = 0x20010db8000000000000000000000000; len = 32 }); max_len = 48; asn = 64496 }))
     ≡ 0x01 ∷ 0x06 ∷ 0 ∷ 0 ∷ 0 ∷ 0 ∷ 0 ∷ 0x20 ∷ 0x01 ∷ 0x20 ∷ 0x30 ∷ 0 ∷ 0x20 ∷ 0x01 ∷ 0x0d ∷ 0xb8 ∷ 0 ∷ 0 ∷ 0 ∷ 0 ∷ 0 ∷ 0 ∷ 0 ∷ 0 ∷ 0 ∷ 0 ∷ 0 ∷ 0 ∷ 0 ∷ 0 ∷ 0xfb ∷ 0xf0 ∷ []
 announced_v6 = refl
 
 -- what is answered with all of these records, and with a change of these records
 abbrev pub with_all_of : ℕ → VrpSet → List Payload → List Unit
-with_all_of serial set records = response 0x1234 default_intervals (record { serial = serial; set = set }) (map (λ x. Prefix true x) records)
+with_all_of serial set records = response V1 0x1234 default_intervals (record { serial = serial; set = set }) (map (λ x. Prefix true x) records)
 
 abbrev pub with_changes : ℕ → VrpSet → List Payload → List Payload → List Unit
 with_changes serial set withdrawn announced =
-    response 0x1234 default_intervals (record { serial = serial; set = set }) (map (λ x. Prefix false x) withdrawn ++ map (λ x. Prefix true x) announced)
+    response V1 0x1234 default_intervals (record { serial = serial; set = set }) (map (λ x. Prefix false x) withdrawn ++ map (λ x. Prefix true x) announced)
 
 -- a Reset Query to a cache at serial 5 with v
-pub whole_set : sent_all (answer (cache 5 (just_v ∷ [])) 2 default_intervals ResetQuery).units ≡ response_bytes ++ v_bytes ++ end_bytes 5
-whole_set = ap (λ vs. sent_all (with_all_of 5 just_v vs)) (listing-set_of (v ∷ []) v_ascends)
+pub whole_set : sent_all V1 (answer V1 (cache 5 (just_v ∷ [])) 2 default_intervals ResetQuery).units ≡ response_bytes ++ v_bytes ++ end_bytes 5
+whole_set = ap (λ vs. sent_all V1 (with_all_of 5 just_v vs)) (listing-set_of (v ∷ []) v_ascends)
 
 -- the same to a cache whose one set is empty
-pub whole_empty_set : sent_all (answer (cache 5 (set_of [] ∷ [])) 2 default_intervals ResetQuery).units ≡ response_bytes ++ end_bytes 5
-whole_empty_set = ap (λ vs. sent_all (with_all_of 5 (set_of []) vs)) (listing-set_of [] none_ascends)
+pub whole_empty_set : sent_all V1 (answer V1 (cache 5 (set_of [] ∷ [])) 2 default_intervals ResetQuery).units ≡ response_bytes ++ end_bytes 5
+whole_empty_set = ap (λ vs. sent_all V1 (with_all_of 5 (set_of []) vs)) (listing-set_of [] none_ascends)
 
 -- a Serial Query at the current serial
-pub no_change : sent_all (answer (cache 5 (just_v ∷ [])) 2 default_intervals (SerialQuery 0x1234 5)).units ≡ response_bytes ++ end_bytes 5
-no_change = ap (λ vs. sent_all (with_changes 5 just_v vs vs)) (listing-without-set_of (v ∷ []) (v ∷ []) v_ascends)
+pub no_change : sent_all V1 (answer V1 (cache 5 (just_v ∷ [])) 2 default_intervals (SerialQuery 0x1234 5)).units ≡ response_bytes ++ end_bytes 5
+no_change = ap (λ vs. sent_all V1 (with_changes 5 just_v vs vs)) (listing-without-set_of (v ∷ []) (v ∷ []) v_ascends)
 
 -- Serials go on from 2^32 - 1 with 0.
-pub goes_round : sent_all (answer (cache 4294967295 (v_and_w ∷ just_v ∷ [])) 2 default_intervals (SerialQuery 0x1234 4294967295)).units ≡ response_bytes ++ w_bytes ++ end_bytes 0
-goes_round = λ i. sent_all (with_changes 0 v_and_w (listing-without-set_of (v ∷ []) (v ∷ w ∷ []) v_ascends i) (listing-without-set_of (v ∷ w ∷ []) (v ∷ []) both_ascend i))
+pub goes_round : sent_all V1 (answer V1 (cache 4294967295 (v_and_w ∷ just_v ∷ [])) 2 default_intervals (SerialQuery 0x1234 4294967295)).units ≡ response_bytes ++ w_bytes ++ end_bytes 0
+goes_round = λ i. sent_all V1 (with_changes 0 v_and_w (listing-without-set_of (v ∷ []) (v ∷ w ∷ []) v_ascends i) (listing-without-set_of (v ∷ w ∷ []) (v ∷ []) both_ascend i))
 
 -- A Reset Query was read while v was current; v and w are published before its answer was pulled to its end. The answer stays
 -- v's, and the next query is answered with the change.
 pub published_meanwhile : drop 10 (replies 2 default_intervals (Read (cache 5 (just_v ∷ [])) ResetQuery reset_bytes ∷ Read (cache 5 (v_and_w ∷ just_v ∷ [])) (SerialQuery 0x1234 5) serial_bytes ∷ []))
     ≡ drop 10 (response_bytes ++ v_bytes ++ end_bytes 5) ++ response_bytes ++ w_bytes ++ end_bytes 6
-published_meanwhile = λ i. drop 10 (sent_all (with_all_of 5 just_v (listing-set_of (v ∷ []) v_ascends i)
+published_meanwhile = λ i. drop 10 (sent_all V1 (with_all_of 5 just_v (listing-set_of (v ∷ []) v_ascends i)
     ++ (with_changes 6 v_and_w (listing-without-set_of (v ∷ []) (v ∷ w ∷ []) v_ascends i) (listing-without-set_of (v ∷ w ∷ []) (v ∷ []) both_ascend i) ++ [])))
 
 -- serials 4 to 7: nothing, v, v and w, v
@@ -112,16 +112,16 @@ abbrev four : Instance
 four = cache 4 (just_v ∷ v_and_w ∷ just_v ∷ empty ∷ [])
 
 -- What comes and goes between two versions is not sent.
-pub came_and_went : sent_all (answer four 2 default_intervals (SerialQuery 0x1234 5)).units ≡ response_bytes ++ end_bytes 7
-came_and_went = ap (λ vs. sent_all (with_changes 7 just_v vs vs)) (listing-without-set_of (v ∷ []) (v ∷ []) v_ascends)
+pub came_and_went : sent_all V1 (answer V1 four 2 default_intervals (SerialQuery 0x1234 5)).units ≡ response_bytes ++ end_bytes 7
+came_and_went = ap (λ vs. sent_all V1 (with_changes 7 just_v vs vs)) (listing-without-set_of (v ∷ []) (v ∷ []) v_ascends)
 
 -- A serial that is no longer kept; then the router asks for all.
-pub not_kept : replies 2 default_intervals (Read four (SerialQuery 0x1234 4) (sent (SerialQuery 0x1234 4)) ∷ Read four ResetQuery reset_bytes ∷ [])
+pub not_kept : replies 2 default_intervals (Read four (SerialQuery 0x1234 4) (sent V1 (SerialQuery 0x1234 4)) ∷ Read four ResetQuery reset_bytes ∷ [])
     ≡ 0x01 ∷ 0x08 ∷ 0 ∷ 0 ∷ 0 ∷ 0 ∷ 0 ∷ 0x08 ∷ response_bytes ++ v_bytes ++ end_bytes 7
-not_kept = ap (λ vs. sent_all (CacheReset ∷ (with_all_of 7 just_v vs ++ []))) (listing-set_of (v ∷ []) v_ascends)
+not_kept = ap (λ vs. sent_all V1 (CacheReset ∷ (with_all_of 7 just_v vs ++ []))) (listing-set_of (v ∷ []) v_ascends)
 
 -- Nothing is published yet, and the connection goes on.
-pub no_data : (answer (cache 5 []) 2 default_intervals ResetQuery).goes_on ≡ true
+pub no_data : (answer V1 (cache 5 []) 2 default_intervals ResetQuery).goes_on ≡ true
 no_data = refl
 
 pub no_data_twice : replies 2 default_intervals (Read (cache 5 []) ResetQuery reset_bytes ∷ Read (cache 5 []) ResetQuery reset_bytes ∷ []) ≡ no_data_bytes ++ no_data_bytes
@@ -133,8 +133,8 @@ pub other_session : replies 2 default_intervals (Read (record { session = 0x2222
 other_session = refl
 
 -- A unit that only a cache sends is an Invalid Request.
-pub not_a_query : replies 2 default_intervals (Read (cache 5 []) CacheReset (sent CacheReset) ∷ [])
-    ≡ 0x01 ∷ 0x0a ∷ 0 ∷ 0x03 ∷ 0 ∷ 0 ∷ 0 ∷ 0x18 ∷ 0 ∷ 0 ∷ 0 ∷ 0x08 ∷ sent CacheReset ++ 0 ∷ 0 ∷ 0 ∷ 0 ∷ []
+pub not_a_query : replies 2 default_intervals (Read (cache 5 []) CacheReset (sent V1 CacheReset) ∷ [])
+    ≡ 0x01 ∷ 0x0a ∷ 0 ∷ 0x03 ∷ 0 ∷ 0 ∷ 0 ∷ 0x18 ∷ 0 ∷ 0 ∷ 0 ∷ 0x08 ∷ sent V1 CacheReset ++ 0 ∷ 0 ∷ 0 ∷ 0 ∷ []
 not_a_query = refl
 
 -- a length that cannot be, and a type that is none

@@ -4,6 +4,7 @@ use Rattle.std.specs.List.{flat_map}
 use Rattle.vrps.specs.Change.{between}
 use Rattle.vrps.specs.Instance.{Instance, NumberedSet, versions, with_serial}
 use Rattle.vrps.specs.VrpSet.{VrpSet, listing}
+use Rattle.rtr_pdu.specs.declared.version.Version.{Version}
 use Rattle.rtr_pdu.specs.declared.version.Version.TheVariants.{V1}
 use Rattle.rtr_pdu.specs.Code.{CORRUPT_DATA, NO_DATA_AVAILABLE, INVALID_REQUEST}
 use Rattle.rtr_pdu.specs.Unit.{REPORT_ROOM, unit_bytes}
@@ -22,13 +23,13 @@ and_on units = record { units = units; goes_on = true }
 abbrev pub and_end : List Unit → Reply
 and_end units = record { units = units; goes_on = false }
 
--- A unit as it is sent, in protocol version 1
-abbrev pub sent : Unit → List ℕ
-sent u = unit_bytes V1 u
+-- A unit as it is sent in a version of the protocol
+abbrev pub sent : Version → Unit → List ℕ
+sent version u = unit_bytes version u
 
 -- the bytes of units, one after the other
-abbrev pub sent_all : List Unit → List ℕ
-sent_all units = flat_map sent units
+abbrev pub sent_all : Version → List Unit → List ℕ
+sent_all version units = flat_map (sent version) units
 
 -- An Error Report with an empty text. What does not fit is left out of the copy (RFC 8210 section 5.11).
 abbrev pub report : ℕ → List ℕ → Unit
@@ -40,34 +41,37 @@ announcements s = map (λ v. Prefix true v) (listing s)
 abbrev pub withdrawals : VrpSet → List Unit
 withdrawals s = map (λ v. Prefix false v) (listing s)
 
--- Cache Response, these records, and End of Data of this version (RFC 8210 section 8.1)
-abbrev pub response : ℕ → Intervals → NumberedSet → List Unit → List Unit
-response session t now records =
-    CacheResponse session ∷ records ++ EndOfData session now.serial t.refresh t.retry t.expire ∷ []
+-- The End of Data of an answer in a version of the protocol: from version 1 on it tells the intervals (RFC 8210 section 5.8).
+abbrev pub end_of_data : Version → ℕ → ℕ → Intervals → Unit
+end_of_data V1 session serial t = EndOfData session serial t.refresh t.retry t.expire
+
+-- Cache Response, these records, and End of Data of this set (RFC 8210 section 8.1)
+abbrev pub response : Version → ℕ → Intervals → NumberedSet → List Unit → List Unit
+response version session t now records = CacheResponse session ∷ records ++ end_of_data version session now.serial t ∷ []
 
 -- To a Reset Query: all of the current version (RFC 8210 section 8.1). Where nothing is published: No Data Available (RFC 8210 section 8.4).
-abbrev pub whole_answer : ℕ → Intervals → List NumberedSet → List Unit
-whole_answer session t [] = report NO_DATA_AVAILABLE (sent ResetQuery) ∷ []
-whole_answer session t (now ∷ older) = response session t now (announcements now.set)
+abbrev pub whole_answer : Version → ℕ → Intervals → List NumberedSet → List Unit
+whole_answer version session t [] = report NO_DATA_AVAILABLE (sent version ResetQuery) ∷ []
+whole_answer version session t (now ∷ older) = response version session t now (announcements now.set)
 
 -- What leads from a version that is kept to the current one, withdrawals first (RFC 8210 section 8.2), or a Cache Reset (RFC 8210 section 8.3)
-abbrev pub step_answer : ℕ → Intervals → NumberedSet → Option NumberedSet → List Unit
-step_answer session t now None = CacheReset ∷ []
-step_answer session t now (Some before) =
+abbrev pub step_answer : Version → ℕ → Intervals → NumberedSet → Option NumberedSet → List Unit
+step_answer version session t now None = CacheReset ∷ []
+step_answer version session t now (Some before) =
     let change = between before.set now.set in
-    response session t now (withdrawals change.withdraw ++ announcements change.announce)
+    response version session t now (withdrawals change.withdraw ++ announcements change.announce)
 
 -- To a Serial Query of this session: the newest version of that serial among the current one and the keep versions before it
-abbrev pub serial_answer : ℕ → ℕ → Intervals → ℕ → List NumberedSet → List Unit
-serial_answer session keep t serial [] = report NO_DATA_AVAILABLE (sent (SerialQuery session serial)) ∷ []
-serial_answer session keep t serial (now ∷ older) = step_answer session t now (with_serial serial (now ∷ take keep older))
+abbrev pub serial_answer : Version → ℕ → ℕ → Intervals → ℕ → List NumberedSet → List Unit
+serial_answer version session keep t serial [] = report NO_DATA_AVAILABLE (sent version (SerialQuery session serial)) ∷ []
+serial_answer version session keep t serial (now ∷ older) = step_answer version session t now (with_serial serial (now ∷ take keep older))
 
--- The answer to a unit, as the cache was when the unit was read. Another session than the cache's: Corrupt Data; an Error
+-- The answer to a unit in a version of the protocol, as the cache was when the unit was read. Another session than the cache's: Corrupt Data; an Error
 -- Report: nothing; another unit: Invalid Request. After these three the connection ends.
-abbrev pub answer : Instance → ℕ → Intervals → Unit → Reply
-answer i keep t ResetQuery = and_on (whole_answer i.session t (versions i))
-answer i keep t (SerialQuery session serial) =
-    if session == i.session then and_on (serial_answer i.session keep t serial (versions i))
-    else and_end (report CORRUPT_DATA (sent (SerialQuery session serial)) ∷ [])
-answer i keep t (ErrorReport r) = and_end []
-answer i keep t u = and_end (report INVALID_REQUEST (sent u) ∷ [])
+abbrev pub answer : Version → Instance → ℕ → Intervals → Unit → Reply
+answer version i keep t ResetQuery = and_on (whole_answer version i.session t (versions i))
+answer version i keep t (SerialQuery session serial) =
+    if session == i.session then and_on (serial_answer version i.session keep t serial (versions i))
+    else and_end (report CORRUPT_DATA (sent version (SerialQuery session serial)) ∷ [])
+answer version i keep t (ErrorReport r) = and_end []
+answer version i keep t u = and_end (report INVALID_REQUEST (sent version u) ∷ [])

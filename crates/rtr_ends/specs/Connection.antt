@@ -60,7 +60,7 @@ notice session (now ∷ older) = SerialNotify session now.serial ∷ []
 
 -- What the cache sends at a moment. Want of memory is an Internal Error, and ends the connection.
 abbrev pub reply : ℕ → Intervals → Bool → ConnMoment → Reply
-reply keep t agreed (Read cache unit bytes) = answer cache keep t unit
+reply keep t agreed (Read cache unit bytes) = answer V1 cache keep t unit
 reply keep t agreed (Wanting cache unit bytes) = and_end (report INTERNAL_ERROR [] ∷ [])
 reply keep t agreed (Fault fault bytes) = and_end (fault_report agreed fault bytes)
 reply keep t agreed (Notify cache) = and_on (notice cache.session (versions cache))
@@ -79,7 +79,7 @@ replies_from keep t agreed (m ∷ later) =
     now.units ++ (if now.goes_on then replies_from keep t (agreed_after agreed m) later else [])
 
 abbrev pub replies : ℕ → Intervals → List ConnMoment → List ℕ
-replies keep t moments = sent_all (replies_from keep t false moments)
+replies keep t moments = sent_all V1 (replies_from keep t false moments)
 
 abbrev pub is_published : Instance → Bool
 is_published i = not (length i.sets == 0)
@@ -141,7 +141,7 @@ conn_after keep t c m =
       cache = cache_after c.cache m;
       agreed = agreed_after c.agreed m;
       ended = not now.goes_on;
-      due = sent_all now.units;
+      due = sent_all V1 now.units;
       notified = is_notice m;
     }
 

@@ -7,6 +7,7 @@ use Rattle.rtr_pdu.specs.Code.{CORRUPT_DATA, NO_DATA_AVAILABLE, UNKNOWN_WITHDRAW
 use Rattle.rtr_pdu.specs.declared.unit.Unit.{Unit}
 use Rattle.rtr_pdu.specs.declared.unit.Unit.TheVariants.{SerialNotify, CacheResponse, Prefix, EndOfData, CacheReset, RouterKey, ErrorReport}
 use Rattle.rtr_ends.specs.declared.link.End.TheVariants as ends
+use Rattle.rtr_pdu.specs.declared.version.Version.TheVariants.{V1}
 use Rattle.rtr_ends.specs.Answer.{report, sent}
 use Rattle.rtr_ends.specs.Transcript.{Question, AskReset, AskSerial, query, Begun, Committed, choose, is_among, led_to, base_of, session_of, differs, is_serial, is_wrong, bounded, sum_of, retry_of, due, moment}
 use Rattle.rtr_ends.specs.RouterLink.{Link, Closed, Idle, Asked, Answering, Ended}
@@ -32,7 +33,7 @@ abbrev pub new_router : Router
 new_router = record { table = empty; version = None; mark = false; due = None; no_data = false; now = 0; link = Closed; agreed = false; session = None; held = []; out = [] }
 
 abbrev pub asking : Question → Router → Router
-asking question r = record r { link = Asked question; out = sent (query question) }
+asking question r = record r { link = Asked question; out = sent V1 (query question) }
 
 abbrev pub ask : Router → Router
 ask r = asking (choose r.version r.mark) r
@@ -43,7 +44,7 @@ emptied r = record r { table = empty; version = None; mark = false }
 
 -- The link ends: with a report on a unit, or by one that was read.
 abbrev pub reports : ℕ → Unit → Router → Router
-reports code u r = record r { link = Ended (ends.Reported code); out = sent (report code (sent u)) }
+reports code u r = record r { link = Ended (ends.Reported code); out = sent V1 (report code (sent V1 u)) }
 
 abbrev pub ended_by : ℕ → Router → Router
 ended_by code r = record r { link = Ended (ends.Told code) }

@@ -8,6 +8,7 @@ use Rattle.rtr_pdu.specs.Code.{INTERNAL_ERROR}
 use Rattle.rtr_pdu.specs.Reader.{fresh}
 use Rattle.rtr_pdu.specs.declared.unit.Unit.{Unit}
 use Rattle.rtr_pdu.specs.declared.unit.UnitFault.{UnitFault}
+use Rattle.rtr_pdu.specs.declared.version.Version.TheVariants.{V1}
 use Rattle.rtr_ends.specs.Answer.{Reply, and_on, and_end, answer, report, sent_all, serial_answer}
 use Rattle.rtr_ends.specs.Cache.{Conn, conn_pulled, conn_takes}
 use Rattle.rtr_ends.specs.Connection.{fault_report, is_wanting, takes_memory}
@@ -56,7 +57,7 @@ pub record SendsReply (t : Intervals) (i : Instance) (r : Reply) (agree : Bool) 
   pub reader : new.reader ≡ old.reader
   pub agreed : new.agreed ≡ agree
   pub ended : new.ended ≡ not r.goes_on
-  pub due : due_of new.sender ≡ sent_all r.units
+  pub due : due_of new.sender ≡ sent_all V1 r.units
   pub knows : Knows t i new.sender
   pub room : KeepsRoom old.sender new.sender
 
@@ -65,17 +66,17 @@ abbrev pub no_memory : Reply
 no_memory = and_end (report INTERNAL_ERROR [] ∷ [])
 
 abbrev pub since_reply : ℕ → Intervals → Instance → Bool → ℕ → Reply
-since_reply keep t i memory serial = if memory then and_on (serial_answer i.session keep t serial (versions i)) else no_memory
+since_reply keep t i memory serial = if memory then and_on (serial_answer V1 i.session keep t serial (versions i)) else no_memory
 
 abbrev pub read_reply : ℕ → Intervals → Instance → Bool → Unit → Reply
-read_reply keep t i memory u = if takes_memory i u && not memory then no_memory else answer i keep t u
+read_reply keep t i memory u = if takes_memory i u && not memory then no_memory else answer V1 i keep t u
 
 -- A fault is reported, where it is.
 pub record ReportsFault (old : Peer) (fault : UnitFault) (new : Peer) : Type 0 where
   pub reader : new.reader ≡ fresh false
   pub agreed : new.agreed ≡ old.agreed
   pub ended : new.ended ≡ true
-  pub due : due_of new.sender ≡ sent_all (fault_report old.agreed fault old.reader.held)
+  pub due : due_of new.sender ≡ sent_all V1 (fault_report old.agreed fault old.reader.held)
   pub stays : Stays old.sender new.sender
 
 abbrev pub maybe : Option Unit → List Unit

@@ -41,7 +41,7 @@ fault_end agreed fault bytes = if is_kind kinds.ErrorReport bytes then ends.Malf
 
 abbrev pub breaks : UnitFault → List ℕ → Router → Noted
 breaks fault bytes r = record {
-  router = record r { held = []; link = Ended (fault_end r.agreed fault bytes); out = sent_all (fault_report r.agreed fault bytes) };
+  router = record r { held = []; link = Ended (fault_end r.agreed fault bytes); out = sent_all V1 (fault_report r.agreed fault bytes) };
   items = Breaks fault ∷ [];
 }
 

@@ -8,7 +8,8 @@ use Rattle.rtr_ends.specs.declared.sender.Records.{Records}
 use Rattle.rtr_ends.specs.declared.sender.Records.TheVariants.{Whole, Step}
 use Rattle.rtr_ends.specs.declared.sender.Sender.{Sender}
 use Rattle.rtr_ends.specs.declared.sender.Share.{Share}
-use Rattle.rtr_ends.specs.declared.sender.Cursor.{Cursor}
+use Rattle.rtr_ends.specs.declared.sender.AnswerCursor.{AnswerCursor}
+use Rattle.rtr_pdu.specs.declared.version.Version.TheVariants.{V1}
 use Rattle.rtr_ends.specs.Answer.{announcements, withdrawals, sent, sent_all}
 use Rattle.rtr_ends.specs.Timing.{Intervals}
 
@@ -24,7 +25,7 @@ serial_in (Whole share) = share.serial.0
 serial_in (Step serial change) = serial.0
 
 -- the units that are left of an answer
-abbrev pub left_in : ℕ → Intervals → Option Cursor → List Unit
+abbrev pub left_in : ℕ → Intervals → Option AnswerCursor → List Unit
 left_in session t None = []
 left_in session t (Some a) = drop a.place (units_in a.records) ++ EndOfData session (serial_in a.records) t.refresh t.retry t.expire ∷ []
 
@@ -33,7 +34,7 @@ left s = left_in s.session s.timing s.answer
 
 -- the bytes due
 unfoldable pub due_of : Sender → List ℕ
-due_of s = drop s.pulled s.buffer.items ++ sent_all (left s)
+due_of s = drop s.pulled s.buffer.items ++ sent_all V1 (left s)
 
 -- how many bytes in the buffer are ready to be pulled
 unfoldable pub ready_in : Sender → ℕ
@@ -44,7 +45,7 @@ abbrev pub shared_in : Records → Option NumberedSet
 shared_in (Whole share) = Some (numbered_of share)
 shared_in (Step serial change) = None
 
-abbrev pub newest_in : Option Share → Option Cursor → Option NumberedSet
+abbrev pub newest_in : Option Share → Option AnswerCursor → Option NumberedSet
 newest_in (Some share) answer = Some (numbered_of share)
 newest_in None None = None
 newest_in None (Some a) = shared_in a.records
@@ -65,7 +66,7 @@ pub record Stays (old new : Sender) : Type 0 where
 
 -- these units are due
 pub record Sends (old : Sender) (units : List Unit) (new : Sender) : Type 0 where
-  pub due : due_of new ≡ sent_all units
+  pub due : due_of new ≡ sent_all V1 units
   pub stays : Stays old new
 
 -- Its Cache Response is due, and then the rest of the answer.
@@ -74,7 +75,7 @@ pub record BeginsAnswer (old : Sender) (records : Records) (new : Sender) : Type
   pub timing : new.timing ≡ old.timing
   pub ready : new.ready ≡ old.ready
   pub answer : new.answer ≡ Some (record { records = records; place = 0 })
-  pub due : due_of new ≡ sent_all (CacheResponse old.session ∷ units_in records ++ EndOfData old.session (serial_in records) old.timing.refresh old.timing.retry old.timing.expire ∷ [])
+  pub due : due_of new ≡ sent_all V1 (CacheResponse old.session ∷ units_in records ++ EndOfData old.session (serial_in records) old.timing.refresh old.timing.retry old.timing.expire ∷ [])
   pub room : ready_in new ≤ MAX_UNIT_LEN
 
 -- the records of an answer that has ended
@@ -89,13 +90,13 @@ pub record KeepsRecords (old : Sender) (records : Records) (new : Sender) : Type
 -- A unit is written into a buffer, which has these bytes then, where there is a unit.
 abbrev pub Writes : {B : Type 0} → Option Unit → Bool → B → List ℕ → B → Type 0
 Writes None written old bytes new = (written ≡ false) × (new ≡ old)
-Writes (Some u) written old bytes new = (written ≡ true) × (bytes ≡ sent u) × IsUnit u
+Writes (Some u) written old bytes new = (written ≡ true) × (bytes ≡ sent V1 u) × IsUnit u
 
 -- The first unit that was left stands in the buffer, and the others are left.
 pub record Hands (old new : Sender) : Type 0 where
   pub first : Unit
   pub was : left old ≡ first ∷ left new
-  pub bytes : new.buffer.items ≡ sent first
+  pub bytes : new.buffer.items ≡ sent V1 first
   pub pulled : new.pulled ≡ 0
   pub stays : Stays old new
 

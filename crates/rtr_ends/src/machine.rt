@@ -3,6 +3,7 @@ ghost use Rattle.std.specs.Prelude.{◌≡◌, ◌&&◌, [], None, false};
 ghost use Rattle.vrps.specs.Origin.{state};
 ghost use Rattle.vrps.specs.VrpSet.{empty};
 ghost use Rattle.rtr_pdu.specs.Code.{CORRUPT_DATA};
+ghost use Rattle.rtr_pdu.specs.declared.version.Version.TheVariants.{V1};
 ghost use Rattle.rtr_ends.specs.Answer.{report, sent};
 ghost use Rattle.rtr_ends.specs.Cache.{is_none};
 ghost use Rattle.rtr_ends.specs.RouterLink as linked;
@@ -78,7 +79,7 @@ impl Machine {
 
     /// A question is put.
     pub fn asks(&mut self, question: Question)
-        ensures { self.new ≡ record self.old { state = states.Asked question; out = sent (query (seen_question question)) } }
+        ensures { self.new ≡ record self.old { state = states.Asked question; out = sent V1 (query (seen_question question)) } }
     {
         match question {
             Question::Reset => self.out.put(&Unit::ResetQuery),
@@ -127,7 +128,7 @@ impl Machine {
 
     /// Ends the link with a report on a unit.
     pub fn reports(&mut self, code: u16, unit: &Unit)
-        ensures { self.new ≡ record self.old { state = states.Ended (ends.Reported code); out = sent (report code (sent unit.now)) } }
+        ensures { self.new ≡ record self.old { state = states.Ended (ends.Reported code); out = sent V1 (report code (sent V1 unit.now)) } }
     {
         self.out.put(&report_on(code, unit));
         self.state = State::Ended(End::Reported(code));
@@ -135,7 +136,7 @@ impl Machine {
 
     /// The same with code 0, Corrupt Data, and what is committed is dropped.
     pub fn fails(&mut self, unit: &Unit)
-        ensures { self.new ≡ record self.old { table = empty; version = None; mark = false; state = states.Ended (ends.Reported CORRUPT_DATA); out = sent (report CORRUPT_DATA (sent unit.now)) } }
+        ensures { self.new ≡ record self.old { table = empty; version = None; mark = false; state = states.Ended (ends.Reported CORRUPT_DATA); out = sent V1 (report CORRUPT_DATA (sent V1 unit.now)) } }
     {
         self.empty();
         self.reports(error_code::CORRUPT_DATA, unit);

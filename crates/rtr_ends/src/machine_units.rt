@@ -2,6 +2,7 @@
 ghost use Rattle.std.specs.Prelude.{◌≡◌, ◌≤◌, ◌&&◌, ℕ, [], true, Some, Ok};
 ghost use Rattle.vrps.specs.VrpSet.{has, size};
 ghost use Rattle.rtr_pdu.specs.Code.{CORRUPT_DATA};
+ghost use Rattle.rtr_pdu.specs.declared.version.Version.TheVariants.{V1};
 ghost use Rattle.rtr_ends.specs.Answer.{report, sent};
 ghost use Rattle.rtr_ends.specs.Router as model;
 ghost use Rattle.rtr_ends.specs.RouterLink as linked;
@@ -168,7 +169,7 @@ impl Machine {
     /// A unit that does not belong in an answer.
     fn rejects(&mut self, unit: &Unit) -> Result<(), SetFault>
         ensures ok { result ≡ Ok tt }
-        ensures reports { self.new ≡ record self.old { state = states.Ended (ends.Reported CORRUPT_DATA); out = sent (report CORRUPT_DATA (sent unit.now)) } }
+        ensures reports { self.new ≡ record self.old { state = states.Ended (ends.Reported CORRUPT_DATA); out = sent V1 (report CORRUPT_DATA (sent V1 unit.now)) } }
     {
         self.reports(error_code::CORRUPT_DATA, unit);
         Ok(())

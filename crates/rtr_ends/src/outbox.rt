@@ -1,5 +1,6 @@
 //! Bytes to be pulled.
 ghost use Rattle.std.specs.Prelude.{◌≡◌, ◌≤◌, ◌==◌, [], ◌++◌, length, take, drop, min};
+ghost use Rattle.rtr_pdu.specs.declared.version.Version.TheVariants.{V1};
 ghost use Rattle.rtr_ends.specs.Answer.{sent};
 ghost use Rattle.rtr_ends.specs.Cache.{is_none};
 
@@ -60,7 +61,7 @@ impl Outbox {
 
     /// A unit is to be pulled, and nothing else.
     pub fn put(&mut self, unit: &Unit)
-        ensures { self.new ≡ sent unit.now }
+        ensures { self.new ≡ sent V1 unit.now }
     {
         encode(unit, &mut self.unit);
         self.pulled = 0;

@@ -1,6 +1,7 @@
 //! Error Reports that are sent (RFC 8210 sections 5.11 and 12).
 ghost use Rattle.std.specs.Prelude.{◌≡◌};
 ghost use Rattle.rtr_pdu.specs.Stream.{type_of};
+ghost use Rattle.rtr_pdu.specs.declared.version.Version.TheVariants.{V1};
 ghost use Rattle.rtr_ends.specs.Answer.{report, sent};
 ghost use Rattle.rtr_ends.specs.Connection.{fault_code, fault_report};
 ghost use Rattle.rtr_ends.specs.Peer.{maybe};
@@ -42,7 +43,7 @@ pub fn report(code: u16, copy: &[u8]) -> Unit
 
 /// An Error Report on a unit.
 pub fn report_on(code: u16, unit: &Unit) -> Unit
-    ensures { result ≡ report code (sent unit.now) }
+    ensures { result ≡ report code (sent V1 unit.now) }
 {
     let mut buffer = ArrayVec::new();
     encode(unit, &mut buffer);

@@ -1,6 +1,7 @@
 //! What a connection at the cache has to send.
 ghost use Rattle.std.specs.Prelude.{◌≡◌, ℕ, ◌<◌, ◌≤◌, length, Bool, true, false, not, [], ◌∷◌, ◌++◌, ◌+◌, Some, None, option_map, slice_get};
 ghost use Rattle.vrps.specs.Instance.{NumberedSet};
+ghost use Rattle.rtr_pdu.specs.declared.version.Version.TheVariants.{V1};
 ghost use Rattle.rtr_ends.specs.Answer.{announcements, response, sent, whole_answer, withdrawals};
 ghost use Rattle.rtr_ends.specs.Cache.{is_none};
 ghost use Rattle.rtr_ends.specs.Sender.{BeginsAnswer, PullsBytes, GivesFrom, Hands, KeepsRecords, KeepsRoom, Sends, Stays, Writes, as_list, due_of, left, newest_of, ready_in, serial_in, units_in, numbered_of};
@@ -30,7 +31,7 @@ pub enum Records {
 
 /// An answer under way: its Cache Response was sent, and the records before this place.
 #[derive(Drop)]
-pub struct Cursor {
+pub struct AnswerCursor {
     pub records: Records,
     pub place: usize,
 }
@@ -49,7 +50,7 @@ fn write_announced(set: &VrpSet, place: usize, buffer: &mut UnitBuffer) -> bool
     }
 }
 
-impl Cursor {
+impl AnswerCursor {
     /// Writes the record at the place, and says whether there is one.
     fn write(&self, buffer: &mut UnitBuffer) -> bool
         ensures writes { Writes (slice_get (units_in self.now.records) self.now.place) result buffer.old buffer.new.items buffer.new }
@@ -88,7 +89,7 @@ pub struct Sender {
     pub timing: Timing,
     /// The share of the current version that is kept ready for a Reset Query.
     pub ready: Option<Share>,
-    pub answer: Option<Cursor>,
+    pub answer: Option<AnswerCursor>,
     /// The unit that goes out, of which so many bytes were pulled.
     pub buffer: UnitBuffer,
     pub pulled: usize,
@@ -142,19 +143,19 @@ impl Sender {
     }
 
     /// The record at the place was written into the buffer. The answer goes on behind it.
-    fn next_record(&mut self, cursor: Cursor)
+    fn next_record(&mut self, cursor: AnswerCursor)
         requires none { self.old.answer ≡ None }
         requires low { cursor.place < 33554430 }
         ensures { self.new ≡ record self.old { answer = Some (record { records = cursor.records; place = cursor.place + 1 }); pulled = 0 } }
     {
         self.pulled = 0;
-        let Cursor { records, place } = cursor;
+        let AnswerCursor { records, place } = cursor;
         let place = place + 1;
-        let _none = self.answer.replace(Cursor { records, place });
+        let _none = self.answer.replace(AnswerCursor { records, place });
     }
 
     /// Writes the End of Data of the answer under way into the buffer.
-    fn next_end(&mut self, cursor: Cursor)
+    fn next_end(&mut self, cursor: AnswerCursor)
         requires none { self.old.answer ≡ None }
         requires at { None ≡ slice_get (units_in cursor.records) cursor.place }
         ensures { Hands (record self.old { answer = Some cursor }) self.new }
@@ -174,7 +175,7 @@ impl Sender {
     }
 
     /// Writes the next unit of the answer under way into the buffer.
-    fn next(&mut self, cursor: Cursor)
+    fn next(&mut self, cursor: AnswerCursor)
         requires { self.old.answer ≡ None }
         ensures { Hands (record self.old { answer = Some cursor }) self.new }
     {
@@ -208,13 +209,13 @@ impl Sender {
             &mut self.buffer,
         );
         self.pulled = 0;
-        let _none = self.answer.replace(Cursor { records, place: 0 });
+        let _none = self.answer.replace(AnswerCursor { records, place: 0 });
     }
 
     /// Answers a Reset Query.
     pub fn answer_reset(&mut self)
         requires { due_of self.old ≡ [] }
-        ensures { Sends self.old (whole_answer self.old.session self.old.timing (as_list (newest_of self.old))) self.new }
+        ensures { Sends self.old (whole_answer V1 self.old.session self.old.timing (as_list (newest_of self.old))) self.new }
     {
         match self.ready.take() {
             None => self.send(&report_on(error_code::NO_DATA_AVAILABLE, &Unit::ResetQuery)),
@@ -227,7 +228,7 @@ impl Sender {
         requires due { due_of self.old ≡ [] }
         requires serial { Some serial.0 ≡ option_map (λ v. v.serial) (newest_of self.old) }
         ensures { (v : NumberedSet) → newest_of self.old ≡ Some v →
-            Sends self.old (response self.old.session self.old.timing v (withdrawals change.withdraw ++ announcements change.announce)) self.new }
+            Sends self.old (response V1 self.old.session self.old.timing v (withdrawals change.withdraw ++ announcements change.announce)) self.new }
     {
         self.begin(Records::Step(serial, change));
     }

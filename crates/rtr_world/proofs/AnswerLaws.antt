@@ -22,6 +22,8 @@ use Rattle.rtr_ends.specs.Transcript.{Begun, is_among, led_to}
 use Rattle.rtr_ends.proofs.TableLaws.{false_true}
 use Rattle.rtr_world.specs.OneAnswer.{NotifiesOf, without_notifies}
 use Rattle.rtr_world.proofs.Invariant.{after_stage, Leads}
+use Rattle.prefixes.proofs.Basics.{not_both}
+use Rattle.vrps.proofs.Sizes.{size_le}
 
 -- units of which none is a notify
 abbrev pub Plain : List Unit → Type 0
@@ -70,20 +72,6 @@ grows_all : (s : VrpSet) (vs : List Payload) → size s ≤ size (with_all s vs)
 grows_all s [] = omega arith
 grows_all s (v ∷ vs) = let a = grows_all s vs in let b = grows (with_all s vs) v in omega (arith, a, b)
 
--- A set is not larger than one that has its members.
-pub smaller : (s t : VrpSet) → ((q : Payload) → has s q ≡ true → has t q ≡ true) → size s ≤ size t
-smaller s t h =
-    let is : union s (without t s) ≡ t = same_set _ _ (λ q. has-union s (without t s) q ∙ ap (λ b. has s q || b) (has-without t s q) ∙ both (has s q) (has t q) (h q)) in
-    let more = grows_all s (listing (without t s)) in
-    let same = ap (λ x. size x) is in
-    omega (arith, more, same)
-  where
-    both : (a b : Bool) → (a ≡ true → b ≡ true) → (a || (b && not a)) ≡ b
-    both true true h = refl
-    both true false h = let e : false ≡ true = h refl in cc
-    both false true h = refl
-    both false false h = refl
-
 -- the members of what staged records lead to
 has-led_to : (base : VrpSet) (withdrawn announced : List Payload) (q : Payload) → has (led_to base withdrawn announced) q ≡ ((has base q && not (is_among q withdrawn)) || is_among q announced)
 unfolding led_to
@@ -94,9 +82,6 @@ has-led_to base withdrawn announced q =
 -- records that follow, none of which stands twice
 abbrev Fresh : List Payload → Type 0
 Fresh vs = IsDistinct (eq_by_cmp vrp_cmp) vs
-
-not_both : (b : Bool) → b ≡ true → b ≡ false → ⊥
-not_both b h k = false_true (sym k ∙ h)
 
 -- payloads that are not one, either way round
 other_way : (v w : Payload) → eq_by_cmp vrp_cmp w v ≡ false → eq_by_cmp vrp_cmp v w ≡ false
@@ -172,7 +157,7 @@ module _ (base set : VrpSet) (session serial : ℕ) (fits : size set ≤ 1677721
   unfolding IsDistinct
   announces a [] tail once known new none gone come k = k a refl (λ q. refl)
   announces a (w ∷ ws) tail once known new none gone come k =
-      let less = smaller (led_to base a.withdrawn (w ∷ a.announced)) set (within a w gone come new.0) in
+      let less = size_le (led_to base a.withdrawn (w ∷ a.announced)) set (within a w gone come new.0) in
       let room : nat_lt 16777215 (size (led_to base a.withdrawn (w ∷ a.announced))) ≡ false = not_over (size (led_to base a.withdrawn (w ∷ a.announced))) (omega (arith, less, fits)) in
       let e : stage base a true w ≡ Stays (record a { announced = w ∷ a.announced }) = λ i. if known.0 i || none.0 i then Wrong 7 else if room i then Over else Stays (record a { announced = w ∷ a.announced }) in
       subst (λ st. after_stage st (λ b. Leads base b (map (λ v. Prefix true v) ws ++ tail) session serial set)) (sym e)

@@ -17,7 +17,6 @@ use Rattle.rtr_ends.specs.RouterLink.{Link, Closed, Idle, Asked, Answering, Ende
 use Rattle.rtr_ends.specs.Transcript.{AskReset, AskSerial, Item, At, Reads, is_serial, is_over, later, sum_of, retry_of}
 use Rattle.rtr_ends.proofs.FeedingLaws.{feed_keeps}
 use Rattle.rtr_ends.proofs.TableLaws.{false_true}
-use Rattle.rtr_ends.proofs.KeptLaws.{not_true}
 use Rattle.rtr_world.specs.History.{conn_due}
 use Rattle.rtr_world.specs.OneAnswer.{NotifiesOf, answered, without_notifies}
 use Rattle.rtr_world.specs.World.{Side, World, instances, SideEvent, RouterRestart, Connect, RouterSends, CacheGets, CacheSends, RouterGets, Cut, NotifyRouter, Ask, Tick, noted, connects, router_restarts, router_sends, cache_sends, cache_gets, router_gets, cut, side_step, side_refused, tell_closed, settle_conn, settle_link, settle_rest, settle_wire, settle}
@@ -29,6 +28,7 @@ use Rattle.rtr_world.proofs.LinkedSides.{Seen}
 use Rattle.rtr_world.proofs.SideSteps.{live_of, byte_good, clocked_good}
 use Rattle.rtr_world.proofs.UnitStreams.{ByteCase, partly, wholly, byte_case}
 use Rattle.rtr_world.proofs.UnitCases.{Brings, goes_on, ends_other, ends_memory, commits, stays, begins, stages, leaves, is_answering, unit_brings}
+use Rattle.prefixes.proofs.Basics.{true_of_not}
 
 -- what was read of the answer that is under way
 abbrev pub ReadsSo : Link → List Item → Type 0
@@ -100,7 +100,7 @@ module _ (all : List Instance) (i : Instance) (seen : Option Seen) (conn : Optio
   byte_so : (items : List Item) (b : ℕ) (down : List ℕ) (m : Receiving) → router_stops m.router ≡ false → Goes items (b ∷ down) m → ReadsSo (router_byte m b).router.link ((router_byte m b).items ++ items)
   unfolding router_byte
   byte_so items b down m on g =
-      let parts = and_parts (is_reading m.router.link) (is_none m.router.out) (not_true (is_reading m.router.link && is_none m.router.out) on) in
+      let parts = and_parts (is_reading m.router.link) (is_none m.router.out) (true_of_not (is_reading m.router.link && is_none m.router.out) on) in
       let l = live_of m.router.link all i seen m.router conn up (b ∷ down) g.good.link parts.0 in
       let n : Noted = with_bytes (finds_memory m.wanting) (m.router.held ++ b ∷ []) m.router (judge V1 (not m.router.agreed) (m.router.held ++ b ∷ [])) in
       subst (λ x. ReadsSo n.router.link x) (sym (append_assoc n.items m.items items))

@@ -43,12 +43,12 @@ dead_link (Asked q) all i home r conn conn' up up' down down' dead g = absurd (l
 dead_link (Answering a) all i home r conn conn' up up' down down' dead g = absurd (let e : true ≡ false = dead in cc)
 
 -- units are added at the cache's end, where nothing was to be pulled
-stream_more : (held down due lost : List ℕ) (coming units : List Unit) → due ≡ [] → lost ≡ [] → AllByRecursion IsUnit units → Stream held (down ++ (due ++ lost)) coming → Stream held (down ++ (sent_all units ++ lost)) (coming ++ units)
+stream_more : (held down due lost : List ℕ) (coming units : List Unit) → due ≡ [] → lost ≡ [] → AllByRecursion IsUnit units → Stream held (down ++ (due ++ lost)) coming → Stream held (down ++ (sent_all V1 units ++ lost)) (coming ++ units)
 stream_more held down due lost coming units de le fit s =
-    let more : Stream held ((down ++ (due ++ lost)) ++ sent_all units) (coming ++ units) = stream-append held (down ++ (due ++ lost)) coming units s fit in
-    let bytes : (down ++ (due ++ lost)) ++ sent_all units ≡ down ++ (sent_all units ++ lost) =
-    ap (λ x. (down ++ (x ++ lost)) ++ sent_all units) de ∙ ap (λ x. (down ++ x) ++ sent_all units) le ∙ ap (λ x. x ++ sent_all units) (append-nil down)
-    ∙ ap (λ x. down ++ x) (sym (append-nil (sent_all units)) ∙ ap (λ x. sent_all units ++ x) (sym le)) in
+    let more : Stream held ((down ++ (due ++ lost)) ++ sent_all V1 units) (coming ++ units) = stream-append held (down ++ (due ++ lost)) coming units s fit in
+    let bytes : (down ++ (due ++ lost)) ++ sent_all V1 units ≡ down ++ (sent_all V1 units ++ lost) =
+    ap (λ x. (down ++ (x ++ lost)) ++ sent_all V1 units) de ∙ ap (λ x. (down ++ x) ++ sent_all V1 units) le ∙ ap (λ x. x ++ sent_all V1 units) (append-nil down)
+    ∙ ap (λ x. down ++ x) (sym (append-nil (sent_all V1 units)) ∙ ap (λ x. sent_all V1 units ++ x) (sym le)) in
     subst (λ x. Stream held x (coming ++ units)) bytes more
 
 module _ (all : List Instance) (i : Instance) (p : Present all i) (keep : ℕ) (home : Option Seen) (keeps : (h : Seen) → home ≡ Some h → h.keep ≡ keep) (r : Router) (down : List ℕ) where
@@ -73,7 +73,7 @@ module _ (all : List Instance) (i : Instance) (p : Present all i) (keep : ℕ) (
       ]
 
   -- The cache has read the question, and these units are the answer.
-  answered : (o : Conn) (up bs : List ℕ) (h : Seen) (f : Flow all i h r (Some o) up down) (q : Question) (units : List Unit) (st : Connection) → home ≡ Some h → o.state.due ≡ [] → st.due ≡ sent_all units → Stream [] (bs ++ r.out) [] → r.link ≡ Asked q
+  answered : (o : Conn) (up bs : List ℕ) (h : Seen) (f : Flow all i h r (Some o) up down) (q : Question) (units : List Unit) (st : Connection) → home ≡ Some h → o.state.due ≡ [] → st.due ≡ sent_all V1 units → Stream [] (bs ++ r.out) [] → r.link ≡ Asked q
       → without_notifies f.coming ≡ [] → QuestionFits h.session q r.version → IsAnswered units → Replies all h q (base_of q r.table) units → OneReply all h q units → Live all i home r (Some (record { state = st; held = [] })) bs down
   answered o up bs h f q units st eh eo due up_stream link rest fits is replies one =
       let op : Open i h r.out up f.wanted f.lost o = f.open_at in
@@ -135,7 +135,7 @@ module _ (all : List Instance) (i : Instance) (p : Present all i) (keep : ℕ) (
           (inr (record { cache = i; was = is_now all i p h op.session op.made op.later; takes = subst (λ x. takes_memory i x ≡ true) w.is (and_parts (takes_memory i u) (not memory) wants).0 }, refl))
       by_memory false wants =
           let a = answer_answers all i p h op.session op.made keep w.q r.version r.table w.fits table (from_now all i p h op.session op.made w.q keep (keeps h eh) op.later) in
-          answered m.conn (b ∷ bs) bs h f w.q (answer i keep timing (query w.q)).units (conn_after keep timing m.conn.state (Read i u bytes)) eh eo (ap (λ x. sent_all (answer i keep timing x).units) w.is) up_stream w.asks w.none w.fits a.answered a.replies (inl a.from)
+          answered m.conn (b ∷ bs) bs h f w.q (answer V1 i keep timing (query w.q)).units (conn_after keep timing m.conn.state (Read i u bytes)) eh eo (ap (λ x. sent_all V1 (answer V1 i keep timing x).units) w.is) up_stream w.asks w.none w.fits a.answered a.replies (inl a.from)
 
   abbrev GoodC : Conn → List ℕ → Type 0
   GoodC o up = GoodRouter all i home (Some o) up down r
@@ -219,7 +219,7 @@ module _ (all : List Instance) (i : Instance) (p : Present all i) (keep : ℕ) (
           by_memory : (t : Bool) → (takes_memory i u && not memory) ≡ t → IsOfNow i keep wanting (Asked w.q) (read t).due
           by_memory true wants =
               let parts = and_parts (takes_memory i u) (not memory) wants in inr (some_wants wanting m.wanting same parts.1, subst (λ x. takes_memory i x ≡ true) w.is parts.0, refl)
-          by_memory false wants = inl (ap (λ x. sent_all (answer i keep timing x).units) w.is)
+          by_memory false wants = inl (ap (λ x. sent_all V1 (answer V1 i keep timing x).units) w.is)
 
   pub fed_now : (old tail : List ℕ) (m : Taking) (piece : List ℕ) (wanting : Option ℕ) → is_reading r.link ≡ true → (wanting ≡ None → m.wanting ≡ None) → GoodC m.conn (piece ++ tail) → DueNow old wanting m.conn → DueNow old wanting (feed (λ (x : Taking). conn_stops x.conn) (conn_byte keep timing i) m piece).machine.conn
   fed_now old tail m piece wanting live same g now =

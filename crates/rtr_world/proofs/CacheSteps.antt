@@ -18,6 +18,7 @@ use Rattle.rtr_pdu.specs.Unit.{IsUnit}
 use Rattle.rtr_pdu.specs.declared.unit.Unit.{Unit}
 use Rattle.rtr_pdu.specs.declared.unit.Unit.TheVariants.{SerialQuery, ResetQuery, CacheResponse, Prefix, EndOfData}
 use Rattle.rtr_pdu.proofs.ReadLaws.{AreBytes-take}
+use Rattle.rtr_pdu.specs.declared.version.Version.TheVariants.{V1}
 use Rattle.rtr_ends.specs.Answer.{and_on, and_end, answer, announcements, withdrawals, report, response as response_of, sent, serial_answer, step_answer, whole_answer}
 use Rattle.rtr_ends.specs.Commit.{Commits}
 use Rattle.rtr_ends.specs.Connection.{IsLater}
@@ -28,8 +29,9 @@ use Rattle.rtr_world.specs.World.{timing}
 use Rattle.rtr_world.proofs.AnswerLaws.{Plain, plain-append, plain_records, change_leads, whole_leads}
 use Rattle.rtr_world.proofs.Invariant.{FromCache, WasCache, Leads, NoneWithdrawn, WithdrawsFirst, QuestionFits, IsOwn, Replies, nothing_yet, no_data, not_kept, other_session, response}
 use Rattle.rtr_world.proofs.UnitStreams.{all-append, all_bytes}
-use Rattle.rtr_world.proofs.Versions.{Stands, TableAt, Present, kept_at, has_sets, of_present, equal_of, equal_true, find_session}
+use Rattle.rtr_world.proofs.Versions.{Stands, TableAt, Present, kept_at, has_sets, of_present, find_session}
 use Rattle.rtr_world.proofs.LinkedSides.{Seen}
+use Rattle.prefixes.proofs.Basics.{eq_of, eq_true}
 
 not_both : (b : Bool) → b ≡ true → b ≡ false → ⊥
 not_both b h k = let e : true ≡ false = sym h ∙ k in cc
@@ -69,12 +71,12 @@ answered_report code copy low each =
     short : (n : ℕ) → n ≡ min 4080 (length copy) → n + 0 ≤ 4080
     short n e = let m = min-le_left 4080 (length copy) in omega (arith, e, m)
 
-reset_bytes : AreBytes (sent ResetQuery)
-reset_bytes = all_bytes (sent ResetQuery) (omega arith, (omega arith, (omega arith, (omega arith, (omega arith, (omega arith, (omega arith, (omega arith, tt))))))))
+reset_bytes : AreBytes (sent V1 ResetQuery)
+reset_bytes = all_bytes (sent V1 ResetQuery) (omega arith, (omega arith, (omega arith, (omega arith, (omega arith, (omega arith, (omega arith, (omega arith, tt))))))))
 
-serial_bytes : (session serial : ℕ) → AreBytes (sent (SerialQuery session serial))
+serial_bytes : (session serial : ℕ) → AreBytes (sent V1 (SerialQuery session serial))
 serial_bytes session serial =
-    all_bytes (sent (SerialQuery session serial)) (omega arith, (omega arith, (omega arith, (omega arith, (omega arith, (omega arith, (omega arith, (omega arith, (omega arith, (omega arith, (omega arith, (omega arith, tt))))))))))))
+    all_bytes (sent V1 (SerialQuery session serial)) (omega arith, (omega arith, (omega arith, (omega arith, (omega arith, (omega arith, (omega arith, (omega arith, (omega arith, (omega arith, (omega arith, (omega arith, tt))))))))))))
 
 -- an answer that leads on, with what is asked of its units
 pub record Answers (all : List Instance) (home : Seen) (q : Question) (base : VrpSet) (units : List Unit) : Type 0 where
@@ -114,8 +116,8 @@ module _ (all : List Instance) (i : Instance) (p : Present all i) (home : Seen) 
     until = record { session = refl; start = refl; more = []; sets = refl };
   }
 
-  pub from_now : (q : Question) (keep : ℕ) → home.keep ≡ keep → IsLater home.made i → FromCache all home q (answer i keep timing (query q)).units
-  from_now q keep kept later = record { cache = i; was = is_now later; are = ap (λ k. (answer i k timing (query q)).units) (sym kept) }
+  pub from_now : (q : Question) (keep : ℕ) → home.keep ≡ keep → IsLater home.made i → FromCache all home q (answer V1 i keep timing (query q)).units
+  from_now q keep kept later = record { cache = i; was = is_now later; are = ap (λ k. (answer V1 i k timing (query q)).units) (sym kept) }
 
   -- a response with these records
   abbrev tail_of : List Unit → ℕ → ℕ → List Unit
@@ -218,15 +220,15 @@ module _ (all : List Instance) (i : Instance) (p : Present all i) (home : Seen) 
         order = subst (λ y. WithdrawsFirst y) split (withdraws_order gone rest (announces_order come end tt tt));
       }
 
-  reset_answers : (sets : List VrpSet) → i.sets ≡ sets → FromCache all home AskReset (whole_answer i.session timing (versions_from i.start sets)) → Answers all home AskReset empty (whole_answer i.session timing (versions_from i.start sets))
-  reset_answers [] e from = record { replies = no_data (sent ResetQuery) refl refl; from = from; answered = answered_report 2 (sent ResetQuery) (omega arith) reset_bytes }
+  reset_answers : (sets : List VrpSet) → i.sets ≡ sets → FromCache all home AskReset (whole_answer V1 i.session timing (versions_from i.start sets)) → Answers all home AskReset empty (whole_answer V1 i.session timing (versions_from i.start sets))
+  reset_answers [] e from = record { replies = no_data (sent V1 ResetQuery) refl refl; from = from; answered = answered_report 2 (sent V1 ResetQuery) (omega arith) reset_bytes }
   reset_answers (x ∷ older) e from =
       responds AskReset empty x older (announcements x) tt e (answered_records true x (sets_fit x older e))
       (λ session. whole_leads x (nothing_yet AskReset home.session) session (serial_at i.start (length older)) timing.refresh timing.retry timing.expire (sets_fit x older e).within_limit refl refl)
       (whole_ends x i.session (serial_at i.start (length older))) from
 
   abbrev answer_to : VrpSet → List VrpSet → Option NumberedSet → List Unit
-  answer_to x older o = step_answer i.session timing (record { serial = serial_at i.start (length older); set = x }) o
+  answer_to x older o = step_answer V1 i.session timing (record { serial = serial_at i.start (length older); set = x }) o
 
   step_answers : (one serial : ℕ) (table x : VrpSet) (older : List VrpSet) (o : Option NumberedSet) → one ≡ home.session → i.sets ≡ x ∷ older → IsVrpSet table → (o ≡ None) ⊎ (o ≡ Some (record { serial = serial; set = table }))
       → FromCache all home (AskSerial one serial) (answer_to x older o) → Answers all home (AskSerial one serial) table (answer_to x older o)
@@ -250,8 +252,8 @@ module _ (all : List Instance) (i : Instance) (p : Present all i) (home : Seen) 
       let found = of_present all i p one serial table a e in
       one_fits a.newer table a.older (subst (AllByRecursion IsVrpSet) (ap (λ x. x.sets) (sym found) ∙ a.sets) p.is.sets)
 
-  serial_answers : (keep one serial : ℕ) (table : VrpSet) (sets : List VrpSet) → one ≡ i.session → Stands all one serial table → i.sets ≡ sets → FromCache all home (AskSerial one serial) (serial_answer i.session keep timing serial (versions_from i.start sets))
-      → Answers all home (AskSerial one serial) table (serial_answer i.session keep timing serial (versions_from i.start sets))
+  serial_answers : (keep one serial : ℕ) (table : VrpSet) (sets : List VrpSet) → one ≡ i.session → Stands all one serial table → i.sets ≡ sets → FromCache all home (AskSerial one serial) (serial_answer V1 i.session keep timing serial (versions_from i.start sets))
+      → Answers all home (AskSerial one serial) table (serial_answer V1 i.session keep timing serial (versions_from i.start sets))
   serial_answers keep one serial table [] own a e from = absurd (has_sets all i p one serial table a own e)
   serial_answers keep one serial table (x ∷ older) own a e from =
       step_answers one serial table x older (with_serial serial (take (suc keep) (versions_from i.start (x ∷ older)))) (own ∙ sym same) e (table_fits one serial table a own)
@@ -259,7 +261,7 @@ module _ (all : List Instance) (i : Instance) (p : Present all i) (home : Seen) 
       from
 
   -- The answer to a question that fits what is committed
-  pub answer_answers : (keep : ℕ) (q : Question) (version : Option Committed) (table : VrpSet) → QuestionFits home.session q version → TableAt all version table → FromCache all home q (answer i keep timing (query q)).units → Answers all home q (base_of q table) (answer i keep timing (query q)).units
+  pub answer_answers : (keep : ℕ) (q : Question) (version : Option Committed) (table : VrpSet) → QuestionFits home.session q version → TableAt all version table → FromCache all home q (answer V1 i keep timing (query q)).units → Answers all home q (base_of q table) (answer V1 i keep timing (query q)).units
   answer_answers keep AskReset version table f t from = reset_answers i.sets refl from
   answer_answers keep (AskSerial one serial) None table f t from = absurd f
   answer_answers keep (AskSerial one serial) (Some version) table f t from = by_session (one == i.session) refl from
@@ -268,12 +270,12 @@ module _ (all : List Instance) (i : Instance) (p : Present all i) (home : Seen) 
       stands = subst₂ (λ a b. Stands all a b table) (sym f.0) (sym f.1) t
 
       units_by : Bool → List Unit
-      units_by b = (if b then and_on (serial_answer i.session keep timing serial (versions i)) else and_end (report 0 (sent (SerialQuery one serial)) ∷ [])).units
+      units_by b = (if b then and_on (serial_answer V1 i.session keep timing serial (versions i)) else and_end (report 0 (sent V1 (SerialQuery one serial)) ∷ [])).units
 
       by_session : (b : Bool) → (one == i.session) ≡ b → FromCache all home (AskSerial one serial) (units_by b) → Answers all home (AskSerial one serial) table (units_by b)
-      by_session true e from = serial_answers keep one serial table i.sets (equal_of one i.session e) stands refl from
+      by_session true e from = serial_answers keep one serial table i.sets (eq_of one i.session e) stands refl from
       by_session false e from = record {
-        replies = other_session one serial (sent (SerialQuery one serial)) refl (λ x. not_both (one == i.session) (equal_true one i.session (x ∙ same)) e) refl;
+        replies = other_session one serial (sent V1 (SerialQuery one serial)) refl (λ x. not_both (one == i.session) (eq_true one i.session (x ∙ same)) e) refl;
         from = from;
-        answered = answered_report 0 (sent (SerialQuery one serial)) (omega arith) (serial_bytes one serial);
+        answered = answered_report 0 (sent V1 (SerialQuery one serial)) (omega arith) (serial_bytes one serial);
       }

@@ -26,48 +26,48 @@ pub other_report : (one other : ℕ) (copy copied : List ℕ) → (one ≡ other
 other_report one other copy copied differs e = let same : report one copy ≡ report other copied = cc in differs (ap code_of same)
 
 -- The connection goes on after an answer, save after Error Report 0.
-pub goes_or_other : (i : Instance) (keep : ℕ) (q : Question) → ((answer i keep timing (query q)).goes_on ≡ true) ⊎ ((copy : List ℕ) × ((answer i keep timing (query q)).units ≡ report 0 copy ∷ []))
+pub goes_or_other : (i : Instance) (keep : ℕ) (q : Question) → ((answer V1 i keep timing (query q)).goes_on ≡ true) ⊎ ((copy : List ℕ) × ((answer V1 i keep timing (query q)).units ≡ report 0 copy ∷ []))
 goes_or_other i keep AskReset = inl refl
 goes_or_other i keep (AskSerial session serial) = by_session (session == i.session)
   where
     reply : Bool → Reply
-    reply b = if b then and_on (serial_answer i.session keep timing serial (versions_from i.start i.sets)) else and_end (report 0 (sent (SerialQuery session serial)) ∷ [])
+    reply b = if b then and_on (serial_answer V1 i.session keep timing serial (versions_from i.start i.sets)) else and_end (report 0 (sent V1 (SerialQuery session serial)) ∷ [])
 
     by_session : (b : Bool) → ((reply b).goes_on ≡ true) ⊎ ((copy : List ℕ) × ((reply b).units ≡ report 0 copy ∷ []))
     by_session true = inl refl
-    by_session false = inr (sent (SerialQuery session serial), refl)
+    by_session false = inr (sent V1 (SerialQuery session serial), refl)
 
 -- Error Report 1 is no answer.
-pub no_wanting : (i : Instance) (keep : ℕ) (q : Question) → (answer i keep timing (query q)).units ≡ report 1 [] ∷ [] → ⊥
+pub no_wanting : (i : Instance) (keep : ℕ) (q : Question) → (answer V1 i keep timing (query q)).units ≡ report 1 [] ∷ [] → ⊥
 no_wanting i keep AskReset = by_sets i.sets
   where
-    by_sets : (sets : List VrpSet) → whole_answer i.session timing (versions_from i.start sets) ≡ report 1 [] ∷ [] → ⊥
-    by_sets [] e = other_report 2 1 (sent ResetQuery) [] (λ k. absurd (omega (arith, k))) e
-    by_sets (x ∷ older) e = let k : whole_answer i.session timing (versions_from i.start (x ∷ older)) ≡ report 1 [] ∷ [] = e in cc
+    by_sets : (sets : List VrpSet) → whole_answer V1 i.session timing (versions_from i.start sets) ≡ report 1 [] ∷ [] → ⊥
+    by_sets [] e = other_report 2 1 (sent V1 ResetQuery) [] (λ k. absurd (omega (arith, k))) e
+    by_sets (x ∷ older) e = let k : whole_answer V1 i.session timing (versions_from i.start (x ∷ older)) ≡ report 1 [] ∷ [] = e in cc
 no_wanting i keep (AskSerial session serial) = by_session (session == i.session)
   where
-    by_step : (now : NumberedSet) (o : Option NumberedSet) → step_answer i.session timing now o ≡ report 1 [] ∷ [] → ⊥
+    by_step : (now : NumberedSet) (o : Option NumberedSet) → step_answer V1 i.session timing now o ≡ report 1 [] ∷ [] → ⊥
     by_step now None e = let k : CacheReset ∷ [] ≡ report 1 [] ∷ [] = e in cc
-    by_step now (Some before) e = let k : step_answer i.session timing now (Some before) ≡ report 1 [] ∷ [] = e in cc
+    by_step now (Some before) e = let k : step_answer V1 i.session timing now (Some before) ≡ report 1 [] ∷ [] = e in cc
 
-    by_sets : (sets : List VrpSet) → serial_answer i.session keep timing serial (versions_from i.start sets) ≡ report 1 [] ∷ [] → ⊥
-    by_sets [] e = other_report 2 1 (sent (SerialQuery i.session serial)) [] (λ k. absurd (omega (arith, k))) e
+    by_sets : (sets : List VrpSet) → serial_answer V1 i.session keep timing serial (versions_from i.start sets) ≡ report 1 [] ∷ [] → ⊥
+    by_sets [] e = other_report 2 1 (sent V1 (SerialQuery i.session serial)) [] (λ k. absurd (omega (arith, k))) e
     by_sets (x ∷ older) e =
         let now : NumberedSet = record { serial = serial_at i.start (length older); set = x } in
         by_step (record { serial = serial_at i.start (length older); set = x }) (with_serial serial (record { serial = serial_at i.start (length older); set = x } ∷ take keep (versions_from i.start older))) e
 
-    by_session : (b : Bool) → (if b then and_on (serial_answer i.session keep timing serial (versions_from i.start i.sets)) else and_end (report 0 (sent (SerialQuery session serial)) ∷ [])).units ≡ report 1 [] ∷ [] → ⊥
+    by_session : (b : Bool) → (if b then and_on (serial_answer V1 i.session keep timing serial (versions_from i.start i.sets)) else and_end (report 0 (sent V1 (SerialQuery session serial)) ∷ [])).units ≡ report 1 [] ∷ [] → ⊥
     by_session true e = by_sets i.sets e
-    by_session false e = other_report 0 1 (sent (SerialQuery session serial)) [] (λ k. absurd (omega (arith, k))) e
+    by_session false e = other_report 0 1 (sent V1 (SerialQuery session serial)) [] (λ k. absurd (omega (arith, k))) e
 
 module _ (keep : ℕ) (i : Instance) (u : Unit) (fits : IsUnit u) (wanting : Option ℕ) where
   -- what is due once the unit is read, and whether the connection has ended then: its answer, or Error Report 1 in its place
   abbrev pub IsDue : Bool → List Unit → Type 0
-  IsDue ended units = ((units ≡ (answer i keep timing u).units) × (ended ≡ not (answer i keep timing u).goes_on)) ⊎ ((units ≡ report 1 [] ∷ []) × (wanting ≡ None → ⊥))
+  IsDue ended units = ((units ≡ (answer V1 i keep timing u).units) × (ended ≡ not (answer V1 i keep timing u).goes_on)) ⊎ ((units ≡ report 1 [] ∷ []) × (wanting ≡ None → ⊥))
 
   pub record IsRead (o : Conn) : Type 0 where
     pub units : List Unit
-    pub due : o.state.due ≡ sent_all units
+    pub due : o.state.due ≡ sent_all V1 units
     pub reply : IsDue o.state.ended units
     pub held : o.held ≡ []
 
@@ -76,7 +76,7 @@ module _ (keep : ℕ) (i : Instance) (u : Unit) (fits : IsUnit u) (wanting : Opt
     next : ℕ
     more : List ℕ
     rest_is : rest ≡ next ∷ more
-    whole : m.conn.held ++ rest ≡ sent u
+    whole : m.conn.held ++ rest ≡ sent V1 u
     due : m.conn.state.due ≡ []
     on : m.conn.state.ended ≡ false
     same : m.wanting ≡ wanting
@@ -94,15 +94,15 @@ module _ (keep : ℕ) (i : Instance) (u : Unit) (fits : IsUnit u) (wanting : Opt
 
       by_memory : (b : Bool) → (takes_memory i u && not (finds_memory m.wanting)) ≡ b → IsRead (with_moment keep timing bytes m.conn (Some (if b then Wanting i u bytes else Read i u bytes)))
       by_memory true e = record { units = report 1 [] ∷ []; due = refl; reply = inr (refl, lacks e); held = refl }
-      by_memory false e = record { units = (answer i keep timing u).units; due = refl; reply = inl (refl, refl); held = refl }
+      by_memory false e = record { units = (answer V1 i keep timing u).units; due = refl; reply = inl (refl, refl); held = refl }
 
-  byte_comes : (rest : List ℕ) (m : Taking) (b : ℕ) → m.conn.held ++ b ∷ rest ≡ sent u → m.conn.state.due ≡ [] → m.conn.state.ended ≡ false → m.wanting ≡ wanting → Reads rest (conn_byte keep timing i m b)
+  byte_comes : (rest : List ℕ) (m : Taking) (b : ℕ) → m.conn.held ++ b ∷ rest ≡ sent V1 u → m.conn.state.due ≡ [] → m.conn.state.ended ≡ false → m.wanting ≡ wanting → Reads rest (conn_byte keep timing i m b)
   unfolding conn_byte
   byte_comes [] m b whole due on same =
       let is = ap (judge V1 false) whole ∙ judge_sent V1 false u fits in
       subst (λ j. Reads [] (conn_judged keep timing i m (m.conn.held ++ b ∷ []) j)) (sym is) (inr (refl, byte_whole m (m.conn.held ++ b ∷ []) same))
   byte_comes (c ∷ rest) m b whole due on same =
-      let begun : (m.conn.held ++ b ∷ []) ++ c ∷ rest ≡ sent u = append_assoc m.conn.held (b ∷ []) (c ∷ rest) ∙ whole in
+      let begun : (m.conn.held ++ b ∷ []) ++ c ∷ rest ≡ sent V1 u = append_assoc m.conn.held (b ∷ []) (c ∷ rest) ∙ whole in
       let is = judge_part V1 false u (m.conn.held ++ b ∷ []) rest c fits begun in
       subst (λ j. Reads (c ∷ rest) (conn_judged keep timing i m (m.conn.held ++ b ∷ []) j)) (sym is)
       (inl (record { next = c; more = rest; rest_is = refl; whole = begun; due = due; on = on; same = same }))
@@ -119,11 +119,11 @@ module _ (keep : ℕ) (i : Instance) (u : Unit) (fits : IsUnit u) (wanting : Opt
       let some = ap length c.rest_is in
       absurd (let e : true ≡ false = sym (stops (omega (arith, some))) ∙ on in cc)
 
-  start : (bytes : List ℕ) (o : Conn) → bytes ≡ sent u → o.held ≡ [] → o.state.due ≡ [] → o.state.ended ≡ false → Reads bytes (record { conn = o; moments = []; wanting = wanting })
+  start : (bytes : List ℕ) (o : Conn) → bytes ≡ sent V1 u → o.held ≡ [] → o.state.due ≡ [] → o.state.ended ≡ false → Reads bytes (record { conn = o; moments = []; wanting = wanting })
   start [] o e held due on = absurd (some_sent V1 u (sym e))
   start (b ∷ bytes) o e held due on = inl (record { next = b; more = bytes; rest_is = refl; whole = ap (λ x. x ++ b ∷ bytes) held ∙ e; due = due; on = on; same = refl })
 
-  pub is_read : (bytes : List ℕ) (o : Conn) → bytes ≡ sent u → o.held ≡ [] → o.state.due ≡ [] → o.state.ended ≡ false
+  pub is_read : (bytes : List ℕ) (o : Conn) → bytes ≡ sent V1 u → o.held ≡ [] → o.state.due ≡ [] → o.state.ended ≡ false
       → ((conn_takes keep timing i wanting bytes o).rest ≡ []) × IsRead (conn_takes keep timing i wanting bytes o).machine.conn
   unfolding conn_takes
   is_read bytes o e held due on =

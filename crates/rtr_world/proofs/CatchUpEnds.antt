@@ -2,6 +2,7 @@
 use Rattle.std.specs.Prelude.{◌≡◌, ◌⊎◌, ℕ, true, false, List, [], ◌∷◌, Option, Some, None, IsSome, refl}
 use Rattle.std.proofs.Common.{sym, ap, ◌∙◌, subst, subst₂, arith, inl, inr}
 use Rattle.std.specs.List.{AllByRecursion}
+use Rattle.rtr_pdu.specs.declared.version.Version.TheVariants.{V1}
 use Rattle.rtr_ends.specs.Answer.{sent}
 use Rattle.rtr_ends.specs.Cache.{new_conn}
 use Rattle.rtr_ends.specs.LinkRules.{Router}
@@ -72,7 +73,7 @@ module _ (w : World) (p : Present (instances w) w.present) where
         up = refl;
         down = refl;
         link = ap (λ x. Asked x) e;
-        out = ap (λ x. sent (query x)) e;
+        out = ap (λ x. sent V1 (query x)) e;
         router_held = held;
       })
 

@@ -4,6 +4,7 @@ use Rattle.std.proofs.Common.{sym, ap, ◌∙◌, subst}
 use Rattle.std.proofs.Math.ListN.{drop_of_length-le}
 use Rattle.std.proofs.lemmas.List.{take_all}
 use Rattle.vrps.specs.VrpSet.{VrpSet}
+use Rattle.rtr_pdu.specs.declared.version.Version.TheVariants.{V1}
 use Rattle.rtr_ends.specs.Answer.{sent}
 use Rattle.rtr_ends.specs.Cache.{Conn}
 use Rattle.rtr_ends.specs.Connection.{IsLater}
@@ -38,7 +39,7 @@ module _ (w : World) (p : Present (instances w) w.present) (h : Seen) where
     pub up : s.up ≡ []
     pub down : s.down ≡ []
     pub link : s.router.link ≡ Asked q
-    pub out : s.router.out ≡ sent (query q)
+    pub out : s.router.out ≡ sent V1 (query q)
     pub router_held : s.router.held ≡ []
 
   -- is on the wire,
@@ -49,7 +50,7 @@ module _ (w : World) (p : Present (instances w) w.present) (h : Seen) where
     pub held : conn.held ≡ []
     pub due : conn.state.due ≡ []
     pub on : conn.state.ended ≡ false
-    pub up : s.up ≡ sent (query q)
+    pub up : s.up ≡ sent V1 (query q)
     pub down : s.down ≡ []
     pub link : s.router.link ≡ Asked q
     pub out : s.router.out ≡ []

@@ -21,39 +21,39 @@ use Rattle.rtr_ends.specs.Router.{Receiving, clocked, expired, lacks, reads, rec
 use Rattle.rtr_ends.specs.RouterLink.{Idle, Asked, Answering, Ended, is_reading}
 use Rattle.rtr_ends.specs.Transcript.{At, AskReset, AskSerial, Begun, Committed, Question, base_of, bounded, is_over, is_serial, is_wrong, later, query}
 use Rattle.rtr_ends.proofs.FeedingLaws.{feed_keeps, feed_takes}
-use Rattle.rtr_ends.proofs.KeptLaws.{not_true}
 use Rattle.rtr_ends.proofs.TableLaws.{false_true}
 use Rattle.rtr_world.proofs.CatchUpAnswers.{other_report}
 use Rattle.rtr_world.proofs.Invariant.{after_stage, Leads, Mine, QuestionFits, Replies, no_data, not_kept, other_session, no_memory, response, nothing_yet}
 use Rattle.rtr_world.proofs.UnitsAtRouters.{first_is, rest_is, right_response, stage_keeps}
 use Rattle.rtr_world.proofs.LinkedSides.{Seen}
 use Rattle.rtr_world.proofs.UnitStreams.{Begun as BegunUnit, ByteCase, partly, wholly, byte_case, Stream}
-use Rattle.rtr_world.proofs.Versions.{TableAt, equal_true}
+use Rattle.rtr_world.proofs.Versions.{TableAt}
+use Rattle.prefixes.proofs.Basics.{eq_true, true_of_not}
 
 -- Where no byte is to come, no unit is.
 pub none_left : (held : List ℕ) (units : List Unit) → Stream held [] units → (units ≡ []) × (held ≡ [])
 none_left held units s = by_part s.partial
   where
-    none : (units : List Unit) → [] ≡ sent_all units → units ≡ []
+    none : (units : List Unit) → [] ≡ sent_all V1 units → units ≡ []
     none [] e = refl
-    none (u ∷ units) e = by_bytes (sent u) refl e
+    none (u ∷ units) e = by_bytes (sent V1 u) refl e
       where
-        by_bytes : (bytes : List ℕ) → sent u ≡ bytes → [] ≡ bytes ++ sent_all units → u ∷ units ≡ []
+        by_bytes : (bytes : List ℕ) → sent V1 u ≡ bytes → [] ≡ bytes ++ sent_all V1 units → u ∷ units ≡ []
         by_bytes [] is e = absurd (some_sent V1 u is)
         by_bytes (b ∷ bytes) is e = cc
 
     by_part : (held ≡ []) ⊎ BegunUnit held units → (units ≡ []) × (held ≡ [])
     by_part (inl e) = (none units (ap (λ x. x ++ []) (sym e) ∙ s.whole), e)
     by_part (inr p) =
-        let whole = ap length (s.whole ∙ ap (λ x. sent_all x) p.is) in
+        let whole = ap length (s.whole ∙ ap (λ x. sent_all V1 x) p.is) in
         let first = ap length p.begins in
         let a = length-append held [] in
-        let b = length-append (sent p.first) (sent_all p.more) in
+        let b = length-append (sent V1 p.first) (sent_all V1 p.more) in
         let c = length-append held (p.byte ∷ p.rest) in
         absurd (omega (arith, whole, first, a, b, c))
 
 pub none_after : (rest : List ℕ) (units : List Unit) → units ≡ [] → Stream [] rest units → rest ≡ []
-none_after rest units e s = s.whole ∙ ap (λ x. sent_all x) e
+none_after rest units e s = s.whole ∙ ap (λ x. sent_all V1 x) e
 
 -- no Error Report
 abbrev is_report : Unit → Bool
@@ -88,7 +88,7 @@ module _ (all : List Instance) (h : Seen) (q : Question) (lacking stays : Type 0
         → (units ≡ report 1 [] ∷ [] → lacking) → Shown units → Phase rest r
     goes_on : (a : Begun) (units : List Unit) (serial : ℕ) (set : VrpSet) → r.link ≡ Answering a → r.out ≡ [] → a.session ≡ h.session → Stream r.held rest units → Leads (base_of a.question r.table) a units h.session serial set → stays → Phase rest r
     rests : r.link ≡ Idle → r.out ≡ [] → rest ≡ [] → stays → Phase rest r
-    again : is_serial (Some q) ≡ true → r.link ≡ Asked AskReset → r.out ≡ sent (query AskReset) → r.held ≡ [] → Mine h.session r.version → TableAt all r.version r.table → rest ≡ [] → stays → Phase rest r
+    again : is_serial (Some q) ≡ true → r.link ≡ Asked AskReset → r.out ≡ sent V1 (query AskReset) → r.held ≡ [] → Mine h.session r.version → TableAt all r.version r.table → rest ≡ [] → stays → Phase rest r
     ended : (end : End) → r.link ≡ Ended end → r.out ≡ [] → Why r → Phase rest r
 
   -- the reply begins
@@ -145,7 +145,7 @@ module _ (all : List Instance) (h : Seen) (q : Question) (lacking stays : Type 0
   commits_on : (rest : List ℕ) (k : Router) (a : Begun) (one number refresh retry expire : ℕ) → one ≡ a.session → k.out ≡ [] → rest ≡ [] → stays → Phase rest (on_unit (Answering a) (EndOfData one number refresh retry expire) k)
   unfolding on_unit
   commits_on rest k a one number refresh retry expire same none e o =
-      subst (λ b. Phase rest (if b then commit a (record { session = one; serial = number; moment = k.now; intervals = bounded refresh retry expire }) k else fails (EndOfData one number refresh retry expire) k)) (sym (equal_true one a.session same))
+      subst (λ b. Phase rest (if b then commit a (record { session = one; serial = number; moment = k.now; intervals = bounded refresh retry expire }) k else fails (EndOfData one number refresh retry expire) k)) (sym (eq_true one a.session same))
       (rests refl none e o)
 
   answered : (rest : List ℕ) (k : Router) (a : Begun) (u : Unit) (more : List Unit) (serial : ℕ) (set : VrpSet) → k.out ≡ [] → k.held ≡ [] → a.session ≡ h.session → Stream k.held rest more → Leads (base_of a.question k.table) a (u ∷ more) h.session serial set → stays → Phase rest (on_unit (Answering a) u k)
@@ -197,7 +197,7 @@ module _ (all : List Instance) (h : Seen) (q : Question) (lacking stays : Type 0
   -- All of the reply is read.
   pub data WasRead (rest : List ℕ) (r : Router) : Type 0 where
     is_idle : r.link ≡ Idle → r.out ≡ [] → rest ≡ [] → stays → WasRead rest r
-    asks_again : is_serial (Some q) ≡ true → r.link ≡ Asked AskReset → r.out ≡ sent (query AskReset) → r.held ≡ [] → Mine h.session r.version → TableAt all r.version r.table → rest ≡ [] → stays → WasRead rest r
+    asks_again : is_serial (Some q) ≡ true → r.link ≡ Asked AskReset → r.out ≡ sent V1 (query AskReset) → r.held ≡ [] → Mine h.session r.version → TableAt all r.version r.table → rest ≡ [] → stays → WasRead rest r
     has_ended : (end : End) → r.link ≡ Ended end → r.out ≡ [] → Why r → WasRead rest r
 
   was_read : (rest : List ℕ) (r : Router) → (0 < length rest → router_stops r ≡ true) → Phase rest r → WasRead rest r
@@ -234,7 +234,7 @@ module _ (all : List Instance) (h : Seen) (q : Question) (lacking stays : Type 0
   goes_byte : (b : ℕ) (rest : List ℕ) (m : Receiving) → router_stops m.router ≡ false → Goes (b ∷ rest) m → Goes rest (router_byte m b)
   unfolding router_byte
   goes_byte b rest m on g =
-      let parts = and_parts (is_reading m.router.link) (is_none m.router.out) (not_true (is_reading m.router.link && is_none m.router.out) on) in
+      let parts = and_parts (is_reading m.router.link) (is_none m.router.out) (true_of_not (is_reading m.router.link && is_none m.router.out) on) in
       (bytes_read rest m.router b (finds_memory m.wanting) (may_want m.wanting g.1) parts.0 g.0, counted_on (judge V1 (not m.router.agreed) (m.router.held ++ b ∷ [])) m.wanting g.1)
 
   pub reply_read : (now : ℕ) (wanting : Option ℕ) (bytes : List ℕ) (r : Router) → HasMemory wanting → Phase bytes (clocked now r) → WasRead (receives now wanting bytes r).rest (receives now wanting bytes r).machine.router

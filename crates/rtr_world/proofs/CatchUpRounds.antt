@@ -45,7 +45,7 @@ module _ (w : World) (p : Present (instances w) w.present) (h : Seen) where
       replies : Replies (instances w) h q (base_of q table) units
       fit : AllByRecursion IsUnit units
       memory : units ≡ report 1 [] ∷ [] → Lacking
-      few : length (sent_all units) ≤ 2 ^ 37
+      few : length (sent_all V1 units) ≤ 2 ^ 37
 
     -- It is still to be pulled,
     record Got (q : Question) (s : Side) : Type 0 where
@@ -55,7 +55,7 @@ module _ (w : World) (p : Present (instances w) w.present) (h : Seen) where
       conn : Conn
       conn_is : s.conn ≡ Some conn
       held : conn.held ≡ []
-      due : conn.state.due ≡ sent_all units
+      due : conn.state.due ≡ sent_all V1 units
       shown : Shows (conn.state.ended ≡ false) units
       up : s.up ≡ []
       down : s.down ≡ []
@@ -71,7 +71,7 @@ module _ (w : World) (p : Present (instances w) w.present) (h : Seen) where
       conn : (s.conn ≡ None) ⊎ Quiet w p h s.conn
       shown : Shows (Quiet w p h s.conn) units
       up : s.up ≡ []
-      down : s.down ≡ sent_all units
+      down : s.down ≡ sent_all V1 units
       link : s.router.link ≡ Asked q
       out : s.router.out ≡ []
       router_held : s.router.held ≡ []
@@ -85,12 +85,12 @@ module _ (w : World) (p : Present (instances w) w.present) (h : Seen) where
             replies = subst (λ x. Replies (instances w) h q (base_of q table) x) (sym e.0) a.replies;
             fit = subst (AllByRecursion IsUnit) (sym e.0) a.answered.fit;
             memory = λ one. absurd (no_wanting w.present w.keep q (sym e.0 ∙ one));
-            few = subst (λ x. length (sent_all x) ≤ 2 ^ 37) (sym e.0) (answer_bytes w.present w.keep q p.is.sets a.answered.fit);
+            few = subst (λ x. length (sent_all V1 x) ≤ 2 ^ 37) (sym e.0) (answer_bytes w.present w.keep q p.is.sets a.answered.fit);
           },
           by_answer (goes_or_other w.present w.keep q),
         )
       where
-        by_answer : ((answer w.present w.keep timing (query q)).goes_on ≡ true) ⊎ ((copy : List ℕ) × ((answer w.present w.keep timing (query q)).units ≡ report 0 copy ∷ [])) → Shows (ended ≡ false) units
+        by_answer : ((answer V1 w.present w.keep timing (query q)).goes_on ≡ true) ⊎ ((copy : List ℕ) × ((answer V1 w.present w.keep timing (query q)).units ≡ report 0 copy ∷ [])) → Shows (ended ≡ false) units
         by_answer (inl on) = inl (inl (e.1 ∙ ap not on))
         by_answer (inr other) = inr (other.0, e.0 ∙ other.1)
     is_reply q version table unit ended units k (inr e) = (
@@ -103,11 +103,11 @@ module _ (w : World) (p : Present (instances w) w.present) (h : Seen) where
       inl (inr (λ none other. e.1 none)),
     )
 
-    some_bytes : (q : Question) (table : VrpSet) (units : List Unit) → Reply q table units → sent_all units ≡ [] → ⊥
+    some_bytes : (q : Question) (table : VrpSet) (units : List Unit) → Reply q table units → sent_all V1 units ≡ [] → ⊥
     some_bytes q table [] r e = no_reply (instances w) h q Lacking ⊤ (base_of q table) r.replies
-    some_bytes q table (u ∷ units) r e = by_bytes (sent u) refl e
+    some_bytes q table (u ∷ units) r e = by_bytes (sent V1 u) refl e
       where
-        by_bytes : (bytes : List ℕ) → sent u ≡ bytes → bytes ++ sent_all units ≡ [] → ⊥
+        by_bytes : (bytes : List ℕ) → sent V1 u ≡ bytes → bytes ++ sent_all V1 units ≡ [] → ⊥
         by_bytes [] is e = some_sent V1 u is
         by_bytes (b ∷ bytes) is e = cc
 
@@ -155,7 +155,7 @@ module _ (w : World) (p : Present (instances w) w.present) (h : Seen) where
         few : length a.conn.state.due ≤ most
         few = subst (λ c. length (conn_due c) ≤ most) a.conn_is all
 
-        down : n.down ≡ sent_all a.units
+        down : n.down ≡ sent_all V1 a.units
         down = ap (λ x. x ++ take most a.conn.state.due) a.down ∙ take_all most a.conn.state.due few ∙ a.due
 
         none_due : o.state.due ≡ []
@@ -201,7 +201,7 @@ module _ (w : World) (p : Present (instances w) w.present) (h : Seen) where
         Stays : Type 0
         Stays = Quiet w p h s.conn ⊎ Lacking
 
-        bytes : take most s.down ≡ sent_all a.units
+        bytes : take most s.down ≡ sent_all V1 a.units
         bytes = take_all most s.down all ∙ a.down
 
         stream : Stream s.router.held (take most s.down) a.units

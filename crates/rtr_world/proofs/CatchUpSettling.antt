@@ -15,13 +15,7 @@ use Rattle.rtr_world.specs.World.{Side, close_ended, is_ended, noted, settle, se
 use Rattle.rtr_world.proofs.AnswersRead.{told_closes}
 use Rattle.rtr_world.proofs.Folding.{Blind, rest_keeps, wire_keeps}
 use Rattle.rtr_world.proofs.Rests.{GoesOn, stays}
-
-open_link : (l : Link) → is_reading l ≡ true → is_closed l ≡ false
-open_link Closed live = false_true live
-open_link (Ended end) live = false_true live
-open_link Idle live = refl
-open_link (Asked q) live = refl
-open_link (Answering a) live = refl
+use Rattle.rtr_ends.proofs.FetchStreamLaws.{open_link}
 
 going_link : (l : Link) → is_reading l ≡ true → is_ended l ≡ false
 going_link Closed live = false_true live
@@ -100,7 +94,7 @@ settle_none all s c e live =
     subst (λ (x : Side). x.router.link ≡ Closed) (sym (ap (after_conn all) (ap (settle_conn s) c) ∙ after_live all s live ∙ (λ i. settle_wire all s (c i) (e i))))
     (is_closed_link (tell_closed all s).router.link (told_closes all s))
 
-conn_router : (s : Side) (o : Option Conn) → (settle_conn s o).router ≡ s.router
+pub conn_router : (s : Side) (o : Option Conn) → (settle_conn s o).router ≡ s.router
 conn_router s None = refl
 conn_router s (Some o) = by_end o.state.ended o.state.due
   where

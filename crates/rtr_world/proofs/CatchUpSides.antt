@@ -15,7 +15,6 @@ use Rattle.rtr_ends.specs.Router.{Receiving, clocked, connects_at, expired, lack
 use Rattle.rtr_ends.specs.RouterLink.{Link, Closed, Idle, Asked, Answering, Ended, is_closed, is_reading}
 use Rattle.rtr_ends.specs.Transcript.{AskReset, AskSerial, Committed, is_over, is_serial, later, At}
 use Rattle.rtr_ends.proofs.FeedingLaws.{feed_keeps}
-use Rattle.rtr_ends.proofs.KeptLaws.{not_true}
 use Rattle.rtr_ends.proofs.TableLaws.{false_true}
 use Rattle.rtr_world.specs.CatchUp.{IsMove}
 use Rattle.rtr_world.specs.History.{conn_due}
@@ -29,6 +28,7 @@ use Rattle.rtr_world.proofs.LinkedSides.{Seen, IsSeen}
 use Rattle.rtr_world.proofs.SideSteps.{byte_good, clocked_good, live_of}
 use Rattle.rtr_world.proofs.UnitStreams.{ByteCase, partly, wholly, byte_case}
 use Rattle.rtr_world.proofs.Versions.{Present, TableAt}
+use Rattle.prefixes.proofs.Basics.{true_of_not}
 
 -- A link that lives was made at this instance; an idle one holds its newest version.
 abbrev pub FreshLink : Instance → Option Instance → Router → Type 0
@@ -127,7 +127,7 @@ module _ (all : List Instance) (i : Instance) (p : Present all i) (keep : ℕ) (
   stays_byte : (tail : List ℕ) (b : ℕ) (rest : List ℕ) (m : Receiving) → router_stops m.router ≡ false → Stays (b ∷ rest ++ tail) m → Stays (rest ++ tail) (router_byte m b)
   unfolding router_byte
   stays_byte tail b rest m on s =
-      let parts = and_parts (is_reading m.router.link) (is_none m.router.out) (not_true (is_reading m.router.link && is_none m.router.out) on) in
+      let parts = and_parts (is_reading m.router.link) (is_none m.router.out) (true_of_not (is_reading m.router.link && is_none m.router.out) on) in
       let l = live_of m.router.link all i seen m.router conn up (b ∷ rest ++ tail) s.0.link parts.0 in (
         byte_good all i seen conn up (rest ++ tail) m b on s.0,
         (

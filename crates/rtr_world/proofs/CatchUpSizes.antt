@@ -16,12 +16,12 @@ use Rattle.rtr_ends.specs.Answer.{and_end, and_on, announcements, answer, report
 use Rattle.rtr_ends.specs.Transcript.{AskReset, AskSerial, Question, query}
 use Rattle.rtr_world.specs.World.{timing}
 
-bytes_of : (units : List Unit) → AllByRecursion IsUnit units → length (sent_all units) ≤ length units * 4096
+bytes_of : (units : List Unit) → AllByRecursion IsUnit units → length (sent_all V1 units) ≤ length units * 4096
 bytes_of [] fit = omega arith
 bytes_of (u ∷ units) fit =
     let rest = bytes_of units fit.1 in
     let first = sent_most V1 u fit.0 in
-    let both = length-append (sent u) (sent_all units) in
+    let both = length-append (sent V1 u) (sent_all V1 units) in
     omega (arith, rest, first, both)
 
 records_few : (announce : Bool) (s : VrpSet) → IsVrpSet s → length (map (λ v. Prefix announce v) (listing s)) ≤ 16777215
@@ -31,12 +31,12 @@ records_few announce s is =
     let few = is.within_limit in
     omega (arith, same, size, few)
 
-response_few : (session : ℕ) (now : NumberedSet) (records : List Unit) → length records ≤ 33554430 → length (response session timing now records) ≤ 33554432
+response_few : (session : ℕ) (now : NumberedSet) (records : List Unit) → length records ≤ 33554430 → length (response V1 session timing now records) ≤ 33554432
 response_few session now records few =
     let all = length-append records (EndOfData session now.serial timing.refresh timing.retry timing.expire ∷ []) in
     omega (arith, all, few)
 
-whole_few : (session start : ℕ) (sets : List VrpSet) → AllByRecursion IsVrpSet sets → length (whole_answer session timing (versions_from start sets)) ≤ 33554432
+whole_few : (session start : ℕ) (sets : List VrpSet) → AllByRecursion IsVrpSet sets → length (whole_answer V1 session timing (versions_from start sets)) ≤ 33554432
 whole_few session start [] is = omega arith
 whole_few session start (x ∷ older) is =
     let few = records_few true x is.0 in
@@ -46,7 +46,7 @@ abbrev IsFound : Option NumberedSet → Type 0
 IsFound None = ⊤
 IsFound (Some v) = IsVrpSet v.set
 
-step_few : (session : ℕ) (now : NumberedSet) (o : Option NumberedSet) → IsVrpSet now.set → IsFound o → length (step_answer session timing now o) ≤ 33554432
+step_few : (session : ℕ) (now : NumberedSet) (o : Option NumberedSet) → IsVrpSet now.set → IsFound o → length (step_answer V1 session timing now o) ≤ 33554432
 step_few session now None is found = omega arith
 step_few session now (Some before) is found =
     let gone = records_few false (without before.set now.set) (part_is_set before.set now.set found) in
@@ -64,27 +64,27 @@ found_is serial start (suc kept) (x ∷ older) is = by_serial (serial_at start (
     by_serial true later = is.0
     by_serial false later = later
 
-serial_few : (session start keep serial : ℕ) (sets : List VrpSet) → AllByRecursion IsVrpSet sets → length (serial_answer session keep timing serial (versions_from start sets)) ≤ 33554432
+serial_few : (session start keep serial : ℕ) (sets : List VrpSet) → AllByRecursion IsVrpSet sets → length (serial_answer V1 session keep timing serial (versions_from start sets)) ≤ 33554432
 serial_few session start keep serial [] is = omega arith
 serial_few session start keep serial (x ∷ older) is =
     step_few session (record { serial = serial_at start (length older); set = x }) (with_serial serial (take (suc keep) (versions_from start (x ∷ older)))) is.0 (found_is serial start (suc keep) (x ∷ older) is)
 
-answer_few : (i : Instance) (keep : ℕ) (q : Question) → AllByRecursion IsVrpSet i.sets → length (answer i keep timing (query q)).units ≤ 33554432
+answer_few : (i : Instance) (keep : ℕ) (q : Question) → AllByRecursion IsVrpSet i.sets → length (answer V1 i keep timing (query q)).units ≤ 33554432
 answer_few i keep AskReset is = whole_few i.session i.start i.sets is
 answer_few i keep (AskSerial session serial) is = by_session (session == i.session)
   where
-    by_session : (b : Bool) → length (if b then and_on (serial_answer i.session keep timing serial (versions_from i.start i.sets)) else and_end (report 0 (sent (SerialQuery session serial)) ∷ [])).units ≤ 33554432
+    by_session : (b : Bool) → length (if b then and_on (serial_answer V1 i.session keep timing serial (versions_from i.start i.sets)) else and_end (report 0 (sent V1 (SerialQuery session serial)) ∷ [])).units ≤ 33554432
     by_session true = serial_few i.session i.start keep serial i.sets is
     by_session false = omega arith
 
 -- at most 2^25 units of at most 2^12 bytes
-pub answer_bytes : (i : Instance) (keep : ℕ) (q : Question) → AllByRecursion IsVrpSet i.sets → AllByRecursion IsUnit (answer i keep timing (query q)).units → length (sent_all (answer i keep timing (query q)).units) ≤ 2 ^ 37
+pub answer_bytes : (i : Instance) (keep : ℕ) (q : Question) → AllByRecursion IsVrpSet i.sets → AllByRecursion IsUnit (answer V1 i keep timing (query q)).units → length (sent_all V1 (answer V1 i keep timing (query q)).units) ≤ 2 ^ 37
 answer_bytes i keep q is fit =
     let few = answer_few i keep q is in
-    let bytes = bytes_of (answer i keep timing (query q)).units fit in
+    let bytes = bytes_of (answer V1 i keep timing (query q)).units fit in
     omega (arith, few, bytes)
 
-pub one_unit : (units : List Unit) (u : Unit) → units ≡ u ∷ [] → AllByRecursion IsUnit units → length (sent_all units) ≤ 2 ^ 37
+pub one_unit : (units : List Unit) (u : Unit) → units ≡ u ∷ [] → AllByRecursion IsUnit units → length (sent_all V1 units) ≤ 2 ^ 37
 one_unit units u e fit =
     let one = ap length e in
     let bytes = bytes_of units fit in

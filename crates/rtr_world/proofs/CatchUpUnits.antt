@@ -8,6 +8,7 @@ use Rattle.vrps.specs.Serial.{serial_at}
 use Rattle.vrps.specs.VrpSet.{VrpSet}
 use Rattle.rtr_pdu.specs.declared.unit.Unit.{Unit}
 use Rattle.rtr_pdu.specs.declared.unit.Unit.TheVariants.{SerialNotify, CacheResponse, Prefix, EndOfData, CacheReset, ErrorReport}
+use Rattle.rtr_pdu.specs.declared.version.Version.TheVariants.{V1}
 use Rattle.rtr_ends.specs.Answer.{report, whole_answer}
 use Rattle.rtr_ends.specs.LinkRules.{Router, Staged, Stays, Wrong, Over, ask, fails, is_strange, is_news, stage, staged, commit, on_unit}
 use Rattle.rtr_ends.specs.RouterLink.{Link, Closed, Idle, Asked, Answering, Ended, is_reading}
@@ -42,9 +43,9 @@ lasts expire now = none (now - now) (within 600 172800 expire) (omega arith)
     none past limit h = grind (arith, nat_tests, h)
 
 -- No Data Available is answered where nothing is published.
-no_versions : (session start : ℕ) (sets : List VrpSet) (copy : List ℕ) → report 2 copy ∷ [] ≡ whole_answer session timing (versions_from start sets) → sets ≡ []
+no_versions : (session start : ℕ) (sets : List VrpSet) (copy : List ℕ) → report 2 copy ∷ [] ≡ whole_answer V1 session timing (versions_from start sets) → sets ≡ []
 no_versions session start [] copy e = refl
-no_versions session start (x ∷ older) copy e = absurd (let k : report 2 copy ∷ [] ≡ whole_answer session timing (versions_from start (x ∷ older)) = e in cc)
+no_versions session start (x ∷ older) copy e = absurd (let k : report 2 copy ∷ [] ≡ whole_answer V1 session timing (versions_from start (x ∷ older)) = e in cc)
 
 -- on an idle link the newest version is held, and it is not over
 abbrev pub Current : Instance → Link → Option Committed → VrpSet → ℕ → Type 0

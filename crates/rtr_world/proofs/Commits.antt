@@ -16,7 +16,7 @@ use Rattle.rtr_ends.specs.RouterLink.{Link, Closed, Idle, Asked, Answering, Ende
 use Rattle.rtr_ends.specs.Transcript.{Committed, Item, Reads, kept, is_commit}
 use Rattle.rtr_ends.proofs.FeedingLaws.{feed_keeps}
 use Rattle.rtr_ends.proofs.KeptUnits.{Tells, live_unit}
-use Rattle.rtr_ends.proofs.KeptLaws.{byte_tells, none_is, not_true}
+use Rattle.rtr_ends.proofs.KeptLaws.{byte_tells, none_is}
 use Rattle.rtr_world.specs.History.{conn_due}
 use Rattle.rtr_world.specs.OneAnswer.{NotifiesOf, without_notifies}
 use Rattle.rtr_world.specs.VersionPlaces.{VersionPlace, version_place_of}
@@ -27,8 +27,9 @@ use Rattle.rtr_world.proofs.UnitsAtRouters.{right_response}
 use Rattle.rtr_world.proofs.SideSteps.{live_of, byte_good}
 use Rattle.rtr_world.proofs.UnitStreams.{ByteCase, partly, wholly, byte_case}
 use Rattle.rtr_world.proofs.UnitCases.{Brings, goes_on, ends_other, ends_memory, commits, unit_brings, is_end}
-use Rattle.rtr_world.proofs.Versions.{Stands, find_session, same_instance, same_number, some_is}
+use Rattle.rtr_world.proofs.Versions.{Stands, find_session, same_instance, some_is}
 use Rattle.rtr_world.proofs.LinkedSides.{Seen, IsSeen}
+use Rattle.prefixes.proofs.Basics.{eq_self, true_of_not}
 
 -- the places of items that come after others
 places-append : (all : List Instance) (xs ys before : List Item) → places_of all (xs ++ ys) before ≡ places_of all xs (ys ++ before) ++ places_of all ys before
@@ -105,7 +106,7 @@ module _ (keep : ℕ) (past : List Instance) (i : Instance) (home : Option Insta
       → IfOpen o (Open i h out up wanted lost) → IfOpen o (Open i (record h { sets = set ∷ a.older }) out up wanted lost)
   raised_open h out wanted lost None session serial set a own op = tt
   raised_open h out wanted lost (Some o) session serial set a own op =
-      let here : find_session i.session (i ∷ past) ≡ Some i = ap (λ b. if b then Some i else find_session i.session past) (same_number i.session) in
+      let here : find_session i.session (i ∷ past) ≡ Some i = ap (λ b. if b then Some i else find_session i.session past) (eq_self i.session) in
       let same : a.i ≡ i = same_instance a.i i (find_session session (i ∷ past)) a.found (subst (λ s. find_session s (i ∷ past) ≡ Some i) (sym (own ∙ op.session)) here) in
       let k = young_enough i a.newer set a.older (ap (λ x. x.sets) (sym same) ∙ a.sets) in
       record { upward = op.upward; whole = op.whole; session = op.session; made = omega (arith, k); later = op.later }
@@ -182,7 +183,7 @@ module _ (keep : ℕ) (past : List Instance) (i : Instance) (home : Option Insta
   goes_byte : (items : List Item) (places : List (Option VersionPlace)) (tail : List ℕ) (b : ℕ) (rest : List ℕ) (m : Receiving) → router_stops m.router ≡ false → Goes items places (b ∷ rest ++ tail) m → Goes items places (rest ++ tail) (router_byte m b)
   unfolding router_byte
   goes_byte items places tail b rest m on g =
-      let parts = and_parts (is_reading m.router.link) (is_none m.router.out) (not_true (is_reading m.router.link && is_none m.router.out) on) in
+      let parts = and_parts (is_reading m.router.link) (is_none m.router.out) (true_of_not (is_reading m.router.link && is_none m.router.out) on) in
       let l = live_of m.router.link (i ∷ past) i g.seen m.router conn up (b ∷ rest ++ tail) g.good.link parts.0 in
       let n : Noted = with_bytes (finds_memory m.wanting) (m.router.held ++ b ∷ []) m.router (judge V1 (not m.router.agreed) (m.router.held ++ b ∷ [])) in
       adds_goes items places (rest ++ tail) m n (router_byte m b).wanting g.seen l.0 l.1

@@ -21,7 +21,7 @@ use Rattle.rtr_world.specs.SideShown.{BeginsEvent, ConnIs, Has, IsSince, MadeAt,
 use Rattle.rtr_world.specs.World.{World, Side, Connect, connects, cut, instances, side_step}
 use Rattle.rtr_world.specs.declared.side.Side as values
 use Rattle.rtr_world.proofs.Moving.{and_then, clocked_same, none_conn, none_some, put, put_here, put_there}
-use Rattle.rtr_world.proofs.Versions.{equal_of, same_number}
+use Rattle.prefixes.proofs.Basics.{eq_self, eq_of}
 
 -- the serial that was current
 pub current_none : (start : ℕ) (sets : List VrpSet) (serial : ℕ) → start ≡ serial → serial < 2 ^ 32 → None ≡ newest (versions_from start sets) → serial ≡ serial_at start (length sets - 1)
@@ -44,10 +44,10 @@ since_now i serial is = record {
 }
 
 made_now : (w : World) (serial : Serial) → serial.0 ≡ serial_at w.present.start (length w.present.sets - 1) → MadeAt w.present (Some w.present) (Some serial)
-made_now w serial is = subst (λ b. MadeWhere b w.present w.present (Some serial)) (sym (same_number w.present.session)) (since_now w.present serial is)
+made_now w serial is = subst (λ b. MadeWhere b w.present w.present (Some serial)) (sym (eq_self w.present.session)) (since_now w.present serial is)
 
 used_now : (w : World) → is_used (instances w) w.present.session ≡ true
-used_now w = ap (λ b. is_some (if b then Some w.present else find (λ i. i.session == w.present.session) w.past)) (same_number w.present.session)
+used_now w = ap (λ b. is_some (if b then Some w.present else find (λ i. i.session == w.present.session) w.past)) (eq_self w.present.session)
 
 no_number : (c : Option Number) (n : ℕ) → c ≡ None → Has c n → ⊥
 no_number None n e h = h
@@ -105,8 +105,8 @@ module _ (w : World) (at : ℕ → Option Conn) (s : Side) (between later : Cach
           others = λ n some other. put_there conn.0 (Some (new_conn w.present)) m.now n (λ e. none_some (m.now n) (ap m.now e ∙ opens_so.0.free) some);
           own = λ n has. inr (ap m.now (sym (subst (λ c. Has c n) conn_is has)) ∙ opens_so.0.free);
           only = λ n some. elim (cases_Bool (conn.0 == n)) [
-            | inl here ↦ inl (subst (λ c. Has c n) (sym conn_is) (equal_of conn.0 n here))
-            | inr there ↦ inr (no_number mid.conn n (none_conn m.now mid.conn m.shows.side.conn), put_there conn.0 (Some (new_conn w.present)) m.now n (λ e. let k : false ≡ true = sym there ∙ ap (λ x. conn.0 == x) e ∙ same_number conn.0 in cc))
+            | inl here ↦ inl (subst (λ c. Has c n) (sym conn_is) (eq_of conn.0 n here))
+            | inr there ↦ inr (no_number mid.conn n (none_conn m.now mid.conn m.shows.side.conn), put_there conn.0 (Some (new_conn w.present)) m.now n (λ e. let k : false ≡ true = sym there ∙ ap (λ x. conn.0 == x) e ∙ eq_self conn.0 in cc))
           ];
         });
       }

@@ -18,7 +18,7 @@ use Rattle.rtr_ends.specs.RouterLink.{Link, Closed, Idle, Asked, Answering, Ende
 use Rattle.rtr_ends.specs.Transcript.{Question, AskReset, AskSerial, Item, At, Reads, outstanding, question_of, is_serial, is_over, later, sum_of, retry_of}
 use Rattle.rtr_ends.proofs.FeedingLaws.{feed_keeps}
 use Rattle.rtr_ends.proofs.KeptUnits.{Tells}
-use Rattle.rtr_ends.proofs.KeptLaws.{byte_tells, clocked_tells, not_true}
+use Rattle.rtr_ends.proofs.KeptLaws.{byte_tells, clocked_tells}
 use Rattle.rtr_ends.proofs.TableLaws.{false_true}
 use Rattle.rtr_world.specs.Claims.{IsLawfulEnd, OfAnother}
 use Rattle.rtr_world.specs.History.{conn_due}
@@ -32,6 +32,7 @@ use Rattle.rtr_world.proofs.UnitStreams.{ByteCase, partly, wholly, byte_case}
 use Rattle.rtr_world.proofs.KeptTables.{SideTells}
 use Rattle.rtr_world.proofs.UnitCases.{Brings, goes_on, ends_other, ends_memory, commits, unit_brings}
 use Rattle.rtr_world.proofs.LinkedSides.{Seen, IsSeen}
+use Rattle.prefixes.proofs.Basics.{true_of_not}
 
 -- a link that ended did so lawfully, at the last item
 abbrev pub LawfulLink : Link → List Item → Option Instance → Type 0
@@ -113,7 +114,7 @@ module _ (all : List Instance) (i : Instance) (keep : ℕ) (home : Option Instan
   byte_lawful : (items : List Item) (b : ℕ) (down : List ℕ) (m : Receiving) → router_stops m.router ≡ false → Goes items (b ∷ down) m → LawfulLink (router_byte m b).router.link ((router_byte m b).items ++ items) home
   unfolding router_byte
   byte_lawful items b down m on g =
-      let parts = and_parts (is_reading m.router.link) (is_none m.router.out) (not_true (is_reading m.router.link && is_none m.router.out) on) in
+      let parts = and_parts (is_reading m.router.link) (is_none m.router.out) (true_of_not (is_reading m.router.link && is_none m.router.out) on) in
       let l = live_of m.router.link all i seen m.router conn up (b ∷ down) g.good.link parts.0 in
       let n : Noted = with_bytes (finds_memory m.wanting) (m.router.held ++ b ∷ []) m.router (judge V1 (not m.router.agreed) (m.router.held ++ b ∷ [])) in
       subst (λ x. LawfulLink n.router.link x home) (sym (append_assoc n.items m.items items))

@@ -11,6 +11,7 @@ use Rattle.rtr_pdu.specs.Judging.{judge}
 use Rattle.rtr_pdu.specs.Stream.{as_read}
 use Rattle.rtr_pdu.specs.declared.unit.Unit.TheVariants.{SerialNotify, SerialQuery}
 use Rattle.rtr_ends.specs.declared.link.End.TheVariants as ends
+use Rattle.rtr_pdu.specs.declared.version.Version.TheVariants.{V1}
 use Rattle.rtr_ends.specs.Answer.{report, sent, sent_all}
 use Rattle.rtr_ends.specs.Cache.{Conn, new_conn, conn_takes, conn_byte, conn_pulled, conn_notified}
 use Rattle.rtr_ends.specs.LinkRules.{Router, new_router, on_unit}
@@ -53,7 +54,7 @@ first_sends = refl
 
 -- a notify is queued, and none while one is due
 abbrev notified : Conn
-notified = record { state = record { cache = with_v; agreed = false; ended = false; due = sent (SerialNotify 0x1234 5); notified = true }; held = [] }
+notified = record { state = record { cache = with_v; agreed = false; ended = false; due = sent V1 (SerialNotify 0x1234 5); notified = true }; held = [] }
 
 notifies : after (On 0 NotifyRouter) (Done None) (world (open_side asking (new_conn with_v) [] [] opened ∷ [])) ≡ world (open_side asking notified [] [] opened ∷ [])
 unfolding goes_through settled settle side_step conn_notified
@@ -71,7 +72,7 @@ abbrev idle : Router
 idle = record new_router { table = just_v; version = Some version_5; due = Some 3600; link = Idle; agreed = true; session = Some 0x1234 }
 
 abbrev asked_again : Router
-asked_again = record idle { link = Asked (AskSerial 0x1234 5); out = sent (SerialQuery 0x1234 5) }
+asked_again = record idle { link = Asked (AskSerial 0x1234 5); out = sent V1 (SerialQuery 0x1234 5) }
 
 asks_again : after (On 0 Ask) (Done None) (world (open_side idle (new_conn with_v) [] [] [] ∷ [])) ≡ world (open_side asked_again (new_conn with_v) [] [] (Asks (AskSerial 0x1234 5) ∷ []) ∷ [])
 unfolding goes_through settled settle side_step asks
@@ -112,7 +113,7 @@ abbrev other : Router
 other = record idle { version = Some (record version_5 { session = 0x2222 }); session = None; agreed = false; link = Asked (AskSerial 0x2222 5) }
 
 abbrev corrupt : List ℕ
-corrupt = sent (report 0 (sent (SerialQuery 0x2222 5)))
+corrupt = sent V1 (report 0 (sent V1 (SerialQuery 0x2222 5)))
 
 -- A cache connection that ended is closed at the cache when its last byte is pulled,
 last_byte : after (On 0 (CacheSends 99)) (Done None) (world (open_side other (ended_conn corrupt) [] [] (Asks (AskSerial 0x2222 5) ∷ []) ∷ []))
@@ -121,7 +122,7 @@ unfolding goes_through settled settle side_step cache_sends conn_pulled
 last_byte = refl
 
 is_corrupt : after (On 0 (RouterGets 99)) (Done None) (world (record (open_side other (new_conn with_v) [] corrupt (Asks (AskSerial 0x2222 5) ∷ [])) { conn = None } ∷ []))
-    ≡ world (record (closed_side (record new_router { due = Some 600 }) (Shut ∷ At 0 ∷ Reads (report 0 (sent (SerialQuery 0x2222 5))) ∷ At 0 ∷ Asks (AskSerial 0x2222 5) ∷ [])) {
+    ≡ world (record (closed_side (record new_router { due = Some 600 }) (Shut ∷ At 0 ∷ Reads (report 0 (sent V1 (SerialQuery 0x2222 5))) ∷ At 0 ∷ Asks (AskSerial 0x2222 5) ∷ [])) {
       endings = record { end = ends.Told 0; question = Some (AskSerial 0x2222 5); home = Some with_v } ∷ [];
     } ∷ [])
 unfolding goes_through settled settle side_step router_gets receives clocked router_byte on_unit judge as_read closed_at is_utf8 chars
@@ -227,13 +228,13 @@ later_world o up = record { keep = 2; past = []; present = now_v; sides = record
 abbrev told_now : Bool → List ℕ → Bool → Conn
 told_now agreed due is_notice = record { state = record { cache = now_v; agreed = agreed; ended = false; due = due; notified = is_notice }; held = [] }
 
-notifies_of_now : after (On 0 NotifyRouter) (Done None) (later_world (new_conn at_first) []) ≡ later_world (told_now false (sent (SerialNotify 0x1234 6)) true) []
+notifies_of_now : after (On 0 NotifyRouter) (Done None) (later_world (new_conn at_first) []) ≡ later_world (told_now false (sent V1 (SerialNotify 0x1234 6)) true) []
 unfolding goes_through settled settle side_step conn_notified
 notifies_of_now = refl
 
 answers_as_now : after (On 0 (CacheGets 8)) (Done None) (later_world (new_conn at_first) reset_bytes) ≡ later_world (told_now true (response_bytes ++ v_bytes ++ end_bytes 6) false) []
 unfolding goes_through settled settle side_step cache_gets conn_takes conn_byte judge as_read
-answers_as_now = ap (λ vs. later_world (told_now true (sent_all (with_all_of 6 just_v vs)) false) []) (listing-set_of (v ∷ []) v_ascends)
+answers_as_now = ap (λ vs. later_world (told_now true (sent_all V1 (with_all_of 6 just_v vs)) false) []) (listing-set_of (v ∷ []) v_ascends)
 
 -- Too many versions are counted from the one that a router committed under this session, and from the one that was current when its
 -- connection was made, or the first; an instance that ended does not count, nor is a set refused that is current already.

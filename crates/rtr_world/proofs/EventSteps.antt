@@ -4,6 +4,7 @@ use Rattle.std.proofs.Common.{sym, ap, ◌∙◌, subst, arith, append_assoc, in
 use Rattle.std.proofs.lemmas.List.{append-nil, take-append-drop, take_min}
 use Rattle.vrps.specs.Instance.{Instance}
 use Rattle.rtr_pdu.specs.declared.unit.Unit.{Unit}
+use Rattle.rtr_pdu.specs.declared.version.Version.TheVariants.{V1}
 use Rattle.rtr_ends.specs.Answer.{sent}
 use Rattle.rtr_ends.specs.Cache.{Conn, conn_pulled, conn_takes, pulled_count}
 use Rattle.rtr_ends.specs.LinkRules.{Router}
@@ -202,7 +203,7 @@ module _ (w : World) (p : Present (instances w) w.present) where
               downward = record { whole = append-nil (close (clocked s.router.now s.router)).held ∙ shut.held; partial = inl shut.held; fit = tt };
               open_at = record {
                 upward = record {
-                  whole = sym (append-nil (sent (query (choose (close (clocked s.router.now s.router)).version (close (clocked s.router.now s.router)).mark))));
+                  whole = sym (append-nil (sent V1 (query (choose (close (clocked s.router.now s.router)).version (close (clocked s.router.now s.router)).mark))));
                   partial = inl refl;
                   fit = (query_unit (instances w) w.present.session (choose (close (clocked s.router.now s.router)).version (close (clocked s.router.now s.router)).mark) (close (clocked s.router.now s.router)).version (close (clocked s.router.now s.router)).table fits shut.table, tt);
                 };

@@ -5,6 +5,7 @@ use Rattle.vrps.specs.Instance.{Instance}
 use Rattle.vrps.specs.VrpSet.{VrpSet}
 use Rattle.rtr_pdu.specs.declared.unit.Unit.{Unit}
 use Rattle.rtr_pdu.specs.declared.unit.Unit.TheVariants.{CacheResponse, Prefix, EndOfData, CacheReset}
+use Rattle.rtr_pdu.specs.declared.version.Version.TheVariants.{V1}
 use Rattle.rtr_ends.specs.Answer.{answer, report}
 use Rattle.rtr_ends.specs.Cache.{Conn}
 use Rattle.rtr_ends.specs.Commit.{Commits}
@@ -85,7 +86,7 @@ pub record WasCache (all : List Instance) (home : Seen) (cache : Instance) : Typ
 pub record FromCache (all : List Instance) (home : Seen) (q : Question) (units : List Unit) : Type 0 where
   pub cache : Instance
   pub was : WasCache all home cache
-  pub are : units ≡ (answer cache home.keep timing (query q)).units
+  pub are : units ≡ (answer V1 cache home.keep timing (query q)).units
 
 -- Its answer then takes memory.
 pub record Lacked (all : List Instance) (home : Seen) (q : Question) : Type 0 where

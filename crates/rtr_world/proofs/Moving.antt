@@ -19,7 +19,8 @@ use Rattle.rtr_ends.specs.declared.router.Router as routers
 use Rattle.rtr_world.specs.SideShown.{AloneAt, ConnIs, Has, IsNewSide, Moves, ShowsBoth, ShowsSide, state_of}
 use Rattle.rtr_world.specs.World.{World, Side, close_ended, cut, instances, is_ended, noted, notifies_at, router_restarts, settle_conn, settle_link, settle_rest, settle_wire, tell_closed, timing}
 use Rattle.rtr_world.specs.declared.side.Side as values
-use Rattle.rtr_world.proofs.Versions.{equal_of, same_number, some_is}
+use Rattle.rtr_world.proofs.Versions.{some_is}
+use Rattle.prefixes.proofs.Basics.{eq_self, eq_of, true_of_not, false_of_not}
 
 not_equal : (a b : ℕ) → ¬ (a ≡ b) → (a == b) ≡ false
 not_equal a b h = grind (arith, nat_tests)
@@ -33,7 +34,7 @@ abbrev pub put : ℕ → Option Conn → (ℕ → Option Conn) → ℕ → Optio
 put c o at d = if d == c then o else at d
 
 pub put_here : (c : ℕ) (o : Option Conn) (at : ℕ → Option Conn) → put c o at c ≡ o
-put_here c o at = ap (λ b. if b then o else at c) (same_number c)
+put_here c o at = ap (λ b. if b then o else at c) (eq_self c)
 
 pub put_there : (c : ℕ) (o : Option Conn) (at : ℕ → Option Conn) (d : ℕ) → ¬ (d ≡ c) → put c o at d ≡ at d
 put_there c o at d h = ap (λ b. if b then o else at d) (not_equal d c h)
@@ -42,8 +43,8 @@ put_there c o at d h = ap (λ b. if b then o else at d) (not_equal d c h)
 has_or_not : (c : Option Number) (n : ℕ) → Has c n ⊎ (Has c n → ⊥)
 has_or_not None n = inr (λ h. h)
 has_or_not (Some number) n = elim (cases_Bool (number.0 == n)) [
-  | inl same ↦ inl (equal_of number.0 n same)
-  | inr other ↦ inr (λ e. let k : false ≡ true = sym other ∙ ap (λ x. x == n) e ∙ same_number n in cc)
+  | inl same ↦ inl (eq_of number.0 n same)
+  | inr other ↦ inr (λ e. let k : false ≡ true = sym other ∙ ap (λ x. x == n) e ∙ eq_self n in cc)
 ]
 
 -- the cache is left alone
@@ -65,13 +66,13 @@ at_number w at t cache number o new h same keeps = record {
   others = λ n some other. put_there number.0 o at n (λ e. other (sym e));
   own = λ n has. inl (same n has);
   only = λ n some. elim (cases_Bool (number.0 == n)) [
-    | inl here ↦ (let e : number.0 ≡ n = equal_of number.0 n here in inl (subst (Has new.conn) e (keeps (subst IsSome (ap (put number.0 o at) (sym e) ∙ put_here number.0 o at) some))))
+    | inl here ↦ (let e : number.0 ≡ n = eq_of number.0 n here in inl (subst (Has new.conn) e (keeps (subst IsSome (ap (put number.0 o at) (sym e) ∙ put_here number.0 o at) some))))
     | inr there ↦ inr (other n there, put_there number.0 o at n (λ e. other n there (sym e)))
   ];
 }
   where
     other : (n : ℕ) → (number.0 == n) ≡ false → number.0 ≡ n → ⊥
-    other n there e = let k : false ≡ true = sym there ∙ ap (λ x. x == n) e ∙ same_number n in cc
+    other n there e = let k : false ≡ true = sym there ∙ ap (λ x. x == n) e ∙ eq_self n in cc
 
 -- one after the other
 pub and_then : (w : World) (at : ℕ → Option Conn) (old : Option Number) (s t : Side) (between later : Cache Steps) (v n : values.Side) (m : Moves w at old s between v) → Moves w m.now v.conn t later n → Moves w at old t later n
@@ -100,8 +101,8 @@ and_then w at old s t between later v n m k = record {
         by_old : (o : Option Number) → old ≡ o → Has old c ⊎ (at c ≡ None)
         by_old None e = absurd (differs (λ has. subst (λ x. Has x c) e has))
         by_old (Some number) e = elim (cases_Bool (number.0 == c)) [
-          | inl same ↦ inl (subst (λ x. Has x c) (sym e) (equal_of number.0 c same))
-          | inr other ↦ absurd (differs (λ has. let h : number.0 ≡ c = subst (λ x. Has x c) e has in let k : false ≡ true = sym other ∙ ap (λ x. x == c) h ∙ same_number c in cc))
+          | inl same ↦ inl (subst (λ x. Has x c) (sym e) (eq_of number.0 c same))
+          | inr other ↦ absurd (differs (λ has. let h : number.0 ≡ c = subst (λ x. Has x c) e has in let k : false ≡ true = sym other ∙ ap (λ x. x == c) h ∙ eq_self c in cc))
         ]
 
     before : (c : ℕ) → (Has v.conn c → ⊥) × (k.now c ≡ m.now c) → IsSome (m.now c) → Has n.conn c ⊎ ((Has old c → ⊥) × (k.now c ≡ at c))
@@ -257,26 +258,17 @@ conn_goes_on s (Some o) x e h = by_due o.state.ended o.state.due (both h)
     by_due true (b ∷ due) h = refl
     by_due false due h = refl
 
--- what a connection says of itself
-not_false : (b : Bool) → not b ≡ false → b ≡ true
-not_false true h = refl
-not_false false h = absurd (let k : true ≡ false = h in cc)
-
-not_true : (b : Bool) → not b ≡ true → b ≡ false
-not_true true h = absurd (let k : false ≡ true = h in cc)
-not_true false h = refl
-
 pub ended_at : (o : Option Conn) (x : Conn) → o ≡ Some x → is_open_at o ≡ false → x.state.ended ≡ true
-ended_at o x is h = not_false x.state.ended (sym (ap is_open_at is) ∙ h)
+ended_at o x is h = true_of_not x.state.ended (sym (ap is_open_at is) ∙ h)
 
 pub open_at : (o : Option Conn) (x : Conn) → o ≡ Some x → is_open_at o ≡ true → x.state.ended ≡ false
-open_at o x is h = not_true x.state.ended (sym (ap is_open_at is) ∙ h)
+open_at o x is h = false_of_not x.state.ended (sym (ap is_open_at is) ∙ h)
 
 pub none_due : (o : Option Conn) (x : Conn) → o ≡ Some x → has_bytes_at o ≡ false → is_none x.state.due ≡ true
-none_due o x is h = not_false (is_none x.state.due) (sym (ap has_bytes_at is) ∙ h)
+none_due o x is h = true_of_not (is_none x.state.due) (sym (ap has_bytes_at is) ∙ h)
 
 pub some_due : (o : Option Conn) (x : Conn) → o ≡ Some x → has_bytes_at o ≡ true → is_none x.state.due ≡ false
-some_due o x is h = not_true (is_none x.state.due) (sym (ap has_bytes_at is) ∙ h)
+some_due o x is h = false_of_not (is_none x.state.due) (sym (ap has_bytes_at is) ∙ h)
 
 pub is_no_conn : (n : Option Number) (b : Bool) → is_some n ≡ not b → b ≡ true → n ≡ None
 is_no_conn None b h e = refl

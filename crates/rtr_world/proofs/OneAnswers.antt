@@ -5,6 +5,7 @@ use Rattle.std.specs.List.{AllByRecursion}
 use Rattle.vrps.specs.Instance.{Instance}
 use Rattle.vrps.specs.VrpSet.{VrpSet}
 use Rattle.rtr_pdu.specs.declared.unit.Unit.{Unit}
+use Rattle.rtr_pdu.specs.declared.version.Version.TheVariants.{V1}
 use Rattle.rtr_ends.specs.Answer.{answer}
 use Rattle.rtr_ends.specs.Cache.{Conn}
 use Rattle.rtr_ends.specs.RouterLaws.{LinkTells}
@@ -53,7 +54,7 @@ module _ (w : World) (h : Seen) (keeps : h.keep ≡ w.keep) where
   answer_of q units f = record {
     cache = f.cache;
     was = was_so f.cache f.was;
-    are = f.are ∙ ap (λ k. (answer f.cache k timing (query q)).units) keeps;
+    are = f.are ∙ ap (λ k. (answer V1 f.cache k timing (query q)).units) keeps;
   }
 
   reply_of : (q : Question) (units : List Unit) → OneReply (instances w) h q units → IsReply w h.made q units

@@ -7,6 +7,7 @@ use Rattle.vrps.proofs.SetLaws.{has-set_of, has-union, has-without, same_set}
 use Rattle.rtr_pdu.specs.Judging.{judge}
 use Rattle.rtr_pdu.specs.Stream.{as_read}
 use Rattle.rtr_pdu.specs.declared.unit.Unit.TheVariants.{CacheResponse, EndOfData, Prefix, SerialNotify}
+use Rattle.rtr_pdu.specs.declared.version.Version.TheVariants.{V1}
 use Rattle.rtr_ends.specs.Answer.{sent, sent_all}
 use Rattle.rtr_ends.specs.Cache.{Conn}
 use Rattle.rtr_ends.specs.LinkRules.{Router, new_router, on_unit}
@@ -18,6 +19,7 @@ use Rattle.rtr_ends.proofs.WholeAnswerRows.{v, cache, end_bytes, response_bytes}
 use Rattle.rtr_world.specs.History.{Done, Memory, after}
 use Rattle.rtr_world.specs.VersionPlaces.{VersionPlace}
 use Rattle.rtr_world.specs.World.{Side, World, On, RouterGets, cut, goes_through, is_refused, new_side, router_gets, settle, settled, side_refused, side_step}
+use Rattle.rtr_ends.proofs.StagingLaws.{led_none}
 
 abbrev just_v : VrpSet
 just_v = set_of (v ∷ [])
@@ -27,9 +29,8 @@ unchanged : (b : Bool) → ((b && true) || false) ≡ b
 unchanged true = refl
 unchanged false = refl
 
-same_led : (s : VrpSet) → led_to s [] [] ≡ s
 unfolding led_to
-same_led s = same_set _ _ (λ q.
+led_none s = same_set _ _ (λ q.
     has-union (without s (set_of [])) (set_of []) q ∙ (λ i. has-without s (set_of []) q i || has-set_of [] q i) ∙ (λ i. (has s q && not (has-set_of [] q i)) || false) ∙ unchanged (has s q))
 
 -- The cache published {v}, nothing and {v}. The router committed the first, has asked what changed since, and nothing did.
@@ -68,7 +69,7 @@ committed_twice set = record (waiting_side []) { router = record asked { table =
 
 second_commit : after (On 0 (RouterGets 32)) (Done None) (world_of (waiting_side no_change)) ≡ world_of (committed_twice just_v)
 unfolding goes_through settled settle side_step router_gets receives clocked router_byte on_unit judge as_read
-second_commit = ap (λ s. world_of (committed_twice s)) (same_led just_v)
+second_commit = ap (λ s. world_of (committed_twice s)) (led_none just_v)
 
 -- The cache began anew and published nothing; the router restarted, and commits that. Its earlier places stay.
 abbrev anew : Instance
@@ -81,7 +82,7 @@ abbrev asked_anew : List Item
 asked_anew = Asks AskReset ∷ Opened ∷ At 0 ∷ Restarts ∷ twice
 
 abbrev new_answer : List ℕ
-new_answer = sent_all (CacheResponse 0x2222 ∷ EndOfData 0x2222 9 3600 600 7200 ∷ [])
+new_answer = sent_all V1 (CacheResponse 0x2222 ∷ EndOfData 0x2222 9 3600 600 7200 ∷ [])
 
 abbrev new_waiting : List ℕ → Side
 new_waiting down = record {
@@ -104,12 +105,12 @@ committed_anew set = record (new_waiting []) {
 
 third_commit : after (On 0 (RouterGets 99)) (Done None) (later_world (new_waiting new_answer)) ≡ later_world (committed_anew empty)
 unfolding goes_through settled settle side_step router_gets receives clocked router_byte on_unit judge as_read
-third_commit = ap (λ s. later_world (committed_anew s)) (same_led empty)
+third_commit = ap (λ s. later_world (committed_anew s)) (led_none empty)
 
 -- Refused for want of memory one byte before the End of Data is whole: nothing is on the wire, the table is the old one, and no place
 -- is noted.
 abbrev and_notify : List ℕ
-and_notify = no_change ++ sent (SerialNotify 0x1234 7)
+and_notify = no_change ++ sent V1 (SerialNotify 0x1234 7)
 
 abbrev told : VrpSet → ℕ → Router
 told set serial = record new_router { table = set; version = Some (version serial); due = Some 600 }
@@ -125,4 +126,4 @@ stays set = world_of (record new_side { router = told set 7; items = Shut ∷ At
 
 refused_behind : after (On 0 (RouterGets 44)) (Memory 32 None) (world_of (waiting_side and_notify)) ≡ stays just_v
 unfolding is_refused settled settle side_refused cut router_gets receives clocked router_byte on_unit judge as_read closed_at
-refused_behind = ap stays (same_led just_v)
+refused_behind = ap stays (led_none just_v)

@@ -6,8 +6,9 @@ use Rattle.std.proofs.lemmas.List.{length-append}
 use Rattle.vrps.specs.Instance.{Instance, versions}
 use Rattle.vrps.specs.VrpSet.{VrpSet}
 use Rattle.rtr_world.specs.VersionPlaces.{VersionPlace, position_of, place_named, IsNotAfter, NeverBack}
-use Rattle.rtr_world.proofs.Versions.{Stands, position_at, find_session, some_is, equal_of, same_number}
+use Rattle.rtr_world.proofs.Versions.{Stands, position_at, find_session, some_is}
 use Rattle.rtr_world.proofs.LinkedSides.{Seen, seen_at}
+use Rattle.prefixes.proofs.Basics.{eq_self, eq_of}
 
 -- how many instances came before that of a session
 abbrev pub rank_of : ℕ → List Instance → Option ℕ
@@ -60,12 +61,12 @@ rank_restarted i all session rank new is = by_session (i.session == session) ref
   where
     by_session : (b : Bool) → (i.session == session) ≡ b → rank_of session (i ∷ all) ≡ Some rank
     by_session true e =
-        let none : rank_of session all ≡ None = no_rank session all (subst (λ s. find_session s all ≡ None) (equal_of i.session session e) new) in
+        let none : rank_of session all ≡ None = no_rank session all (subst (λ s. find_session s all ≡ None) (eq_of i.session session e) new) in
         absurd (let k : ◌≡◌ {A = Option ℕ} None (Some rank) = sym none ∙ is in cc)
     by_session false e = ap (λ b. if b then Some (length all) else rank_of session all) e ∙ is
 
 pub rank_present : (i : Instance) (past : List Instance) → rank_of i.session (i ∷ past) ≡ Some (length past)
-rank_present i past = ap (λ b. if b then Some (length past) else rank_of i.session past) (same_number i.session)
+rank_present i past = ap (λ b. if b then Some (length past) else rank_of i.session past) (eq_self i.session)
 
 rank_low : (session : ℕ) (all : List Instance) (rank : ℕ) → rank_of session all ≡ Some rank → rank < length all
 rank_low session [] rank h = absurd (let e : ◌≡◌ {A = Option ℕ} None (Some rank) = h in cc)

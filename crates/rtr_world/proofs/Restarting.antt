@@ -18,7 +18,7 @@ use Rattle.rtr_world.specs.declared.event.WorldFault.TheVariants as faults
 use Rattle.rtr_world.specs.declared.side.Side as values
 use Rattle.rtr_world.specs.declared.world.World as code
 use Rattle.rtr_world.proofs.Showing.{used_more}
-use Rattle.rtr_world.proofs.Versions.{equal_of}
+use Rattle.prefixes.proofs.Basics.{eq_of}
 
 -- What is refused
 is_free : (w : World) (session start : ℕ) → is_used (instances w) session ≡ false → refusal w (Restart session start) ≡ None
@@ -73,7 +73,7 @@ none_found all session free i used = by_test (session == i.session) refl
   where
     by_test : (b : Bool) → (session == i.session) ≡ b → b ≡ false
     by_test false e = refl
-    by_test true e = absurd (let same : session ≡ i.session = equal_of session i.session e in let k : true ≡ false = sym used ∙ ap (is_used all) (sym same) ∙ free in cc)
+    by_test true e = absurd (let same : session ≡ i.session = eq_of session i.session e in let k : true ≡ false = sym used ∙ ap (is_used all) (sym same) ∙ free in cc)
 
 gone_made : (all : List Instance) (session start : ℕ) (home : Option Instance) → is_used all session ≡ false → MadeTo all home → MadeAt (begun session start) home None
 gone_made all session start None free h = refl

@@ -15,10 +15,12 @@ use Rattle.rtr_world.specs.VersionPlaces.{position_of}
 use Rattle.rtr_world.specs.SideShown.{MadeAt, MadeWhere, held_of}
 use Rattle.rtr_world.specs.World.{World, Side, instances}
 use Rattle.rtr_world.proofs.Histories.{Known, history_known}
-use Rattle.rtr_world.proofs.Versions.{Present, Stands, TableAt, equal_of, of_present, position_at}
+use Rattle.rtr_world.proofs.Versions.{Present, Stands, TableAt, of_present, position_at}
 use Rattle.rtr_world.proofs.WorldSteps.{GoodWorld, history_good, new_good}
 use Rattle.rtr_world.proofs.KeptTables.{new_side_tells}
 use Rattle.rtr_world.proofs.SideLaws.{all_new}
+use Rattle.prefixes.proofs.Basics.{eq_of}
+use Rattle.rtr_world.proofs.Routers.{low_of}
 
 -- a fact of each side is one of this
 pub all_at : (P : Side → Type 0) (r : ℕ) (sides : List Side) (s : Side) → side_at r sides ≡ Some s → AllByRecursion P sides → P s
@@ -68,7 +70,7 @@ room_held w s held next answer tests p table after is = by_version s.router.vers
         → option_map (λ x. x.0) held ≡ (if b then Some version.serial else None) → answer ≡ (if b then is_near w.present (position_of version.serial (versions w.present)) else true)
     by_session version t false e h = tests_none held next answer tests (no_serial held h) w.present.start (length w.present.sets) after
     by_session version t true e h =
-        let mine : version.session ≡ w.present.session = sym (equal_of w.present.session version.session e) in
+        let mine : version.session ≡ w.present.session = sym (eq_of w.present.session version.session e) in
         let same : t.i ≡ w.present = of_present (instances w) w.present p version.session version.serial s.router.table t mine in
         let place : position_of version.serial (versions w.present) ≡ Some (length t.older) = ap (λ x. position_of version.serial (versions x)) (sym same) ∙ position_at (instances w) version.session version.serial s.router.table t in
         let sets : length w.present.sets ≡ length t.newer + length (s.router.table ∷ t.older) = ap (λ (x : Instance). length x.sets) (sym same) ∙ ap length t.sets ∙ length-append t.newer (s.router.table ∷ t.older) in
@@ -100,7 +102,7 @@ none_first w r s low is = absurd (omega (arith, low))
 
 pub one_more : (w : World) (k : ℕ) (s : Side) → FirstHaveRoom w k → side_at k w.sides ≡ Some s → has_room_at w s ≡ true → FirstHaveRoom w (k + 1)
 one_more w k s first is room r t low found = elim (cases_Bool (r == k)) [
-  | inl same ↦ ap (has_room_at w) (inside (sym found ∙ ap (λ n. side_at n w.sides) (equal_of r k same) ∙ is)) ∙ room
+  | inl same ↦ ap (has_room_at w) (inside (sym found ∙ ap (λ n. side_at n w.sides) (eq_of r k same) ∙ is)) ∙ room
   | inr other ↦ first r t (below r k low other) found
 ]
   where
@@ -114,13 +116,8 @@ all_room : (i : Instance) (sides : List Side) → ((r : ℕ) (s : Side) → side
 all_room i [] h = refl
 all_room i (s ∷ sides) h = (λ j. h zero s refl j && all_room i sides (λ r t is. h (suc r) t is) j)
 
-in_sides : (r : ℕ) (sides : List Side) (s : Side) → side_at r sides ≡ Some s → r < length sides
-in_sides r [] s is = absurd (let k : ◌≡◌ {A = Option Side} None (Some s) = is in cc)
-in_sides zero (t ∷ sides) s is = omega arith
-in_sides (suc r) (t ∷ sides) s is = let low = in_sides r sides s is in omega (arith, low)
-
 pub all_first : (w : World) (k : ℕ) → FirstHaveRoom w k → length w.sides ≤ k → true ≡ all_have_room w.present w.sides
-all_first w k first all = sym (all_room w.present w.sides (λ r s is. first r s (let low = in_sides r w.sides s is in omega (arith, low, all)) is))
+all_first w k first all = sym (all_room w.present w.sides (λ r s is. first r s (let low = low_of r w.sides s is in omega (arith, low, all)) is))
 
 one_far : (i : Instance) (r : ℕ) (sides : List Side) (s : Side) → side_at r sides ≡ Some s → (room_for i s.router.version && room_since i s.home) ≡ false → all_have_room i sides ≡ false
 one_far i r [] s is far = absurd (let k : ◌≡◌ {A = Option Side} None (Some s) = is in cc)

@@ -19,10 +19,8 @@ use Rattle.rtr_world.specs.declared.side.Side as values
 use Rattle.rtr_world.specs.declared.world.World as code
 use Rattle.rtr_world.proofs.Moving.{none_some}
 use Rattle.rtr_world.proofs.Rests.{Rests, stays}
-use Rattle.rtr_world.proofs.Versions.{equal_of, lt_of}
-
-not_equal_of : (a b : ℕ) → (a == b) ≡ false → ¬ (a ≡ b)
-not_equal_of a b h e = grind (arith, nat_tests)
+use Rattle.rtr_world.proofs.Versions.{lt_of}
+use Rattle.prefixes.proofs.Basics.{eq_of, set_same, set_other, not_eq_of}
 
 inside : {A : Type 0} {a b : A} → Some a ≡ Some b → a ≡ b
 inside h = cc
@@ -73,19 +71,6 @@ same_length w at (s ∷ sides) [] h = absurd (h zero)
 
 pub shown_length : (w : World) (at : ℕ → Option Conn) (cache : Cache Steps) (items : List values.Side) → ShowsParts w at cache items → length w.sides ≡ length items
 shown_length w at cache items h = same_length w at w.sides items h.each
-
--- One side is another now.
-pub set_same : {X : Type 0} (xs : List X) (c : ℕ) (x : X) → c < length xs → slice_get (slice_set xs c x) c ≡ Some x
-set_same [] c x h = absurd (omega (arith, h))
-set_same (y ∷ xs) zero x h = refl
-set_same (y ∷ xs) (suc c) x h = set_same xs c x (omega (arith, h))
-
-pub set_other : {X : Type 0} (xs : List X) (c d : ℕ) (x : X) → ¬ (d ≡ c) → slice_get (slice_set xs c x) d ≡ slice_get xs d
-set_other [] c d x h = refl
-set_other (y ∷ xs) zero zero x h = absurd (h refl)
-set_other (y ∷ xs) zero (suc d) x h = refl
-set_other (y ∷ xs) (suc c) zero x h = refl
-set_other (y ∷ xs) (suc c) (suc d) x h = set_other xs c d x (λ e. h (ap suc e))
 
 on_same : (r : ℕ) (f : Side → Side) (sides : List Side) → side_at r (on_side r f sides) ≡ option_map f (side_at r sides)
 on_same r f [] = refl
@@ -146,8 +131,8 @@ module _ (w : World) (at : ℕ → Option Conn) (cache later : Cache Steps) (old
 
   each : (d : ℕ) → ShowsAt (record w { sides = on_side r f w.sides }) m.now (side_at d (on_side r f w.sides)) (slice_get (slice_set olds r new) d)
   each d = elim (cases_Bool (d == r)) [
-    | inl same ↦ subst (λ k. ShowsAt (record w { sides = on_side r f w.sides }) m.now (side_at k (on_side r f w.sides)) (slice_get (slice_set olds r new) k)) (sym (equal_of d r same)) here
-    | inr other ↦ there d (not_equal_of d r other)
+    | inl same ↦ subst (λ k. ShowsAt (record w { sides = on_side r f w.sides }) m.now (side_at k (on_side r f w.sides)) (slice_get (slice_set olds r new) k)) (sym (eq_of d r same)) here
+    | inr other ↦ there d (not_eq_of d r other)
   ]
 
   -- whose number it is now
@@ -166,12 +151,12 @@ module _ (w : World) (at : ℕ → Option Conn) (cache later : Cache Steps) (old
   own_now : AreOwn (slice_set olds r new)
   own_now a b k has also = elim (cases_Bool (a == r)) [
     | inl x ↦ elim (cases_Bool (b == r)) [
-      | inl y ↦ equal_of a r x ∙ sym (equal_of b r y)
-      | inr y ↦ absurd (clash b k (not_equal_of b r y) (theirs b k (not_equal_of b r y) also) (mine k (subst (λ d. HasAt (slice_get (slice_set olds r new) d) k) (equal_of a r x) has)))
+      | inl y ↦ eq_of a r x ∙ sym (eq_of b r y)
+      | inr y ↦ absurd (clash b k (not_eq_of b r y) (theirs b k (not_eq_of b r y) also) (mine k (subst (λ d. HasAt (slice_get (slice_set olds r new) d) k) (eq_of a r x) has)))
     ]
     | inr x ↦ elim (cases_Bool (b == r)) [
-      | inl y ↦ absurd (clash a k (not_equal_of a r x) (theirs a k (not_equal_of a r x) has) (mine k (subst (λ d. HasAt (slice_get (slice_set olds r new) d) k) (equal_of b r y) also)))
-      | inr y ↦ parts.own a b k (theirs a k (not_equal_of a r x) has) (theirs b k (not_equal_of b r y) also)
+      | inl y ↦ absurd (clash a k (not_eq_of a r x) (theirs a k (not_eq_of a r x) has) (mine k (subst (λ d. HasAt (slice_get (slice_set olds r new) d) k) (eq_of b r y) also)))
+      | inr y ↦ parts.own a b k (theirs a k (not_eq_of a r x) has) (theirs b k (not_eq_of b r y) also)
     ]
   ]
 
@@ -188,17 +173,15 @@ module _ (w : World) (at : ℕ → Option Conn) (cache later : Cache Steps) (old
   moved = record { serves = m.shows.serves; each = each; own = own_now; all = owner }
 
 -- In a world that is reached the clean-up changes nothing, whatever instances there are.
-settled_same : (all : List Instance) (sides : List Side) → AllByRecursion Rests sides → map (settle all) sides ≡ sides
-settled_same all [] h = refl
-settled_same all (s ∷ sides) h = ap (λ x. x ∷ map (settle all) sides) (stays all s h.0) ∙ ap (λ x. s ∷ x) (settled_same all sides h.1)
+pub unsettled : (all : List Instance) (sides : List Side) → AllByRecursion Rests sides → map (settle all) sides ≡ sides
+unsettled all [] h = refl
+unsettled all (s ∷ sides) h = ap (λ x. x ∷ map (settle all) sides) (stays all s h.0) ∙ ap (λ x. s ∷ x) (unsettled all sides h.1)
 
 pub settled_on : (all : List Instance) (r : ℕ) (f : Side → Side) (sides : List Side) → AllByRecursion Rests sides → map (settle all) (on_side r f sides) ≡ on_side r (λ s. settle all (f s)) sides
 settled_on all r f [] h = refl
-settled_on all zero f (s ∷ sides) h = ap (λ x. settle all (f s) ∷ x) (settled_same all sides h.1)
+settled_on all zero f (s ∷ sides) h = ap (λ x. settle all (f s) ∷ x) (unsettled all sides h.1)
 settled_on all (suc r) f (s ∷ sides) h = ap (λ x. x ∷ map (settle all) (on_side r f sides)) (stays all s h.0) ∙ ap (λ x. s ∷ x) (settled_on all r f sides h.1)
 
-pub unsettled : (all : List Instance) (sides : List Side) → AllByRecursion Rests sides → map (settle all) sides ≡ sides
-unsettled = settled_same
 
 -- the clean-up, side by side
 abbrev pub settle_first : List Instance → ℕ → List Side → List Side
@@ -249,8 +232,8 @@ pub lost_more : (olds news : List values.Side) (k : ℕ) (old new : values.Side)
 lost_more olds news k old new h low found lost = record {
   len = set_length news k new ∙ h.len;
   lost = λ r below. elim (cases_Bool (r == k)) [
-    | inl same ↦ subst (λ d. LostAt (slice_get olds d) (slice_get (slice_set news k new) d)) (sym (equal_of r k same)) here
-    | inr other ↦ subst (λ q. LostAt (slice_get olds r) q) (sym (set_other news k r new (not_equal_of r k other))) (h.lost r (let differs = not_equal_of r k other in below_k r k below differs))
+    | inl same ↦ subst (λ d. LostAt (slice_get olds d) (slice_get (slice_set news k new) d)) (sym (eq_of r k same)) here
+    | inr other ↦ subst (λ q. LostAt (slice_get olds r) q) (sym (set_other news k r new (not_eq_of r k other))) (h.lost r (let differs = not_eq_of r k other in below_k r k below differs))
   ];
   left = λ r above. set_other news k r new (λ e. absurd (omega (arith, above, e))) ∙ h.left r (omega (arith, above));
 }

@@ -15,7 +15,7 @@ use Rattle.rtr_ends.specs.LinkRules.{Router, emptied, on_unit, may_lack}
 use Rattle.rtr_ends.specs.Router.{Receiving, lacks, reads, with_bytes, router_stops, router_byte, expired, clocked, close, asks_if}
 use Rattle.rtr_ends.specs.RouterLink.{Link, Closed, Idle, Asked, Answering, Ended, is_reading, is_closed, is_idle}
 use Rattle.rtr_ends.specs.Transcript.{choose, Question, AskReset, AskSerial, query, is_serial, is_over, later, sum_of, retry_of}
-use Rattle.rtr_ends.proofs.KeptLaws.{none_is, not_true, same_base}
+use Rattle.rtr_ends.proofs.KeptLaws.{none_is, same_base}
 use Rattle.rtr_ends.proofs.TableLaws.{false_true}
 use Rattle.rtr_world.specs.History.{conn_due}
 use Rattle.rtr_world.specs.OneAnswer.{NotifiesOf, without_notifies}
@@ -24,6 +24,7 @@ use Rattle.rtr_world.proofs.UnitsAtRouters.{Reads, on_notify, on_other, live_lin
 use Rattle.rtr_world.proofs.UnitStreams.{Stream, ByteCase, partly, wholly, byte_case}
 use Rattle.rtr_world.proofs.Versions.{TableAt}
 use Rattle.rtr_world.proofs.LinkedSides.{Seen}
+use Rattle.prefixes.proofs.Basics.{true_of_not}
 
 -- A link keeps its state; what lives goes on to live.
 pub live_map : (l : Link) (all all' : List Instance) (i i' : Instance) (home home' : Option Seen) (r r' : Router) (conn conn' : Option Conn) (up up' down down' : List ℕ)
@@ -135,7 +136,7 @@ module _ (all : List Instance) (i : Instance) (home : Option Seen) (conn : Optio
   pub byte_good : (down : List ℕ) (m : Receiving) (b : ℕ) → router_stops m.router ≡ false → GoodRouter all i home conn up (b ∷ down) m.router → GoodRouter all i home conn up down (router_byte m b).router
   unfolding router_byte
   byte_good down m b goes_on g =
-      let parts = and_parts (is_reading m.router.link) (is_none m.router.out) (not_true (is_reading m.router.link && is_none m.router.out) goes_on) in
+      let parts = and_parts (is_reading m.router.link) (is_none m.router.out) (true_of_not (is_reading m.router.link && is_none m.router.out) goes_on) in
       let l = live_of m.router.link all i home m.router conn up (b ∷ down) g.link parts.0 in
       byte_read down m.router b (finds_memory m.wanting) l.0 l.2 l.1 parts.0 (none_is m.router.out parts.1) g.table g.unmarked
       (byte_case (not m.router.agreed) m.router.held b (down ++ (conn_due conn ++ l.2.lost)) l.2.coming l.2.downward)
@@ -250,7 +251,7 @@ module _ (all : List Instance) (i : Instance) (home : Option Seen) (conn : Optio
     open_quiet : (h : Seen) (out : List ℕ) (wanted : List Unit) (lost : List ℕ) (o : Option Conn) → wanted ≡ [] → IfOpen o (Open i h out up wanted lost) → IfOpen o (Open i h [] up wanted lost)
     open_quiet h out wanted lost None e op = tt
     open_quiet h out wanted lost (Some o) e op =
-        let none : o.held ++ (up ++ out) ≡ [] = op.upward.whole ∙ ap (λ x. sent_all x) e in
+        let none : o.held ++ (up ++ out) ≡ [] = op.upward.whole ∙ ap (λ x. sent_all V1 x) e in
         let empty_out : out ≡ [] = nothing_right up out (nothing_right o.held (up ++ out) none) in
         record { upward = subst (λ x. Stream o.held (up ++ x) wanted) empty_out op.upward; whole = op.whole; session = op.session; made = op.made; later = op.later }
 

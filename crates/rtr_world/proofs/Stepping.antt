@@ -20,6 +20,7 @@ use Rattle.rtr_world.proofs.Rests.{history_rests}
 use Rattle.rtr_world.proofs.Room.{reached_known}
 use Rattle.rtr_world.proofs.LinkedSides.{Seen}
 use Rattle.rtr_world.proofs.Showing.{moved, settled_on, shown_length}
+use Rattle.prefixes.proofs.Basics.{lt_true}
 
 -- what the calls on sides leave alone
 pub same_rest : (w : World) (sides : List Side) (v n : code.World) → ShowsRest w v → n ≡ record v { cache = n.cache; sides = n.sides } → ShowsRest (record w { sides = sides }) n
@@ -39,15 +40,12 @@ pub after_memory : (w : World) (r : ℕ) (e : SideEvent) (bytes : ℕ) (wanting 
 unfolding settled is_refused
 after_memory w r e bytes wanting was = ap (λ sides. record w { sides = sides }) (settled_on (instances w) r (side_refused w e bytes wanting) w.sides (history_rests was.made was.history w was.leads))
 
-less_than : (r n : ℕ) → r < n → nat_lt r n ≡ true
-less_than r n h = grind (arith, nat_tests)
-
 not_less : (r n : ℕ) → n ≤ r → nat_lt r n ≡ false
 not_less r n h = grind (arith, nat_tests)
 
 pub found_router : (w : World) (r : ℕ) (e : SideEvent) → r < length w.sides → refusal w (On r e) ≡ None
 unfolding refusal
-found_router w r e low = ap (λ b. if b then None else Some NoSuchRouter) (less_than r (length w.sides) low)
+found_router w r e low = ap (λ b. if b then None else Some NoSuchRouter) (lt_true r (length w.sides) low)
 
 no_router : (w : World) (r : ℕ) (e : SideEvent) → length w.sides ≤ r → refusal w (On r e) ≡ Some NoSuchRouter
 unfolding refusal

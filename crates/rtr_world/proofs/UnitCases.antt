@@ -17,8 +17,9 @@ use Rattle.rtr_world.specs.World.{is_ended}
 use Rattle.rtr_world.proofs.Invariant.{after_stage, InOrder, read_of, Leads, Mine, OwnSession, QuestionFits, IsOwn, OfAnswer, Replies, no_data, not_kept, other_session, no_memory, response, Shape, nothing_yet}
 use Rattle.rtr_world.proofs.UnitsAtRouters.{stage_reads, no_difference, first_is, no_unit}
 use Rattle.rtr_world.proofs.SideSteps.{HeadCase, a_notify, another, head_case}
-use Rattle.rtr_world.proofs.Versions.{Stands, equal_true, find_session}
+use Rattle.rtr_world.proofs.Versions.{Stands, find_session}
 use Rattle.rtr_world.proofs.LinkedSides.{Seen}
+use Rattle.prefixes.proofs.Basics.{eq_true}
 
 abbrev pub is_end : Unit → Bool
 is_end (EndOfData session serial refresh retry expire) = true
@@ -112,7 +113,7 @@ module _ (all : List Instance) (h : Seen) (r : Router) where
   ended_brings a one number refresh retry expire same own stands since =
       let version : Committed = record { session = one; serial = number; moment = r.now; intervals = bounded refresh retry expire } in
       subst (λ b. Brings all h r (Answering a) (EndOfData one number refresh retry expire) (if b then commit a (record { session = one; serial = number; moment = r.now; intervals = bounded refresh retry expire }) r else fails (EndOfData one number refresh retry expire) r))
-      (sym (equal_true one a.session same))
+      (sym (eq_true one a.session same))
       (commits (record { session = one; serial = number; moment = r.now; intervals = bounded refresh retry expire }) (led_to (base_of a.question r.table) a.withdrawn a.announced) refl refl own stands since)
 
   answered : (a : Begun) (u : Unit) (rest : List Unit) → a.session ≡ h.session → OfAnswer all h (base_of a.question r.table) a (u ∷ rest) → Brings all h r (Answering a) u (on_unit (Answering a) u r)

@@ -20,11 +20,11 @@ pub record Begun (held : List ℕ) (units : List Unit) : Type 0 where
   pub is : units ≡ first ∷ more
   pub byte : ℕ
   pub rest : List ℕ
-  pub begins : held ++ byte ∷ rest ≡ sent first
+  pub begins : held ++ byte ∷ rest ≡ sent V1 first
 
 -- What is held and what comes after it spells these units, and none of them is whole in what is held.
 pub record Stream (held after : List ℕ) (units : List Unit) : Type 0 where
-  pub whole : held ++ after ≡ sent_all units
+  pub whole : held ++ after ≡ sent_all V1 units
   pub partial : (held ≡ []) ⊎ Begun held units
   pub fit : AllByRecursion IsUnit units
 
@@ -34,28 +34,28 @@ record Next (held : List ℕ) (b : ℕ) (after : List ℕ) (units : List Unit) :
   more : List Unit
   is : units ≡ first ∷ more
   rest : List ℕ
-  begins : held ++ b ∷ rest ≡ sent first
-  goes_on : after ≡ rest ++ sent_all more
+  begins : held ++ b ∷ rest ≡ sent V1 first
+  goes_on : after ≡ rest ++ sent_all V1 more
 
-next_fresh : (b : ℕ) (after : List ℕ) (u : Unit) (more : List Unit) (bytes : List ℕ) → sent u ≡ bytes → b ∷ after ≡ bytes ++ sent_all more → Next [] b after (u ∷ more)
+next_fresh : (b : ℕ) (after : List ℕ) (u : Unit) (more : List Unit) (bytes : List ℕ) → sent V1 u ≡ bytes → b ∷ after ≡ bytes ++ sent_all V1 more → Next [] b after (u ∷ more)
 next_fresh b after u more [] e h = absurd (some_sent V1 u e)
 next_fresh b after u more (c ∷ cs) e h =
     let same : b ≡ c = cc in
     record { first = u; more = more; is = refl; rest = cs; begins = ap (λ x. x ∷ cs) same ∙ sym e; goes_on = cc }
 
-next_start : (b : ℕ) (after : List ℕ) (units : List Unit) → b ∷ after ≡ sent_all units → Next [] b after units
+next_start : (b : ℕ) (after : List ℕ) (units : List Unit) → b ∷ after ≡ sent_all V1 units → Next [] b after units
 next_start b after [] h = absurd (let e : b ∷ after ≡ [] = h in cc)
-next_start b after (u ∷ more) h = next_fresh b after u more (sent u) refl h
+next_start b after (u ∷ more) h = next_fresh b after u more (sent V1 u) refl h
 
-next_begun : (held : List ℕ) (b : ℕ) (after : List ℕ) (units : List Unit) → held ++ b ∷ after ≡ sent_all units → Begun held units → Next held b after units
+next_begun : (held : List ℕ) (b : ℕ) (after : List ℕ) (units : List Unit) → held ++ b ∷ after ≡ sent_all V1 units → Begun held units → Next held b after units
 next_begun held b after units h p =
-    let all : held ++ b ∷ after ≡ held ++ (p.byte ∷ (p.rest ++ sent_all p.more)) =
-    h ∙ ap (λ x. sent_all x) p.is ∙ ap (λ x. x ++ sent_all p.more) (sym p.begins) ∙ append_assoc held (p.byte ∷ p.rest) (sent_all p.more) in
-    let tails : b ∷ after ≡ p.byte ∷ (p.rest ++ sent_all p.more) = append_cancel_left held (b ∷ after) (p.byte ∷ (p.rest ++ sent_all p.more)) all in
+    let all : held ++ b ∷ after ≡ held ++ (p.byte ∷ (p.rest ++ sent_all V1 p.more)) =
+    h ∙ ap (λ x. sent_all V1 x) p.is ∙ ap (λ x. x ++ sent_all V1 p.more) (sym p.begins) ∙ append_assoc held (p.byte ∷ p.rest) (sent_all V1 p.more) in
+    let tails : b ∷ after ≡ p.byte ∷ (p.rest ++ sent_all V1 p.more) = append_cancel_left held (b ∷ after) (p.byte ∷ (p.rest ++ sent_all V1 p.more)) all in
     let same : b ≡ p.byte = cc in
     record { first = p.first; more = p.more; is = p.is; rest = p.rest; begins = ap (λ x. held ++ x ∷ p.rest) same ∙ p.begins; goes_on = cc }
 
-next : (held : List ℕ) (b : ℕ) (after : List ℕ) (units : List Unit) → held ++ b ∷ after ≡ sent_all units → (held ≡ []) ⊎ Begun held units → Next held b after units
+next : (held : List ℕ) (b : ℕ) (after : List ℕ) (units : List Unit) → held ++ b ∷ after ≡ sent_all V1 units → (held ≡ []) ⊎ Begun held units → Next held b after units
 next held b after units h (inl e) = subst (λ x. Next x b after units) (sym e) (next_start b after units (ap (λ x. x ++ b ∷ after) (sym e) ∙ h))
 next held b after units h (inr p) = next_begun held b after units h p
 
@@ -64,13 +64,13 @@ pub data ByteCase (any : Bool) (held : List ℕ) (b : ℕ) (after : List ℕ) (u
   partly : judge V1 any (held ++ b ∷ []) ≡ Begins → Stream (held ++ b ∷ []) after units → ByteCase any held b after units
   wholly : (u : Unit) (more : List Unit) → units ≡ u ∷ more → judge V1 any (held ++ b ∷ []) ≡ Whole u → IsUnit u → Stream [] after more → ByteCase any held b after units
 
-case_of : (any : Bool) (held : List ℕ) (b : ℕ) (after : List ℕ) (units : List Unit) (u : Unit) (more : List Unit) (rest : List ℕ) → held ++ b ∷ after ≡ sent_all units → AllByRecursion IsUnit units → units ≡ u ∷ more → held ++ b ∷ rest ≡ sent u → after ≡ rest ++ sent_all more → ByteCase any held b after units
+case_of : (any : Bool) (held : List ℕ) (b : ℕ) (after : List ℕ) (units : List Unit) (u : Unit) (more : List Unit) (rest : List ℕ) → held ++ b ∷ after ≡ sent_all V1 units → AllByRecursion IsUnit units → units ≡ u ∷ more → held ++ b ∷ rest ≡ sent V1 u → after ≡ rest ++ sent_all V1 more → ByteCase any held b after units
 case_of any held b after units u more [] h fit is begins on =
     let fits : AllByRecursion IsUnit (u ∷ more) = subst (AllByRecursion IsUnit) is fit in
     wholly u more is (ap (judge V1 any) begins ∙ judge_sent V1 any u fits.0) fits.0 (record { whole = on; partial = inl refl; fit = fits.1 })
 case_of any held b after units u more (c ∷ rest) h fit is begins on =
     let fits : AllByRecursion IsUnit (u ∷ more) = subst (AllByRecursion IsUnit) is fit in
-    let begun : (held ++ b ∷ []) ++ c ∷ rest ≡ sent u = append_assoc held (b ∷ []) (c ∷ rest) ∙ begins in
+    let begun : (held ++ b ∷ []) ++ c ∷ rest ≡ sent V1 u = append_assoc held (b ∷ []) (c ∷ rest) ∙ begins in
     partly (judge_part V1 any u (held ++ b ∷ []) rest c fits.0 begun) (record {
       whole = append_assoc held (b ∷ []) after ∙ h;
       partial = inr (record { first = u; more = more; is = is; byte = c; rest = rest; begins = begun });
@@ -91,9 +91,9 @@ pub all-append : (P : Unit → Type 0) (xs ys : List Unit) → AllByRecursion P 
 all-append P [] ys h k = k
 all-append P (x ∷ xs) ys h k = (h.0, all-append P xs ys h.1 k)
 
-pub stream-append : (held after : List ℕ) (units more : List Unit) → Stream held after units → AllByRecursion IsUnit more → Stream held (after ++ sent_all more) (units ++ more)
+pub stream-append : (held after : List ℕ) (units more : List Unit) → Stream held after units → AllByRecursion IsUnit more → Stream held (after ++ sent_all V1 more) (units ++ more)
 stream-append held after units more s fit = record {
-  whole = sym (append_assoc held after (sent_all more)) ∙ ap (λ x. x ++ sent_all more) s.whole ∙ sym (flat_map-append sent units more);
+  whole = sym (append_assoc held after (sent_all V1 more)) ∙ ap (λ x. x ++ sent_all V1 more) s.whole ∙ sym (flat_map-append (sent V1) units more);
   partial = begun-append held units more s.partial;
   fit = all-append IsUnit units more s.fit fit;
 }

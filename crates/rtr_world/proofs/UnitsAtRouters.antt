@@ -10,6 +10,7 @@ use Rattle.rtr_pdu.specs.declared.unit.Unit.{Unit}
 use Rattle.rtr_pdu.specs.declared.unit.Unit.TheVariants.{SerialNotify, CacheResponse, Prefix, EndOfData, CacheReset}
 use Rattle.rtr_ends.specs.declared.link.End.{End}
 use Rattle.rtr_ends.specs.declared.link.End.TheVariants as ends
+use Rattle.rtr_pdu.specs.declared.version.Version.TheVariants.{V1}
 use Rattle.rtr_ends.specs.Answer.{report, sent, sent_all}
 use Rattle.rtr_ends.specs.Cache.{Conn}
 use Rattle.rtr_ends.specs.Commit.{Commits}
@@ -21,8 +22,9 @@ use Rattle.rtr_world.specs.History.{conn_due}
 use Rattle.rtr_world.specs.OneAnswer.{EndsWith, NotifiesOf, announced_in, withdrawn_in, without_notifies}
 use Rattle.rtr_world.proofs.Invariant.{after_stage, FromCache, InOrder, Leads, NoneWithdrawn, WithdrawsFirst, read_of, records_of, Mine, OwnSession, QuestionFits, IsOwn, OfAnswer, nothing_yet, Replies, no_data, not_kept, other_session, no_memory, response, Shape, IfOpen, Open, Live, GoodLink, GoodRouter}
 use Rattle.rtr_world.proofs.UnitStreams.{Stream, stream-append}
-use Rattle.rtr_world.proofs.Versions.{Stands, TableAt, equal_true}
+use Rattle.rtr_world.proofs.Versions.{Stands, TableAt}
 use Rattle.rtr_world.proofs.LinkedSides.{Seen}
+use Rattle.prefixes.proofs.Basics.{eq_true}
 
 -- a query fits its fields
 pub query_unit : (all : List Instance) (session : ℕ) (q : Question) (version : Option Committed) (table : VrpSet) → QuestionFits session q version → TableAt all version table → IsUnit (query q)
@@ -44,7 +46,7 @@ first_fits session (Some version) false unmarked = (refl, refl)
 
 -- no notify of the connection's session is strange
 same_session : (one session : ℕ) → one ≡ session → not (one == session) ≡ false
-same_session one session e = ap not (equal_true one session e)
+same_session one session e = ap not (eq_true one session e)
 
 pub no_difference : (session one : ℕ) (own : Option ℕ) (version : Option Committed) → one ≡ session → OwnSession session own → Mine session version → differs (session_of own version) one ≡ false
 no_difference session one (Some s) version e own mine = same_session s one (own ∙ sym e)
@@ -182,13 +184,13 @@ module _ (all : List Instance) (i : Instance) (home : Option Seen) (conn : Optio
   }
 
   -- a question is put where none is on its way
-  pub open_asking : (h : Seen) (wanted : List Unit) (lost : List ℕ) (q : Question) (o : Option Conn) → wanted ≡ [] → IsUnit (query q) → IfOpen o (Open i h [] up wanted lost) → IfOpen o (Open i h (sent (query q)) up (query q ∷ []) lost)
+  pub open_asking : (h : Seen) (wanted : List Unit) (lost : List ℕ) (q : Question) (o : Option Conn) → wanted ≡ [] → IsUnit (query q) → IfOpen o (Open i h [] up wanted lost) → IfOpen o (Open i h (sent V1 (query q)) up (query q ∷ []) lost)
   open_asking h wanted lost q None e fit op = tt
   open_asking h wanted lost q (Some o) e fit op =
       let before : Stream o.held (up ++ []) [] = subst (λ x. Stream o.held (up ++ []) x) e op.upward in
-      let after : Stream o.held ((up ++ []) ++ sent_all (query q ∷ [])) (query q ∷ []) = stream-append o.held (up ++ []) [] (query q ∷ []) before (fit, tt) in
+      let after : Stream o.held ((up ++ []) ++ sent_all V1 (query q ∷ [])) (query q ∷ []) = stream-append o.held (up ++ []) [] (query q ∷ []) before (fit, tt) in
       record {
-        upward = subst (λ x. Stream o.held x (query q ∷ [])) (ap (λ x. x ++ sent_all (query q ∷ [])) (append-nil up) ∙ ap (λ x. up ++ x) (append-nil (sent (query q)))) after;
+        upward = subst (λ x. Stream o.held x (query q ∷ [])) (ap (λ x. x ++ sent_all V1 (query q ∷ [])) (append-nil up) ∙ ap (λ x. up ++ x) (append-nil (sent V1 (query q)))) after;
         whole = op.whole;
         session = op.session;
         made = op.made;
@@ -389,7 +391,7 @@ module _ (all : List Instance) (i : Instance) (home : Option Seen) (conn : Optio
   unfolding on_unit
   committed_good r more a one number refresh retry expire d w e ag se oe stands =
       let version : Committed = record { session = one; serial = number; moment = r.now; intervals = bounded refresh retry expire } in
-      subst (λ b. GoodR (if b then commit a (record { session = one; serial = number; moment = r.now; intervals = bounded refresh retry expire }) r else fails (EndOfData one number refresh retry expire) r)) (sym (equal_true one a.session (oe ∙ sym se)))
+      subst (λ b. GoodR (if b then commit a (record { session = one; serial = number; moment = r.now; intervals = bounded refresh retry expire }) r else fails (EndOfData one number refresh retry expire) r)) (sym (eq_true one a.session (oe ∙ sym se)))
       (same_good (commit a (record { session = one; serial = number; moment = r.now; intervals = bounded refresh retry expire }) r) more Idle
       (record {
         h = d.h;

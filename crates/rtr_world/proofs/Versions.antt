@@ -11,21 +11,10 @@ use Rattle.vrps.proofs.VersionLaws.{names_itself, kept_is_itself}
 use Rattle.rtr_ends.specs.Transcript.{Committed}
 use Rattle.rtr_world.specs.VersionPlaces.{position_of}
 use Rattle.rtr_world.specs.Claims.{IsNamed}
-
-pub same_number : (n : ℕ) → (n == n) ≡ true
-same_number n = grind (arith, nat_tests)
-
-pub equal_of : (a b : ℕ) → (a == b) ≡ true → a ≡ b
-equal_of a b h = grind (arith, nat_tests)
-
-pub equal_true : (a b : ℕ) → a ≡ b → (a == b) ≡ true
-equal_true a b h = grind (arith, nat_tests)
+use Rattle.prefixes.proofs.Basics.{eq_self, eq_of}
 
 pub lt_of : (a b : ℕ) → nat_lt a b ≡ true → a < b
 lt_of a b h = grind (arith, nat_tests)
-
-pub lt_true : (a b : ℕ) → a < b → nat_lt a b ≡ true
-lt_true a b h = grind (arith, nat_tests)
 
 -- the newest instance of a session
 abbrev pub find_session : ℕ → List Instance → Option Instance
@@ -111,7 +100,7 @@ position_at all session serial set a =
 
     found : (newer : List VrpSet) → length newer < 2 ^ 31 → position_of (serial_at a.i.start (length a.older)) (versions_from a.i.start (newer ++ set ∷ a.older)) ≡ Some (length a.older)
     found [] few =
-        ap (λ b. if b then Some (length (versions_from a.i.start a.older)) else position_of (serial_at a.i.start (length a.older)) (versions_from a.i.start a.older)) (same_number (serial_at a.i.start (length a.older)))
+        ap (λ b. if b then Some (length (versions_from a.i.start a.older)) else position_of (serial_at a.i.start (length a.older)) (versions_from a.i.start a.older)) (eq_self (serial_at a.i.start (length a.older)))
         ∙ ap Some (shorter a.older)
     found (x ∷ newer) few =
         let size = length-append newer (set ∷ a.older) in
@@ -135,7 +124,7 @@ stands_published past i y session serial set a room = by_session (i.session == s
             older = a.older;
             sets = ap (λ x. y ∷ x.sets) same ∙ ap (λ x. y ∷ x) a.sets;
             serial_is = a.serial_is ∙ ap (λ x. serial_at x.start (length a.older)) (sym same);
-            young = (let few : length a.newer + 1 < 2 ^ 31 = room (equal_of i.session session e) in omega (arith, few));
+            young = (let few : length a.newer + 1 < 2 ^ 31 = room (eq_of i.session session e) in omega (arith, few));
             low = a.low;
           },
           refl,
@@ -174,5 +163,5 @@ stands_restarted all i session serial set new a = (
     none_some o p q = let h : ◌≡◌ {A = Option Instance} None (Some a.i) = sym p ∙ q in cc
 
     by_session : (b : Bool) → (i.session == session) ≡ b → find_session session (i ∷ all) ≡ Some a.i
-    by_session true e = absurd (none_some (find_session session all) (subst (λ s. find_session s all ≡ None) (equal_of i.session session e) new) a.found)
+    by_session true e = absurd (none_some (find_session session all) (subst (λ s. find_session s all ≡ None) (eq_of i.session session e) new) a.found)
     by_session false e = ap (λ b. if b then Some i else find_session session all) e ∙ a.found

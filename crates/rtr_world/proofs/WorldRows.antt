@@ -7,6 +7,7 @@ use Rattle.vrps.proofs.SetLaws.{has-empty, listing-set_of, size-set_of}
 use Rattle.rtr_pdu.specs.Judging.{judge}
 use Rattle.rtr_pdu.specs.Stream.{as_read}
 use Rattle.rtr_pdu.specs.declared.unit.Unit.TheVariants.{CacheResponse, EndOfData, Prefix}
+use Rattle.rtr_pdu.specs.declared.version.Version.TheVariants.{V1}
 use Rattle.rtr_ends.specs.Answer.{sent_all}
 use Rattle.rtr_ends.specs.Cache.{Conn, new_conn, conn_takes, conn_byte, conn_pulled}
 use Rattle.rtr_ends.specs.Feeding.{FedPiece, feed}
@@ -72,7 +73,7 @@ replied due = record { state = record { cache = with_v; agreed = true; ended = f
 
 query_read : after (On 0 (CacheGets 8)) (Done None) (world (open_side asking (new_conn with_v) reset_bytes [])) ≡ world (open_side asking (replied answer_bytes) [] [])
 unfolding goes_through settled settle side_step cache_gets conn_takes conn_byte judge as_read
-query_read = ap (λ vs. world (open_side asking (replied (sent_all (with_all_of 5 just_v vs))) [] [])) (listing-set_of (v ∷ []) v_ascends)
+query_read = ap (λ vs. world (open_side asking (replied (sent_all V1 (with_all_of 5 just_v vs))) [] [])) (listing-set_of (v ∷ []) v_ascends)
 
 answer_sent : after (On 0 (CacheSends 52)) (Done None) (world (open_side asking (replied answer_bytes) [] [])) ≡ world (open_side asking (replied []) [] answer_bytes)
 unfolding goes_through settled settle side_step cache_sends conn_pulled

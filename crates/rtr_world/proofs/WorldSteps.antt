@@ -31,9 +31,10 @@ use Rattle.rtr_world.proofs.SideLaws.{all_new, all_on_side, all_map, all_both}
 use Rattle.rtr_world.proofs.SideSteps.{live_map}
 use Rattle.rtr_world.proofs.UnitStreams.{Stream}
 use Rattle.rtr_world.proofs.KeptTables.{AllTell, SideTells, after_tells, new_side_tells, tables}
-use Rattle.rtr_world.proofs.Versions.{Stands, TableAt, Present, table_named, position_at, of_present, stands_published, stands_restarted, find_session, same_number, equal_of, equal_true, lt_of, lt_true, some_is}
+use Rattle.rtr_world.proofs.Versions.{Stands, TableAt, Present, table_named, position_at, of_present, stands_published, stands_restarted, find_session, lt_of, some_is}
 use Rattle.rtr_world.proofs.LinkedSides.{Seen, IsSeen}
 use Rattle.rtr_world.proofs.ActingOnce.{each_once}
+use Rattle.prefixes.proofs.Basics.{eq_self, eq_of, eq_true, lt_true}
 
 pub record GoodWorld (w : World) : Type 0 where
   pub present : Present (instances w) w.present
@@ -102,7 +103,7 @@ module _ (keep : ℕ) (past : List Instance) (i : Instance) (y : VrpSet) (p : Pr
       test e =
           let found = of_present (i ∷ past) i p version.session version.serial table t (sym e) in
           let place : position_of version.serial (versions i) ≡ Some (length t.older) = ap (λ x. position_of version.serial (versions x)) (sym found) ∙ position_at (i ∷ past) version.session version.serial table t in
-          ap (is_near i) (sym place) ∙ sym (ap (λ b. if b then is_near i (position_of version.serial (versions i)) else true) (equal_true i.session version.session e)) ∙ room
+          ap (is_near i) (sym place) ∙ sym (ap (λ b. if b then is_near i (position_of version.serial (versions i)) else true) (eq_true i.session version.session e)) ∙ room
 
   table_published : (version : Option Committed) (table : VrpSet) → room_for i version ≡ true → TableAt (i ∷ past) version table → TableAt (next ∷ past) version table
   table_published None table room t = t
@@ -112,7 +113,7 @@ module _ (keep : ℕ) (past : List Instance) (i : Instance) (y : VrpSet) (p : Pr
   room_seen : (home : Option Instance) (h : Seen) → IsSeen keep home (Some h) → room_since i home ≡ true → i.session ≡ h.session → nat_lt (length i.sets - (length h.sets - 1)) (2 ^ 31) ≡ true
   room_seen None h seen room e = absurd seen
   room_seen (Some home) h seen room e =
-      let test : nat_lt (length i.sets - (length home.sets - 1)) (2 ^ 31) ≡ true = sym (ap (λ b. if b then is_near i (Some (length home.sets - 1)) else true) (equal_true i.session home.session (e ∙ seen.2))) ∙ room in
+      let test : nat_lt (length i.sets - (length home.sets - 1)) (2 ^ 31) ≡ true = sym (ap (λ b. if b then is_near i (Some (length home.sets - 1)) else true) (eq_true i.session home.session (e ∙ seen.2))) ∙ room in
       let few = lt_of (length i.sets - (length home.sets - 1)) 2147483648 test in
       let more = seen.3 in
       lt_true (length i.sets - (length h.sets - 1)) 2147483648 (omega (arith, few, more))
@@ -183,7 +184,7 @@ module _ (keep : ℕ) (past : List Instance) (old i : Instance) (new : find_sess
     where
       by_session : (b : Bool) → (i.session == h.made.session) ≡ b → find_session h.made.session (i ∷ (old ∷ past)) ≡ Some f.latest
       by_session true e =
-          let none : find_session h.made.session (old ∷ past) ≡ None = subst (λ s. find_session s (old ∷ past) ≡ None) (equal_of i.session h.made.session e) new in
+          let none : find_session h.made.session (old ∷ past) ≡ None = subst (λ s. find_session s (old ∷ past) ≡ None) (eq_of i.session h.made.session e) new in
           absurd (let k : ◌≡◌ {A = Option Instance} None (Some f.latest) = sym none ∙ f.found in cc)
       by_session false e = ap (λ b. if b then Some i else find_session h.made.session (old ∷ past)) e ∙ f.found
 
@@ -247,7 +248,7 @@ through_good (Publish set) wanting w fits may g t = by_current (is_current w.pre
         subst (λ b. GoodWorld (record w { present = if b then i else record i { sets = set ∷ i.sets } })) (sym e)
         (record {
           present = record {
-            found = ap (λ b. if b then Some (record i { sets = set ∷ i.sets }) else find_session i.session w.past) (same_number i.session);
+            found = ap (λ b. if b then Some (record i { sets = set ∷ i.sets }) else find_session i.session w.past) (eq_self i.session);
             is = subst (λ b. IsInstance (if b then i else record i { sets = set ∷ i.sets })) e n;
           };
           sides = sides_published w.keep w.past i set g.present w.sides (or_cases (is_current i.sets set) (all_have_room i w.sides) free e) g.sides;
@@ -258,7 +259,7 @@ through_good (Restart session start) wanting w fits may g t =
     let new : find_session session (instances w) ≡ None = none_found (find_session session (instances w)) unused in
     record {
       present = record {
-        found = ap (λ b. if b then Some (record { session = session; start = start; sets = [] }) else find_session session (instances w)) (same_number session);
+        found = ap (λ b. if b then Some (record { session = session; start = start; sets = [] }) else find_session session (instances w)) (eq_self session);
         is = record { session = fits.0; start = fits.1; sets = tt; news = tt };
       };
       sides = all_map (Good w.keep w.past w.present) (Good w.keep (instances w) (record { session = session; start = start; sets = [] })) cache_gone w.sides
@@ -301,7 +302,7 @@ new_good made is =
     let i : Instance = record { session = made.session; start = made.start; sets = [] } in
     record {
       present = record {
-        found = ap (λ b. if b then Some (record { session = made.session; start = made.start; sets = [] }) else None) (same_number made.session);
+        found = ap (λ b. if b then Some (record { session = made.session; start = made.start; sets = [] }) else None) (eq_self made.session);
         is = record { session = is.session; start = is.start; sets = tt; news = tt };
       };
       sides = all_new (Good made.keep [] (record { session = made.session; start = made.start; sets = [] })) (record { seen = None; is_seen = tt; order = record { never_back = tt; current = tt; at_seen = tt }; router = record { table = refl; unmarked = refl; link = (refl, refl, refl, refl) } }) made.routers;

@@ -6,6 +6,7 @@ use Rattle.vrps.specs.VrpSet.{VrpSet}
 use Rattle.rtr_pdu.specs.Code.{INTERNAL_ERROR}
 use Rattle.rtr_pdu.specs.declared.unit.Unit.{Unit}
 use Rattle.rtr_pdu.specs.declared.unit.Unit.TheVariants.{SerialNotify, CacheResponse, Prefix, EndOfData, RouterKey}
+use Rattle.rtr_pdu.specs.declared.version.Version.TheVariants.{V1}
 use Rattle.rtr_ends.specs.Answer.{answer, report, sent, sent_all}
 use Rattle.rtr_ends.specs.Commit.{Commits}
 use Rattle.rtr_ends.specs.Connection.{IsLater, takes_memory}
@@ -30,7 +31,7 @@ NotifiesOf one (unit ∷ units) = NotifiesOf one units
 abbrev pub IsPart : List ℕ → List Unit → Type 0
 IsPart [] units = ⊤
 IsPart (b ∷ held) [] = ⊥
-IsPart (b ∷ held) (unit ∷ units) = (next : ℕ) × (rest : List ℕ) × ((b ∷ held) ++ next ∷ rest ≡ sent unit)
+IsPart (b ∷ held) (unit ∷ units) = (next : ℕ) × (rest : List ℕ) × ((b ∷ held) ++ next ∷ rest ≡ sent V1 unit)
 
 -- the units of the answer that were read so far, the first one first
 abbrev pub answered : List Item → List Unit
@@ -53,7 +54,7 @@ pub record WasSo (w : World) (home cache : Instance) : Type 0 where
 pub record IsAnswer (w : World) (home : Instance) (question : Question) (units : List Unit) : Type 0 where
   pub cache : Instance
   pub was : WasSo w home cache
-  pub are : units ≡ (answer cache w.keep timing (query question)).units
+  pub are : units ≡ (answer V1 cache w.keep timing (query question)).units
 
 -- or Error Report 1 in the place of one that may take memory.
 pub record IsWantingAnswer (w : World) (home : Instance) (question : Question) (units : List Unit) : Type 0 where
@@ -119,7 +120,7 @@ pub record OneAnswer (w : World) (s : Side) : Type 0 where
   pub home_is : s.home ≡ Some home
   pub coming : List Unit
   pub lost : List ℕ
-  pub bytes : s.router.held ++ (s.down ++ (conn_due s.conn ++ lost)) ≡ sent_all coming
+  pub bytes : s.router.held ++ (s.down ++ (conn_due s.conn ++ lost)) ≡ sent_all V1 coming
   pub part : IsPart s.router.held coming
   pub whole : (s.conn ≡ None → ⊥) → lost ≡ []
   pub notifies : NotifiesOf home.session coming
@@ -136,6 +137,6 @@ Between w s link = OneAnswer w s
 -- Report 1 in the place of one that may take memory.
 abbrev pub IsOfNow : Instance → ℕ → Option ℕ → Link → List ℕ → Type 0
 IsOfNow cache keep wanting (Asked question) due =
-    (due ≡ sent_all (answer cache keep timing (query question)).units)
-    ⊎ (IsSome wanting × (takes_memory cache (query question) ≡ true) × (due ≡ sent_all (report INTERNAL_ERROR [] ∷ [])))
+    (due ≡ sent_all V1 (answer V1 cache keep timing (query question)).units)
+    ⊎ (IsSome wanting × (takes_memory cache (query question) ≡ true) × (due ≡ sent_all V1 (report INTERNAL_ERROR [] ∷ [])))
 IsOfNow cache keep wanting link due = ⊥

@@ -13,6 +13,7 @@ use Rattle.prefixes.specs.Payload.{block_cmp, block_of, covers, prefix_cmp, widt
 use Rattle.prefixes.specs.declared.prefix.IpPrefix.{IpPrefix}
 use Rattle.prefixes.specs.declared.prefix.IpPrefix.TheVariants.{V4, V6}
 use Rattle.vrps.specs.Keys.{agree, cut, cut_block, up_to}
+use Rattle.prefixes.proofs.Basics.{eq_of, eq_true}
 
 -- p is before q, or p is q's address and not longer
 rank : (p q : Block) → is_le (block_cmp p q) ≡ true → (p.addr < q.addr) ⊎ ((p.addr ≡ q.addr) × (p.len ≤ q.len))
@@ -84,12 +85,6 @@ covering_addr w p q h e =
     let is : p.addr ≡ cut_addr w p.addr p.len = omega (arith, whole, none) in
     is ∙ ap (λ n. n * 2 ^ (w - p.len)) e
 
-same_number : (a b : ℕ) → (a == b) ≡ true → a ≡ b
-same_number a b h = grind (arith, nat_tests)
-
-number_itself : (a b : ℕ) → a ≡ b → (a == b) ≡ true
-number_itself a b h = grind (arith, nat_tests)
-
 no_longer : (a b : ℕ) → nat_le a b ≡ true → a ≤ b
 no_longer a b h = grind (arith, nat_tests)
 
@@ -97,7 +92,7 @@ no_longer a b h = grind (arith, nat_tests)
 block_after : (w : ℕ) (p r : Block) (c : ℕ) → IsPrefix w p → c ≤ w → is_le (block_cmp p (cut_block w r c)) ≡ false → contains w p r ≡ true → c < p.len
 block_after w p r c h within after it =
     let parts = and_parts (nat_le p.len r.len) _ it in
-    let addr : p.addr ≡ cut_addr w r.addr p.len = covering_addr w p r h (same_number _ _ parts.1) in
+    let addr : p.addr ≡ cut_addr w r.addr p.len = covering_addr w p r h (eq_of _ _ parts.1) in
     elim (not_rank p (cut_block w r c) after) [
       | inl more ↦ by_length (λ short. let k = cut_rises w r.addr p.len c short within in absurd (omega (arith, k, addr, more)))
       | inr more ↦ more.1
@@ -111,7 +106,7 @@ block_before : (w : ℕ) (p q r : Block) (c : ℕ) → IsPrefix w p → c ≤ w 
     → p.len ≤ c → (first_bits w q.addr p.len ≡ first_bits w r.addr p.len) × (p.len < c)
 block_before w p q r c h within up less it short =
     let parts = and_parts (nat_le p.len r.len) _ it in
-    let bits = same_number _ _ parts.1 in
+    let bits = eq_of _ _ parts.1 in
     let addr : p.addr ≡ cut_addr w r.addr p.len = covering_addr w p r h bits in
     let cut_low = cut_below w r.addr c in
     let high : q.addr ≤ r.addr = elim (rank q (cut_block w r c) up) [ inl k ↦ omega (arith, k, cut_low) | inr k ↦ omega (arith, k.0, cut_low) ] in
@@ -136,8 +131,8 @@ block_shorter : (w : ℕ) (p q r : Block) → IsPrefix w p → IsPrefix w q → 
 block_shorter w p q r h k less it other =
     let parts = and_parts (nat_le p.len r.len) _ it in
     let others = and_parts (nat_le q.len r.len) _ other in
-    let addr : p.addr ≡ cut_addr w r.addr p.len = covering_addr w p r h (same_number _ _ parts.1) in
-    let above : q.addr ≡ cut_addr w r.addr q.len = covering_addr w q r k (same_number _ _ others.1) in
+    let addr : p.addr ≡ cut_addr w r.addr p.len = covering_addr w p r h (eq_of _ _ parts.1) in
+    let above : q.addr ≡ cut_addr w r.addr q.len = covering_addr w q r k (eq_of _ _ others.1) in
     elim (strictly p q less) [
       | inl lower ↦ by_length (λ long. let rises = cut_rises w r.addr q.len p.len long h.in_family in absurd (omega (arith, rises, addr, above, lower)))
       | inr lower ↦ lower.1
@@ -155,8 +150,8 @@ longer_after (V6 p) (V4 r) c h within after it = absurd (let e : false ≡ true 
 
 pub agrees_before : (p q r : IpPrefix) (c : ℕ) → IsPrefix (width_of p) (block_of p) → c ≤ width_of r → up_to q (cut r c) ≡ true → prefix_cmp p q ≡ Less → covers p r ≡ true → (block_of p).len ≤ c
     → (agree q r (block_of p).len ≡ true) × ((block_of p).len < c)
-agrees_before (V4 p) (V4 q) (V4 r) c h within up less it short = let both = block_before 32 p q r c h within up less it short in (number_itself _ _ both.0, both.1)
-agrees_before (V6 p) (V6 q) (V6 r) c h within up less it short = let both = block_before 128 p q r c h within up less it short in (number_itself _ _ both.0, both.1)
+agrees_before (V4 p) (V4 q) (V4 r) c h within up less it short = let both = block_before 32 p q r c h within up less it short in (eq_true _ _ both.0, both.1)
+agrees_before (V6 p) (V6 q) (V6 r) c h within up less it short = let both = block_before 128 p q r c h within up less it short in (eq_true _ _ both.0, both.1)
 agrees_before (V4 p) (V6 q) (V4 r) c h within up less it short = absurd (let e : false ≡ true = up in cc)
 agrees_before (V6 p) (V4 q) (V6 r) c h within up less it short = absurd (cc)
 agrees_before (V4 p) q (V6 r) c h within up less it short = absurd (let e : false ≡ true = it in cc)

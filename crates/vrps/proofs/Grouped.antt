@@ -20,10 +20,7 @@ use Rattle.vrps.specs.Groups.{AreGroups, begin, group_at, prefix_at}
 use Rattle.vrps.specs.Keys.{agree, cut, up_to}
 use Rattle.vrps.specs.Search.{CostsDigits, CostsLengths, IsLeft, IsNextGroup, IsUpTo, NoneCovers, digit_count}
 use Rattle.vrps.proofs.Blocks.{agrees_before, longer_after, shorter_before}
-
-pub not_true : (b : Bool) → (b ≡ true → ⊥) → b ≡ false
-not_true true h = absurd (h refl)
-not_true false h = refl
+use Rattle.prefixes.proofs.Basics.{false_if_never}
 
 module _ (records : List Payload) (starts : List ℕ) (g : AreGroups records starts) where
   -- where groups begin rises with their places
@@ -91,7 +88,7 @@ module _ (records : List Payload) (starts : List ℕ) (g : AreGroups records sta
   -- What is after the cut, and is not longer than it, doesn't cover.
   pub none_after : (prefix : IpPrefix) (places lengths c found : ℕ) → IsLeft records starts prefix places lengths → lengths ≡ c + 1 → IsUpTo records starts places (cut prefix c) found
       → NoneCovers records prefix (begin records starts found) (begin records starts places)
-  none_after prefix places lengths c found left is up k d low high = not_true _ (λ it.
+  none_after prefix places lengths c found left is up k d low high = false_if_never _ (λ it.
       let in_places = left.in_places in
       let in_lengths = left.in_lengths in
       let in_family = left.in_family in

@@ -19,7 +19,8 @@ use Rattle.vrps.specs.Origin.{covers_route, is_origin, matches, state_among}
 use Rattle.vrps.specs.Search.{IsNextGroup, NoneCovers, digit_count}
 use Rattle.vrps.specs.declared.origin.OriginState.{OriginState}
 use Rattle.vrps.specs.declared.origin.OriginState.TheVariants.{Valid, Invalid, NotFound}
-use Rattle.vrps.proofs.Grouped.{begins_up_to, begins_within, not_true}
+use Rattle.vrps.proofs.Grouped.{begins_up_to, begins_within}
+use Rattle.prefixes.proofs.Basics.{false_if_never}
 
 -- What the records from a place on say of the route
 abbrev pub Judged : List Payload → Route → ℕ → OriginState → Type 0
@@ -68,7 +69,7 @@ module _ (records : List Payload) (starts : List ℕ) (g : AreGroups records sta
   -- a group in which none matches
   pub none_more : NoneMatches records r (begin records starts places) → list_any (matches r) group ≡ false → NoneMatches records r (begin records starts new)
   none_more none missed k d from low = elim (cases_lt k (begin records starts (new + 1))) [
-    | inl inside ↦ not_true _ (λ it.
+    | inl inside ↦ false_if_never _ (λ it.
         let end = g.within (new + 1) in
         let at = get_or-between records (begin records starts new) (begin records starts (new + 1)) (k - begin records starts new) d (omega (arith, from, inside)) in
         let is : begin records starts new + (k - begin records starts new) ≡ k = omega (arith, from) in

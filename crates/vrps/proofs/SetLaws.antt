@@ -16,11 +16,12 @@ use Rattle.prefixes.specs.Payload.{Payload, vrp_cmp}
 use Rattle.prefixes.specs.Orders.{vrp_total, vrp_exact}
 use Rattle.vrps.specs.VrpSet.{VrpSet, empty, has, listing, with_member, with_all, set_of, union, without, size}
 use Rattle.vrps.specs.Change.{between, apply, merge}
+use Rattle.prefixes.proofs.Basics.{or_swap}
 
 abbrev pub same_vrp : Payload → Payload → Bool
 same_vrp = eq_by_cmp vrp_cmp
 
-some_or : (b : Bool) (x : Option (Unit {0})) → is_some (cond b (Some tt) x) ≡ (b || is_some x)
+pub some_or : (b : Bool) (x : Option (Unit {0})) → is_some (cond b (Some tt) x) ≡ (b || is_some x)
 some_or true x = refl
 some_or false x = refl
 
@@ -29,11 +30,6 @@ or_none true None = refl
 or_none true (Some u) = refl
 or_none false None = refl
 or_none false (Some u) = refl
-
-or_swap : (a b c : Bool) → (a || (b || c)) ≡ (b || (a || c))
-or_swap true true c = refl
-or_swap true false c = refl
-or_swap false b c = refl
 
 pub has-empty : (q : Payload) → has empty q ≡ false
 has-empty q = ap is_some (map.get-empty vrp_cmp q)

@@ -5,7 +5,6 @@ use Rattle.std.specs.FinMap as map
 use Rattle.std.proofs.Math.Bool.{and-true}
 use Rattle.std.proofs.lemmas.Bool.Decides.{nat_tests}
 use Rattle.prefixes.specs.Payload.{Payload, vrp_cmp}
-use Rattle.vrps.proofs.Grouped.{not_true}
 use Rattle.std.proofs.lemmas.Bool.{cases_lt}
 use Rattle.std.proofs.lemmas.List.{get_or-reverse, get_or_default, length-reverse}
 use Rattle.vrps.specs.Change.{between}
@@ -22,6 +21,7 @@ use Rattle.vrps.proofs.Listed.{lists, part_is_set, size_of_listing}
 use Rattle.vrps.proofs.SetLaws.{apply-between, has-empty, has-without, merge-between, same_set, set_of-listing}
 use Rattle.vrps.proofs.VersionLaws.{same_exactly}
 use Rattle.vrps.proofs.WholeLaws.{knows, knows_not}
+use Rattle.prefixes.proofs.Basics.{false_if_never}
 
 -- The set before the step between two sets is the first of them.
 pub back_between : (s t : VrpSet) → back (between s t) t ≡ s
@@ -177,7 +177,7 @@ is_the_current now set (x ∷ older) e a b = (same_exactly x set).1 (sym (some_i
 
 pub is_another : (now set : VrpSet) (sets : List VrpSet) → Some now ≡ newest_set sets → ((size (without now set) ≡ 0) × (size (without set now) ≡ 0) → ⊥) → is_current sets set ≡ false
 is_another now set [] e h = absurd (let k : ◌≡◌ {A = Option VrpSet} (Some now) None = e in cc)
-is_another now set (x ∷ older) e h = not_true (is_same x set) (λ it.
+is_another now set (x ∷ older) e h = false_if_never (is_same x set) (λ it.
     let same : now ≡ set = some_is now x e ∙ (same_exactly x set).0 it in
     h (ap (λ y. size (without now y)) (sym same) ∙ size_nothing now, ap (λ y. size (without y now)) (sym same) ∙ size_nothing now))
 

@@ -18,6 +18,7 @@ use Rattle.vrps.specs.Serial.{serial_at, steps_to}
 use Rattle.vrps.specs.Store.{same_list, is_same, SameExactly, is_current, PublishedIsInstance, NamesItself, KeptIsItself, IsBeforeNewer}
 use Rattle.vrps.specs.VrpSet.{VrpSet, IsVrpSet, listing, set_of}
 use Rattle.vrps.proofs.SetLaws.{set_of-listing}
+use Rattle.prefixes.proofs.Basics.{eq_self}
 
 -- payloads that tie are one
 pub tied : (v w : Payload) → eq_by_cmp vrp_cmp v w ≡ true → v ≡ w
@@ -76,9 +77,6 @@ serial_differs start place steps some few =
     differ : (a b : ℕ) → (a ≡ b → ⊥) → (a == b) ≡ false
     differ a b h = grind (arith, nat_tests, h)
 
-pub same_serial : (n : ℕ) → (n == n) ≡ true
-same_serial n = grind (arith, nat_tests)
-
 -- how many versions are newer
 place_of : (newer : List VrpSet) (set : VrpSet) (older : List VrpSet) → length (newer ++ set ∷ older) ≡ length older + (length newer + 1)
 place_of newer set older = omega (arith, length-append newer (set ∷ older))
@@ -94,7 +92,7 @@ abbrev the_version : ℕ → VrpSet → List VrpSet → NumberedSet
 the_version start set older = record { serial = serial_at start (length older); set = set }
 
 pub names_itself : NamesItself
-names_itself start [] set older few = ap (λ b. if b then Some (the_version start set older) else with_serial (serial_at start (length older)) (versions_from start older)) (same_serial (serial_at start (length older)))
+names_itself start [] set older few = ap (λ b. if b then Some (the_version start set older) else with_serial (serial_at start (length older)) (versions_from start older)) (eq_self (serial_at start (length older)))
 names_itself start (x ∷ newer) set older few =
     ap (λ b. if b then Some (the_version start x (newer ++ set ∷ older)) else with_serial (serial_at start (length older)) (versions_from start (newer ++ set ∷ older))) (passed start x newer set older (omega (arith, few)))
     ∙ names_itself start newer set older (omega (arith, few))
@@ -102,7 +100,7 @@ names_itself start (x ∷ newer) set older few =
 pub kept_is_itself : KeptIsItself
 kept_is_itself start zero newer set older few = inl refl
 kept_is_itself start (suc kept) [] set older few =
-    inr (ap (λ b. if b then Some (the_version start set older) else with_serial (serial_at start (length older)) (take kept (versions_from start older))) (same_serial (serial_at start (length older))))
+    inr (ap (λ b. if b then Some (the_version start set older) else with_serial (serial_at start (length older)) (take kept (versions_from start older))) (eq_self (serial_at start (length older))))
 kept_is_itself start (suc kept) (x ∷ newer) set older few =
     let on = ap (λ b. if b then Some (the_version start x (newer ++ set ∷ older)) else with_serial (serial_at start (length older)) (take kept (versions_from start (newer ++ set ∷ older)))) (passed start x newer set older (omega (arith, few))) in
     elim (kept_is_itself start kept newer set older (omega (arith, few))) [ inl none ↦ inl (on ∙ none) | inr it ↦ inr (on ∙ it) ]

@@ -11,7 +11,7 @@ use Rattle.vrps.specs.Wholes.{HoldsSets, IsBehind}
 use Rattle.vrps.specs.Serial.{serial_at}
 use Rattle.vrps.specs.Store.{Known, Unknown, is_current, published, since, step_from}
 use Rattle.vrps.specs.VrpSet.{VrpSet}
-use Rattle.vrps.proofs.VersionLaws.{same_serial}
+use Rattle.prefixes.proofs.Basics.{eq_self}
 
 -- how far behind a version stands
 abbrev Behind : ℕ → ℕ → ℕ → ℕ → Type 0
@@ -24,7 +24,7 @@ other_serial a serial behind e low few = differ a serial (λ same. absurd (omega
     differ a b h = grind (arith, nat_tests, h)
 
 this_serial : (a serial : ℕ) → a ≡ (serial + 0) % 2 ^ 32 → serial < 2 ^ 32 → (a == serial) ≡ true
-this_serial a serial e low = let same : a ≡ serial = omega (arith, e, low) in ap (λ x. x == serial) same ∙ same_serial serial
+this_serial a serial e low = let same : a ≡ serial = omega (arith, e, low) in ap (λ x. x == serial) same ∙ eq_self serial
 
 abbrev set_with : ℕ → ℕ → List NumberedSet → Option VrpSet
 set_with serial m vs = option_map (λ v. v.set) (with_serial serial (take m vs))

@@ -1,6 +1,7 @@
 use Rattle.std.proofs.Common.{◌≡◌, ◌∙◌, ap, subst, refl}
 use Rattle.rtr_pdu.specs.Unit.{IsUnit}
 use Rattle.rtr_pdu.specs.declared.unit.Unit.TheVariants.{EndOfData}
+use Rattle.rtr_pdu.specs.declared.version.Version.TheVariants.{V1}
 use Rattle.rtr_ends.specs.Answer.{sent}
 use Rattle.rtr_ends.specs.Sender.{serial_in}
 use Rattle.rtr_ends.proofs.SenderLaws.{hands_end}
@@ -13,4 +14,4 @@ returns c =
     λ i. EndOfData c.args.self.now.session (c.serial.ensures i) (c.refresh.ensures.value i) (c.retry.ensures.value i) (c.expire.ensures.value i) in
     hands_end c.args.self.now c.args.cursor
     (record { session = c.args.self.now.session; timing = c.args.self.now.timing; ready = c.args.self.now.ready; answer = c.args.self.now.answer; buffer = c.encode.new.buffer; pulled = 0 })
-    c.keep.new.self c.requires.at (c.encode.ensures.bytes ∙ ap sent is) refl refl refl refl (subst IsUnit is c.encode.ensures.unit) c.keep.ensures
+    c.keep.new.self c.requires.at (c.encode.ensures.bytes ∙ ap (sent V1) is) refl refl refl refl (subst IsUnit is c.encode.ensures.unit) c.keep.ensures

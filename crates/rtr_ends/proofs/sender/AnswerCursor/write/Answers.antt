@@ -5,7 +5,7 @@ use Rattle.vrps.proofs.Listed.{size_of_listing}
 use Rattle.vrps.specs.VrpSet.{listing}
 use Rattle.rtr_ends.specs.Sender.{Writes, units_in}
 use Rattle.rtr_ends.proofs.SenderLaws.{withdrawn_at}
-use Rattle.rtr_ends.proofs.sender.Cursor.write.Goals as goal
+use Rattle.rtr_ends.proofs.sender.AnswerCursor.write.Goals as goal
 
 pub returns-then-self-withdrawn-clause-low : goal.returns-then-self-withdrawn-clause-low
 returns-then-self-withdrawn-clause-low c = λ some.
