@@ -8,6 +8,7 @@ pub mod RoaGrowing
 pub mod Decoding
 pub mod RoaRefusals
 pub mod RoaRows
+pub mod RoaSets
 pub mod Manifests
 pub mod ManifestOnce
 pub mod ManifestLaws

@@ -3,23 +3,23 @@ use Rattle.std.proofs.Common.{◌≡◌, ℕ, pos, Bool, true, false, not, ◌&&
 use Rattle.std.proofs.lemmas.Bool.{and_parts, or_parts, not-false, eqb-true, ne_eqb}
 use Rattle.der_lite.specs.Place.{Place, Fault}
 use Rattle.der_lite.specs.Der.{number, is_integer, IntSpells, is_bit_string, bit_count, head_rules, is_truncated, has_der_length, tag_of}
-use Rattle.der_lite.specs.Grammar.{element, primitive}
+use Rattle.der_lite.specs.Grammar.{KeepsRules, element, primitive}
 use Rattle.der_lite.specs.DerReading.{◌>>=◌, judged, element_at, content_at, integer_at, content_place, next_place}
 use Rattle.der_lite.specs.Decoding.{Read, read_element, read_primitive}
-use Rattle.der_lite.specs.Values.{bits_value}
+use Rattle.der_lite.specs.Values.{is_negative, between_rules, bits_value}
 use Rattle.der_lite.specs.Fields.{field_at}
 use Rattle.der_lite.proofs.Rules.{judged-bind, kept_first, kept_on}
 use Rattle.der_lite.proofs.Elements.{head_kept}
 use Rattle.der_lite.proofs.Exact.{ExactElement, ExactContent, IsHead, exact_element, exact_primitive}
 use Rattle.der_lite.proofs.ContentReads.{exact_along}
 use Rattle.der_lite.proofs.FieldLaws.{judged-append, exact_field}
-use Rattle.der_lite.proofs.Integers.{exact_between}
+use Rattle.der_lite.proofs.Integers.{value_is, pos_is, between_kept, exact_between}
 use Rattle.der_lite.proofs.BitStrings.{taken, bits_spelled}
 use Rattle.prefixes.specs.Payload.{block_of, width_of}
 use Rattle.prefixes.specs.declared.prefix.IpPrefix.{IpPrefix}
 use Rattle.payloads.specs.declared.roa_family.AddressFamily.{AddressFamily}
 use Rattle.payloads.specs.declared.roa_family.AddressFamily.TheVariants.{Ipv4, Ipv6}
-use Rattle.payloads.specs.Roa.{first_head, as_id, family_number, number_before, is_family, family_rules, FamilySpells, address_family, family_width, of_bits, PrefixSpells, address_rules, address, max_length}
+use Rattle.payloads.specs.Roa.{first_head, as_id, family_number, number_before, is_family, family_rules, FamilySpells, address_family, family_width, of_bits, PrefixSpells, address_rules, address, needed_rules, maximum_rules, max_length}
 use Rattle.payloads.specs.RoaReading.{with_version, range_rules, as_id_at, family_in, address_family_at, prefix_in, address_at, max_length_at}
 
 -- ---- the place of the version
@@ -133,8 +133,28 @@ exact_address family =
     (λ content bytes kept. record { bits = bits_value content; spelled = bits_spelled content (not-false (is_bit_string content) (kept_first 4 (not (is_bit_string content)) ((10, ltb (family_width family) (bit_count content)) ∷ []) kept).0); is = refl })
     (λ content prefix kept s. ap (of_bits family) (ap bits_value s.spelled.counted ∙ taken s.spelled.unused s.spelled.body s.bits s.spelled.padded) ∙ sym s.is))
 
+-- the content of a maximum length that keeps its rules is in range, and not the length of the prefix
+pub maximum_kept : (prefix : IpPrefix) (content : List ℕ) → KeepsRules (maximum_rules prefix content)
+    → KeepsRules (between_rules (block_of prefix).len (width_of prefix) 11 content) × (eqb (number content) (block_of prefix).len ≡ false)
+maximum_kept prefix content kept =
+    let out : Bool = is_negative content || ltb (number content) (block_of prefix).len || ltb (width_of prefix) (number content) in
+    let whole = kept_first 4 (not (is_integer content)) ((11, out) ∷ needed_rules prefix content) kept in
+    let within = kept_first 11 out (needed_rules prefix content) whole.1 in
+    (kept_on 4 (not (is_integer content)) ((11, out) ∷ []) whole.0 (kept_on 11 out [] within.0 refl), (kept_first 20 (eqb (number content) (block_of prefix).len) [] within.1).0)
+
+-- and the other way round
+pub maximum_keeps : (prefix : IpPrefix) (content : List ℕ) → KeepsRules (between_rules (block_of prefix).len (width_of prefix) 11 content) → eqb (number content) (block_of prefix).len ≡ false
+    → KeepsRules (maximum_rules prefix content)
+maximum_keeps prefix content kept needed =
+    let out : Bool = is_negative content || ltb (number content) (block_of prefix).len || ltb (width_of prefix) (number content) in
+    let whole = kept_first 4 (not (is_integer content)) ((11, out) ∷ []) kept in
+    kept_on 4 (not (is_integer content)) ((11, out) ∷ needed_rules prefix content) whole.0
+    (kept_on 11 out (needed_rules prefix content) (kept_first 11 out [] whole.1).0 (kept_on 20 (eqb (number content) (block_of prefix).len) [] needed refl))
+
 pub exact_max_length : (prefix : IpPrefix) → ExactElement (max_length prefix) (max_length_at prefix)
 unfolding max_length max_length_at
 exact_max_length prefix =
-    exact_field 2 (λ content. (4, not (is_integer content)) ∷ []) (range_rules (block_of prefix).len (width_of prefix) 11) number (λ n content. IntSpells (pos n) content)
-    (exact_between (block_of prefix).len (width_of prefix) 11)
+    exact_field 2 (λ content. (4, not (is_integer content)) ∷ []) (λ content. range_rules (block_of prefix).len (width_of prefix) 11 content ++ needed_rules prefix content) number (λ n content. IntSpells (pos n) content)
+    (exact_primitive (λ n content. IntSpells (pos n) content) (maximum_rules prefix) number
+    (λ content bytes kept. let k = between_kept (block_of prefix).len (width_of prefix) 11 content (maximum_kept prefix content kept).0 in record { value = value_is content k.1; fewest = k.0 })
+    (λ content n kept s. let k = between_kept (block_of prefix).len (width_of prefix) 11 content (maximum_kept prefix content kept).0 in pos_is (number content) n (sym (value_is content k.1) ∙ s.value)))

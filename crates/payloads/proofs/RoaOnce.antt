@@ -1,8 +1,8 @@
 -- No ROA has two spellings.
-use Rattle.std.proofs.Common.{◌≡◌, ℕ, ◌+◌, ◌≤◌, Bool, None, not, ltb, List, [], ◌∷◌, length, Option, Some, sym, ap, subst, ◌∙◌, arith}
+use Rattle.std.proofs.Common.{◌≡◌, ℕ, ◌+◌, ◌≤◌, Bool, None, not, ltb, List, [], ◌∷◌, length, pos, Option, Some, sym, ap, subst, ◌∙◌, arith}
 use Rattle.std.proofs.lemmas.Bool.{ltb-false}
 use Rattle.std.specs.List.{last_or}
-use Rattle.der_lite.specs.Der.{BitsSpell, is_bit_string, bit_count, head_rules}
+use Rattle.der_lite.specs.Der.{BitsSpell, IntSpells, is_bit_string, bit_count, head_rules}
 use Rattle.der_lite.specs.Grammar.{KeepsRules, primitive, constructed, member, last, optional, each}
 use Rattle.der_lite.specs.Values.{integer_between}
 use Rattle.der_lite.proofs.Rules.{kept_first}
@@ -15,8 +15,9 @@ use Rattle.prefixes.specs.declared.prefix.IpPrefix.{IpPrefix}
 use Rattle.payloads.specs.declared.roa_family.AddressFamily.{AddressFamily}
 use Rattle.payloads.specs.declared.roa_family.AddressFamily.TheVariants.{Ipv4, Ipv6}
 use Rattle.payloads.specs.declared.roa_entry.RoaEntry.{RoaEntry}
-use Rattle.payloads.specs.Roa.{no_rules, first_head, as_id, FamilySpells, family_rules, address_family, family_width, of_bits, PrefixSpells, address_rules, address, max_length, entry_parts, too_many_rules, order_rules, entry_members, ip_address, not_empty, entry_behind, addresses, ip_family, ip_addr_blocks, route_origin_attestation, roa_payload}
+use Rattle.payloads.specs.Roa.{no_rules, first_head, as_id, FamilySpells, family_rules, address_family, family_width, of_bits, PrefixSpells, address_rules, address, maximum_rules, max_length, entry_parts, too_many_rules, order_rules, entry_members, ip_address, not_empty, entry_behind, addresses, ip_family, ip_addr_blocks, route_origin_attestation, roa_payload}
 use Rattle.payloads.specs.RoaValues.{TreeSpells}
+use Rattle.payloads.proofs.RoaFields.{maximum_kept}
 
 -- ---- a prefix has one list of bits
 
@@ -52,7 +53,9 @@ once_address_family before = once_element 4 (head_rules 4) (primitive FamilySpel
 
 once_max_length : (prefix : IpPrefix) → Once (max_length prefix).Spells
 unfolding max_length
-once_max_length prefix = once_element 2 (head_rules 2) (integer_between (block_of prefix).len (width_of prefix) 11) (once_between (block_of prefix).len (width_of prefix) 11)
+once_max_length prefix =
+    once_element 2 (head_rules 2) (primitive (λ n content. IntSpells (pos n) content) (maximum_rules prefix))
+    (λ n a b ba bb s t. once_between (block_of prefix).len (width_of prefix) 11 n a b ba bb (s.0, (maximum_kept prefix a s.1).0) (t.0, (maximum_kept prefix b t.1).0))
 
 -- ---- the grammar
 

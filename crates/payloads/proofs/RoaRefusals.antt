@@ -3,6 +3,7 @@ use Rattle.std.proofs.Common.{◌≡◌, ◌≢◌, ◌⊎◌, ℕ, zero, suc, �
 use Rattle.std.proofs.lemmas.Bool.{le-ltb, or_parts}
 use Rattle.std.specs.List.{last_or}
 use Rattle.der_lite.specs.Place.{first_of}
+use Rattle.der_lite.specs.Der.{number}
 use Rattle.der_lite.specs.Grammar.{EachSpells}
 use Rattle.der_lite.proofs.Rules.{kept_first}
 use Rattle.der_lite.proofs.Integers.{between_kept, value_is, pos_is}
@@ -12,10 +13,11 @@ use Rattle.prefixes.specs.declared.prefix.IpPrefix.TheVariants.{V4, V6}
 use Rattle.payloads.specs.declared.roa_family.AddressFamily.{AddressFamily}
 use Rattle.payloads.specs.declared.roa_family.AddressFamily.TheVariants.{Ipv4, Ipv6}
 use Rattle.payloads.specs.declared.roa_entry.RoaEntry.{RoaEntry}
-use Rattle.payloads.specs.RoaEntries.{is_not_above, is_bad_maximum}
+use Rattle.payloads.specs.RoaEntries.{is_not_above, is_bad_maximum, is_superfluous}
 use Rattle.payloads.specs.Roa.{family_number, is_family, address_family, family_width, of_bits, address, max_length, entry_members, ip_address, entry_behind, addresses, ip_family, ip_addr_blocks, RoaTree, route_origin_attestation, roa_payload}
 use Rattle.payloads.specs.RoaValues.{all_entries, TreeSpells, RoaValue, RoaSpells}
 use Rattle.payloads.specs.RoaRefusal.{goes_back, is_family_below, entry_rules, at_index, entries_refusal, roa_refusal}
+use Rattle.payloads.proofs.RoaFields.{maximum_kept}
 use Rattle.payloads.proofs.RoaOnce.{few_bits}
 use Rattle.payloads.proofs.RoaFlats.{family_of, AllIn, IsAddresses, addresses_are}
 use Rattle.payloads.proofs.RoaGrowing.{last_is}
@@ -45,9 +47,20 @@ unfolding max_length
 maximum_right family prefix None inner s = between_right (block_of prefix).len (width_of prefix) (block_of prefix).len (omega arith) (short_prefix family prefix s.0 s.3)
 maximum_right family prefix (Some m) inner s =
     let content = s.4.0 in
-    let k = between_kept (block_of prefix).len (width_of prefix) 11 content s.4.2.1 in
+    let k = between_kept (block_of prefix).len (width_of prefix) 11 content (maximum_kept prefix content s.4.2.1).0 in
     let n = pos_is m _ (sym s.4.2.0.value ∙ value_is content k.1) in
     between_right (block_of prefix).len (width_of prefix) m (omega (arith, n, k.2)) (omega (arith, n, k.3))
+
+-- and it says more than the length of the prefix
+maximum_needed : (family : AddressFamily) (prefix : IpPrefix) (maximum : Option ℕ) (inner : List ℕ) → (entry_members family).Spells (record { prefix = prefix; max_len = maximum }) inner
+    → is_superfluous (record { prefix = prefix; max_len = maximum }) ≡ false
+unfolding max_length
+maximum_needed family prefix None inner s = refl
+maximum_needed family prefix (Some m) inner s =
+    let content = s.4.0 in
+    let kept = maximum_kept prefix content s.4.2.1 in
+    let k = between_kept (block_of prefix).len (width_of prefix) 11 content kept.0 in
+    ap (λ (n : ℕ). eqb n (block_of prefix).len) (pos_is m (number content) (sym s.4.2.0.value ∙ value_is content k.1)) ∙ kept.1
 
 -- ---- an entry
 
@@ -56,8 +69,8 @@ abbrev Behind : AddressFamily → List RoaEntry → Option RoaEntry → Type 0
 Behind family seen before = ((before ≡ last_or None seen) × AllIn family seen) ⊎ ((family ≡ Ipv6) × ((b : RoaEntry) × (before ≡ Some b) × (family_of b.prefix ≡ Ipv4)))
 
 -- one rule behind the others
-rules_kept : (a b c d : Bool) → a ≡ false → b ≡ false → c ≡ false → d ≡ false → first_of ((19, a) ∷ (12, b) ∷ (11, c) ∷ (12, d) ∷ []) ≡ None
-rules_kept a b c d ha hb hc hd = rw (ha, hb, hc, hd) refl
+rules_kept : (a b c d e : Bool) → a ≡ false → b ≡ false → c ≡ false → d ≡ false → e ≡ false → first_of ((19, a) ∷ (12, b) ∷ (11, c) ∷ (20, d) ∷ (12, e) ∷ []) ≡ None
+rules_kept a b c d e ha hb hc hd he = rw (ha, hb, hc, hd, he) refl
 
 -- of one family, or behind IPv4, the family does not go back
 no_way_back : (p q : IpPrefix) (family : AddressFamily) → (family_of p ≡ family) ⊎ (family_of p ≡ Ipv4) → family_of q ≡ family → goes_back p q ≡ false
@@ -106,8 +119,8 @@ entry_right : (family : AddressFamily) (count : ℕ) (seen : List RoaEntry) (bef
     → family_of e.prefix ≡ family → first_of (entry_rules (count + length seen) before e) ≡ None
 unfolding ip_address
 entry_right family count seen before e bytes s h f =
-    rules_kept (leb 65536 (count + length seen)) (is_family_below before e) (is_bad_maximum e) (is_not_above before e)
-    (kept_first 19 (leb 65536 (count + length seen)) [] s.2.0).0 (family_right family seen before e h f) (maximum_right family e.prefix e.max_len s.0 s.2.1)
+    rules_kept (leb 65536 (count + length seen)) (is_family_below before e) (is_bad_maximum e) (is_superfluous e) (is_not_above before e)
+    (kept_first 19 (leb 65536 (count + length seen)) [] s.2.0).0 (family_right family seen before e h f) (maximum_right family e.prefix e.max_len s.0 s.2.1) (maximum_needed family e.prefix e.max_len s.0 s.2.1)
     (order_right family seen before e h f (kept_first 12 (is_not_above (last_or None seen) e) [] s.2.2).0)
 
 -- one more is of the family too
@@ -212,11 +225,12 @@ roa_right roa bytes s = ap (λ (r : RoaValue). roa_refusal r.entries) (sym s.is_
 
 -- ---- what is right with each entry
 
--- four rules are kept
+-- five rules are kept
 pub record RulesKept (index : ℕ) (before : Option RoaEntry) (e : RoaEntry) : Type 0 where
   pub few : leb 65536 index ≡ false
   pub family : is_family_below before e ≡ false
   pub maximum : is_bad_maximum e ≡ false
+  pub needed : is_superfluous e ≡ false
   pub order : is_not_above before e ≡ false
 
 -- nothing is wrong with the first of entries, nor with the others
@@ -224,10 +238,11 @@ pub first_and_later : (index : ℕ) (before : Option RoaEntry) (e : RoaEntry) (e
 first_and_later index before e es h =
     let s = none_at index (first_of (entry_rules index before e)) (entries_refusal (suc index) (Some e) es) h in
     let above : List (ℕ × Bool) = (12, is_not_above before e) ∷ [] in
-    let few = kept_first 19 (leb 65536 index) ((12, is_family_below before e) ∷ (11, is_bad_maximum e) ∷ above) s.0 in
-    let family = kept_first 12 (is_family_below before e) ((11, is_bad_maximum e) ∷ above) few.1 in
-    let maximum = kept_first 11 (is_bad_maximum e) above family.1 in
-    (record { few = few.0; family = family.0; maximum = maximum.0; order = (kept_first 12 (is_not_above before e) [] maximum.1).0 }, s.1)
+    let few = kept_first 19 (leb 65536 index) ((12, is_family_below before e) ∷ (11, is_bad_maximum e) ∷ (20, is_superfluous e) ∷ above) s.0 in
+    let family = kept_first 12 (is_family_below before e) ((11, is_bad_maximum e) ∷ (20, is_superfluous e) ∷ above) few.1 in
+    let maximum = kept_first 11 (is_bad_maximum e) ((20, is_superfluous e) ∷ above) family.1 in
+    let needed = kept_first 20 (is_superfluous e) above maximum.1 in
+    (record { few = few.0; family = family.0; maximum = maximum.0; needed = needed.0; order = (kept_first 12 (is_not_above before e) [] needed.1).0 }, s.1)
 
 -- entries that are right have right maxima
 maxima_from : (index : ℕ) (before : Option RoaEntry) (es : List RoaEntry) (i : ℕ) (d : RoaEntry) → entries_refusal index before es ≡ None → i < length es → is_bad_maximum (get_or es i d) ≡ false

@@ -8,7 +8,7 @@ use Rattle.std.proofs.lemmas.List.{append-nil}
 use Rattle.std.proofs.lemmas.List.Elements.{All-cons}
 use Rattle.std.proofs.Math.Seq.{take-suc}
 use Rattle.der_lite.specs.Place.{first_of}
-use Rattle.der_lite.specs.Der.{IsBytes, length_bytes, tlv}
+use Rattle.der_lite.specs.Der.{IsBytes, number, length_bytes, tlv}
 use Rattle.der_lite.specs.Grammar.{KeepsRules, EachSpells, OptionSpells}
 use Rattle.der_lite.specs.Values.{unsigned_bytes}
 use Rattle.der_lite.specs.Writing.{Adds}
@@ -19,14 +19,16 @@ use Rattle.prefixes.specs.declared.prefix.IpPrefix.TheVariants.{V4, V6}
 use Rattle.payloads.specs.declared.roa_family.AddressFamily.{AddressFamily}
 use Rattle.payloads.specs.declared.roa_family.AddressFamily.TheVariants.{Ipv4, Ipv6}
 use Rattle.payloads.specs.declared.roa_entry.RoaEntry.{RoaEntry}
-use Rattle.payloads.specs.RoaEntries.{is_not_above, is_bad_maximum, HasPrefix}
+use Rattle.payloads.specs.RoaEntries.{is_not_above, is_bad_maximum, is_superfluous, HasPrefix}
 use Rattle.payloads.specs.Roa.{as_id, family_number, family_rules, address_family, address, max_length, ip_address, entry_behind, addresses, ip_family, ip_addr_blocks, Blocks, route_origin_attestation, roa_payload}
 use Rattle.payloads.specs.RoaValues.{RoaValue, all_entries, TreeSpells, RoaSpells}
 use Rattle.payloads.specs.RoaBytes.{address_content, maximum_bytes, entry_bytes, is_of, list_bytes, family_bytes, families_bytes, roa_bytes}
 use Rattle.payloads.specs.RoaRefusal.{goes_back, entry_rules, entries_refusal, roa_refusal}
 use Rattle.payloads.specs.Laws.{RoaRefusesExactly}
 use Rattle.der_lite.proofs.Rules.{kept_on}
+use Rattle.der_lite.proofs.Integers.{value_is, pos_is, between_kept}
 use Rattle.payloads.proofs.Decoding.{value_of}
+use Rattle.payloads.proofs.RoaFields.{maximum_keeps}
 use Rattle.payloads.proofs.RoaFlats.{family_of, AllIn}
 use Rattle.payloads.proofs.RoaGrowing.{last_is}
 use Rattle.payloads.proofs.RoaPrefixes.{address_few, address_are, address_spells}
@@ -139,33 +141,35 @@ roa_are roa =
 -- ---- an entry
 
 -- a maximum that is right
-maximum_spells : (prefix : IpPrefix) (maximum : Option ℕ) → is_bad_maximum (record { prefix = prefix; max_len = maximum }) ≡ false → OptionSpells (max_length prefix).Spells maximum (maximum_bytes maximum)
+maximum_spells : (prefix : IpPrefix) (maximum : Option ℕ) → is_bad_maximum (record { prefix = prefix; max_len = maximum }) ≡ false → is_superfluous (record { prefix = prefix; max_len = maximum }) ≡ false
+    → OptionSpells (max_length prefix).Spells maximum (maximum_bytes maximum)
 unfolding max_length
-maximum_spells prefix None h = refl
-maximum_spells prefix (Some m) h =
+maximum_spells prefix None h needed = refl
+maximum_spells prefix (Some m) h needed =
     let o = or_parts (ltb m (block_of prefix).len) (ltb (width_of prefix) m) h in
     let low : (block_of prefix).len ≤ m = ltb-false m (block_of prefix).len o.0 in
-    let high : m ≤ width_of prefix = ltb-false (width_of prefix) m o.1 in (
-      unsigned_bytes m,
-      record { short = omega (arith, unsigned_few m); spelled = refl },
-      unsigned_spells (block_of prefix).len (width_of prefix) 11 m low high (omega (arith, high, narrow prefix)),
-    )
+    let high : m ≤ width_of prefix = ltb-false (width_of prefix) m o.1 in
+    let content = unsigned_bytes m in
+    let spelled = unsigned_spells (block_of prefix).len (width_of prefix) 11 m low high (omega (arith, high, narrow prefix)) in
+    let k = between_kept (block_of prefix).len (width_of prefix) 11 content spelled.1 in
+    let is : number content ≡ m = pos_is (number content) m (sym (value_is content k.1) ∙ spelled.0.value) in
+    (content, record { short = omega (arith, unsigned_few m); spelled = refl }, (spelled.0, maximum_keeps prefix content spelled.1 (ap (λ (n : ℕ). eqb n (block_of prefix).len) is ∙ needed)))
   where
     narrow : (p : IpPrefix) → width_of p ≤ 128
     narrow (V4 p) = omega arith
     narrow (V6 p) = omega arith
 
 -- an entry with which nothing is wrong
-entry_spells : (family : AddressFamily) (count : ℕ) (before : Option RoaEntry) (e : RoaEntry) → family_of e.prefix ≡ family → HasPrefix e → leb 65536 count ≡ false → is_bad_maximum e ≡ false → is_not_above before e ≡ false
+entry_spells : (family : AddressFamily) (count : ℕ) (before : Option RoaEntry) (e : RoaEntry) → family_of e.prefix ≡ family → HasPrefix e → leb 65536 count ≡ false → is_bad_maximum e ≡ false → is_superfluous e ≡ false → is_not_above before e ≡ false
     → (ip_address family count before).Spells e (entry_bytes e)
 unfolding ip_address entry_bytes
-entry_spells family count before e f is few maximum order =
+entry_spells family count before e f is few maximum needed order =
     let spelled = subst (λ (x : AddressFamily). (address x).Spells e.prefix (tlv 3 (address_content e.prefix))) f (address_spells e.prefix is) in (
       members_bytes e.prefix e.max_len,
       record { short = omega (arith, members_few e.prefix e.max_len); spelled = refl },
       (
         kept_on 19 (leb 65536 count) [] few refl,
-        (tlv 3 (address_content e.prefix), maximum_bytes e.max_len, record { parts = refl }, spelled, maximum_spells e.prefix e.max_len maximum),
+        (tlv 3 (address_content e.prefix), maximum_bytes e.max_len, record { parts = refl }, spelled, maximum_spells e.prefix e.max_len maximum needed),
         kept_on 12 (is_not_above before e) [] order refl,
       ),
     )
@@ -212,7 +216,7 @@ each_spells family count seen (e ∷ es) before right follows those all =
       entry_bytes e,
       list_bytes family es,
       record { parts = ap (λ (l : List ℕ). l ++ list_bytes family es) mine },
-      entry_spells family (count + length seen) (last_or None seen) e those.0 a.0 r.0.few r.0.maximum (above_last seen before e follows r.0.order),
+      entry_spells family (count + length seen) (last_or None seen) e those.0 a.0 r.0.few r.0.maximum r.0.needed (above_last seen before e follows r.0.order),
       each_spells family count (seen ++ e ∷ []) es (Some e) (ap (λ (n : ℕ). entries_refusal n (Some e) es) (sym next) ∙ r.1) (inl (sym (last_is None seen e))) those.1 a.1,
     )
 

@@ -3,7 +3,7 @@ use Rattle.std.specs.Prelude.{ℕ}
 use Rattle.der_lite.specs.Place.{Fault}
 use Rattle.der_lite.specs.Cursors.{der_kind_number as element_number}
 use Rattle.payloads.specs.declared.fault.GrammarFaultKind.{GrammarFaultKind}
-use Rattle.payloads.specs.declared.fault.GrammarFaultKind.TheVariants.{Element, VersionPresent, AsnRange, Family, Empty, PrefixTooLong, MaxLength, Order, NumberRange, TimesOrder, HashAlg, Name, HashLength, NameTwice, TooMany}
+use Rattle.payloads.specs.declared.fault.GrammarFaultKind.TheVariants.{Element, VersionPresent, AsnRange, Family, Empty, PrefixTooLong, MaxLength, Order, NumberRange, TimesOrder, HashAlg, Name, HashLength, NameTwice, TooMany, MaxLengthSuperfluous}
 use Rattle.payloads.specs.declared.fault.GrammarFault.{GrammarFault}
 
 -- the number of each kind of fault
@@ -23,6 +23,7 @@ kind_number Name = 16
 kind_number HashLength = 17
 kind_number NameTwice = 18
 kind_number TooMany = 19
+kind_number MaxLengthSuperfluous = 20
 
 -- a fault by its number
 abbrev pub fault_of : GrammarFault → Fault

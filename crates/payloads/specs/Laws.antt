@@ -1,11 +1,12 @@
 -- What holds of the grammars of payloads.
 use Rattle.std.specs.Prelude.{◌≡◌, ◌↔◌, ℕ, ◌^◌, ◌<◌, ◌⊎◌, true, List, ◌++◌, length, None}
-use Rattle.std.specs.List.{All}
+use Rattle.std.specs.List.{All, Contains}
 use Rattle.der_lite.specs.Der.{IsBytes}
 use Rattle.der_lite.specs.Moments.{is_moment}
+use Rattle.prefixes.specs.Payload.{Payload}
 use Rattle.payloads.specs.RoaEntries.{HasPrefix}
 use Rattle.payloads.specs.Manifest.{ManifestValue, ManifestSpells, ManifestFaultAt}
-use Rattle.payloads.specs.RoaValues.{RoaValue, RoaSpells, RoaFaultAt}
+use Rattle.payloads.specs.RoaValues.{RoaValue, RoaSpells, RoaFaultAt, payloads_of}
 use Rattle.payloads.specs.RoaRefusal.{roa_refusal}
 use Rattle.payloads.specs.ManifestRefusal.{manifest_refusal}
 
@@ -29,6 +30,16 @@ OneFault = OneFaultOf RoaSpells RoaFaultAt × OneFaultOf ManifestSpells Manifest
 
 abbrev pub OneSpelling : Type 0
 OneSpelling = OneSpellingOf RoaSpells × OneSpellingOf ManifestSpells
+
+-- Two lists are one set: what is a member of one is a member of the other.
+abbrev pub SameSet : List Payload → List Payload → Type 0
+SameSet vs ws = (v : Payload) → Contains vs v ↔ Contains ws v
+
+-- Two accepted payloads of ROAs are the same bytes exactly where they are of one AS and validate one set of payloads.
+abbrev pub OnePayload : Type 0
+OnePayload =
+    (a b : List ℕ) (roa other : RoaValue) → IsBytes a → IsBytes b → RoaSpells roa a → RoaSpells other b
+    → (a ≡ b) ↔ ((roa.asn ≡ other.asn) × SameSet (payloads_of roa) (payloads_of other))
 
 -- Nothing is wrong with the value of a ROA exactly where some bytes spell it.
 abbrev pub RoaRefusesExactly : Type 0

@@ -1,9 +1,9 @@
 -- The payload of a ROA (RFC 9582 section 4), and the first fault of bytes that spell none.
-use Rattle.std.specs.Prelude.{◌≡◌, ℕ, ◌+◌, ◌&&◌, ◌||◌, Bool, not, nat_lt, nat_le, ◌==◌, List, [], ◌∷◌, length, slice_index, Option, Some, None}
+use Rattle.std.specs.Prelude.{◌≡◌, ℕ, pos, ◌+◌, ◌&&◌, ◌||◌, Bool, not, nat_lt, nat_le, ◌==◌, List, [], ◌∷◌, ◌++◌, length, slice_index, Option, Some, None}
 use Rattle.std.specs.List.{last_or}
-use Rattle.der_lite.specs.Der.{BIT_STRING, EXPLICIT_0, INTEGER, OCTET_STRING, SEQUENCE, BitsSpell, is_bit_string, bit_count, is_truncated, tag_of, head_rules}
+use Rattle.der_lite.specs.Der.{BIT_STRING, EXPLICIT_0, INTEGER, OCTET_STRING, SEQUENCE, number, BitsSpell, IntSpells, is_bit_string, bit_count, is_truncated, tag_of, head_rules}
 use Rattle.der_lite.specs.Grammar.{Element, Members, element, primitive, constructed, last, member, optional, each}
-use Rattle.der_lite.specs.Values.{integer_between, bits_number}
+use Rattle.der_lite.specs.Values.{between_rules, integer_between, bits_number}
 use Rattle.der_lite.specs.Fields.{valued}
 use Rattle.prefixes.specs.Address.{Block}
 use Rattle.prefixes.specs.Payload.{block_of, width_of}
@@ -88,9 +88,18 @@ address_rules family content = (4, not (is_bit_string content)) ∷ (10, nat_lt 
 unfoldable pub address : AddressFamily → Element IpPrefix
 address family = element BIT_STRING (head_rules BIT_STRING) (primitive (PrefixSpells family) (address_rules family))
 
--- maxLength INTEGER (0..ub), not below the length of the prefix
+-- The maximum length says more than the length of the prefix, which is meant where none is there. That it does is this project's own rule:
+-- so one authorization has one payload.
+abbrev pub needed_rules : IpPrefix → List ℕ → List (ℕ × Bool)
+needed_rules prefix content = (20, number content == (block_of prefix).len) ∷ []
+
+-- not below the length of the prefix and not over the width of its family, and not that length
+abbrev pub maximum_rules : IpPrefix → List ℕ → List (ℕ × Bool)
+maximum_rules prefix content = between_rules (block_of prefix).len (width_of prefix) 11 content ++ needed_rules prefix content
+
+-- maxLength INTEGER (0..ub), over the length of the prefix
 unfoldable pub max_length : IpPrefix → Element ℕ
-max_length prefix = element INTEGER (head_rules INTEGER) (integer_between (block_of prefix).len (width_of prefix) 11)
+max_length prefix = element INTEGER (head_rules INTEGER) (primitive (λ n content. IntSpells (pos n) content) (maximum_rules prefix))
 
 -- the parts of an entry
 abbrev pub entry_parts : RoaEntry → IpPrefix × Option ℕ

@@ -32,7 +32,7 @@ abbrev pub is_length : Option ℕ → ℕ → Bool
 is_length None len = false
 is_length (Some maximum) len = maximum == len
 
--- the maximum length is there and says nothing
+-- the maximum length is there and is the length of the prefix, which is meant without it too
 abbrev pub is_superfluous : RoaEntry → Bool
 is_superfluous entry = is_length entry.max_len (block_of entry.prefix).len
 

@@ -1,5 +1,5 @@
 -- Reading the payload of a ROA over what the reads of a cursor give.
-use Rattle.std.specs.Prelude.{ℕ, ◌+◌, ◌==◌, ◌&&◌, ◌||◌, Bool, nat_lt, if◌then◌else◌, List, [], ◌∷◌, length, slice_index, Option, Some, None, Result, Ok, Err}
+use Rattle.std.specs.Prelude.{ℕ, ◌+◌, ◌==◌, ◌&&◌, ◌||◌, Bool, nat_lt, if◌then◌else◌, List, [], ◌∷◌, ◌++◌, length, slice_index, Option, Some, None, Result, Ok, Err}
 use Rattle.std.specs.List.{last_or}
 use Rattle.der_lite.specs.Place.{Fault, place_of}
 use Rattle.der_lite.specs.Der.{number, bit_count, tag_of}
@@ -12,7 +12,7 @@ use Rattle.prefixes.specs.declared.prefix.IpPrefix.{IpPrefix}
 use Rattle.payloads.specs.declared.roa_family.AddressFamily.{AddressFamily}
 use Rattle.payloads.specs.declared.roa_family.AddressFamily.TheVariants.{Ipv4, Ipv6}
 use Rattle.payloads.specs.declared.roa_entry.RoaEntry.{RoaEntry}
-use Rattle.payloads.specs.Roa.{no_rules, family_rules, family_width, of_bits, too_many_rules, order_rules, not_empty, Family, Blocks, RoaTree}
+use Rattle.payloads.specs.Roa.{no_rules, family_rules, family_width, of_bits, needed_rules, too_many_rules, order_rules, not_empty, Family, Blocks, RoaTree}
 
 -- a version that is there is its own fault
 abbrev pub version_fault : Bool → Fault → Fault
@@ -45,7 +45,7 @@ unfoldable pub address_at : AddressFamily → Read IpPrefix
 address_at family p = field_at (bits_at p) p.at (λ content. (10, nat_lt (family_width family) (bit_count content)) ∷ []) (prefix_in family)
 
 unfoldable pub max_length_at : IpPrefix → Read ℕ
-max_length_at prefix p = field_at (integer_at p) p.at (range_rules (block_of prefix).len (width_of prefix) 11) number
+max_length_at prefix p = field_at (integer_at p) p.at (λ content. range_rules (block_of prefix).len (width_of prefix) 11 content ++ needed_rules prefix content) number
 
 -- a maximum if bytes remain, and the end
 unfoldable pub maximum_at : IpPrefix → ReadAll (Option ℕ)

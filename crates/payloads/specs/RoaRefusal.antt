@@ -6,7 +6,7 @@ use Rattle.prefixes.specs.declared.prefix.IpPrefix.TheVariants.{V4, V6}
 use Rattle.payloads.specs.declared.roa_entry.RoaEntry.{RoaEntry}
 use Rattle.payloads.specs.declared.fault.ValueFault.{ValueFault}
 use Rattle.payloads.specs.Faults.{kind_number}
-use Rattle.payloads.specs.RoaEntries.{is_not_above, is_bad_maximum}
+use Rattle.payloads.specs.RoaEntries.{is_not_above, is_bad_maximum, is_superfluous}
 use Rattle.payloads.specs.RoaValues.{RoaValue}
 
 -- IPv4 behind IPv6
@@ -20,10 +20,10 @@ abbrev pub is_family_below : Option RoaEntry → RoaEntry → Bool
 is_family_below None entry = false
 is_family_below (Some before) entry = goes_back before.prefix entry.prefix
 
--- of an entry: TooMany, Order of the family, MaxLength, Order, in this order
+-- of an entry: TooMany, Order of the family, MaxLength, MaxLengthSuperfluous, Order, in this order
 abbrev pub entry_rules : ℕ → Option RoaEntry → RoaEntry → List (ℕ × Bool)
 entry_rules index before entry =
-    (19, nat_le 65536 index) ∷ (12, is_family_below before entry) ∷ (11, is_bad_maximum entry) ∷ (12, is_not_above before entry) ∷ []
+    (19, nat_le 65536 index) ∷ (12, is_family_below before entry) ∷ (11, is_bad_maximum entry) ∷ (20, is_superfluous entry) ∷ (12, is_not_above before entry) ∷ []
 
 -- the fault of the entry at this index, or that of the later ones
 abbrev pub at_index : ℕ → Option ℕ → Option (ℕ × ℕ) → Option (ℕ × ℕ)

@@ -1,10 +1,9 @@
 -- The value of a ROA as programs hold it: all entries in one list.
 use Rattle.std.specs.Prelude.{◌≡◌, ℕ, List, [], ◌++◌, map, Option, Some, None}
-use Rattle.std.specs.List.{count_by}
 use Rattle.der_lite.specs.Place.{place_of}
 use Rattle.prefixes.specs.Payload.{Payload}
 use Rattle.payloads.specs.declared.roa_entry.RoaEntry.{RoaEntry}
-use Rattle.payloads.specs.RoaEntries.{is_superfluous, payload_of}
+use Rattle.payloads.specs.RoaEntries.{payload_of}
 use Rattle.payloads.specs.Roa.{Family, Blocks, RoaTree, roa_payload}
 
 -- an AS and the entries, those of IPv4 before those of IPv6
@@ -39,7 +38,3 @@ RoaFaultAt bytes offset number = roa_payload.FaultAt (place_of 0 bytes) (record 
 -- what a ROA validates: a payload for each entry
 abbrev pub payloads_of : RoaValue → List Payload
 payloads_of roa = map (payload_of roa.asn) roa.entries
-
--- how many entries have a maximum length that says nothing
-abbrev pub notes_of : RoaValue → ℕ
-notes_of roa = count_by is_superfluous roa.entries

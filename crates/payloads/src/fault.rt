@@ -41,12 +41,15 @@ pub enum GrammarFaultKind {
     NameTwice,
     /// 19: it is entry or file 65,537.
     TooMany,
+    /// 20: the maximum length is the length of the prefix, which is meant where there is none. RFC
+    /// 9582 section 4.3.2.2 leaves it lawful; here one authorization has one payload.
+    MaxLengthSuperfluous,
 }
 
 impl GrammarFaultKind {
     ghost use Rattle.payloads.specs.Faults.{kind_number};
 
-    /// The number of the kind, 1 to 19.
+    /// The number of the kind, 1 to 20.
     pub fn number(self) -> u8
         ensures { result ≡ kind_number self }
     {
@@ -66,6 +69,7 @@ impl GrammarFaultKind {
             GrammarFaultKind::HashLength => 17,
             GrammarFaultKind::NameTwice => 18,
             GrammarFaultKind::TooMany => 19,
+            GrammarFaultKind::MaxLengthSuperfluous => 20,
         }
     }
 

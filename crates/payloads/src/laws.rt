@@ -1,6 +1,6 @@
 //! What holds of the definitions of payloads. Nothing here runs.
 
-ghost use Rattle.payloads.specs.Laws.{OneFault, OneSpelling, RoaRefusesExactly, ManifestRefusesExactly};
+ghost use Rattle.payloads.specs.Laws.{OneFault, OneSpelling, OnePayload, RoaRefusesExactly, ManifestRefusesExactly};
 
 /// At most one fault fits bytes, and one fits exactly where they spell no value.
 pub fn one_fault()
@@ -10,6 +10,12 @@ pub fn one_fault()
 /// No value has two spellings, no bytes spell two values, and no spelling begins another.
 pub fn one_spelling()
     ensures { OneSpelling }
+{}
+
+/// Two payloads of ROAs that are accepted are the same bytes exactly where they are of one AS and
+/// validate one set of payloads.
+pub fn one_payload()
+    ensures { OnePayload }
 {}
 
 /// The values of a ROA that are refused are exactly those that no bytes spell.

@@ -1,7 +1,7 @@
 //! ROAs.
 
 ghost use Rattle.std.specs.Prelude.{◌≡◌, IfOk};
-ghost use Rattle.payloads.specs.RoaValues.{notes_of, payloads_of};
+ghost use Rattle.payloads.specs.RoaValues.{payloads_of};
 ghost use Rattle.payloads.specs.Gives.{Decodes};
 ghost use Rattle.payloads.specs.RoaRefusal.{roa_refusal, IsRoa, Makes, Finds};
 
@@ -33,7 +33,7 @@ impl Model for Roa {
 
 impl Roa {
     /// The ROA of this AS and these entries, or the first fault: `Empty`, then entry by entry
-    /// `TooMany`, `Order` of the family, `MaxLength`, `Order`.
+    /// `TooMany`, `Order` of the family, `MaxLength`, `MaxLengthSuperfluous`, `Order`.
     pub fn new(asn: Asn, entries: Vec<RoaEntry>) -> Result<Roa, ValueFault>
         ensures { Makes result asn.0 entries.items }
     {
@@ -56,16 +56,6 @@ impl Roa {
         ensures right { IsRoa result.now }
     {
         &self.entries
-    }
-
-    /// How many entries have a maximum length that says nothing: it is the length of the prefix.
-    pub fn notes(&self) -> usize
-        ensures { result ≡ notes_of self.now }
-    {
-        self.entries
-            .iter()
-            .filter(|entry| entry.is_superfluous())
-            .count()
     }
 
     /// What the ROA validates: a payload for each entry, in their order. The maximum length of an

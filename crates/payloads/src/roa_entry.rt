@@ -18,7 +18,8 @@ pub(crate) const LIMIT: usize = 65_536;
 pub struct RoaEntry {
     /// The prefix.
     pub prefix: IpPrefix,
-    /// The maximum length in bits. Where it is absent, it is the length of the prefix.
+    /// The maximum length in bits, over that of the prefix. Where it is absent, the length of the
+    /// prefix is meant.
     pub max_len: Option<u8>,
 }
 
@@ -66,8 +67,15 @@ impl RoaEntry {
         self.greatest_length() < self.prefix.len() || width < self.greatest_length()
     }
 
+    /// Whether the maximum length is there and equals the length of the prefix.
+    fn is_superfluous(&self) -> bool
+        ensures { result ≡ is_superfluous self.now }
+    {
+        self.max_len == Some(self.prefix.len())
+    }
+
     /// What is wrong with it at this index behind the entry before it, the first of `TooMany`,
-    /// `Order` of the family, `MaxLength`, `Order`.
+    /// `Order` of the family, `MaxLength`, `MaxLengthSuperfluous`, `Order`.
     pub(crate) fn fault(&self, index: usize, before: Option<&RoaEntry>) -> Option<GrammarFaultKind>
         ensures { option_map kind_number result ≡ first_of (entry_rules index (option_copied before.entry) self.now) }
     {
@@ -77,18 +85,13 @@ impl RoaEntry {
             Some(GrammarFaultKind::Order)
         } else if self.is_bad_maximum() {
             Some(GrammarFaultKind::MaxLength)
+        } else if self.is_superfluous() {
+            Some(GrammarFaultKind::MaxLengthSuperfluous)
         } else if self.is_not_above(before) {
             Some(GrammarFaultKind::Order)
         } else {
             None
         }
-    }
-
-    /// Whether the maximum length is there and equals the length of the prefix.
-    pub(crate) fn is_superfluous(&self) -> bool
-        ensures { result ≡ is_superfluous self.now }
-    {
-        self.max_len == Some(self.prefix.len())
     }
 
     /// What the entry validates for the AS.

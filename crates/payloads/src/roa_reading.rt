@@ -86,7 +86,7 @@ fn address(cursor: &mut Cursor, family: AddressFamily) -> Result<IpPrefix, Gramm
     }
 }
 
-/// maxLength INTEGER (0..ub) OPTIONAL, not below the length of the prefix, and the end of the
+/// maxLength INTEGER (0..ub) OPTIONAL, over the length of the prefix, and the end of the
 /// ROAIPAddress (4.3.2).
 #[tactic(auto, unfolding(crate::specs::RoaReading::maximum_at, crate::specs::RoaReading::max_length_at))]
 fn maximum(members: Cursor, prefix: &IpPrefix) -> Result<Option<u8>, GrammarFault>
@@ -101,14 +101,16 @@ fn maximum(members: Cursor, prefix: &IpPrefix) -> Result<Option<u8>, GrammarFaul
         IpPrefix::V4(_) => 32,
         IpPrefix::V6(_) => 128,
     };
-    let content = members.integer()?;
-    match unsigned(content) {
-        Some(number) if u32::from(prefix.len()) <= number && number <= width => {
-            members.finish()?;
-            Ok(Some(number as u8))
-        }
-        _ => Err(GrammarFaultKind::MaxLength.at(offset)),
+    let len = u32::from(prefix.len());
+    let number = match unsigned(members.integer()?) {
+        Some(number) if len <= number && number <= width => number,
+        _ => return Err(GrammarFaultKind::MaxLength.at(offset)),
+    };
+    if number == len {
+        return Err(GrammarFaultKind::MaxLengthSuperfluous.at(offset));
     }
+    members.finish()?;
+    Ok(Some(number as u8))
 }
 
 /// ROAIPAddress, behind so many entries of the payload, and behind the one before it in its family
