@@ -42,13 +42,13 @@ impl Model for VersionLog {
 
 impl VersionLog {
     /// A log of a session without versions, whose first one has the serial `start`, and which keeps `keep` versions before the
-    /// current one, from 1 to 1,024.
-    pub fn new(alloc: Global, session: u16, start: u32, keep: u16) -> Result<VersionLog, AllocError>
+    /// current one, from 1 to 65,536. Room for as many steps is taken here.
+    pub fn new(alloc: Global, session: u16, start: u32, keep: u32) -> Result<VersionLog, AllocError>
         requires some { 1 ≤ keep }
-        requires limit { keep ≤ 1024 }
+        requires limit { keep ≤ 65536 }
         ensures { IfOk result (λ log. HoldsSteps keep (record { session = session; start = start; sets = [] }) log) }
     {
-        let steps = HeapCircularBuffer::with_capacity(alloc, usize::from(keep))?;
+        let steps = HeapCircularBuffer::with_capacity(alloc, keep as usize)?;
         Ok(VersionLog {
             alloc,
             session,

@@ -25,13 +25,13 @@ impl WholeLog {
     ghost use Rattle.vrps.specs.WholeLogs.{HasRoom, IsLogOf, sets_of};
 
     /// A log of a session without versions, whose first one has the serial `start`, and which keeps `keep` versions before the
-    /// current one, from 1 to 1,024.
-    pub fn new(alloc: Global, session: u16, start: u32, keep: u16) -> Result<WholeLog, AllocError>
+    /// current one, from 1 to 65,536.
+    pub fn new(alloc: Global, session: u16, start: u32, keep: u32) -> Result<WholeLog, AllocError>
         requires some { 1 ≤ keep }
-        requires limit { keep ≤ 1024 }
+        requires limit { keep ≤ 65536 }
         ensures { IfOk result (λ log. IsLogOf keep (record { session = session; start = start; sets = [] }) log) }
     {
-        let sets = VecDeque::with_capacity(alloc, usize::from(keep) + 1)?;
+        let sets = VecDeque::with_capacity(alloc, keep as usize + 1)?;
         Ok(WholeLog {
             alloc,
             session,
