@@ -26,9 +26,9 @@ use std::alloc::{AllocError, Global};
 use std::marker::Model;
 use vrps::{OriginState, Serial, VersionLog, VrpSet};
 
-/// How many versions before the current one a cache keeps: 1 to 1,024.
+/// How many versions before the current one a cache keeps: 1 to 65,536.
 #[derive(Drop)]
-struct Keep(u16);
+struct Keep(u32);
 
 impl Model for Keep {
     ghost use Rattle.std.specs.Prelude.{ℕ, ◌≤◌};
@@ -37,7 +37,7 @@ impl Model for Keep {
 
     ghost view = { λ keep. keep.0 };
 
-    ghost invariant = { λ keep. (1 ≤ keep.0) × (keep.0 ≤ 1024) };
+    ghost invariant = { λ keep. (1 ≤ keep.0) × (keep.0 ≤ 65536) };
 }
 
 /// One cache, its routers, which are numbered from 0, and the wires between them. It keeps no history.
@@ -63,10 +63,10 @@ impl World {
         routers: u16,
         session: u16,
         start: u32,
-        keep: u16,
+        keep: u32,
     ) -> Result<World, AllocError>
         requires some { 1 ≤ keep }
-        requires limit { keep ≤ 1024 }
+        requires limit { keep ≤ 65536 }
         ensures { IfOk result (λ world. LeadsTo (record { routers = routers; session = session; start = start; keep = keep }) [] world) }
     {
         let store = VersionLog::new(alloc, session, start, keep)?;
