@@ -67,7 +67,7 @@ pub fn play<O: Write>(alloc: Global, script: &[u8], out: &mut O) -> Result<u8, P
 /// With what the world of a script begins.
 fn first_line(lines: &mut Lines<'_>) -> Option<Beginning>
     ensures some { IfSome result (λ beginning. 1 ≤ beginning.keep) }
-    ensures limit { IfSome result (λ beginning. beginning.keep ≤ 1024) }
+    ensures limit { IfSome result (λ beginning. beginning.keep ≤ 65536) }
 {
     let line = str::from_utf8(lines.next()?).ok()?;
     read_beginning(line)

@@ -15,7 +15,7 @@ fn print_entry<W: Write>(asn: Asn, entry: &RoaEntry, out: &mut W) -> io::Result<
     writeln!(out, "{} {} {}", entry.prefix, max_len, asn)
 }
 
-/// Prints a line for each entry, and then how many maximum lengths say nothing.
+/// Prints a line for each entry, in their order.
 pub fn print_roa<W: Write>(roa: &Roa, out: &mut W) -> io::Result<()>
     ensures { OnOk result (Appends (W.contents out.old) (W.contents out.new) (roa_lines roa.now)) }
 {
@@ -23,5 +23,5 @@ pub fn print_roa<W: Write>(roa: &Roa, out: &mut W) -> io::Result<()>
     for entry in roa.entries() {
         print_entry(asn, entry, out)?;
     }
-    writeln!(out, "notes {}", roa.notes())
+    Ok(())
 }

@@ -10,13 +10,13 @@ use std::alloc::Global;
 use vrps::{SetFault, VrpSet};
 
 /// With what a world begins: how many routers it has, the session of the cache, the serial of its first version, and how many versions
-/// before the current one it keeps, from 1 to 1,024.
+/// before the current one it keeps, from 1 to 65,536.
 #[derive(Clone, Copy)]
 pub struct Beginning {
     pub routers: u16,
     pub session: u16,
     pub start: u32,
-    pub keep: u16,
+    pub keep: u32,
 }
 
 /// What a line says.
@@ -83,7 +83,7 @@ impl<'a> Words<'a> {
 /// What the first line says: `world ROUTERS SESSION START KEEP`.
 pub fn read_beginning(line: &str) -> Option<Beginning>
     ensures some { IfSome result (λ beginning. 1 ≤ beginning.keep) }
-    ensures limit { IfSome result (λ beginning. beginning.keep ≤ 1024) }
+    ensures limit { IfSome result (λ beginning. beginning.keep ≤ 65536) }
 {
     let mut words = Words::of(line);
     if words.next()? != "world" {
@@ -92,8 +92,8 @@ pub fn read_beginning(line: &str) -> Option<Beginning>
     let routers = words.number_16()?;
     let session = words.number_16()?;
     let start = words.number_32()?;
-    let keep = words.number_16()?;
-    if keep < 1 || keep > 1024 || !words.is_over() {
+    let keep = words.number_32()?;
+    if keep < 1 || keep > 65536 || !words.is_over() {
         return None;
     }
     Some(Beginning {
