@@ -23,9 +23,10 @@ ANNOUNCED = "010400000000001401181800c00002000000fbf0\n"
 BEGIN, END = "0103123400000008\n", "01071234000000180000000500000e100000025800001c20\n"
 ANSWER, NO_CHANGE = BEGIN + ANNOUNCED + END, BEGIN + END
 
-# The payload of a ROA of the same; one with a version; one of three prefixes of both families.
+# The payload of a ROA of the same; one with a version; one with the maximum length 24; one of three prefixes of both families.
 ONE_PREFIX = "3017020300fbf03010300e040200013008300603" + "0400c00002"
 WITH_VERSION = "301ca003020100020300fbf03010300e0402000130083006030400c00002"
+SUPERFLUOUS = "301a020300fbf0301330110402000130" + "0b3009030400c00002020118"
 BOTH_FAMILIES = "3037020300fbf03030301a0402000130143006030400c00002300a030507c0000200020120" + "30120402000230" + "0c300a03050020010db8020130"
 THREE = f'[{ENTRY},{{"asn":64496,"maxLength":32,"prefix":"192.0.2.0/25"}},{{"asn":64496,"maxLength":48,"prefix":"2001:db8::/32"}}]\n'
 
@@ -174,16 +175,17 @@ def words():
     write("-x.der", bytes.fromhex(ONE_PREFIX))
     write("-", bytes.fromhex(ONE_PREFIX))
     for text in ("roa -- -x.der", "roa -", "roa -- -"):
-        expect(text, 0, "192.0.2.0/24 24 64496\nnotes 0\n")
+        expect(text, 0, "192.0.2.0/24 24 64496\n")
 
 
 def roas():
     for payload, status, output in (
-        (ONE_PREFIX, 0, "192.0.2.0/24 24 64496\nnotes 0\n"),
-        ("301b020300fbf0301430120402000230" + "0c300a03050020010db8020130", 0, "2001:db8::/32 48 64496\nnotes 0\n"),
-        ("301a020300fbf0301330110402000130" + "0b3009030400c00002020118", 0, "192.0.2.0/24 24 64496\nnotes 1\n"),
+        (ONE_PREFIX, 0, "192.0.2.0/24 24 64496\n"),
+        ("301b020300fbf0301430120402000230" + "0c300a03050020010db8020130", 0, "2001:db8::/32 48 64496\n"),
+        (SUPERFLUOUS, 1, "refused 20 at 25\n"),
         (WITH_VERSION, 1, "refused 6 at 2\n"),
-        ("3022020300fbf0301b3019040200013013" + "3006030400c00002" + "3009030400c00002020118", 1, "refused 12 at 25\n"),
+        ("3022020300fbf0301b3019040200013013" + "3006030400c00002" + "3009030400c00002020118", 1, "refused 20 at 33\n"),
+        ("301f020300fbf030183016040200013010" + "3006030400c00002" + "3006030400c00002", 1, "refused 12 at 25\n"),
         ("", 1, "refused 1 at 0\n"),
     ):
         write("payload.der", bytes.fromhex(payload))
@@ -214,10 +216,11 @@ def point(name, content, roa):
 
 
 def points():
-    one, two, both = (bytes.fromhex(it) for it in (ONE_PREFIX, WITH_VERSION, BOTH_FAMILIES))
+    one, two, both, superfluous = (bytes.fromhex(it) for it in (ONE_PREFIX, WITH_VERSION, BOTH_FAMILIES, SUPERFLUOUS))
     point("one", manifest(1, "20250101000000Z", "20250102000000Z", one), one)
     point("two", manifest(2, "20250101120000Z", "20250103000000Z", two), two)
     point("both", manifest(1, "20250101000000Z", "20250102000000Z", both), both)
+    point("superfluous", manifest(2, "20250101120000Z", "20250103000000Z", superfluous), superfluous)
     write("one/objects/other.txt", "not listed")
     os.mkdir("bare")
     os.mkdir("no_objects")
@@ -231,6 +234,7 @@ def points():
         ("--now 20250102000000Z both one", 0, THREE, "both new\none new\n"),
         ("one two --now 20250101120000Z", 1, LIST + "\n", "one new\ntwo refused 9 0\n"),
         ("--now 20250101120000Z two", 1, "[]\n", "two refused 9 0\n"),
+        ("--now 20250101120000Z one superfluous", 1, LIST + "\n", "one new\nsuperfluous refused 9 0\n"),
         ("--now 20250102000001Z one", 1, "[]\n", "one refused 3\n"),
         ("--now 20241231235959Z one", 1, "[]\n", "one refused 2\n"),
         ("--now 20251301000000Z gone", 1, "refused word\n", ""),
@@ -532,18 +536,26 @@ def refused_events():
     plays(f"{WORLD}; router-sends 0 8; cache-gets 0 8; cache-sends 0 8; router-gets 0 8; cut 0 0; notify 0; ask 0; show 0", "0 empty\n")
 
 
+def long_log():
+    # a version 65,536 versions old is known, and then nothing came and nothing went; one that is older is answered by a Cache Reset
+    for count, shown in ((65536, "0 4660 65536 1\n"), (65537, "0 4660 0 1\n")):
+        later = "; ".join("publish" if it % 2 else f"publish {V}" for it in range(1, count + 1))
+        answer = "connect 0; router-sends 0 12; cache-gets 0 12; cache-sends 0 32; router-gets 0 32; show 0"
+        plays(f"world 1 4660 0 65536; publish {V}; catch-up 0; {later}; {answer}", f"0 caught-up\n{shown}")
+
+
 def unreadable_beginnings():
     for line in (
         *("", " ", "\t", "\r", "world", "world 1 1 1", "world 1 1 1 1 1", "worlds 1 1 1 1", "World 1 1 1 1", "publish", "\ufeffworld 1 1 1 1"),
         *("world  1 1 1 1", " world 1 1 1 1", "world 1 1 1 1 ", "world\t1 1 1 1", "world 1 1 1 1\r", "world 1 1 1 1\t"),
-        *("world 65536 1 1 1", "world 1 65536 1 1", "world 1 1 4294967296 1", "world 1 1 1 0", "world 1 1 1 1025", "world 1 1 1 65537"),
+        *("world 65536 1 1 1", "world 1 65536 1 1", "world 1 1 4294967296 1", "world 1 1 1 0", "world 1 1 1 65537", "world 1 1 1 4294967297"),
         *("world 01 1 1 1", "world +1 1 1 1", "world 1 -1 1 1", "world 1 1 0x1 1", "world 1 1 1 x"),
     ):
         plays(f"{line}; show 0", "line 1 unreadable\n", 1)
     plays(b"", "line 1 unreadable\n", 1)
     plays(b"world 1 1 1 1\xff\n", "line 1 unreadable\n", 1)
     plays(b"world 1 1 1 1\x00\n", "line 1 unreadable\n", 1)
-    plays("world 0 65535 4294967295 1024", "")
+    plays("world 0 65535 4294967295 65536", "")
 
 
 def unreadable_lines():
@@ -587,7 +599,7 @@ if __name__ == "__main__":
         for part in (
             *(resets, refusals_of_bytes, each_unit, faults_of_units, words, roas, manifests, points, states_of_routes, order_of_refusals, lists, units),
             *(full_outputs, every_cut, cuts, catch_ups, restarts_of_the_cache, restarts_of_a_router, several_routers, questions, notifies_and_ticks),
-            *(refused_events, unreadable_beginnings, unreadable_lines, items_and_files),
+            *(refused_events, long_log, unreadable_beginnings, unreadable_lines, items_and_files),
         ):
             part()
         os.chdir("/")

@@ -103,7 +103,7 @@ YES = "yes\n"
 # What the program of tests prints behind a run.
 WELL = "\ntest result: ok\n"
 FREE = {
-    "free_runs::free_faults": "6 at 2\n12 at 25\n4 at 19\n" + 3 * "1 at 0\n" + "3 at 0\n4 at 2\n7 at 2\n1 at 7\n",
+    "free_runs::free_faults": "6 at 2\n20 at 33\n12 at 25\n4 at 19\n" + 3 * "1 at 0\n" + "3 at 0\n4 at 2\n7 at 2\n1 at 7\n",
     "free_runs::free_readings": 4 * YES + "no\n" + 3 * YES,
     "free_runs::free_states": 3 * YES + units(QUERY) + "Ended(Expired) 0\n" + units(RESET),
     "free_runs::free_answers": YES + units(ANSWER) + YES + units("010012340000000c00000005") + units(RESPONSE, end(5)) + YES + "no\n",

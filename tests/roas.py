@@ -66,14 +66,9 @@ def random_entries(rng, width):
     for _ in range(rng.choice([1, 1, 2, 3, 5])):
         length = rng.choice([0, 1, 7, 8, 9, width // 2, width - 1, width, rng.randint(0, width)])
         address = rng.getrandbits(width) >> (width - length) << (width - length) if length else 0
-        maximum = rng.choice([None, None, length, width, rng.randint(length, width)])
-        entries.add((address, length, length if maximum is None else maximum, maximum is None))
-    chosen, quadruples = [], set()
-    for entry in sorted(entries):
-        if entry[:3] not in quadruples:
-            quadruples.add(entry[:3])
-            chosen.append(entry)
-    return chosen
+        maximum = rng.choice([length, length, width, rng.randint(length, width)])
+        entries.add((address, length, maximum))
+    return sorted(entries)
 
 
 def random_payload(rng):
@@ -81,8 +76,8 @@ def random_payload(rng):
     for family in rng.choice([(b"\x00\x01",), (b"\x00\x02",), (b"\x00\x01", b"\x00\x02")]):
         width = WIDTHS[family]
         addresses = b""
-        for address, length, maximum, absent in random_entries(rng, width):
-            members = bits(address, length, width) + (b"" if absent else integer(maximum))
+        for address, length, maximum in random_entries(rng, width):
+            members = bits(address, length, width) + (b"" if maximum == length else integer(maximum))
             addresses += element(48, members)
         blocks += element(48, element(4, family) + element(48, addresses))
     asn = rng.choice([0, 127, 128, 64496, 2**31, 2**32 - 1, rng.getrandbits(32)])
@@ -101,7 +96,7 @@ def lines_of(payload):
     families = [bytes(block["addressFamily"]) for block in value["ipAddrBlocks"]]
     if not 0 <= asn < 2**32 or families not in ([b"\0\1"], [b"\0\2"], [b"\0\1", b"\0\2"]):
         return None
-    lines, notes = [], 0
+    lines = []
     for block in value["ipAddrBlocks"]:
         width = WIDTHS[bytes(block["addressFamily"])]
         before = None
@@ -116,14 +111,13 @@ def lines_of(payload):
             address = int(text, 2) << (width - length) if length else 0
             present = entry["maxLength"].isValue
             maximum = int(entry["maxLength"]) if present else length
-            if not length <= maximum <= width or (before is not None and (address, length, maximum) <= before):
+            if not length <= maximum <= width or (present and maximum == length) or (before is not None and (address, length, maximum) <= before):
                 return None
             before = (address, length, maximum)
-            notes += present and maximum == length
             kind = ipaddress.IPv4Network if width == 32 else ipaddress.IPv6Network
             network = kind((address, length))
             lines.append(f"{network} {maximum} {asn}")
-    return "".join(line + "\n" for line in lines) + f"notes {notes}\n"
+    return "".join(line + "\n" for line in lines)
 
 
 Judge(sys.argv[1], "roa").compare(random.Random(9582), random_payload, lines_of)

@@ -59,7 +59,6 @@ sh -e commands.sh >told 2>errors || exit 1
 cat >wanted <<'END'
 198.51.100.0/24 26 64497
 2001:db8::/32 48 64497
-notes 0
 number 01
 this 20250101000000Z
 next 20250102000000Z

@@ -53,7 +53,7 @@ class Driver:
         self.routers = [Router() for _ in range(self.random.choice([1, 1, 2, 3, 5]))]
         self.session, self.start = self.random.randrange(65536), self.random.choice([0, 5, 2**31 - 2, 2**32 - 2, self.random.randrange(2**32)])
         self.used, self.versions, self.newest, self.next = {self.session}, [], None, self.start
-        keep = self.random.choice([1, 2, 3, 8, 1024])
+        keep = self.random.choice([1, 2, 3, 8, 65536])
         self.lines, self.judges = [f"world {len(self.routers)} {self.session} {self.start} {keep}"], []
 
     def add(self, line, judge=None):
