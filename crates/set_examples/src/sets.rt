@@ -533,6 +533,42 @@ fn what_comes_and_goes_is_in_neither_list(rt: HostRuntime) -> Result<(), Fail> {
     Ok(())
 }
 
+/// Publishes a set and none in turn, from position 0 of serial 0 up to position 65536 and then one more, and asks for what changed.
+fn expect_long<R: AllocGlobal + Abort, S: VersionStore>(rt: &R, log: &mut S) -> Result<(), Fail> {
+    let alloc = rt.alloc();
+    let set = Rc::new(alloc, set_of(alloc, &[V])?)?;
+    let none = Rc::new(alloc, VrpSet::empty(alloc))?;
+    for position in 0..=65536u32 {
+        let now = if position % 2 == 0 { &set } else { &none };
+        let published = log.publish(Rc::clone(now)?)?;
+        assert!(rt; published == Published::New(Serial(position)));
+    }
+    expect_nothing_since(rt, log, 0)?;
+    let _published = log.publish(none)?;
+    assert!(rt; matches!(log.since(Serial(0))?, Since::Unknown));
+    expect_nothing_since(rt, log, 1)
+}
+
+/// Asks for what changed since a version: nothing was withdrawn and nothing announced.
+fn expect_nothing_since<R: Abort, S: VersionStore>(
+    rt: &R,
+    log: &S,
+    serial: u32,
+) -> Result<(), Fail> {
+    let Since::Change(change) = log.since(Serial(serial))? else {
+        return Err(Fail::from("no change"));
+    };
+    assert!(rt; change.withdraw.is_empty());
+    assert!(rt; change.announce.is_empty());
+    Ok(())
+}
+
+#[test]
+fn a_log_keeps_65536_versions(rt: HostRuntime) -> Result<(), Fail> {
+    expect_long(&rt, &mut VersionLog::new(rt.alloc(), 1, 0, 65536)?)?;
+    expect_long(&rt, &mut WholeLog::new(rt.alloc(), 1, 0, 65536)?)
+}
+
 #[test]
 fn kept_steps_are_lent(rt: HostRuntime) -> Result<(), Fail> {
     let alloc = rt.alloc();
