@@ -17,6 +17,10 @@ const ROA: &[u8; 25] =
 const WITH_VERSION: &[u8; 30] =
     b"\x30\x1c\xa0\x03\x02\x01\x00\x02\x03\x00\xfb\xf0\x30\x10\x30\x0e\x04\x02\x00\x01\x30\x08\x30\x06\x03\x04\x00\xc0\x00\x02";
 
+/// The same with the maximum 24, which is refused at offset 25.
+const SUPERFLUOUS: &[u8; 28] =
+    b"\x30\x1a\x02\x03\x00\xfb\xf0\x30\x13\x30\x11\x04\x02\x00\x01\x30\x0b\x30\x09\x03\x04\x00\xc0\x00\x02\x02\x01\x18";
+
 /// The payload of a manifest: number 1, 20250101000000Z to 20250102000000Z, the file `a.roa` with the
 /// SHA-256 of that ROA.
 const FIRST: &[u8; 96] =
@@ -194,6 +198,41 @@ fn tells_the_first_fault_of_a_roa(rt: HostRuntime) -> Result<(), Fail> {
         assert!(rt; index == 0);
         assert!(rt; fault.kind.number() == 6);
         assert!(rt; fault.offset == 2);
+    } else {
+        assert!(rt; false);
+    }
+    Ok(())
+}
+
+#[test]
+fn refuses_a_superfluous_maximum(rt: HostRuntime) -> Result<(), Fail> {
+    let alloc = rt.alloc();
+    let mut repository = Repository::new(alloc);
+    let next = manifest(alloc, 2, NOON, "20250103000000Z", &[("a.roa", SUPERFLUOUS)]);
+    if let (Some(bytes), Some(start), Some(noon)) = (
+        next,
+        Moment::parse("20250101000000Z"),
+        Moment::parse(NOON),
+    ) {
+        assert!(rt;
+            repository.offer("one", FIRST, &[file("a.roa", ROA)], start) == Ok(Offered::New)
+        );
+        let Err(PointFault::Roa(index, fault)) = repository.offer(
+            "one",
+            bytes.as_slice(),
+            &[file("a.roa", SUPERFLUOUS)],
+            noon,
+        ) else {
+            assert!(rt; false);
+            return Ok(());
+        };
+        assert!(rt; index == 0);
+        assert!(rt; fault.kind.number() == 20);
+        assert!(rt; fault.offset == 25);
+        let vrps = repository.payloads(noon)?;
+        assert!(rt; vrps.len() == 1);
+        let prefix = IpPrefix::parse("192.0.2.0/24")?;
+        assert!(rt; vrps.first().copied() == Vrp::new(prefix, 24, Asn(64496)).ok());
     } else {
         assert!(rt; false);
     }

@@ -19,8 +19,8 @@ pub(crate) const NO_BITS: &[u8; 22] =
 pub(crate) const WITH_MAXIMUM: &[u8; 29] =
     b"\x30\x1b\x02\x03\x00\xfb\xf0\x30\x14\x30\x12\x04\x02\x00\x02\x30\x0c\x30\x0a\x03\x05\x00\x20\x01\x0d\xb8\x02\x01\x30";
 
-/// AS64496 and 192.0.2.0/24 with the maximum 24, which says nothing.
-pub(crate) const NOTED: &[u8; 28] =
+/// AS64496 and 192.0.2.0/24 with the maximum 24, which is its length.
+pub(crate) const SUPERFLUOUS: &[u8; 28] =
     b"\x30\x1a\x02\x03\x00\xfb\xf0\x30\x13\x30\x11\x04\x02\x00\x01\x30\x0b\x30\x09\x03\x04\x00\xc0\x00\x02\x02\x01\x18";
 
 /// The number and the offset of the first fault, if the bytes are refused. Want of memory is 0 at 0.
@@ -40,18 +40,16 @@ fn vrp(text: &str, max_len: u8) -> Result<Vrp, PrefixFault> {
 #[test]
 fn decodes_roas(rt: HostRuntime) -> Result<(), Fail> {
     let alloc = rt.alloc();
-    for (payload, text, max_len, notes) in [
-        (ONE_PREFIX.as_slice(), "192.0.2.0/24", 24u8, 0usize),
-        (NO_BITS.as_slice(), "0.0.0.0/0", 0, 0),
-        (WITH_MAXIMUM.as_slice(), "2001:db8::/32", 48, 0),
-        (NOTED.as_slice(), "192.0.2.0/24", 24, 1),
+    for (payload, text, max_len) in [
+        (ONE_PREFIX.as_slice(), "192.0.2.0/24", 24u8),
+        (NO_BITS.as_slice(), "0.0.0.0/0", 0),
+        (WITH_MAXIMUM.as_slice(), "2001:db8::/32", 48),
     ] {
         let Ok(roa) = decode_roa(alloc, payload) else {
             assert!(rt; false, "{text}");
             return Ok(());
         };
         assert!(rt; roa.asn() == Asn(64496));
-        assert!(rt; roa.notes() == notes);
         let vrps = roa.vrps(alloc)?;
         assert!(rt; vrps.len() == 1);
         assert!(rt; vrps.first().copied() == vrp(text, max_len).ok(), "{text}");
@@ -69,9 +67,25 @@ fn tells_the_first_fault(rt: HostRuntime) {
             2usize,
         ),
         (
-            b"\x30\x22\x02\x03\x00\xfb\xf0\x30\x1b\x30\x19\x04\x02\x00\x01\x30\x13\x30\x06\x03\x04\x00\xc0\x00\x02\x30\x09\x03\x04\x00\xc0\x00\x02\x02\x01\x18".as_slice(),
+            b"\x30\x1f\x02\x03\x00\xfb\xf0\x30\x18\x30\x16\x04\x02\x00\x01\x30\x10\x30\x06\x03\x04\x00\xc0\x00\x02\x30\x06\x03\x04\x00\xc0\x00\x02".as_slice(),
             12,
             25,
+        ),
+        (SUPERFLUOUS.as_slice(), 20, 25),
+        (
+            b"\x30\x28\x02\x03\x00\xfb\xf0\x30\x21\x30\x1f\x04\x02\x00\x02\x30\x19\x30\x17\x03\x11\x00\x20\x01\x0d\xb8\x00\x00\x00\x00\x00\x00\x00\x00\x00\x00\x00\x01\x02\x02\x00\x80".as_slice(),
+            20,
+            38,
+        ),
+        (
+            b"\x30\x27\x02\x03\x00\xfb\xf0\x30\x20\x30\x1e\x04\x02\x00\x02\x30\x18\x30\x16\x03\x11\x00\x20\x01\x0d\xb8\x00\x00\x00\x00\x00\x00\x00\x00\x00\x00\x00\x01\x02\x01\x80".as_slice(),
+            11,
+            38,
+        ),
+        (
+            b"\x30\x22\x02\x03\x00\xfb\xf0\x30\x1b\x30\x19\x04\x02\x00\x01\x30\x13\x30\x06\x03\x04\x00\xc0\x00\x02\x30\x09\x03\x04\x00\xc0\x00\x02\x02\x01\x18".as_slice(),
+            20,
+            33,
         ),
         (
             b"\x30\x17\x02\x03\x00\xfb\xf0\x30\x10\x30\x0e\x04\x02\x00\x01\x30\x08\x30\x06\x03\x04\x01\xc0\x00\x03".as_slice(),
@@ -166,7 +180,7 @@ fn is_judged(alloc: Global, payload: &[u8]) -> Result<bool, Fail> {
     match decode_roa(alloc, payload) {
         Ok(roa) => Ok(encode_roa(alloc, &roa)?.as_slice() == payload),
         Err(PayloadFault::At(fault)) => {
-            Ok(fault.kind.number() < 20 && fault.offset <= payload.len())
+            Ok(fault.kind.number() <= 20 && fault.offset <= payload.len())
         }
         Err(PayloadFault::Memory) => Ok(false),
     }
@@ -226,7 +240,15 @@ fn makes_roas_of_values(rt: HostRuntime) -> Result<(), Fail> {
         ),
         ([("192.0.2.0/24", Some(23))].as_slice(), Some((11, 0))),
         (
+            [("192.0.2.0/24", None), ("192.0.2.0/24", None)].as_slice(),
+            Some((12, 1)),
+        ),
+        (
             [("192.0.2.0/24", None), ("192.0.2.0/24", Some(24))].as_slice(),
+            Some((20, 1)),
+        ),
+        (
+            [("2001:db8::/32", None), ("192.0.2.0/24", Some(24))].as_slice(),
             Some((12, 1)),
         ),
         (

@@ -1,6 +1,6 @@
 //! ROAs that are written.
 
-use crate::roas::{NO_BITS, NOTED, ONE_PREFIX, WITH_MAXIMUM, entries_of, long_payload};
+use crate::roas::{NO_BITS, ONE_PREFIX, WITH_MAXIMUM, entries_of, long_payload};
 use payloads::{Roa, decode_roa, encode_roa};
 use prefixes::Asn;
 use std::test::Fail;
@@ -16,7 +16,6 @@ fn writes_what_it_reads(rt: HostRuntime) -> Result<(), Fail> {
         ONE_PREFIX.as_slice(),
         NO_BITS.as_slice(),
         WITH_MAXIMUM.as_slice(),
-        NOTED.as_slice(),
         BOTH_FAMILIES.as_slice(),
     ] {
         let Ok(roa) = decode_roa(alloc, payload) else {
@@ -49,8 +48,8 @@ fn writes_each_roa_with_one_other_byte(rt: HostRuntime) -> Result<(), Fail> {
     }
     // The AS number: 128, 128 and 256 values. The length of the address: 5, or 8, by which the three
     // bytes of the maximum are bits too. The unused bits: 0 to 3. Four bytes of address: 256 each.
-    // The maximum: 32 to 127. At each of the 19 other bytes only the one that stands there.
-    assert!(rt; spelled.len() == 128 + 128 + 256 + 2 + 4 + 4 * 256 + 96 + 19);
+    // The maximum: 33 to 127. At each of the 19 other bytes only the one that stands there.
+    assert!(rt; spelled.len() == 128 + 128 + 256 + 2 + 4 + 4 * 256 + 95 + 19);
     Ok(())
 }
 
