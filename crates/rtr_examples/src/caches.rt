@@ -28,10 +28,10 @@ pub(crate) fn set_of(alloc: Global, rows: Rows) -> Result<VrpSet, Fail> {
 pub(crate) fn cache_of(
     alloc: Global,
     start: u32,
-    keep: u16,
+    keep: u32,
     versions: &[Rows],
 ) -> Result<Cache<VersionLog>, Fail> {
-    if keep < 1 || keep > 1024 {
+    if keep < 1 || keep > 65536 {
         return Err(Fail::from("keep"));
     }
     let log = VersionLog::new(alloc, 0x1234, start, keep)?;
