@@ -5,7 +5,7 @@ use Rattle.std.proofs.lemmas.List.{drop_more, length-take-le, take-append-drop, 
 use Rattle.der_lite.specs.Moments.{CivilMoment}
 use Rattle.points.specs.Answers.{BecomesAt, told_by, told_by_fault}
 use Rattle.points.specs.InUse.{Points, no_points}
-use Rattle.points.specs.Offers.{Judgement}
+use Rattle.points.specs.Offers.{OfferJudgement}
 use Rattle.points.specs.declared.fault.Offered.{Offered}
 use Rattle.points.specs.declared.fault.Offered.TheVariants as offered
 use Rattle.points.specs.declared.fault.PointFault.{PointFault}
@@ -31,7 +31,7 @@ module _ (now : CivilMoment) (offers : List Offer) (i : ℕ) (within : i < lengt
   one_more between after are one = subst (λ l. AreTaken now no_points l after) (sym (take_more offers i nothing within)) (taken_more now no_points between after (take i offers) offer are one)
 
   -- Or it is refused.
-  pub refused_here : (points : Points) (fault : PointFault) (judgement : Judgement) → AreTaken now no_points (take i offers) points → told_by_fault fault ≡ Some judgement → IsOfferJudged now points offer judgement → IsRefusedAt now offers i fault
+  pub refused_here : (points : Points) (fault : PointFault) (judgement : OfferJudgement) → AreTaken now no_points (take i offers) points → told_by_fault fault ≡ Some judgement → IsOfferJudged now points offer judgement → IsRefusedAt now offers i fault
   refused_here points fault judgement are told judged = record {
     before = take i offers;
     offer = offer;

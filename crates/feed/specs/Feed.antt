@@ -5,7 +5,7 @@ use Rattle.prefixes.specs.Payload.{Payload}
 use Rattle.prefixes.specs.declared.route.Route.{Route}
 use Rattle.points.specs.Answers.{BecomesAt, told_by_fault}
 use Rattle.points.specs.InUse.{Points, Payloads, accepted_at, no_points}
-use Rattle.points.specs.Offers.{Judged, Judgement, New, Same}
+use Rattle.points.specs.Offers.{Judged, OfferJudgement, New, Same}
 use Rattle.points.specs.declared.fault.Offered.TheVariants as offered
 use Rattle.points.specs.declared.fault.PointFault.{PointFault}
 use Rattle.vrps.specs.Instance.{Instance}
@@ -24,7 +24,7 @@ use Rattle.feed.specs.declared.route.Fed.{Fed}
 -- ---- from offers to the payloads in use
 
 -- An offer is judged so, where the points hold this.
-abbrev pub IsOfferJudged : CivilMoment → Points → Offer → Judgement → Type 0
+abbrev pub IsOfferJudged : CivilMoment → Points → Offer → OfferJudgement → Type 0
 IsOfferJudged now points offer judgement = Judged (accepted_at points offer.name.now) offer.manifest.now offer.files.now now judgement
 
 -- It is judged New, and its point holds it afterwards; or it is judged Same, and nothing changes.
@@ -73,7 +73,7 @@ pub record IsRefusedAt (now : CivilMoment) (offers : List Offer) (i : ℕ) (faul
   pub place : i ≡ length before
   pub points : Points
   pub taken : AreTaken now no_points before points
-  pub judgement : Judgement
+  pub judgement : OfferJudgement
   pub told : told_by_fault fault ≡ Some judgement
   pub judged : IsOfferJudged now points offer judgement
 

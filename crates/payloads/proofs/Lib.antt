@@ -5,7 +5,7 @@ pub mod RoaOnce
 pub mod RoaFlats
 pub mod RoaLaws
 pub mod RoaGrowing
-pub mod Decoding
+pub mod DecodingLaws
 pub mod RoaRefusals
 pub mod RoaRows
 pub mod RoaSets

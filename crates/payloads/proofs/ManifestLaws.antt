@@ -6,7 +6,7 @@ use Rattle.der_lite.specs.Fields.{last_at}
 use Rattle.der_lite.proofs.GrammarLaws as laws
 use Rattle.payloads.specs.Manifest.{ManifestValue, manifest, manifest_payload, ManifestSpells, ManifestFaultAt}
 use Rattle.payloads.specs.ManifestReading.{manifest_at}
-use Rattle.payloads.specs.Laws.{OneFaultOf, OneSpellingOf}
+use Rattle.payloads.specs.PayloadLaws.{OneFaultOf, OneSpellingOf}
 use Rattle.payloads.proofs.Manifests.{exact_payload, exact_manifest}
 use Rattle.payloads.proofs.ManifestOnce.{once_manifest}
 use Rattle.payloads.proofs.RoaLaws.{at_offset}

@@ -12,7 +12,7 @@ use Rattle.payloads.specs.ManifestRefusal.{value_rules, file_rules, files_refusa
 use Rattle.payloads.specs.declared.fault.PayloadFault.{PayloadFault}
 use Rattle.payloads.specs.declared.fault.PayloadFault.TheVariants.{At, Memory}
 use Rattle.payloads.specs.declared.fault.ValueFault.{ValueFault}
-use Rattle.payloads.specs.Faults.{fault_of}
+use Rattle.payloads.specs.Faults.{grammar_fault_of}
 use Rattle.payloads.specs.RoaRefusal.{Finds}
 use Rattle.payloads.specs.Gives.{GivesAllOrMemory, DecodesManifest}
 use Rattle.der_lite.proofs.Rules.{kept_first, kept_on}
@@ -95,7 +95,7 @@ fault_read bytes f are e = exact_payload.faults (place_of 0 bytes) f are e
 
 -- why nothing was read
 pub why_not : (fault : PayloadFault) (bytes : List ℕ) → IsBytes bytes → GivesAllOrMemory {X = ManifestValue} (λ m. m) (Err fault) (manifest_all bytes) → DecodesManifest (Err fault) bytes
-why_not (At fault) bytes are e = fault_read bytes (fault_of fault) are e
+why_not (At fault) bytes are e = fault_read bytes (grammar_fault_of fault) are e
 why_not Memory bytes are e = tt
 
 -- the first fault is one of the number or the times, or else the first of the files

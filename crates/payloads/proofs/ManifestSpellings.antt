@@ -23,8 +23,8 @@ use Rattle.payloads.specs.ManifestRefusal.{value_rules, file_rules, files_refusa
 use Rattle.payloads.proofs.ManifestFileNames.{name_facts, ascii_are}
 use Rattle.der_lite.proofs.Rules.{kept_first, kept_on}
 use Rattle.payloads.proofs.ManifestRefusals.{manifest_right}
-use Rattle.payloads.proofs.Decoding.{are_bytes}
-use Rattle.payloads.specs.Laws.{IsHash, ManifestRefusesExactly}
+use Rattle.payloads.proofs.DecodingLaws.{are_bytes}
+use Rattle.payloads.specs.PayloadLaws.{IsHash, ManifestRefusesExactly}
 use Rattle.payloads.proofs.RoaRefusals.{none_at}
 
 -- ---- how many bytes there are

@@ -16,11 +16,11 @@ use Rattle.der_lite.proofs.Rules.{kept_first}
 use Rattle.der_lite.proofs.TimeLaws.{exact_timed, exact_time}
 use Rattle.payloads.specs.Roa.{no_rules}
 use Rattle.payloads.specs.Manifest.{NumberSpells, number_range, number_rules, manifest_number, this_update, next_rules, next_update, sha_256, AlgorithmSpells, algorithm_rules, hash_algorithm, ListedFile, listed_rules, name_rules, NameSpells, file_name, HashSpells, hash_length, hash_rules, file_hash, too_many_files, file_parts, file_members, file_and_hash, file_list, manifest_parts, behind_next, behind_this, manifest_members, manifest, manifest_payload}
-use Rattle.payloads.specs.ManifestReading.{number_at, next_at, algorithm_at, name_at, hash_at, file_of, file_at, files_at, manifest_of, behind_next_at, behind_this_at, manifest_at}
+use Rattle.payloads.specs.ManifestReading.{manifest_number_at, next_at, algorithm_at, name_at, hash_at, file_of, file_at, files_at, manifest_of, behind_next_at, behind_this_at, manifest_at}
 use Rattle.payloads.proofs.RoaFields.{exact_first}
 
-pub exact_number : ExactElement manifest_number number_at
-unfolding manifest_number number_at
+pub exact_number : ExactElement manifest_number manifest_number_at
+unfolding manifest_number manifest_number_at
 exact_number =
     exact_first number_range (λ content. content) NumberSpells
     (exact_primitive NumberSpells number_rules (λ content. content)
@@ -92,9 +92,9 @@ exact_behind_this this = exact_member (next_update this) (next_at this) (exact_n
 pub exact_manifest : ExactElement manifest manifest_at
 unfolding manifest manifest_at
 exact_manifest =
-    exact_sequence no_rules manifest_members (valued_at manifest_of (read_member number_at (λ n. read_member time_at behind_this_at))) no_rules
-    (exact_valued manifest_of manifest_parts (λ _. refl) (λ _. refl) (member manifest_number (λ n. member this_update behind_this)) (read_member number_at (λ n. read_member time_at behind_this_at))
-    (exact_member manifest_number number_at exact_number (λ n. member this_update behind_this) (λ n. read_member time_at behind_this_at)
+    exact_sequence no_rules manifest_members (valued_at manifest_of (read_member manifest_number_at (λ n. read_member time_at behind_this_at))) no_rules
+    (exact_valued manifest_of manifest_parts (λ _. refl) (λ _. refl) (member manifest_number (λ n. member this_update behind_this)) (read_member manifest_number_at (λ n. read_member time_at behind_this_at))
+    (exact_member manifest_number manifest_number_at exact_number (λ n. member this_update behind_this) (λ n. read_member time_at behind_this_at)
     (λ n. exact_member this_update time_at exact_this behind_this behind_this_at exact_behind_this)))
 
 -- the whole payload

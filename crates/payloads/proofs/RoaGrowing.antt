@@ -13,11 +13,11 @@ use Rattle.der_lite.proofs.Loops.{Goes, goes_begin, goes_on, goes_wrong, goes_ou
 use Rattle.payloads.specs.declared.roa_family.AddressFamily.{AddressFamily}
 use Rattle.payloads.specs.declared.roa_entry.RoaEntry.{RoaEntry}
 use Rattle.payloads.specs.declared.fault.GrammarFault.{GrammarFault}
-use Rattle.payloads.specs.Faults.{fault_of}
+use Rattle.payloads.specs.Faults.{grammar_fault_of}
 use Rattle.payloads.specs.RoaValues.{entries_of, all_entries}
 use Rattle.payloads.specs.Roa.{Family, too_many_rules, order_rules}
 use Rattle.payloads.specs.RoaReading.{address_at, maximum_at, entry_of, entry_at, entry_behind_at, ip_family_at, blocks_at}
-use Rattle.payloads.specs.Gives.{Progress, Grows, Lists}
+use Rattle.payloads.specs.Gives.{Progress, Grows, ListsEntries}
 
 -- of none there is none in front
 take_none : {A : Type 0} (n : ℕ) → take {A = A} n [] ≡ []
@@ -111,12 +111,12 @@ module _ (p inner next : Place) (first : Family × Place) (family : AddressFamil
   -- The families: the first one came, and then those behind it.
   pub blocks_are : (result : Result (Unit {0}) GrammarFault) → element_at 48 p ≡ Ok (inner, next) → inner.rest ≢ [] → old.count ≡ 0
       → ip_family_at None old.count inner ≡ Ok first → (first.0.0 ≡ family) × (first.1 ≡ q) → Grows old mid first.0.1
-      → Lists (λ _ _. ⊤) entries_of result mid new (optional_at (ip_family_at (Some family) mid.count) q)
-      → Lists (λ _ read. read.1 ≡ next) (λ read. all_entries read.0) result old new (blocks_at p)
+      → ListsEntries (λ _ _. ⊤) entries_of result mid new (optional_at (ip_family_at (Some family) mid.count) q)
+      → ListsEntries (λ _ read. read.1 ≡ next) (λ read. all_entries read.0) result old new (blocks_at p)
   unfolding blocks_at
   blocks_are (Ok _) opened more none read same g h =
       let first_is : ip_family_at None 0 inner ≡ Ok first = ap (λ (n : ℕ). ip_family_at None n inner) (sym none) ∙ read in
       (((first.0, h.0), next), rw (opened, ne_eqb (length inner.rest) 0 (λ n. more (nil_from_length inner.rest n)), first_is, second_is (Ok h.0) none g same h.1) refl, refl, grows_on old mid new first.0.1 (entries_of h.0) g h.3)
   blocks_are (Err e) opened more none read same g h =
       let first_is : ip_family_at None 0 inner ≡ Ok first = ap (λ (n : ℕ). ip_family_at None n inner) (sym none) ∙ read in
-      rw (opened, ne_eqb (length inner.rest) 0 (λ n. more (nil_from_length inner.rest n)), first_is, second_is (Err (fault_of e)) none g same h) refl
+      rw (opened, ne_eqb (length inner.rest) 0 (λ n. more (nil_from_length inner.rest n)), first_is, second_is (Err (grammar_fault_of e)) none g same h) refl

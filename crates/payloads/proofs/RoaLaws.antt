@@ -7,7 +7,7 @@ use Rattle.der_lite.proofs.GrammarLaws as laws
 use Rattle.payloads.specs.Roa.{RoaTree, roa_payload, route_origin_attestation}
 use Rattle.payloads.specs.RoaReading.{attestation_at}
 use Rattle.payloads.specs.RoaValues.{flat, TreeSpells, RoaSpells, RoaFaultAt}
-use Rattle.payloads.specs.Laws.{OneFaultOf, OneSpellingOf}
+use Rattle.payloads.specs.PayloadLaws.{OneFaultOf, OneSpellingOf}
 use Rattle.payloads.proofs.Roas.{exact_roa, exact_attestation}
 use Rattle.payloads.proofs.RoaOnce.{once_tree}
 use Rattle.payloads.proofs.RoaFlats.{one_tree}

@@ -10,7 +10,7 @@ use Rattle.payloads.specs.declared.roa_entry.RoaEntry.{RoaEntry}
 use Rattle.payloads.specs.Roa.{Blocks, RoaTree}
 use Rattle.payloads.specs.RoaReading.{as_id_at, address_family_at, address_at, max_length_at, maximum_at, entry_at, entries_at, addresses_at, ip_family_at, blocks_at, attestation_at, payload_at}
 use Rattle.payloads.specs.RoaValues.{flat, RoaSpells, RoaFaultAt}
-use Rattle.payloads.proofs.Decoding.{all_bytes, are_bytes, flat_read, fault_read}
+use Rattle.payloads.proofs.DecodingLaws.{all_bytes, are_bytes, flat_read, fault_read}
 
 abbrev block : ℕ → ℕ → Block
 block addr len = record { addr = addr; len = len }

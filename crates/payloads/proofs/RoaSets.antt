@@ -10,10 +10,10 @@ use Rattle.std.proofs.lemmas.Bool.{eq-eqb}
 use Rattle.prefixes.specs.Payload.{Payload, block_of, prefix_cmp}
 use Rattle.prefixes.specs.Orders.{prefix_total}
 use Rattle.payloads.specs.declared.roa_entry.RoaEntry.{RoaEntry}
-use Rattle.payloads.specs.RoaEntries.{greatest_length, entry_cmp, is_length, is_superfluous, payload_of}
+use Rattle.payloads.specs.RoaEntries.{greatest_length, entry_cmp, is_prefix_length, is_superfluous, payload_of}
 use Rattle.payloads.specs.RoaRefusal.{entries_refusal, roa_refusal}
 use Rattle.payloads.specs.RoaValues.{RoaValue, RoaSpells, payloads_of}
-use Rattle.payloads.specs.Laws.{SameSet, OnePayload}
+use Rattle.payloads.specs.PayloadLaws.{SameSet, OnePayload}
 use Rattle.payloads.proofs.RoaRefusals.{first_and_later, roa_right}
 use Rattle.payloads.proofs.RoaLaws.{roa_spellings}
 
@@ -66,7 +66,7 @@ rises (e ∷ es) h = rises_from 0 None (e ∷ es) h
 
 -- ---- a payload has one entry
 
-maximum_one : (m n : Option ℕ) (k l : ℕ) → is_length m k ≡ false → is_length n l ≡ false → k ≡ l → unwrap_or m k ≡ unwrap_or n l → m ≡ n
+maximum_one : (m n : Option ℕ) (k l : ℕ) → is_prefix_length m k ≡ false → is_prefix_length n l ≡ false → k ≡ l → unwrap_or m k ≡ unwrap_or n l → m ≡ n
 maximum_one None None k l hm hn e h = refl
 maximum_one None (Some n) k l hm hn e h = absurd (let t : eqb n l ≡ true = eq-eqb n l (sym h ∙ e) in cc)
 maximum_one (Some m) None k l hm hn e h = absurd (let t : eqb m k ≡ true = eq-eqb m k (h ∙ sym e) in cc)

@@ -24,10 +24,10 @@ use Rattle.payloads.specs.Roa.{as_id, family_number, family_rules, address_famil
 use Rattle.payloads.specs.RoaValues.{RoaValue, all_entries, TreeSpells, RoaSpells}
 use Rattle.payloads.specs.RoaBytes.{address_content, maximum_bytes, entry_bytes, is_of, list_bytes, family_bytes, families_bytes, roa_bytes}
 use Rattle.payloads.specs.RoaRefusal.{goes_back, entry_rules, entries_refusal, roa_refusal}
-use Rattle.payloads.specs.Laws.{RoaRefusesExactly}
+use Rattle.payloads.specs.PayloadLaws.{RoaRefusesExactly}
 use Rattle.der_lite.proofs.Rules.{kept_on}
 use Rattle.der_lite.proofs.Integers.{value_is, pos_is, between_kept}
-use Rattle.payloads.proofs.Decoding.{value_of}
+use Rattle.payloads.proofs.DecodingLaws.{value_of}
 use Rattle.payloads.proofs.RoaFields.{maximum_keeps}
 use Rattle.payloads.proofs.RoaFlats.{family_of, AllIn}
 use Rattle.payloads.proofs.RoaGrowing.{last_is}

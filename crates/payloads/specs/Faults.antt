@@ -26,5 +26,5 @@ kind_number TooMany = 19
 kind_number MaxLengthSuperfluous = 20
 
 -- a fault by its number
-abbrev pub fault_of : GrammarFault → Fault
-fault_of fault = record { number = kind_number fault.kind; offset = fault.offset }
+abbrev pub grammar_fault_of : GrammarFault → Fault
+grammar_fault_of fault = record { number = kind_number fault.kind; offset = fault.offset }

@@ -8,7 +8,7 @@ pub mod RoaRefusal
 pub mod Manifest
 pub mod ManifestReading
 pub mod Gives
-pub mod Laws
+pub mod PayloadLaws
 pub mod ManifestRefusal
 pub mod ManifestNames
 pub mod ManifestBytes

@@ -11,8 +11,8 @@ use Rattle.payloads.specs.Roa.{no_rules}
 use Rattle.payloads.specs.RoaReading.{with_version}
 use Rattle.payloads.specs.Manifest.{number_range, next_rules, algorithm_rules, ListedFile, listed_rules, hash_length, too_many_files, ManifestValue, Fields}
 
-unfoldable pub number_at : Read (List ℕ)
-number_at p = field_at (with_version (tag_of p.rest == 160) (integer_at p)) p.at number_range (λ content. content)
+unfoldable pub manifest_number_at : Read (List ℕ)
+manifest_number_at p = field_at (with_version (tag_of p.rest == 160) (integer_at p)) p.at number_range (λ content. content)
 
 unfoldable pub next_at : CivilMoment → Read CivilMoment
 next_at this = timed_at (next_rules this)
@@ -47,7 +47,7 @@ abbrev pub behind_this_at : CivilMoment → ReadAll (CivilMoment × (Unit {0} ×
 behind_this_at this = read_member (next_at this) (λ next. behind_next_at)
 
 unfoldable pub manifest_at : Read ManifestValue
-manifest_at = sequence_at no_rules (valued_at manifest_of (read_member number_at (λ n. read_member time_at behind_this_at))) no_rules
+manifest_at = sequence_at no_rules (valued_at manifest_of (read_member manifest_number_at (λ n. read_member time_at behind_this_at))) no_rules
 
 -- the manifest that the bytes spell, or the first fault
 unfoldable pub manifest_all : List ℕ → Result ManifestValue Fault

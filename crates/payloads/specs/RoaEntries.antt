@@ -28,13 +28,13 @@ abbrev pub payload_of : ℕ → RoaEntry → Payload
 payload_of asn entry = record { prefix = entry.prefix; max_len = greatest_length entry; asn = asn }
 
 -- the maximum is there and is this length
-abbrev pub is_length : Option ℕ → ℕ → Bool
-is_length None len = false
-is_length (Some maximum) len = maximum == len
+abbrev pub is_prefix_length : Option ℕ → ℕ → Bool
+is_prefix_length None len = false
+is_prefix_length (Some maximum) len = maximum == len
 
 -- the maximum length is there and is the length of the prefix, which is meant without it too
 abbrev pub is_superfluous : RoaEntry → Bool
-is_superfluous entry = is_length entry.max_len (block_of entry.prefix).len
+is_superfluous entry = is_prefix_length entry.max_len (block_of entry.prefix).len
 
 -- the prefix is one: its length and address are the family's, and no host bit is set
 abbrev pub HasPrefix : RoaEntry → Type 0

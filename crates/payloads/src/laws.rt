@@ -1,6 +1,6 @@
 //! What holds of the definitions of payloads. Nothing here runs.
 
-ghost use Rattle.payloads.specs.Laws.{OneFault, OneSpelling, OnePayload, RoaRefusesExactly, ManifestRefusesExactly};
+ghost use Rattle.payloads.specs.PayloadLaws.{OneFault, OneSpelling, OnePayload, RoaRefusesExactly, ManifestRefusesExactly};
 
 /// At most one fault fits bytes, and one fits exactly where they spell no value.
 pub fn one_fault()

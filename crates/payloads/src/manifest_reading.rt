@@ -2,7 +2,7 @@
 
 ghost use Rattle.std.specs.Prelude.{◌≡◌, []};
 ghost use Rattle.der_lite.specs.Values.{is_negative as is_negative_content};
-ghost use Rattle.payloads.specs.ManifestReading.{number_at, next_at, algorithm_at, name_at, hash_at, file_at, files_at, manifest_all};
+ghost use Rattle.payloads.specs.ManifestReading.{manifest_number_at, next_at, algorithm_at, name_at, hash_at, file_at, files_at, manifest_all};
 ghost use Rattle.der_lite.specs.Decoding.{read_each};
 ghost use Rattle.payloads.specs.Gives.{GivesNext, GivesOrMemory, GivesAllOrMemory, DecodesManifest, ListsFile, ListsFiles};
 
@@ -28,9 +28,9 @@ pub(crate) fn is_negative(content: &[u8]) -> bool
 }
 
 /// manifestNumber INTEGER (0..MAX): its content (4.2.1).
-#[tactic(auto, unfolding(crate::specs::ManifestReading::number_at))]
+#[tactic(auto, unfolding(crate::specs::ManifestReading::manifest_number_at))]
 fn manifest_number<'a>(cursor: &mut Cursor<'a>) -> Result<&'a [u8], GrammarFault>
-    ensures { GivesNext (λ content. content.now) result cursor.new (number_at cursor.old) }
+    ensures { GivesNext (λ content. content.now) result cursor.new (manifest_number_at cursor.old) }
 {
     let offset = cursor.offset();
     let content = first_integer(cursor)?;

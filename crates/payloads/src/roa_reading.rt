@@ -6,7 +6,7 @@ ghost use Rattle.der_lite.specs.DerReading.{integer_at};
 ghost use Rattle.der_lite.specs.Fields.{optional_at};
 ghost use Rattle.payloads.specs.RoaReading.{with_version, as_id_at, address_family_at, address_at, max_length_at, maximum_at, entry_at, entries_at, addresses_at, ip_family_at, blocks_at, payload_at};
 ghost use Rattle.payloads.specs.RoaValues.{entries_of, all_entries};
-ghost use Rattle.payloads.specs.Gives.{GivesNext, GivesAll, Lists};
+ghost use Rattle.payloads.specs.Gives.{GivesNext, GivesAll, ListsEntries};
 
 use crate::roa_bits::prefix_of;
 use crate::roa_entries::Entries;
@@ -145,7 +145,7 @@ fn each_entry(
     family: AddressFamily,
     entries: &mut Entries,
 ) -> Result<(), GrammarFault>
-    ensures { Lists (λ _ _. ⊤) (λ more. more) result entries.old entries.new (entries_at family entries.old.count members.entry) }
+    ensures { ListsEntries (λ _ _. ⊤) (λ more. more) result entries.old entries.new (entries_at family entries.old.count members.entry) }
 {
     let mut members = members;
     let mut before = None;
@@ -164,7 +164,7 @@ fn addresses(
     family: AddressFamily,
     entries: &mut Entries,
 ) -> Result<(), GrammarFault>
-    ensures { Lists (λ _ read. read.1 ≡ cursor.new) (λ read. read.0) result entries.old entries.new (addresses_at family entries.old.count cursor.old) }
+    ensures { ListsEntries (λ _ read. read.1 ≡ cursor.new) (λ read. read.0) result entries.old entries.new (addresses_at family entries.old.count cursor.old) }
 {
     let offset = cursor.offset();
     let members = cursor.sequence()?;
@@ -181,7 +181,7 @@ fn ip_family(
     before: Option<AddressFamily>,
     entries: &mut Entries,
 ) -> Result<AddressFamily, GrammarFault>
-    ensures { Lists (λ family read. (read.0.0 ≡ family) × (read.1 ≡ cursor.new)) (λ read. read.0.1) result entries.old entries.new (ip_family_at before entries.old.count cursor.old) }
+    ensures { ListsEntries (λ family read. (read.0.0 ≡ family) × (read.1 ≡ cursor.new)) (λ read. read.0.1) result entries.old entries.new (ip_family_at before entries.old.count cursor.old) }
 {
     let mut members = cursor.sequence()?;
     let family = address_family(&mut members, before)?;
@@ -196,7 +196,7 @@ fn second_family(
     first: AddressFamily,
     entries: &mut Entries,
 ) -> Result<(), GrammarFault>
-    ensures { Lists (λ _ _. ⊤) entries_of result entries.old entries.new (optional_at (ip_family_at (Some first) entries.old.count) members.entry) }
+    ensures { ListsEntries (λ _ _. ⊤) entries_of result entries.old entries.new (optional_at (ip_family_at (Some first) entries.old.count) members.entry) }
 {
     let mut members = members;
     if members.at_end() {
@@ -211,7 +211,7 @@ fn second_family(
 #[tactic(auto, unfolding(crate::specs::RoaReading::blocks_at))]
 fn ip_addr_blocks(cursor: &mut Cursor, entries: &mut Entries) -> Result<(), GrammarFault>
     requires { entries.old.count ≡ 0 }
-    ensures { Lists (λ _ read. read.1 ≡ cursor.new) (λ read. all_entries read.0) result entries.old entries.new (blocks_at cursor.old) }
+    ensures { ListsEntries (λ _ read. read.1 ≡ cursor.new) (λ read. all_entries read.0) result entries.old entries.new (blocks_at cursor.old) }
 {
     let offset = cursor.offset();
     let mut members = cursor.sequence()?;
@@ -229,7 +229,7 @@ pub(crate) fn route_origin_attestation(
     entries: &mut Entries,
 ) -> Result<Asn, GrammarFault>
     requires { entries.old.count ≡ 0 }
-    ensures { Lists (λ asn tree. tree.0 ≡ asn.0) (λ tree. all_entries tree.1) result entries.old entries.new (payload_at payload.now) }
+    ensures { ListsEntries (λ asn tree. tree.0 ≡ asn.0) (λ tree. all_entries tree.1) result entries.old entries.new (payload_at payload.now) }
 {
     let mut whole = Cursor::new(payload);
     let mut members = whole.sequence()?;

@@ -7,18 +7,18 @@ use Rattle.points.specs.declared.file.FileIn.{FileIn}
 use Rattle.points.specs.declared.fault.PointFault.{PointFault}
 use Rattle.points.specs.Accepted.{Accepted}
 use Rattle.points.specs.Answers.{told_by_fault}
-use Rattle.points.specs.Offers.{Judgement, BadManifest, first_that_holds, manifest_tests, twice_tests, tests, Judged}
+use Rattle.points.specs.Offers.{OfferJudgement, BadManifest, first_that_holds, manifest_tests, twice_tests, tests, Judged}
 use Rattle.points.specs.Offers as offers
-use Rattle.points.specs.Steps.{FromFile, Tells}
+use Rattle.points.specs.OfferSteps.{FromFile, Tells}
 use Rattle.points.proofs.InSteps.{to_first}
 use Rattle.points.proofs.Taking.{tells}
 
-front_decides : (ts us : List (Judgement × Bool)) (j : Judgement) → first_that_holds ts ≡ Some j → first_that_holds (ts ++ us) ≡ Some j
+front_decides : (ts us : List (OfferJudgement × Bool)) (j : OfferJudgement) → first_that_holds ts ≡ Some j → first_that_holds (ts ++ us) ≡ Some j
 front_decides [] us j h = absurd cc
 front_decides ((k, true) ∷ ts) us j h = h
 front_decides ((k, false) ∷ ts) us j h = front_decides ts us j h
 
-rest_decides : (ts us : List (Judgement × Bool)) → first_that_holds ts ≡ None → first_that_holds (ts ++ us) ≡ first_that_holds us
+rest_decides : (ts us : List (OfferJudgement × Bool)) → first_that_holds ts ≡ None → first_that_holds (ts ++ us) ≡ first_that_holds us
 rest_decides [] us h = refl
 rest_decides ((k, true) ∷ ts) us h = absurd cc
 rest_decides ((k, false) ∷ ts) us h = rest_decides ts us h
@@ -30,15 +30,15 @@ unspelled before bytes files now fault h =
     tells fault (λ j. (first : Fault) × ManifestFaultAt bytes first.offset first.number × (j ≡ BadManifest first)) (Judged before bytes files now) (λ j bad. offers.unspelled bad.0 bad.1 bad.2) h
 
 module _ (before : Option Accepted) (m : ManifestValue) (bytes : List ℕ) (files : List FileIn) (now : CivilMoment) (spelled : ManifestSpells m bytes) where
-  by_test : (j : Judgement) → first_that_holds (tests before m bytes files now) ≡ Some j → Judged before bytes files now j
+  by_test : (j : OfferJudgement) → first_that_holds (tests before m bytes files now) ≡ Some j → Judged before bytes files now j
   by_test j h = offers.by_test m spelled h
 
   -- a test of the manifest
-  pub by_manifest : (j : Judgement) → first_that_holds (manifest_tests before m bytes now) ≡ Some j → Judged before bytes files now j
+  pub by_manifest : (j : OfferJudgement) → first_that_holds (manifest_tests before m bytes now) ≡ Some j → Judged before bytes files now j
   unfolding tests
   by_manifest j h = by_test j (front_decides (manifest_tests before m bytes now) (twice_tests 0 [] files) j h)
 
-  some_manifest : (o : Option Judgement) → o ≡ first_that_holds (manifest_tests before m bytes now) → IfSome o (Judged before bytes files now)
+  some_manifest : (o : Option OfferJudgement) → o ≡ first_that_holds (manifest_tests before m bytes now) → IfSome o (Judged before bytes files now)
   some_manifest None h = tt
   some_manifest (Some j) h = by_manifest j (sym h)
 
@@ -58,7 +58,7 @@ module _ (before : Option Accepted) (m : ManifestValue) (bytes : List ℕ) (file
       none = rest_decides (manifest_tests before m bytes now) (twice_tests 0 [] files) passed ∙ apart
 
       -- a file that is listed, or New
-      pub by_file : (j : Judgement) → FromFile 0 m.files files j → Judged before bytes files now j
+      pub by_file : (j : OfferJudgement) → FromFile 0 m.files files j → Judged before bytes files now j
       by_file j h = offers.by_files m spelled none (to_first 0 m.files files j h)
 
       pub by_files : (fault : PointFault) → Tells fault (FromFile 0 m.files files) → Tells fault (Judged before bytes files now)

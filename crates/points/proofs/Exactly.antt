@@ -6,8 +6,8 @@ use Rattle.points.specs.declared.fault.PointFault.{PointFault}
 use Rattle.points.specs.declared.fault.PointFault.TheVariants as faults
 use Rattle.points.specs.Accepted.{Accepted, IsPoint}
 use Rattle.points.specs.Answers.{NewExactly}
-use Rattle.points.specs.Offers.{Acceptable, Judgement, New, Same, Judged}
-use Rattle.points.specs.Steps.{Tells}
+use Rattle.points.specs.Offers.{Acceptable, OfferJudgement, New, Same, Judged}
+use Rattle.points.specs.OfferSteps.{Tells}
 use Rattle.points.proofs.NewLaw.{new_law}
 use Rattle.points.proofs.OneLaw.{one_judged}
 
@@ -15,7 +15,7 @@ module _ (before : Option Accepted) (bytes : List ℕ) (files : List FileIn) (no
   pub acceptable : Judged before bytes files now New → Acceptable before bytes files now
   acceptable h = (new_law before bytes files now held).0 h
 
-  not_acceptable : (j : Judgement) → j ≢ New → Judged before bytes files now j → ¬ Acceptable before bytes files now
+  not_acceptable : (j : OfferJudgement) → j ≢ New → Judged before bytes files now j → ¬ Acceptable before bytes files now
   not_acceptable j other h a = other (one_judged before bytes files now j New h ((new_law before bytes files now held).1 a))
 
   pub same_is_not : Judged before bytes files now Same → ¬ Acceptable before bytes files now

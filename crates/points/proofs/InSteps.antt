@@ -9,28 +9,28 @@ use Rattle.payloads.specs.RoaValues.{RoaValue, RoaSpells}
 use Rattle.points.specs.declared.file.FileIn.{FileIn}
 use Rattle.points.specs.Files.{is_roa_name, file_named, has_hash}
 use Rattle.points.specs.Accepted.{Accepted}
-use Rattle.points.specs.Offers.{Judgement, New, Missing, HashDiffers, BadRoa, first_that_holds, tests, IsRight, HasOtherHash, HasBadRoa, IsWrong, FromFiles, Judged, unspelled, by_test, by_files}
-use Rattle.points.specs.Steps.{Decided, AtContent, AtHash, AtFile, FromFile, JudgedInSteps}
+use Rattle.points.specs.Offers.{OfferJudgement, New, Missing, HashDiffers, BadRoa, first_that_holds, tests, IsRight, HasOtherHash, HasBadRoa, IsWrong, FromFiles, Judged, unspelled, by_test, by_files}
+use Rattle.points.specs.OfferSteps.{Decided, AtContent, AtHash, AtFile, FromFile, JudgedInSteps}
 
-content_splits : (i : ℕ) (b : Bool) (listed : ListedFile) (files : List FileIn) (file : FileIn) (j : Judgement) (Later : Type 0) → is_roa_name listed.name ≡ b → file_named listed.name files ≡ Some file → has_hash listed file ≡ true
+content_splits : (i : ℕ) (b : Bool) (listed : ListedFile) (files : List FileIn) (file : FileIn) (j : OfferJudgement) (Later : Type 0) → is_roa_name listed.name ≡ b → file_named listed.name files ≡ Some file → has_hash listed file ≡ true
     → AtContent i b file.content.now j Later → IsWrong files i listed j ⊎ (IsRight files listed × Later)
 content_splits i false listed files file j Later r n h a = inr (record { file = file; named = n; hashed = h; spelled = λ t. absurd (let e : true ≡ false = sym t ∙ r in cc) }, a)
 content_splits i true listed files file j Later r n h a = elim a [
-  | inl bad ↦ inl (subst (λ (k : Judgement). IsWrong files i listed k) (sym bad.2) (refl, record { file = file; named = n; hashed = h; is_roa = r; first = bad.1 }))
+  | inl bad ↦ inl (subst (λ (k : OfferJudgement). IsWrong files i listed k) (sym bad.2) (refl, record { file = file; named = n; hashed = h; is_roa = r; first = bad.1 }))
   | inr good ↦ inr (record { file = file; named = n; hashed = h; spelled = λ t. good.0 }, good.1)
 ]
 
-hash_splits : (i : ℕ) (b : Bool) (listed : ListedFile) (files : List FileIn) (file : FileIn) (j : Judgement) (Later : Type 0) → has_hash listed file ≡ b → file_named listed.name files ≡ Some file
+hash_splits : (i : ℕ) (b : Bool) (listed : ListedFile) (files : List FileIn) (file : FileIn) (j : OfferJudgement) (Later : Type 0) → has_hash listed file ≡ b → file_named listed.name files ≡ Some file
     → AtHash i b j (AtContent i (is_roa_name listed.name) file.content.now j Later) → IsWrong files i listed j ⊎ (IsRight files listed × Later)
-hash_splits i false listed files file j Later h n a = inl (subst (λ (k : Judgement). IsWrong files i listed k) (sym a) (refl, record { file = file; named = n; differs = h }))
+hash_splits i false listed files file j Later h n a = inl (subst (λ (k : OfferJudgement). IsWrong files i listed k) (sym a) (refl, record { file = file; named = n; differs = h }))
 hash_splits i true listed files file j Later h n a = content_splits i (is_roa_name listed.name) listed files file j Later refl n h a
 
-file_splits : (i : ℕ) (listed : ListedFile) (files : List FileIn) (r : Option FileIn) (j : Judgement) (Later : Type 0) → file_named listed.name files ≡ r
+file_splits : (i : ℕ) (listed : ListedFile) (files : List FileIn) (r : Option FileIn) (j : OfferJudgement) (Later : Type 0) → file_named listed.name files ≡ r
     → AtFile i listed r j Later → IsWrong files i listed j ⊎ (IsRight files listed × Later)
-file_splits i listed files None j Later n a = inl (subst (λ (k : Judgement). IsWrong files i listed k) (sym a) (refl, n))
+file_splits i listed files None j Later n a = inl (subst (λ (k : OfferJudgement). IsWrong files i listed k) (sym a) (refl, n))
 file_splits i listed files (Some file) j Later n a = hash_splits i (has_hash listed file) listed files file j Later refl n a
 
-later : (i : ℕ) (l : ListedFile) (others : List ListedFile) (files : List FileIn) (j : Judgement) → IsRight files l → FromFiles (suc i) others files j → FromFiles i (l ∷ others) files j
+later : (i : ℕ) (l : ListedFile) (others : List ListedFile) (files : List FileIn) (j : OfferJudgement) → IsRight files l → FromFiles (suc i) others files j → FromFiles i (l ∷ others) files j
 later i l others files j r f = elim f [
   | inl w ↦ inl (record {
     right = l ∷ w.right;
@@ -43,7 +43,7 @@ later i l others files j r f = elim f [
   | inr n ↦ inr (All-cons (IsRight files) l others r n.0, n.1)
 ]
 
-pub to_first : (i : ℕ) (listed : List ListedFile) (files : List FileIn) (j : Judgement) → FromFile i listed files j → FromFiles i listed files j
+pub to_first : (i : ℕ) (listed : List ListedFile) (files : List FileIn) (j : OfferJudgement) → FromFile i listed files j → FromFiles i listed files j
 to_first i [] files j a = inr (All-nil (IsRight files), a)
 to_first i (l ∷ others) files j a = elim (file_splits i l files (file_named l.name files) j (FromFile (suc i) others files j) refl a) [
   | inl w ↦ inl (record { right = []; wrong = l; others = others; parts = refl; before = All-nil (IsRight files); is = subst (λ (k : ℕ). IsWrong files k l j) (let e : i ≡ i + length {A = ListedFile} [] = omega arith in e) w })
@@ -65,23 +65,23 @@ other_at i n listed files Later e w =
 missing_at : (i n : ℕ) (listed : ListedFile) (files : List FileIn) (Later : Type 0) → n ≡ i → file_named listed.name files ≡ None → AtFile i listed (file_named listed.name files) (Missing n) Later
 missing_at i n listed files Later e w = subst (λ (r : Option FileIn). AtFile i listed r (Missing n) Later) (sym w) (ap (λ (k : ℕ). Missing k) e)
 
-wrong_at : (i : ℕ) (listed : ListedFile) (files : List FileIn) (j : Judgement) (Later : Type 0) → IsWrong files i listed j → AtFile i listed (file_named listed.name files) j Later
+wrong_at : (i : ℕ) (listed : ListedFile) (files : List FileIn) (j : OfferJudgement) (Later : Type 0) → IsWrong files i listed j → AtFile i listed (file_named listed.name files) j Later
 wrong_at i listed files (Missing n) Later w = missing_at i n listed files Later w.0 w.1
 wrong_at i listed files (HashDiffers n) Later w = other_at i n listed files Later w.0 w.1
 wrong_at i listed files (BadRoa n fault) Later w = bad_at i n fault listed files Later w.0 w.1
 wrong_at i listed files j Later w = absurd w
 
-right_content : (i : ℕ) (b : Bool) (content : List ℕ) (j : Judgement) (Later : Type 0) → (b ≡ true → (roa : RoaValue) × RoaSpells roa content) → Later → AtContent i b content j Later
+right_content : (i : ℕ) (b : Bool) (content : List ℕ) (j : OfferJudgement) (Later : Type 0) → (b ≡ true → (roa : RoaValue) × RoaSpells roa content) → Later → AtContent i b content j Later
 right_content i false content j Later s l = l
 right_content i true content j Later s l = inr (s refl, l)
 
-right_at : (i : ℕ) (listed : ListedFile) (files : List FileIn) (j : Judgement) (Later : Type 0) → IsRight files listed → Later → AtFile i listed (file_named listed.name files) j Later
+right_at : (i : ℕ) (listed : ListedFile) (files : List FileIn) (j : OfferJudgement) (Later : Type 0) → IsRight files listed → Later → AtFile i listed (file_named listed.name files) j Later
 right_at i listed files j Later r l =
     subst (λ (o : Option FileIn). AtFile i listed o j Later) (sym r.named)
     (subst (λ (b : Bool). AtHash i b j (AtContent i (is_roa_name listed.name) r.file.content.now j Later)) (sym r.hashed)
     (right_content i (is_roa_name listed.name) r.file.content.now j Later r.spelled l))
 
-from_wrong : (i : ℕ) (right : List ListedFile) (wrong : ListedFile) (others : List ListedFile) (files : List FileIn) (j : Judgement)
+from_wrong : (i : ℕ) (right : List ListedFile) (wrong : ListedFile) (others : List ListedFile) (files : List FileIn) (j : OfferJudgement)
     → All (IsRight files) right → IsWrong files (i + length right) wrong j → FromFile i (right ++ wrong ∷ others) files j
 from_wrong i [] wrong others files j a w =
     wrong_at i wrong files j (FromFile (suc i) others files j) (subst (λ (k : ℕ). IsWrong files k wrong j) (let e : i + length {A = ListedFile} [] ≡ i = omega arith in e) w)
@@ -89,22 +89,22 @@ from_wrong i (l ∷ right) wrong others files j a w =
     right_at i l files j (FromFile (suc i) (right ++ wrong ∷ others) files j) (All-head (IsRight files) l right a)
     (from_wrong (suc i) right wrong others files j (All-tail (IsRight files) l right a) (subst (λ (k : ℕ). IsWrong files k wrong j) (let e : i + length (l ∷ right) ≡ suc i + length right = omega arith in e) w))
 
-from_right : (i : ℕ) (listed : List ListedFile) (files : List FileIn) (j : Judgement) → All (IsRight files) listed → j ≡ New → FromFile i listed files j
+from_right : (i : ℕ) (listed : List ListedFile) (files : List FileIn) (j : OfferJudgement) → All (IsRight files) listed → j ≡ New → FromFile i listed files j
 from_right i [] files j a e = e
 from_right i (l ∷ others) files j a e =
     right_at i l files j (FromFile (suc i) others files j) (All-head (IsRight files) l others a) (from_right (suc i) others files j (All-tail (IsRight files) l others a) e)
 
-pub from_first : (i : ℕ) (listed : List ListedFile) (files : List FileIn) (j : Judgement) → FromFiles i listed files j → FromFile i listed files j
+pub from_first : (i : ℕ) (listed : List ListedFile) (files : List FileIn) (j : OfferJudgement) → FromFiles i listed files j → FromFile i listed files j
 from_first i listed files j f = elim f [
   | inl w ↦ subst (λ (l : List ListedFile). FromFile i l files j) (sym w.parts) (from_wrong i w.right w.wrong w.others files j w.before w.is)
   | inr n ↦ from_right i listed files j n.0 n.1
 ]
 
-split_decided : (o : Option Judgement) (j : Judgement) (Later : Type 0) → Decided o j Later → (o ≡ Some j) ⊎ ((o ≡ None) × Later)
-split_decided (Some k) j Later d = inl (ap (λ (x : Judgement). Some x) (sym d))
+split_decided : (o : Option OfferJudgement) (j : OfferJudgement) (Later : Type 0) → Decided o j Later → (o ≡ Some j) ⊎ ((o ≡ None) × Later)
+split_decided (Some k) j Later d = inl (ap (λ (x : OfferJudgement). Some x) (sym d))
 split_decided None j Later d = inr (refl, d)
 
-pub judged_so : (before : Option Accepted) (bytes : List ℕ) (files : List FileIn) (now : CivilMoment) (j : Judgement) → JudgedInSteps before bytes files now j → Judged before bytes files now j
+pub judged_so : (before : Option Accepted) (bytes : List ℕ) (files : List FileIn) (now : CivilMoment) (j : OfferJudgement) → JudgedInSteps before bytes files now j → Judged before bytes files now j
 unfolding JudgedInSteps
 judged_so before bytes files now j d = elim d [
   | inl u ↦ unspelled u.0 u.1 u.2
@@ -114,13 +114,13 @@ judged_so before bytes files now j d = elim d [
   ]
 ]
 
-test_decided : (o : Option Judgement) (j : Judgement) (Later : Type 0) → o ≡ Some j → Decided o j Later
-test_decided o j Later e = subst (λ (r : Option Judgement). Decided r j Later) (sym e) refl
+test_decided : (o : Option OfferJudgement) (j : OfferJudgement) (Later : Type 0) → o ≡ Some j → Decided o j Later
+test_decided o j Later e = subst (λ (r : Option OfferJudgement). Decided r j Later) (sym e) refl
 
-none_decided : (o : Option Judgement) (j : Judgement) (Later : Type 0) → o ≡ None → Later → Decided o j Later
-none_decided o j Later e l = subst (λ (r : Option Judgement). Decided r j Later) (sym e) l
+none_decided : (o : Option OfferJudgement) (j : OfferJudgement) (Later : Type 0) → o ≡ None → Later → Decided o j Later
+none_decided o j Later e l = subst (λ (r : Option OfferJudgement). Decided r j Later) (sym e) l
 
-pub judged_in_steps : (before : Option Accepted) (bytes : List ℕ) (files : List FileIn) (now : CivilMoment) (j : Judgement) → Judged before bytes files now j → JudgedInSteps before bytes files now j
+pub judged_in_steps : (before : Option Accepted) (bytes : List ℕ) (files : List FileIn) (now : CivilMoment) (j : OfferJudgement) → Judged before bytes files now j → JudgedInSteps before bytes files now j
 unfolding JudgedInSteps
 judged_in_steps before bytes files now j (unspelled fault at is) = inl (fault, at, is)
 judged_in_steps before bytes files now j (by_test m s t) = inr (m, s, test_decided (first_that_holds (tests before m bytes files now)) j (FromFile 0 m.files files j) t)

@@ -5,7 +5,7 @@ pub mod Maps
 pub mod Named
 pub mod NewLaw
 pub mod OneLaw
-pub mod Orders
+pub mod PayloadOrders
 pub mod PointRows
 pub mod Repositories
 pub mod Taking

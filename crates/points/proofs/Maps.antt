@@ -10,7 +10,7 @@ use Rattle.std.proofs.lemmas.Slice.Eq.{bytes_eq-Decides}
 use Rattle.points.specs.declared.file.FileIn.{FileIn}
 use Rattle.points.specs.Files.{is_named, file_named}
 use Rattle.points.specs.Finding.{AreFiles}
-use Rattle.points.specs.Offers.{Judgement, FileTwice, first_that_holds, twice_tests}
+use Rattle.points.specs.Offers.{OfferJudgement, FileTwice, first_that_holds, twice_tests}
 use Rattle.points.proofs.Named.{differs, not_equal}
 
 some_or : (g : FileIn) (b : Bool) (later : Option FileIn) (any : Bool) → is_some later ≡ any → is_some (cond b (Some g) later) ≡ (b || any)
@@ -63,7 +63,7 @@ is_there map new files file are fresh added name =
 -- ---- the tests of one file more
 
 module _ (files : List FileIn) (i : ℕ) (d : FileIn) (within : i < length files) where
-  abbrev from_here : List (Judgement × Bool)
+  abbrev from_here : List (OfferJudgement × Bool)
   from_here = twice_tests i (take i files) (drop i files)
 
   here : first_that_holds from_here ≡ first_that_holds (twice_tests i (take i files) (get_or files i d ∷ drop (i + 1) files))

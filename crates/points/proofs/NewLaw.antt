@@ -14,29 +14,29 @@ use Rattle.payloads.proofs.ManifestLaws.{manifest_spellings}
 use Rattle.points.specs.declared.file.FileIn.{FileIn}
 use Rattle.points.specs.Files.{is_roa_name, is_named, file_named, has_hash}
 use Rattle.points.specs.Accepted.{Accepted, IsPoint}
-use Rattle.points.specs.Offers.{IsAbove, ShareNoName, Serves, Acceptable, Judgement, New, Same, NotYet, Stale, OldNumber, OldTime, FileTwice, first_that_holds, is_same, is_old_number, is_old_time, twice_tests, tests}
-use Rattle.points.specs.Steps.{Decided, AtContent, AtHash, AtFile, FromFile, JudgedInSteps}
+use Rattle.points.specs.Offers.{IsAbove, ShareNoName, Serves, Acceptable, OfferJudgement, New, Same, NotYet, Stale, OldNumber, OldTime, FileTwice, first_that_holds, is_same_manifest, is_old_number, is_old_time, twice_tests, tests}
+use Rattle.points.specs.OfferSteps.{Decided, AtContent, AtHash, AtFile, FromFile, JudgedInSteps}
 use Rattle.points.proofs.InSteps.{judged_in_steps, judged_so}
-use Rattle.points.specs.Laws.{NewWhereAcceptable}
+use Rattle.points.specs.PointLaws.{NewWhereAcceptable}
 use Rattle.points.proofs.Named.{differs, not_equal, contains_cases, named_more, found}
 
 -- ---- the tests
 
 -- none of the tests answers New
-abbrev NeverNew : List (Judgement × Bool) → Type 0
+abbrev NeverNew : List (OfferJudgement × Bool) → Type 0
 NeverNew [] = Unit {0}
 NeverNew ((j, holds) ∷ ts) = (New ≢ j) × NeverNew ts
 
-new_is_last : (ts : List (Judgement × Bool)) (Later : Type 0) → NeverNew ts → Decided (first_that_holds ts) New Later → (first_that_holds ts ≡ None) × Later
+new_is_last : (ts : List (OfferJudgement × Bool)) (Later : Type 0) → NeverNew ts → Decided (first_that_holds ts) New Later → (first_that_holds ts ≡ None) × Later
 new_is_last [] Later n d = (refl, d)
 new_is_last ((j, true) ∷ ts) Later n d = absurd (n.0 d)
 new_is_last ((j, false) ∷ ts) Later n d = new_is_last ts Later n.1 d
 
-pub first_none : (j : Judgement) (b : Bool) (ts : List (Judgement × Bool)) → first_that_holds ((j, b) ∷ ts) ≡ None → (b ≡ false) × (first_that_holds ts ≡ None)
+pub first_none : (j : OfferJudgement) (b : Bool) (ts : List (OfferJudgement × Bool)) → first_that_holds ((j, b) ∷ ts) ≡ None → (b ≡ false) × (first_that_holds ts ≡ None)
 first_none j true ts h = absurd cc
 first_none j false ts h = (refl, h)
 
-pub none_first : (j : Judgement) (b : Bool) (ts : List (Judgement × Bool)) → b ≡ false → first_that_holds ts ≡ None → first_that_holds ((j, b) ∷ ts) ≡ None
+pub none_first : (j : OfferJudgement) (b : Bool) (ts : List (OfferJudgement × Bool)) → b ≡ false → first_that_holds ts ≡ None → first_that_holds ((j, b) ∷ ts) ≡ None
 none_first j true ts e h = absurd cc
 none_first j false ts e h = h
 
@@ -156,7 +156,7 @@ new_time None m a = refl
 new_time (Some last) m a = not_from_true (moment_before last.manifest.this_update m.this_update) a.1
 
 -- the bytes accepted last do not spell a higher number
-not_same : (before : Option Accepted) (m : ManifestValue) (bytes : List ℕ) → IsPoint before → ManifestSpells m bytes → IsAbove before m → is_same before bytes ≡ false
+not_same : (before : Option Accepted) (m : ManifestValue) (bytes : List ℕ) → IsPoint before → ManifestSpells m bytes → IsAbove before m → is_same_manifest before bytes ≡ false
 not_same None m bytes p s a = refl
 not_same (Some last) m bytes p s a =
     false_from_ne_true (bytes_eq last.bytes bytes) (λ t.
@@ -167,16 +167,16 @@ not_same (Some last) m bytes p s a =
 -- ---- both ways
 
 module _ (before : Option Accepted) (m : ManifestValue) (bytes : List ℕ) (files : List FileIn) (now : CivilMoment) where
-  abbrev from_time : List (Judgement × Bool)
+  abbrev from_time : List (OfferJudgement × Bool)
   from_time = (OldTime, is_old_time before m) ∷ twice_tests 0 [] files
 
-  abbrev from_number : List (Judgement × Bool)
+  abbrev from_number : List (OfferJudgement × Bool)
   from_number = (OldNumber, is_old_number before m) ∷ from_time
 
-  abbrev from_same : List (Judgement × Bool)
-  from_same = (Same, is_same before bytes) ∷ from_number
+  abbrev from_same : List (OfferJudgement × Bool)
+  from_same = (Same, is_same_manifest before bytes) ∷ from_number
 
-  abbrev from_stale : List (Judgement × Bool)
+  abbrev from_stale : List (OfferJudgement × Bool)
   from_stale = (Stale, moment_before m.next_update now) ∷ from_same
 
 never : (before : Option Accepted) (m : ManifestValue) (bytes : List ℕ) (files : List FileIn) (now : CivilMoment) → NeverNew (tests before m bytes files now)
@@ -203,7 +203,7 @@ unfolding tests
 accepts before m bytes files now s none names =
     let a = first_none NotYet (moment_before now m.this_update) (from_stale before m bytes files now) none in
     let b = first_none Stale (moment_before m.next_update now) (from_same before m bytes files now) a.1 in
-    let c = first_none Same (is_same before bytes) (from_number before m bytes files now) b.1 in
+    let c = first_none Same (is_same_manifest before bytes) (from_number before m bytes files now) b.1 in
     let d = first_none OldNumber (is_old_number before m) (from_time before m bytes files now) c.1 in
     let e = first_none OldTime (is_old_time before m) (twice_tests 0 [] files) d.1 in
     record {
@@ -222,7 +222,7 @@ none_hold before bytes files now p a =
     let m = a.manifest in
     none_first NotYet (moment_before now m.this_update) (from_stale before m bytes files now) a.begun
     (none_first Stale (moment_before m.next_update now) (from_same before m bytes files now) a.current
-    (none_first Same (is_same before bytes) (from_number before m bytes files now) (not_same before m bytes p a.spelled a.above)
+    (none_first Same (is_same_manifest before bytes) (from_number before m bytes files now) (not_same before m bytes p a.spelled a.above)
     (none_first OldNumber (is_old_number before m) (from_time before m bytes files now) (new_number before m a.above)
     (none_first OldTime (is_old_time before m) (twice_tests 0 [] files) (new_time before m a.above)
     (never_twice 0 [] files (λ k d l. refl) a.apart)))))
@@ -239,6 +239,6 @@ new_law before bytes files now p = (
   (λ a. judged_so before bytes files now New (inr (
     a.manifest,
     a.spelled,
-    subst (λ (r : Option Judgement). Decided r New (FromFile 0 a.manifest.files files New)) (sym (none_hold before bytes files now p a)) (serve_files 0 a.manifest.files files a.apart a.served),
+    subst (λ (r : Option OfferJudgement). Decided r New (FromFile 0 a.manifest.files files New)) (sym (none_hold before bytes files now p a)) (serve_files 0 a.manifest.files files a.apart a.served),
   ))),
 )

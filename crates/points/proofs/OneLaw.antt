@@ -6,19 +6,19 @@ use Rattle.payloads.proofs.RoaLaws.{roa_faults}
 use Rattle.payloads.proofs.ManifestLaws.{manifest_faults, manifest_spellings}
 use Rattle.points.specs.declared.file.FileIn.{FileIn}
 use Rattle.points.specs.Files.{is_roa_name, file_named, has_hash}
-use Rattle.points.specs.Offers.{Judgement, BadManifest, BadRoa, first_that_holds, tests}
-use Rattle.points.specs.Steps.{Decided, AtContent, AtHash, AtFile, FromFile, JudgedInSteps}
+use Rattle.points.specs.Offers.{OfferJudgement, BadManifest, BadRoa, first_that_holds, tests}
+use Rattle.points.specs.OfferSteps.{Decided, AtContent, AtHash, AtFile, FromFile, JudgedInSteps}
 use Rattle.points.proofs.InSteps.{judged_in_steps}
-use Rattle.points.specs.Laws.{OneJudgement}
+use Rattle.points.specs.PointLaws.{OneJudgement}
 
 fault_is : (f g : Fault) → f.offset ≡ g.offset → f.number ≡ g.number → f ≡ g
 fault_is f g o n = ap (λ (k : ℕ). record { number = k; offset = f.offset }) n ∙ ap (λ (k : ℕ). record { number = g.number; offset = k }) o
 
-decided_one : (r : Option Judgement) (j k : Judgement) (A B : Type 0) → (A → B → j ≡ k) → Decided r j A → Decided r k B → j ≡ k
+decided_one : (r : Option OfferJudgement) (j k : OfferJudgement) (A B : Type 0) → (A → B → j ≡ k) → Decided r j A → Decided r k B → j ≡ k
 decided_one (Some x) j k A B f a b = a ∙ sym b
 decided_one None j k A B f a b = f a b
 
-content_one : (i : ℕ) (b : Bool) (content : List ℕ) (j k : Judgement) (A B : Type 0) → (A → B → j ≡ k) → AtContent i b content j A → AtContent i b content k B → j ≡ k
+content_one : (i : ℕ) (b : Bool) (content : List ℕ) (j k : OfferJudgement) (A B : Type 0) → (A → B → j ≡ k) → AtContent i b content j A → AtContent i b content k B → j ≡ k
 content_one i false content j k A B f a b = f a b
 content_one i true content j k A B f a b =
     elim a [
@@ -34,17 +34,17 @@ content_one i true content j k A B f a b =
       ]
     ]
 
-hash_one : (i : ℕ) (b : Bool) (j k : Judgement) (A B : Type 0) → (A → B → j ≡ k) → AtHash i b j A → AtHash i b k B → j ≡ k
+hash_one : (i : ℕ) (b : Bool) (j k : OfferJudgement) (A B : Type 0) → (A → B → j ≡ k) → AtHash i b j A → AtHash i b k B → j ≡ k
 hash_one i true j k A B f a b = f a b
 hash_one i false j k A B f a b = a ∙ sym b
 
-file_one : (i : ℕ) (l : ListedFile) (r : Option FileIn) (j k : Judgement) (A B : Type 0) → (A → B → j ≡ k) → AtFile i l r j A → AtFile i l r k B → j ≡ k
+file_one : (i : ℕ) (l : ListedFile) (r : Option FileIn) (j k : OfferJudgement) (A B : Type 0) → (A → B → j ≡ k) → AtFile i l r j A → AtFile i l r k B → j ≡ k
 file_one i l None j k A B f a b = a ∙ sym b
 file_one i l (Some g) j k A B f a b =
     hash_one i (has_hash l g) j k (AtContent i (is_roa_name l.name) g.content.now j A) (AtContent i (is_roa_name l.name) g.content.now k B)
     (content_one i (is_roa_name l.name) g.content.now j k A B f) a b
 
-files_one : (i : ℕ) (listed : List ListedFile) (files : List FileIn) (j k : Judgement) → FromFile i listed files j → FromFile i listed files k → j ≡ k
+files_one : (i : ℕ) (listed : List ListedFile) (files : List FileIn) (j k : OfferJudgement) → FromFile i listed files j → FromFile i listed files k → j ≡ k
 files_one i [] files j k a b = a ∙ sym b
 files_one i (l ∷ others) files j k a b =
     file_one i l (file_named l.name files) j k (FromFile (suc i) others files j) (FromFile (suc i) others files k) (files_one (suc i) others files j k) a b

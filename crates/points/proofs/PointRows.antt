@@ -2,11 +2,11 @@
 use Rattle.std.proofs.Common.{◌≡◌, ℕ, true, false, Bor, List, [], ◌∷◌, Option, Some, None, refl, replicate}
 use Rattle.der_lite.specs.Moments.{CivilMoment, told_moment, moment_before}
 use Rattle.payloads.specs.Manifest.{ManifestValue}
-use Rattle.points.specs.Steps.{FromFile}
+use Rattle.points.specs.OfferSteps.{FromFile}
 use Rattle.points.specs.declared.file.FileIn.{FileIn}
 use Rattle.points.specs.Files.{is_roa_name}
 use Rattle.points.specs.Accepted.{Accepted}
-use Rattle.points.specs.Offers.{Judgement, Same, NotYet, Stale, OldNumber, OldTime, FileTwice, Missing, first_that_holds, tests}
+use Rattle.points.specs.Offers.{OfferJudgement, Same, NotYet, Stale, OldNumber, OldTime, FileTwice, Missing, first_that_holds, tests}
 
 -- a.roa
 abbrev a_roa : List ℕ
@@ -39,7 +39,7 @@ abbrev a_file : FileIn
 a_file = record { name = lent a_roa; object = lent []; content = lent [] }
 
 -- what decides before the listed files
-abbrev decides : Option Accepted → ManifestValue → List ℕ → List FileIn → CivilMoment → Option Judgement
+abbrev decides : Option Accepted → ManifestValue → List ℕ → List FileIn → CivilMoment → Option OfferJudgement
 decides before m bytes files now = first_that_holds (tests before m bytes files now)
 
 -- thisUpdate and nextUpdate are both included

@@ -12,26 +12,26 @@ use Rattle.points.specs.declared.fault.PointFault.{PointFault}
 use Rattle.points.specs.Files.{is_roa_name, file_named, has_hash}
 use Rattle.points.specs.Accepted.{IsRoaOf, listed_roas}
 use Rattle.points.specs.Answers.{told_by_fault}
-use Rattle.points.specs.Offers.{Judgement, BadRoa}
-use Rattle.points.specs.Steps.{AtContent, AtFile, AtHash, FromFile, Tells}
+use Rattle.points.specs.Offers.{OfferJudgement, BadRoa}
+use Rattle.points.specs.OfferSteps.{AtContent, AtFile, AtHash, FromFile, Tells}
 use Rattle.points.proofs.Named.{found}
 
-weaker : (o : Option Judgement) (P Q : Judgement → Type 0) → ((j : Judgement) → P j → Q j) → IfSome o P → IfSome o Q
+weaker : (o : Option OfferJudgement) (P Q : OfferJudgement → Type 0) → ((j : OfferJudgement) → P j → Q j) → IfSome o P → IfSome o Q
 weaker None P Q f h = h
 weaker (Some j) P Q f h = f j h
 
 -- what a fault tells, from what it tells
-pub tells : (fault : PointFault) (P Q : Judgement → Type 0) → ((j : Judgement) → P j → Q j) → Tells fault P → Tells fault Q
+pub tells : (fault : PointFault) (P Q : OfferJudgement → Type 0) → ((j : OfferJudgement) → P j → Q j) → Tells fault P → Tells fault Q
 tells fault P Q f h = weaker (told_by_fault fault) P Q f h
 
 module _ (i : ℕ) (listed : ListedFile) (files : List FileIn) (file : FileIn) (named : file_named listed.name files ≡ Some file) (hashed : has_hash listed file ≡ true) (ends : is_roa_name listed.name ≡ true) where
-  at_roa : (j : Judgement) (Later : Type 0) → AtContent i true file.content.now j Later → AtFile i listed (file_named listed.name files) j Later
+  at_roa : (j : OfferJudgement) (Later : Type 0) → AtContent i true file.content.now j Later → AtFile i listed (file_named listed.name files) j Later
   at_roa j Later a =
       subst (λ (r : Option FileIn). AtFile i listed r j Later) (sym named)
       (subst (λ (b : Bool). AtHash i b j (AtContent i (is_roa_name listed.name) file.content.now j Later)) (sym hashed)
       (subst (λ (b : Bool). AtContent i b file.content.now j Later) (sym ends) a))
 
-  pub goes_on : (roa : RoaValue) → RoaSpells roa file.content.now → (others : List ListedFile) (j : Judgement) → FromFile (suc i) others files j → FromFile i (listed ∷ others) files j
+  pub goes_on : (roa : RoaValue) → RoaSpells roa file.content.now → (others : List ListedFile) (j : OfferJudgement) → FromFile (suc i) others files j → FromFile i (listed ∷ others) files j
   goes_on roa spelled others j later = at_roa j (FromFile (suc i) others files j) (inr ((roa, spelled), later))
 
   pub stops : (fault : PointFault) → Tells fault (λ j. (first : Fault) × RoaFaultAt file.content.now first.offset first.number × (j ≡ BadRoa i first))
@@ -54,13 +54,13 @@ module _ (listed : List ListedFile) (i : ℕ) (item : ListedFile) (is : item ≡
   split : drop i listed ≡ item ∷ drop (i + 1) listed
   split = drop_more listed i item within ∙ ap (λ (l : ListedFile). l ∷ drop (i + 1) listed) (sym is)
 
-  pub from_here : (j : Judgement) → FromFile i (item ∷ drop (i + 1) listed) files j → FromFile i (drop i listed) files j
+  pub from_here : (j : OfferJudgement) → FromFile i (item ∷ drop (i + 1) listed) files j → FromFile i (drop i listed) files j
   from_here j h = subst (λ (l : List ListedFile). FromFile i l files j) (sym split) h
 
   next : i + 1 ≡ suc i
   next = omega arith
 
-  pub from_next : (j : Judgement) → ((others : List ListedFile) (j : Judgement) → FromFile (suc i) others files j → FromFile i (item ∷ others) files j)
+  pub from_next : (j : OfferJudgement) → ((others : List ListedFile) (j : OfferJudgement) → FromFile (suc i) others files j → FromFile i (item ∷ others) files j)
       → FromFile (i + 1) (drop (i + 1) listed) files j → FromFile i (drop i listed) files j
   from_next j on h = from_here j (on (drop (i + 1) listed) j (subst (λ (n : ℕ). FromFile n (drop (i + 1) listed) files j) next h))
 

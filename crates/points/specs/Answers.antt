@@ -1,7 +1,7 @@
 -- What an offer is answered.
 use Rattle.std.specs.Prelude.{◌≡◌, ◌≢◌, ℕ, List, Option, Some, None, Result, Ok, Err, ⊤}
-use Rattle.payloads.specs.Faults.{fault_of}
-use Rattle.points.specs.Offers.{Judgement, New, Same, BadManifest, NotYet, Stale, OldNumber, OldTime, FileTwice, Missing, HashDiffers, BadRoa}
+use Rattle.payloads.specs.Faults.{grammar_fault_of}
+use Rattle.points.specs.Offers.{OfferJudgement, New, Same, BadManifest, NotYet, Stale, OldNumber, OldTime, FileTwice, Missing, HashDiffers, BadRoa}
 use Rattle.points.specs.declared.file.FileIn.{FileIn}
 use Rattle.points.specs.Accepted.{Accepted, Holds}
 use Rattle.points.specs.InUse.{Points, accepted_at}
@@ -11,17 +11,17 @@ use Rattle.points.specs.declared.fault.PointFault.{PointFault}
 use Rattle.points.specs.declared.fault.PointFault.TheVariants as faults
 
 -- the number of each fault
-abbrev pub fault_number : PointFault → ℕ
-fault_number (faults.Manifest fault) = 1
-fault_number faults.NotYet = 2
-fault_number faults.Stale = 3
-fault_number faults.OldNumber = 4
-fault_number faults.OldTime = 5
-fault_number (faults.FileTwice i) = 6
-fault_number (faults.Missing i) = 7
-fault_number (faults.HashDiffers i) = 8
-fault_number (faults.Roa i fault) = 9
-fault_number faults.Memory = 10
+abbrev pub point_fault_number : PointFault → ℕ
+point_fault_number (faults.Manifest fault) = 1
+point_fault_number faults.NotYet = 2
+point_fault_number faults.Stale = 3
+point_fault_number faults.OldNumber = 4
+point_fault_number faults.OldTime = 5
+point_fault_number (faults.FileTwice i) = 6
+point_fault_number (faults.Missing i) = 7
+point_fault_number (faults.HashDiffers i) = 8
+point_fault_number (faults.Roa i fault) = 9
+point_fault_number faults.Memory = 10
 
 -- the index of the file that is meant, where one is
 abbrev pub fault_index : PointFault → Option ℕ
@@ -32,8 +32,8 @@ fault_index (faults.Roa i fault) = Some i
 fault_index fault = None
 
 -- the judgement that a fault tells; want of memory tells none
-abbrev pub told_by_fault : PointFault → Option Judgement
-told_by_fault (faults.Manifest fault) = Some (BadManifest (fault_of fault))
+abbrev pub told_by_fault : PointFault → Option OfferJudgement
+told_by_fault (faults.Manifest fault) = Some (BadManifest (grammar_fault_of fault))
 told_by_fault faults.NotYet = Some NotYet
 told_by_fault faults.Stale = Some Stale
 told_by_fault faults.OldNumber = Some OldNumber
@@ -41,11 +41,11 @@ told_by_fault faults.OldTime = Some OldTime
 told_by_fault (faults.FileTwice i) = Some (FileTwice i)
 told_by_fault (faults.Missing i) = Some (Missing i)
 told_by_fault (faults.HashDiffers i) = Some (HashDiffers i)
-told_by_fault (faults.Roa i fault) = Some (BadRoa i (fault_of fault))
+told_by_fault (faults.Roa i fault) = Some (BadRoa i (grammar_fault_of fault))
 told_by_fault faults.Memory = None
 
 -- the judgement that an answer tells
-abbrev pub told_by : Result Offered PointFault → Option Judgement
+abbrev pub told_by : Result Offered PointFault → Option OfferJudgement
 told_by (Ok offered.New) = Some New
 told_by (Ok offered.Same) = Some Same
 told_by (Err fault) = told_by_fault fault

@@ -6,5 +6,5 @@ pub mod Codes
 pub mod Answers
 pub mod Finding
 pub mod Numbers
-pub mod Steps
-pub mod Laws
+pub mod OfferSteps
+pub mod PointLaws

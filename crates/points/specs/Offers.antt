@@ -44,28 +44,28 @@ pub record Acceptable (before : Option Accepted) (bytes : List ℕ) (files : Lis
 -- ---- how an offer is judged
 
 -- New, Same, or what is wrong; of a file its index; of a manifest or a ROA its first fault
-pub data Judgement : Type 0 where
-  New : Judgement
-  Same : Judgement
-  BadManifest : (fault : Fault) → Judgement
-  NotYet : Judgement
-  Stale : Judgement
-  OldNumber : Judgement
-  OldTime : Judgement
-  FileTwice : (i : ℕ) → Judgement
-  Missing : (i : ℕ) → Judgement
-  HashDiffers : (i : ℕ) → Judgement
-  BadRoa : (i : ℕ) → (fault : Fault) → Judgement
+pub data OfferJudgement : Type 0 where
+  New : OfferJudgement
+  Same : OfferJudgement
+  BadManifest : (fault : Fault) → OfferJudgement
+  NotYet : OfferJudgement
+  Stale : OfferJudgement
+  OldNumber : OfferJudgement
+  OldTime : OfferJudgement
+  FileTwice : (i : ℕ) → OfferJudgement
+  Missing : (i : ℕ) → OfferJudgement
+  HashDiffers : (i : ℕ) → OfferJudgement
+  BadRoa : (i : ℕ) → (fault : Fault) → OfferJudgement
 
 -- tests are judged in order: the first that holds decides
-abbrev pub first_that_holds : List (Judgement × Bool) → Option Judgement
+abbrev pub first_that_holds : List (OfferJudgement × Bool) → Option OfferJudgement
 first_that_holds [] = None
 first_that_holds ((judgement, holds) ∷ later) = if holds then Some judgement else first_that_holds later
 
 -- the bytes are those that were accepted last
-abbrev pub is_same : Option Accepted → List ℕ → Bool
-is_same None bytes = false
-is_same (Some last) bytes = bytes_eq last.bytes bytes
+abbrev pub is_same_manifest : Option Accepted → List ℕ → Bool
+is_same_manifest None bytes = false
+is_same_manifest (Some last) bytes = bytes_eq last.bytes bytes
 
 -- the number is not higher than the accepted one
 abbrev pub is_old_number : Option Accepted → ManifestValue → Bool
@@ -78,22 +78,22 @@ is_old_time None m = false
 is_old_time (Some last) m = not (moment_before last.manifest.this_update m.this_update)
 
 -- of the manifest and of what was accepted last
-abbrev pub manifest_tests : Option Accepted → ManifestValue → List ℕ → CivilMoment → List (Judgement × Bool)
+abbrev pub manifest_tests : Option Accepted → ManifestValue → List ℕ → CivilMoment → List (OfferJudgement × Bool)
 manifest_tests before m bytes now =
     (NotYet, moment_before now m.this_update)
     ∷ (Stale, moment_before m.next_update now)
-    ∷ (Same, is_same before bytes)
+    ∷ (Same, is_same_manifest before bytes)
     ∷ (OldNumber, is_old_number before m)
     ∷ (OldTime, is_old_time before m)
     ∷ []
 
 -- file i has the name of an earlier one, from i on
-abbrev pub twice_tests : ℕ → List FileIn → List FileIn → List (Judgement × Bool)
+abbrev pub twice_tests : ℕ → List FileIn → List FileIn → List (OfferJudgement × Bool)
 twice_tests i earlier [] = []
 twice_tests i earlier (file ∷ files) = (FileTwice i, is_named file.name.now earlier) ∷ twice_tests (suc i) (earlier ++ file ∷ []) files
 
 -- all that is judged before the files that are listed
-unfoldable pub tests : Option Accepted → ManifestValue → List ℕ → List FileIn → CivilMoment → List (Judgement × Bool)
+unfoldable pub tests : Option Accepted → ManifestValue → List ℕ → List FileIn → CivilMoment → List (OfferJudgement × Bool)
 tests before m bytes files now = manifest_tests before m bytes now ++ twice_tests 0 [] files
 
 -- Nothing is wrong with a listed file: the file of its name has the hash, and the content of a ROA is spelled.
@@ -118,14 +118,14 @@ pub record HasBadRoa (files : List FileIn) (listed : ListedFile) (fault : Fault)
   pub first : RoaFaultAt file.content.now fault.offset fault.number
 
 -- This is wrong with listed file i.
-abbrev pub IsWrong : List FileIn → ℕ → ListedFile → Judgement → Type 0
+abbrev pub IsWrong : List FileIn → ℕ → ListedFile → OfferJudgement → Type 0
 IsWrong files i listed (Missing n) = (n ≡ i) × (file_named listed.name files ≡ None)
 IsWrong files i listed (HashDiffers n) = (n ≡ i) × HasOtherHash files listed
 IsWrong files i listed (BadRoa n fault) = (n ≡ i) × HasBadRoa files listed fault
 IsWrong files i listed judgement = ⊥
 
 -- The first listed file that is not right is wrong in this way. Files are counted from i.
-pub record FirstWrong (i : ℕ) (listed : List ListedFile) (files : List FileIn) (judgement : Judgement) : Type 0 where
+pub record FirstWrong (i : ℕ) (listed : List ListedFile) (files : List FileIn) (judgement : OfferJudgement) : Type 0 where
   pub right : List ListedFile
   pub wrong : ListedFile
   pub others : List ListedFile
@@ -134,11 +134,11 @@ pub record FirstWrong (i : ℕ) (listed : List ListedFile) (files : List FileIn)
   pub is : IsWrong files (i + length right) wrong judgement
 
 -- The first that is wrong decides; where none is, the offer is New.
-abbrev pub FromFiles : ℕ → List ListedFile → List FileIn → Judgement → Type 0
+abbrev pub FromFiles : ℕ → List ListedFile → List FileIn → OfferJudgement → Type 0
 FromFiles i listed files judgement = FirstWrong i listed files judgement ⊎ (All (IsRight files) listed × (judgement ≡ New))
 
 -- The manifest is not spelled; or else the first test that holds decides; or else the listed files.
-pub data Judged (before : Option Accepted) (bytes : List ℕ) (files : List FileIn) (now : CivilMoment) (judgement : Judgement) : Type 0 where
+pub data Judged (before : Option Accepted) (bytes : List ℕ) (files : List FileIn) (now : CivilMoment) (judgement : OfferJudgement) : Type 0 where
   unspelled : (fault : Fault) → ManifestFaultAt bytes fault.offset fault.number → judgement ≡ BadManifest fault → Judged before bytes files now judgement
   by_test : (m : ManifestValue) → ManifestSpells m bytes → first_that_holds (tests before m bytes files now) ≡ Some judgement → Judged before bytes files now judgement
   by_files : (m : ManifestValue) → ManifestSpells m bytes → first_that_holds (tests before m bytes files now) ≡ None → FromFiles 0 m.files files judgement → Judged before bytes files now judgement

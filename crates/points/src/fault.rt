@@ -41,11 +41,11 @@ pub enum PointFault {
 }
 
 impl PointFault {
-    ghost use Rattle.points.specs.Answers.{fault_number, fault_index};
+    ghost use Rattle.points.specs.Answers.{point_fault_number, fault_index};
 
     /// The number by which the fault is printed, 1 to 10.
     pub fn number(&self) -> u8
-        ensures { result ≡ fault_number self.now }
+        ensures { result ≡ point_fault_number self.now }
     {
         match self {
             PointFault::Manifest(_) => 1,

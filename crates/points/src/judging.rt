@@ -7,7 +7,7 @@ ghost use Rattle.points.specs.declared.file.FileIn.{FileIn as File};
 ghost use Rattle.points.specs.Offers.{first_that_holds, manifest_tests};
 ghost use Rattle.points.specs.Accepted.{IsPoint};
 ghost use Rattle.points.specs.Finding.{AreFiles};
-ghost use Rattle.points.specs.Steps.{told_of, ReadsManifest, ReadsRoa, TakesFile, TakesFiles, Takes};
+ghost use Rattle.points.specs.OfferSteps.{told_of, ReadsManifest, ReadsRoa, TakesFile, TakesFiles, TakesOffer};
 
 use crate::accepted::{Accepted, know_accepted};
 use crate::finding::FilesByName;
@@ -26,7 +26,7 @@ pub(crate) fn judge(
     files: &[FileIn],
     now: &Moment,
 ) -> Result<Option<Accepted>, PointFault>
-    ensures value { Takes result (option_copied before.entry) bytes.now files.now now.now }
+    ensures value { TakesOffer result (option_copied before.entry) bytes.now files.now now.now }
     ensures point { IsPoint (option_copied before.entry) }
 {
     know_accepted(before);

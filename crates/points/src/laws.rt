@@ -1,6 +1,6 @@
 //! What holds of the definitions of offers. Nothing here runs.
 
-ghost use Rattle.points.specs.Laws.{NewWhereAcceptable, OneJudgement};
+ghost use Rattle.points.specs.PointLaws.{NewWhereAcceptable, OneJudgement};
 
 /// An offer to a point is judged New exactly where it is acceptable.
 pub fn new_where_acceptable()

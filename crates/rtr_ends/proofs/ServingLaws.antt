@@ -8,7 +8,7 @@ use Rattle.std.proofs.lemmas.List.{append-nil, take_min}
 use Rattle.vrps.specs.Instance.{Instance, IsInstance}
 use Rattle.vrps.specs.Store.{is_current, published}
 use Rattle.vrps.specs.VrpSet.{VrpSet}
-use Rattle.vrps.proofs.VersionLaws.{published_is_instance}
+use Rattle.vrps.proofs.SetVersions.{published_is_instance}
 use Rattle.rtr_pdu.specs.declared.version.Version.TheVariants.{V1}
 use Rattle.rtr_pdu.specs.Judging.{Judgement, Begins, Whole, Faulty, judge, unit_in}
 use Rattle.rtr_pdu.specs.Payloads.{AreBytes}

@@ -13,7 +13,7 @@ use Rattle.prefixes.specs.Orders.{vrp_total}
 use Rattle.vrps.specs.Change.{between}
 use Rattle.vrps.specs.VrpSet.{VrpSet, empty, has, size, listing, set_of, union, with_all, with_member, without}
 use Rattle.vrps.proofs.SetLaws.{same_set, has-empty, has-union, has-without, has-set_of, has-listing, listing_ascends, all_of_members}
-use Rattle.vrps.proofs.VersionLaws.{tied}
+use Rattle.vrps.proofs.SetVersions.{tied}
 use Rattle.rtr_pdu.specs.declared.unit.Unit.{Unit}
 use Rattle.rtr_pdu.specs.declared.unit.Unit.TheVariants.{SerialNotify, Prefix, EndOfData}
 use Rattle.rtr_ends.specs.Answer.{announcements, withdrawals}

@@ -7,7 +7,7 @@ use Rattle.std.proofs.lemmas.List.{length-append}
 use Rattle.vrps.specs.Instance.{Instance, IsInstance, NumberedSet, versions, versions_from, with_serial, named}
 use Rattle.vrps.specs.Serial.{serial_at}
 use Rattle.vrps.specs.VrpSet.{VrpSet, empty}
-use Rattle.vrps.proofs.VersionLaws.{names_itself, kept_is_itself}
+use Rattle.vrps.proofs.SetVersions.{names_itself, kept_is_itself}
 use Rattle.rtr_ends.specs.Transcript.{Committed}
 use Rattle.rtr_world.specs.VersionPlaces.{position_of}
 use Rattle.rtr_world.specs.Claims.{IsNamed}

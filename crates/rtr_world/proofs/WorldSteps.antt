@@ -10,7 +10,7 @@ use Rattle.vrps.specs.Origin.{HasState, state}
 use Rattle.vrps.proofs.StateLaws.{state_is}
 use Rattle.vrps.specs.Store.{is_current, published}
 use Rattle.vrps.specs.VrpSet.{VrpSet}
-use Rattle.vrps.proofs.VersionLaws.{published_is_instance}
+use Rattle.vrps.proofs.SetVersions.{published_is_instance}
 use Rattle.rtr_pdu.specs.declared.unit.Unit.{Unit}
 use Rattle.rtr_ends.specs.Cache.{Conn}
 use Rattle.rtr_ends.specs.Connection.{IsLater}

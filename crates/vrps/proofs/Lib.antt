@@ -4,7 +4,7 @@ pub mod Fronts
 pub mod Gathers
 pub mod Grouped
 pub mod Headed
-pub mod Judging
+pub mod JudgingRoutes
 pub mod Listed
 pub mod Members
 pub mod NamedRows
@@ -13,12 +13,12 @@ pub mod PathRows
 pub mod Searching
 pub mod SerialRows
 pub mod SetLaws
+pub mod SetVersions
 pub mod Sizes
 pub mod Sorting
 pub mod Starts
 pub mod StateLaws
 pub mod StepLaws
 pub mod StepRows
-pub mod VersionLaws
 pub mod Walks
 pub mod WholeLaws

@@ -10,7 +10,7 @@ use Rattle.prefixes.specs.declared.prefix.IpPrefix.{IpPrefix}
 use Rattle.prefixes.specs.Orders.{prefix_total}
 use Rattle.vrps.specs.Groups.{AreGroups, begin, group_at, of_prefix, prefix_at, same_prefix}
 use Rattle.vrps.proofs.Grouped.{begins_below, begins_up_to, begins_within, place_of}
-use Rattle.vrps.proofs.Judging.{dropped_part, kept_part}
+use Rattle.vrps.proofs.JudgingRoutes.{dropped_part, kept_part}
 
 -- a prefix before another is another one, and so is one after it
 before : (p q : IpPrefix) → prefix_cmp p q ≡ Less → same_prefix p q ≡ false

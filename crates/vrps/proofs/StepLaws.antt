@@ -19,7 +19,7 @@ use Rattle.vrps.specs.declared.change.Change.{Change}
 use Rattle.vrps.specs.declared.merge.Lists.{Lists}
 use Rattle.vrps.proofs.Listed.{lists, part_is_set, size_of_listing}
 use Rattle.vrps.proofs.SetLaws.{apply-between, has-empty, has-without, merge-between, same_set, set_of-listing}
-use Rattle.vrps.proofs.VersionLaws.{same_exactly}
+use Rattle.vrps.proofs.SetVersions.{same_exactly}
 use Rattle.vrps.proofs.WholeLaws.{knows, knows_not}
 use Rattle.prefixes.proofs.Basics.{false_if_never}
 

@@ -1,5 +1,5 @@
 pub mod Change
-pub mod Fault
+pub mod SetFaults
 pub mod Found
 pub mod Groups
 pub mod Heads

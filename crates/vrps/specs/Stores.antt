@@ -24,7 +24,7 @@ newest [] = None
 newest (now ∷ older) = Some now
 
 -- what is told, as it is defined
-abbrev pub told : Since → store.Since
-told (Change change) = store.Known change
-told Unknown = store.Unknown
-told NoData = store.NoData
+abbrev pub told_since : Since → store.Since
+told_since (Change change) = store.Known change
+told_since Unknown = store.Unknown
+told_since NoData = store.NoData

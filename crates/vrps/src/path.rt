@@ -30,7 +30,7 @@ pub enum PathFault {
 }
 
 impl PathFault {
-    ghost use Rattle.vrps.specs.Fault.{path_fault_number};
+    ghost use Rattle.vrps.specs.SetFaults.{path_fault_number};
 
     /// The number by which the fault is printed.
     pub fn number(self) -> u8

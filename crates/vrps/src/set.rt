@@ -23,11 +23,11 @@ pub enum SetFault {
 }
 
 impl SetFault {
-    ghost use Rattle.vrps.specs.Fault.{fault_number};
+    ghost use Rattle.vrps.specs.SetFaults.{set_fault_number};
 
     /// The number by which the fault is printed.
     pub fn number(self) -> u8
-        ensures { result ≡ fault_number self }
+        ensures { result ≡ set_fault_number self }
     {
         self as u8
     }

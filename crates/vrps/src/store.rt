@@ -2,7 +2,7 @@
 ghost use Rattle.std.specs.Prelude.{◌≡◌, ℕ, IfOk, option_map};
 ghost use Rattle.vrps.specs.Instance.{Instance, versions};
 ghost use Rattle.vrps.specs.Store.{since};
-ghost use Rattle.vrps.specs.Stores.{Publishes, newest, told};
+ghost use Rattle.vrps.specs.Stores.{Publishes, newest, told_since};
 
 use crate::{Change, Serial, VrpSet};
 use std::alloc::AllocError;
@@ -49,5 +49,5 @@ pub trait VersionStore {
 
     /// What is known since the version of this serial.
     fn since(&self, serial: Serial) -> Result<Since, AllocError>
-        ensures { (keep : ℕ) (i : Instance) → holds keep i self.now → IfOk result (λ found. told found ≡ since keep serial.0 (versions i)) };
+        ensures { (keep : ℕ) (i : Instance) → holds keep i self.now → IfOk result (λ found. told_since found ≡ since keep serial.0 (versions i)) };
 }

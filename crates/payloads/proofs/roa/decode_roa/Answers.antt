@@ -2,15 +2,15 @@ use Rattle.std.proofs.Common.{◌∙◌, ap, subst, arith}
 use Rattle.std.proofs.lemmas.Result.{err_from_is_err_and}
 use Rattle.payloads.specs.RoaValues.{all_entries, flat}
 use Rattle.payloads.specs.Gives.{Progress, Grows}
-use Rattle.payloads.specs.Faults.{fault_of}
-use Rattle.payloads.proofs.Decoding.{flat_read, fault_read, none_yet, read_twice}
+use Rattle.payloads.specs.Faults.{grammar_fault_of}
+use Rattle.payloads.proofs.DecodingLaws.{flat_read, fault_read, none_yet, read_twice}
 use Rattle.payloads.proofs.RoaRefusals.{roa_right}
 use Rattle.payloads.proofs.roa.decode_roa.Goals as goal
 
 pub returns-in_err-route_origin_attestation : goal.returns-in_err-route_origin_attestation
 returns-in_err-route_origin_attestation c =
     let p = err_from_is_err_and c.from_residual.result c.from_residual.ensures.1 in
-    rw (p.1, p.2) (fault_read c.args.payload.now (fault_of c.in_err-route_origin_attestation.field-0.0) (λ i. omega (arith, c.type_inv.payload i)) c.in_err-route_origin_attestation.ensures)
+    rw (p.1, p.2) (fault_read c.args.payload.now (grammar_fault_of c.in_err-route_origin_attestation.field-0.0) (λ i. omega (arith, c.type_inv.payload i)) c.in_err-route_origin_attestation.ensures)
 
 pub returns-in_err-listed : goal.returns-in_err-listed
 returns-in_err-listed c =

@@ -2,7 +2,7 @@ use Rattle.std.proofs.Common.{◌≢◌, ◌∙◌, ℕ, [], Option, ap, sym}
 use Rattle.std.proofs.lemmas.Result.{err_from_is_err_and}
 use Rattle.payloads.specs.declared.roa_entry.RoaEntry.{RoaEntry}
 use Rattle.payloads.specs.RoaReading.{entries_at, entry_at}
-use Rattle.payloads.specs.Faults.{fault_of}
+use Rattle.payloads.specs.Faults.{grammar_fault_of}
 use Rattle.payloads.proofs.RoaGrowing.{entry_shorter, seen_on, seen_wrong, seen_out}
 use Rattle.payloads.proofs.roa_reading.each_entry.Goals as goal
 
@@ -13,7 +13,7 @@ returns-in_err-entry c =
     let l = c.loop-members in
     let more : l.members.rest ≢ [] = λ e. (let h = c.at_end.ensures.1 e in cc) in
     let same = ap (λ (n : ℕ). entry_at c.args.family n l.before l.members) (sym c.count.ensures) ∙ ap (λ (b : Option RoaEntry). entry_at c.args.family c.count.result b l.members) (sym c.as_ref.ensures.value) in
-    rw (p.1, p.2) (seen_wrong c.args.family c.args.members c.args.entries.now l.before l.entries l.members l.invariant (fault_of c.in_err-entry.field-0.0) more (same ∙ c.in_err-entry.ensures.exact))
+    rw (p.1, p.2) (seen_wrong c.args.family c.args.members c.args.entries.now l.before l.entries l.members l.invariant (grammar_fault_of c.in_err-entry.field-0.0) more (same ∙ c.in_err-entry.ensures.exact))
 
 pub loop-members-smaller : goal.loop-members-smaller
 loop-members-smaller c = entry_shorter c.args.family c.count.result _ c.loop-members.members c.in_ok-entry.entry c.entry.new.cursor c.in_ok-entry.ensures.exact

@@ -4,7 +4,7 @@ use Rattle.der_lite.specs.Values.{unsigned_bytes}
 use Rattle.payloads.specs.declared.roa_entry.RoaEntry.{RoaEntry}
 use Rattle.payloads.specs.RoaBytes.{families_bytes, roa_bytes}
 use Rattle.payloads.specs.RoaValues.{RoaValue, RoaSpells}
-use Rattle.payloads.proofs.Decoding.{value_of}
+use Rattle.payloads.proofs.DecodingLaws.{value_of}
 use Rattle.payloads.proofs.RoaSpellings.{few_entries, families_few, roa_members, members_short, value_spells}
 use Rattle.payloads.proofs.roa_writing.encode_roa.Goals as goal
 

@@ -4,7 +4,7 @@ use Rattle.std.proofs.lemmas.Result.{err_from_is_err_and}
 use Rattle.payloads.specs.Manifest.{ListedFile}
 use Rattle.points.specs.Accepted.{IsRoaOf, listed_roas}
 use Rattle.points.specs.Offers.{New, Same}
-use Rattle.points.specs.Steps.{FromFile, Tells}
+use Rattle.points.specs.OfferSteps.{FromFile, Tells}
 use Rattle.points.proofs.Deciding.{unspelled, by_told, by_manifest, by_twice, by_file, by_files}
 use Rattle.points.proofs.judging.judge.Goals as goal
 

@@ -3,7 +3,7 @@ use Rattle.std.specs.List.{AllZip}
 use Rattle.std.proofs.lemmas.Result.{err_from_is_err_and}
 use Rattle.payloads.specs.Manifest.{ListedFile}
 use Rattle.payloads.specs.RoaValues.{RoaValue}
-use Rattle.points.specs.Steps.{FromFile}
+use Rattle.points.specs.OfferSteps.{FromFile}
 use Rattle.points.specs.Accepted.{IsRoaOf, listed_roas}
 use Rattle.points.proofs.Taking.{tells, from_here, from_next, one_more}
 use Rattle.points.proofs.judging.take_files.Goals as goal

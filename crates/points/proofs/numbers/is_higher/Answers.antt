@@ -1,5 +1,5 @@
 use Rattle.der_lite.specs.Der.{number}
-use Rattle.points.proofs.Orders.{ordered, is_above}
+use Rattle.points.proofs.PayloadOrders.{ordered, is_above}
 use Rattle.points.proofs.numbers.is_higher.Goals as goal
 
 pub returns : goal.returns

@@ -1,6 +1,6 @@
 use Rattle.std.proofs.Common.{◌∙◌}
 use Rattle.vrps.proofs.Headed.{first_prefix, may_follow, next_head}
-use Rattle.vrps.proofs.Judging.{first_payload}
+use Rattle.vrps.proofs.JudgingRoutes.{first_payload}
 use Rattle.vrps.proofs.grouping.heads_of.Goals as goal
 
 pub push-requires : goal.push-requires

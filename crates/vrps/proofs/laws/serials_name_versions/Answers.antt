@@ -1,4 +1,4 @@
-use Rattle.vrps.proofs.VersionLaws.{names_itself, kept_is_itself, is_before_newer}
+use Rattle.vrps.proofs.SetVersions.{names_itself, kept_is_itself, is_before_newer}
 use Rattle.vrps.proofs.laws.serials_name_versions.Goals as goal
 
 pub returns : goal.returns

@@ -4,7 +4,7 @@ use Rattle.vrps.specs.Groups.{begin, group_at, prefix_at}
 use Rattle.vrps.specs.Keys.{key_prefix}
 use Rattle.vrps.specs.Search.{IsLeft, NoneCovers}
 use Rattle.vrps.proofs.Grouped.{last_shorter, left_after_cover, left_after_pass, next_group, none_after, none_joined, one_length}
-use Rattle.vrps.proofs.Judging.{first_payload}
+use Rattle.vrps.proofs.JudgingRoutes.{first_payload}
 use Rattle.vrps.proofs.search.next_covering.Goals as goal
 
 pub returns-in_default-clause-next : goal.returns-in_default-clause-next

@@ -2,7 +2,7 @@ use Rattle.std.proofs.Common.{◌∙◌, ◌+◌, length, filter, ap, arith}
 use Rattle.prefixes.specs.Payload.{block_of}
 use Rattle.vrps.specs.Origin.{covers_route}
 use Rattle.vrps.proofs.Grouped.{costs_joined}
-use Rattle.vrps.proofs.Judging.{at_most_128, few_groups, few_probes, found_all, found_more}
+use Rattle.vrps.proofs.JudgingRoutes.{at_most_128, few_groups, few_probes, found_all, found_more}
 use Rattle.vrps.proofs.Listed.{listing_is}
 use Rattle.vrps.proofs.origin.OriginIndex.covering.Goals as goal
 

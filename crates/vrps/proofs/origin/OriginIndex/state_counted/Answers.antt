@@ -5,7 +5,7 @@ use Rattle.vrps.specs.Groups.{begin, group_count, prefixes_of}
 use Rattle.vrps.specs.Origin.{matches, state_among}
 use Rattle.vrps.specs.Search.{digit_count}
 use Rattle.vrps.proofs.Grouped.{costs_joined}
-use Rattle.vrps.proofs.Judging.{at_most_128, few_groups, few_probes, judged_none, matched_part, none_more, now_covered}
+use Rattle.vrps.proofs.JudgingRoutes.{at_most_128, few_groups, few_probes, judged_none, matched_part, none_more, now_covered}
 use Rattle.vrps.proofs.Listed.{listing_is}
 use Rattle.vrps.proofs.origin.OriginIndex.state_counted.Goals as goal
 

@@ -2,7 +2,7 @@ use Rattle.std.proofs.Common.{length, ◌+◌}
 use Rattle.prefixes.specs.Payload.{block_of}
 use Rattle.vrps.specs.Groups.{begin}
 use Rattle.vrps.specs.Search.{CostsLengths, IsLeft}
-use Rattle.vrps.proofs.Judging.{Judged, NoneMatches}
+use Rattle.vrps.proofs.JudgingRoutes.{Judged, NoneMatches}
 use Rattle.vrps.proofs.origin.OriginIndex.state_counted.Given as goal
 
 -- what the groups that were found say of the route

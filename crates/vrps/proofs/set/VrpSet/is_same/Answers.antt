@@ -1,7 +1,7 @@
 use Rattle.std.proofs.Common.{◌∙◌}
 use Rattle.vrps.specs.Store.{same_list}
 use Rattle.vrps.proofs.Listed.{listing_is}
-use Rattle.vrps.proofs.VersionLaws.{tied_lists}
+use Rattle.vrps.proofs.SetVersions.{tied_lists}
 use Rattle.vrps.proofs.set.VrpSet.is_same.Goals as goal
 
 pub returns : goal.returns

@@ -3,7 +3,7 @@ use Rattle.std.specs.Prelude.{◌≡◌, ◌↔◌, ℕ, List, Option}
 use Rattle.der_lite.specs.Moments.{CivilMoment}
 use Rattle.points.specs.declared.file.FileIn.{FileIn}
 use Rattle.points.specs.Accepted.{Accepted, IsPoint}
-use Rattle.points.specs.Offers.{Acceptable, Judgement, Judged, New}
+use Rattle.points.specs.Offers.{Acceptable, OfferJudgement, Judged, New}
 
 -- An offer to a point is judged New exactly where it is acceptable.
 abbrev pub NewWhereAcceptable : Type 0
@@ -14,5 +14,5 @@ NewWhereAcceptable =
 -- No offer has two judgements.
 abbrev pub OneJudgement : Type 0
 OneJudgement =
-    (before : Option Accepted) (bytes : List ℕ) (files : List FileIn) (now : CivilMoment) (j k : Judgement)
+    (before : Option Accepted) (bytes : List ℕ) (files : List FileIn) (now : CivilMoment) (j k : OfferJudgement)
     → Judged before bytes files now j → Judged before bytes files now k → j ≡ k
