@@ -3,4 +3,8 @@
 #![tactic(auto)]
 
 #[cfg(test)]
+mod logs;
+#[cfg(test)]
 mod sets;
+#[cfg(test)]
+mod states;
