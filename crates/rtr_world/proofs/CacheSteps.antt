@@ -57,7 +57,7 @@ serial_low start position = omega arith
 answered_end : (session serial : ℕ) → session < 2 ^ 16 → serial < 2 ^ 32 → IsAnswered (EndOfData session serial timing.refresh timing.retry timing.expire ∷ [])
 answered_end session serial low number = record { plain = tt; fit = ((low, number, omega arith, omega arith, omega arith), tt) }
 
-answered_response : (session serial : ℕ) (set : VrpSet) (records : List Unit) → session < 2 ^ 16 → serial < 2 ^ 32 → IsAnswered records → IsAnswered (response_of session timing (record { serial = serial; set = set }) records)
+answered_response : (session serial : ℕ) (set : VrpSet) (records : List Unit) → session < 2 ^ 16 → serial < 2 ^ 32 → IsAnswered records → IsAnswered (response_of V1 session timing (record { serial = serial; set = set }) records)
 answered_response session serial set records low number h =
     let k = answered-append records (EndOfData session serial timing.refresh timing.retry timing.expire ∷ []) h (answered_end session serial low number) in
     record { plain = k.plain; fit = (low, k.fit) }
@@ -130,8 +130,8 @@ module _ (all : List Instance) (i : Instance) (p : Present all i) (home : Seen) 
 
   responds : (q : Question) (base x : VrpSet) (older : List VrpSet) (records : List Unit) → IsOwn home.session q → i.sets ≡ x ∷ older → IsAnswered records
       → ((session : ℕ) → Leads base (nothing_yet q home.session) (tail_of records session (serial_at i.start (length older))) session (serial_at i.start (length older)) x)
-      → Ends base x i.session (serial_at i.start (length older)) records → FromCache all home q (response_of i.session timing (record { serial = serial_at i.start (length older); set = x }) records)
-      → Answers all home q base (response_of i.session timing (record { serial = serial_at i.start (length older); set = x }) records)
+      → Ends base x i.session (serial_at i.start (length older)) records → FromCache all home q (response_of V1 i.session timing (record { serial = serial_at i.start (length older); set = x }) records)
+      → Answers all home q base (response_of V1 i.session timing (record { serial = serial_at i.start (length older); set = x }) records)
   unfolding newest
   responds q base x older records own e h leads ends from =
       let serial : ℕ = serial_at i.start (length older) in

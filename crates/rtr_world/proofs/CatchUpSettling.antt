@@ -14,7 +14,7 @@ use Rattle.rtr_ends.proofs.TableLaws.{false_true}
 use Rattle.rtr_world.specs.World.{Side, close_ended, is_ended, noted, settle, settle_conn, settle_link, settle_rest, settle_wire, tell_closed}
 use Rattle.rtr_world.proofs.AnswersRead.{told_closes}
 use Rattle.rtr_world.proofs.Folding.{Blind, rest_keeps, wire_keeps}
-use Rattle.rtr_world.proofs.Rests.{GoesOn, stays}
+use Rattle.rtr_world.proofs.Rests.{GoesOn, stays, conn_router}
 use Rattle.rtr_ends.proofs.FetchStreamLaws.{open_link}
 
 going_link : (l : Link) → is_reading l ≡ true → is_ended l ≡ false
@@ -93,15 +93,6 @@ unfolding settle
 settle_none all s c e live =
     subst (λ (x : Side). x.router.link ≡ Closed) (sym (ap (after_conn all) (ap (settle_conn s) c) ∙ after_live all s live ∙ (λ i. settle_wire all s (c i) (e i))))
     (is_closed_link (tell_closed all s).router.link (told_closes all s))
-
-pub conn_router : (s : Side) (o : Option Conn) → (settle_conn s o).router ≡ s.router
-conn_router s None = refl
-conn_router s (Some o) = by_end o.state.ended o.state.due
-  where
-    by_end : (ended : Bool) (due : List ℕ) → (close_ended s ended due).router ≡ s.router
-    by_end true [] = refl
-    by_end true (b ∷ due) = refl
-    by_end false due = refl
 
 -- What a router that is told holds, and goes on to hold, it holds where its link has ended, with nothing to pull.
 module _ (all : List Instance) (P : Side → Type 0) (blind : Blind P) (told : (s : Side) → P s → P (tell_closed all s)) where

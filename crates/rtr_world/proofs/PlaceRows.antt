@@ -29,10 +29,6 @@ unchanged : (b : Bool) → ((b && true) || false) ≡ b
 unchanged true = refl
 unchanged false = refl
 
-unfolding led_to
-led_none s = same_set _ _ (λ q.
-    has-union (without s (set_of [])) (set_of []) q ∙ (λ i. has-without s (set_of []) q i || has-set_of [] q i) ∙ (λ i. (has s q && not (has-set_of [] q i)) || false) ∙ unchanged (has s q))
-
 -- The cache published {v}, nothing and {v}. The router committed the first, has asked what changed since, and nothing did.
 abbrev thrice : Instance
 thrice = cache 5 (just_v ∷ empty ∷ just_v ∷ [])

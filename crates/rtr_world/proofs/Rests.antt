@@ -16,7 +16,6 @@ use Rattle.rtr_world.proofs.Invariant.{Good, GoodLink}
 use Rattle.rtr_world.proofs.SideLaws.{all_map, all_new}
 use Rattle.rtr_world.proofs.KeptTables.{AllTell, SideTells, after_tells, new_side_tells}
 use Rattle.rtr_world.proofs.WorldSteps.{GoodWorld, after_good, new_good, part_so, through_good}
-use Rattle.rtr_world.proofs.CatchUpSettling.{conn_router}
 
 -- a connection at the cache that has not ended, or has bytes due
 abbrev pub GoesOn : Option Conn → Type 0
@@ -65,6 +64,15 @@ ended_on s o false due is e d = subst GoesOn (sym is) (λ ended none. let h : fa
 conn_goes_on : (s : Side) (o : Option Conn) → s.conn ≡ o → GoesOn (settle_conn s o).conn
 conn_goes_on s None is = subst GoesOn (sym is) tt
 conn_goes_on s (Some o) is = ended_on s o o.state.ended o.state.due is refl refl
+
+pub conn_router : (s : Side) (o : Option Conn) → (settle_conn s o).router ≡ s.router
+conn_router s None = refl
+conn_router s (Some o) = by_end o.state.ended o.state.due
+  where
+    by_end : (ended : Bool) (due : List ℕ) → (close_ended s ended due).router ≡ s.router
+    by_end true [] = refl
+    by_end true (b ∷ due) = refl
+    by_end false due = refl
 
 -- a link that ended
 link_conn : (all : List Instance) (s : Side) (l : Link) (out : List ℕ) → (settle_link all s l out).conn ≡ s.conn
