@@ -26,7 +26,6 @@ use Rattle.rtr_ends.proofs.TableLaws.{false_true}
 use Rattle.rtr_ends.proofs.ConsumedUnits.{Live, Split, Comes, live_splits, live_split, reading_open, bytes_come}
 use Rattle.prefixes.proofs.Basics.{true_of_not}
 
-
 -- a piece, byte by byte
 abbrev MComes : Receiving → List Item → List ℕ → Type 0
 MComes m items bytes = Comes m.router (m.items ++ items) bytes

@@ -31,6 +31,7 @@ use Rattle.rtr_ends.proofs.FeedingLaws.{feed_keeps, goes_on, stopped}
 use Rattle.rtr_ends.proofs.RouterSteps.{clocked_keeps, unit_keeps}
 use Rattle.rtr_ends.proofs.ServeStreamLaws.{drop_none, part_after, rest_most}
 use Rattle.rtr_ends.proofs.TableLaws.{false_true}
+use Rattle.prefixes.proofs.Basics.{all_both}
 
 -- What is pulled into room stands at its front.
 pub pulled_front : (out room now : List ℕ) (count : ℕ) → (count ≡ min (length room) (length out)) × (now ≡ take (length room) out ++ drop (length out) room) → take count now ≡ take (length room) out
@@ -238,11 +239,6 @@ module _ (now : ℕ) (calls : List RouterCall) (had has : Option (List ℕ)) (ol
         subst (λ x. Taken now calls x had has (Ok tt) new) (take-append-drop at piece)
         (receives_none now calls had has mid (take at piece) quiet.0 (drop at piece) taken new quiet.1 are (subst (λ x. ReceivesSo now x taken mid new) is so) stop)
 
--- the calls of one list and of another
-all_append : {X : Type 0} (P : X → Type 0) (xs ys : List X) → AllByRecursion P xs → AllByRecursion P ys → AllByRecursion P (xs ++ ys)
-all_append P [] ys h k = k
-all_append P (x ∷ xs) ys h k = (h.0, all_append P xs ys h.1 k)
-
 no_rest : (xs : List ℕ) (b : Bool) → b ≡ true → (0 < length xs → b ≡ false) → xs ≡ []
 no_rest [] b is h = refl
 no_rest (x ∷ xs) b is h = false_true (sym (h (omega arith)) ∙ is)
@@ -273,7 +269,7 @@ module _ (now : ℕ) (calls : List RouterCall) (before : Option (List ℕ)) (had
           let all = came_all (t.more ++ calls_since w.turns now calls) t.unread t.came_is in (
             record {
               turns = t.more ++ w.turns;
-              each = all_append (IsFetchCall now) t.more w.turns t.each w.each;
+              each = all_both (IsFetchCall now) t.more w.turns t.each w.each;
               unread = t.unread;
               consumed = subst (λ x. Consumes before after (came x ++ t.unread)) joined all.0;
               few = subst (λ x. length (came x ++ t.unread) ≤ 4096 * more) joined all.1;
@@ -289,7 +285,7 @@ module _ (now : ℕ) (calls : List RouterCall) (before : Option (List ℕ)) (had
           let all = came_all (t.more ++ calls_since w.turns now calls) t.unread t.came_is in
           record {
             turns = t.more ++ w.turns;
-            each = all_append (IsFetchCall now) t.more w.turns t.each w.each;
+            each = all_both (IsFetchCall now) t.more w.turns t.each w.each;
             leads = subst (λ x. CallsLead x new) joined t.leads;
             unread = t.unread;
             consumed = subst (λ x. Consumes before after (came x ++ t.unread)) joined all.0;

@@ -13,7 +13,7 @@ ghost use Rattle.rtr_ends.specs.Transcript.{choose, query};
 
 use crate::link::End;
 use crate::outbox::Outbox;
-use crate::question::{Question, CommittedVersion};
+use crate::question::{CommittedVersion, Question};
 use crate::reports::report_on;
 use crate::staging::Staging;
 use crate::table::Table;

@@ -12,7 +12,7 @@ ghost use Rattle.rtr_ends.specs.Transcript.{base_of, differs, is_wrong, session_
 
 use crate::link::End;
 use crate::machine::{Machine, State};
-use crate::question::{Question, CommittedVersion, within};
+use crate::question::{CommittedVersion, Question, within};
 use crate::reports::{code_of, fault_unit, type_byte};
 use crate::staging::{Staged, Staging};
 use prefixes::Vrp;

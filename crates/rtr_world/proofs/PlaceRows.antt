@@ -24,11 +24,6 @@ use Rattle.rtr_ends.proofs.StagingLaws.{led_none}
 abbrev just_v : VrpSet
 just_v = set_of (v ∷ [])
 
--- An answer without records leads to where it began.
-unchanged : (b : Bool) → ((b && true) || false) ≡ b
-unchanged true = refl
-unchanged false = refl
-
 -- The cache published {v}, nothing and {v}. The router committed the first, has asked what changed since, and nothing did.
 abbrev thrice : Instance
 thrice = cache 5 (just_v ∷ empty ∷ just_v ∷ [])

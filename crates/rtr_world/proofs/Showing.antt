@@ -182,7 +182,6 @@ settled_on all r f [] h = refl
 settled_on all zero f (s ∷ sides) h = ap (λ x. settle all (f s) ∷ x) (unsettled all sides h.1)
 settled_on all (suc r) f (s ∷ sides) h = ap (λ x. x ∷ map (settle all) (on_side r f sides)) (stays all s h.0) ∙ ap (λ x. s ∷ x) (settled_on all r f sides h.1)
 
-
 -- the clean-up, side by side
 abbrev pub settle_first : List Instance → ℕ → List Side → List Side
 settle_first all zero sides = sides
