@@ -1,5 +1,5 @@
 -- The heads of elements, worked out: which rule is broken first.
-use Rattle.std.specs.Prelude.{◌≡◌, ℕ, ◌+◌, List, [], ◌∷◌, Option, Some, None, refl}
+use Rattle.std.specs.Prelude.{◌≡◌, ℕ, List, [], ◌∷◌, Option, Some, None, refl}
 use Rattle.der_lite.specs.Place.{first_of}
 use Rattle.der_lite.specs.Der.{head_rules, is_truncated, has_der_length, length_bytes, length_end, content_end}
 

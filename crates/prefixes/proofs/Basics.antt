@@ -1,5 +1,5 @@
 -- Tests of numbers and of truth values, and slots of a list.
-use Rattle.std.specs.Prelude.{◌≡◌, ℕ, ◌<◌, ◌≤◌, ◌==◌, Bool, true, false, not, ◌||◌, nat_lt, nat_le, List, [], ◌∷◌, ◌++◌, length, Some, slice_get, slice_set, refl}
+use Rattle.std.specs.Prelude.{◌≡◌, ℕ, ◌<◌, ◌==◌, Bool, true, false, not, ◌||◌, nat_lt, List, [], ◌∷◌, ◌++◌, length, Some, slice_get, slice_set, refl}
 use Rattle.std.specs.List.{AllByRecursion}
 use Rattle.std.proofs.Common.{sym, ap, ◌∙◌, arith, zero, suc}
 use Rattle.std.proofs.lemmas.Bool.Decides.{nat_tests}

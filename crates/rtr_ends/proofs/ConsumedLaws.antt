@@ -15,7 +15,7 @@ use Rattle.rtr_ends.specs.Cache.{is_none, finds_memory}
 use Rattle.rtr_ends.specs.Consumed.{units_read_in, fault_in, consumed, came, IsRouterCall, IsSplit, RouterSplits}
 use Rattle.rtr_ends.specs.Feeding.{feed, run}
 use Rattle.rtr_ends.specs.LinkRules.{Router, ask, emptied}
-use Rattle.rtr_ends.specs.Router.{Noted, Receiving, asks, asks_if, RouterCall, Connects, Receives, Pulls, Closes, AsksNow, Ticks, clocked, close, closed_at, connects_at, expired, played, reads, receives, router_byte, router_pulled, router_stops, ticks_at, with_bytes}
+use Rattle.rtr_ends.specs.Router.{Noted, Receiving, asks, asks_if, RouterCall, Connects, Receives, Pulls, Closes, AsksNow, Ticks, clocked, close, closed_at, connects_at, expired, played, receives, router_byte, router_pulled, router_stops, ticks_at, with_bytes}
 use Rattle.rtr_ends.specs.RouterLink.{Link, Closed, Idle, Asked, Answering, Ended, is_closed, is_due, is_idle, is_reading}
 use Rattle.rtr_ends.specs.Transcript.{choose, AskReset, AskSerial, Item, At, Opened, Asks, Shut, has_agreed, is_over, is_serial, later, retry_of, sum_of}
 use Rattle.rtr_ends.proofs.ByteLists.{none_bytes, bytes_front, drop_none, front_of}

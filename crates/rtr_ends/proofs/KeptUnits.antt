@@ -15,7 +15,7 @@ use Rattle.rtr_ends.specs.declared.link.End.TheVariants as ends
 use Rattle.rtr_pdu.specs.declared.version.Version.TheVariants.{V1}
 use Rattle.rtr_ends.specs.Answer.{sent}
 use Rattle.rtr_ends.specs.LinkRules.{Router, Staged, Stays, Wrong, Over, asking, ask, emptied, reports, ended_by, fails, is_strange, is_news, stage, staged, commit, told_off, on_unit, may_lack}
-use Rattle.rtr_ends.specs.Router.{Noted, asked_by, reads, lacks, with_bytes, asks}
+use Rattle.rtr_ends.specs.Router.{Noted, asked_by, reads, lacks, with_bytes}
 use Rattle.rtr_ends.specs.RouterLaws.{LinkTells}
 use Rattle.rtr_ends.specs.RouterLink.{Link, Closed, Idle, Asked, Answering, Ended, is_reading}
 use Rattle.rtr_ends.specs.Transcript.{choose, Question, AskReset, AskSerial, query, Item, Asks, Reads, Begun, begun, with_record, waiting, under_way, outstanding, question_of, has_agreed, responded, is_connected, moment, is_among, may_withdraw, may_announce, acts_once, led_to, Committed, Kept, nothing, bounded, base_of, session_of, differs, is_serial, is_wrong, does_commit, emptied_if, at_end_of_data, kept, sum_of, retry_of, refreshed, due}

@@ -15,8 +15,8 @@ use Rattle.rtr_pdu.specs.declared.version.Version.TheVariants.{V1}
 use Rattle.rtr_ends.specs.Answer.{report, sent}
 use Rattle.rtr_ends.specs.LinkRules as rules
 use Rattle.rtr_ends.specs.LinkRules.{Router, ask, asking, commit, fails, is_news, is_staged, is_strange, may_lack, on_unit, reports, stage, staged, ended_by, told_off}
-use Rattle.rtr_ends.specs.Router.{asks, asks_if, breaks, clocked, close, closed_at, connects_at, expired, fault_end, judged_by_clock, ticks_at}
-use Rattle.rtr_ends.specs.RouterLink.{Link, Closed, Idle, Asked, Answering, Ended, is_due, is_idle}
+use Rattle.rtr_ends.specs.Router.{asks, asks_if, clocked, close, closed_at, connects_at, expired, judged_by_clock, ticks_at}
+use Rattle.rtr_ends.specs.RouterLink.{Idle, Asked, Answering, Ended, is_due, is_idle}
 use Rattle.rtr_ends.specs.Transcript.{Question, AskReset, AskSerial, Begun, base_of, bounded, is_over, is_wrong, later, query, sum_of, within}
 use Rattle.rtr_ends.specs.Seen.{Does, EndsLink, IsStaged, UnitIsRead, ShowsRouter, Stages, begun_with, seen, seen_link, seen_question, seen_version, seen_versions}
 use Rattle.rtr_ends.specs.Staging.{StagesRecord, GoesTo, LeadsToSet}

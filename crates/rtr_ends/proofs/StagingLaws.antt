@@ -1,21 +1,17 @@
 -- What records that are staged lead to, record by record.
-use Rattle.std.specs.Prelude.{◌≡◌, ℕ, ◌+◌, ◌-◌, ◌≤◌, ◌<◌, Bool, true, false, not, ◌&&◌, ◌||◌, cond, nat_lt, if◌then◌else◌, List, [], ◌∷◌, Some, Result, Ok, Err, IfOk, IsErrOf, refl}
+use Rattle.std.specs.Prelude.{◌≡◌, ℕ, ◌+◌, ◌-◌, ◌≤◌, ◌<◌, Bool, true, false, not, ◌&&◌, ◌||◌, nat_lt, if◌then◌else◌, List, [], ◌∷◌, Some, Result, Ok, Err, IfOk, IsErrOf, refl}
 use Rattle.std.proofs.Common.{sym, ap, ◌∙◌, subst, arith}
 use Rattle.std.proofs.Math.Bool.{or-true}
 use Rattle.std.proofs.lemmas.Bool.Decides.{nat_tests}
-use Rattle.std.proofs.lemmas.Map.Keys.{IsDistinct-from_sorted}
-use Rattle.std.proofs.lemmas.Map.Made.{length-le_from_is_member}
 use Rattle.std.proofs.lemmas.Map.Views.{tells_apart}
 use Rattle.std.specs.Cmp.{eq_by_cmp_equiv}
-use Rattle.std.specs.FinMap as map
 use Rattle.std.specs.List.{AllByRecursion}
-use Rattle.prefixes.specs.Payload.{Payload, vrp_cmp}
+use Rattle.prefixes.specs.Payload.{Payload}
 use Rattle.prefixes.specs.Orders.{vrp_total, vrp_exact}
-use Rattle.vrps.specs.VrpSet.{VrpSet, empty, has, listing, set_of, size, union, with_member, without}
-use Rattle.vrps.proofs.Listed.{size_of_listing}
+use Rattle.vrps.specs.VrpSet.{VrpSet, empty, has, set_of, size, union, with_member, without}
 use Rattle.vrps.specs.declared.set.SetFault.{SetFault}
 use Rattle.vrps.specs.declared.set.SetFault.TheVariants.{TooMany, Memory}
-use Rattle.vrps.proofs.SetLaws.{has-empty, has-listing, has-set_of, has-union, has-with_member, has-without, listing_ascends, same_set, same_vrp}
+use Rattle.vrps.proofs.SetLaws.{has-empty, has-set_of, has-union, has-with_member, has-without, same_set, same_vrp}
 use Rattle.rtr_ends.specs.RouterLink as linked
 use Rattle.rtr_ends.specs.LinkRules as rules
 use Rattle.rtr_ends.specs.LinkRules.{Router}

@@ -9,7 +9,7 @@ use Rattle.rtr_pdu.specs.declared.unit.Unit.TheVariants.{SerialNotify, CacheResp
 use Rattle.rtr_ends.specs.declared.link.End.TheVariants as ends
 use Rattle.rtr_pdu.specs.declared.version.Version.TheVariants.{V1}
 use Rattle.rtr_ends.specs.Answer.{report, sent}
-use Rattle.rtr_ends.specs.Transcript.{Question, AskReset, AskSerial, query, Begun, Committed, choose, is_among, led_to, base_of, session_of, differs, is_serial, is_wrong, bounded, sum_of, retry_of, due, moment}
+use Rattle.rtr_ends.specs.Transcript.{Question, AskReset, AskSerial, query, Begun, Committed, choose, is_among, led_to, base_of, session_of, differs, is_serial, is_wrong, bounded, sum_of, retry_of}
 use Rattle.rtr_ends.specs.RouterLink.{Link, Closed, Idle, Asked, Answering, Ended}
 
 -- What a router holds: the committed table and version; the mark that the next query must be a Reset Query; when an idle link

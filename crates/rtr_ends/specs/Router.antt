@@ -12,8 +12,8 @@ use Rattle.rtr_ends.specs.Answer.{sent_all}
 use Rattle.rtr_ends.specs.Cache.{is_none, finds_memory, counted}
 use Rattle.rtr_ends.specs.Connection.{fault_code, fault_report}
 use Rattle.rtr_ends.specs.Feeding.{FedPiece, feed}
-use Rattle.rtr_ends.specs.Transcript.{AskSerial, Item, At, Opened, Asks, Reads, Lacks, Breaks, Shut, choose, is_serial, is_over, later, sum_of, retry_of, due}
-use Rattle.rtr_ends.specs.LinkRules.{Router, new_router, ask, emptied, ended_by, on_unit, may_lack}
+use Rattle.rtr_ends.specs.Transcript.{AskSerial, Item, At, Opened, Asks, Reads, Lacks, Breaks, Shut, choose, is_serial, is_over, later, sum_of, retry_of}
+use Rattle.rtr_ends.specs.LinkRules.{Router, new_router, ask, emptied, on_unit, may_lack}
 use Rattle.rtr_ends.specs.RouterLink.{Link, Closed, Asked, Answering, Ended, is_reading, is_closed, is_due, is_idle}
 
 -- a router after a call or a part of it, and what that adds to its transcript, the last first

@@ -11,7 +11,7 @@ use Rattle.std.proofs.Math.Bool.{and-true}
 use Rattle.prefixes.specs.Payload.{Payload, vrp_cmp}
 use Rattle.prefixes.specs.Orders.{vrp_total}
 use Rattle.vrps.specs.Change.{between}
-use Rattle.vrps.specs.VrpSet.{VrpSet, empty, has, size, listing, set_of, union, with_all, with_member, without}
+use Rattle.vrps.specs.VrpSet.{VrpSet, empty, has, size, listing, set_of, with_all, with_member, without}
 use Rattle.vrps.proofs.SetLaws.{same_set, has-empty, has-union, has-without, has-set_of, has-listing, listing_ascends, all_of_members}
 use Rattle.vrps.proofs.SetVersions.{tied}
 use Rattle.rtr_pdu.specs.declared.unit.Unit.{Unit}

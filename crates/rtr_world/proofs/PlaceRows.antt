@@ -1,9 +1,8 @@
 -- Places of commits, worked out: a second one, one of a later instance, and what a refusal leaves.
-use Rattle.std.specs.Prelude.{◌≡◌, ℕ, ◌&&◌, ◌||◌, Bool, true, false, not, List, [], ◌∷◌, ◌++◌, Option, Some, None, refl}
-use Rattle.std.proofs.Common.{ap, ◌∙◌}
+use Rattle.std.specs.Prelude.{◌≡◌, ℕ, true, false, List, [], ◌∷◌, ◌++◌, Option, Some, None, refl}
+use Rattle.std.proofs.Common.{ap}
 use Rattle.vrps.specs.Instance.{Instance}
-use Rattle.vrps.specs.VrpSet.{VrpSet, empty, has, set_of, without}
-use Rattle.vrps.proofs.SetLaws.{has-set_of, has-union, has-without, same_set}
+use Rattle.vrps.specs.VrpSet.{VrpSet, empty, set_of}
 use Rattle.rtr_pdu.specs.Judging.{judge}
 use Rattle.rtr_pdu.specs.Stream.{as_read}
 use Rattle.rtr_pdu.specs.declared.unit.Unit.TheVariants.{CacheResponse, EndOfData, Prefix, SerialNotify}
@@ -14,7 +13,7 @@ use Rattle.rtr_ends.specs.LinkRules.{Router, new_router, on_unit}
 use Rattle.rtr_ends.specs.Router.{clocked, closed_at, receives, router_byte}
 use Rattle.rtr_ends.specs.RouterLink.{Asked, Idle}
 use Rattle.rtr_ends.specs.Timing.{default_intervals}
-use Rattle.rtr_ends.specs.Transcript.{Item, At, Opened, Asks, Reads, Refused, Restarts, Shut, AskReset, AskSerial, Committed, led_to}
+use Rattle.rtr_ends.specs.Transcript.{Item, At, Opened, Asks, Reads, Refused, Restarts, Shut, AskReset, AskSerial, Committed}
 use Rattle.rtr_ends.proofs.WholeAnswerRows.{v, cache, end_bytes, response_bytes}
 use Rattle.rtr_world.specs.History.{Done, Memory, after}
 use Rattle.rtr_world.specs.VersionPlaces.{VersionPlace}
