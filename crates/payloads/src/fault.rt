@@ -41,8 +41,8 @@ pub enum GrammarFaultKind {
     NameTwice,
     /// 19: it is entry or file 65,537.
     TooMany,
-    /// 20: the maximum length is the length of the prefix, which is meant where there is none. RFC
-    /// 9582 section 4.3.2.2 leaves it lawful; here one authorization has one payload.
+    /// 20: the maximum length equals the prefix length, which is what an absent one means. RFC 9582
+    /// section 4.3.2.2 does not forbid it; here it is refused, so that one authorization has one payload.
     MaxLengthSuperfluous,
 }
 
@@ -144,12 +144,12 @@ impl From<AllocError> for PayloadFault {
     }
 }
 
-/// Why a value can't be a payload, and the index of the entry, or 0 where no entry is meant.
+/// Why a value can't be a payload, and the index of the entry or file, or 0 where none is meant.
 #[derive(Clone, Copy, Debug, PartialEq, Eq)]
 pub struct ValueFault {
     /// What is wrong.
     pub kind: GrammarFaultKind,
-    /// Which entry is, counted from 0.
+    /// Which entry or file is, counted from 0.
     pub index: usize,
 }
 

@@ -6,6 +6,8 @@ use crate::prefix::IpPrefix;
 /// (RFC 6811 section 2).
 #[derive(Clone, Copy, PartialEq, Eq)]
 pub struct Route {
+    /// What is announced.
     pub prefix: IpPrefix,
+    /// The AS number that announces it, 32 bits, or NONE.
     pub origin: Option<u32>,
 }

@@ -180,7 +180,7 @@ fn answers_of(
 }
 
 /// The answers, a unit a line, of a cache that has published this set alone, under this session and serial, to the bytes that come on a
-/// connection. They are given in hexadecimal.
+/// connection. They are given in hexadecimal. `BadHex`: they are not. `Memory`: memory was wanting, for an answer or for its lines.
 pub fn answer_lines(
     alloc: Global,
     session: u16,

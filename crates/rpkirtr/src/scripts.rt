@@ -13,9 +13,13 @@ use vrps::{SetFault, VrpSet};
 /// before the current one it keeps, from 1 to 65,536.
 #[derive(Clone, Copy)]
 pub struct Beginning {
+    /// How many routers.
     pub routers: u16,
+    /// The session of the cache.
     pub session: u16,
+    /// The serial of its first version.
     pub start: u32,
+    /// How many versions before the current one it keeps.
     pub keep: u32,
 }
 

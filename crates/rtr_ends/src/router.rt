@@ -126,7 +126,7 @@ impl Router {
         self.machine.table.state(route)
     }
 
-    /// When an idle link asks again, if ever.
+    /// When an idle link asks again, if ever, in seconds of the caller's clock.
     pub fn due(&self) -> Option<u64>
         ensures shown { (r : rules.Router) → IsShown r self.now → result ≡ r.due }
         ensures kept { (calls : List model.RouterCall) → CallsLead calls self.now → result ≡ due (model.played calls).items }
@@ -163,7 +163,8 @@ impl Router {
     }
 
     /// Takes bytes of a piece, and answers how many: none where bytes are to be pulled or no link is open, else up to the end of the first
-    /// unit that gives bytes to be pulled or ends the link.
+    /// unit that gives bytes to be pulled or ends the link. The clock is judged first, at `now`, in seconds. Memory is taken where a record
+    /// is staged or an answer ends; where it is wanting, the link ends with `Memory` and the table stays.
     pub fn receive(&mut self, piece: &[u8], now: u64) -> usize
         ensures shown { ReceivesSo now piece.now result self.old self.new }
         ensures leads { (wanting : Option ℕ) × LeadsOn (model.Receives now wanting piece.now) self.old self.new }

@@ -15,7 +15,7 @@ use crate::writing::encode;
 use arrayvec::ArrayVec;
 use std::io::{Read, Write};
 
-/// Why no unit was read. It takes no memory. The numbers are fixed.
+/// Why no unit was read. The numbers are fixed.
 #[derive(Clone, Copy, Debug, PartialEq, Eq)]
 pub enum ReadFault {
     /// The bytes are no unit, or the input ends within one.

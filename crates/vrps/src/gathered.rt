@@ -65,7 +65,8 @@ impl Gathered {
         }
     }
 
-    /// The set of the records, or `TooMany` where they are more than a set may have. The time is linear in their number.
+    /// The set of the records; `TooMany` where they are more than a set may have, `Memory` where memory for it is wanting. The time is
+    /// linear in their number.
     pub fn into_set(self, alloc: Global) -> Result<VrpSet, SetFault>
         ensures ok { IfOk result (λ s. s ≡ self) }
         ensures too_many { IsErrOf result SetFault.TooMany → 16777215 < size self }

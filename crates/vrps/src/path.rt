@@ -18,7 +18,9 @@ pub enum SegmentKind {
 /// A segment of a path, with its AS numbers in the order in which they stand.
 #[derive(Drop)]
 pub struct Segment {
+    /// Whether it is a sequence or a set, of a confederation or not.
     pub kind: SegmentKind,
+    /// Its AS numbers, 32 bits each.
     pub numbers: Vec<u32>,
 }
 
