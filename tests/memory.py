@@ -78,6 +78,9 @@ RUNS = {
     "set_runs::duplicate_a_set": once(V),
     "set_runs::apply_to_one": once(W),
     "set_runs::apply_to_none": once(V + W),
+    "set_runs::apply_the_second_announcement": once(W),
+    "set_runs::apply_what_came_and_went": once(V),
+    "set_runs::apply_what_comes_again": once(V),
     "set_runs::publish_and_withdraw": anywhere(
         *("10\n", "11\n", "12\n", "13\n"),
         *(f"withdrawn:\n{gone}announced:\n{come}" for gone, come in (("", W), (V, W), ("", ""))),
@@ -104,7 +107,8 @@ YES = "yes\n"
 WELL = "\ntest result: ok\n"
 FREE = {
     "free_runs::free_faults": "6 at 2\n20 at 33\n12 at 25\n4 at 19\n" + 3 * "1 at 0\n" + "3 at 0\n4 at 2\n7 at 2\n1 at 7\n",
-    "free_runs::free_readings": 4 * YES + "no\n" + 3 * YES,
+    "free_runs::free_readings": 4 * YES + "no\n" + 8 * YES,
+    "free_runs::free_roas": 2 * YES,
     "free_runs::free_states": 3 * YES + units(QUERY) + "Ended(Expired) 0\n" + units(RESET),
     "free_runs::free_answers": YES + units(ANSWER) + YES + units("010012340000000c00000005") + units(RESPONSE, end(5)) + YES + "no\n",
     "free_runs::free_units": units(RESPONSE) + 4 * YES + units(RESPONSE),

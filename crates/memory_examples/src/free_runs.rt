@@ -5,26 +5,40 @@ use crate::payload_runs::{ONE_PREFIX, tell_decoded};
 use crate::telling::{V, begin, set_of, tell, tell_bytes};
 use arrayvec::ArrayVec;
 use der_lite::Cursor;
-use prefixes::{IpPrefix, Route};
+use payloads::{Roa, RoaEntry};
+use prefixes::{Asn, IpPrefix, Route};
 use rtr_ends::Router;
 use rtr_pdu::{Counted, Next, Unit, UnitReader, encode, read_unit, write_unit};
+use std::alloc::Global;
 use std::test::Fail;
 use vrps::{OriginIndex, OriginState, Serial};
 
 #[test]
 fn free_faults(rt: HostRuntime) -> Result<(), Fail> {
     begin(rt.alloc())?;
-    let with_version =
-        b"\x30\x1c\xa0\x03\x02\x01\x00\x02\x03\x00\xfb\xf0\x30\x10\x30\x0e\x04\x02\x00\x01\x30\x08\x30\x06\x03\x04\x00\xc0\x00\x02";
+    let with_version = b"\
+    \x30\x1c\xa0\x03\x02\x01\x00\
+    \x02\x03\x00\xfb\xf0\
+    \x30\x10\x30\x0e\x04\x02\x00\x01\
+    \x30\x08\x30\x06\x03\x04\x00\xc0\x00\x02";
     tell_decoded(&rt, with_version)?;
-    let superfluous =
-        b"\x30\x22\x02\x03\x00\xfb\xf0\x30\x1b\x30\x19\x04\x02\x00\x01\x30\x13\x30\x06\x03\x04\x00\xc0\x00\x02\x30\x09\x03\x04\x00\xc0\x00\x02\x02\x01\x18";
+    let superfluous = b"\
+    \x30\x22\x02\x03\x00\xfb\xf0\
+    \x30\x1b\x30\x19\x04\x02\x00\x01\
+    \x30\x13\x30\x06\x03\x04\x00\xc0\x00\x02\
+    \x30\x09\x03\x04\x00\xc0\x00\x02\
+    \x02\x01\x18";
     tell_decoded(&rt, superfluous)?;
-    let twice =
-        b"\x30\x1f\x02\x03\x00\xfb\xf0\x30\x18\x30\x16\x04\x02\x00\x01\x30\x10\x30\x06\x03\x04\x00\xc0\x00\x02\x30\x06\x03\x04\x00\xc0\x00\x02";
+    let twice = b"\
+    \x30\x1f\x02\x03\x00\xfb\xf0\
+    \x30\x18\x30\x16\x04\x02\x00\x01\
+    \x30\x10\x30\x06\x03\x04\x00\xc0\x00\x02\
+    \x30\x06\x03\x04\x00\xc0\x00\x02";
     tell_decoded(&rt, twice)?;
-    let host_bits =
-        b"\x30\x17\x02\x03\x00\xfb\xf0\x30\x10\x30\x0e\x04\x02\x00\x01\x30\x08\x30\x06\x03\x04\x01\xc0\x00\x03";
+    let host_bits = b"\
+    \x30\x17\x02\x03\x00\xfb\xf0\
+    \x30\x10\x30\x0e\x04\x02\x00\x01\
+    \x30\x08\x30\x06\x03\x04\x01\xc0\x00\x03";
     tell_decoded(&rt, host_bits)?;
     for short in [&ONE_PREFIX[..0], &ONE_PREFIX[..1], &ONE_PREFIX[..24]] {
         tell_decoded(&rt, short)?;
@@ -38,6 +52,15 @@ fn free_faults(rt: HostRuntime) -> Result<(), Fail> {
         tell_decoded(&rt, other)?;
     }
     Ok(())
+}
+
+fn entries_of(alloc: Global, rows: &[(&str, Option<u8>)]) -> Result<Vec<RoaEntry>, Fail> {
+    let mut entries = Vec::new(alloc);
+    for &(text, max_len) in rows {
+        let prefix = IpPrefix::parse(text)?;
+        entries.push(RoaEntry { prefix, max_len })?;
+    }
+    Ok(entries)
 }
 
 fn tell_whether(rt: &HostRuntime, holds: bool) -> Result<(), Fail> {
@@ -62,12 +85,35 @@ fn free_readings(rt: HostRuntime) -> Result<(), Fail> {
     tell_whether(&rt, inner.bits().is_err())?;
     tell_whether(&rt, inner.at_end())?;
     tell_whether(&rt, whole.finish().is_ok())?;
+    // Octets, an object identifier, text, a time and bits.
+    let mut others = Cursor::new(
+        b"\x04\x01\xaa\x06\x02\x2a\x03\x16\x05a.roa\x18\x0f20250101120000Z\x03\x02\x00\xc0",
+    );
+    tell_whether(&rt, others.octets().is_ok_and(|it| it.len() == 1))?;
+    tell_whether(&rt, others.oid().is_ok_and(|it| it.len() == 2))?;
+    tell_whether(&rt, others.ia5().is_ok_and(|it| it == "a.roa"))?;
+    tell_whether(&rt, others.time().is_ok())?;
+    tell_whether(&rt, others.bits().is_ok_and(|it| it.bytes.len() == 1))?;
     let (short, long) = (
         IpPrefix::parse("192.0.2.0/24")?,
         IpPrefix::parse("192.0.2.0/25")?,
     );
     tell_whether(&rt, short.covers(&long))?;
     tell_whether(&rt, Serial(4_294_967_295).is_before(Serial(0)))
+}
+
+#[test]
+fn free_roas(rt: HostRuntime) -> Result<(), Fail> {
+    let one = entries_of(rt.alloc(), &[("192.0.2.0/24", None)])?;
+    let other = entries_of(rt.alloc(), &[("2001:db8::/32", Some(48))])?;
+    begin(rt.alloc())?;
+    for entries in [one, other] {
+        match Roa::new(Asn(64496), entries) {
+            Ok(roa) => tell_whether(&rt, roa.entries().len() == 1)?,
+            Err(_) => tell_whether(&rt, false)?,
+        }
+    }
+    Ok(())
 }
 
 #[test]

@@ -46,6 +46,21 @@ fn apply_to_none(rt: HostRuntime) -> Result<(), Fail> {
     )
 }
 
+#[test]
+fn apply_the_second_announcement(rt: HostRuntime) -> Result<(), Fail> {
+    tell_applied(&rt, &set_of(rt.alloc(), &[])?, &set_of(rt.alloc(), &[W])?)
+}
+
+#[test]
+fn apply_what_came_and_went(rt: HostRuntime) -> Result<(), Fail> {
+    tell_applied(&rt, &set_of(rt.alloc(), &[V])?, &set_of(rt.alloc(), &[V])?)
+}
+
+#[test]
+fn apply_what_comes_again(rt: HostRuntime) -> Result<(), Fail> {
+    tell_applied(&rt, &set_of(rt.alloc(), &[])?, &set_of(rt.alloc(), &[V])?)
+}
+
 /// Publishes a set, and once more where memory was wanting, and prints what is current.
 fn tell_published(rt: &HostRuntime, log: &mut VersionLog, sets: [VrpSet; 2]) -> Result<(), Fail> {
     let mut out = rt.stdout();
