@@ -161,7 +161,13 @@ fn writes_each_element(rt: HostRuntime) -> Result<(), Fail> {
     writer.sequence(members.as_slice())?;
     assert!(rt;
         writer.as_slice()
-            == b"\x30\x16\x02\x02\x00\x80\x03\x02\x03\xf8\x04\x01\x01\x06\x02\x2a\x03\x16\x05a.roa".as_slice()
+            == b"\
+    \x30\x16\x02\x02\x00\x80\
+    \x03\x02\x03\xf8\
+    \x04\x01\x01\
+    \x06\x02\x2a\x03\
+    \x16\x05\x61\x2e\x72\x6f\x61"
+                .as_slice()
     );
     Ok(())
 }
@@ -208,8 +214,10 @@ fn walk(payload: &[u8]) -> Result<usize, DerFault> {
     Ok(address.bytes.len())
 }
 
-const ATTESTATION: &[u8; 25] =
-    b"\x30\x17\x02\x03\x00\xfb\xf0\x30\x10\x30\x0e\x04\x02\x00\x01\x30\x08\x30\x06\x03\x04\x00\xc0\x00\x02";
+const ATTESTATION: &[u8; 25] = b"\
+    \x30\x17\x02\x03\x00\xfb\xf0\
+    \x30\x10\x30\x0e\x04\x02\x00\x01\
+    \x30\x08\x30\x06\x03\x04\x00\xc0\x00\x02";
 
 /// The number and the offset of the fault of nested elements.
 fn walk_fault(payload: &[u8]) -> Option<(u8, usize)> {
@@ -222,8 +230,11 @@ fn walk_fault(payload: &[u8]) -> Option<(u8, usize)> {
 #[test]
 fn walks_nested_elements(rt: HostRuntime) {
     assert!(rt; walk(ATTESTATION).ok() == Some(3));
-    let of_no_bits =
-        b"\x30\x14\x02\x03\x00\xfb\xf0\x30\x0d\x30\x0b\x04\x02\x00\x01\x30\x05\x30\x03\x03\x01\x00".as_slice();
+    let of_no_bits = b"\
+    \x30\x14\x02\x03\x00\xfb\xf0\
+    \x30\x0d\x30\x0b\x04\x02\x00\x01\
+    \x30\x05\x30\x03\x03\x01\x00"
+        .as_slice();
     assert!(rt; walk(of_no_bits).ok() == Some(0));
     for (payload, number, offset) in [
         (b"".as_slice(), 1u8, 0usize),

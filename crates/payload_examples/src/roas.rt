@@ -1,27 +1,12 @@
 //! ROAs by hand.
 
-use der_lite::{Bits, DerWriter};
-use payloads::{PayloadFault, Roa, RoaEntry, decode_roa, encode_roa};
+use crate::spelled::{NO_BITS, ONE_PREFIX, SUPERFLUOUS, WITH_MAXIMUM, bytes};
+use der_lite::{Bits, DerFaultKind, DerWriter};
+use payloads::{GrammarFaultKind as Kind, PayloadFault, Roa, RoaEntry, decode_roa, encode_roa};
 use prefixes::{Asn, IpPrefix, Prefix, PrefixFault, V4, Vrp};
 use std::alloc::Global;
 use std::process::Abort;
 use std::test::Fail;
-
-/// AS64496 and 192.0.2.0/24.
-pub(crate) const ONE_PREFIX: &[u8; 25] =
-    b"\x30\x17\x02\x03\x00\xfb\xf0\x30\x10\x30\x0e\x04\x02\x00\x01\x30\x08\x30\x06\x03\x04\x00\xc0\x00\x02";
-
-/// AS64496 and 0.0.0.0/0.
-pub(crate) const NO_BITS: &[u8; 22] =
-    b"\x30\x14\x02\x03\x00\xfb\xf0\x30\x0d\x30\x0b\x04\x02\x00\x01\x30\x05\x30\x03\x03\x01\x00";
-
-/// AS64496 and 2001:db8::/32 with the maximum 48.
-pub(crate) const WITH_MAXIMUM: &[u8; 29] =
-    b"\x30\x1b\x02\x03\x00\xfb\xf0\x30\x14\x30\x12\x04\x02\x00\x02\x30\x0c\x30\x0a\x03\x05\x00\x20\x01\x0d\xb8\x02\x01\x30";
-
-/// AS64496 and 192.0.2.0/24 with the maximum 24, which is its length.
-pub(crate) const SUPERFLUOUS: &[u8; 28] =
-    b"\x30\x1a\x02\x03\x00\xfb\xf0\x30\x13\x30\x11\x04\x02\x00\x01\x30\x0b\x30\x09\x03\x04\x00\xc0\x00\x02\x02\x01\x18";
 
 /// The number and the offset of the first fault, if the bytes are refused. Want of memory is 0 at 0.
 fn fault(alloc: Global, payload: &[u8]) -> Option<(u8, usize)> {
@@ -29,6 +14,14 @@ fn fault(alloc: Global, payload: &[u8]) -> Option<(u8, usize)> {
         Ok(_) => None,
         Err(PayloadFault::At(fault)) => Some((fault.kind.number(), fault.offset)),
         Err(PayloadFault::Memory) => Some((0, 0)),
+    }
+}
+
+/// The first fault of these bytes and its offset, if they are refused for one.
+fn first_fault(alloc: Global, text: &str) -> Option<(Kind, usize)> {
+    match decode_roa(alloc, bytes(text).as_slice()) {
+        Err(PayloadFault::At(fault)) => Some((fault.kind, fault.offset)),
+        Ok(_) | Err(PayloadFault::Memory) => None,
     }
 }
 
@@ -41,11 +34,11 @@ fn vrp(text: &str, max_len: u8) -> Result<Vrp, PrefixFault> {
 fn decodes_roas(rt: HostRuntime) -> Result<(), Fail> {
     let alloc = rt.alloc();
     for (payload, text, max_len) in [
-        (ONE_PREFIX.as_slice(), "192.0.2.0/24", 24u8),
-        (NO_BITS.as_slice(), "0.0.0.0/0", 0),
-        (WITH_MAXIMUM.as_slice(), "2001:db8::/32", 48),
+        (ONE_PREFIX, "192.0.2.0/24", 24u8),
+        (NO_BITS, "0.0.0.0/0", 0),
+        (WITH_MAXIMUM, "2001:db8::/32", 48),
     ] {
-        let Ok(roa) = decode_roa(alloc, payload) else {
+        let Ok(roa) = decode_roa(alloc, bytes(payload).as_slice()) else {
             assert!(rt; false, "{text}");
             return Ok(());
         };
@@ -60,119 +53,113 @@ fn decodes_roas(rt: HostRuntime) -> Result<(), Fail> {
 #[test]
 fn tells_the_first_fault(rt: HostRuntime) {
     let alloc = rt.alloc();
-    for (payload, number, offset) in [
+    for (text, kind, offset) in [
         (
-            b"\x30\x1c\xa0\x03\x02\x01\x00\x02\x03\x00\xfb\xf0\x30\x10\x30\x0e\x04\x02\x00\x01\x30\x08\x30\x06\x03\x04\x00\xc0\x00\x02".as_slice(),
-            6u8,
+            "301c a003 020100 020300fbf0 3010 300e 04020001 3008 3006 030400c00002",
+            Kind::VersionPresent,
             2usize,
         ),
         (
-            b"\x30\x1f\x02\x03\x00\xfb\xf0\x30\x18\x30\x16\x04\x02\x00\x01\x30\x10\x30\x06\x03\x04\x00\xc0\x00\x02\x30\x06\x03\x04\x00\xc0\x00\x02".as_slice(),
-            12,
+            "301f 020300fbf0 3018 3016 04020001 3010 3006 030400c00002 3006 030400c00002",
+            Kind::Order,
             25,
         ),
-        (SUPERFLUOUS.as_slice(), 20, 25),
+        (SUPERFLUOUS, Kind::MaxLengthSuperfluous, 25),
         (
-            b"\x30\x28\x02\x03\x00\xfb\xf0\x30\x21\x30\x1f\x04\x02\x00\x02\x30\x19\x30\x17\x03\x11\x00\x20\x01\x0d\xb8\x00\x00\x00\x00\x00\x00\x00\x00\x00\x00\x00\x01\x02\x02\x00\x80".as_slice(),
-            20,
+            "3028 020300fbf0 3021 301f 04020002 3019 3017 03110020010db8000000000000000000000001 02020080",
+            Kind::MaxLengthSuperfluous,
             38,
         ),
         (
-            b"\x30\x27\x02\x03\x00\xfb\xf0\x30\x20\x30\x1e\x04\x02\x00\x02\x30\x18\x30\x16\x03\x11\x00\x20\x01\x0d\xb8\x00\x00\x00\x00\x00\x00\x00\x00\x00\x00\x00\x01\x02\x01\x80".as_slice(),
-            11,
+            "3027 020300fbf0 3020 301e 04020002 3018 3016 03110020010db8000000000000000000000001 020180",
+            Kind::MaxLength,
             38,
         ),
         (
-            b"\x30\x22\x02\x03\x00\xfb\xf0\x30\x1b\x30\x19\x04\x02\x00\x01\x30\x13\x30\x06\x03\x04\x00\xc0\x00\x02\x30\x09\x03\x04\x00\xc0\x00\x02\x02\x01\x18".as_slice(),
-            20,
+            "3022 020300fbf0 301b 3019 04020001 3013 3006 030400c00002 3009 030400c00002 020118",
+            Kind::MaxLengthSuperfluous,
             33,
         ),
         (
-            b"\x30\x17\x02\x03\x00\xfb\xf0\x30\x10\x30\x0e\x04\x02\x00\x01\x30\x08\x30\x06\x03\x04\x01\xc0\x00\x03".as_slice(),
-            4,
+            "3017 020300fbf0 3010 300e 04020001 3008 3006 030401c00003",
+            Kind::Element(DerFaultKind::BadContent),
             19,
         ),
         (
-            b"\x30\x1a\x02\x03\x00\xfb\xf0\x30\x13\x30\x11\x04\x02\x00\x01\x30\x0b\x30\x09\x03\x04\x00\xc0\x00\x02\x02\x01\x21".as_slice(),
-            11,
+            "301a 020300fbf0 3013 3011 04020001 300b 3009 030400c00002 020121",
+            Kind::MaxLength,
             25,
         ),
         (
-            b"\x30\x1a\x02\x03\x00\xfb\xf0\x30\x13\x30\x11\x04\x02\x00\x01\x30\x0b\x30\x09\x03\x04\x00\xc0\x00\x02\x02\x01\x17".as_slice(),
-            11,
+            "301a 020300fbf0 3013 3011 04020001 300b 3009 030400c00002 020117",
+            Kind::MaxLength,
             25,
         ),
         (
-            b"\x30\x27\x02\x03\x00\xfb\xf0\x30\x20\x30\x0e\x04\x02\x00\x01\x30\x08\x30\x06\x03\x04\x00\xc0\x00\x02\x30\x0e\x04\x02\x00\x01\x30\x08\x30\x06\x03\x04\x00\xc0\x00\x02".as_slice(),
-            8,
+            "3027 020300fbf0 3020 300e 04020001 3008 3006 030400c00002 300e 04020001 3008 3006 030400c00002",
+            Kind::Family,
             27,
         ),
         (
-            b"\x30\x2b\x02\x03\x00\xfb\xf0\x30\x24\x30\x12\x04\x02\x00\x02\x30\x0c\x30\x0a\x03\x05\x00\x20\x01\x0d\xb8\x02\x01\x30\x30\x0e\x04\x02\x00\x01\x30\x08\x30\x06\x03\x04\x00\xc0\x00\x02".as_slice(),
-            12,
+            "302b 020300fbf0 3024 3012 04020002 300c 300a 03050020010db8 020130 300e 04020001 3008 3006 030400c00002",
+            Kind::Order,
             31,
         ),
         (
-            b"\x30\x3f\x02\x03\x00\xfb\xf0\x30\x38\x30\x0e\x04\x02\x00\x01\x30\x08\x30\x06\x03\x04\x00\xc0\x00\x02\x30\x12\x04\x02\x00\x02\x30\x0c\x30\x0a\x03\x05\x00\x20\x01\x0d\xb8\x02\x01\x30\x30\x12\x04\x02\x00\x02\x30\x0c\x30\x0a\x03\x05\x00\x20\x01\x0d\xb8\x02\x01\x30".as_slice(),
-            5,
+            "303f 020300fbf0 3038 300e 04020001 3008 3006 030400c00002 3012 04020002 300c 300a 03050020010db8 020130 3012 04020002 300c 300a 03050020010db8 020130",
+            Kind::Element(DerFaultKind::Trailing),
             45,
         ),
-        (b"\x30\x07\x02\x03\x00\xfb\xf0\x30\x00".as_slice(), 9, 7),
-        (b"\x30\x07\x02\x05\x01\x00\x00\x00\x00".as_slice(), 7, 2),
-        (b"\x30\x80".as_slice(), 3, 0),
-        (b"\x30\x04\x02\x02\x00\x01".as_slice(), 4, 2),
-        (b"\x30\x03\x02\x01\x80".as_slice(), 7, 2),
-        (b"\x30\x05\x02\x03\x00\xfb\xf0".as_slice(), 1, 7),
-        (b"\x30\x84\xff\xff\xff\xff".as_slice(), 1, 0),
-        (b"\x30\x85\x00\x00\x00\x00\x01".as_slice(), 3, 0),
+        ("3007 020300fbf0 3000", Kind::Empty, 7),
+        ("3007 02050100000000", Kind::AsnRange, 2),
+        ("3080", Kind::Element(DerFaultKind::BadLength), 0),
+        ("3004 02020001", Kind::Element(DerFaultKind::BadContent), 2),
+        ("3003 020180", Kind::AsnRange, 2),
+        ("3005 020300fbf0", Kind::Element(DerFaultKind::Truncated), 7),
+        ("3084ffffffff", Kind::Element(DerFaultKind::Truncated), 0),
+        ("30850000000001", Kind::Element(DerFaultKind::BadLength), 0),
         (
-            b"\x30\x81\x17\x02\x03\x00\xfb\xf0\x30\x10\x30\x0e\x04\x02\x00\x01\x30\x08\x30\x06\x03\x04\x00\xc0\x00\x02".as_slice(),
-            3,
+            "308117 020300fbf0 3010 300e 04020001 3008 3006 030400c00002",
+            Kind::Element(DerFaultKind::BadLength),
             0,
         ),
-        (b"\x1f\x00".as_slice(), 2, 0),
-        (b"\xa0\x00".as_slice(), 2, 0),
-        (b"\x30\x02\xa0\x00".as_slice(), 6, 2),
-        (b"\x30\x01\xa0".as_slice(), 1, 2),
+        ("1f00", Kind::Element(DerFaultKind::WrongTag), 0),
+        ("a000", Kind::Element(DerFaultKind::WrongTag), 0),
+        ("3002 a000", Kind::VersionPresent, 2),
+        ("3001 a0", Kind::Element(DerFaultKind::Truncated), 2),
         (
-            b"\x30\x17\x02\x03\x00\xfb\xf0\x30\x10\x30\x0e\x04\x02\x00\x01\x30\x09\x30\x06\x03\x04\x00\xc0\x00\x02".as_slice(),
-            1,
+            "3017 020300fbf0 3010 300e 04020001 3009 3006 030400c00002",
+            Kind::Element(DerFaultKind::Truncated),
             15,
         ),
         (
-            b"\x30\x17\x02\x03\x00\xfb\xf0\x30\x10\x30\x0e\x04\x02\x00\x01\x30\x08\x30\x05\x03\x04\x00\xc0\x00\x02".as_slice(),
-            1,
+            "3017 020300fbf0 3010 300e 04020001 3008 3005 030400c00002",
+            Kind::Element(DerFaultKind::Truncated),
             19,
         ),
         (
-            b"\x30\x17\x02\x03\x00\xfb\xf0\x30\x10\x30\x0e\x04\x02\x00\x01\x30\x08\x30\x06\x03\x04\x00\xc0\x00\x02\x00".as_slice(),
-            5,
+            "3017 020300fbf0 3010 300e 04020001 3008 3006 030400c00002 00",
+            Kind::Element(DerFaultKind::Trailing),
             25,
         ),
     ] {
-        assert!(rt;
-            fault(alloc, payload) == Some((number, offset)),
-            "at {payload:?}"
-        );
+        assert!(rt; first_fault(alloc, text) == Some((kind, offset)), "{text}");
     }
-    for payload in whole() {
+    for text in whole() {
+        let payload = bytes(text);
         for cut in 0..payload.len() {
-            let (front, _) = payload.split_at(cut);
+            let (front, _) = payload.as_slice().split_at(cut);
             assert!(rt;
                 fault(alloc, front) == Some((1, 0)),
-                "{cut} bytes of {payload:?}"
+                "{cut} bytes of {text}"
             );
         }
     }
 }
 
 /// Payloads that are each changed in every byte, and cut behind every byte.
-fn whole() -> [&'static [u8]; 3] {
-    [
-        ONE_PREFIX.as_slice(),
-        NO_BITS.as_slice(),
-        WITH_MAXIMUM.as_slice(),
-    ]
+fn whole() -> [&'static str; 3] {
+    [ONE_PREFIX, NO_BITS, WITH_MAXIMUM]
 }
 
 /// Whether a payload is taken and is what its ROA is written as, or has a fault that is told inside it.
@@ -189,10 +176,11 @@ fn is_judged(alloc: Global, payload: &[u8]) -> Result<bool, Fail> {
 #[test]
 fn judges_payloads_with_one_other_byte(rt: HostRuntime) -> Result<(), Fail> {
     let alloc = rt.alloc();
-    for payload in whole() {
+    for text in whole() {
+        let payload = bytes(text);
         for at in 0..payload.len() {
             for byte in 0..=255u8 {
-                let mut changed = Vec::from_slice(alloc, payload)?;
+                let mut changed = Vec::from_slice(alloc, payload.as_slice())?;
                 if let Some(place) = changed.get_mut(at) {
                     *place = byte;
                 }

@@ -1,29 +1,22 @@
 //! ROAs that are written.
 
-use crate::roas::{NO_BITS, ONE_PREFIX, WITH_MAXIMUM, entries_of, long_payload};
+use crate::roas::{entries_of, long_payload};
+use crate::spelled::{BOTH_FAMILIES, NO_BITS, ONE_PREFIX, WITH_MAXIMUM, bytes};
 use payloads::{Roa, decode_roa, encode_roa};
 use prefixes::Asn;
 use std::test::Fail;
 
-/// AS64496, and 192.0.2.0/24, 192.0.2.0/25 with the maximum 32, and 2001:db8::/32 with the maximum 48.
-const BOTH_FAMILIES: &[u8; 57] =
-    b"\x30\x37\x02\x03\x00\xfb\xf0\x30\x30\x30\x1a\x04\x02\x00\x01\x30\x14\x30\x06\x03\x04\x00\xc0\x00\x02\x30\x0a\x03\x05\x07\xc0\x00\x02\x00\x02\x01\x20\x30\x12\x04\x02\x00\x02\x30\x0c\x30\x0a\x03\x05\x00\x20\x01\x0d\xb8\x02\x01\x30";
-
 #[test]
 fn writes_what_it_reads(rt: HostRuntime) -> Result<(), Fail> {
     let alloc = rt.alloc();
-    for payload in [
-        ONE_PREFIX.as_slice(),
-        NO_BITS.as_slice(),
-        WITH_MAXIMUM.as_slice(),
-        BOTH_FAMILIES.as_slice(),
-    ] {
-        let Ok(roa) = decode_roa(alloc, payload) else {
-            assert!(rt; false, "{payload:?}");
+    for text in [ONE_PREFIX, NO_BITS, WITH_MAXIMUM, BOTH_FAMILIES] {
+        let payload = bytes(text);
+        let Ok(roa) = decode_roa(alloc, payload.as_slice()) else {
+            assert!(rt; false, "{text}");
             return Ok(());
         };
         let written = encode_roa(alloc, &roa)?;
-        assert!(rt; written.as_slice() == payload);
+        assert!(rt; written.as_slice() == payload.as_slice());
     }
     Ok(())
 }
@@ -34,9 +27,11 @@ fn writes_each_roa_with_one_other_byte(rt: HostRuntime) -> Result<(), Fail> {
     let mut spelled = Vec::new(alloc);
     for index in 0..29usize {
         for byte in 0..=255u8 {
-            let mut payload = *WITH_MAXIMUM;
-            payload[index] = byte;
-            if let Ok(roa) = decode_roa(alloc, &payload) {
+            let mut payload = bytes(WITH_MAXIMUM);
+            if let Some(place) = payload.as_mut_slice().get_mut(index) {
+                *place = byte;
+            }
+            if let Ok(roa) = decode_roa(alloc, payload.as_slice()) {
                 let written = encode_roa(alloc, &roa)?;
                 assert!(rt;
                     written.as_slice() == payload.as_slice(),
@@ -66,7 +61,7 @@ fn writes_roas_of_values(rt: HostRuntime) -> Result<(), Fail> {
         return Ok(());
     };
     let written = encode_roa(alloc, &roa)?;
-    assert!(rt; written.as_slice() == BOTH_FAMILIES.as_slice());
+    assert!(rt; written.as_slice() == bytes(BOTH_FAMILIES).as_slice());
     let Ok(again) = decode_roa(alloc, written.as_slice()) else {
         assert!(rt; false);
         return Ok(());
