@@ -12,8 +12,8 @@ pub fn one_spelling()
     ensures { OneSpelling }
 {}
 
-/// Two payloads of ROAs that are accepted are the same bytes exactly where they are of one AS and
-/// validate one set of payloads.
+/// Two payloads of ROAs that are accepted are the same bytes exactly where their AS numbers are equal
+/// and their sets of VRPs are.
 pub fn one_payload()
     ensures { OnePayload }
 {}
