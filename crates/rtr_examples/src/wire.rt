@@ -12,7 +12,7 @@ pub(crate) fn bytes(text: &str) -> Bytes {
         match first.take() {
             None => first = Some(digit),
             Some(high) => {
-                let _fits = bytes.try_push(((high << 4) | digit) as u8);
+                let _fits = bytes.try_push((((high << 4) | digit) % 256) as u8);
             }
         }
     }
