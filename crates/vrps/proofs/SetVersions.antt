@@ -63,7 +63,7 @@ news (now ∷ older) set other h = (other_set now set other, h)
 
 published_by : (b : Bool) (set : VrpSet) (i : Instance) → is_current i.sets set ≡ b → IsVrpSet set → IsInstance i → IsInstance (if b then i else record i { sets = set ∷ i.sets })
 published_by true set i e fits h = h
-published_by false set i e fits h = record { session = h.session; start = h.start; sets = (fits, h.sets); news = news i.sets set e h.news }
+published_by false set i e fits h = record { session = h.session; session0 = h.session0; start = h.start; sets = (fits, h.sets); news = news i.sets set e h.news }
 
 pub published_is_instance : PublishedIsInstance
 published_is_instance set i fits h = published_by (is_current i.sets set) set i refl fits h

@@ -5,9 +5,11 @@ use Rattle.std.specs.List.{AllByRecursion}
 use Rattle.vrps.specs.VrpSet.{VrpSet, IsVrpSet}
 use Rattle.vrps.specs.Serial.{serial_at}
 
--- An instance of a cache: its session, the serial of its first version, and the sets that it published, the newest first
+-- An instance of a cache: its session in version 1 of the protocol and that in version 0, the serial of its first version, and the
+-- sets that it published, the newest first
 pub record Instance : Type 0 where
   pub session : ℕ
+  pub session0 : ℕ
   pub start : ℕ
   pub sets : List VrpSet
 
@@ -32,6 +34,7 @@ AreNews (set ∷ before ∷ older) = (set ≢ before) × AreNews (before ∷ old
 
 pub record IsInstance (i : Instance) : Type 0 where
   pub session : i.session < 2 ^ 16
+  pub session0 : i.session0 < 2 ^ 16
   pub start : i.start < 2 ^ 32
   pub sets : AllByRecursion IsVrpSet i.sets
   pub news : AreNews i.sets

@@ -46,7 +46,7 @@ impl VersionLog {
     pub fn new(alloc: Global, session: u16, start: u32, keep: u32) -> Result<VersionLog, AllocError>
         requires some { 1 ≤ keep }
         requires limit { keep ≤ 65536 }
-        ensures { IfOk result (λ log. HoldsSteps keep (record { session = session; start = start; sets = [] }) log) }
+        ensures { IfOk result (λ log. (session0 : ℕ) → HoldsSteps keep (record { session = session; session0 = session0; start = start; sets = [] }) log) }
     {
         let steps = HeapCircularBuffer::with_capacity(alloc, keep as usize)?;
         Ok(VersionLog {

@@ -1,5 +1,5 @@
 //! A log of versions that keeps whole sets.
-ghost use Rattle.std.specs.Prelude.{◌≡◌, ◌≤◌, [], IfOk};
+ghost use Rattle.std.specs.Prelude.{◌≡◌, ◌≤◌, ℕ, [], IfOk};
 ghost use Rattle.vrps.specs.Wholes.{IsBehind};
 ghost use Rattle.vrps.specs.Store.{is_current};
 
@@ -29,7 +29,7 @@ impl WholeLog {
     pub fn new(alloc: Global, session: u16, start: u32, keep: u32) -> Result<WholeLog, AllocError>
         requires some { 1 ≤ keep }
         requires limit { keep ≤ 65536 }
-        ensures { IfOk result (λ log. IsLogOf keep (record { session = session; start = start; sets = [] }) log) }
+        ensures { IfOk result (λ log. (session0 : ℕ) → IsLogOf keep (record { session = session; session0 = session0; start = start; sets = [] }) log) }
     {
         let sets = VecDeque::with_capacity(alloc, keep as usize + 1)?;
         Ok(WholeLog {
