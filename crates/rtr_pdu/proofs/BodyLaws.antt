@@ -8,10 +8,13 @@ use Rattle.rtr_pdu.specs.Version.{version_number}
 use Rattle.rtr_pdu.specs.declared.version.Version.{Version}
 use Rattle.rtr_pdu.specs.Payloads.{AreBytes, Report, Key}
 use Rattle.rtr_pdu.specs.declared.unit.Unit.{Unit}
-use Rattle.rtr_pdu.specs.declared.unit.Unit.TheVariants.{SerialNotify, SerialQuery, ResetQuery, CacheResponse, Prefix, EndOfData, CacheReset, RouterKey, ErrorReport}
+use Rattle.rtr_pdu.specs.declared.unit.Unit.TheVariants.{SerialNotify, SerialQuery, ResetQuery, CacheResponse, Prefix, CacheReset, RouterKey, ErrorReport}
 use Rattle.rtr_pdu.specs.declared.unit.UnitFault.{UnitFault}
 use Rattle.rtr_pdu.specs.declared.unit.UnitFault.TheVariants as faults
 use Rattle.rtr_pdu.specs.Unit.{Reads}
+use Rattle.rtr_pdu.specs.Kind.{is_type}
+use Rattle.rtr_pdu.specs.Judging.{end_of_data_in}
+use Rattle.rtr_pdu.proofs.VersionLaws.{has_keys}
 use Rattle.rtr_pdu.specs.Stream.{as_read, is_notify_header, version_of, type_of, length_of, fault_of, header_fault, IsWhole, IsRecord, IsReport, Shows, IsShortest}
 use Rattle.rtr_pdu.proofs.ModeLaws.{length-as_read, eight_le, not_short}
 use Rattle.rtr_pdu.specs.Reading.{number_at, is_odd, v4_in, v6_in, key_in, report_in, IsSized, IsBody}
@@ -126,12 +129,6 @@ module _ (version : Version) where
     pub read_3 : (session : ℕ) → type_of bytes ≡ 3 → session ≡ number_at 2 2 bytes → IsRead version any bytes (CacheResponse session)
     read_3 session k s = is_read _ _ (reads_3 version (as_read version any bytes) (frame 3 k) (len 8 (b.sized.at_response k))) (ap CacheResponse (at_place 2 1 ∙ sym s))
 
-    -- End of Data
-    pub read_7 : (session serial refresh retry expire : ℕ) → type_of bytes ≡ 7 → session ≡ number_at 2 2 bytes → serial ≡ number_at 4 8 bytes → refresh ≡ number_at 4 12 bytes → retry ≡ number_at 4 16 bytes → expire ≡ number_at 4 20 bytes → IsRead version any bytes (EndOfData session serial refresh retry expire)
-    read_7 session serial refresh retry expire k s n x y z =
-        is_read _ _ (reads_7 version (as_read version any bytes) (frame 7 k) (len 24 (b.sized.at_end_of_data k)))
-        (λ i. EndOfData ((at_place 2 1 ∙ sym s) i) ((at_place 4 7 ∙ sym n) i) ((at_place 4 11 ∙ sym x) i) ((at_place 4 15 ∙ sym y) i) ((at_place 4 19 ∙ sym z) i))
-
     -- bytes of a unit that is no notify
     same_changed : (c : Bool) → (c ≡ true → ⊥) → (if c then version_number version ∷ drop 1 bytes else bytes) ≡ bytes
     same_changed true h = absurd (h refl)
@@ -173,9 +170,13 @@ module _ (version : Version) where
     read_6 announce v k a e sound =
         is_read _ _ (subst (λ x. Reads version (Prefix (is_odd (slice_index bytes 8)) (v6_in bytes)) x) (sym (as_it_is (omega (arith, k)))) (reads_6 version bytes (plain 6 k (omega arith)) (b.sized.at_v6 k) sound)) (λ i. Prefix (sym a i) (sym e i))
 
+    -- an End of Data
+    pub read_7 : type_of bytes ≡ 7 → IsRead version any bytes (end_of_data_in version bytes)
+    read_7 k = back (end_of_data_in version bytes) (omega (arith, k)) (reads_7 version bytes (plain 7 k (omega arith)) (b.sized.at_end_of_data k))
+
     -- a Router Key
     pub read_9 : (x : Key) → type_of bytes ≡ 9 → x ≡ key_in bytes → IsRead version any bytes (RouterKey x)
-    read_9 x k e = is_read _ _ (subst (λ y. Reads version (RouterKey (key_in bytes)) y) (sym (as_it_is (omega (arith, k)))) (reads_9 version bytes (plain 9 k (omega arith)) (b.sized.at_key k) b.sized.most)) (ap RouterKey (sym e))
+    read_9 x k e = is_read _ _ (subst (λ y. Reads version (RouterKey (key_in bytes)) y) (sym (as_it_is (omega (arith, k)))) (reads_9 version bytes (plain 9 k (omega arith)) (has_keys version (ap (is_type version) (sym k) ∙ b.sized.known)) (b.sized.at_key k) b.sized.most)) (ap RouterKey (sym e))
 
     -- an Error Report
     pub read_10 : (r : Report) → type_of bytes ≡ 10 → r ≡ report_in bytes → IsReport version bytes → IsRead version any bytes (ErrorReport r)

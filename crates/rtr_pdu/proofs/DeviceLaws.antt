@@ -1,21 +1,22 @@
 -- What a unit still wants, and what a read of it gives.
-use Rattle.std.specs.Prelude.{◌≡◌, ℕ, ◌+◌, ◌-◌, ◌<◌, ◌≤◌, true, false, nat_lt, if◌then◌else◌, List, [], ◌∷◌, ◌++◌, length, take, Option, Some, None, Ok, Err, refl}
+use Rattle.std.specs.Prelude.{◌≡◌, ℕ, ◌+◌, ◌-◌, ◌<◌, ◌≤◌, true, false, nat_lt, if◌then◌else◌, List, [], ◌∷◌, ◌++◌, length, take, Option, Some, None, Result, Ok, Err, refl}
 use Rattle.std.proofs.Common.{sym, ap, ◌∙◌, subst, arith, append_assoc, inl, inr}
 use Rattle.std.proofs.lemmas.Bool.{cases_lt}
 use Rattle.std.proofs.lemmas.Bool.Decides.{nat_tests}
 use Rattle.std.proofs.lemmas.List.{length-append, append-nil}
 use Rattle.std.proofs.KnownBytes.{Consumes-trans}
-use Rattle.std.specs.Io.KnownBytes.{Consumes}
+use Rattle.std.specs.Io.KnownBytes.{Consumes, IsAtEnd}
 use Rattle.rtr_pdu.specs.declared.version.Version.{Version}
 use Rattle.rtr_pdu.specs.declared.unit.Unit.{Unit}
 use Rattle.rtr_pdu.specs.declared.unit.UnitFault.{UnitFault}
 use Rattle.rtr_pdu.specs.declared.unit.UnitFault.TheVariants as faults
 use Rattle.rtr_pdu.specs.declared.unit.Next.TheVariants as next
+use Rattle.rtr_pdu.specs.declared.device.ReadFault.{ReadFault}
 use Rattle.rtr_pdu.specs.declared.device.ReadFault.TheVariants as read_faults
-use Rattle.rtr_pdu.specs.Stream.{as_read, length_of, header_fault, IsPartial, IsShortest}
+use Rattle.rtr_pdu.specs.Stream.{as_read, length_of, header_fault, end_fault, IsPartial, IsShortest}
 use Rattle.rtr_pdu.specs.Unit.{spelled}
-use Rattle.rtr_pdu.specs.Reader.{Reader, IsReader, IsRead, IsFaulty, ReaderTakes}
-use Rattle.rtr_pdu.specs.Device.{ReadAnswers, ReadsUnit, wanted}
+use Rattle.rtr_pdu.specs.Reader.{Reader, IsReader, IsRead, IsFaulty, ReaderTakes, at_end}
+use Rattle.rtr_pdu.specs.Device.{ReadAnswers, ReadsUnit, end_answer, wanted}
 use Rattle.rtr_pdu.proofs.JudgeLaws.{header_fault-append, header_sized}
 use Rattle.rtr_pdu.proofs.ModeLaws.{length_of-append, not_short}
 use Rattle.rtr_pdu.proofs.ReaderLaws.{standing_none}
@@ -87,7 +88,7 @@ module _ (version : Version) where
   unit_whole : (bytes : List ℕ) (u : Unit) → IsRead version false bytes u → IsPartial version (as_read version false bytes) → ⊥
   unit_whole bytes u r part =
       let is = r.reads.bytes_are ∙ sym (append-nil (spelled version u r.reads.ignored)) in
-      not_partial version u r.reads.ignored [] r.reads.fits (subst (λ x. IsPartial version x) is part)
+      not_partial version u r.reads.ignored [] r.reads.fits r.reads.of_version (subst (λ x. IsPartial version x) is part)
 
   -- A reader without a fault holds the beginning of a unit.
   pub begins : (r : Reader) → r.fault ≡ None → r.any ≡ false → IsReader version r → IsPartial version (as_read version false r.held)
@@ -135,6 +136,24 @@ module _ (version : Version) where
         told bytes faults.TooLong bad = bad
         told bytes faults.Record bad = bad
         told bytes faults.ErrorReport bad = bad
+
+  -- what is answered where the input ends behind these bytes
+  end_answered : (held : List ℕ) (left : Option (List ℕ)) → IsPartial version (as_read version false held) → IsAtEnd left → ReadAnswers version held left (end_answer (end_fault held None))
+  end_answered [] left part ends = (refl, ends)
+  end_answered (b ∷ held) left part ends = (part, omega arith, ends)
+
+  -- The input ends where the reader stands.
+  pub gives_end : (before mid left : Option (List ℕ)) (calls count now n : ℕ) (r : Reader) (buf : List ℕ) (answer : Result (Option Unit) ReadFault) → r.fault ≡ None → r.any ≡ false → IsReader version r
+      → Consumes before mid r.held → Consumes mid left (take n buf) → n ≡ 0 → IsAtEnd left → count ≤ calls + length r.held → now ≡ count + 1 → answer ≡ end_answer (at_end r)
+      → ReadsUnit version before left calls now answer
+  gives_end before mid left calls count now n r buf answer sound mode stands front more none ends most one e = record {
+    bytes = r.held;
+    consumed = subst (Consumes before left) (ap (λ k. r.held ++ take k buf) none ∙ append-nil r.held) (Consumes-trans before mid left r.held (take n buf) front more);
+    answers =
+        subst (λ a. ReadAnswers version r.held left a) (ap (λ f. end_answer (end_fault r.held f)) (sym sound) ∙ sym e)
+        (end_answered r.held left (begins r sound mode stands) ends);
+    calls_most = omega (arith, most, one);
+  }
 
   -- All of the piece is held where more is wanted.
   pub holds_more : (r new : Reader) (piece rest : List ℕ) → ReaderTakes version r piece next.NeedMore rest new → new ≡ record r { held = r.held ++ piece }

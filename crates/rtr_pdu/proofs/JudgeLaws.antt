@@ -14,7 +14,9 @@ use Rattle.rtr_pdu.specs.declared.unit.Unit.{Unit}
 use Rattle.rtr_pdu.specs.declared.unit.UnitFault.{UnitFault}
 use Rattle.rtr_pdu.specs.declared.unit.UnitFault.TheVariants as faults
 use Rattle.rtr_pdu.specs.Unit.{Reads}
-use Rattle.rtr_pdu.specs.Kind.{is_type, has_length}
+use Rattle.rtr_pdu.specs.Kind.{fixed_len, is_type, has_length}
+use Rattle.rtr_pdu.specs.declared.kind.Kind.TheVariants as kinds
+use Rattle.rtr_pdu.proofs.VersionLaws.{end_least, has_keys}
 use Rattle.rtr_pdu.specs.Stream.{version_of, type_of, length_of, header_fault, IsWhole, IsRecord, IsReport, Shows}
 use Rattle.rtr_pdu.proofs.ModeLaws.{type_of-append, length_of-append, not_short}
 use Rattle.rtr_pdu.specs.Payloads.{AreBytes}
@@ -53,17 +55,17 @@ is_most : (a b : ℕ) → nat_lt a b ≡ false → b ≤ a
 is_most a b h = grind (arith, nat_tests)
 
 -- the types with their lengths
-pub data Kinds (type len : ℕ) : Type 0 where
-  notify : type ≡ 0 → len ≡ 12 → Kinds type len
-  query : type ≡ 1 → len ≡ 12 → Kinds type len
-  reset_query : type ≡ 2 → len ≡ 8 → Kinds type len
-  response : type ≡ 3 → len ≡ 8 → Kinds type len
-  v4 : type ≡ 4 → len ≡ 20 → Kinds type len
-  v6 : type ≡ 6 → len ≡ 32 → Kinds type len
-  end_of_data : type ≡ 7 → len ≡ 24 → Kinds type len
-  cache_reset : type ≡ 8 → len ≡ 8 → Kinds type len
-  key : type ≡ 9 → 32 ≤ len → Kinds type len
-  report : type ≡ 10 → 16 ≤ len → Kinds type len
+pub data Kinds (version : Version) (type len : ℕ) : Type 0 where
+  notify : type ≡ 0 → len ≡ 12 → Kinds version type len
+  query : type ≡ 1 → len ≡ 12 → Kinds version type len
+  reset_query : type ≡ 2 → len ≡ 8 → Kinds version type len
+  response : type ≡ 3 → len ≡ 8 → Kinds version type len
+  v4 : type ≡ 4 → len ≡ 20 → Kinds version type len
+  v6 : type ≡ 6 → len ≡ 32 → Kinds version type len
+  end_of_data : type ≡ 7 → len ≡ fixed_len version kinds.EndOfData → Kinds version type len
+  cache_reset : type ≡ 8 → len ≡ 8 → Kinds version type len
+  key : type ≡ 9 → 32 ≤ len → Kinds version type len
+  report : type ≡ 10 → 16 ≤ len → Kinds version type len
 
 -- one test of several
 one_of : {P : Type 0} (type k : ℕ) (fits more : Bool) → (type ≡ k → fits ≡ true → P) → (more ≡ true → P) → ((type == k && fits) || more) ≡ true → P
@@ -78,7 +80,7 @@ pub false_true : {P : Type 0} → false ≡ true → P
 false_true h = absurd (let e : false ≡ true = h in cc)
 
 -- A type with a length of its own is one of the ten.
-pub kinds_of : (version : Version) (type len : ℕ) → has_length version type len ≡ true → Kinds type len
+pub kinds_of : (version : Version) (type len : ℕ) → has_length version type len ≡ true → Kinds version type len
 kinds_of version type len h =
     one_of type 0 (len == 12) _ (λ k e. notify k (is_same len 12 e))
     (one_of type 1 (len == 12) _ (λ k e. query k (is_same len 12 e))
@@ -86,23 +88,23 @@ kinds_of version type len h =
     (one_of type 3 (len == 8) _ (λ k e. response k (is_same len 8 e))
     (one_of type 4 (len == 20) _ (λ k e. v4 k (is_same len 20 e))
     (one_of type 6 (len == 32) _ (λ k e. v6 k (is_same len 32 e))
-    (one_of type 7 (len == 24) _ (λ k e. end_of_data k (is_same len 24 e))
+    (one_of type 7 (len == fixed_len version kinds.EndOfData) _ (λ k e. end_of_data k (is_same len (fixed_len version kinds.EndOfData) e))
     (one_of type 8 (len == 8) _ (λ k e. cache_reset k (is_same len 8 e))
     (one_of type 9 (nat_le 32 len) _ (λ k e. key k (is_least 32 len e))
     (one_of type 10 (nat_le 16 len) _ (λ k e. report k (is_least 16 len e)) false_true))))))))) h
 
 -- each length is that of a header or more
-least_length : (t l : ℕ) → Kinds t l → 8 ≤ l
-least_length t l (notify k e) = omega (arith, e)
-least_length t l (query k e) = omega (arith, e)
-least_length t l (reset_query k e) = omega (arith, e)
-least_length t l (response k e) = omega (arith, e)
-least_length t l (v4 k e) = omega (arith, e)
-least_length t l (v6 k e) = omega (arith, e)
-least_length t l (end_of_data k e) = omega (arith, e)
-least_length t l (cache_reset k e) = omega (arith, e)
-least_length t l (key k e) = omega (arith, e)
-least_length t l (report k e) = omega (arith, e)
+least_length : (version : Version) (t l : ℕ) → Kinds version t l → 8 ≤ l
+least_length version t l (notify k e) = omega (arith, e)
+least_length version t l (query k e) = omega (arith, e)
+least_length version t l (reset_query k e) = omega (arith, e)
+least_length version t l (response k e) = omega (arith, e)
+least_length version t l (v4 k e) = omega (arith, e)
+least_length version t l (v6 k e) = omega (arith, e)
+least_length version t l (end_of_data k e) = omega (arith, e, end_least version)
+least_length version t l (cache_reset k e) = omega (arith, e)
+least_length version t l (key k e) = omega (arith, e)
+least_length version t l (report k e) = omega (arith, e)
 
 -- what the test of a length is at one type
 only : (b : Bool) → (b || false) ≡ true → b ≡ true
@@ -114,7 +116,7 @@ pub sized_of : (version : Version) (type len : ℕ) → is_type version type ≡
 sized_of version type len kind has most =
     let tested : (k : ℕ) → type ≡ k → has_length version k len ≡ true = λ k e. ap (λ t. has_length version t len) (sym e) ∙ has in
     record {
-      eight = least_length type len (kinds_of version type len has);
+      eight = least_length version type len (kinds_of version type len has);
       most = most;
       known = kind;
       at_notify = λ e. is_same len 12 (only (len == 12) (tested 0 e));
@@ -123,7 +125,7 @@ sized_of version type len kind has most =
       at_response = λ e. is_same len 8 (only (len == 8) (tested 3 e));
       at_v4 = λ e. is_same len 20 (only (len == 20) (tested 4 e));
       at_v6 = λ e. is_same len 32 (only (len == 32) (tested 6 e));
-      at_end_of_data = λ e. is_same len 24 (only (len == 24) (tested 7 e));
+      at_end_of_data = λ e. is_same len (fixed_len version kinds.EndOfData) (only (len == fixed_len version kinds.EndOfData) (tested 7 e));
       at_cache_reset = λ e. is_same len 8 (only (len == 8) (tested 8 e));
       at_key = λ e. is_least 32 len (only (nat_le 32 len) (tested 9 e));
       at_report = λ e. is_least 16 len (only (nat_le 16 len) (tested 10 e));
@@ -246,14 +248,14 @@ module _ (version : Version) where
   whole_of : (bytes : List ℕ) → header_fault version bytes ≡ None → 8 ≤ length bytes → length bytes ≡ length_of bytes → IsWhole version bytes
   whole_of bytes none eight size = (none, eight, omega (arith, size))
 
-  unit_judged : (bytes : List ℕ) → AreBytes bytes → IsWhole version bytes → length bytes ≡ length_of bytes → IsHeader version bytes → Kinds (type_of bytes) (length_of bytes) → IsJudged bytes
+  unit_judged : (bytes : List ℕ) → AreBytes bytes → IsWhole version bytes → length bytes ≡ length_of bytes → IsHeader version bytes → Kinds version (type_of bytes) (length_of bytes) → IsJudged bytes
   unit_judged bytes each w size h (notify k l) = inr (_, reads_0 version bytes (record { each = each; version_is = h.version_is; type_is = k; size = size; eight = w.1 }) (size ∙ l))
   unit_judged bytes each w size h (query k l) = inr (_, reads_1 version bytes (record { each = each; version_is = h.version_is; type_is = k; size = size; eight = w.1 }) (size ∙ l))
   unit_judged bytes each w size h (reset_query k l) = inr (_, reads_2 version bytes (record { each = each; version_is = h.version_is; type_is = k; size = size; eight = w.1 }) (size ∙ l))
   unit_judged bytes each w size h (response k l) = inr (_, reads_3 version bytes (record { each = each; version_is = h.version_is; type_is = k; size = size; eight = w.1 }) (size ∙ l))
   unit_judged bytes each w size h (end_of_data k l) = inr (_, reads_7 version bytes (record { each = each; version_is = h.version_is; type_is = k; size = size; eight = w.1 }) (size ∙ l))
   unit_judged bytes each w size h (cache_reset k l) = inr (_, reads_8 version bytes (record { each = each; version_is = h.version_is; type_is = k; size = size; eight = w.1 }) (size ∙ l))
-  unit_judged bytes each w size h (key k l) = inr (_, reads_9 version bytes (record { each = each; version_is = h.version_is; type_is = k; size = size; eight = w.1 }) (omega (arith, size, l)) (omega (arith, size, h.high)))
+  unit_judged bytes each w size h (key k l) = inr (_, reads_9 version bytes (record { each = each; version_is = h.version_is; type_is = k; size = size; eight = w.1 }) (has_keys version (ap (is_type version) (sym k) ∙ h.kind)) (omega (arith, size, l)) (omega (arith, size, h.high)))
   unit_judged bytes each w size h (v4 k l) =
       elim (record_decided 32 bytes) [
         | inl good ↦ inr (_, reads_4 version bytes (record { each = each; version_is = h.version_is; type_is = k; size = size; eight = w.1 }) (size ∙ l) good)

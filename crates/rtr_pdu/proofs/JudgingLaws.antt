@@ -234,16 +234,16 @@ module _ (version : Version) where
   pub reads_judged : (any : Bool) (bytes : List ℕ) (u : Unit) → Reads version u (as_read version any bytes) → judge version any bytes ≡ Whole u
   unfolding judge
   reads_judged any bytes u r =
-      let o = opens version u r.ignored [] r.fits in
+      let o = opens version u r.ignored [] r.fits r.of_version in
       let is : as_read version any bytes ≡ spelled version u r.ignored ++ [] = r.bytes_are ∙ sym (append-nil (spelled version u r.ignored)) in
       let seen : List ℕ = spelled version u r.ignored ++ [] in
       let w : IsWhole version (spelled version u r.ignored ++ []) = (o.fault, omega (arith, o.eight, length-append (spelled version u r.ignored) []), omega (arith, o.len, length-append (spelled version u r.ignored) [])) in
       ap (λ x. by_header version x (header_fault version x)) is ∙ whole_judged (spelled version u r.ignored ++ []) w
-      ∙ sound (body_fault version (spelled version u r.ignored ++ [])) w refl ∙ ap Whole (unit_in-spelled version u r.ignored [] r.fits)
+      ∙ sound (body_fault version (spelled version u r.ignored ++ [])) w refl ∙ ap Whole (unit_in-spelled version u r.ignored [] r.fits r.of_version)
     where
       sound : (f : Option UnitFault) → IsWhole version (spelled version u r.ignored ++ []) → body_fault version (spelled version u r.ignored ++ []) ≡ f → by_body version (spelled version u r.ignored ++ []) (body_fault version (spelled version u r.ignored ++ [])) ≡ Whole (unit_in version (spelled version u r.ignored ++ []))
       sound None w e = ap (by_body version (spelled version u r.ignored ++ [])) e
-      sound (Some fault) w e = absurd (not_shown version u r.ignored [] r.fits fault (shows_body (spelled version u r.ignored ++ []) fault w e))
+      sound (Some fault) w e = absurd (not_shown version u r.ignored [] r.fits r.of_version fault (shows_body (spelled version u r.ignored ++ []) fault w e))
 
   pub whole_exactly : (any : Bool) (bytes : List ℕ) (u : Unit) → AreBytes bytes → length bytes ≡ length_of (as_read version any bytes) → (judge version any bytes ≡ Whole u) ↔ Reads version u (as_read version any bytes)
   whole_exactly any bytes u each size = (

@@ -7,10 +7,10 @@ use Rattle.prefixes.specs.declared.prefix.IpPrefix.TheVariants.{V4, V6}
 use Rattle.rtr_pdu.specs.Version.{version_number}
 use Rattle.rtr_pdu.specs.declared.version.Version.{Version}
 use Rattle.rtr_pdu.specs.declared.unit.Unit.{Unit}
-use Rattle.rtr_pdu.specs.declared.unit.Unit.TheVariants.{SerialNotify, SerialQuery, ResetQuery, CacheResponse, Prefix, EndOfData, CacheReset, RouterKey, ErrorReport}
+use Rattle.rtr_pdu.specs.declared.unit.Unit.TheVariants.{SerialNotify, SerialQuery, ResetQuery, CacheResponse, Prefix, EndOfData, EndOfData0, CacheReset, RouterKey, ErrorReport}
 use Rattle.rtr_pdu.specs.Judging.{Begins, Whole, judge}
 use Rattle.rtr_pdu.specs.Stream.{as_read, length_of, is_notify_header, header_fault, IsPartial, IsWhole, IsShortest}
-use Rattle.rtr_pdu.specs.Unit.{Ignored, zeros, IsUnit, spelled, prefix_bytes, Reads, unit_bytes}
+use Rattle.rtr_pdu.specs.Unit.{Ignored, zeros, IsUnit, fits, spelled, prefix_bytes, Reads, unit_bytes}
 use Rattle.rtr_pdu.proofs.JudgeLaws.{header_fault-append, header_sized, short_none}
 use Rattle.rtr_pdu.proofs.JudgingLaws.{begins_exactly, reads_judged}
 use Rattle.rtr_pdu.proofs.ModeLaws.{length-as_read, as_read-append, length_of-append}
@@ -41,33 +41,34 @@ module _ (version : Version) where
   begins_with (CacheResponse session) z = refl
   begins_with (Prefix announce v) z = elim v.prefix as (λ p. prefix_bytes version announce p v.max_len v.asn z ≡ version_number version ∷ drop 1 (prefix_bytes version announce p v.max_len v.asn z)) [ V4 p ↦ refl | V6 p ↦ refl ]
   begins_with (EndOfData session serial refresh retry expire) z = refl
+  begins_with (EndOfData0 session serial) z = refl
   begins_with CacheReset z = refl
   begins_with (RouterKey k) z = refl
   begins_with (ErrorReport r) z = refl
 
   -- A unit that is sent is judged that unit, at a cache and at a router.
-  pub judge_sent : (any : Bool) (u : Unit) → IsUnit u → judge version any (unit_bytes version u) ≡ Whole u
-  judge_sent any u fits =
+  pub judge_sent : (any : Bool) (u : Unit) → IsUnit u → fits version u ≡ true → judge version any (unit_bytes version u) ≡ Whole u
+  judge_sent any u fits own =
       let is : as_read version any (unit_bytes version u) ≡ unit_bytes version u =
       ap (as_read version any) (begins_with u zeros) ∙ own_version any (drop 1 (unit_bytes version u)) ∙ sym (begins_with u zeros) in
-      reads_judged version any (unit_bytes version u) u (subst (λ x. Reads version u x) (sym is) (written_is_read version u fits))
+      reads_judged version any (unit_bytes version u) u (subst (λ x. Reads version u x) (sym is) (written_is_read version u fits own))
 
   -- A unit has a byte.
   pub some_sent : (u : Unit) → unit_bytes version u ≡ [] → ⊥
   some_sent u e = let h : [] ≡ version_number version ∷ drop 1 (unit_bytes version u) = sym e ∙ begins_with u zeros in cc
 
   -- A unit has at most 4,096 bytes.
-  pub sent_most : (u : Unit) → IsUnit u → length (unit_bytes version u) ≤ 4096
-  sent_most u fits =
-      let o = opens version u zeros [] fits in
+  pub sent_most : (u : Unit) → IsUnit u → fits version u ≡ true → length (unit_bytes version u) ≤ 4096
+  sent_most u fits own =
+      let o = opens version u zeros [] fits own in
       let whole : spelled version u zeros ++ [] ≡ spelled version u zeros = append-nil (spelled version u zeros) in
       let sized = header_sized version (spelled version u zeros ++ []) (omega (arith, ap length whole, o.eight)) o.fault in
       omega (arith, sized.most, o.len)
 
   -- what stands before a byte of a unit is the beginning of one
-  part_of : (u : Unit) (part rest : List ℕ) (b : ℕ) → IsUnit u → part ++ b ∷ rest ≡ unit_bytes version u → IsPartial version part
-  part_of u part rest b fits e =
-      let o = opens version u zeros [] fits in
+  part_of : (u : Unit) (part rest : List ℕ) (b : ℕ) → IsUnit u → fits version u ≡ true → part ++ b ∷ rest ≡ unit_bytes version u → IsPartial version part
+  part_of u part rest b fits own e =
+      let o = opens version u zeros [] fits own in
       let whole : spelled version u zeros ++ [] ≡ part ++ b ∷ rest = append-nil (spelled version u zeros) ∙ sym e in
       let size = length-append part (b ∷ rest) in
       let len : length_of (part ++ b ∷ rest) ≡ length (part ++ b ∷ rest) = ap (λ x. length_of x) (sym whole) ∙ o.len ∙ ap length (sym e) in
@@ -86,9 +87,9 @@ module _ (version : Version) where
       ap (λ v. as_read version any (v ∷ part)) first ∙ own_version any part ∙ ap (λ v. v ∷ part) (sym first)
 
   -- So it is judged.
-  pub judge_part : (any : Bool) (u : Unit) (part rest : List ℕ) (b : ℕ) → IsUnit u → part ++ b ∷ rest ≡ unit_bytes version u → judge version any part ≡ Begins
-  judge_part any u part rest b fits e =
-      (begins_exactly version any part).1 (subst (λ x. IsPartial version x) (sym (part_as_read any u part rest b e)) (part_of u part rest b fits e))
+  pub judge_part : (any : Bool) (u : Unit) (part rest : List ℕ) (b : ℕ) → IsUnit u → fits version u ≡ true → part ++ b ∷ rest ≡ unit_bytes version u → judge version any part ≡ Begins
+  judge_part any u part rest b fits own e =
+      (begins_exactly version any part).1 (subst (λ x. IsPartial version x) (sym (part_as_read any u part rest b e)) (part_of u part rest b fits own e))
 
   -- One byte more of a beginning: no fewer bytes are judged anything else,
   pub next_shortest : (any : Bool) (held : List ℕ) (b : ℕ) → IsPartial version (as_read version any held) → IsShortest version any (held ++ b ∷ [])

@@ -1,5 +1,5 @@
 -- A whole unit without a fault is read as what its type says.
-use Rattle.std.specs.Prelude.{◌≡◌, ℕ, ◌+◌, ◌-◌, ◌*◌, ◌/◌, ◌%◌, ◌<◌, ◌≤◌, ◌^◌, Bool, true, false, ◌==◌, List, [], ◌∷◌, ◌++◌, length, take, drop, slice_index, refl}
+use Rattle.std.specs.Prelude.{◌≡◌, ℕ, ◌+◌, ◌-◌, ◌*◌, ◌/◌, ◌%◌, ◌<◌, ◌≤◌, ◌^◌, Bool, true, false, not, ◌==◌, List, [], ◌∷◌, ◌++◌, length, take, drop, slice_index, refl}
 use Rattle.std.proofs.Common.{sym, ap, ◌∙◌, subst, arith, append_assoc, zero, suc, inl, inr}
 use Rattle.std.proofs.Math.Nat.{div-eq_of_lt, mul-add-div_right, mul-add-mod_self_right, mul_assoc, pow-succ', one-le-pow, div-one}
 use Rattle.std.proofs.lemmas.List.{length-drop, length-take, length-take-le, get_or-drop, get_or-take, get_or_past, take-append-drop, drop-drop, drop_more, drop_all, take_all}
@@ -9,11 +9,15 @@ use Rattle.std.specs.Int.{byte_at, bytes_high_first}
 use Rattle.std.specs.Str.{IsUtf8}
 use Rattle.byteorder.specs.Endian.{big_from, big_bytes, big_number}
 use Rattle.byteorder.specs.Numbers.{big_from-cons, big_from-lt}
-use Rattle.rtr_pdu.specs.Version.{version_number}
+use Rattle.rtr_pdu.specs.Version.{version_number, is_v0}
+use Rattle.rtr_pdu.specs.declared.version.Version.TheVariants.{V0, V1}
+use Rattle.rtr_pdu.specs.declared.kind.Kind.TheVariants as kinds
+use Rattle.rtr_pdu.specs.Kind.{fixed_len}
+use Rattle.rtr_pdu.specs.Judging.{end_of_data_in}
 use Rattle.rtr_pdu.specs.declared.version.Version.{Version}
 use Rattle.rtr_pdu.specs.Payloads.{AreBytes}
 use Rattle.rtr_pdu.specs.Reading.{number_at, is_odd, v4_in, v6_in, key_in, report_in}
-use Rattle.rtr_pdu.specs.declared.unit.Unit.TheVariants.{SerialNotify, SerialQuery, ResetQuery, CacheResponse, Prefix, EndOfData, CacheReset, RouterKey, ErrorReport}
+use Rattle.rtr_pdu.specs.declared.unit.Unit.TheVariants.{SerialNotify, SerialQuery, ResetQuery, CacheResponse, Prefix, CacheReset, RouterKey, ErrorReport}
 use Rattle.rtr_pdu.specs.Unit.{Ignored, AreBits, header, flag, Reads}
 use Rattle.rtr_pdu.specs.Stream.{version_of, type_of, length_of, IsRecord, IsReport}
 
@@ -153,6 +157,7 @@ module _ (version : Version) where
   -- units that are a header and numbers of 4 bytes
   pub reads_0 : (bytes : List ℕ) → IsFrame version 0 bytes → length bytes ≡ 12 → Reads version (SerialNotify (number_at 2 2 bytes) (number_at 4 8 bytes)) bytes
   reads_0 bytes f e = record {
+    of_version = refl;
     fits = (number_fits bytes f.each 2 2, number_fits bytes f.each 4 8);
     ignored = with_header 0;
     bits = record { header = omega arith; flags = omega arith; byte = omega arith };
@@ -161,6 +166,7 @@ module _ (version : Version) where
 
   pub reads_1 : (bytes : List ℕ) → IsFrame version 1 bytes → length bytes ≡ 12 → Reads version (SerialQuery (number_at 2 2 bytes) (number_at 4 8 bytes)) bytes
   reads_1 bytes f e = record {
+    of_version = refl;
     fits = (number_fits bytes f.each 2 2, number_fits bytes f.each 4 8);
     ignored = with_header 0;
     bits = record { header = omega arith; flags = omega arith; byte = omega arith };
@@ -169,6 +175,7 @@ module _ (version : Version) where
 
   pub reads_2 : (bytes : List ℕ) → IsFrame version 2 bytes → length bytes ≡ 8 → Reads version ResetQuery bytes
   reads_2 bytes f e = record {
+    of_version = refl;
     fits = tt;
     ignored = with_header (number_at 2 2 bytes);
     bits = bits_header bytes f.each;
@@ -177,6 +184,7 @@ module _ (version : Version) where
 
   pub reads_3 : (bytes : List ℕ) → IsFrame version 3 bytes → length bytes ≡ 8 → Reads version (CacheResponse (number_at 2 2 bytes)) bytes
   reads_3 bytes f e = record {
+    of_version = refl;
     fits = number_fits bytes f.each 2 2;
     ignored = with_header 0;
     bits = record { header = omega arith; flags = omega arith; byte = omega arith };
@@ -185,28 +193,16 @@ module _ (version : Version) where
 
   pub reads_8 : (bytes : List ℕ) → IsFrame version 8 bytes → length bytes ≡ 8 → Reads version CacheReset bytes
   reads_8 bytes f e = record {
+    of_version = refl;
     fits = tt;
     ignored = with_header (number_at 2 2 bytes);
     bits = bits_header bytes f.each;
     bytes_are = frame_of 8 8 bytes f e ∙ ap (λ x. header version 8 (number_at 2 2 bytes) 8 ++ x) (drop_all 8 bytes (omega (arith, e)));
   }
 
-  pub reads_7 : (bytes : List ℕ) → IsFrame version 7 bytes → length bytes ≡ 24
-      → Reads version (EndOfData (number_at 2 2 bytes) (number_at 4 8 bytes) (number_at 4 12 bytes) (number_at 4 16 bytes) (number_at 4 20 bytes)) bytes
-  reads_7 bytes f e = record {
-    fits = (number_fits bytes f.each 2 2, number_fits bytes f.each 4 8, number_fits bytes f.each 4 12, number_fits bytes f.each 4 16, number_fits bytes f.each 4 20);
-    ignored = with_header 0;
-    bits = record { header = omega arith; flags = omega arith; byte = omega arith };
-    bytes_are =
-        let n : ℕ → List ℕ → List ℕ = λ i x. big_bytes 4 (number_at 4 i bytes) ++ x in
-        frame_of 7 24 bytes f e
-        ∙ ap (λ x. header version 7 (number_at 2 2 bytes) 24 ++ x) (number_then bytes f.each 4 8 (omega (arith, e))
-        ∙ ap (n 8) (number_then bytes f.each 4 12 (omega (arith, e)) ∙ ap (n 12) (number_then bytes f.each 4 16 (omega (arith, e))
-        ∙ ap (n 16) (number_then bytes f.each 4 20 (omega (arith, e)) ∙ ap (n 20) (drop_all 24 bytes (omega (arith, e)))))));
-  }
-
   pub reads_4 : (bytes : List ℕ) → IsFrame version 4 bytes → length bytes ≡ 20 → IsRecord 32 bytes → Reads version (Prefix (is_odd (slice_index bytes 8)) (v4_in bytes)) bytes
   reads_4 bytes f e sound = record {
+    of_version = refl;
     fits = record {
       prefix = record { in_family = omega (arith, sound.0, sound.1); address = number_fits bytes f.each 4 12; no_host_bits = sound.2 };
       not_shorter = sound.0;
@@ -225,6 +221,7 @@ module _ (version : Version) where
 
   pub reads_6 : (bytes : List ℕ) → IsFrame version 6 bytes → length bytes ≡ 32 → IsRecord 128 bytes → Reads version (Prefix (is_odd (slice_index bytes 8)) (v6_in bytes)) bytes
   reads_6 bytes f e sound = record {
+    of_version = refl;
     fits = record {
       prefix = record { in_family = omega (arith, sound.0, sound.1); address = number_fits bytes f.each 16 12; no_host_bits = sound.2 };
       not_shorter = sound.0;
@@ -242,8 +239,8 @@ module _ (version : Version) where
   }
 
   -- a Router Key
-  pub reads_9 : (bytes : List ℕ) → IsFrame version 9 bytes → 32 ≤ length bytes → length bytes ≤ 4096 → Reads version (RouterKey (key_in bytes)) bytes
-  reads_9 bytes f low high =
+  pub reads_9 : (bytes : List ℕ) → IsFrame version 9 bytes → not (is_v0 version) ≡ true → 32 ≤ length bytes → length bytes ≤ 4096 → Reads version (RouterKey (key_in bytes)) bytes
+  reads_9 bytes f keys low high =
       let rest : length (drop 32 bytes) ≡ length bytes - 32 = length-drop 32 bytes in
       let size : length bytes ≡ 32 + length (drop 32 bytes) = omega (arith, rest, low) in
       let after : length (drop 8 bytes) ≡ length bytes - 8 = length-drop 8 bytes in
@@ -252,6 +249,7 @@ module _ (version : Version) where
       piece_then bytes f.each 20 8 ∙ ap (λ x. take 20 (drop 8 bytes) ++ x) (number_then bytes f.each 4 28 (omega (arith, low)))
       ∙ sym (append_assoc (take 20 (drop 8 bytes)) (big_bytes 4 (number_at 4 28 bytes)) (drop 32 bytes)) in
       record {
+        of_version = keys;
         fits = (length-take-le 20 (drop 8 bytes) (omega (arith, after, low)), number_fits bytes f.each 4 28, omega (arith, rest, high), AreBytes-take 20 (drop 8 bytes) (AreBytes-drop 8 bytes f.each), AreBytes-drop 32 bytes f.each);
         ignored = flagged bytes 2 3;
         bits = bits_flagged bytes 2 3 f.each;
@@ -283,6 +281,7 @@ module _ (version : Version) where
       ∙ sym (append_assoc (take (number_at 4 8 bytes) (drop 12 bytes)) (big_bytes 4 (length (drop (16 + number_at 4 8 bytes) bytes))) (drop (16 + number_at 4 8 bytes) bytes)) in
       let size : length bytes ≡ 16 + length (take (number_at 4 8 bytes) (drop 12 bytes)) + length (drop (16 + number_at 4 8 bytes) bytes) = omega (arith, copy_len, text_len, sum) in
       record {
+        of_version = refl;
         fits = (number_fits bytes f.each 2 2, omega (arith, copy_len, text_len, sum, high), subst (λ x. IsUtf8 x) text_is sound.1, AreBytes-take (number_at 4 8 bytes) (drop 12 bytes) (AreBytes-drop 12 bytes f.each));
         ignored = with_header 0;
         bits = record { header = omega arith; flags = omega arith; byte = omega arith };
@@ -291,3 +290,33 @@ module _ (version : Version) where
             ∙ ap (λ x. header version 10 (number_at 2 2 bytes) (16 + length (take (number_at 4 8 bytes) (drop 12 bytes)) + length (drop (16 + number_at 4 8 bytes) bytes)) ++ x)
             (number_then bytes f.each 4 8 (omega (arith, low)) ∙ (λ i. big_bytes 4 (sym copy_len i) ++ body i));
       }
+
+-- an End of Data without intervals
+reads_7_in_0 : (bytes : List ℕ) → IsFrame V0 7 bytes → length bytes ≡ 12 → Reads V0 (end_of_data_in V0 bytes) bytes
+reads_7_in_0 bytes f e = record {
+  of_version = refl;
+  fits = (number_fits bytes f.each 2 2, number_fits bytes f.each 4 8);
+  ignored = with_header 0;
+  bits = record { header = omega arith; flags = omega arith; byte = omega arith };
+  bytes_are = frame_of V0 7 12 bytes f e ∙ ap (λ x. header V0 7 (number_at 2 2 bytes) 12 ++ x) (number_then bytes f.each 4 8 (omega (arith, e)) ∙ ap (λ x. big_bytes 4 (number_at 4 8 bytes) ++ x) (drop_all 12 bytes (omega (arith, e))));
+}
+
+-- one with them
+reads_7_in_1 : (bytes : List ℕ) → IsFrame V1 7 bytes → length bytes ≡ 24 → Reads V1 (end_of_data_in V1 bytes) bytes
+reads_7_in_1 bytes f e = record {
+  of_version = refl;
+  fits = (number_fits bytes f.each 2 2, number_fits bytes f.each 4 8, number_fits bytes f.each 4 12, number_fits bytes f.each 4 16, number_fits bytes f.each 4 20);
+  ignored = with_header 0;
+  bits = record { header = omega arith; flags = omega arith; byte = omega arith };
+  bytes_are =
+      let n : ℕ → List ℕ → List ℕ = λ i x. big_bytes 4 (number_at 4 i bytes) ++ x in
+      frame_of V1 7 24 bytes f e
+      ∙ ap (λ x. header V1 7 (number_at 2 2 bytes) 24 ++ x) (number_then bytes f.each 4 8 (omega (arith, e))
+      ∙ ap (n 8) (number_then bytes f.each 4 12 (omega (arith, e)) ∙ ap (n 12) (number_then bytes f.each 4 16 (omega (arith, e))
+      ∙ ap (n 16) (number_then bytes f.each 4 20 (omega (arith, e)) ∙ ap (n 20) (drop_all 24 bytes (omega (arith, e)))))));
+}
+
+-- an End of Data
+pub reads_7 : (version : Version) (bytes : List ℕ) → IsFrame version 7 bytes → length bytes ≡ fixed_len version kinds.EndOfData → Reads version (end_of_data_in version bytes) bytes
+reads_7 V0 = reads_7_in_0
+reads_7 V1 = reads_7_in_1

@@ -1,9 +1,10 @@
 -- What filling a buffer does.
-use Rattle.std.specs.Prelude.{◌≡◌, ◌⊎◌, ℕ, ◌-◌, ◌<◌, ◌≤◌, Bool, true, false, ◌==◌, nat_lt, List, [], ◌++◌, length, take, Option, Some, None, refl, MatchOption}
+use Rattle.std.specs.Prelude.{◌≡◌, ◌⊎◌, ℕ, ◌-◌, ◌<◌, ◌≤◌, Bool, true, false, ◌==◌, nat_lt, List, [], ◌∷◌, ◌++◌, length, take, Option, Some, None, refl, MatchOption}
 use Rattle.std.proofs.Common.{sym, ap, ◌∙◌, subst, arith, append_assoc, inl, inr}
 use Rattle.std.proofs.lemmas.List.{length-take, length-append, take-append-drop, drop_all, append-nil}
 use Rattle.std.proofs.lemmas.Bool.{cases_lt}
-use Rattle.rtr_pdu.specs.Version.{version_number}
+use Rattle.rtr_pdu.specs.Version.{version_number, version_in}
+use Rattle.rtr_pdu.proofs.VersionLaws.{version_in-append}
 use Rattle.rtr_pdu.specs.declared.version.Version.{Version}
 use Rattle.rtr_pdu.specs.declared.unit.UnitFault.{UnitFault}
 use Rattle.rtr_pdu.specs.declared.unit.UnitFault.TheVariants as faults
@@ -180,27 +181,12 @@ module _ (version : Version) where
   partial_empty any = let short : length (as_read version any []) < 8 = omega (arith, length-as_read version any []) in (short_none version (as_read version any []) short, inl short)
 
   -- less than a header is the beginning of a unit
-  partial_short : (any : Bool) (bytes : List ℕ) → length bytes < 8 → IsPartial version (as_read version any bytes)
+  pub partial_short : (any : Bool) (bytes : List ℕ) → length bytes < 8 → IsPartial version (as_read version any bytes)
   partial_short any bytes h = let short : length (as_read version any bytes) < 8 = omega (arith, length-as_read version any bytes, h) in (short_none version (as_read version any bytes) short, inl short)
 
-  -- with less than a header held, agreement changes nothing
-  stands_short : (a b : Bool) (bytes : List ℕ) (fault : UnitFault) → length bytes < 8 → ReaderStands version a bytes fault → ReaderStands version b bytes fault
-  stands_short a b bytes faults.Truncated short h = (partial_short b bytes short, h.1)
-  stands_short a b bytes faults.Version short h = absurd (omega (arith, short, h.size))
-  stands_short a b bytes faults.«Type» short h = absurd (omega (arith, short, h.size))
-  stands_short a b bytes faults.Length short h = absurd (omega (arith, short, h.size))
-  stands_short a b bytes faults.TooLong short h = absurd (omega (arith, short, h.size))
-  stands_short a b bytes faults.Record short h = absurd (omega (arith, short, h.shows.0.1, length-as_read version a bytes))
-  stands_short a b bytes faults.ErrorReport short h = absurd (omega (arith, short, h.shows.0.1, length-as_read version a bytes))
-
   -- where a reader stands
-  abbrev Standing : Option UnitFault → Bool → List ℕ → Type 0
+  abbrev pub Standing : Option UnitFault → Bool → List ℕ → Type 0
   Standing fault any bytes = MatchOption fault (IsPartial version (as_read version any bytes)) (ReaderStands version any bytes)
-
-  -- with less than a header held, agreement changes nothing
-  pub standing_short : (fault : Option UnitFault) (a b : Bool) (bytes : List ℕ) → length bytes < 8 → Standing fault a bytes → Standing fault b bytes
-  standing_short None a b bytes short h = partial_short b bytes short
-  standing_short (Some fault) a b bytes short h = stands_short a b bytes fault short h
 
   -- without a fault, the beginning of a unit is held
   pub standing_none : (fault : Option UnitFault) (any : Bool) (bytes : List ℕ) → fault ≡ None → Standing fault any bytes → IsPartial version (as_read version any bytes)
@@ -227,3 +213,28 @@ module _ (version : Version) where
       let P : List ℕ → Type 0 = λ x. Advances version any x left answer rest now in
       let Q : List ℕ → Type 0 = λ x. Advances version any (filled n held piece) x answer rest now in
       advances_after any n held piece answer rest now (subst Q g (subst P f a))
+
+-- With less than a header held, neither the version nor agreement changes anything.
+module _ (version other : Version) where
+  stands_short : (a b : Bool) (bytes : List ℕ) (fault : UnitFault) → length bytes < 8 → ReaderStands version a bytes fault → ReaderStands other b bytes fault
+  stands_short a b bytes faults.Truncated short h = (partial_short other b bytes short, h.1)
+  stands_short a b bytes faults.Version short h = absurd (omega (arith, short, h.size))
+  stands_short a b bytes faults.«Type» short h = absurd (omega (arith, short, h.size))
+  stands_short a b bytes faults.Length short h = absurd (omega (arith, short, h.size))
+  stands_short a b bytes faults.TooLong short h = absurd (omega (arith, short, h.size))
+  stands_short a b bytes faults.Record short h = absurd (omega (arith, short, h.shows.0.1, length-as_read version a bytes))
+  stands_short a b bytes faults.ErrorReport short h = absurd (omega (arith, short, h.shows.0.1, length-as_read version a bytes))
+
+  pub standing_short : (fault : Option UnitFault) (a b : Bool) (bytes : List ℕ) → length bytes < 8 → Standing version fault a bytes → Standing other fault b bytes
+  standing_short None a b bytes short h = partial_short other b bytes short
+  standing_short (Some fault) a b bytes short h = stands_short a b bytes fault short h
+
+-- What a reader holds it holds whatever follows.
+pub reader_with : (start : Option Version) (fault : Option UnitFault) (any : Bool) (held more : List ℕ) → Standing (version_in start held) fault any held → Standing (version_in start (held ++ more)) fault any held
+reader_with start fault any [] more h = standing_short (version_in start []) (version_in start more) fault any any [] (omega arith) h
+reader_with start fault any (b ∷ held) more h = subst (λ v. Standing v fault any (b ∷ held)) (sym (version_in-append start (b ∷ held) more (omega arith))) h
+
+-- and so does one behind which a piece was taken
+pub reader_taken : (start : Option Version) (fault : Option UnitFault) (any : Bool) (now more : List ℕ) → Standing (version_in start (now ++ more)) fault any now → Standing (version_in start now) fault any now
+reader_taken start fault any [] more h = standing_short (version_in start more) (version_in start []) fault any any [] (omega arith) h
+reader_taken start fault any (b ∷ now) more h = subst (λ v. Standing v fault any (b ∷ now)) (version_in-append start (b ∷ now) more (omega arith)) h

@@ -36,11 +36,11 @@ response = 0x01 ∷ 0x03 ∷ 0x12 ∷ 0x34 ∷ 0 ∷ 0 ∷ 0 ∷ 0x08 ∷ []
 
 reads_notify : Reads V1 (SerialNotify 0x1234 5) (as_read V1 true notify)
 unfolding as_read
-reads_notify = record { fits = (omega arith, omega arith); ignored = zeros; bits = record { header = omega arith; flags = omega arith; byte = omega arith }; bytes_are = refl }
+reads_notify = record { of_version = refl; fits = (omega arith, omega arith); ignored = zeros; bits = record { header = omega arith; flags = omega arith; byte = omega arith }; bytes_are = refl }
 
 reads_response : Reads V1 (CacheResponse 0x1234) (as_read V1 true response)
 unfolding as_read
-reads_response = record { fits = omega arith; ignored = zeros; bits = record { header = omega arith; flags = omega arith; byte = omega arith }; bytes_are = refl }
+reads_response = record { of_version = refl; fits = omega arith; ignored = zeros; bits = record { header = omega arith; flags = omega arith; byte = omega arith }; bytes_are = refl }
 
 -- A router reads such a notify before it has agreed on a version, and after that no longer.
 across_agreement : Splits V1 true (notify ++ response ++ notify) (SerialNotify 0x1234 5 ∷ CacheResponse 0x1234 ∷ []) notify (Some faults.Version)

@@ -7,10 +7,10 @@ use Rattle.prefixes.specs.Payload.{Payload, IsPayload}
 use Rattle.prefixes.specs.declared.prefix.IpPrefix.TheVariants.{V4, V6}
 use Rattle.rtr_pdu.specs.declared.version.Version.{Version}
 use Rattle.rtr_pdu.specs.declared.unit.Unit.{Unit}
-use Rattle.rtr_pdu.specs.declared.unit.Unit.TheVariants.{SerialNotify, SerialQuery, ResetQuery, CacheResponse, Prefix, EndOfData, CacheReset, RouterKey, ErrorReport}
+use Rattle.rtr_pdu.specs.declared.unit.Unit.TheVariants.{SerialNotify, SerialQuery, ResetQuery, CacheResponse, Prefix, EndOfData, EndOfData0, CacheReset, RouterKey, ErrorReport}
 use Rattle.rtr_pdu.specs.declared.unit.UnitFault.{UnitFault}
 use Rattle.rtr_pdu.specs.declared.unit.UnitFault.TheVariants as faults
-use Rattle.rtr_pdu.specs.Unit.{Ignored, zeros, IsUnit, spelled, prefix_bytes, Reads}
+use Rattle.rtr_pdu.specs.Unit.{Ignored, zeros, IsUnit, fits, spelled, prefix_bytes, Reads}
 use Rattle.rtr_pdu.proofs.JudgeLaws.{none_some, false_true}
 use Rattle.rtr_pdu.proofs.ModeLaws.{length-as_read, as_read-append}
 use Rattle.rtr_pdu.specs.Stream.{as_read, is_notify, any_after, AreRead, type_of, length_of, header_fault, IsPartial, IsWhole, IsRecord, IsReport, Shows, SameSplit, OneSplit, WrittenIsRead, NoBeginning}
@@ -60,6 +60,7 @@ module _ (version : Version) where
   sound_unit ResetQuery z rest fits = no_fault version (spelled version ResetQuery z ++ rest) 2 refl refl
   sound_unit (CacheResponse s) z rest fits = no_fault version (spelled version (CacheResponse s) z ++ rest) 3 refl refl
   sound_unit (EndOfData s n a b c) z rest fits = no_fault version (spelled version (EndOfData s n a b c) z ++ rest) 7 refl refl
+  sound_unit (EndOfData0 s n) z rest fits = no_fault version (spelled version (EndOfData0 s n) z ++ rest) 7 refl refl
   sound_unit CacheReset z rest fits = no_fault version (spelled version CacheReset z ++ rest) 8 refl refl
   sound_unit (RouterKey k) z rest fits = no_fault version (spelled version (RouterKey k) z ++ rest) 9 refl refl
 
@@ -80,10 +81,10 @@ module _ (version : Version) where
   kinds bytes faults.TooLong h = inl h
 
   -- Bytes that begin with a unit show no fault, and are no beginning of one.
-  pub not_shown : (u : Unit) (z : Ignored) (rest : List ℕ) → IsUnit u → (fault : UnitFault) → Shows version (spelled version u z ++ rest) fault → ⊥
-  not_shown u z rest fits fault h =
+  pub not_shown : (u : Unit) (z : Ignored) (rest : List ℕ) → IsUnit u → fits version u ≡ true → (fault : UnitFault) → Shows version (spelled version u z ++ rest) fault → ⊥
+  not_shown u z rest fits own fault h =
       elim (kinds (spelled version u z ++ rest) fault h) [
-        | inl head ↦ none_some _ fault (opens version u z rest fits).fault head
+        | inl head ↦ none_some _ fault (opens version u z rest fits own).fault head
         | inr body ↦ elim body.1 [
           | inl wrong ↦ elim wrong.1 [ inl four ↦ four.1 ((sound_unit u z rest fits).v4 four.0) | inr six ↦ six.1 ((sound_unit u z rest fits).v6 six.0) ]
           | inr report ↦ report.2 ((sound_unit u z rest fits).report report.1)
@@ -91,9 +92,9 @@ module _ (version : Version) where
       ]
 
   -- a unit is no beginning of one
-  pub not_partial : (u : Unit) (z : Ignored) (rest : List ℕ) → IsUnit u → IsPartial version (spelled version u z ++ rest) → ⊥
-  not_partial u z rest fits h =
-      let o = opens version u z rest fits in
+  pub not_partial : (u : Unit) (z : Ignored) (rest : List ℕ) → IsUnit u → fits version u ≡ true → IsPartial version (spelled version u z ++ rest) → ⊥
+  not_partial u z rest fits own h =
+      let o = opens version u z rest fits own in
       let size : length (spelled version u z ++ rest) ≡ length (spelled version u z) + length rest = length-append (spelled version u z) rest in
       elim h.1 [ inl short ↦ absurd (omega (arith, o.eight, size, short)) | inr less ↦ absurd (omega (arith, o.len, size, less)) ]
 
@@ -102,9 +103,9 @@ module _ (version : Version) where
   After rest fault = MatchOption fault (IsPartial version rest) (Shows version rest)
 
   -- so what follows the last unit begins with none
-  no_unit : (u : Unit) (z : Ignored) (bytes : List ℕ) → IsUnit u → (fault : Option UnitFault) → After (spelled version u z ++ bytes) fault → ⊥
-  no_unit u z bytes fits None h = not_partial u z bytes fits h
-  no_unit u z bytes fits (Some fault) h = not_shown u z bytes fits fault h
+  no_unit : (u : Unit) (z : Ignored) (bytes : List ℕ) → IsUnit u → fits version u ≡ true → (fault : Option UnitFault) → After (spelled version u z ++ bytes) fault → ⊥
+  no_unit u z bytes fits own None h = not_partial u z bytes fits own h
+  no_unit u z bytes fits own (Some fault) h = not_shown u z bytes fits own fault h
 
   -- a beginning of a unit shows no fault
   pub not_both : (rest : List ℕ) (fault : UnitFault) → IsPartial version rest → Shows version rest fault → ⊥
@@ -146,15 +147,15 @@ module _ (version : Version) where
   same_front u v f g s t a b e =
       let first : spelled version u a.ignored ++ s ≡ spelled version v b.ignored ++ t = ap (λ x. x ++ s) (sym a.bytes_are) ∙ e ∙ ap (λ x. x ++ t) b.bytes_are in
       let lengths : length (spelled version u a.ignored) ≡ length (spelled version v b.ignored) =
-      sym (opens version u a.ignored s a.fits).len ∙ ap (λ x. length_of x) first ∙ (opens version v b.ignored t b.fits).len in (
-        sym (unit_in-spelled version u a.ignored s a.fits) ∙ ap (λ x. unit_in version x) first ∙ unit_in-spelled version v b.ignored t b.fits,
+      sym (opens version u a.ignored s a.fits a.of_version).len ∙ ap (λ x. length_of x) first ∙ (opens version v b.ignored t b.fits b.of_version).len in (
+        sym (unit_in-spelled version u a.ignored s a.fits a.of_version) ∙ ap (λ x. unit_in version x) first ∙ unit_in-spelled version v b.ignored t b.fits b.of_version,
         sym (drop-append_seam (spelled version u a.ignored) s) ∙ (λ i. drop (lengths i) (first i)) ∙ drop-append_seam (spelled version v b.ignored) t,
       )
 
   -- the same, as a router reads them
   pub long_front : (any : Bool) (u : Unit) (f : List ℕ) → Reads version u (as_read version any f) → 8 ≤ length f
   long_front any u f a =
-      let eight : 8 ≤ length (as_read version any f) = subst (λ x. 8 ≤ length x) (sym a.bytes_are) (opens version u a.ignored [] a.fits).eight in
+      let eight : 8 ≤ length (as_read version any f) = subst (λ x. 8 ≤ length x) (sym a.bytes_are) (opens version u a.ignored [] a.fits a.of_version).eight in
       omega (arith, length-as_read version any f, eight)
 
   -- bytes that begin with a unit, as a router reads them
@@ -179,11 +180,11 @@ module _ (version : Version) where
   same_split any [] (v ∷ vs) f g rest left a b e h k p q =
       let is : rest ≡ k.0 ++ (k.1 ++ left) =
       ap (λ x. x ++ rest) (sym h) ∙ e ∙ ap (λ x. x ++ left) k.2 ∙ append_assoc k.0 k.1 left in
-      absurd (no_unit v k.3.ignored (k.1 ++ left) k.3.fits a (subst (λ x. After x a) (ap (as_read version any) is ∙ front_as_read any v k.0 (k.1 ++ left) k.3) p))
+      absurd (no_unit v k.3.ignored (k.1 ++ left) k.3.fits k.3.of_version a (subst (λ x. After x a) (ap (as_read version any) is ∙ front_as_read any v k.0 (k.1 ++ left) k.3) p))
   same_split any (u ∷ us) [] f g rest left a b e h k p q =
       let is : left ≡ h.0 ++ (h.1 ++ rest) =
       ap (λ x. x ++ left) (sym k) ∙ sym e ∙ ap (λ x. x ++ rest) h.2 ∙ append_assoc h.0 h.1 rest in
-      absurd (no_unit u h.3.ignored (h.1 ++ rest) h.3.fits b (subst (λ x. After x b) (ap (as_read version any) is ∙ front_as_read any u h.0 (h.1 ++ rest) h.3) q))
+      absurd (no_unit u h.3.ignored (h.1 ++ rest) h.3.fits h.3.of_version b (subst (λ x. After x b) (ap (as_read version any) is ∙ front_as_read any u h.0 (h.1 ++ rest) h.3) q))
   same_split any (u ∷ us) (v ∷ vs) f g rest left a b e h k p q =
       let both : h.0 ++ (h.1 ++ rest) ≡ k.0 ++ (k.1 ++ left) =
       sym (append_assoc h.0 h.1 rest) ∙ ap (λ x. x ++ rest) (sym h.2) ∙ e ∙ ap (λ x. x ++ left) k.2 ∙ append_assoc k.0 k.1 left in
@@ -204,5 +205,5 @@ no_beginning = same_front
 
 -- What was encoded is read again.
 pub written_is_read : WrittenIsRead
-written_is_read version u fits =
-    record { fits = fits; ignored = zeros; bits = record { header = omega arith; flags = omega arith; byte = omega arith }; bytes_are = refl }
+written_is_read version u fits own =
+    record { of_version = own; fits = fits; ignored = zeros; bits = record { header = omega arith; flags = omega arith; byte = omega arith }; bytes_are = refl }

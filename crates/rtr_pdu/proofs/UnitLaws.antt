@@ -8,13 +8,14 @@ use Rattle.prefixes.specs.Payload.{Payload, IsPayload}
 use Rattle.prefixes.specs.declared.prefix.IpPrefix.TheVariants.{V4, V6}
 use Rattle.rtr_pdu.specs.Version.{version_number}
 use Rattle.rtr_pdu.specs.declared.version.Version.{Version}
+use Rattle.rtr_pdu.specs.declared.version.Version.TheVariants.{V0, V1}
 use Rattle.rtr_pdu.specs.Judging.{unit_in}
 use Rattle.rtr_pdu.specs.Payloads.{Report}
 use Rattle.rtr_pdu.specs.Reading.{number_at, is_odd}
 use Rattle.rtr_pdu.proofs.ModeLaws.{not_short}
 use Rattle.rtr_pdu.specs.declared.unit.Unit.{Unit}
-use Rattle.rtr_pdu.specs.declared.unit.Unit.TheVariants.{SerialNotify, SerialQuery, ResetQuery, CacheResponse, Prefix, EndOfData, CacheReset, RouterKey, ErrorReport}
-use Rattle.rtr_pdu.specs.Unit.{Ignored, header, prefix_bytes, IsUnit, spelled, flag}
+use Rattle.rtr_pdu.specs.declared.unit.Unit.TheVariants.{SerialNotify, SerialQuery, ResetQuery, CacheResponse, Prefix, EndOfData, EndOfData0, CacheReset, RouterKey, ErrorReport}
+use Rattle.rtr_pdu.specs.Unit.{Ignored, header, prefix_bytes, IsUnit, fits, spelled, flag}
 use Rattle.rtr_pdu.specs.Stream.{type_of, length_of, version_of, header_fault, IsReport}
 use Rattle.rtr_pdu.specs.Kind.{is_type, has_length}
 use Rattle.rtr_pdu.specs.declared.unit.UnitFault.TheVariants as faults
@@ -73,6 +74,20 @@ pub record Opens (version : Version) (front bytes : List ℕ) : Type 0 where
   pub len : length_of bytes ≡ length front
   pub eight : 8 ≤ length front
 
+-- an End of Data with intervals, in version 1 alone
+module _ (session serial refresh retry expire : ℕ) (z : Ignored) (rest : List ℕ) where
+  in_end : (version : Version) → IsUnit (EndOfData session serial refresh retry expire) → fits version (EndOfData session serial refresh retry expire) ≡ true
+      → unit_in version (spelled version (EndOfData session serial refresh retry expire) z ++ rest) ≡ EndOfData session serial refresh retry expire
+  in_end V0 fits own = absurd (let e : false ≡ true = own in cc)
+  in_end V1 fits own = λ i. EndOfData (back 2 session fits.0 i) (back 4 serial fits.1 i) (back 4 refresh fits.2 i) (back 4 retry fits.3 i) (back 4 expire fits.4 i)
+
+-- one without, in version 0 alone
+module _ (session serial : ℕ) (z : Ignored) (rest : List ℕ) where
+  in_end_0 : (version : Version) → IsUnit (EndOfData0 session serial) → fits version (EndOfData0 session serial) ≡ true
+      → unit_in version (spelled version (EndOfData0 session serial) z ++ rest) ≡ EndOfData0 session serial
+  in_end_0 V0 fits own = λ i. EndOfData0 (back 2 session fits.0 i) (back 4 serial fits.1 i)
+  in_end_0 V1 fits own = absurd (let e : false ≡ true = own in cc)
+
 module _ (version : Version) where
   in_prefix : (a : Bool) (v : Payload) (z : Ignored) (rest : List ℕ) → IsPayload v → unit_in version (spelled version (Prefix a v) z ++ rest) ≡ Prefix a v
   in_prefix a v z rest fits =
@@ -118,16 +133,16 @@ module _ (version : Version) where
     pub is_report : IsReport version report_bytes
     is_report = (omega (arith, copy_len, text_len, report_len), subst (λ t. IsUtf8 t) (sym text_found) fits.2)
 
-  pub unit_in-spelled : (u : Unit) (z : Ignored) (rest : List ℕ) → IsUnit u → unit_in version (spelled version u z ++ rest) ≡ u
-  unit_in-spelled (SerialNotify session serial) z rest fits = λ i. SerialNotify (back 2 session fits.0 i) (back 4 serial fits.1 i)
-  unit_in-spelled (SerialQuery session serial) z rest fits = λ i. SerialQuery (back 2 session fits.0 i) (back 4 serial fits.1 i)
-  unit_in-spelled ResetQuery z rest fits = refl
-  unit_in-spelled (CacheResponse session) z rest fits = ap CacheResponse (back 2 session fits)
-  unit_in-spelled (Prefix a v) z rest fits = in_prefix a v z rest fits
-  unit_in-spelled (EndOfData session serial refresh retry expire) z rest fits =
-      λ i. EndOfData (back 2 session fits.0 i) (back 4 serial fits.1 i) (back 4 refresh fits.2 i) (back 4 retry fits.3 i) (back 4 expire fits.4 i)
-  unit_in-spelled CacheReset z rest fits = refl
-  unit_in-spelled (RouterKey k) z rest fits =
+  pub unit_in-spelled : (u : Unit) (z : Ignored) (rest : List ℕ) → IsUnit u → fits version u ≡ true → unit_in version (spelled version u z ++ rest) ≡ u
+  unit_in-spelled (SerialNotify session serial) z rest fits own = λ i. SerialNotify (back 2 session fits.0 i) (back 4 serial fits.1 i)
+  unit_in-spelled (SerialQuery session serial) z rest fits own = λ i. SerialQuery (back 2 session fits.0 i) (back 4 serial fits.1 i)
+  unit_in-spelled ResetQuery z rest fits own = refl
+  unit_in-spelled (CacheResponse session) z rest fits own = ap CacheResponse (back 2 session fits)
+  unit_in-spelled (Prefix a v) z rest fits own = in_prefix a v z rest fits
+  unit_in-spelled (EndOfData session serial refresh retry expire) z rest fits own = in_end session serial refresh retry expire z rest version fits own
+  unit_in-spelled (EndOfData0 session serial) z rest fits own = in_end_0 session serial z rest version fits own
+  unit_in-spelled CacheReset z rest fits own = refl
+  unit_in-spelled (RouterKey k) z rest fits own =
       let len : length_of (spelled version (RouterKey k) z ++ rest) ≡ 32 + length k.info = back 4 (32 + length k.info) (omega (arith, fits.2)) in
       let info_len : length k.info ≡ length_of (spelled version (RouterKey k) z ++ rest) - 32 = omega (arith, len) in
       let asn : big_number 4 (drop 20 (((k.identifier ++ big_bytes 4 k.asn) ++ k.info) ++ rest)) ≡ k.asn =
@@ -139,7 +154,7 @@ module _ (version : Version) where
         asn = asn i;
         info = third_of_row k.identifier (big_bytes 4 k.asn) k.info rest 24 _ row info_len i;
       })
-  unit_in-spelled (ErrorReport r) z rest fits = λ i. ErrorReport (record {
+  unit_in-spelled (ErrorReport r) z rest fits own = λ i. ErrorReport (record {
     code = back 2 r.code fits.0 i;
     copy = first_of_row r.copy (big_bytes 4 (length r.text)) r.text rest _ (sym (copy_len r z rest fits)) i;
     text = text_found r z rest fits i;
@@ -163,35 +178,51 @@ module _ (version : Version) where
     eight = eight;
   }
 
-  pub opens : (u : Unit) (z : Ignored) (rest : List ℕ) → IsUnit u → Opens version (spelled version u z) (spelled version u z ++ rest)
-  opens (SerialNotify session serial) z rest fits = opens_with (spelled version (SerialNotify session serial) z) rest (omega arith) (same_version (version_number version)) refl refl refl (omega arith)
-  opens (SerialQuery session serial) z rest fits = opens_with (spelled version (SerialQuery session serial) z) rest (omega arith) (same_version (version_number version)) refl refl refl (omega arith)
-  opens ResetQuery z rest fits = opens_with (spelled version ResetQuery z) rest (omega arith) (same_version (version_number version)) refl refl refl (omega arith)
-  opens (CacheResponse session) z rest fits = opens_with (spelled version (CacheResponse session) z) rest (omega arith) (same_version (version_number version)) refl refl refl (omega arith)
-  opens (Prefix a v) z rest fits =
+-- End of Data
+module _ (session serial refresh retry expire : ℕ) (z : Ignored) (rest : List ℕ) where
+  opens_end : (version : Version) → fits version (EndOfData session serial refresh retry expire) ≡ true
+      → Opens version (spelled version (EndOfData session serial refresh retry expire) z) (spelled version (EndOfData session serial refresh retry expire) z ++ rest)
+  opens_end V0 own = absurd (let e : false ≡ true = own in cc)
+  opens_end V1 own = opens_with V1 (spelled V1 (EndOfData session serial refresh retry expire) z) rest (omega arith) refl refl refl refl (omega arith)
+
+-- and without intervals
+module _ (session serial : ℕ) (z : Ignored) (rest : List ℕ) where
+  opens_end_0 : (version : Version) → fits version (EndOfData0 session serial) ≡ true
+      → Opens version (spelled version (EndOfData0 session serial) z) (spelled version (EndOfData0 session serial) z ++ rest)
+  opens_end_0 V0 own = opens_with V0 (spelled V0 (EndOfData0 session serial) z) rest (omega arith) refl refl refl refl (omega arith)
+  opens_end_0 V1 own = absurd (let e : false ≡ true = own in cc)
+
+module _ (version : Version) where
+  pub opens : (u : Unit) (z : Ignored) (rest : List ℕ) → IsUnit u → fits version u ≡ true → Opens version (spelled version u z) (spelled version u z ++ rest)
+  opens (SerialNotify session serial) z rest fits own = opens_with version (spelled version (SerialNotify session serial) z) rest (omega arith) (same_version (version_number version)) refl refl refl (omega arith)
+  opens (SerialQuery session serial) z rest fits own = opens_with version (spelled version (SerialQuery session serial) z) rest (omega arith) (same_version (version_number version)) refl refl refl (omega arith)
+  opens ResetQuery z rest fits own = opens_with version (spelled version ResetQuery z) rest (omega arith) (same_version (version_number version)) refl refl refl (omega arith)
+  opens (CacheResponse session) z rest fits own = opens_with version (spelled version (CacheResponse session) z) rest (omega arith) (same_version (version_number version)) refl refl refl (omega arith)
+  opens (Prefix a v) z rest fits own =
       elim v.prefix as (λ p. Opens version (prefix_bytes version a p v.max_len v.asn z) (prefix_bytes version a p v.max_len v.asn z ++ rest)) [
-        | V4 p ↦ opens_with (prefix_bytes version a (V4 p) v.max_len v.asn z) rest (omega arith) (same_version (version_number version)) refl refl refl (omega arith)
-        | V6 p ↦ opens_with (prefix_bytes version a (V6 p) v.max_len v.asn z) rest (omega arith) (same_version (version_number version)) refl refl refl (omega arith)
+        | V4 p ↦ opens_with version (prefix_bytes version a (V4 p) v.max_len v.asn z) rest (omega arith) (same_version (version_number version)) refl refl refl (omega arith)
+        | V6 p ↦ opens_with version (prefix_bytes version a (V6 p) v.max_len v.asn z) rest (omega arith) (same_version (version_number version)) refl refl refl (omega arith)
       ]
-  opens (EndOfData session serial refresh retry expire) z rest fits = opens_with (spelled version (EndOfData session serial refresh retry expire) z) rest (omega arith) (same_version (version_number version)) refl refl refl (omega arith)
-  opens CacheReset z rest fits = opens_with (spelled version CacheReset z) rest (omega arith) (same_version (version_number version)) refl refl refl (omega arith)
-  opens (RouterKey k) z rest fits =
+  opens (EndOfData session serial refresh retry expire) z rest fits own = opens_end session serial refresh retry expire z rest version own
+  opens (EndOfData0 session serial) z rest fits own = opens_end_0 session serial z rest version own
+  opens CacheReset z rest fits own = opens_with version (spelled version CacheReset z) rest (omega arith) (same_version (version_number version)) refl refl refl (omega arith)
+  opens (RouterKey k) z rest fits own =
       let bytes = spelled version (RouterKey k) z ++ rest in
       let len : length_of bytes ≡ 32 + length k.info = back 4 (32 + length k.info) (omega (arith, fits.2)) in
       let size : length ((k.identifier ++ big_bytes 4 k.asn) ++ k.info) ≡ 24 + length k.info =
       length-append (k.identifier ++ big_bytes 4 k.asn) k.info ∙ ap (λ n. n + length k.info) (length-append k.identifier (big_bytes 4 k.asn) ∙ ap (λ n. n + 4) fits.0) in
       record {
-        fault = sound bytes (omega arith) (same_version (version_number version)) refl (ap (has_length version 9) len ∙ ap (λ b. b || false) (enough 32 (32 + length k.info) (omega arith))) (omega (arith, len, fits.2));
+        fault = sound version bytes (omega arith) (same_version (version_number version)) (ap (λ b. b || false) own) (ap (has_length version 9) len ∙ ap (λ b. b || false) (enough 32 (32 + length k.info) (omega arith))) (omega (arith, len, fits.2));
         len = len ∙ (omega (arith, size));
         eight = omega arith;
       }
-  opens (ErrorReport r) z rest fits =
+  opens (ErrorReport r) z rest fits own =
       let bytes = spelled version (ErrorReport r) z ++ rest in
-      let len = report_len r z rest fits in
+      let len = report_len version r z rest fits in
       let size : length ((r.copy ++ big_bytes 4 (length r.text)) ++ r.text) ≡ length r.copy + 4 + length r.text =
       length-append (r.copy ++ big_bytes 4 (length r.text)) r.text ∙ ap (λ n. n + length r.text) (length-append r.copy (big_bytes 4 (length r.text))) in
       record {
-        fault = sound bytes (omega arith) (same_version (version_number version)) refl (ap (has_length version 10) len ∙ ap (λ b. b || false) (enough 16 (16 + length r.copy + length r.text) (omega arith))) (omega (arith, len, fits.1));
+        fault = sound version bytes (omega arith) (same_version (version_number version)) refl (ap (has_length version 10) len ∙ ap (λ b. b || false) (enough 16 (16 + length r.copy + length r.text) (omega arith))) (omega (arith, len, fits.1));
         len = len ∙ (omega (arith, size));
         eight = omega arith;
       }

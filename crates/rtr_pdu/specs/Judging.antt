@@ -1,10 +1,11 @@
--- What bytes are, byte by byte: the beginning of a unit, a unit, or a fault (RFC 8210 sections 5 and 12).
+-- What bytes are, byte by byte: the beginning of a unit, a unit, or a fault (RFC 6810 section 5, RFC 8210 sections 5 and 12).
 use Rattle.std.specs.Prelude.{◌≡◌, ◌↔◌, ℕ, ◌+◌, ◌-◌, ◌/◌, ◌%◌, ◌^◌, Bool, not, ◌&&◌, ◌==◌, nat_lt, nat_le, List, length, take, drop, slice_index, Option, Some, None, if◌then◌else◌}
 use Rattle.std.specs.Str.{is_utf8}
 use Rattle.byteorder.specs.Endian.{big_number}
 use Rattle.rtr_pdu.specs.declared.version.Version.{Version}
+use Rattle.rtr_pdu.specs.declared.version.Version.TheVariants.{V0, V1}
 use Rattle.rtr_pdu.specs.declared.unit.Unit.{Unit}
-use Rattle.rtr_pdu.specs.declared.unit.Unit.TheVariants.{SerialNotify, SerialQuery, ResetQuery, CacheResponse, Prefix, EndOfData, CacheReset, RouterKey, ErrorReport}
+use Rattle.rtr_pdu.specs.declared.unit.Unit.TheVariants.{SerialNotify, SerialQuery, ResetQuery, CacheResponse, Prefix, EndOfData, EndOfData0, CacheReset, RouterKey, ErrorReport}
 use Rattle.rtr_pdu.specs.declared.unit.UnitFault.{UnitFault}
 use Rattle.rtr_pdu.specs.declared.unit.UnitFault.TheVariants as faults
 use Rattle.rtr_pdu.specs.declared.kind.Kind.TheVariants as kinds
@@ -13,6 +14,11 @@ use Rattle.rtr_pdu.specs.Payloads.{AreBytes}
 use Rattle.rtr_pdu.specs.Reading.{number_at, is_odd, v4_in, v6_in}
 use Rattle.rtr_pdu.specs.Stream.{as_read, length_of, is_kind, header_fault, IsPartial, Shows}
 use Rattle.rtr_pdu.specs.Unit.{Reads}
+
+-- The End of Data in bytes: in version 0 it tells no intervals.
+abbrev pub end_of_data_in : Version → List ℕ → Unit
+end_of_data_in V0 bytes = EndOfData0 (number_at 2 2 bytes) (number_at 4 8 bytes)
+end_of_data_in V1 bytes = EndOfData (number_at 2 2 bytes) (number_at 4 8 bytes) (number_at 4 12 bytes) (number_at 4 16 bytes) (number_at 4 20 bytes)
 
 -- What bytes are read as, by their type: a front of them, if they begin with a unit
 abbrev pub unit_in : Version → List ℕ → Unit
@@ -23,7 +29,7 @@ unit_in version bytes =
     else if is_kind kinds.CacheResponse bytes then CacheResponse (number_at 2 2 bytes)
     else if is_kind kinds.Ipv4Prefix bytes then Prefix (is_odd (slice_index bytes 8)) (v4_in bytes)
     else if is_kind kinds.Ipv6Prefix bytes then Prefix (is_odd (slice_index bytes 8)) (v6_in bytes)
-    else if is_kind kinds.EndOfData bytes then EndOfData (number_at 2 2 bytes) (number_at 4 8 bytes) (number_at 4 12 bytes) (number_at 4 16 bytes) (number_at 4 20 bytes)
+    else if is_kind kinds.EndOfData bytes then end_of_data_in version bytes
     else if is_kind kinds.CacheReset bytes then CacheReset
     else if is_kind kinds.RouterKey bytes then RouterKey (record {
       announce = is_odd (slice_index bytes 2);

@@ -1,7 +1,9 @@
--- The types of units (RFC 8210 section 5): their numbers and lengths.
-use Rattle.std.specs.Prelude.{ℕ, Bool, true, false, ◌&&◌, ◌==◌, nat_le, List, [], ◌∷◌, if◌then◌else◌}
+-- The types of units (RFC 6810 section 5, RFC 8210 section 5): their numbers and lengths.
+use Rattle.std.specs.Prelude.{ℕ, Bool, true, false, not, ◌&&◌, ◌==◌, nat_le, List, [], ◌∷◌, if◌then◌else◌}
 use Rattle.std.specs.List.{list_any}
+use Rattle.rtr_pdu.specs.Version.{is_v0}
 use Rattle.rtr_pdu.specs.declared.version.Version.{Version}
+use Rattle.rtr_pdu.specs.declared.version.Version.TheVariants.{V0, V1}
 use Rattle.rtr_pdu.specs.declared.kind.Kind.{Kind}
 use Rattle.rtr_pdu.specs.declared.kind.Kind.TheVariants as kinds
 
@@ -18,11 +20,21 @@ type_number kinds.CacheReset = 8
 type_number kinds.RouterKey = 9
 type_number kinds.ErrorReport = 10
 
--- The types that there are in a version
-abbrev pub all_kinds : Version → List Kind
-all_kinds version =
+-- All types
+abbrev pub all_kinds : List Kind
+all_kinds =
     kinds.SerialNotify ∷ kinds.SerialQuery ∷ kinds.ResetQuery ∷ kinds.CacheResponse ∷ kinds.Ipv4Prefix
     ∷ kinds.Ipv6Prefix ∷ kinds.EndOfData ∷ kinds.CacheReset ∷ kinds.RouterKey ∷ kinds.ErrorReport ∷ []
+
+-- The types that there are in a version: Router Keys came with version 1 (RFC 8210 section 5.10).
+abbrev pub has_kind : Version → Kind → Bool
+has_kind version kinds.RouterKey = not (is_v0 version)
+has_kind version kind = true
+
+-- In version 0 an End of Data tells no intervals (RFC 6810 section 5.8).
+abbrev pub end_of_data_len : Version → ℕ
+end_of_data_len V0 = 12
+end_of_data_len V1 = 24
 
 -- How many bytes each unit of a type has
 abbrev pub fixed_len : Version → Kind → ℕ
@@ -32,7 +44,7 @@ fixed_len version kinds.ResetQuery = 8
 fixed_len version kinds.CacheResponse = 8
 fixed_len version kinds.Ipv4Prefix = 20
 fixed_len version kinds.Ipv6Prefix = 32
-fixed_len version kinds.EndOfData = 24
+fixed_len version kinds.EndOfData = end_of_data_len version
 fixed_len version kinds.CacheReset = 8
 fixed_len version kinds.RouterKey = 32
 fixed_len version kinds.ErrorReport = 16
@@ -49,8 +61,8 @@ may_have version kind len = if varies kind then nat_le (fixed_len version kind) 
 
 -- A type with this number there is.
 abbrev pub is_type : Version → ℕ → Bool
-is_type version type = list_any (λ kind. type == type_number kind) (all_kinds version)
+is_type version type = list_any (λ kind. type == type_number kind && has_kind version kind) all_kinds
 
 -- A unit whose type has this number may have this length.
 abbrev pub has_length : Version → ℕ → ℕ → Bool
-has_length version type len = list_any (λ kind. type == type_number kind && may_have version kind len) (all_kinds version)
+has_length version type len = list_any (λ kind. type == type_number kind && may_have version kind len) all_kinds

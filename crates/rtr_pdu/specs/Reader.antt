@@ -1,17 +1,19 @@
--- A reader of units of version 1, as contracts see it.
-use Rattle.std.specs.Prelude.{◌≡◌, ◌⊎◌, ℕ, ◌<◌, Bool, true, false, nat_lt, List, [], ◌++◌, length, Option, Some, None, if◌then◌else◌, MatchOption}
+-- A reader of units, as contracts see it.
+use Rattle.std.specs.Prelude.{◌≡◌, ◌⊎◌, ℕ, ◌<◌, Bool, true, false, nat_lt, List, [], ◌++◌, length, Option, Some, None, if◌then◌else◌, MatchOption, ⊤}
+use Rattle.rtr_pdu.specs.Version.{header_version, version_in}
 use Rattle.rtr_pdu.specs.declared.version.Version.{Version}
 use Rattle.rtr_pdu.specs.declared.unit.Unit.{Unit}
 use Rattle.rtr_pdu.specs.declared.unit.UnitFault.{UnitFault}
 use Rattle.rtr_pdu.specs.declared.unit.UnitFault.TheVariants as faults
 use Rattle.rtr_pdu.specs.declared.unit.Next.{Next}
 use Rattle.rtr_pdu.specs.declared.unit.Next.TheVariants as next
-use Rattle.rtr_pdu.specs.Unit.{Reads}
+use Rattle.rtr_pdu.specs.Unit.{Reads, fits}
 use Rattle.rtr_pdu.specs.Stream.{as_read, length_of, IsPartial, Shows, IsShortest, end_fault, is_notify}
 
--- The bytes that no unit has given back, whether a Serial Notify among them, and one after them, may show any version, and
--- the fault, once one was found
+-- The version of the units that were read, or to be read from the start; the bytes that no unit has given back; whether a Serial
+-- Notify among them, and one after them, may show any version; and the fault, once one was found
 pub record Reader : Type 0 where
+  pub version : Option Version
   pub held : List ℕ
   pub any : Bool
   pub later : Bool
@@ -57,13 +59,26 @@ ReaderStands version any bytes fault = IsFaulty version any bytes fault
 abbrev pub IsReader : Version → Reader → Type 0
 IsReader version r = MatchOption r.fault (IsPartial version (as_read version r.any r.held)) (ReaderStands version r.any r.held)
 
--- A reader that holds nothing
-abbrev pub fresh : Bool → Reader
-fresh any = record { held = []; any = any; later = any; fault = None }
+-- A reader of this version, or of that of the first header, which holds nothing
+abbrev pub fresh : Option Version → Bool → Reader
+fresh version any = record { version = version; held = []; any = any; later = any; fault = None }
+
+-- The version of a reader, once a header has come whole or where it was known from the start
+abbrev pub known_version : Reader → Option Version
+known_version r = header_version r.version r.held
+
+-- The version of the unit at hand, where these bytes follow
+abbrev pub version_with : Reader → List ℕ → Version
+version_with r bytes = version_in r.version (r.held ++ bytes)
+
+-- The unit that is answered is one of this version.
+abbrev pub FitsAnswer : Version → Next → Type 0
+FitsAnswer version (next.Unit u) = fits version u ≡ true
+FitsAnswer version answer = ⊤
 
 -- The reader after an answer for which this was taken
 abbrev pub ReaderGives : Version → Reader → List ℕ → Next → List ℕ → Reader → Type 0
-ReaderGives version old taken (next.Unit u) rest new = (old.fault ≡ None) × IsRead version old.any (old.held ++ taken) u × (new ≡ fresh old.later)
+ReaderGives version old taken (next.Unit u) rest new = (old.fault ≡ None) × IsRead version old.any (old.held ++ taken) u × (new ≡ fresh (Some version) old.later)
 ReaderGives version old taken next.NeedMore rest new =
     (old.fault ≡ None) × IsPartial version (as_read version old.any (old.held ++ taken)) × (rest ≡ []) × (new ≡ record old { held = old.held ++ taken })
 ReaderGives version old taken (next.Fault fault) rest new =

@@ -67,7 +67,7 @@ pub record IsSized (version : Version) (type len : ℕ) : Type 0 where
   pub at_key : type ≡ type_number kinds.RouterKey → fixed_len version kinds.RouterKey ≤ len
   pub at_report : type ≡ type_number kinds.ErrorReport → fixed_len version kinds.ErrorReport ≤ len
 
--- A unit of version 1 has come whole, and no more than it.
+-- A unit has come whole, and no more than it.
 pub record IsBody (version : Version) (any : Bool) (bytes : List ℕ) : Type 0 where
   pub whole : IsWhole version (as_read version any bytes)
   pub exact : length bytes ≡ length_of (as_read version any bytes)

@@ -2,11 +2,12 @@
 use Rattle.std.specs.Prelude.{◌≡◌, ℕ, true, false, List, [], ◌∷◌, take, Some, None, refl}
 use Rattle.prefixes.specs.Payload.{Payload}
 use Rattle.prefixes.specs.declared.prefix.IpPrefix.TheVariants.{V4, V6}
-use Rattle.rtr_pdu.specs.declared.version.Version.TheVariants.{V1}
-use Rattle.rtr_pdu.specs.declared.unit.Unit.TheVariants.{SerialNotify, SerialQuery, ResetQuery, CacheResponse, Prefix, EndOfData, CacheReset, RouterKey, ErrorReport}
+use Rattle.rtr_pdu.specs.declared.version.Version.TheVariants.{V0, V1}
+use Rattle.rtr_pdu.specs.declared.unit.Unit.TheVariants.{SerialNotify, SerialQuery, ResetQuery, CacheResponse, Prefix, EndOfData, EndOfData0, CacheReset, RouterKey, ErrorReport}
 use Rattle.rtr_pdu.specs.declared.unit.UnitFault.TheVariants as faults
-use Rattle.rtr_pdu.specs.Unit.{unit_bytes}
+use Rattle.rtr_pdu.specs.Unit.{fits, unit_bytes}
 use Rattle.rtr_pdu.specs.Stream.{as_read, end_fault, header_fault}
+use Rattle.rtr_pdu.specs.Version.{version_in}
 
 -- a Serial Notify of session 0x1234 and serial number 5
 abbrev serial_notify : List ℕ
@@ -62,6 +63,25 @@ row_end_of_data : unit_bytes V1 (EndOfData 0x1234 5 3600 600 7200)
     ∷ 0x00 ∷ 0x00 ∷ 0x0e ∷ 0x10 ∷ 0x00 ∷ 0x00 ∷ 0x02 ∷ 0x58 ∷ 0x00 ∷ 0x00 ∷ 0x1c ∷ 0x20 ∷ []
 row_end_of_data = refl
 
+-- in version 0 it tells no intervals, and has 12 bytes
+row_end_of_data_0 : unit_bytes V0 (EndOfData0 0x777 5) ≡ 0x00 ∷ 0x07 ∷ 0x07 ∷ 0x77 ∷ 0x00 ∷ 0x00 ∷ 0x00 ∷ 0x0c ∷ 0x00 ∷ 0x00 ∷ 0x00 ∷ 0x05 ∷ []
+row_end_of_data_0 = refl
+
+-- all else differs in the version alone
+row_v4_0 : unit_bytes V0 (Prefix true documented_v4)
+    ≡ 0x00 ∷ 0x04 ∷ 0x00 ∷ 0x00 ∷ 0x00 ∷ 0x00 ∷ 0x00 ∷ 0x14 ∷ 0x01 ∷ 0x18 ∷ 0x18 ∷ 0x00 ∷ 0xc0 ∷ 0x00 ∷ 0x02 ∷ 0x00 ∷ 0x00 ∷ 0x00 ∷ 0xfb ∷ 0xf0 ∷ []
+row_v4_0 = refl
+
+-- an Error Report of version 0, with the Serial Query that it answers
+row_error_report_0 : unit_bytes V0 (ErrorReport (record { code = 0; copy = unit_bytes V0 (SerialQuery 0x1234 5); text = [] }))
+    ≡ 0x00 ∷ 0x0a ∷ 0x00 ∷ 0x00 ∷ 0x00 ∷ 0x00 ∷ 0x00 ∷ 0x1c ∷ 0x00 ∷ 0x00 ∷ 0x00 ∷ 0x0c
+    ∷ 0x00 ∷ 0x01 ∷ 0x12 ∷ 0x34 ∷ 0x00 ∷ 0x00 ∷ 0x00 ∷ 0x0c ∷ 0x00 ∷ 0x00 ∷ 0x00 ∷ 0x05 ∷ 0x00 ∷ 0x00 ∷ 0x00 ∷ 0x00 ∷ []
+row_error_report_0 = refl
+
+-- which units there are in a version
+row_fits : (fits V0 (EndOfData 0x1234 5 3600 600 7200) ≡ false) × (fits V1 (EndOfData0 0x1234 5) ≡ false) × (fits V0 (EndOfData0 0x1234 5) ≡ true) × (fits V0 CacheReset ≡ true)
+row_fits = (refl, refl, refl, refl)
+
 -- a Cache Reset
 row_cache_reset : unit_bytes V1 CacheReset ≡ 0x01 ∷ 0x08 ∷ 0x00 ∷ 0x00 ∷ 0x00 ∷ 0x00 ∷ 0x00 ∷ 0x08 ∷ []
 row_cache_reset = refl
@@ -81,6 +101,18 @@ row_router_key = refl
 -- the faults of headers
 row_version : header_fault V1 (0x00 ∷ 0x02 ∷ 0x00 ∷ 0x00 ∷ 0x00 ∷ 0x00 ∷ 0x00 ∷ 0x08 ∷ []) ≡ Some faults.Version
 row_version = refl
+
+-- in version 0 it is version 1 that is not expected, an End of Data has 12 bytes, and there are no Router Keys
+row_version_0 : (header_fault V0 reset_query ≡ Some faults.Version)
+    × (header_fault V0 (0x00 ∷ 0x07 ∷ 0x00 ∷ 0x00 ∷ 0x00 ∷ 0x00 ∷ 0x00 ∷ 0x18 ∷ []) ≡ Some faults.Length)
+    × (header_fault V0 (0x00 ∷ 0x07 ∷ 0x00 ∷ 0x00 ∷ 0x00 ∷ 0x00 ∷ 0x00 ∷ 0x0c ∷ []) ≡ None)
+    × (header_fault V1 (0x01 ∷ 0x07 ∷ 0x00 ∷ 0x00 ∷ 0x00 ∷ 0x00 ∷ 0x00 ∷ 0x0c ∷ []) ≡ Some faults.Length)
+    × (header_fault V0 (0x00 ∷ 0x09 ∷ 0x00 ∷ 0x00 ∷ 0x00 ∷ 0x00 ∷ 0x00 ∷ 0x22 ∷ []) ≡ Some faults.«Type»)
+row_version_0 = (refl, refl, refl, refl, refl)
+
+-- the version of a first header
+row_first : (version_in None (0x00 ∷ 0x02 ∷ []) ≡ V0) × (version_in None (0x01 ∷ []) ≡ V1) × (version_in None (0x02 ∷ []) ≡ V1) × (version_in (Some V0) (0x01 ∷ []) ≡ V0)
+row_first = (refl, refl, refl, refl)
 
 -- there is no type 5, and none above 10
 row_types : (header_fault V1 (0x01 ∷ 0x05 ∷ 0x00 ∷ 0x00 ∷ 0x00 ∷ 0x00 ∷ 0x00 ∷ 0x08 ∷ []) ≡ Some faults.«Type»)

@@ -4,7 +4,8 @@ use Rattle.rtr_pdu.specs.declared.version.Version.{Version}
 use Rattle.rtr_pdu.specs.declared.unit.Unit.{Unit}
 use Rattle.rtr_pdu.specs.declared.unit.UnitFault.{UnitFault}
 use Rattle.rtr_pdu.specs.Stream.{as_read, any_after, AreRead, IsPartial, Splits, SameSplit}
-use Rattle.rtr_pdu.specs.Reader.{Reader}
+use Rattle.rtr_pdu.specs.Reader.{Reader, version_with}
+use Rattle.rtr_pdu.specs.Version.{version_in}
 
 -- Of this stream these units were read, and the reader has the rest.
 pub record HasRead (version : Version) (any : Bool) (stream : List ℕ) (units : List Unit) (r : Reader) : Type 0 where
@@ -16,10 +17,16 @@ pub record HasRead (version : Version) (any : Bool) (stream : List ℕ) (units :
   pub sound : r.fault ≡ None
   pub partial : IsPartial version (as_read version r.any r.held)
 
+-- The same of a stream of this version, or of that of its first header, whatever follows.
+abbrev pub HasBegun : Option Version → Bool → List ℕ → List Unit → Reader → Type 0
+HasBegun start any stream units r =
+    (more : List ℕ) → HasRead (version_in start (stream ++ more)) any stream units r × (version_with r more ≡ version_in start (stream ++ more))
+
 -- The same, or a fault was found.
-abbrev pub HasFed : Version → Bool → List ℕ → List Unit → Reader → Option UnitFault → Type 0
-HasFed version any stream units r None = HasRead version any stream units r
-HasFed version any stream units r (Some fault) = (rest : List ℕ) × Splits version any stream units rest (Some fault)
+abbrev pub HasFed : Option Version → Bool → List ℕ → List Unit → Reader → Option UnitFault → Type 0
+HasFed start any stream units r None = HasBegun start any stream units r
+HasFed start any stream units r (Some fault) =
+    (more : List ℕ) → (rest : List ℕ) × Splits (version_in start (stream ++ more)) any stream units rest (Some fault)
 
 -- The stream has this split, and no other.
 pub record HasOnly (version : Version) (any : Bool) (stream : List ℕ) (units : List Unit) (fault : Option UnitFault) : Type 0 where
@@ -28,6 +35,7 @@ pub record HasOnly (version : Version) (any : Bool) (stream : List ℕ) (units :
   pub only : (others : List Unit) (left : List ℕ) (other : Option UnitFault) → Splits version any stream others left other → SameSplit units others rest left fault other
 
 -- On from where a reader began a piece: whatever it had read then, this is left of the piece.
-abbrev pub ReadsOn : Version → List Unit → Reader → List ℕ → List Unit → Reader → List ℕ → Type 0
-ReadsOn version before began piece units r rest =
-    (any : Bool) (stream : List ℕ) → HasRead version any stream before began → (done : List ℕ) × HasRead version any done units r × (done ++ rest ≡ stream ++ piece)
+abbrev pub ReadsOn : List Unit → Reader → List ℕ → List Unit → Reader → List ℕ → Type 0
+ReadsOn before began piece units r rest =
+    (start : Option Version) (any : Bool) (stream : List ℕ) → HasBegun start any stream before began →
+    (done : List ℕ) × HasBegun start any done units r × (done ++ rest ≡ stream ++ piece)

@@ -1,4 +1,4 @@
--- A stream of bytes as units (RFC 8210 sections 5 and 12).
+-- A stream of bytes as units (RFC 6810 section 5, RFC 8210 sections 5 and 12).
 use Rattle.std.specs.Prelude.{◌≡◌, ◌⊎◌, ℕ, ◌+◌, ◌-◌, ◌/◌, ◌%◌, ◌^◌, ◌<◌, ◌≤◌, Bool, true, false, not, ◌&&◌, ◌==◌, nat_lt, nat_le, List, [], ◌∷◌, ◌++◌, length, take, drop, slice_index, Option, Some, None, if◌then◌else◌, MatchOption}
 use Rattle.std.specs.Str.{IsUtf8}
 use Rattle.byteorder.specs.Endian.{big_number}
@@ -13,7 +13,7 @@ use Rattle.rtr_pdu.specs.declared.kind.Kind.{Kind}
 use Rattle.rtr_pdu.specs.declared.kind.Kind.TheVariants as kinds
 use Rattle.rtr_pdu.specs.Kind.{type_number, fixed_len, is_type, has_length}
 use Rattle.rtr_pdu.specs.Payloads.{AreBytes}
-use Rattle.rtr_pdu.specs.Unit.{MAX_UNIT_LEN, IsUnit, Reads, unit_bytes}
+use Rattle.rtr_pdu.specs.Unit.{MAX_UNIT_LEN, IsUnit, Reads, fits, unit_bytes}
 
 -- The fields of a header: version, type, and the length of the whole unit
 abbrev pub version_of : List ℕ → ℕ
@@ -138,7 +138,7 @@ IsShortest version any bytes =
 
 -- What is encoded is read again.
 abbrev pub WrittenIsRead : Type 0
-WrittenIsRead = (version : Version) (u : Unit) → IsUnit u → Reads version u (unit_bytes version u)
+WrittenIsRead = (version : Version) (u : Unit) → IsUnit u → fits version u ≡ true → Reads version u (unit_bytes version u)
 
 -- No unit's bytes begin another's: where two stand at the front of the same bytes, they are the same, and so is what follows.
 abbrev pub NoBeginning : Type 0

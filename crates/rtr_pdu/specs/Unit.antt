@@ -1,12 +1,12 @@
--- What a unit's bytes are (RFC 8210 section 5). Numbers are big-endian. Where the standard says "zero", the field is zero when
+-- What a unit's bytes are (RFC 6810 section 5, RFC 8210 section 5). Numbers are big-endian. Where the standard says "zero", the field is zero when
 -- sent and ignored when received.
-use Rattle.std.specs.Prelude.{◌≡◌, ℕ, ◌+◌, ◌-◌, ◌*◌, ◌<◌, ◌≤◌, ◌^◌, Bool, List, ◌∷◌, ◌++◌, length, if◌then◌else◌, ⊤}
+use Rattle.std.specs.Prelude.{◌≡◌, ℕ, ◌+◌, ◌-◌, ◌*◌, ◌<◌, ◌≤◌, ◌^◌, Bool, true, not, List, ◌∷◌, ◌++◌, length, if◌then◌else◌, ⊤}
 use Rattle.std.specs.Str.{IsUtf8}
 use Rattle.byteorder.specs.Endian.{big_bytes}
 use Rattle.prefixes.specs.Payload.{IsPayload}
 use Rattle.prefixes.specs.declared.prefix.IpPrefix.{IpPrefix}
 use Rattle.prefixes.specs.declared.prefix.IpPrefix.TheVariants.{V4, V6}
-use Rattle.rtr_pdu.specs.Version.{version_number}
+use Rattle.rtr_pdu.specs.Version.{version_number, is_v0}
 use Rattle.rtr_pdu.specs.declared.version.Version.{Version}
 use Rattle.rtr_pdu.specs.declared.version.Version.TheVariants.{V1}
 use Rattle.rtr_pdu.specs.Kind.{type_number, fixed_len}
@@ -14,7 +14,7 @@ use Rattle.rtr_pdu.specs.Payloads.{AreBytes}
 use Rattle.rtr_pdu.specs.declared.kind.Kind.{Kind}
 use Rattle.rtr_pdu.specs.declared.kind.Kind.TheVariants as kinds
 use Rattle.rtr_pdu.specs.declared.unit.Unit.{Unit}
-use Rattle.rtr_pdu.specs.declared.unit.Unit.TheVariants.{SerialNotify, SerialQuery, ResetQuery, CacheResponse, Prefix, EndOfData, CacheReset, RouterKey, ErrorReport}
+use Rattle.rtr_pdu.specs.declared.unit.Unit.TheVariants.{SerialNotify, SerialQuery, ResetQuery, CacheResponse, Prefix, EndOfData, EndOfData0, CacheReset, RouterKey, ErrorReport}
 
 -- The most bytes that a unit has
 abbrev pub MAX_UNIT_LEN : ℕ
@@ -62,7 +62,15 @@ prefix_bytes version announce (V4 p) max_len asn z =
 prefix_bytes version announce (V6 p) max_len asn z =
     fixed_header version kinds.Ipv6Prefix z.header ++ (flag announce + 2 * z.flags) ∷ p.len ∷ max_len ∷ z.byte ∷ big_bytes 16 p.addr ++ big_bytes 4 asn
 
--- The bytes of a unit of this protocol version, with what is ignored (RFC 8210 sections 5.2 to 5.11)
+-- The units that there are in a version: an End of Data with intervals and a Router Key in version 1, an End of Data without
+-- intervals in version 0, and all others in both.
+abbrev pub fits : Version → Unit → Bool
+fits version (EndOfData session serial refresh retry expire) = not (is_v0 version)
+fits version (EndOfData0 session serial) = is_v0 version
+fits version (RouterKey k) = not (is_v0 version)
+fits version u = true
+
+-- The bytes of a unit of this protocol version, with what is ignored (RFC 6810 sections 5.2 to 5.10, RFC 8210 sections 5.2 to 5.11)
 abbrev pub spelled : Version → Unit → Ignored → List ℕ
 spelled version (SerialNotify session serial) z = fixed_header version kinds.SerialNotify session ++ big_bytes 4 serial
 spelled version (SerialQuery session serial) z = fixed_header version kinds.SerialQuery session ++ big_bytes 4 serial
@@ -71,6 +79,7 @@ spelled version (CacheResponse session) z = fixed_header version kinds.CacheResp
 spelled version (Prefix announce v) z = prefix_bytes version announce v.prefix v.max_len v.asn z
 spelled version (EndOfData session serial refresh retry expire) z =
     fixed_header version kinds.EndOfData session ++ big_bytes 4 serial ++ big_bytes 4 refresh ++ big_bytes 4 retry ++ big_bytes 4 expire
+spelled version (EndOfData0 session serial) z = fixed_header version kinds.EndOfData session ++ big_bytes 4 serial
 spelled version CacheReset z = fixed_header version kinds.CacheReset z.header
 spelled version (RouterKey k) z =
     version_number version ∷ type_number kinds.RouterKey ∷ (flag k.announce + 2 * z.flags) ∷ z.byte ∷ big_bytes 4 (fixed_len version kinds.RouterKey + length k.info) ++ k.identifier ++ big_bytes 4 k.asn
@@ -88,17 +97,23 @@ IsUnit (CacheResponse session) = session < 2 ^ 16
 IsUnit (Prefix announce v) = IsPayload v
 IsUnit (EndOfData session serial refresh retry expire) =
     (session < 2 ^ 16) × (serial < 2 ^ 32) × (refresh < 2 ^ 32) × (retry < 2 ^ 32) × (expire < 2 ^ 32)
+IsUnit (EndOfData0 session serial) = (session < 2 ^ 16) × (serial < 2 ^ 32)
 IsUnit CacheReset = ⊤
 IsUnit (RouterKey k) =
     (length k.identifier ≡ 20) × (k.asn < 2 ^ 32) × (length k.info ≤ KEY_ROOM) × AreBytes k.identifier × AreBytes k.info
 IsUnit (ErrorReport r) = (r.code < 2 ^ 16) × (length r.copy + length r.text ≤ REPORT_ROOM) × IsUtf8 r.text × AreBytes r.copy
 
--- These bytes are read as this unit, whatever stands where zeros are sent.
+-- These bytes are read as this unit of this version, whatever stands where zeros are sent.
 pub record Reads (version : Version) (u : Unit) (bytes : List ℕ) : Type 0 where
+  pub of_version : fits version u ≡ true
   pub fits : IsUnit u
   pub ignored : Ignored
   pub bits : AreBits ignored
   pub bytes_are : bytes ≡ spelled version u ignored
+
+-- A unit that there is in a version, and can be sent in it
+abbrev pub IsUnitOf : Version → Unit → Type 0
+IsUnitOf version u = IsUnit u × (fits version u ≡ true)
 
 -- The bytes that are sent for a unit
 abbrev pub unit_bytes : Version → Unit → List ℕ

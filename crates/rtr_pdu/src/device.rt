@@ -1,10 +1,10 @@
 //! One unit from a reader, and one to a writer.
-ghost use Rattle.std.specs.Prelude.{◌≡◌, ◌<◌, ◌≤◌, ◌+◌, false, length, IfOk, IfErr};
+ghost use Rattle.std.specs.Prelude.{◌≡◌, ◌<◌, ◌≤◌, ◌+◌, true, false, length, IfOk, IfErr};
 ghost use Rattle.std.specs.Io.KnownBytes.{Appends};
 ghost use Rattle.rtr_pdu.specs.Counted.{device_of, calls_of, failures_of, HasFailed};
 ghost use Rattle.rtr_pdu.specs.Device.{ReadsUnit, CountsRead, GoesOutInPart, wanted, end_answer};
 ghost use Rattle.rtr_pdu.specs.Stream.{as_read, IsPartial};
-ghost use Rattle.rtr_pdu.specs.Unit.{IsUnit, unit_bytes};
+ghost use Rattle.rtr_pdu.specs.Unit.{IsUnit, fits, unit_bytes};
 
 use crate::counted::Counted;
 use crate::reader::UnitReader;
@@ -64,6 +64,7 @@ fn write_bytes<W: Write>(bytes: &[u8], out: &mut Counted<W>) -> Result<(), Write
 /// Writes the bytes of a unit of version 1 (RFC 8210 section 5), all in one call where the writer takes them. Where it
 /// fails, a beginning of them has gone out.
 pub fn write_unit<W: Write>(unit: &Unit, out: &mut Counted<W>) -> Result<(), WriteFailed>
+    requires { fits Version.V1 unit.now ≡ true }
     ensures ok { IfOk result (λ _. Appends (W.contents (device_of out.old)) (W.contents (device_of out.new)) (unit_bytes Version.V1 unit.now)
         × (failures_of out.new ≡ failures_of out.old)) }
     ensures err { IfErr result (λ _. GoesOutInPart (W.contents (device_of out.old)) (W.contents (device_of out.new)) (unit_bytes Version.V1 unit.now)
@@ -87,8 +88,8 @@ fn end(fault: Option<UnitFault>) -> Result<Option<Unit>, ReadFault>
 }
 
 /// How many bytes are wanted of a unit: to the end of its header, or of the whole.
-fn missing(held: &[u8]) -> usize
-    requires { IsPartial Version.V1 (as_read Version.V1 false held.now) }
+fn missing(version: Version, held: &[u8]) -> usize
+    requires { IsPartial version (as_read version false held.now) }
     ensures value { result ≡ wanted held.now }
     ensures some { 0 < result }
     ensures most { result ≤ MAX_UNIT_LEN }
@@ -100,16 +101,27 @@ fn missing(held: &[u8]) -> usize
     }
 }
 
-/// Reads one unit of version 1 as a cache reads it, and nothing after it: `None` where the input ends before a first
-/// byte.
+/// Reads one unit of version 1, as `read_unit_of` does.
 pub fn read_unit<R: Read>(input: &mut Counted<R>) -> Result<Option<Unit>, ReadFault>
     ensures reads { ReadsUnit Version.V1 (R.remaining (device_of input.old)) (R.remaining (device_of input.new)) (calls_of input.old) (calls_of input.new) result }
     ensures counts { CountsRead input.old input.new result }
 {
-    let mut reader = UnitReader::for_cache();
+    read_unit_of(Version::V1, input)
+}
+
+/// Reads one unit of this version as a cache reads it, and nothing after it: `None` where the input ends before a first
+/// byte.
+pub fn read_unit_of<R: Read>(
+    version: Version,
+    input: &mut Counted<R>,
+) -> Result<Option<Unit>, ReadFault>
+    ensures reads { ReadsUnit version (R.remaining (device_of input.old)) (R.remaining (device_of input.new)) (calls_of input.old) (calls_of input.new) result }
+    ensures counts { CountsRead input.old input.new result }
+{
+    let mut reader = UnitReader::of_version(version);
     let mut bytes = [0u8; MAX_UNIT_LEN];
     loop {
-        let size = missing(reader.held());
+        let size = missing(version, reader.held());
         match input.read(&mut bytes[..size]) {
             Ok(0) => return end(reader.end_of_input()),
             Ok(n) => {

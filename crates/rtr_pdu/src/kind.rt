@@ -1,10 +1,10 @@
 //! The types of units.
-ghost use Rattle.std.specs.Prelude.{◌≡◌, false, IfSome, IfNone};
-ghost use Rattle.rtr_pdu.specs.Kind.{type_number, fixed_len, may_have, is_type};
+ghost use Rattle.std.specs.Prelude.{◌≡◌, true, false, IfSome, IfNone};
+ghost use Rattle.rtr_pdu.specs.Kind.{type_number, has_kind, end_of_data_len, fixed_len, may_have, is_type};
 
 use crate::version::Version;
 
-/// The type of a unit (RFC 8210 section 5).
+/// The type of a unit (RFC 6810 section 5, RFC 8210 section 5).
 #[derive(Clone, Copy, Debug, PartialEq, Eq)]
 pub enum Kind {
     /// A Serial Notify (RFC 8210 section 5.2).
@@ -23,7 +23,7 @@ pub enum Kind {
     EndOfData = 7,
     /// A Cache Reset (RFC 8210 section 5.9).
     CacheReset = 8,
-    /// A Router Key (RFC 8210 section 5.10).
+    /// A Router Key (RFC 8210 section 5.10). Version 0 has none.
     RouterKey = 9,
     /// An Error Report (RFC 8210 section 5.11).
     ErrorReport = 10,
@@ -32,7 +32,7 @@ pub enum Kind {
 impl Kind {
     /// The type that this number stands for in a header of this version, or `None` where there is none.
     pub fn from_number(version: Version, number: u8) -> Option<Kind>
-        ensures some { IfSome result (λ kind. type_number kind ≡ number) }
+        ensures some { IfSome result (λ kind. (type_number kind ≡ number) × (has_kind version kind ≡ true)) }
         ensures none { IfNone result (is_type version number ≡ false) }
     {
         match number {
@@ -45,6 +45,7 @@ impl Kind {
             7 => Some(Kind::EndOfData),
             8 => Some(Kind::CacheReset),
             9 => match version {
+                Version::V0 => None,
                 Version::V1 => Some(Kind::RouterKey),
             },
             10 => Some(Kind::ErrorReport),
@@ -69,9 +70,7 @@ impl Kind {
             Kind::ResetQuery | Kind::CacheResponse | Kind::CacheReset => 8,
             Kind::Ipv4Prefix => 20,
             Kind::Ipv6Prefix => 32,
-            Kind::EndOfData => match version {
-                Version::V1 => 24,
-            },
+            Kind::EndOfData => end_of_data_len(version),
             Kind::RouterKey => 32,
             Kind::ErrorReport => 16,
         }
@@ -85,5 +84,16 @@ impl Kind {
             Kind::RouterKey | Kind::ErrorReport => len >= self.fixed_len(version),
             _ => len == self.fixed_len(version),
         }
+    }
+}
+
+/// How many bytes an End of Data has: without intervals in version 0 (RFC 6810 section 5.8), with them in version 1
+/// (RFC 8210 section 5.8).
+fn end_of_data_len(version: Version) -> u32
+    ensures { result ≡ end_of_data_len version }
+{
+    match version {
+        Version::V0 => 12,
+        Version::V1 => 24,
     }
 }

@@ -13,7 +13,7 @@ pub fn each_splits()
     ensures { EachSplits }
 {}
 
-/// What is encoded is read again, for each version.
+/// What is encoded in a version is read again.
 pub fn written_is_read()
     ensures { WrittenIsRead }
 {}

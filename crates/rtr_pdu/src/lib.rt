@@ -1,4 +1,4 @@
-//! The units of the RPKI-to-Router protocol, version 1 (RFC 8210 section 5).
+//! The units of the RPKI-to-Router protocol, version 0 (RFC 6810 section 5) and version 1 (RFC 8210 section 5).
 #![tactic(auto)]
 
 mod counted;
@@ -14,7 +14,7 @@ mod version;
 mod writing;
 
 pub use counted::Counted;
-pub use device::{ReadFault, WriteFailed, read_unit, write_unit};
+pub use device::{ReadFault, WriteFailed, read_unit, read_unit_of, write_unit};
 pub use kind::Kind;
 pub use reader::UnitReader;
 pub use stream::read_all;
@@ -22,4 +22,4 @@ pub use unit::{
     ErrorReport, KEY_ROOM, MAX_UNIT_LEN, Next, REPORT_ROOM, RouterKey, Unit, UnitFault,
 };
 pub use version::Version;
-pub use writing::{UnitBuffer, encode, encode_prefix};
+pub use writing::{UnitBuffer, encode, encode_as, encode_prefix};

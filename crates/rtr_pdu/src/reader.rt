@@ -1,8 +1,9 @@
 //! Units from a stream that comes in pieces.
-ghost use Rattle.std.specs.Prelude.{◌≡◌, ◌≤◌, length, None, true, false};
+ghost use Rattle.std.specs.Prelude.{◌≡◌, ◌≤◌, [], ◌++◌, length, Some, None, true, false};
 ghost use Rattle.arrayvec.specs.ArrayVec.{array_vec_len};
 ghost use Rattle.rtr_pdu.specs.Stream.{as_read, header_fault, length_of, IsPartial};
-ghost use Rattle.rtr_pdu.specs.Reader.{Advances, ReaderTakes, IsReader, fresh, after_agreed, at_end, Reader};
+ghost use Rattle.rtr_pdu.specs.Reader.{Advances, FitsAnswer, ReaderTakes, IsReader, fresh, after_agreed, at_end, known_version, version_with, Reader};
+ghost use Rattle.rtr_pdu.specs.Version.{version_in};
 ghost use Rattle.rtr_pdu.specs.Reading.{filled, unfilled};
 
 use crate::reading::{judge, number_32, read};
@@ -58,10 +59,12 @@ fn advance(version: Version, any: bool, buffer: &mut UnitBuffer, piece: &mut &[u
     }
 }
 
-/// Reads units of version 1 from a stream that comes in pieces, one unit at a time. It takes no byte of a unit before
+/// Reads units of one version from a stream that comes in pieces, one unit at a time. It takes no byte of a unit before
 /// the unit ahead of it was answered, and it holds at most 4,096 bytes, within the value.
 #[derive(Drop)]
 pub struct UnitReader {
+    /// The version of the units, where it was known from the start or a unit was read.
+    version: Option<Version>,
     /// What was taken of the unit in hand, or of the bytes that are none.
     buffer: UnitBuffer,
     /// Whether a Serial Notify may show any version.
@@ -74,42 +77,86 @@ pub struct UnitReader {
 
 impl Model for UnitReader {
     ghost use Rattle.rtr_pdu.specs.Reader.{Reader, IsReader};
-    ghost use Rattle.rtr_pdu.specs.declared.version.Version.TheVariants.{V1};
+    ghost use Rattle.rtr_pdu.specs.Version.{version_in};
 
     ghost Value = { Reader };
 
-    ghost view = { λ r. record { held = r.buffer.items; any = r.any; later = r.later; fault = r.fault } };
+    ghost view = { λ r. record { version = r.version; held = r.buffer.items; any = r.any; later = r.later; fault = r.fault } };
 
-    ghost invariant = { λ r. IsReader V1 (record { held = r.buffer.items; any = r.any; later = r.later; fault = r.fault }) };
+    ghost invariant = { λ r. IsReader (version_in r.version r.buffer.items) (record { version = r.version; held = r.buffer.items; any = r.any; later = r.later; fault = r.fault }) };
 }
 
 impl UnitReader {
-    /// A reader at the cache, or at a router that has agreed on version 1.
+    /// A reader of nothing yet.
+    fn fresh(version: Option<Version>, any: bool) -> Self
+        ensures { result ≡ fresh version any }
+    {
+        UnitReader {
+            version,
+            buffer: ArrayVec::new(),
+            any,
+            later: any,
+            fault: None,
+        }
+    }
+
+    /// A reader at the cache: the first header tells the version (RFC 8210 section 7).
     pub fn for_cache() -> Self
-        ensures { result ≡ fresh false }
+        ensures { result ≡ fresh None false }
     {
-        UnitReader {
-            buffer: ArrayVec::new(),
-            any: false,
-            later: false,
-            fault: None,
-        }
+        UnitReader::fresh(None, false)
     }
 
-    /// A reader at a router that has not agreed on a version: it reads a Serial Notify of any version
+    /// A reader of units of this version alone.
+    pub fn of_version(version: Version) -> Self
+        ensures { result ≡ fresh (Some version) false }
+    {
+        UnitReader::fresh(Some(version), false)
+    }
+
+    /// A reader at a router that speaks this version and has not agreed on it: it reads a Serial Notify of any version
     /// (RFC 8210 section 7), told by its type 0 and its length of 12 bytes.
-    pub fn for_router() -> Self
-        ensures { result ≡ fresh true }
+    pub fn for_router(version: Version) -> Self
+        ensures { result ≡ fresh (Some version) true }
     {
-        UnitReader {
-            buffer: ArrayVec::new(),
-            any: true,
-            later: true,
-            fault: None,
+        UnitReader::fresh(Some(version), true)
+    }
+
+    /// The version of the units that were read, or the one known from the start.
+    pub fn expected(&self) -> Option<Version>
+        ensures { result ≡ self.now.version }
+    {
+        self.version
+    }
+
+    /// The version of the units: the one known from the start, or that of the first header, once it has come whole.
+    pub fn version(&self) -> Option<Version>
+        ensures { result ≡ known_version self.now }
+    {
+        match self.version {
+            Some(version) => Some(version),
+            None => {
+                if self.buffer.len() < 8 {
+                    None
+                } else {
+                    Some(Version::first(self.buffer.as_slice()))
+                }
+            }
         }
     }
 
-    /// Version 1 is agreed. A header of 8 bytes that has come whole is still read as before.
+    /// The version of the unit at hand, where this piece follows.
+    fn version_with(&self, piece: &[u8]) -> Version
+        ensures { result ≡ version_with self.now piece.now }
+    {
+        match self.version {
+            Some(version) => version,
+            None if self.buffer.is_empty() => Version::first(piece),
+            None => Version::first(self.buffer.as_slice()),
+        }
+    }
+
+    /// The version is agreed. A header of 8 bytes that has come whole is still read as before.
     pub fn agreed(&mut self)
         ensures { self.new ≡ after_agreed self.old }
     {
@@ -122,16 +169,19 @@ impl UnitReader {
     /// Takes bytes from the front of the piece: to the end of the first unit, or as many as show a fault, or else all.
     /// A fault of a header is answered at its 8 bytes, one of what follows at the whole unit.
     pub fn next(&mut self, piece: &mut &[u8]) -> Next
-        ensures takes { ReaderTakes Version.V1 self.old piece.old.now result piece.new.now self.new }
-        ensures reader { IsReader Version.V1 self.old }
+        ensures takes { ReaderTakes (version_with self.old piece.old.now) self.old piece.old.now result piece.new.now self.new }
+        ensures reader { IsReader (version_with self.old piece.old.now) self.old }
+        ensures fits { FitsAnswer (version_with self.old piece.old.now) result }
     {
         if let Some(fault) = self.fault {
             return Next::Fault(fault);
         }
-        match advance(Version::V1, self.any, &mut self.buffer, piece) {
+        let version = self.version_with(*piece);
+        match advance(version, self.any, &mut self.buffer, piece) {
             Next::Unit(unit) => {
                 self.buffer.clear();
                 self.any = self.later;
+                self.version = Some(version);
                 Next::Unit(unit)
             }
             Next::NeedMore => Next::NeedMore,
@@ -157,7 +207,7 @@ impl UnitReader {
     /// whole unit.
     pub fn held(&self) -> &[u8]
         ensures held { result.now ≡ self.now.held }
-        ensures reader { IsReader Version.V1 self.now }
+        ensures reader { IsReader (version_in self.now.version self.now.held) self.now }
         ensures fits { length result.now ≤ MAX_UNIT_LEN }
     {
         self.buffer.as_slice()

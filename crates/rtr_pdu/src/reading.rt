@@ -1,6 +1,7 @@
 //! Units from bytes.
 ghost use Rattle.std.specs.Prelude.{◌≡◌, ◌==◌, ◌&&◌, true, not, nat_lt, Some, None, if◌then◌else◌, ◌+◌, ◌≤◌, length, IfOk, IfErr, IfSome, IfNone};
-ghost use Rattle.rtr_pdu.specs.Kind.{type_number, fixed_len, may_have, is_type};
+ghost use Rattle.rtr_pdu.specs.Kind.{type_number, end_of_data_len, fixed_len, may_have, is_type};
+ghost use Rattle.rtr_pdu.specs.Judging.{end_of_data_in};
 ghost use Rattle.rtr_pdu.specs.Stream.{fault_of, header_fault, as_read, type_of, length_of, IsKind, IsRecord, IsReport};
 ghost use Rattle.rtr_pdu.specs.Reading.{number_at, v4_in, v6_in, key_in, report_in, IsBody};
 ghost use Rattle.rtr_pdu.specs.Version.{version_number};
@@ -167,16 +168,22 @@ fn kind_of(version: Version, bytes: &[u8]) -> Kind
 }
 
 /// The End of Data in bytes of its length.
-fn end_of_data(bytes: &[u8]) -> Unit
-    requires { length bytes.now ≡ 24 }
-    ensures { result ≡ Unit.EndOfData (number_at 2 2 bytes.now) (number_at 4 8 bytes.now) (number_at 4 12 bytes.now) (number_at 4 16 bytes.now) (number_at 4 20 bytes.now) }
+fn end_of_data(version: Version, bytes: &[u8]) -> Unit
+    requires { length bytes.now ≡ end_of_data_len version }
+    ensures { result ≡ end_of_data_in version bytes.now }
 {
-    Unit::EndOfData {
-        session: number_16(bytes, 2),
-        serial: number_32(bytes, 8),
-        refresh: number_32(bytes, 12),
-        retry: number_32(bytes, 16),
-        expire: number_32(bytes, 20),
+    match version {
+        Version::V0 => Unit::EndOfData0 {
+            session: number_16(bytes, 2),
+            serial: number_32(bytes, 8),
+        },
+        Version::V1 => Unit::EndOfData {
+            session: number_16(bytes, 2),
+            serial: number_32(bytes, 8),
+            refresh: number_32(bytes, 12),
+            retry: number_32(bytes, 16),
+            expire: number_32(bytes, 20),
+        },
     }
 }
 
@@ -213,7 +220,7 @@ pub fn read(version: Version, any: bool, bytes: &[u8]) -> Result<Unit, UnitFault
             }),
             None => Err(UnitFault::Record),
         },
-        Kind::EndOfData => Ok(end_of_data(bytes)),
+        Kind::EndOfData => Ok(end_of_data(version, bytes)),
         Kind::CacheReset => Ok(Unit::CacheReset),
         Kind::RouterKey => Ok(Unit::RouterKey(key(bytes))),
         Kind::ErrorReport => match report(version, bytes) {

@@ -1,9 +1,10 @@
 //! Whole streams.
-ghost use Rattle.std.specs.Prelude.{◌≡◌, ℕ, Bool, List, ◌++◌, IfOk};
+ghost use Rattle.std.specs.Prelude.{◌≡◌, ℕ, Bool, List, ◌++◌, Option, is_some, IfOk};
 ghost use Rattle.std.specs.List.{flat_map};
 ghost use Rattle.rtr_pdu.specs.Stream.{is_notify};
-ghost use Rattle.rtr_pdu.specs.Run.{HasRead, HasFed, HasOnly};
+ghost use Rattle.rtr_pdu.specs.Run.{HasBegun, HasFed, HasOnly};
 ghost use Rattle.rtr_pdu.specs.Reader.{fresh, told};
+ghost use Rattle.rtr_pdu.specs.Version.{version_in};
 
 use crate::reader::UnitReader;
 use crate::unit::{Next, Unit, UnitFault};
@@ -35,8 +36,8 @@ fn feed(
     units: &mut Vec<Unit>,
     piece: &[u8],
 ) -> Result<Option<UnitFault>, AllocError>
-    ensures { IfOk result (λ fault. (any : Bool) (stream : List ℕ) → HasRead Version.V1 any stream units.old.items reader.old
-        → HasFed Version.V1 any (stream ++ piece.now) units.new.items reader.new fault) }
+    ensures { IfOk result (λ fault. (start : Option Version) (any : Bool) (stream : List ℕ) → HasBegun start any stream units.old.items reader.old
+        → HasFed start any (stream ++ piece.now) units.new.items reader.new fault) }
 {
     let mut rest = piece;
     loop {
@@ -51,27 +52,26 @@ fn feed(
     }
 }
 
-/// A reader at a router or at the cache.
-fn reader_at(router: bool) -> UnitReader
-    ensures { result ≡ fresh router }
+/// A reader at a router that speaks this version, or at the cache.
+fn reader_at(router: Option<Version>) -> UnitReader
+    ensures { result ≡ fresh router (is_some router) }
 {
-    if router {
-        UnitReader::for_router()
-    } else {
-        UnitReader::for_cache()
+    match router {
+        Some(version) => UnitReader::for_router(version),
+        None => UnitReader::for_cache(),
     }
 }
 
-/// Reads the stream that comes in these pieces, at a router or at the cache, to its end or to a fault: its units, and the
-/// fault. A router agrees on version 1 at the first unit that is no Serial Notify. That the stream ends within a unit is
+/// Reads the stream that comes in these pieces, at a router that speaks this version or at the cache, to its end or to a fault:
+/// its units, and the fault. A router agrees on its version at the first unit that is no Serial Notify. That the stream ends within a unit is
 /// no fault here. `AllocError`: no memory for the units.
 pub fn read_all(
     alloc: Global,
-    router: bool,
+    router: Option<Version>,
     pieces: &[Vec<u8>],
 ) -> Result<(Vec<Unit>, Option<UnitFault>), AllocError>
     // Nothing else is read from the same bytes, however they are cut.
-    ensures { IfOk result (λ found. HasOnly Version.V1 router (flat_map (λ piece. piece.items) pieces.now) found.0.items found.1) }
+    ensures { IfOk result (λ found. HasOnly (version_in router (flat_map (λ piece. piece.items) pieces.now)) (is_some router) (flat_map (λ piece. piece.items) pieces.now) found.0.items found.1) }
 {
     let mut reader = reader_at(router);
     let mut units = Vec::new(alloc);

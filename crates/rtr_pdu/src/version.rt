@@ -1,10 +1,12 @@
 //! The versions of the protocol.
 ghost use Rattle.std.specs.Prelude.{◌≡◌};
-ghost use Rattle.rtr_pdu.specs.Version.{version_number};
+ghost use Rattle.rtr_pdu.specs.Version.{version_number, first_version};
 
 /// A version of the protocol.
 #[derive(Clone, Copy, Debug, PartialEq, Eq)]
 pub enum Version {
+    /// Version 0 (RFC 6810).
+    V0 = 0,
     /// Version 1 (RFC 8210).
     V1 = 1,
 }
@@ -15,5 +17,16 @@ impl Version {
         ensures { result ≡ version_number self }
     {
         self as u8
+    }
+
+    /// The version of bytes that begin with a header: 0 where that shows 0, and else 1. Where it shows neither, it is a fault of
+    /// version 1.
+    pub fn first(bytes: &[u8]) -> Version
+        ensures { result ≡ first_version bytes.now }
+    {
+        match bytes.first() {
+            Some(0) => Version::V0,
+            _ => Version::V1,
+        }
     }
 }

@@ -1,9 +1,9 @@
 //! Units as bytes.
-ghost use Rattle.std.specs.Prelude.{◌≡◌, ◌+◌, ◌≤◌, ◌∷◌, ◌++◌, length};
+ghost use Rattle.std.specs.Prelude.{◌≡◌, ◌+◌, ◌≤◌, ◌∷◌, ◌++◌, length, true};
 ghost use Rattle.arrayvec.specs.ArrayVec.{array_vec_len};
 ghost use Rattle.byteorder.specs.Endian.{big_bytes};
 ghost use Rattle.rtr_pdu.specs.Kind.{type_number};
-ghost use Rattle.rtr_pdu.specs.Unit.{IsUnit, header, fixed_header, unit_bytes, flag};
+ghost use Rattle.rtr_pdu.specs.Unit.{IsUnit, fits, header, fixed_header, unit_bytes, flag};
 
 use crate::kind::Kind;
 use crate::unit::{ErrorReport, MAX_UNIT_LEN, RouterKey, Unit};
@@ -135,7 +135,10 @@ fn put_report(version: Version, report: &ErrorReport, buffer: &mut UnitBuffer)
     put(buffer, text);
 }
 
-fn put_unit(version: Version, unit: &Unit, buffer: &mut UnitBuffer)
+/// Writes a unit of this version, with zeros where the standard says zero. The buffer then holds the bytes of the unit and no
+/// others, and they are read as this unit of the version.
+pub fn encode_as(version: Version, unit: &Unit, buffer: &mut UnitBuffer)
+    requires { fits version unit.now ≡ true }
     ensures bytes { buffer.new.items ≡ unit_bytes version unit.now }
     ensures unit { IsUnit unit.now }
 {
@@ -162,25 +165,30 @@ fn put_unit(version: Version, unit: &Unit, buffer: &mut UnitBuffer)
         } => put_end_of_data(
             version, *session, *serial, *refresh, *retry, *expire, buffer,
         ),
+        Unit::EndOfData0 { session, serial } => {
+            put_fixed(buffer, version, Kind::EndOfData, *session);
+            put_number(buffer, *serial);
+        }
         Unit::CacheReset => put_fixed(buffer, version, Kind::CacheReset, 0),
         Unit::RouterKey(key) => put_key(version, key, buffer),
         Unit::ErrorReport(report) => put_report(version, report, buffer),
     }
 }
 
-/// Writes a unit of version 1 (RFC 8210 section 5), with zeros where the standard says zero. The buffer then holds the
-/// bytes of the unit and no others, and they are read as this unit.
+/// Writes a unit of version 1 (RFC 8210 section 5), as `encode_as` does.
 pub fn encode(unit: &Unit, buffer: &mut UnitBuffer)
+    requires { fits Version.V1 unit.now ≡ true }
     ensures bytes { buffer.new.items ≡ unit_bytes Version.V1 unit.now }
     ensures unit { IsUnit unit.now }
 {
-    put_unit(Version::V1, unit, buffer);
+    encode_as(Version::V1, unit, buffer);
 }
 
-/// Writes a Prefix of version 1 (RFC 8210 sections 5.6 and 5.7), as `encode` does, and makes no `Unit` of it.
-pub fn encode_prefix(announce: bool, vrp: &Vrp, buffer: &mut UnitBuffer)
-    ensures bytes { buffer.new.items ≡ unit_bytes Version.V1 (Unit.Prefix announce vrp.now) }
+/// Writes a Prefix (RFC 6810 sections 5.6 and 5.7, RFC 8210 sections 5.6 and 5.7), as `encode_as` does, and makes no `Unit` of
+/// it.
+pub fn encode_prefix(version: Version, announce: bool, vrp: &Vrp, buffer: &mut UnitBuffer)
+    ensures bytes { buffer.new.items ≡ unit_bytes version (Unit.Prefix announce vrp.now) }
     ensures unit { IsUnit (Unit.Prefix announce vrp.now) }
 {
-    put_prefix(Version::V1, announce, vrp, buffer);
+    put_prefix(version, announce, vrp, buffer);
 }

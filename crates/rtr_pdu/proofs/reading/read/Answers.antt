@@ -41,7 +41,9 @@ pub returns-in-CacheResponse-clause-ok : goal.returns-in-CacheResponse-clause-ok
 returns-in-CacheResponse-clause-ok c = laws.read_3 c.args.version c.args.any c.args.bytes.now (λ i. omega (arith, c.type_inv.bytes i)) c.requires _ c.in-CacheResponse.ensures c.number_16-in-CacheResponse.ensures
 
 pub returns-in-EndOfData-clause-ok : goal.returns-in-EndOfData-clause-ok
-returns-in-EndOfData-clause-ok c = subst (λ u. IsRead c.args.version c.args.any c.args.bytes.now u) (sym c.end_of_data.ensures) (laws.read_7 c.args.version c.args.any c.args.bytes.now (λ i. omega (arith, c.type_inv.bytes i)) c.requires _ _ _ _ _ c.in-EndOfData.ensures refl refl refl refl refl)
+returns-in-EndOfData-clause-ok c =
+    subst (λ u. IsRead c.args.version c.args.any c.args.bytes.now u) (sym c.end_of_data.ensures)
+    (laws.read_7 c.args.version c.args.any c.args.bytes.now (λ i. omega (arith, c.type_inv.bytes i)) c.requires c.in-EndOfData.ensures)
 
 pub returns-in-CacheReset-clause-ok : goal.returns-in-CacheReset-clause-ok
 returns-in-CacheReset-clause-ok c = laws.read_8 c.args.version c.args.any c.args.bytes.now (λ i. omega (arith, c.type_inv.bytes i)) c.requires c.in-CacheReset.ensures

@@ -1,8 +1,0 @@
-use Rattle.std.proofs.Common.{false, sym, subst}
-use Rattle.rtr_pdu.specs.declared.version.Version.TheVariants.{V1}
-use Rattle.rtr_pdu.specs.Stream.{as_read, IsPartial}
-use Rattle.rtr_pdu.proofs.ReaderLaws as laws
-use Rattle.rtr_pdu.proofs.reader.UnitReader.for_cache.Goals as goal
-
-pub invariant_of-result : goal.invariant_of-result
-invariant_of-result c = subst (λ x. IsPartial V1 (as_read V1 false x)) (sym c.new.ensures) (laws.partial_empty V1 false)
