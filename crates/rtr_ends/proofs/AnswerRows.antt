@@ -1,5 +1,5 @@
 -- What a cache answers to each unit, worked out.
-use Rattle.std.proofs.Common.{◌≡◌, ℕ, Bool, true, false, ◌==◌, [], ◌∷◌, ◌++◌, if◌then◌else◌, refl}
+use Rattle.std.proofs.Common.{◌≡◌, ℕ, Bool, false, ◌==◌, [], ◌∷◌, ◌++◌, if◌then◌else◌, refl}
 use Rattle.prefixes.specs.Payload.{Payload}
 use Rattle.vrps.specs.Instance.{Instance, versions}
 use Rattle.rtr_pdu.specs.Payloads.{Key, Report}
@@ -7,7 +7,7 @@ use Rattle.rtr_pdu.specs.declared.unit.Unit.{Unit}
 use Rattle.rtr_pdu.specs.declared.unit.Unit.TheVariants.{SerialNotify, SerialQuery, ResetQuery, CacheResponse, Prefix, EndOfData, CacheReset, RouterKey, ErrorReport}
 use Rattle.rtr_pdu.specs.declared.version.Version.TheVariants.{V1}
 use Rattle.rtr_ends.specs.Answer.{and_end, and_on, answer, report, sent, sent_all, serial_answer}
-use Rattle.rtr_ends.specs.Connection.{is_query, takes_memory}
+use Rattle.rtr_ends.specs.Connection.{takes_memory}
 use Rattle.rtr_ends.specs.Timing.{Intervals, default_intervals}
 use Rattle.rtr_ends.proofs.WholeAnswerRows.{cache, serial_bytes}
 
@@ -37,20 +37,11 @@ other_session : (i : Instance) (keep : ℕ) (t : Intervals) (session serial : �
 other_session i keep t session serial h = λ j. if h j then and_on (serial_answer V1 i.session keep t serial (versions i)) else and_end (report 0 (sent V1 (SerialQuery session serial)) ∷ [])
 
 -- Memory is never wanting where nothing is published, nor for a unit that is no Serial Query.
-takes_none : (i : Instance) (start serial : ℕ) → (takes_memory i ResetQuery ≡ false) × (takes_memory (cache start []) (SerialQuery 0x1234 serial) ≡ false)
+takes_none : (i : Instance) (start serial : ℕ) → (takes_memory V1 i ResetQuery ≡ false) × (takes_memory V1 (cache start []) (SerialQuery 0x1234 serial) ≡ false)
 takes_none i start serial = (refl, refl)
 
 takes_none_else : (i : Instance) (announce : Bool) (x : Payload) (key : Key) (r : Report) (session serial refresh retry expire : ℕ)
-    → (takes_memory i (SerialNotify session serial) ≡ false) × (takes_memory i (CacheResponse session) ≡ false) × (takes_memory i (Prefix announce x) ≡ false)
-    × (takes_memory i (EndOfData session serial refresh retry expire) ≡ false) × (takes_memory i CacheReset ≡ false) × (takes_memory i (RouterKey key) ≡ false)
-    × (takes_memory i (ErrorReport r) ≡ false)
+    → (takes_memory V1 i (SerialNotify session serial) ≡ false) × (takes_memory V1 i (CacheResponse session) ≡ false) × (takes_memory V1 i (Prefix announce x) ≡ false)
+    × (takes_memory V1 i (EndOfData session serial refresh retry expire) ≡ false) × (takes_memory V1 i CacheReset ≡ false) × (takes_memory V1 i (RouterKey key) ≡ false)
+    × (takes_memory V1 i (ErrorReport r) ≡ false)
 takes_none_else i announce x key r session serial refresh retry expire = (refl, refl, refl, refl, refl, refl, refl)
-
--- A query alone is agreement.
-queries : (session serial : ℕ) → (is_query (SerialQuery session serial) ≡ true) × (is_query ResetQuery ≡ true)
-queries session serial = (refl, refl)
-
-no_queries : (announce : Bool) (x : Payload) (key : Key) (r : Report) (session serial refresh retry expire : ℕ)
-    → (is_query (SerialNotify session serial) ≡ false) × (is_query (CacheResponse session) ≡ false) × (is_query (Prefix announce x) ≡ false)
-    × (is_query (EndOfData session serial refresh retry expire) ≡ false) × (is_query CacheReset ≡ false) × (is_query (RouterKey key) ≡ false) × (is_query (ErrorReport r) ≡ false)
-no_queries announce x key r session serial refresh retry expire = (refl, refl, refl, refl, refl, refl, refl)

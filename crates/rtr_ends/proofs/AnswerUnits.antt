@@ -17,15 +17,20 @@ use Rattle.vrps.proofs.Listed.{part_is_set}
 use Rattle.byteorder.specs.Endian.{big_bytes}
 use Rattle.rtr_pdu.specs.Payloads.{AreBytes}
 use Rattle.rtr_pdu.specs.Stream.{type_of}
-use Rattle.rtr_pdu.specs.Unit.{IsUnit}
+use Rattle.rtr_pdu.specs.Unit.{IsUnit, IsUnitOf}
 use Rattle.rtr_pdu.specs.declared.unit.Unit.{Unit}
-use Rattle.rtr_pdu.specs.declared.unit.Unit.TheVariants.{SerialNotify, SerialQuery, ResetQuery, CacheResponse, Prefix, EndOfData, CacheReset, RouterKey, ErrorReport}
+use Rattle.rtr_pdu.specs.declared.unit.Unit.TheVariants.{SerialNotify, SerialQuery, ResetQuery, CacheResponse, Prefix, EndOfData, EndOfData0, CacheReset, RouterKey, ErrorReport}
 use Rattle.rtr_pdu.specs.declared.unit.UnitFault.{UnitFault}
 use Rattle.rtr_pdu.specs.declared.unit.UnitFault.TheVariants as faults
 use Rattle.rtr_pdu.proofs.ReadLaws.{AreBytes-take}
-use Rattle.rtr_pdu.specs.declared.version.Version.TheVariants.{V1}
-use Rattle.rtr_ends.specs.Answer.{and_end, and_on, announcements, answer, report, response, sent, serial_answer, step_answer, whole_answer, withdrawals}
-use Rattle.rtr_ends.specs.Connection.{Connection, IsHistory, MayCome, ConnMoment, Read, Wanting, Fault, Notify, Pull, conn_after, agreed_after, bytes_of, fault_code, fault_report, notice, replies_from, reply}
+use Rattle.rtr_pdu.specs.Kind.{fixed_len}
+use Rattle.rtr_pdu.specs.Version.{version_number}
+use Rattle.rtr_pdu.specs.declared.kind.Kind.TheVariants as kinds
+use Rattle.rtr_pdu.proofs.VersionLaws.{is_byte}
+use Rattle.rtr_pdu.specs.declared.version.Version.{Version}
+use Rattle.rtr_pdu.specs.declared.version.Version.TheVariants.{V0, V1}
+use Rattle.rtr_ends.specs.Answer.{and_end, and_on, announcements, answer, end_of_data, report, response, sent, serial_answer, session_in, step_answer, whole_answer, withdrawals}
+use Rattle.rtr_ends.specs.Connection.{Connection, IsHistory, MayCome, ConnMoment, Read, Wanting, Fault, Notify, Pull, conn_after, Sent, bytes_of, in_version, fault_code, fault_report, notice, replies_from, reply, sent_by, version_after}
 use Rattle.rtr_ends.specs.Timing.{default_intervals}
 use Rattle.rtr_ends.proofs.ByteLists.{bytes_front, none_bytes}
 
@@ -57,22 +62,22 @@ from_bytes : (bytes : List ℕ) → AreBytes bytes → Bytes bytes
 from_bytes [] h = tt
 from_bytes (b ∷ bytes) h = (h 0, from_bytes bytes (λ i. h (suc i)))
 
-header_bytes : (kind field size : ℕ) → kind < 256 → Bytes (1 ∷ kind ∷ big_bytes 2 field ++ big_bytes 4 size)
-header_bytes kind field size h = (omega arith, (h, bytes-append (big_bytes 2 field) (big_bytes 4 size) (number 2 field) (number 4 size)))
+header_bytes : (version : Version) (kind field size : ℕ) → kind < 256 → Bytes (version_number version ∷ kind ∷ big_bytes 2 field ++ big_bytes 4 size)
+header_bytes version kind field size h = (is_byte version, (h, bytes-append (big_bytes 2 field) (big_bytes 4 size) (number 2 field) (number 4 size)))
 
-headed : (kind field size : ℕ) (more : List ℕ) → kind < 256 → Bytes more → Bytes ((1 ∷ kind ∷ big_bytes 2 field ++ big_bytes 4 size) ++ more)
-headed kind field size more h k = bytes-append (1 ∷ kind ∷ big_bytes 2 field ++ big_bytes 4 size) more (header_bytes kind field size h) k
+headed : (version : Version) (kind field size : ℕ) (more : List ℕ) → kind < 256 → Bytes more → Bytes ((version_number version ∷ kind ∷ big_bytes 2 field ++ big_bytes 4 size) ++ more)
+headed version kind field size more h k = bytes-append (version_number version ∷ kind ∷ big_bytes 2 field ++ big_bytes 4 size) more (header_bytes version kind field size h) k
 
 flag_low : (b : Bool) → (if b then 1 else 0) + 2 * 0 < 256
 flag_low true = omega arith
 flag_low false = omega arith
 
-prefix_bytes : (announce : Bool) (p : IpPrefix) (max_len asn : ℕ) → IsPayload (record { prefix = p; max_len = max_len; asn = asn }) → Bytes (sent V1 (Prefix announce (record { prefix = p; max_len = max_len; asn = asn })))
-prefix_bytes announce (V4 p) max_len asn h =
-    headed 4 0 20 (((if announce then 1 else 0) + 2 * 0) ∷ p.len ∷ max_len ∷ 0 ∷ big_bytes 4 p.addr ++ big_bytes 4 asn) (omega arith)
+prefix_bytes : (version : Version) (announce : Bool) (p : IpPrefix) (max_len asn : ℕ) → IsPayload (record { prefix = p; max_len = max_len; asn = asn }) → Bytes (sent version (Prefix announce (record { prefix = p; max_len = max_len; asn = asn })))
+prefix_bytes version announce (V4 p) max_len asn h =
+    headed version 4 0 20 (((if announce then 1 else 0) + 2 * 0) ∷ p.len ∷ max_len ∷ 0 ∷ big_bytes 4 p.addr ++ big_bytes 4 asn) (omega arith)
     (flag_low announce, (omega (arith, h.not_shorter, h.in_family), (omega (arith, h.in_family), (omega arith, bytes-append (big_bytes 4 p.addr) (big_bytes 4 asn) (number 4 p.addr) (number 4 asn)))))
-prefix_bytes announce (V6 p) max_len asn h =
-    headed 6 0 32 (((if announce then 1 else 0) + 2 * 0) ∷ p.len ∷ max_len ∷ 0 ∷ big_bytes 16 p.addr ++ big_bytes 4 asn) (omega arith)
+prefix_bytes version announce (V6 p) max_len asn h =
+    headed version 6 0 32 (((if announce then 1 else 0) + 2 * 0) ∷ p.len ∷ max_len ∷ 0 ∷ big_bytes 16 p.addr ++ big_bytes 4 asn) (omega arith)
     (flag_low announce, (omega (arith, h.not_shorter, h.in_family), (omega (arith, h.in_family), (omega arith, bytes-append (big_bytes 16 p.addr) (big_bytes 4 asn) (number 16 p.addr) (number 4 asn)))))
 
 -- an Error Report of these bytes
@@ -82,23 +87,29 @@ report_fit code copy low each = (low, short (length (take 4080 copy)) (length-ta
     short : (n : ℕ) → n ≡ min 4080 (length copy) → n + 0 ≤ 4080
     short n e = let m = min-le_left 4080 (length copy) in omega (arith, e, m)
 
-report_of : (code : ℕ) (u : Unit) → code < 2 ^ 16 → Bytes (sent V1 u) → AllByRecursion IsUnit (report code (sent V1 u) ∷ [])
-report_of code u low h = (report_fit code (sent V1 u) low (as_bytes (sent V1 u) h), tt)
+report_of : (version : Version) (code : ℕ) (u : Unit) → code < 2 ^ 16 → Bytes (sent version u) → AllByRecursion (IsUnitOf version) (report code (sent version u) ∷ [])
+report_of version code u low h = ((report_fit code (sent version u) low (as_bytes (sent version u) h), refl), tt)
 
-all_units : (us vs : List Unit) → AllByRecursion IsUnit us → AllByRecursion IsUnit vs → AllByRecursion IsUnit (us ++ vs)
-all_units [] vs h k = k
-all_units (u ∷ us) vs h k = (h.0, all_units us vs h.1 k)
+all_both : {X : Type 0} (P : X → Type 0) (us vs : List X) → AllByRecursion P us → AllByRecursion P vs → AllByRecursion P (us ++ vs)
+all_both P [] vs h k = k
+all_both P (u ∷ us) vs h k = (h.0, all_both P us vs h.1 k)
 
-serial_bytes : (kind session serial : ℕ) → kind < 256 → Bytes ((1 ∷ kind ∷ big_bytes 2 session ++ big_bytes 4 12) ++ big_bytes 4 serial)
-serial_bytes kind session serial h = headed kind session 12 (big_bytes 4 serial) h (number 4 serial)
+serial_bytes : (version : Version) (kind session serial : ℕ) → kind < 256 → Bytes ((version_number version ∷ kind ∷ big_bytes 2 session ++ big_bytes 4 12) ++ big_bytes 4 serial)
+serial_bytes version kind session serial h = headed version kind session 12 (big_bytes 4 serial) h (number 4 serial)
 
 -- records of a set
-records_fit : (announce : Bool) (vs : List Payload) → All IsPayload vs → AllByRecursion IsUnit (map (λ v. Prefix announce v) vs)
-records_fit announce [] h = tt
-records_fit announce (v ∷ vs) h = (All-head IsPayload v vs h, records_fit announce vs (All-tail IsPayload v vs h))
+records_fit : (version : Version) (announce : Bool) (vs : List Payload) → All IsPayload vs → AllByRecursion (IsUnitOf version) (map (λ v. Prefix announce v) vs)
+records_fit version announce [] h = tt
+records_fit version announce (v ∷ vs) h = ((All-head IsPayload v vs h, refl), records_fit version announce vs (All-tail IsPayload v vs h))
 
-response_fit : (session : ℕ) (now : NumberedSet) (records : List Unit) → session < 2 ^ 16 → now.serial < 2 ^ 32 → AllByRecursion IsUnit records → AllByRecursion IsUnit (response V1 session default_intervals now records)
-response_fit session now records low serial h = (low, all_units records _ h ((low, serial, omega arith, omega arith, omega arith), tt))
+end_fit : (version : Version) (session serial : ℕ) → session < 2 ^ 16 → serial < 2 ^ 32 → IsUnitOf version (end_of_data version session serial default_intervals)
+end_fit V0 session serial low small = ((low, small), refl)
+end_fit V1 session serial low small = ((low, small, omega arith, omega arith, omega arith), refl)
+
+response_fit : (version : Version) (session : ℕ) (now : NumberedSet) (records : List Unit) → session < 2 ^ 16 → now.serial < 2 ^ 32 → AllByRecursion (IsUnitOf version) records
+    → AllByRecursion (IsUnitOf version) (response version session default_intervals now records)
+response_fit version session now records low serial h =
+    ((low, refl), all_both (IsUnitOf version) records (end_of_data version session now.serial default_intervals ∷ []) h (end_fit version session now.serial low serial, tt))
 
 serial_low : (start position : ℕ) → serial_at start position < 2 ^ 32
 serial_low start position = omega arith
@@ -107,17 +118,17 @@ serial_low start position = omega arith
 abbrev AreVersions : List NumberedSet → Type 0
 AreVersions vs = AllByRecursion (λ (v : NumberedSet). (v.serial < 2 ^ 32) × IsVrpSet v.set) vs
 
-module _ (session : ℕ) (low : session < 2 ^ 16) where
-  whole_fit : (vs : List NumberedSet) → AreVersions vs → AllByRecursion IsUnit (whole_answer V1 session default_intervals vs)
-  whole_fit [] h = report_of 2 ResetQuery (omega arith) (header_bytes 2 0 8 (omega arith))
-  whole_fit (now ∷ older) h = response_fit session now (announcements now.set) low h.0.0 (records_fit true (listing now.set) h.0.1.payloads)
+module _ (version : Version) (session : ℕ) (low : session < 2 ^ 16) where
+  whole_fit : (vs : List NumberedSet) → AreVersions vs → AllByRecursion (IsUnitOf version) (whole_answer version session default_intervals vs)
+  whole_fit [] h = report_of version 2 ResetQuery (omega arith) (header_bytes version 2 0 8 (omega arith))
+  whole_fit (now ∷ older) h = response_fit version session now (announcements now.set) low h.0.0 (records_fit version true (listing now.set) h.0.1.payloads)
 
-  step_fit : (now : NumberedSet) (before : Option NumberedSet) → now.serial < 2 ^ 32 → IsVrpSet now.set → ((v : NumberedSet) → before ≡ Some v → IsVrpSet v.set) → AllByRecursion IsUnit (step_answer V1 session default_intervals now before)
-  step_fit now None serial fits older = (tt, tt)
+  step_fit : (now : NumberedSet) (before : Option NumberedSet) → now.serial < 2 ^ 32 → IsVrpSet now.set → ((v : NumberedSet) → before ≡ Some v → IsVrpSet v.set) → AllByRecursion (IsUnitOf version) (step_answer version session default_intervals now before)
+  step_fit now None serial fits older = ((tt, refl), tt)
   step_fit now (Some before) serial fits older =
-      response_fit session now (withdrawals (without before.set now.set) ++ announcements (without now.set before.set)) low serial
-      (all_units (withdrawals (without before.set now.set)) (announcements (without now.set before.set)) (records_fit false (listing (without before.set now.set)) (part_is_set before.set now.set (older before refl)).payloads)
-      (records_fit true (listing (without now.set before.set)) (part_is_set now.set before.set fits).payloads))
+      response_fit version session now (withdrawals (without before.set now.set) ++ announcements (without now.set before.set)) low serial
+      (all_both (IsUnitOf version) (withdrawals (without before.set now.set)) (announcements (without now.set before.set)) (records_fit version false (listing (without before.set now.set)) (part_is_set before.set now.set (older before refl)).payloads)
+      (records_fit version true (listing (without now.set before.set)) (part_is_set now.set before.set fits).payloads))
 
   found_fits : (serial : ℕ) (vs : List NumberedSet) → AreVersions vs → (v : NumberedSet) → with_serial serial vs ≡ Some v → IsVrpSet v.set
   found_fits serial [] h v e = absurd (let k : ◌≡◌ {A = Option NumberedSet} None (Some v) = e in cc)
@@ -132,8 +143,8 @@ module _ (session : ℕ) (low : session < 2 ^ 16) where
   taken_fits (suc n) [] h = tt
   taken_fits (suc n) (v ∷ vs) h = (h.0, taken_fits n vs h.1)
 
-  serial_fit : (keep serial : ℕ) (vs : List NumberedSet) → AreVersions vs → AllByRecursion IsUnit (serial_answer V1 session keep default_intervals serial vs)
-  serial_fit keep serial [] h = report_of 2 (SerialQuery session serial) (omega arith) (serial_bytes 1 session serial (omega arith))
+  serial_fit : (keep serial : ℕ) (vs : List NumberedSet) → AreVersions vs → AllByRecursion (IsUnitOf version) (serial_answer version session keep default_intervals serial vs)
+  serial_fit keep serial [] h = report_of version 2 (SerialQuery session serial) (omega arith) (serial_bytes version 1 session serial (omega arith))
   serial_fit keep serial (now ∷ older) h = step_fit now (with_serial serial (now ∷ take keep older)) h.0.0 h.0.1 (found_fits serial (now ∷ take keep older) (h.0, taken_fits keep older h.1))
 
 versions_fit : (start : ℕ) (sets : List VrpSet) → AllByRecursion IsVrpSet sets → AreVersions (versions_from start sets)
@@ -141,31 +152,38 @@ versions_fit start [] h = tt
 versions_fit start (set ∷ older) h = ((serial_low start (length older), h.0), versions_fit start older h.1)
 
 -- The answer to a unit that was read
-answer_fit : (i : Instance) (keep : ℕ) (u : Unit) → IsInstance i → IsUnit u → AllByRecursion IsUnit (answer V1 i keep default_intervals u).units
-answer_fit i keep ResetQuery is h = whole_fit i.session is.session (versions i) (versions_fit i.start i.sets is.sets)
-answer_fit i keep (SerialQuery session serial) is h = by_test (session == i.session)
+session_low : (version : Version) (i : Instance) → IsInstance i → session_in version i < 2 ^ 16
+session_low V0 i is = is.session0
+session_low V1 i is = is.session
+
+answer_fit : (version : Version) (i : Instance) (keep : ℕ) (u : Unit) → IsInstance i → IsUnit u → AllByRecursion (IsUnitOf version) (answer version i keep default_intervals u).units
+answer_fit version i keep ResetQuery is h = whole_fit version (session_in version i) (session_low version i is) (versions i) (versions_fit i.start i.sets is.sets)
+answer_fit version i keep (SerialQuery session serial) is h = by_test (session == session_in version i)
   where
-    by_test : (b : Bool) → AllByRecursion IsUnit (if b then and_on (serial_answer V1 i.session keep default_intervals serial (versions i)) else and_end (report 0 (sent V1 (SerialQuery session serial)) ∷ [])).units
-    by_test true = serial_fit i.session is.session keep serial (versions i) (versions_fit i.start i.sets is.sets)
-    by_test false = report_of 0 (SerialQuery session serial) (omega arith) (serial_bytes 1 session serial (omega arith))
-answer_fit i keep (ErrorReport r) is h = tt
-answer_fit i keep (SerialNotify session serial) is h = report_of 3 (SerialNotify session serial) (omega arith) (serial_bytes 0 session serial (omega arith))
-answer_fit i keep (CacheResponse session) is h = report_of 3 (CacheResponse session) (omega arith) (header_bytes 3 session 8 (omega arith))
-answer_fit i keep (Prefix announce v) is h = report_of 3 (Prefix announce v) (omega arith) (prefix_bytes announce v.prefix v.max_len v.asn h)
-answer_fit i keep (EndOfData session serial refresh retry expire) is h =
-    report_of 3 (EndOfData session serial refresh retry expire) (omega arith)
-    (headed 7 session 24 (big_bytes 4 serial ++ big_bytes 4 refresh ++ big_bytes 4 retry ++ big_bytes 4 expire) (omega arith)
+    by_test : (b : Bool) → AllByRecursion (IsUnitOf version) (if b then and_on (serial_answer version (session_in version i) keep default_intervals serial (versions i)) else and_end (report 0 (sent version (SerialQuery session serial)) ∷ [])).units
+    by_test true = serial_fit version (session_in version i) (session_low version i is) keep serial (versions i) (versions_fit i.start i.sets is.sets)
+    by_test false = report_of version 0 (SerialQuery session serial) (omega arith) (serial_bytes version 1 session serial (omega arith))
+answer_fit version i keep (ErrorReport r) is h = tt
+answer_fit version i keep (SerialNotify session serial) is h = report_of version 3 (SerialNotify session serial) (omega arith) (serial_bytes version 0 session serial (omega arith))
+answer_fit version i keep (CacheResponse session) is h = report_of version 3 (CacheResponse session) (omega arith) (header_bytes version 3 session 8 (omega arith))
+answer_fit version i keep (Prefix announce v) is h = report_of version 3 (Prefix announce v) (omega arith) (prefix_bytes version announce v.prefix v.max_len v.asn h)
+answer_fit version i keep (EndOfData session serial refresh retry expire) is h =
+    report_of version 3 (EndOfData session serial refresh retry expire) (omega arith)
+    (headed version 7 session (fixed_len version kinds.EndOfData) (big_bytes 4 serial ++ big_bytes 4 refresh ++ big_bytes 4 retry ++ big_bytes 4 expire) (omega arith)
     (bytes-append (big_bytes 4 serial) (big_bytes 4 refresh ++ big_bytes 4 retry ++ big_bytes 4 expire) (number 4 serial)
     (bytes-append (big_bytes 4 refresh) (big_bytes 4 retry ++ big_bytes 4 expire) (number 4 refresh) (bytes-append (big_bytes 4 retry) (big_bytes 4 expire) (number 4 retry) (number 4 expire)))))
-answer_fit i keep CacheReset is h = report_of 3 CacheReset (omega arith) (header_bytes 8 0 8 (omega arith))
-answer_fit i keep (RouterKey k) is h =
-    report_of 3 (RouterKey k) (omega arith)
-    (omega arith, (omega arith, (flag_low k.announce, (omega arith, bytes-append (big_bytes 4 (32 + length k.info)) (k.identifier ++ big_bytes 4 k.asn ++ k.info) (number 4 (32 + length k.info)) (bytes-append (k.identifier ++ big_bytes 4 k.asn) k.info (bytes-append k.identifier (big_bytes 4 k.asn) (from_bytes k.identifier h.3) (number 4 k.asn)) (from_bytes k.info h.4))))))
+answer_fit version i keep (EndOfData0 session serial) is h =
+    report_of version 3 (EndOfData0 session serial) (omega arith) (headed version 7 session (fixed_len version kinds.EndOfData) (big_bytes 4 serial) (omega arith) (number 4 serial))
+answer_fit version i keep CacheReset is h = report_of version 3 CacheReset (omega arith) (header_bytes version 8 0 8 (omega arith))
+answer_fit version i keep (RouterKey k) is h =
+    report_of version 3 (RouterKey k) (omega arith)
+    (is_byte version, (omega arith, (flag_low k.announce, (omega arith, bytes-append (big_bytes 4 (32 + length k.info)) (k.identifier ++ big_bytes 4 k.asn ++ k.info) (number 4 (32 + length k.info)) (bytes-append (k.identifier ++ big_bytes 4 k.asn) k.info (bytes-append k.identifier (big_bytes 4 k.asn) (from_bytes k.identifier h.3) (number 4 k.asn)) (from_bytes k.info h.4))))))
 
 -- The report on a fault
-code_low : (agreed : Bool) (fault : UnitFault) → fault_code agreed fault < 2 ^ 16
-code_low true faults.Version = omega arith
-code_low false faults.Version = omega arith
+code_low : (agreed : Option Version) (fault : UnitFault) → fault_code agreed fault < 2 ^ 16
+code_low (Some V1) faults.Version = omega arith
+code_low (Some V0) faults.Version = omega arith
+code_low None faults.Version = omega arith
 code_low agreed faults.«Type» = omega arith
 code_low agreed faults.Length = omega arith
 code_low agreed faults.TooLong = omega arith
@@ -173,50 +191,59 @@ code_low agreed faults.Record = omega arith
 code_low agreed faults.ErrorReport = omega arith
 code_low agreed faults.Truncated = omega arith
 
-maybe_fit : (b : Bool) (code : ℕ) (copy : List ℕ) → code < 2 ^ 16 → AreBytes copy → AllByRecursion IsUnit (if b then [] else report code copy ∷ [])
-maybe_fit true code copy low each = tt
-maybe_fit false code copy low each = (report_fit code copy low each, tt)
+maybe_fit : (version : Version) (b : Bool) (code : ℕ) (copy : List ℕ) → code < 2 ^ 16 → AreBytes copy → AllByRecursion (IsUnitOf version) (if b then [] else report code copy ∷ [])
+maybe_fit version true code copy low each = tt
+maybe_fit version false code copy low each = ((report_fit code copy low each, refl), tt)
 
-fault_fit : (agreed : Bool) (fault : UnitFault) (bytes : List ℕ) → AreBytes bytes → AllByRecursion IsUnit (fault_report agreed fault bytes)
-fault_fit agreed faults.Truncated bytes each = tt
-fault_fit agreed faults.Version bytes each = maybe_fit (type_of bytes == 10) _ bytes (code_low agreed faults.Version) each
-fault_fit agreed faults.«Type» bytes each = maybe_fit (type_of bytes == 10) _ bytes (code_low agreed faults.«Type») each
-fault_fit agreed faults.Length bytes each = maybe_fit (type_of bytes == 10) _ bytes (code_low agreed faults.Length) each
-fault_fit agreed faults.TooLong bytes each = maybe_fit (type_of bytes == 10) _ bytes (code_low agreed faults.TooLong) each
-fault_fit agreed faults.Record bytes each = maybe_fit (type_of bytes == 10) _ bytes (code_low agreed faults.Record) each
-fault_fit agreed faults.ErrorReport bytes each = maybe_fit (type_of bytes == 10) _ bytes (code_low agreed faults.ErrorReport) each
+fault_fit : (version : Version) (agreed : Option Version) (fault : UnitFault) (bytes : List ℕ) → AreBytes bytes → AllByRecursion (IsUnitOf version) (fault_report agreed fault bytes)
+fault_fit version agreed faults.Truncated bytes each = tt
+fault_fit version agreed faults.Version bytes each = maybe_fit version (type_of bytes == 10) _ bytes (code_low agreed faults.Version) each
+fault_fit version agreed faults.«Type» bytes each = maybe_fit version (type_of bytes == 10) _ bytes (code_low agreed faults.«Type») each
+fault_fit version agreed faults.Length bytes each = maybe_fit version (type_of bytes == 10) _ bytes (code_low agreed faults.Length) each
+fault_fit version agreed faults.TooLong bytes each = maybe_fit version (type_of bytes == 10) _ bytes (code_low agreed faults.TooLong) each
+fault_fit version agreed faults.Record bytes each = maybe_fit version (type_of bytes == 10) _ bytes (code_low agreed faults.Record) each
+fault_fit version agreed faults.ErrorReport bytes each = maybe_fit version (type_of bytes == 10) _ bytes (code_low agreed faults.ErrorReport) each
 
-notice_fit : (i : Instance) (sets : List VrpSet) → i.session < 2 ^ 16 → AllByRecursion IsUnit (notice i.session (versions_from i.start sets))
-notice_fit i [] low = tt
-notice_fit i (set ∷ older) low = ((low, serial_low i.start (length older)), tt)
+notice_fit : (version : Version) (session start : ℕ) (sets : List VrpSet) → session < 2 ^ 16 → AllByRecursion (IsUnitOf version) (notice session (versions_from start sets))
+notice_fit version session start [] low = tt
+notice_fit version session start (set ∷ older) low = (((low, serial_low start (length older)), refl), tt)
 
-reply_fit : (keep : ℕ) (c : Connection) (m : ConnMoment) → MayCome c m → AreBytes (bytes_of m) → AllByRecursion IsUnit (reply keep default_intervals c.agreed m).units
-reply_fit keep c (Read cache unit bytes) h each = answer_fit cache keep unit h.2 h.4.fits
-reply_fit keep c (Wanting cache unit bytes) h each = (report_fit 1 [] (omega arith) none_bytes, tt)
-reply_fit keep c (Fault fault bytes) h each = fault_fit c.agreed fault bytes each
-reply_fit keep c (Notify cache) h each = notice_fit cache cache.sets h.2.session
+reply_fit : (keep : ℕ) (c : Connection) (m : ConnMoment) → MayCome c m → AreBytes (bytes_of m) → AllByRecursion (IsUnitOf (sent_by m)) (reply keep default_intervals c.version m).units
+reply_fit keep c (Read version cache unit bytes) h each = answer_fit version cache keep unit h.2 h.4.1.fits
+reply_fit keep c (Wanting version cache unit bytes) h each = ((report_fit 1 [] (omega arith) none_bytes, refl), tt)
+reply_fit keep c (Fault version fault bytes) h each = fault_fit version c.version fault bytes each
+reply_fit keep c (Notify version cache) h each = notice_fit version (session_in version cache) cache.start cache.sets (session_low version cache h.2)
 reply_fit keep c (Pull count) h each = tt
 
 pub behind : (front rest : List ℕ) → AreBytes (front ++ rest) → AreBytes rest
 behind [] rest h = h
 behind (b ∷ front) rest h = behind front rest (λ k. h (suc k))
 
-pub agreed_on : (keep : ℕ) (c : Connection) (m : ConnMoment) → (conn_after keep default_intervals c m).agreed ≡ agreed_after c.agreed m
-agreed_on keep c (Read cache unit bytes) = refl
-agreed_on keep c (Wanting cache unit bytes) = refl
-agreed_on keep c (Fault fault bytes) = refl
-agreed_on keep c (Notify cache) = refl
-agreed_on keep c (Pull count) = refl
+pub version_on : (keep : ℕ) (c : Connection) (m : ConnMoment) → (conn_after keep default_intervals c m).version ≡ version_after c.version m
+version_on keep c (Read version cache unit bytes) = refl
+version_on keep c (Wanting version cache unit bytes) = refl
+version_on keep c (Fault version fault bytes) = refl
+version_on keep c (Notify version cache) = refl
+version_on keep c (Pull count) = refl
 
-going_fit : (b : Bool) (us : List Unit) → AllByRecursion IsUnit us → AllByRecursion IsUnit (if b then us else [])
+-- what can be sent in its version
+abbrev pub CanBeSent : Sent → Type 0
+CanBeSent s = IsUnitOf s.version s.unit
+
+each_of : (version : Version) (us : List Unit) → AllByRecursion (IsUnitOf version) us → AllByRecursion CanBeSent (in_version version us)
+each_of version [] h = tt
+each_of version (u ∷ us) h = (h.0, each_of version us h.1)
+
+going_fit : (b : Bool) (us : List Sent) → AllByRecursion CanBeSent us → AllByRecursion CanBeSent (if b then us else [])
 going_fit true us h = h
 going_fit false us h = tt
 
 -- The replies of a history are units that can be sent.
-pub replies_fit : (keep : ℕ) (c : Connection) (moments : List ConnMoment) (bytes : List ℕ) → IsHistory keep default_intervals c moments bytes → AreBytes bytes → AllByRecursion IsUnit (replies_from keep default_intervals c.agreed moments)
+pub replies_fit : (keep : ℕ) (c : Connection) (moments : List ConnMoment) (bytes : List ℕ) → IsHistory keep default_intervals c moments bytes → AreBytes bytes → AllByRecursion CanBeSent (replies_from keep default_intervals c.version moments)
 replies_fit keep c [] bytes h each = tt
 replies_fit keep c (m ∷ later) bytes h each =
     let all : AreBytes (bytes_of m ++ h.1.0) = subst AreBytes h.1.1 each in
-    let more : AllByRecursion IsUnit (replies_from keep default_intervals (agreed_after c.agreed m) later) =
-    subst (λ b. AllByRecursion IsUnit (replies_from keep default_intervals b later)) (agreed_on keep c m) (replies_fit keep (conn_after keep default_intervals c m) later h.1.0 h.1.2 (behind (bytes_of m) h.1.0 all)) in
-    all_units (reply keep default_intervals c.agreed m).units _ (reply_fit keep c m h.0 (bytes_front (bytes_of m ++ h.1.0) (bytes_of m) h.1.0 refl all)) (going_fit (reply keep default_intervals c.agreed m).goes_on _ more)
+    let more : AllByRecursion CanBeSent (replies_from keep default_intervals (version_after c.version m) later) =
+    subst (λ b. AllByRecursion CanBeSent (replies_from keep default_intervals b later)) (version_on keep c m) (replies_fit keep (conn_after keep default_intervals c m) later h.1.0 h.1.2 (behind (bytes_of m) h.1.0 all)) in
+    all_both CanBeSent (in_version (sent_by m) (reply keep default_intervals c.version m).units) _ (each_of (sent_by m) (reply keep default_intervals c.version m).units (reply_fit keep c m h.0 (bytes_front (bytes_of m ++ h.1.0) (bytes_of m) h.1.0 refl all)))
+    (going_fit (reply keep default_intervals c.version m).goes_on _ more)

@@ -64,11 +64,12 @@ by_wanting : {P Q : ℕ → Type 0} (w : Option ℕ) → ((n : ℕ) → P n → 
 by_wanting None f h = h
 by_wanting (Some n) f h = f n h
 
-module _ {S : Type 0} (holds : ℕ → Instance → S → Type 0) (m : CacheState) (old new : Cache S) (c : ℕ) (shows : ShowsCache holds m old) (low : c < length old.peers.items) (same_timing : new.timing ≡ old.timing) (same_store : new.store ≡ old.store) where
+module _ {S : Type 0} (holds : ℕ → Instance → S → Type 0) (m : CacheState) (old new : Cache S) (c : ℕ) (shows : ShowsCache holds m old) (low : c < length old.peers.items) (same_timing : new.timing ≡ old.timing) (same_session0 : new.session0 ≡ old.session0) (same_store : new.store ≡ old.store) where
   -- one connection is another now
   pub sets : (o : Option Conn) (x : Option (Box Peer Global)) → new.peers.items ≡ slice_set old.peers.items c x → ShowsSlot m.timing m.cache o (unboxed x) → ShowsCache holds (with_conn c o m) new
   sets o x items slot = record {
     timing = same_timing ∙ shows.timing;
+    session0 = same_session0 ∙ shows.session0;
     store = subst (λ s. holds m.keep m.cache s) (sym same_store) shows.store;
     slots = λ d. subst (λ peers. ShowsSlot m.timing m.cache ((with_conn c o m).at d) (peer_at peers d)) (sym items) (slots_set holds m.timing m.cache m.at old.peers.items c o x low shows.slots slot d);
   }
@@ -144,10 +145,11 @@ push_other [] x (suc d) h = refl
 push_other (y ∷ xs) x zero h = refl
 push_other (y ∷ xs) x (suc d) h = push_other xs x d (λ e. h (omega (arith, e)))
 
-pub pushes : {S : Type 0} (holds : ℕ → Instance → S → Type 0) (m : CacheState) (old new : Cache S) (c : ℕ) (o : Conn) (b : Box Peer Global) → ShowsCache holds m old → c ≡ length old.peers.items → new.timing ≡ old.timing → new.store ≡ old.store
+pub pushes : {S : Type 0} (holds : ℕ → Instance → S → Type 0) (m : CacheState) (old new : Cache S) (c : ℕ) (o : Conn) (b : Box Peer Global) → ShowsCache holds m old → c ≡ length old.peers.items → new.timing ≡ old.timing → new.session0 ≡ old.session0 → new.store ≡ old.store
     → new.peers.items ≡ old.peers.items ++ Some b ∷ [] → ShowsPeer m.timing m.cache o b.value → ShowsCache holds (with_conn c (Some o) m) new
-pushes holds m old new c o b shows end same_timing same_store items slot = record {
+pushes holds m old new c o b shows end same_timing same_session0 same_store items slot = record {
   timing = same_timing ∙ shows.timing;
+  session0 = same_session0 ∙ shows.session0;
   store = subst (λ s. holds m.keep m.cache s) (sym same_store) shows.store;
   slots = λ d. subst (λ peers. ShowsSlot m.timing m.cache ((with_conn c (Some o) m).at d) (peer_at peers d)) (sym items) (at d);
 }
@@ -169,13 +171,13 @@ pushes holds m old new c o b shows end same_timing same_store items slot = recor
 
 -- One connection has a share of a newer version.
 pub offers_at : (old : List (Option (Box Peer Global))) (c : ℕ) (share : Share) (p : Peer) (b : Box Peer Global) → c < length old → peer_at old c ≡ Some p
-    → ((t : Intervals) (i j : Instance) (o : Conn) → i.session ≡ j.session → Some (numbered_of share) ≡ newest (versions j) → ShowsPeer t i o p → ShowsPeer t j o b.value) → OffersAt old c share (slice_set old c (Some b))
+    → ((t : Intervals) (i j : Instance) (o : Conn) → i.session ≡ j.session → i.session0 ≡ j.session0 → Some (numbered_of share) ≡ newest (versions j) → ShowsPeer t i o p → ShowsPeer t j o b.value) → OffersAt old c share (slice_set old c (Some b))
 offers_at old c share p b low at offers = record {
   len = length-set old c (Some b);
-  here = λ t i j a same is shows.
+  here = λ t i j a same same0 is shows.
       let f = found t i a (peer_at old c) p at shows in
       let now : peer_at (slice_set old c (Some b)) c ≡ Some b.value = ap (λ s. unboxed (joined s)) (set_same old c (Some b) low) in
-      subst (λ q. ShowsSlot t j a q) (sym now) (subst (λ x. ShowsSlot t j x (Some b.value)) (sym f.is) (offers t i j f.conn same is f.shows));
+      subst (λ q. ShowsSlot t j a q) (sym now) (subst (λ x. ShowsSlot t j x (Some b.value)) (sym f.is) (offers t i j f.conn same same0 is f.shows));
   others = λ d h. ap (λ s. unboxed (joined s)) (set_other old c d (Some b) h);
 }
 
@@ -186,7 +188,7 @@ last_set f set (y ∷ xs) x h = let more = last_set f set xs x h.1 in ((h.0, mor
 
 -- nothing brings nothing
 brings_none : (v : NumberedSet) (old new : Option Peer) → old ≡ None → new ≡ None → Brings v old new
-brings_none v old new e f t i j a same is shows =
+brings_none v old new e f t i j a same same0 is shows =
     subst (λ q. ShowsSlot t j a q) (sym f) (subst (λ x. ShowsSlot t j x None) (sym (none_shown t i a old e shows)) tt)
 
 past_none : {A : Type 0} (peers : List (Option (Box Peer A))) (c : ℕ) → length peers ≤ c → peer_at peers c ≡ None
@@ -234,15 +236,16 @@ module _ {X : Type 0} (f : X → VrpSet) (serial : ℕ) (start : List (Option (B
   ]
 
 -- a set that is published
-pub publishes : {S : Type 0} (holds : ℕ → Instance → S → Type 0) (m : CacheState) (old new : Cache S) (set : VrpSet) (serial : ℕ) → ShowsCache holds m old → new.timing ≡ old.timing → holds m.keep (published set m.cache) new.store
+pub publishes : {S : Type 0} (holds : ℕ → Instance → S → Type 0) (m : CacheState) (old new : Cache S) (set : VrpSet) (serial : ℕ) → ShowsCache holds m old → new.timing ≡ old.timing → new.session0 ≡ old.session0 → holds m.keep (published set m.cache) new.store
     → is_current m.cache.sets set ≡ false → serial ≡ serial_at m.cache.start (length m.cache.sets) → ((c : ℕ) → Brings (record { serial = serial; set = set }) (peer_at old.peers.items c) (peer_at new.peers.items c))
     → ShowsCache holds (record m { cache = published set m.cache }) new
-publishes holds m old new set serial shows timing store other serial_is brings =
+publishes holds m old new set serial shows timing session0 store other serial_is brings =
     let is : published set m.cache ≡ record m.cache { sets = set ∷ m.cache.sets } = ap (λ b. if b then m.cache else record m.cache { sets = set ∷ m.cache.sets }) other in
     record {
       timing = timing ∙ shows.timing;
+      session0 = session0 ∙ shows.session0 ∙ ap (λ (i : Instance). i.session0) (sym is);
       store = store;
-      slots = λ c. brings c m.timing m.cache (published set m.cache) (m.at c) (ap (λ (i : Instance). i.session) (sym is))
+      slots = λ c. brings c m.timing m.cache (published set m.cache) (m.at c) (ap (λ (i : Instance). i.session) (sym is)) (ap (λ (i : Instance). i.session0) (sym is))
           (ap (λ n. Some (record { serial = n; set = set })) serial_is ∙ ap (λ i. newest (versions i)) (sym is)) (shows.slots c);
     }
 

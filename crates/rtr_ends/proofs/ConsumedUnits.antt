@@ -10,13 +10,14 @@ use Rattle.rtr_pdu.specs.Payloads.{AreBytes}
 use Rattle.rtr_pdu.specs.Stream.{AreRead, IsPartial, Shows, Splits, any_after, as_read, is_notify}
 use Rattle.rtr_pdu.specs.Unit as units
 use Rattle.rtr_pdu.specs.declared.unit.Unit.{Unit}
-use Rattle.rtr_pdu.specs.declared.unit.Unit.TheVariants.{SerialNotify, SerialQuery, ResetQuery, CacheResponse, Prefix, EndOfData, CacheReset, RouterKey, ErrorReport}
+use Rattle.rtr_pdu.specs.declared.unit.Unit.TheVariants.{SerialNotify, SerialQuery, ResetQuery, CacheResponse, Prefix, EndOfData, EndOfData0, CacheReset, RouterKey, ErrorReport}
 use Rattle.rtr_pdu.specs.declared.unit.UnitFault.{UnitFault}
 use Rattle.rtr_pdu.proofs.JudgingLaws.{judge_case, whole_exactly}
 use Rattle.rtr_pdu.proofs.JudgingLaws as judging
 use Rattle.rtr_pdu.proofs.NextLaws.{next_size}
 use Rattle.rtr_pdu.proofs.ReaderLaws.{partial_empty}
 use Rattle.rtr_pdu.proofs.RunLaws.{AreRead-push, any_after-push}
+use Rattle.rtr_ends.specs.Timing.{default_intervals}
 use Rattle.rtr_ends.specs.Consumed.{units_read_in, fault_in}
 use Rattle.rtr_ends.specs.LinkRules.{Router, Staged, Stays, Wrong, Over, ask, commit, emptied, fails, is_news, is_strange, may_lack, on_unit, stage, staged, ended_by, told_off}
 use Rattle.rtr_ends.specs.Router.{Noted, asked_by, lacks, reads, with_bytes}
@@ -96,6 +97,7 @@ agreed_more ResetQuery items = and-false (not (has_agreed items))
 agreed_more (CacheResponse session) items = and-false (not (has_agreed items))
 agreed_more (Prefix announce v) items = and-false (not (has_agreed items))
 agreed_more (EndOfData session serial refresh retry expire) items = and-false (not (has_agreed items))
+agreed_more (EndOfData0 session serial) items = and-false (not (has_agreed items))
 agreed_more CacheReset items = and-false (not (has_agreed items))
 agreed_more (RouterKey key) items = and-false (not (has_agreed items))
 agreed_more (ErrorReport e) items = and-false (not (has_agreed items))
@@ -127,6 +129,7 @@ unit_held Idle ResetQuery r = refl
 unit_held Idle (CacheResponse session) r = refl
 unit_held Idle (Prefix announce v) r = refl
 unit_held Idle (EndOfData session serial refresh retry expire) r = refl
+unit_held Idle (EndOfData0 session serial) r = refl
 unit_held Idle CacheReset r = refl
 unit_held Idle (RouterKey key) r = refl
 unit_held (Asked q) (SerialNotify session serial) r = if_held (is_strange r session) r (fails (SerialNotify session serial) r) r refl refl
@@ -140,12 +143,15 @@ unit_held (Asked q) (SerialQuery session serial) r = refl
 unit_held (Asked q) ResetQuery r = refl
 unit_held (Asked q) (Prefix announce v) r = refl
 unit_held (Asked q) (EndOfData session serial refresh retry expire) r = refl
+unit_held (Asked q) (EndOfData0 session serial) r = refl
 unit_held (Asked q) (RouterKey key) r = refl
 unit_held (Answering a) (SerialNotify session serial) r = if_held (is_strange r session) r (fails (SerialNotify session serial) r) r refl refl
 unit_held (Answering a) (Prefix announce v) r = staged_held (Prefix announce v) (stage (base_of a.question r.table) a announce v) r
 unit_held (Answering a) (RouterKey key) r = refl
 unit_held (Answering a) (EndOfData session serial refresh retry expire) r =
     if_held (session == a.session) r (commit a (record { session = session; serial = serial; moment = r.now; intervals = bounded refresh retry expire }) r) (fails (EndOfData session serial refresh retry expire) r) refl refl
+unit_held (Answering a) (EndOfData0 session serial) r =
+    if_held (session == a.session) r (commit a (record { session = session; serial = serial; moment = r.now; intervals = default_intervals }) r) (fails (EndOfData0 session serial) r) refl refl
 unit_held (Answering a) (ErrorReport e) r = told_held a.question e.code r
 unit_held (Answering a) (CacheResponse session) r = refl
 unit_held (Answering a) (SerialQuery session serial) r = refl

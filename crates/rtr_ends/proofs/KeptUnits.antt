@@ -9,7 +9,7 @@ use Rattle.vrps.specs.VrpSet.{VrpSet, has, size}
 use Rattle.rtr_pdu.specs.Judging.{Judgement, Begins, Whole, Faulty}
 use Rattle.rtr_pdu.specs.Payloads.{Report}
 use Rattle.rtr_pdu.specs.declared.unit.Unit.{Unit}
-use Rattle.rtr_pdu.specs.declared.unit.Unit.TheVariants.{SerialNotify, SerialQuery, ResetQuery, CacheResponse, Prefix, EndOfData, CacheReset, RouterKey, ErrorReport}
+use Rattle.rtr_pdu.specs.declared.unit.Unit.TheVariants.{SerialNotify, SerialQuery, ResetQuery, CacheResponse, Prefix, EndOfData, EndOfData0, CacheReset, RouterKey, ErrorReport}
 use Rattle.rtr_ends.specs.declared.link.End.{End}
 use Rattle.rtr_ends.specs.declared.link.End.TheVariants as ends
 use Rattle.rtr_pdu.specs.declared.version.Version.TheVariants.{V1}
@@ -18,6 +18,7 @@ use Rattle.rtr_ends.specs.LinkRules.{Router, Staged, Stays, Wrong, Over, asking,
 use Rattle.rtr_ends.specs.Router.{Noted, asked_by, reads, lacks, with_bytes}
 use Rattle.rtr_ends.specs.RouterLaws.{LinkTells}
 use Rattle.rtr_ends.specs.RouterLink.{Link, Closed, Idle, Asked, Answering, Ended, is_reading}
+use Rattle.rtr_ends.specs.Timing.{Intervals, default_intervals}
 use Rattle.rtr_ends.specs.Transcript.{choose, Question, AskReset, AskSerial, query, Item, Asks, Reads, Begun, begun, with_record, waiting, under_way, outstanding, question_of, has_agreed, responded, is_connected, moment, is_among, may_withdraw, may_announce, acts_once, led_to, Committed, Kept, nothing, bounded, base_of, session_of, differs, is_serial, is_wrong, does_commit, emptied_if, at_end_of_data, kept, sum_of, retry_of, refreshed, due}
 
 abbrev pub holds : Router → Kept
@@ -169,12 +170,14 @@ ends_0 : (r : Router) (u : Unit) (items : List Item) → is_connected items ≡ 
 ends_0 r u items c n k d = ended_after (reports 0 u r) u items (ends.Reported 0) refl c (record { kept_is = k; due_is = d; now_is = n })
 
 -- an End of Data where no answer is under way
-end_nothing : (r : Router) (items : List Item) (session serial refresh retry expire : ℕ) → is_connected items ≡ true → Before r items → under_way items ≡ None → After (reports 0 (EndOfData session serial refresh retry expire) r) (EndOfData session serial refresh retry expire) items
-end_nothing r items session serial refresh retry expire c h none =
-    let version : Committed = record { session = session; serial = serial; moment = moment items; intervals = bounded refresh retry expire } in
-    ends_0 r (EndOfData session serial refresh retry expire) items c h.now_is
-    (ap (λ o. at_end_of_data o version (kept items)) none ∙ h.kept_is)
-    (ap (λ o. if does_commit o session (kept items).table then refreshed (kept (Reads (EndOfData session serial refresh retry expire) ∷ items)).version else due items) none ∙ h.due_is)
+end_nothing : (r : Router) (items : List Item) (u : Unit) (session serial : ℕ) (t : Intervals) → is_connected items ≡ true → Before r items → under_way items ≡ None
+    → kept (Reads u ∷ items) ≡ at_end_of_data (under_way items) (record { session = session; serial = serial; moment = moment items; intervals = t }) (kept items)
+    → due (Reads u ∷ items) ≡ (if does_commit (under_way items) session (kept items).table then refreshed (kept (Reads u ∷ items)).version else due items)
+    → After (reports 0 u r) u items
+end_nothing r items u session serial t c h none k d =
+    ends_0 r u items c h.now_is
+    (k ∙ ap (λ o. at_end_of_data o (record { session = session; serial = serial; moment = moment items; intervals = t }) (kept items)) none ∙ h.kept_is)
+    (d ∙ ap (λ o. if does_commit o session (kept items).table then refreshed (kept (Reads u ∷ items)).version else due items) none ∙ h.due_is)
 
 -- the link is idle
 idle_unit : (r : Router) (u : Unit) (items : List Item) → r.link ≡ Idle → Before r items → LinkTells Idle r.agreed r.session r.table items → After (on_unit Idle u r) u items
@@ -183,7 +186,9 @@ idle_unit r (SerialNotify session serial) items is h l =
     idle_notified r items session serial (is_strange r session) (is_news r.version serial) is h (notify_leaves r items session serial (is_strange r session) h l.3 l.4 refl) l
 idle_unit r (ErrorReport e) items is h l = idle_report r e items (e.code == 2) refl is h l
 idle_unit r (CacheResponse session) items is h l = ends_0 r (CacheResponse session) items l.0 h.now_is (ap (λ o. emptied_if (is_wrong o (kept items).version session) (kept items)) l.1 ∙ h.kept_is) h.due_is
-idle_unit r (EndOfData session serial refresh retry expire) items is h l = end_nothing r items session serial refresh retry expire l.0 h l.2
+idle_unit r (EndOfData session serial refresh retry expire) items is h l =
+    end_nothing r items (EndOfData session serial refresh retry expire) session serial (bounded refresh retry expire) l.0 h l.2 refl refl
+idle_unit r (EndOfData0 session serial) items is h l = end_nothing r items (EndOfData0 session serial) session serial default_intervals l.0 h l.2 refl refl
 idle_unit r (SerialQuery session serial) items is h l = ends_0 r (SerialQuery session serial) items l.0 h.now_is h.kept_is h.due_is
 idle_unit r ResetQuery items is h l = ends_0 r ResetQuery items l.0 h.now_is h.kept_is h.due_is
 idle_unit r (Prefix announce v) items is h l = ends_0 r (Prefix announce v) items l.0 h.now_is h.kept_is h.due_is
@@ -213,7 +218,9 @@ asked_unit r AskReset CacheReset items is h l = ends_0 r CacheReset items l.0 h.
 asked_unit r q (ErrorReport e) items is h l =
     told_unit (record r { agreed = true }) q e items refl l.0 (record { kept_is = h.kept_is; due_is = h.due_is; now_is = h.now_is; none = h.none })
     (λ i. question_of (l.2 i) (l.1 i)) l.4
-asked_unit r q (EndOfData session serial refresh retry expire) items is h l = end_nothing r items session serial refresh retry expire l.0 h l.2
+asked_unit r q (EndOfData session serial refresh retry expire) items is h l =
+    end_nothing r items (EndOfData session serial refresh retry expire) session serial (bounded refresh retry expire) l.0 h l.2 refl refl
+asked_unit r q (EndOfData0 session serial) items is h l = end_nothing r items (EndOfData0 session serial) session serial default_intervals l.0 h l.2 refl refl
 asked_unit r q (SerialQuery session serial) items is h l = ends_0 r (SerialQuery session serial) items l.0 h.now_is h.kept_is h.due_is
 asked_unit r q ResetQuery items is h l = ends_0 r ResetQuery items l.0 h.now_is h.kept_is h.due_is
 asked_unit r q (Prefix announce v) items is h l = ends_0 r (Prefix announce v) items l.0 h.now_is h.kept_is h.due_is
@@ -258,6 +265,39 @@ record_staged r a announce v items h l b m =
     stays_after (record r { link = Answering b }) (Prefix announce v) items (Answering b) refl h.none (record { kept_is = h.kept_is; due_is = h.due_is; now_is = h.now_is })
     (l.0, refl, ap (λ o. with_record announce v o) l.2 ∙ m.0, sym l.5, l.4, l.5, ap (λ q. acts_once (base_of q r.table) b.withdrawn b.announced) m.1 ∙ m.2)
 
+-- an End of Data in an answer
+end_unit : (r : Router) (a : Begun) (u : Unit) (session serial : ℕ) (t : Intervals) (items : List Item) → Before r items → LinkTells (Answering a) r.agreed r.session r.table items
+    → kept (Reads u ∷ items) ≡ at_end_of_data (under_way items) (record { session = session; serial = serial; moment = moment items; intervals = t }) (kept items)
+    → due (Reads u ∷ items) ≡ (if does_commit (under_way items) session (kept items).table then refreshed (kept (Reads u ∷ items)).version else due items)
+    → LinkTells Idle r.agreed r.session r.table (Reads u ∷ items)
+    → After (if session == a.session then commit a (record { session = session; serial = serial; moment = r.now; intervals = t }) r else fails u r) u items
+end_unit r a u session serial t items h l k d told = ending (session == a.session) refl
+  where
+    version : ℕ → Committed
+    version now = record { session = session; serial = serial; moment = now; intervals = t }
+
+    committed : Kept
+    committed = record { version = Some (version r.now); table = led_to (base_of a.question r.table) a.withdrawn a.announced }
+
+    -- what is kept, and when it asks again, by the tests of session and records
+    ended_as : Bool → Bool → Kept
+    ended_as same once = if same then (if once then committed else holds r) else nothing
+
+    kept_by : kept (Reads u ∷ items) ≡ ended_as (session == a.session) (acts_once (base_of a.question r.table) a.withdrawn a.announced)
+    kept_by = k ∙ (λ i. at_end_of_data (l.2 i) (version (h.now_is i)) (h.kept_is i))
+
+    due_by : due (Reads u ∷ items) ≡ (if (session == a.session) && acts_once (base_of a.question r.table) a.withdrawn a.announced then refreshed (ended_as (session == a.session) (acts_once (base_of a.question r.table) a.withdrawn a.announced)).version else r.due)
+    due_by = d ∙ (λ i. if does_commit (l.2 i) session (h.kept_is i).table then refreshed (kept_by i).version else h.due_is i)
+
+    ending : (b : Bool) → (session == a.session) ≡ b → After (if b then commit a (version r.now) r else fails u r) u items
+    ending true same =
+        stays_after (commit a (version r.now) r) u items Idle refl h.none
+        (record { kept_is = kept_by ∙ (λ i. ended_as (same i) (l.6 i)); due_is = due_by ∙ (λ i. if same i && l.6 i then refreshed (ended_as (same i) (l.6 i)).version else r.due); now_is = h.now_is })
+        told
+    ending false same =
+        ended_after (fails u r) u items (ends.Reported 0) refl l.0
+        (record { kept_is = kept_by ∙ (λ i. ended_as (same i) (l.6 i)); due_is = due_by ∙ (λ i. if same i && l.6 i then refreshed (ended_as (same i) (l.6 i)).version else r.due); now_is = h.now_is })
+
 -- an answer is under way
 answering_unit : (r : Router) (a : Begun) (u : Unit) (items : List Item) → r.link ≡ Answering a → Before r items → LinkTells (Answering a) r.agreed r.session r.table items → After (on_unit (Answering a) u r) u items
 unfolding on_unit
@@ -275,35 +315,10 @@ answering_unit r a (Prefix true v) items is h l =
     (ended_after (record r { link = Ended ends.TooMany }) (Prefix true v) items ends.TooMany refl l.0 (record { kept_is = h.kept_is; due_is = h.due_is; now_is = h.now_is }))
 answering_unit r a (RouterKey key) items is h l =
     stays_after r (RouterKey key) items (Answering a) is h.none (record { kept_is = h.kept_is; due_is = h.due_is; now_is = h.now_is }) (l.0, refl, l.2, sym l.5, l.4, l.5, l.6)
-answering_unit r a (EndOfData session serial refresh retry expire) items is h l = ending (session == a.session) refl
-  where
-    u : Unit
-    u = EndOfData session serial refresh retry expire
-
-    version : ℕ → Committed
-    version now = record { session = session; serial = serial; moment = now; intervals = bounded refresh retry expire }
-
-    committed : Kept
-    committed = record { version = Some (version r.now); table = led_to (base_of a.question r.table) a.withdrawn a.announced }
-
-    -- what is kept, and when it asks again, by the tests of session and records
-    ended_as : Bool → Bool → Kept
-    ended_as same once = if same then (if once then committed else holds r) else nothing
-
-    kept_by : kept (Reads u ∷ items) ≡ ended_as (session == a.session) (acts_once (base_of a.question r.table) a.withdrawn a.announced)
-    kept_by = λ i. at_end_of_data (l.2 i) (version (h.now_is i)) (h.kept_is i)
-
-    due_by : due (Reads u ∷ items) ≡ (if (session == a.session) && acts_once (base_of a.question r.table) a.withdrawn a.announced then refreshed (ended_as (session == a.session) (acts_once (base_of a.question r.table) a.withdrawn a.announced)).version else r.due)
-    due_by = λ i. if does_commit (l.2 i) session (h.kept_is i).table then refreshed (kept_by i).version else h.due_is i
-
-    ending : (b : Bool) → (session == a.session) ≡ b → After (if b then commit a (version r.now) r else fails u r) u items
-    ending true same =
-        stays_after (commit a (version r.now) r) u items Idle refl h.none
-        (record { kept_is = kept_by ∙ (λ i. ended_as (same i) (l.6 i)); due_is = due_by ∙ (λ i. if same i && l.6 i then refreshed (ended_as (same i) (l.6 i)).version else r.due); now_is = h.now_is })
-        (l.0, refl, refl, sym l.5, l.4, l.5)
-    ending false same =
-        ended_after (fails u r) u items (ends.Reported 0) refl l.0
-        (record { kept_is = kept_by ∙ (λ i. ended_as (same i) (l.6 i)); due_is = due_by ∙ (λ i. if same i && l.6 i then refreshed (ended_as (same i) (l.6 i)).version else r.due); now_is = h.now_is })
+answering_unit r a (EndOfData session serial refresh retry expire) items is h l =
+    end_unit r a (EndOfData session serial refresh retry expire) session serial (bounded refresh retry expire) items h l refl refl (l.0, refl, refl, sym l.5, l.4, l.5)
+answering_unit r a (EndOfData0 session serial) items is h l =
+    end_unit r a (EndOfData0 session serial) session serial default_intervals items h l refl refl (l.0, refl, refl, sym l.5, l.4, l.5)
 answering_unit r a (ErrorReport e) items is h l = told_unit r a.question e items l.5 l.0 h (λ i. question_of (l.2 i) (l.1 i)) l.4
 answering_unit r a (CacheResponse session) items is h l = ends_0 r (CacheResponse session) items l.0 h.now_is (ap (λ o. emptied_if (is_wrong o (kept items).version session) (kept items)) l.1 ∙ h.kept_is) h.due_is
 answering_unit r a (SerialQuery session serial) items is h l = ends_0 r (SerialQuery session serial) items l.0 h.now_is h.kept_is h.due_is

@@ -1,5 +1,5 @@
 -- What a machine does at a unit, cell by cell of the protocol's table.
-use Rattle.std.specs.Prelude.{◌≡◌, ◌==◌, ◌+◌, ◌<◌, ◌≤◌, nat_lt, min, max, ℕ, Bool, true, false, List, [], Some, None, Result, Ok, Err, if◌then◌else◌, refl}
+use Rattle.std.specs.Prelude.{⊤, ◌≡◌, ◌==◌, ◌+◌, ◌<◌, ◌≤◌, nat_lt, min, max, ℕ, Bool, true, false, List, [], Some, None, Result, Ok, Err, if◌then◌else◌, refl}
 use Rattle.std.proofs.Common.{sym, ap, ◌∙◌, subst, arith}
 use Rattle.std.proofs.lemmas.Bool.Decides.{nat_tests}
 use Rattle.prefixes.specs.Payload.{Payload}
@@ -8,7 +8,7 @@ use Rattle.vrps.specs.declared.set.SetFault.{SetFault}
 use Rattle.vrps.specs.declared.set.SetFault.TheVariants.{TooMany, Memory}
 use Rattle.rtr_pdu.specs.Payloads.{Key, Report}
 use Rattle.rtr_pdu.specs.declared.unit.Unit.{Unit}
-use Rattle.rtr_pdu.specs.declared.unit.Unit.TheVariants.{SerialNotify, SerialQuery, ResetQuery, CacheResponse, Prefix, EndOfData, CacheReset, RouterKey, ErrorReport}
+use Rattle.rtr_pdu.specs.declared.unit.Unit.TheVariants.{SerialNotify, SerialQuery, ResetQuery, CacheResponse, Prefix, EndOfData, EndOfData0, CacheReset, RouterKey, ErrorReport}
 use Rattle.rtr_ends.specs.declared.link.End.{End}
 use Rattle.rtr_ends.specs.declared.link.End.TheVariants as ends
 use Rattle.rtr_pdu.specs.declared.version.Version.TheVariants.{V1}
@@ -16,7 +16,8 @@ use Rattle.rtr_ends.specs.Answer.{report, sent}
 use Rattle.rtr_ends.specs.LinkRules as rules
 use Rattle.rtr_ends.specs.LinkRules.{Router, ask, asking, commit, fails, is_news, is_staged, is_strange, may_lack, on_unit, reports, stage, staged, ended_by, told_off}
 use Rattle.rtr_ends.specs.Router.{asks, asks_if, clocked, close, closed_at, connects_at, expired, judged_by_clock, ticks_at}
-use Rattle.rtr_ends.specs.RouterLink.{Idle, Asked, Answering, Ended, is_due, is_idle}
+use Rattle.rtr_ends.specs.RouterLink.{Link, Idle, Asked, Answering, Ended, is_due, is_idle}
+use Rattle.rtr_ends.specs.Timing.{default_intervals}
 use Rattle.rtr_ends.specs.Transcript.{Question, AskReset, AskSerial, Begun, base_of, bounded, is_over, is_wrong, later, query, sum_of, within}
 use Rattle.rtr_ends.specs.Seen.{Does, EndsLink, IsStaged, UnitIsRead, ShowsRouter, Stages, begun_with, seen, seen_link, seen_question, seen_version, seen_versions}
 use Rattle.rtr_ends.specs.Staging.{StagesRecord, GoesTo, LeadsToSet}
@@ -114,6 +115,7 @@ idle_rejects ResetQuery h r = refl
 idle_rejects (CacheResponse session) h r = refl
 idle_rejects (Prefix announce v) h r = refl
 idle_rejects (EndOfData session serial refresh retry expire) h r = refl
+idle_rejects (EndOfData0 session serial) h r = refl
 idle_rejects CacheReset h r = refl
 idle_rejects (RouterKey key) h r = refl
 
@@ -134,6 +136,7 @@ asked_rejects q (SerialQuery session serial) h r = refl
 asked_rejects q ResetQuery h r = refl
 asked_rejects q (Prefix announce v) h r = refl
 asked_rejects q (EndOfData session serial refresh retry expire) h r = refl
+asked_rejects q (EndOfData0 session serial) h r = refl
 asked_rejects q (RouterKey key) h r = refl
 
 abbrev pub foreign_answering : Unit → Bool
@@ -152,6 +155,7 @@ answering_rejects a ResetQuery h r = refl
 answering_rejects a (SerialNotify session serial) h r = false_true h
 answering_rejects a (Prefix announce v) h r = false_true h
 answering_rejects a (EndOfData session serial refresh retry expire) h r = false_true h
+answering_rejects a (EndOfData0 session serial) h r = false_true h
 answering_rejects a (RouterKey key) h r = false_true h
 answering_rejects a (ErrorReport e) h r = false_true h
 
@@ -360,6 +364,31 @@ unfolding on_unit
 answering_ends q session named serial refresh retry expire u is other withdrawn announced r =
     subst (λ x. on_unit (Answering (begun_with q session withdrawn announced)) x r ≡ fails x r) (sym is)
     (ap (λ b. if b then commit (begun_with q session withdrawn announced) (record { session = named; serial = serial; moment = r.now; intervals = bounded refresh retry expire }) r else fails (EndOfData named serial refresh retry expire) r) (no_code named named session refl other))
+
+-- An End of Data of this session without intervals does what one with the recommended ones does.
+pub end_as_default : (old new : Machine) (q : Question.Question) (session serial : ℕ) (result : Result ⊤ SetFault) → old.state ≡ states.Answering q session
+    → UnitIsRead result (EndOfData session serial 3600 600 7200) old new → UnitIsRead result (EndOfData0 session serial) old new
+unfolding on_unit
+end_as_default old new q session serial result is h = by_result result h
+  where
+    by_link : (l : Link) (withdrawn announced : List Payload) (r : Router) → l ≡ seen_link (states.Answering q session) withdrawn announced → (on_unit l (EndOfData session serial 3600 600 7200) r ≡ on_unit l (EndOfData0 session serial) r) × (may_lack l (EndOfData session serial 3600 600 7200) r ≡ may_lack l (EndOfData0 session serial) r)
+    by_link l withdrawn announced r e =
+        subst (λ x. (on_unit x (EndOfData session serial 3600 600 7200) r ≡ on_unit x (EndOfData0 session serial) r) × (may_lack x (EndOfData session serial 3600 600 7200) r ≡ may_lack x (EndOfData0 session serial) r)) (sym e)
+        (same_session r (session == session) (eq_self session) (begun_with q session withdrawn announced), refl)
+      where
+        same_session : (r : Router) (b : Bool) → b ≡ true → (a : Begun)
+            → (if b then commit a (record { session = session; serial = serial; moment = r.now; intervals = default_intervals }) r else fails (EndOfData session serial 3600 600 7200) r)
+            ≡ (if b then commit a (record { session = session; serial = serial; moment = r.now; intervals = default_intervals }) r else fails (EndOfData0 session serial) r)
+        same_session r true e a = refl
+        same_session r false e a = false_true e
+
+    same : (r : Router) → ShowsRouter r old → (on_unit r.link (EndOfData session serial 3600 600 7200) r ≡ on_unit r.link (EndOfData0 session serial) r) × (may_lack r.link (EndOfData session serial 3600 600 7200) r ≡ may_lack r.link (EndOfData0 session serial) r)
+    same r s = by_link r.link s.withdrawn s.announced r (ap (λ (x : Router). x.link) s.is ∙ ap (λ x. seen_link x s.withdrawn s.announced) is)
+
+    by_result : (result : Result ⊤ SetFault) → UnitIsRead result (EndOfData session serial 3600 600 7200) old new → UnitIsRead result (EndOfData0 session serial) old new
+    by_result (Ok done) h = λ r s. subst (λ n. ShowsRouter n new) (same r s).0 (h r s)
+    by_result (Err Memory) h = (h.0, λ r s. sym (same r s).1 ∙ h.1 r s)
+    by_result (Err TooMany) h = (h.0, λ r s. sym (same r s).0 ∙ h.1 r s)
 
 pub answering_key : (key : Key) (u : Unit) → u ≡ RouterKey key → (a : Begun) (r : Router) → on_unit (Answering a) u r ≡ r
 unfolding on_unit

@@ -8,7 +8,7 @@ use Rattle.rtr_pdu.specs.declared.version.Version.TheVariants.{V1}
 use Rattle.rtr_pdu.specs.Judging.{Judgement, Begins, Whole, Faulty, judge}
 use Rattle.rtr_pdu.specs.Payloads.{Report}
 use Rattle.rtr_pdu.specs.declared.unit.Unit.{Unit}
-use Rattle.rtr_pdu.specs.declared.unit.Unit.TheVariants.{SerialNotify, SerialQuery, ResetQuery, CacheResponse, Prefix, EndOfData, CacheReset, RouterKey, ErrorReport}
+use Rattle.rtr_pdu.specs.declared.unit.Unit.TheVariants.{SerialNotify, SerialQuery, ResetQuery, CacheResponse, Prefix, EndOfData, EndOfData0, CacheReset, RouterKey, ErrorReport}
 use Rattle.rtr_ends.specs.declared.link.End.{End}
 use Rattle.rtr_ends.specs.declared.link.End.TheVariants as ends
 use Rattle.rtr_ends.specs.Cache.{is_none, finds_memory}
@@ -17,6 +17,7 @@ use Rattle.rtr_ends.specs.LinkRules.{may_lack, Router, Staged, Stays, Wrong, Ove
 use Rattle.rtr_ends.specs.Router.{RouterCall, Connects, Receives, Pulls, Closes, AsksNow, Ticks, called, played, Receiving, router_byte, router_stops, asks, asks_if, clocked, close, closed_at, connects_at, expired, receives, router_pulled, ticks_at, Noted, asked_by, lacks, reads, with_bytes}
 use Rattle.rtr_ends.specs.RouterLaws.{RouterAsks, LinkTells}
 use Rattle.rtr_ends.specs.RouterLink.{is_closed, is_due, Link, Closed, Idle, Asked, Answering, Ended, is_idle, is_reading}
+use Rattle.rtr_ends.specs.Timing.{Intervals, default_intervals}
 use Rattle.rtr_ends.specs.Transcript.{Question, AskReset, AskSerial, AsksRightly, Begun, Item, At, Opened, Asks, Reads, Lacks, Breaks, Refused, Restarts, Shut, acts_once, acts_wrongly, base_of, bounded, choose, does_commit, is_among, is_serial, is_wrong, is_over, kept, later, led_to, marked, next_question, query, retry_of, sum_of, under_way}
 use Rattle.rtr_ends.proofs.FeedingLaws.{feed_keeps}
 use Rattle.rtr_ends.proofs.KeptUnits.{Tells, bytes_add, holds}
@@ -91,6 +92,10 @@ idle_asks (EndOfData session serial refresh retry expire) r items none w m =
     let u : Unit = EndOfData session serial refresh retry expire in
     ends_quiet u (reports 0 u r) (ends.Reported 0) (Reads u ∷ items) refl
     (subst (λ o. (r.version ≡ None) ⊎ ((not (does_commit o session (kept items).table) && marked items) ≡ r.mark)) (sym w) m)
+idle_asks (EndOfData0 session serial) r items none w m =
+    let u : Unit = EndOfData0 session serial in
+    ends_quiet u (reports 0 u r) (ends.Reported 0) (Reads u ∷ items) refl
+    (subst (λ o. (r.version ≡ None) ⊎ ((not (does_commit o session (kept items).table) && marked items) ≡ r.mark)) (sym w) m)
 idle_asks (SerialQuery session serial) r items none w m = ends_quiet (SerialQuery session serial) (reports 0 (SerialQuery session serial) r) (ends.Reported 0) (Reads (SerialQuery session serial) ∷ items) refl m
 idle_asks ResetQuery r items none w m = ends_quiet ResetQuery (reports 0 ResetQuery r) (ends.Reported 0) (Reads ResetQuery ∷ items) refl m
 idle_asks (CacheResponse session) r items none w m = ends_quiet (CacheResponse session) (reports 0 (CacheResponse session) r) (ends.Reported 0) (Reads (CacheResponse session) ∷ items) refl m
@@ -124,6 +129,10 @@ asked_asks q (Prefix announce v) r items none w m =
     (subst (λ o. (r.version ≡ None) ⊎ ((acts_wrongly o (kept items).table announce v || marked items) ≡ r.mark)) (sym w) m)
 asked_asks q (EndOfData session serial refresh retry expire) r items none w m =
     let u : Unit = EndOfData session serial refresh retry expire in
+    ends_quiet u (reports 0 u r) (ends.Reported 0) (Reads u ∷ items) refl
+    (subst (λ o. (r.version ≡ None) ⊎ ((not (does_commit o session (kept items).table) && marked items) ≡ r.mark)) (sym w) m)
+asked_asks q (EndOfData0 session serial) r items none w m =
+    let u : Unit = EndOfData0 session serial in
     ends_quiet u (reports 0 u r) (ends.Reported 0) (Reads u ∷ items) refl
     (subst (λ o. (r.version ≡ None) ⊎ ((not (does_commit o session (kept items).table) && marked items) ≡ r.mark)) (sym w) m)
 asked_asks q (SerialQuery session serial) r items none w m = ends_quiet (SerialQuery session serial) (reports 0 (SerialQuery session serial) r) (ends.Reported 0) (Reads (SerialQuery session serial) ∷ items) refl m
@@ -165,6 +174,20 @@ staged_asks u (Wrong code) b r items later none k e m =
     ends_quiet u (record (reports code u r) { mark = true }) (ends.Reported code) later refl (inr (e ∙ ap (λ x. x || marked items) k))
 staged_asks u Over b r items later none k e m = ends_quiet u (record r { link = Ended ends.TooMany }) ends.TooMany later refl (left_so b r items later k e m)
 
+-- an End of Data in an answer
+end_asks : (a : Begun) (u : Unit) (session serial : ℕ) (t : Intervals) (r : Router) (items : List Item) → r.out ≡ [] → under_way items ≡ Some a → kept items ≡ holds r
+    → acts_once (base_of a.question r.table) a.withdrawn a.announced ≡ true
+    → marked (Reads u ∷ items) ≡ (not (does_commit (under_way items) session (kept items).table) && marked items)
+    → After u (if session == a.session then commit a (record { session = session; serial = serial; moment = r.now; intervals = t }) r else fails u r) items
+end_asks a u session serial t r items none w k once n = by_session (session == a.session) refl
+  where
+    done : Router
+    done = commit a (record { session = session; serial = serial; moment = r.now; intervals = t }) r
+
+    by_session : (b : Bool) → (session == a.session) ≡ b → After u (if b then done else fails u r) items
+    by_session true same = quiet u done (Reads u ∷ items) none (inr (n ∙ (λ i. not (does_commit (w i) session (k i).table) && marked items) ∙ (λ i. not (same i && once i) && marked items)))
+    by_session false other = ends_quiet u (fails u r) (ends.Reported 0) (Reads u ∷ items) refl (inl refl)
+
 answering_asks : (a : Begun) (u : Unit) (r : Router) (items : List Item) → r.out ≡ [] → under_way items ≡ Some a → kept items ≡ holds r → acts_once (base_of a.question r.table) a.withdrawn a.announced ≡ true → MarkTells r items
     → After u (on_unit (Answering a) u r) items
 unfolding on_unit
@@ -175,17 +198,9 @@ answering_asks a (Prefix announce v) r items none w k once m =
     staged_asks (Prefix announce v) (stage (base_of a.question r.table) a announce v) (acts_wrongly (Some a) r.table announce v) r items (Reads (Prefix announce v) ∷ items) none (record_marks r.table a announce v)
     (λ i. acts_wrongly (w i) (k i).table announce v || marked items) m
 answering_asks a (RouterKey key) r items none w k once m = quiet (RouterKey key) r (Reads (RouterKey key) ∷ items) none m
-answering_asks a (EndOfData session serial refresh retry expire) r items none w k once m = by_session (session == a.session) refl
-  where
-    u : Unit
-    u = EndOfData session serial refresh retry expire
-
-    done : Router
-    done = commit a (record { session = session; serial = serial; moment = r.now; intervals = bounded refresh retry expire }) r
-
-    by_session : (b : Bool) → (session == a.session) ≡ b → After u (if b then done else fails u r) items
-    by_session true same = quiet u done (Reads u ∷ items) none (inr ((λ i. not (does_commit (w i) session (k i).table) && marked items) ∙ (λ i. not (same i && once i) && marked items)))
-    by_session false other = ends_quiet u (fails u r) (ends.Reported 0) (Reads u ∷ items) refl (inl refl)
+answering_asks a (EndOfData session serial refresh retry expire) r items none w k once m =
+    end_asks a (EndOfData session serial refresh retry expire) session serial (bounded refresh retry expire) r items none w k once refl
+answering_asks a (EndOfData0 session serial) r items none w k once m = end_asks a (EndOfData0 session serial) session serial default_intervals r items none w k once refl
 answering_asks a (ErrorReport e) r items none w k once m = told_asks a.question e r items none m
 answering_asks a (CacheResponse session) r items none w k once m = ends_quiet (CacheResponse session) (reports 0 (CacheResponse session) r) (ends.Reported 0) (Reads (CacheResponse session) ∷ items) refl m
 answering_asks a (SerialQuery session serial) r items none w k once m = ends_quiet (SerialQuery session serial) (reports 0 (SerialQuery session serial) r) (ends.Reported 0) (Reads (SerialQuery session serial) ∷ items) refl m
@@ -221,6 +236,7 @@ next_is (Reads ResetQuery ∷ items) h = refl
 next_is (Reads (CacheResponse session) ∷ items) h = refl
 next_is (Reads (Prefix announce v) ∷ items) h = refl
 next_is (Reads (EndOfData session serial refresh retry expire) ∷ items) h = refl
+next_is (Reads (EndOfData0 session serial) ∷ items) h = refl
 next_is (Reads (RouterKey key) ∷ items) h = refl
 next_is (Reads (ErrorReport e) ∷ items) h = refl
 

@@ -3,13 +3,12 @@ use Rattle.std.specs.Prelude.{◌≡◌, ℕ, true, false, List, [], ◌++◌, O
 use Rattle.std.proofs.Common.{sym, ap, ◌∙◌}
 use Rattle.std.proofs.lemmas.List.{append-nil}
 use Rattle.vrps.specs.Instance.{Instance}
-use Rattle.rtr_pdu.specs.declared.version.Version.TheVariants.{V1}
 use Rattle.rtr_pdu.specs.Judging.{Faulty, Whole}
 use Rattle.rtr_pdu.specs.Reader.{IsFaulty, IsRead}
 use Rattle.rtr_pdu.specs.Stream.{as_read, IsPartial}
 use Rattle.rtr_pdu.specs.declared.unit.Unit.{Unit}
 use Rattle.rtr_pdu.specs.declared.unit.UnitFault.{UnitFault}
-use Rattle.rtr_ends.specs.Cache.{Conn, Taking, conn_byte, conn_stops, conn_takes, conn_judged}
+use Rattle.rtr_ends.specs.Cache.{Conn, Taking, conn_byte, conn_stops, conn_takes, conn_judged, version_at}
 use Rattle.rtr_ends.specs.Timing.{Intervals}
 use Rattle.rtr_ends.proofs.UnitByUnit.{ByteMachine, but_last, fault_taken, fed, more_taken, none_taken, unit_taken}
 
@@ -21,11 +20,12 @@ module _ (keep : ℕ) (t : Intervals) (i : Instance) where
     step = conn_byte keep t i;
     held = λ m. m.conn.held;
     any = λ m. false;
+    start = λ m. m.conn.state.version;
     holding = λ m bytes. record m { conn = record m.conn { held = bytes } };
     judged = conn_judged keep t i;
     own = λ m. refl;
     same_stop = λ m bytes. refl;
-    begun = λ m bytes more. refl;
+    begun = λ m version bytes more. refl;
     byte = λ m bytes b. refl;
   }
 
@@ -33,26 +33,26 @@ module _ (keep : ℕ) (t : Intervals) (i : Instance) where
   start o wanting = record { conn = o; moments = []; wanting = wanting }
 
   -- All of the beginning of a unit is held,
-  pub takes_more : (o : Conn) (wanting : Option ℕ) (piece : List ℕ) → conn_stops o ≡ false → IsPartial V1 (as_read V1 false (o.held ++ piece))
+  pub takes_more : (o : Conn) (wanting : Option ℕ) (piece : List ℕ) → conn_stops o ≡ false → IsPartial (version_at o piece) (as_read (version_at o piece) false (o.held ++ piece))
       → conn_takes keep t i wanting piece o ≡ record { machine = start (record o { held = o.held ++ piece }) wanting; rest = [] }
   unfolding conn_takes conn_machine
   takes_more o wanting piece runs part =
-      ap (fed conn_machine (start o wanting)) (sym (append-nil piece)) ∙ more_taken conn_machine (start o wanting) runs piece [] part
+      ap (fed conn_machine (start o wanting)) (sym (append-nil piece)) ∙ more_taken conn_machine (start o wanting) runs (version_at o piece) piece [] refl part
 
   -- or a unit is taken, and the connection stops behind it,
-  pub takes_unit : (o : Conn) (wanting : Option ℕ) (next : Taking) (taken rest : List ℕ) (u : Unit) → conn_stops o ≡ false → IsPartial V1 (as_read V1 false o.held) → IsRead V1 false (o.held ++ taken) u
-      → ((held : List ℕ) → conn_judged keep t i (start (record o { held = held }) wanting) (o.held ++ taken) (Whole u) ≡ next) → conn_stops next.conn ≡ true → conn_takes keep t i wanting (taken ++ rest) o ≡ record { machine = next; rest = rest }
+  pub takes_unit : (o : Conn) (wanting : Option ℕ) (next : Taking) (taken rest : List ℕ) (u : Unit) → conn_stops o ≡ false → IsPartial (version_at o taken) (as_read (version_at o taken) false o.held) → IsRead (version_at o taken) false (o.held ++ taken) u
+      → ((held : List ℕ) → conn_judged keep t i (start (record o { held = held }) wanting) (version_at o taken) (o.held ++ taken) (Whole u) ≡ next) → conn_stops next.conn ≡ true → conn_takes keep t i wanting (taken ++ rest) o ≡ record { machine = next; rest = rest }
   unfolding conn_takes conn_machine
   takes_unit o wanting next taken rest u runs part read after stop =
-      unit_taken conn_machine (start o wanting) runs taken rest u part read
+      unit_taken conn_machine (start o wanting) runs (version_at o taken) taken rest u refl part read
       ∙ ap (λ m. fed conn_machine m rest) (after (o.held ++ but_last taken)) ∙ none_taken conn_machine next rest stop
 
   -- or bytes that show a fault are,
-  pub takes_fault : (o : Conn) (wanting : Option ℕ) (next : Taking) (taken rest : List ℕ) (fault : UnitFault) → conn_stops o ≡ false → IsPartial V1 (as_read V1 false o.held) → IsFaulty V1 false (o.held ++ taken) fault
-      → ((held : List ℕ) → conn_judged keep t i (start (record o { held = held }) wanting) (o.held ++ taken) (Faulty fault) ≡ next) → conn_stops next.conn ≡ true → conn_takes keep t i wanting (taken ++ rest) o ≡ record { machine = next; rest = rest }
+  pub takes_fault : (o : Conn) (wanting : Option ℕ) (next : Taking) (taken rest : List ℕ) (fault : UnitFault) → conn_stops o ≡ false → IsPartial (version_at o taken) (as_read (version_at o taken) false o.held) → IsFaulty (version_at o taken) false (o.held ++ taken) fault
+      → ((held : List ℕ) → conn_judged keep t i (start (record o { held = held }) wanting) (version_at o taken) (o.held ++ taken) (Faulty fault) ≡ next) → conn_stops next.conn ≡ true → conn_takes keep t i wanting (taken ++ rest) o ≡ record { machine = next; rest = rest }
   unfolding conn_takes conn_machine
   takes_fault o wanting next taken rest fault runs part faulty after stop =
-      fault_taken conn_machine (start o wanting) runs taken rest fault part faulty
+      fault_taken conn_machine (start o wanting) runs (version_at o taken) taken rest fault refl part faulty
       ∙ ap (λ m. fed conn_machine m rest) (after (o.held ++ but_last taken)) ∙ none_taken conn_machine next rest stop
 
   -- or nothing is.

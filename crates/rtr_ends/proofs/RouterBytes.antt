@@ -22,11 +22,12 @@ router_machine = record {
   step = router_byte;
   held = λ m. m.router.held;
   any = λ m. not m.router.agreed;
+  start = λ m. Some V1;
   holding = λ m bytes. record m { router = record m.router { held = bytes } };
-  judged = router_judged;
+  judged = λ m version. router_judged m;
   own = λ m. refl;
   same_stop = λ m bytes. refl;
-  begun = λ m bytes more. refl;
+  begun = λ m version bytes more. refl;
   byte = λ m bytes b. refl;
 }
 
@@ -42,19 +43,19 @@ module _ (r : Router) (taken rest : List ℕ) (on : router_stops r ≡ false) (i
   -- A reader asks for more.
   pub more_taken : IsPartial V1 (as_read V1 (not r.agreed) (r.held ++ taken)) → fed r items wanting (taken ++ []) ≡ fed (record r { held = r.held ++ taken }) items wanting []
   unfolding router_machine
-  more_taken part = units.more_taken router_machine (taking r items wanting) on taken [] part
+  more_taken part = units.more_taken router_machine (taking r items wanting) on V1 taken [] refl part
 
   -- It gives a unit.
   pub unit_taken : IsPartial V1 (as_read V1 (not r.agreed) r.held) → (u : Unit) → IsRead V1 (not r.agreed) (r.held ++ taken) u
       → fed r items wanting (taken ++ rest) ≡ feed stops router_byte (router_judged (taking (record r { held = r.held ++ but_last taken }) items wanting) (r.held ++ taken) (Whole u)) rest
   unfolding router_machine
-  unit_taken part u read = units.unit_taken router_machine (taking r items wanting) on taken rest u part read
+  unit_taken part u read = units.unit_taken router_machine (taking r items wanting) on V1 taken rest u refl part read
 
   -- It shows a fault.
   pub fault_taken : IsPartial V1 (as_read V1 (not r.agreed) r.held) → (fault : UnitFault) → IsFaulty V1 (not r.agreed) (r.held ++ taken) fault
       → fed r items wanting (taken ++ rest) ≡ feed stops router_byte (router_judged (taking r items wanting) (r.held ++ taken) (Faulty fault)) rest
   unfolding router_machine
-  fault_taken part fault faulty = units.fault_taken router_machine (taking r items wanting) on taken rest fault part faulty
+  fault_taken part fault faulty = units.fault_taken router_machine (taking r items wanting) on V1 taken rest fault refl part faulty
 
 -- What comes of a unit: it is read, or memory for it is wanting.
 abbrev pub shifted : Option ℕ → Option ℕ

@@ -13,8 +13,9 @@ use Rattle.rtr_pdu.specs.Stream.{IsPartial, as_read}
 use Rattle.rtr_pdu.specs.declared.unit.Next.{Next}
 use Rattle.rtr_pdu.specs.declared.unit.Next.TheVariants as next
 use Rattle.rtr_pdu.specs.declared.unit.Unit.{Unit}
-use Rattle.rtr_pdu.specs.declared.unit.Unit.TheVariants.{SerialNotify, SerialQuery, ResetQuery, CacheResponse, Prefix, EndOfData, CacheReset, RouterKey, ErrorReport}
+use Rattle.rtr_pdu.specs.declared.unit.Unit.TheVariants.{SerialNotify, SerialQuery, ResetQuery, CacheResponse, Prefix, EndOfData, EndOfData0, CacheReset, RouterKey, ErrorReport}
 use Rattle.rtr_pdu.specs.declared.unit.UnitFault.{UnitFault}
+use Rattle.rtr_ends.specs.Timing.{default_intervals}
 use Rattle.rtr_ends.specs.declared.link.End.{End}
 use Rattle.rtr_ends.specs.declared.link.End.TheVariants as ends
 use Rattle.rtr_ends.specs.Cache.{finds_memory, is_none}
@@ -85,6 +86,7 @@ unit_keeps Idle ResetQuery r is h = reports_keep ResetQuery r
 unit_keeps Idle (CacheResponse session) r is h = reports_keep (CacheResponse session) r
 unit_keeps Idle (Prefix announce v) r is h = reports_keep (Prefix announce v) r
 unit_keeps Idle (EndOfData session serial refresh retry expire) r is h = reports_keep (EndOfData session serial refresh retry expire) r
+unit_keeps Idle (EndOfData0 session serial) r is h = reports_keep (EndOfData0 session serial) r
 unit_keeps Idle CacheReset r is h = reports_keep CacheReset r
 unit_keeps Idle (RouterKey key) r is h = reports_keep (RouterKey key) r
 unit_keeps (Asked q) (SerialNotify session serial) r is h =
@@ -100,6 +102,7 @@ unit_keeps (Asked q) (SerialQuery session serial) r is h = reports_keep (SerialQ
 unit_keeps (Asked q) ResetQuery r is h = reports_keep ResetQuery r
 unit_keeps (Asked q) (Prefix announce v) r is h = reports_keep (Prefix announce v) r
 unit_keeps (Asked q) (EndOfData session serial refresh retry expire) r is h = reports_keep (EndOfData session serial refresh retry expire) r
+unit_keeps (Asked q) (EndOfData0 session serial) r is h = reports_keep (EndOfData0 session serial) r
 unit_keeps (Asked q) (RouterKey key) r is h = reports_keep (RouterKey key) r
 unit_keeps (Answering a) (SerialNotify session serial) r is h =
     keeps_if (is_strange r session) r (fails (SerialNotify session serial) r) r (fails_keep (SerialNotify session serial) r) (same_router r (ap is_closed is))
@@ -108,6 +111,9 @@ unit_keeps (Answering a) (RouterKey key) r is h = same_router r (ap is_closed is
 unit_keeps (Answering a) (EndOfData session serial refresh retry expire) r is h =
     keeps_if (session == a.session) r (commit a (record { session = session; serial = serial; moment = r.now; intervals = bounded refresh retry expire }) r) (fails (EndOfData session serial refresh retry expire) r)
     (record { held = refl; agreed = λ h. h; connected = refl }) (fails_keep (EndOfData session serial refresh retry expire) r)
+unit_keeps (Answering a) (EndOfData0 session serial) r is h =
+    keeps_if (session == a.session) r (commit a (record { session = session; serial = serial; moment = r.now; intervals = default_intervals }) r) (fails (EndOfData0 session serial) r)
+    (record { held = refl; agreed = λ h. h; connected = refl }) (fails_keep (EndOfData0 session serial) r)
 unit_keeps (Answering a) (ErrorReport e) r is h = told_keeps a.question e.code r r (same_router r (ap is_closed is))
 unit_keeps (Answering a) (SerialQuery session serial) r is h = reports_keep (SerialQuery session serial) r
 unit_keeps (Answering a) ResetQuery r is h = reports_keep ResetQuery r
@@ -168,18 +174,18 @@ module _ (old : code.Router) (piece rest : List ℕ) (takes : (is_reading (seen_
     abbrev cleared : Router → Router
     cleared r = record r { held = [] }
 
-    told_reader : (b : Bool) (n r : Router) → Keeps r n → n.agreed ≡ b → new ≡ fresh (not r.agreed) → (if b then after_agreed new else new) ≡ reading b []
+    told_reader : (b : Bool) (n r : Router) → Keeps r n → n.agreed ≡ b → new ≡ fresh (Some V1) (not r.agreed) → (if b then after_agreed new else new) ≡ reading b []
     told_reader true n r k is e = ap (λ x. after_agreed x) e
     told_reader false n r k is e =
         let fell : r.agreed ≡ false = false_if_never r.agreed (λ h. false_true (sym is ∙ k.agreed h)) in
-        e ∙ ap (λ b. fresh (not b)) fell
+        e ∙ ap (λ b. fresh (Some V1) (not b)) fell
 
     read_shown : (r : Router) → IsShown r old → Does (λ x. on_unit x.link u x) old.machine m → IsShown (on_unit r.link u (cleared r)) after_unit
     read_shown r s does =
         let n : Router = on_unit r.link u (cleared r) in
         let k : Keeps (cleared r) n = unit_keeps r.link u (cleared r) refl (reads_of r (on r s)) in
         let machine : ShowsRouter n m = does (cleared r) (rehold r old.machine [] s.machine) in
-        let made : new ≡ fresh (not r.agreed) = (takes_so (next.Unit u) new r s t).gives.2 in
+        let made : new ≡ fresh (Some V1) (not r.agreed) = (takes_so (next.Unit u) new r s t).gives.2 in
         record {
           machine = machine;
           reader = λ h. told_reader m.agreed n (cleared r) k (agreed_is m n machine) made ∙ (λ i. reading (sym (agreed_is m n machine) i) (sym k.held i));
@@ -378,7 +384,7 @@ closes_so r h = by_test (is_closed r.link) refl
 closed_clock : (old : code.Router) (now : ℕ) (r : Router) → IsShown r old → is_closed (clocked now r).link ≡ true → ((clocked now r).held ≡ []) × ((clocked now r).agreed ≡ false)
 closed_clock old now r s h = let k = clocked_keeps now r in let was = s.closed (sym k.closed_on ∙ h) in (k.held ∙ was.0, k.agreed ∙ was.1)
 
-pub connects_shown : (old new : code.Router) (now : ℕ) (r : Router) → IsShown r old → ShowsRouter (connects_at now r).router new.machine → new.reader ≡ fresh true → IsShown (connects_at now r).router new
+pub connects_shown : (old new : code.Router) (now : ℕ) (r : Router) → IsShown r old → ShowsRouter (connects_at now r).router new.machine → new.reader ≡ fresh (Some V1) true → IsShown (connects_at now r).router new
 unfolding connects_at
 connects_shown old new now r s machine made =
     let c = closes_so (clocked now r) (closed_clock old now r s) in

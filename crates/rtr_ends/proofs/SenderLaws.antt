@@ -12,14 +12,15 @@ use Rattle.vrps.specs.Instance.{NumberedSet}
 use Rattle.vrps.specs.VrpSet.{VrpSet, listing}
 use Rattle.vrps.specs.declared.change.Change.{Change}
 use Rattle.vrps.specs.declared.serial.Serial.{Serial}
-use Rattle.rtr_pdu.specs.declared.version.Version.TheVariants.{V1}
+use Rattle.rtr_pdu.specs.declared.version.Version.{Version}
+use Rattle.rtr_pdu.specs.declared.version.Version.TheVariants.{V0, V1}
 use Rattle.rtr_pdu.specs.declared.unit.Unit.{Unit}
-use Rattle.rtr_pdu.specs.declared.unit.Unit.TheVariants.{CacheResponse, EndOfData, Prefix, ResetQuery}
-use Rattle.rtr_pdu.specs.Unit.{IsUnit}
+use Rattle.rtr_pdu.specs.declared.unit.Unit.TheVariants.{CacheResponse, Prefix, ResetQuery}
+use Rattle.rtr_pdu.specs.Unit.{IsUnitOf}
 use Rattle.rtr_pdu.proofs.NextLaws.{sent_most, some_sent}
-use Rattle.rtr_ends.specs.Answer.{announcements, report, response, sent, sent_all, whole_answer, withdrawals}
+use Rattle.rtr_ends.specs.Answer.{announcements, end_of_data, report, response, sent, sent_all, whole_answer, withdrawals}
 use Rattle.rtr_ends.specs.Cache.{is_none}
-use Rattle.rtr_ends.specs.Sender.{BeginsAnswer, PullsBytes, GivesFrom, Hands, KeepsRecords, Sends, Stays, Writes, as_list, left_in, left, due_of, newest_in, newest_of, ready_in, serial_in, units_in, numbered_of}
+use Rattle.rtr_ends.specs.Sender.{Speaks, BeginsAnswer, PullsBytes, GivesFrom, Hands, KeepsRecords, Sends, Stays, Writes, as_list, left_in, left, due_of, newest_in, newest_of, ready_in, serial_in, units_in, numbered_of, own_session, session_by}
 use Rattle.rtr_ends.specs.Timing.{Intervals}
 use Rattle.rtr_ends.specs.declared.sender.Records.{Records}
 use Rattle.rtr_ends.specs.declared.sender.Records.TheVariants.{Step, Whole}
@@ -33,28 +34,32 @@ both_none [] ys e = (refl, e)
 both_none (x ∷ xs) ys e = absurd (let h : x ∷ (xs ++ ys) ≡ [] = e in cc)
 
 -- units have bytes
-none_sent : (units : List Unit) → sent_all V1 units ≡ [] → units ≡ []
-none_sent [] e = refl
-none_sent (u ∷ units) e = absurd (some_sent V1 u (both_none (sent V1 u) (sent_all V1 units) e).0)
+none_sent : (version : Version) (units : List Unit) → sent_all version units ≡ [] → units ≡ []
+none_sent version [] e = refl
+none_sent version (u ∷ units) e = absurd (some_sent version u (both_none (sent version u) (sent_all version units) e).0)
 
 -- Of a unit at most 4,096 bytes are ready.
-pub unit_ready : (s : Sender) (u : Unit) → IsUnit u → s.pulled ≡ 0 → s.buffer.items ≡ sent V1 u → ready_in s ≤ 4096
+pub unit_ready : (version : Version) (s : Sender) (u : Unit) → IsUnitOf version u → s.pulled ≡ 0 → s.buffer.items ≡ sent version u → ready_in s ≤ 4096
 unfolding ready_in
-unit_ready s u fits start bytes = let is : drop s.pulled s.buffer.items ≡ sent V1 u = λ i. drop (start i) (bytes i) in omega (arith, ap length is, sent_most V1 u fits)
+unit_ready version s u fits start bytes = let is : drop s.pulled s.buffer.items ≡ sent version u = λ i. drop (start i) (bytes i) in omega (arith, ap length is, sent_most version u fits.0 fits.1)
 
 -- an answer under way has bytes
-some_left : (units : List Unit) (session serial : ℕ) (t : Intervals) → is_none (sent_all V1 (units ++ EndOfData session serial t.refresh t.retry t.expire ∷ [])) ≡ false
-some_left [] session serial t = refl
-some_left (u ∷ units) session serial t = over (sent V1 u) (sent_all V1 (units ++ EndOfData session serial t.refresh t.retry t.expire ∷ [])) (some_left units session serial t)
+end_some : (version : Version) (session serial : ℕ) (t : Intervals) → is_none (sent_all version (end_of_data version session serial t ∷ [])) ≡ false
+end_some V0 session serial t = refl
+end_some V1 session serial t = refl
+
+some_left : (version : Version) (units : List Unit) (session serial : ℕ) (t : Intervals) → is_none (sent_all version (units ++ end_of_data version session serial t ∷ [])) ≡ false
+some_left version [] session serial t = end_some version session serial t
+some_left version (u ∷ units) session serial t = over (sent version u) (sent_all version (units ++ end_of_data version session serial t ∷ [])) (some_left version units session serial t)
   where
     over : (xs ys : List ℕ) → is_none ys ≡ false → is_none (xs ++ ys) ≡ false
     over [] ys e = e
     over (x ∷ xs) ys e = refl
 
 -- bytes are due of an answer under way
-due_left : (session : ℕ) (t : Intervals) (a : Option AnswerCursor) → is_some a ≡ not (is_none (sent_all V1 (left_in session t a)))
-due_left session t None = refl
-due_left session t (Some a) = ap not (sym (some_left (drop a.place (units_in a.records)) session (serial_in a.records) t))
+due_left : (version : Version) (session : ℕ) (t : Intervals) (a : Option AnswerCursor) → is_some a ≡ not (is_none (sent_all version (left_in version session t a)))
+due_left version session t None = refl
+due_left version session t (Some a) = ap not (sym (some_left version (drop a.place (units_in a.records)) session (serial_in a.records) t))
 
 is_none-append : (xs ys : List ℕ) → 0 < length xs → is_none (xs ++ ys) ≡ false
 is_none-append [] ys h = absurd (omega (arith, h))
@@ -62,16 +67,16 @@ is_none-append (x ∷ xs) ys h = refl
 
 pub due_some : (s : Sender) → s.pulled < length s.buffer.items → true ≡ not (is_none (due_of s))
 unfolding due_of
-due_some s h = ap not (sym (is_none-append (drop s.pulled s.buffer.items) (sent_all V1 (left s)) (omega (arith, length-drop s.pulled s.buffer.items, h))))
+due_some s h = ap not (sym (is_none-append (drop s.pulled s.buffer.items) (sent_all s.version (left s)) (omega (arith, length-drop s.pulled s.buffer.items, h))))
 
 pub due_answer : (s : Sender) → length s.buffer.items ≤ s.pulled → is_some s.answer ≡ not (is_none (due_of s))
 unfolding due_of left
-due_answer s h = due_left s.session s.timing s.answer ∙ ap (λ x. not (is_none (x ++ sent_all V1 (left_in s.session s.timing s.answer)))) (sym (drop_all s.pulled s.buffer.items h))
+due_answer s h = due_left s.version (own_session s) s.timing s.answer ∙ ap (λ x. not (is_none (x ++ sent_all s.version (left_in s.version (own_session s) s.timing s.answer)))) (sym (drop_all s.pulled s.buffer.items h))
 
 -- nothing is due where no answer is under way
-pub none_due : (s : Sender) → due_of s ≡ [] → left_in s.session s.timing s.answer ≡ []
+pub none_due : (s : Sender) → due_of s ≡ [] → left_in s.version (own_session s) s.timing s.answer ≡ []
 unfolding due_of left
-none_due s e = none_sent (left s) (both_none (drop s.pulled s.buffer.items) (sent_all V1 (left s)) e).1
+none_due s e = none_sent s.version (left s) (both_none (drop s.pulled s.buffer.items) (sent_all s.version (left s)) e).1
 
 at_place : {X : Type 0} (xs : List X) (i : ℕ) (x : X) → slice_get xs i ≡ Some x → drop i xs ≡ x ∷ drop (i + 1) xs
 at_place xs i x e =
@@ -104,43 +109,44 @@ newest_same None a b e = e
 newest_same (Some share) a b e = refl
 
 pub hands_record : (s : Sender) (w : AnswerCursor) (u : Unit) (new : Sender) → Some u ≡ slice_get (units_in w.records) w.place
-    → new.session ≡ s.session → new.timing ≡ s.timing → new.ready ≡ s.ready → new.pulled ≡ 0 → new.answer ≡ Some (record { records = w.records; place = w.place + 1 }) → new.buffer.items ≡ sent V1 u → IsUnit u
+    → new.version ≡ s.version → new.sessions ≡ s.sessions → new.timing ≡ s.timing → new.ready ≡ s.ready → new.pulled ≡ 0 → new.answer ≡ Some (record { records = w.records; place = w.place + 1 }) → new.buffer.items ≡ sent s.version u → IsUnitOf s.version u
     → Hands (record s { answer = Some w }) new
 unfolding left newest_of
-hands_record s w u new at session timing ready pulled answer bytes fits =
-    let now : left_in new.session new.timing new.answer ≡ left_in s.session s.timing (Some (record { records = w.records; place = w.place + 1 })) =
-    λ i. left_in (session i) (timing i) (answer i) in
+hands_record s w u new at version sessions timing ready pulled answer bytes fits =
+    let now : left_in new.version (own_session new) new.timing new.answer ≡ left_in s.version (own_session s) s.timing (Some (record { records = w.records; place = w.place + 1 })) =
+    λ i. left_in (version i) (session_by (version i) (sessions i)) (timing i) (answer i) in
     record {
       first = u;
-      was = ap (λ x. x ++ EndOfData s.session (serial_in w.records) s.timing.refresh s.timing.retry s.timing.expire ∷ []) (at_place (units_in w.records) w.place u (sym at))
+      was = ap (λ x. x ++ end_of_data s.version (own_session s) (serial_in w.records) s.timing ∷ []) (at_place (units_in w.records) w.place u (sym at))
           ∙ ap (λ x. u ∷ x) (sym now);
       bytes = bytes;
       pulled = pulled;
-      stays = record { session = session; timing = timing; newest = (λ i. newest_in (ready i) (answer i)) ∙ newest_same s.ready _ _ refl; room = λ before. unit_ready new u fits pulled bytes };
+      stays = record { version = version; sessions = sessions; timing = timing; newest = (λ i. newest_in (ready i) (answer i)) ∙ newest_same s.ready _ _ refl; room = λ before. unit_ready s.version new u fits pulled bytes };
     }
 
 -- what was written
-pub written : {B : Type 0} (o : Option Unit) (w : Bool) (old : B) (bytes : List ℕ) (new : B) → w ≡ true → Writes o w old bytes new → (u : Unit) × (Some u ≡ o) × (bytes ≡ sent V1 u) × IsUnit u
-written None w old bytes new e h = absurd (let k : false ≡ true = sym h.0 ∙ e in cc)
-written (Some u) w old bytes new e h = (u, refl, h.1, h.2)
+pub written : {B : Type 0} (version : Version) (o : Option Unit) (w : Bool) (old : B) (bytes : List ℕ) (new : B) → w ≡ true → Writes version o w old bytes new → (u : Unit) × (Some u ≡ o) × (bytes ≡ sent version u) × IsUnitOf version u
+written version None w old bytes new e h = absurd (let k : false ≡ true = sym h.0 ∙ e in cc)
+written version (Some u) w old bytes new e h = (u, refl, h.1, h.2)
 
 pub hands_end : (s : Sender) (w : AnswerCursor) (mid new : Sender) → None ≡ slice_get (units_in w.records) w.place
-    → mid.buffer.items ≡ sent V1 (EndOfData s.session (serial_in w.records) s.timing.refresh s.timing.retry s.timing.expire)
-    → mid.session ≡ s.session → mid.timing ≡ s.timing → mid.ready ≡ s.ready → mid.pulled ≡ 0 → IsUnit (EndOfData s.session (serial_in w.records) s.timing.refresh s.timing.retry s.timing.expire) → KeepsRecords mid w.records new → Hands (record s { answer = Some w }) new
+    → mid.buffer.items ≡ sent s.version (end_of_data s.version (own_session s) (serial_in w.records) s.timing)
+    → mid.version ≡ s.version → mid.sessions ≡ s.sessions → mid.timing ≡ s.timing → mid.ready ≡ s.ready → mid.pulled ≡ 0 → IsUnitOf s.version (end_of_data s.version (own_session s) (serial_in w.records) s.timing) → KeepsRecords mid w.records new → Hands (record s { answer = Some w }) new
 unfolding left newest_of
-hands_end s w mid new at bytes same_session same_timing same_ready pulled fits k =
-    let end : Unit = EndOfData s.session (serial_in w.records) s.timing.refresh s.timing.retry s.timing.expire in
-    let none : left_in new.session new.timing new.answer ≡ [] = ap (left_in new.session new.timing) k.answer in
+hands_end s w mid new at bytes same_version same_sessions same_timing same_ready pulled fits k =
+    let end : Unit = end_of_data s.version (own_session s) (serial_in w.records) s.timing in
+    let none : left_in new.version (own_session new) new.timing new.answer ≡ [] = ap (left_in new.version (own_session new) new.timing) k.answer in
     record {
       first = end;
       was = ap (λ x. x ++ end ∷ []) (past_place (units_in w.records) w.place (sym at)) ∙ ap (λ x. end ∷ x) (sym none);
       bytes = ap (λ b. b.items) k.buffer ∙ bytes;
       pulled = k.pulled ∙ pulled;
       stays = record {
-        session = k.session ∙ same_session;
+        version = k.version ∙ same_version;
+        sessions = k.sessions ∙ same_sessions;
         timing = k.timing ∙ same_timing;
         newest = ap (newest_in new.ready) k.answer ∙ k.ready ∙ ap (λ x. newest_in x (Some (record { records = w.records; place = 0 }))) same_ready ∙ newest_same s.ready _ _ refl;
-        room = λ before. unit_ready new end fits (k.pulled ∙ pulled) (ap (λ b. b.items) k.buffer ∙ bytes);
+        room = λ before. unit_ready s.version new end fits (k.pulled ∙ pulled) (ap (λ b. b.items) k.buffer ∙ bytes);
       };
     }
 
@@ -158,7 +164,8 @@ gives_from s out back mid filled count len low size is count_is mid_is =
           ∙ (λ i. take-put_mid filled (filled + count - filled) out mid (filled + count) (omega (arith, given)) low i ++ drop-put_mid filled (filled + count - filled) out mid (filled + count) (omega arith) low (omega (arith, given)) i)
           ∙ ap (λ x. take filled out ++ x ++ drop (filled + count) out) (mid_is ∙ ap (take count) same);
       left = ap (λ n. drop n s.buffer.items) place ∙ sym (drop-drop count (min s.pulled len) s.buffer.items) ∙ ap (drop count) (sym is ∙ same);
-      session = refl;
+      version = refl;
+      sessions = refl;
       timing = refl;
       ready = refl;
       answer = refl;
@@ -173,19 +180,19 @@ pub record IsFilled (start : Sender) (given : List ℕ) (s : Sender) (out : List
   pub stays : Stays start s
 
 pub none_filled : (s : Sender) (out : List ℕ) → IsFilled s out s out 0
-none_filled s out = record { low = omega arith; within = omega arith; now = refl; due = refl; stays = record { session = refl; timing = refl; newest = refl; room = λ before. before } }
+none_filled s out = record { low = omega arith; within = omega arith; now = refl; due = refl; stays = record { version = refl; sessions = refl; timing = refl; newest = refl; room = λ before. before } }
 
 module _ (start : Sender) (given : List ℕ) (s : Sender) (out : List ℕ) (filled result : ℕ) (now : List ℕ) (new : Sender) (f : IsFilled start given s out filled) (g : GivesFrom s out filled result now new) where
   -- what is left of the answer stays
   pub left_stays : left new ≡ left s
   unfolding left
-  left_stays = λ i. left_in (g.session i) (g.timing i) (g.answer i)
+  left_stays = λ i. left_in (g.version i) (session_by (g.version i) (g.sessions i)) (g.timing i) (g.answer i)
 
-  due_is : due_of s ≡ drop s.pulled s.buffer.items ++ sent_all V1 (left s)
+  due_is : due_of s ≡ drop s.pulled s.buffer.items ++ sent_all s.version (left s)
   unfolding due_of
   due_is = refl
 
-  due_now : due_of new ≡ drop new.pulled new.buffer.items ++ sent_all V1 (left new)
+  due_now : due_of new ≡ drop new.pulled new.buffer.items ++ sent_all new.version (left new)
   unfolding due_of
   due_now = refl
 
@@ -201,7 +208,7 @@ module _ (start : Sender) (given : List ℕ) (s : Sender) (out : List ℕ) (fill
   back = drop s.pulled s.buffer.items
 
   front : take g.count back ≡ take g.count (drop filled (due_of start))
-  front = sym (take-append-le g.count back (sent_all V1 (left s)) (omega (arith, g.count_is))) ∙ ap (take g.count) (sym due_is ∙ f.due)
+  front = sym (take-append-le g.count back (sent_all s.version (left s)) (omega (arith, g.count_is))) ∙ ap (take g.count) (sym due_is ∙ f.due)
 
   sizes : length (due_of s) ≡ length (due_of start) - filled
   sizes = ap length f.due ∙ length-drop filled (due_of start)
@@ -213,17 +220,17 @@ module _ (start : Sender) (given : List ℕ) (s : Sender) (out : List ℕ) (fill
       let last : drop (filled + g.count) out ≡ drop (filled + g.count) given =
       ap (drop (filled + g.count)) f.now ∙ ap (λ n. drop (n + g.count) (take filled (due_of start) ++ drop filled given)) (sym size)
       ∙ drop-append-add (take filled (due_of start)) (drop filled given) g.count ∙ drop-drop g.count filled given in
-      let all : length (due_of s) ≡ length back + length (sent_all V1 (left s)) = ap length due_is ∙ length-append back (sent_all V1 (left s)) in
+      let all : length (due_of s) ≡ length back + length (sent_all s.version (left s)) = ap length due_is ∙ length-append back (sent_all s.version (left s)) in
       let is : now ≡ take (filled + g.count) (due_of start) ++ drop (filled + g.count) given =
       g.now_is ∙ (λ i. first i ++ front i ++ last i) ∙ ap (λ x. x ++ drop (filled + g.count) given) (sym (take-add filled g.count (due_of start))) in
       let back_due : due_of new ≡ drop g.count (due_of s) =
-      due_now ∙ (λ i. g.left i ++ sent_all V1 (left_stays i)) ∙ sym (drop-append-le g.count back (sent_all V1 (left s)) (omega (arith, g.count_is))) ∙ ap (drop g.count) (sym due_is) in
+      due_now ∙ (λ i. g.left i ++ sent_all (g.version i) (left_stays i)) ∙ sym (drop-append-le g.count back (sent_all s.version (left s)) (omega (arith, g.count_is))) ∙ ap (drop g.count) (sym due_is) in
       record {
         low = omega (arith, g.result_is, g.count_is, f.low, ap length is, length-append (take (filled + g.count) (due_of start)) (drop (filled + g.count) given), length-take (filled + g.count) (due_of start), sizes, all, f.within);
         within = omega (arith, g.result_is, g.count_is, f.within, sizes, all);
         now = is ∙ ap (λ n. take n (due_of start) ++ drop n given) (sym g.result_is);
         due = back_due ∙ ap (drop g.count) f.due ∙ drop-drop g.count filled (due_of start) ∙ ap (λ n. drop n (due_of start)) (sym g.result_is);
-        stays = record { session = g.session ∙ f.stays.session; timing = g.timing ∙ f.stays.timing; newest = newest_stays ∙ f.stays.newest; room = λ before. room_stays (f.stays.room before) };
+        stays = record { version = g.version ∙ f.stays.version; sessions = g.sessions ∙ f.stays.sessions; timing = g.timing ∙ f.stays.timing; newest = newest_stays ∙ f.stays.newest; room = λ before. room_stays (f.stays.room before) };
       }
 
   -- where not all is filled, the buffer is empty
@@ -248,12 +255,12 @@ without_answer s a e f = λ i. record s { answer = (f ∙ sym e) i }
 
 pub rests : (s : Sender) → drop s.pulled s.buffer.items ≡ [] → s.answer ≡ None → due_of s ≡ []
 unfolding due_of left
-rests s none e = λ i. none i ++ sent_all V1 (left_in s.session s.timing (e i))
+rests s none e = λ i. none i ++ sent_all s.version (left_in s.version (own_session s) s.timing (e i))
 
 hands_due : (s new : Sender) → drop s.pulled s.buffer.items ≡ [] → Hands s new → due_of new ≡ due_of s
 unfolding due_of
 hands_due s new none h =
-    (λ i. drop (h.pulled i) (h.bytes i) ++ sent_all V1 (left new)) ∙ ap (sent_all V1) (sym h.was) ∙ ap (λ x. x ++ sent_all V1 (left s)) (sym none)
+    (λ i. drop (h.pulled i) (h.bytes i) ++ sent_all (h.stays.version i) (left new)) ∙ ap (sent_all s.version) (sym h.was) ∙ ap (λ x. x ++ sent_all s.version (left s)) (sym none)
 
 -- the next unit
 pub hands_more : (start : Sender) (given : List ℕ) (s : Sender) (out : List ℕ) (filled : ℕ) (w : AnswerCursor) (new : Sender) → s.answer ≡ Some w → drop s.pulled s.buffer.items ≡ [] → Hands (record s { answer = Some w }) new
@@ -266,7 +273,8 @@ hands_more start given s out filled w new e none h f =
       now = f.now;
       due = hands_due (record s { answer = Some w }) new none h ∙ ap due_of same ∙ f.due;
       stays = record {
-        session = h.stays.session ∙ f.stays.session;
+        version = h.stays.version ∙ f.stays.version;
+        sessions = h.stays.sessions ∙ f.stays.sessions;
         timing = h.stays.timing ∙ f.stays.timing;
         newest = h.stays.newest ∙ ap newest_of same ∙ f.stays.newest;
         room = λ before. h.stays.room (subst (λ x. ready_in x ≤ 4096) (sym same) (f.stays.room before));
@@ -285,9 +293,9 @@ no_answer s e = by_case s.answer (none_due s e)
     some : (units : List Unit) (u : Unit) → units ++ u ∷ [] ≡ [] → ⊥
     some units u e = let h : u ∷ [] ≡ [] = (both_none units (u ∷ []) e).1 in cc
 
-    by_case : (a : Option AnswerCursor) → left_in s.session s.timing a ≡ [] → a ≡ None
+    by_case : (a : Option AnswerCursor) → left_in s.version (own_session s) s.timing a ≡ [] → a ≡ None
     by_case None h = refl
-    by_case (Some a) h = absurd (some (drop a.place (units_in a.records)) (EndOfData s.session (serial_in a.records) s.timing.refresh s.timing.retry s.timing.expire) h)
+    by_case (Some a) h = absurd (some (drop a.place (units_in a.records)) (end_of_data s.version (own_session s) (serial_in a.records) s.timing) h)
 
 pub newest_none : (s : Sender) → due_of s ≡ [] → s.ready ≡ None → newest_of s ≡ None
 unfolding newest_of
@@ -297,10 +305,10 @@ pub newest_ready : (s : Sender) (share : Share) → s.ready ≡ Some share → n
 unfolding newest_of
 newest_ready s share h = ap (λ r. newest_in r s.answer) h
 
-pub due_begins : (s : Sender) (session : ℕ) (t : Intervals) (records : Records) → s.session ≡ session → s.timing ≡ t → s.pulled ≡ 0 → s.buffer.items ≡ sent V1 (CacheResponse session) → s.answer ≡ Some (record { records = records; place = 0 })
-    → due_of s ≡ sent_all V1 (CacheResponse session ∷ units_in records ++ EndOfData session (serial_in records) t.refresh t.retry t.expire ∷ [])
+pub due_begins : (s : Sender) (version : Version) (session : ℕ) (t : Intervals) (records : Records) → s.version ≡ version → own_session s ≡ session → s.timing ≡ t → s.pulled ≡ 0 → s.buffer.items ≡ sent version (CacheResponse session) → s.answer ≡ Some (record { records = records; place = 0 })
+    → due_of s ≡ sent_all version (CacheResponse session ∷ units_in records ++ end_of_data version session (serial_in records) t ∷ [])
 unfolding due_of left
-due_begins s session t records a b c d e = λ i. drop (c i) (d i) ++ sent_all V1 (left_in (a i) (b i) (e i))
+due_begins s version session t records v a b c d e = λ i. drop (c i) (d i) ++ sent_all (v i) (left_in (v i) (a i) (b i) (e i))
 
 -- another share that is ready, and the same bytes
 pub same_due : (s : Sender) (ready : Option Share) → due_of (record s { ready = ready }) ≡ due_of s
@@ -312,32 +320,33 @@ unfolding newest_of
 offers s ready share e = ap (λ r. newest_in r s.answer) e
 
 -- an answer to a Reset Query, where nothing is published
-pub resets_none : (s new : Sender) (ready : Option Share) → due_of s ≡ [] → s.ready ≡ None → ready ≡ None → Sends (record s { ready = ready }) (report 2 (sent V1 ResetQuery) ∷ []) new
-    → Sends s (whole_answer V1 s.session s.timing (as_list (newest_of s))) new
+pub resets_none : (s new : Sender) (ready : Option Share) → due_of s ≡ [] → s.ready ≡ None → ready ≡ None → Sends (record s { ready = ready }) (report 2 (sent s.version ResetQuery) ∷ []) new
+    → Sends s (whole_answer s.version (own_session s) s.timing (as_list (newest_of s))) new
 unfolding newest_of ready_in
 resets_none s new ready e h k sends = record {
-  due = sends.due ∙ ap (λ v. sent_all V1 (whole_answer V1 s.session s.timing (as_list v))) (sym (newest_none s e h));
-  stays = record { session = sends.stays.session; timing = sends.stays.timing; newest = sends.stays.newest ∙ ap (λ r. newest_in r s.answer) (k ∙ sym h); room = sends.stays.room };
+  due = sends.due ∙ ap (λ v. sent_all s.version (whole_answer s.version (own_session s) s.timing (as_list v))) (sym (newest_none s e h));
+  stays = record { version = sends.stays.version; sessions = sends.stays.sessions; timing = sends.stays.timing; newest = sends.stays.newest ∙ ap (λ r. newest_in r s.answer) (k ∙ sym h); room = sends.stays.room };
 }
 
 -- and of a version
 pub resets_some : (s new : Sender) (share : Share) (ready : Option Share) → s.ready ≡ Some share → ready ≡ None → BeginsAnswer (record s { ready = ready }) (Whole share) new
-    → Sends s (whole_answer V1 s.session s.timing (as_list (newest_of s))) new
+    → Sends s (whole_answer s.version (own_session s) s.timing (as_list (newest_of s))) new
 unfolding newest_of
 resets_some s new share ready h k b = record {
-  due = b.due ∙ ap (λ v. sent_all V1 (whole_answer V1 s.session s.timing (as_list v))) (sym (newest_ready s share h));
-  stays = record { session = b.session; timing = b.timing; newest = (λ i. newest_in ((b.ready ∙ k) i) (b.answer i)) ∙ sym (newest_ready s share h); room = λ before. b.room };
+  due = b.due ∙ ap (λ v. sent_all s.version (whole_answer s.version (own_session s) s.timing (as_list v))) (sym (newest_ready s share h));
+  stays = record { version = b.version; sessions = b.sessions; timing = b.timing; newest = (λ i. newest_in ((b.ready ∙ k) i) (b.answer i)) ∙ sym (newest_ready s share h); room = λ before. b.room };
 }
 
 pub steps : (s new : Sender) (serial : Serial) (change : Change) (v : NumberedSet) → due_of s ≡ [] → Some serial.0 ≡ option_map (λ (v : NumberedSet). v.serial) (newest_of s) → newest_of s ≡ Some v → BeginsAnswer s (Step serial change) new
-    → Sends s (response V1 s.session s.timing v (withdrawals change.withdraw ++ announcements change.announce)) new
+    → Sends s (response s.version (own_session s) s.timing v (withdrawals change.withdraw ++ announcements change.announce)) new
 unfolding newest_of
 steps s new serial change v e same is b =
     let serial_is : serial.0 ≡ v.serial = inside (same ∙ ap (option_map (λ (v : NumberedSet). v.serial)) is) in
     record {
-      due = b.due ∙ ap (λ n. sent_all V1 (CacheResponse s.session ∷ (withdrawals change.withdraw ++ announcements change.announce) ++ EndOfData s.session n s.timing.refresh s.timing.retry s.timing.expire ∷ [])) serial_is;
+      due = b.due ∙ ap (λ n. sent_all s.version (CacheResponse (own_session s) ∷ (withdrawals change.withdraw ++ announcements change.announce) ++ end_of_data s.version (own_session s) n s.timing ∷ [])) serial_is;
       stays = record {
-        session = b.session;
+        version = b.version;
+        sessions = b.sessions;
         timing = b.timing;
         newest = (λ i. newest_in (b.ready i) (b.answer i)) ∙ newest_same s.ready (Some (record { records = Step serial change; place = 0 })) None refl ∙ ap (newest_in s.ready) (sym (no_answer s e));
         room = λ before. b.room;
@@ -346,3 +355,14 @@ steps s new serial change v e same is b =
   where
     inside : {a b : ℕ} → Some a ≡ Some b → a ≡ b
     inside h = cc
+
+-- nothing is due in any version
+pub speaks : (s : Sender) (version : Version) → due_of s ≡ [] → Speaks version s (record s { version = version })
+unfolding due_of left newest_of ready_in
+speaks s version e =
+    let front = (both_none (drop s.pulled s.buffer.items) (sent_all s.version (left s)) e).0 in
+    record {
+      version_is = refl;
+      due = rests (record s { version = version }) front (no_answer s e);
+      stays = record { sessions = refl; timing = refl; newest = refl; room = λ h. h };
+    }

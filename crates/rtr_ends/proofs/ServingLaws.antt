@@ -1,5 +1,5 @@
 -- A connection at the cache makes the history of what is called on it.
-use Rattle.std.specs.Prelude.{◌≡◌, ◌⊎◌, ℕ, ◌-◌, ◌<◌, Bool, true, false, not, ◌&&◌, List, [], ◌∷◌, ◌++◌, length, take, drop, Option, Some, if◌then◌else◌, MatchBool, refl}
+use Rattle.std.specs.Prelude.{◌≡◌, ◌⊎◌, ℕ, ◌-◌, ◌<◌, Bool, true, false, not, ◌&&◌, List, [], ◌∷◌, ◌++◌, length, take, drop, Option, Some, None, if◌then◌else◌, MatchBool, refl}
 use Rattle.std.proofs.Common.{sym, ap, ◌∙◌, subst, arith, append_assoc, inl, inr, zero, suc}
 use Rattle.std.specs.List.{AllByRecursion}
 use Rattle.std.proofs.lemmas.Bool.{and_parts, or_parts}
@@ -9,7 +9,8 @@ use Rattle.vrps.specs.Instance.{Instance, IsInstance}
 use Rattle.vrps.specs.Store.{is_current, published}
 use Rattle.vrps.specs.VrpSet.{VrpSet}
 use Rattle.vrps.proofs.SetVersions.{published_is_instance}
-use Rattle.rtr_pdu.specs.declared.version.Version.TheVariants.{V1}
+use Rattle.rtr_pdu.specs.declared.version.Version.{Version}
+use Rattle.rtr_pdu.specs.Version.{header_version, version_in}
 use Rattle.rtr_pdu.specs.Judging.{Judgement, Begins, Whole, Faulty, judge, unit_in}
 use Rattle.rtr_pdu.specs.Payloads.{AreBytes}
 use Rattle.rtr_pdu.specs.Stream.{as_read, IsPartial, IsShortest, Shows}
@@ -19,9 +20,9 @@ use Rattle.rtr_pdu.specs.declared.unit.UnitFault.{UnitFault}
 use Rattle.rtr_pdu.proofs.JudgingLaws.{judge_case, whole_exactly}
 use Rattle.rtr_pdu.proofs.JudgingLaws as judging
 use Rattle.rtr_pdu.proofs.NextLaws.{next_shortest, next_size}
-use Rattle.rtr_pdu.proofs.ReaderLaws.{partial_empty}
-use Rattle.rtr_ends.specs.Cache.{Conn, Taking, is_none, conn_stops, conn_moment_of, with_moment, finds_memory, and_moment, conn_judged, conn_byte, conn_takes, can_notify, conn_notified, pulled_count, conn_pulled, ConnCall, Publishes, Takes, Gives, Notifies, Serving, serve, serving, IsConnCall, IsServed, ServesHistory, new_conn}
-use Rattle.rtr_ends.specs.Connection.{Connection, ConnMoment, Read, Wanting, Fault, Notify, Pull, bytes_of, IsLater, IsHistory, MayCome, MayHold, conn_after, after_all, opened, pulled, is_published, takes_memory}
+use Rattle.rtr_pdu.proofs.ReaderLaws.{partial_empty, reader_with}
+use Rattle.rtr_ends.specs.Cache.{Conn, Taking, is_none, conn_stops, conn_moment_of, with_moment, finds_memory, and_moment, conn_judged, conn_byte, conn_takes, can_notify, conn_notified, pulled_count, conn_pulled, ConnCall, Publishes, Takes, Gives, Notifies, Serving, serve, serving, IsConnCall, IsServed, ServesHistory, new_conn, speaks_in, spoken_in, version_at}
+use Rattle.rtr_ends.specs.Connection.{Connection, ConnMoment, Read, Wanting, Fault, Notify, Pull, bytes_of, IsLater, IsHistory, MayCome, MayHold, MayNotifyIn, conn_after, after_all, opened, pulled, is_published, takes_memory}
 use Rattle.rtr_ends.specs.Feeding.{feed, run}
 use Rattle.rtr_ends.specs.Timing.{Intervals}
 use Rattle.rtr_ends.proofs.ByteLists.{none_bytes, more_bytes, bytes_front, front_of}
@@ -60,10 +61,10 @@ module _ (keep : ℕ) (t : Intervals) where
 
   pulled_first : (c : Connection) (m : ConnMoment) (later : List ConnMoment) → pulled keep t c (m ∷ later) ≡ pulled_by c m ++ pulled keep t (conn_after keep t c m) later
   pulled_first c (Pull count) later = refl
-  pulled_first c (Read cache unit bytes) later = refl
-  pulled_first c (Wanting cache unit bytes) later = refl
-  pulled_first c (Fault fault bytes) later = refl
-  pulled_first c (Notify cache) later = refl
+  pulled_first c (Read version cache unit bytes) later = refl
+  pulled_first c (Wanting version cache unit bytes) later = refl
+  pulled_first c (Fault version fault bytes) later = refl
+  pulled_first c (Notify version cache) later = refl
 
   pulled_more : (c : Connection) (moments : List ConnMoment) (used : List ℕ) (new : Connection) (m : ConnMoment) → Runs keep t c moments used new → pulled keep t c (moments ++ m ∷ []) ≡ pulled keep t c moments ++ pulled_by new m
   pulled_more c [] used new m r = pulled_first c m [] ∙ append-nil (pulled_by c m) ∙ ap (λ x. pulled_by x m) (sym r.1)
@@ -97,16 +98,16 @@ module _ (keep : ℕ) (t : Intervals) where
   holds_none : (c : Connection) → MayHold c []
   holds_none c = by_end c.ended
     where
-      by_end : (b : Bool) → MatchBool b (◌≡◌ {A = List ℕ} [] []) (IsPartial V1 [] × ((◌≡◌ {A = List ℕ} [] []) ⊎ ((c.due ≡ []) ⊎ (c.notified ≡ true))))
+      by_end : (b : Bool) → MatchBool b (◌≡◌ {A = List ℕ} [] []) (IsPartial (version_in c.version []) [] × ((◌≡◌ {A = List ℕ} [] []) ⊎ ((c.due ≡ []) ⊎ (c.notified ≡ true))))
       by_end true = refl
-      by_end false = (subst (λ x. IsPartial V1 x) (read_plainly []) (partial_empty V1 false), inl refl)
+      by_end false = (subst (λ x. IsPartial (version_in c.version []) x) (read_plainly (version_in c.version []) []) (partial_empty (version_in c.version []) false), inl refl)
 
   -- what is held on a connection that goes on is the beginning of a unit
-  holds_part : (c : Connection) (held : List ℕ) → c.ended ≡ false → MayHold c held → IsPartial V1 held
-  holds_part c held is h = (subst (λ b. MatchBool b (held ≡ []) (IsPartial V1 held × ((held ≡ []) ⊎ ((c.due ≡ []) ⊎ (c.notified ≡ true))))) is h).0
+  holds_part : (c : Connection) (held : List ℕ) → c.ended ≡ false → MayHold c held → IsPartial (version_in c.version held) held
+  holds_part c held is h = (subst (λ b. MatchBool b (held ≡ []) (IsPartial (version_in c.version held) held × ((held ≡ []) ⊎ ((c.due ≡ []) ⊎ (c.notified ≡ true))))) is h).0
 
-  holds_open : (c : Connection) (held : List ℕ) → c.ended ≡ false → IsPartial V1 held → (held ≡ []) ⊎ ((c.due ≡ []) ⊎ (c.notified ≡ true)) → MayHold c held
-  holds_open c held is part h = subst (λ b. MatchBool b (held ≡ []) (IsPartial V1 held × ((held ≡ []) ⊎ ((c.due ≡ []) ⊎ (c.notified ≡ true))))) (sym is) (part, h)
+  holds_open : (c : Connection) (held : List ℕ) → c.ended ≡ false → IsPartial (version_in c.version held) held → (held ≡ []) ⊎ ((c.due ≡ []) ⊎ (c.notified ≡ true)) → MayHold c held
+  holds_open c held is part h = subst (λ b. MatchBool b (held ≡ []) (IsPartial (version_in c.version held) held × ((held ≡ []) ⊎ ((c.due ≡ []) ⊎ (c.notified ≡ true))))) (sym is) (part, h)
 
   module _ (opened_at : Instance) where
     -- a moment that the last of these bytes brings
@@ -124,7 +125,7 @@ module _ (keep : ℕ) (t : Intervals) where
     }
 
     same_later : (i : Instance) → IsLater i i
-    same_later i = record { session = refl; start = refl; more = []; sets = refl }
+    same_later i = record { session = refl; session0 = refl; start = refl; more = []; sets = refl }
 
     -- A connection with the cache as it is now
     pub record Stands (i : Instance) (before : List ConnMoment) (m : Taking) (came given : List ℕ) : Type 0 where
@@ -134,9 +135,9 @@ module _ (keep : ℕ) (t : Intervals) where
     module _ (i : Instance) (is : IsInstance i) (before : List ConnMoment) (given : List ℕ) where
       -- what is judged of the next byte
       abbrev next : Taking → ℕ → Judgement → Taking
-      next m b j = conn_judged keep t i m (m.conn.held ++ b ∷ []) j
+      next m b j = conn_judged keep t i m (version_at m.conn (b ∷ [])) (m.conn.held ++ b ∷ []) j
 
-      stands_moment : (m : Taking) (b : ℕ) (came : List ℕ) (j : Judgement) (k : ConnMoment) → conn_moment_of i (finds_memory m.wanting) (m.conn.held ++ b ∷ []) j ≡ Some k → MayCome m.conn.state k → bytes_of k ≡ m.conn.held ++ b ∷ [] → pulled_by m.conn.state k ≡ []
+      stands_moment : (m : Taking) (b : ℕ) (came : List ℕ) (j : Judgement) (k : ConnMoment) → conn_moment_of i (finds_memory m.wanting) (version_at m.conn (b ∷ [])) (m.conn.held ++ b ∷ []) j ≡ Some k → MayCome m.conn.state k → bytes_of k ≡ m.conn.held ++ b ∷ [] → pulled_by m.conn.state k ≡ []
           → IsInstance (conn_after keep t m.conn.state k).cache → IsLater (conn_after keep t m.conn.state k).cache i → Stands i before m came given → Stands i before (next m b j) (came ++ b ∷ []) given
       stands_moment m b came j k brings may bytes none cache later s =
           subst (λ o. Stands i before (record { conn = with_moment keep t (m.conn.held ++ b ∷ []) m.conn o; moments = and_moment m.moments o; wanting = (next m b j).wanting }) (came ++ b ∷ []) given) (sym brings)
@@ -148,10 +149,13 @@ module _ (keep : ℕ) (t : Intervals) where
 
       stands_byte : (m : Taking) (b : ℕ) (came : List ℕ) → b < 256 → conn_stops m.conn ≡ false → Stands i before m came given → Stands i before (conn_byte keep t i m b) (came ++ b ∷ []) given
       unfolding conn_byte
-      stands_byte m b came byte runs s = by_case (judge_case V1 false bytes)
+      stands_byte m b came byte runs s = by_case (judge_case version false bytes)
         where
           bytes : List ℕ
           bytes = m.conn.held ++ b ∷ []
+
+          version : Version
+          version = version_at m.conn (b ∷ [])
 
           tests : (m.conn.state.ended ≡ false) × (not (is_none m.conn.state.due) ≡ false)
           tests = or_parts m.conn.state.ended (not (is_none m.conn.state.due)) runs
@@ -163,16 +167,19 @@ module _ (keep : ℕ) (t : Intervals) where
           at_rest : m.conn.state.due ≡ []
           at_rest = none m.conn.state.due tests.1
 
-          part : IsPartial V1 (as_read V1 false m.conn.held)
-          part = subst (λ x. IsPartial V1 x) (sym (read_plainly m.conn.held)) (holds_part m.conn.state m.conn.held tests.0 s.goes.holds)
+          own : Version
+          own = version_in m.conn.state.version m.conn.held
+
+          part : IsPartial version (as_read version false m.conn.held)
+          part = reader_with m.conn.state.version None false m.conn.held (b ∷ []) (subst (λ x. IsPartial own x) (sym (read_plainly own m.conn.held)) (holds_part m.conn.state m.conn.held tests.0 s.goes.holds))
 
           each : AreBytes bytes
           each = more_bytes m.conn.held b s.goes.bytes byte
 
-          shortest : IsShortest V1 false bytes
-          shortest = next_shortest V1 false m.conn.held b part
+          shortest : IsShortest version false bytes
+          shortest = next_shortest version false m.conn.held b part
 
-          begins : judge V1 false bytes ≡ Begins → IsPartial V1 bytes → Stands i before (next m b Begins) (came ++ b ∷ []) given
+          begins : judge version false bytes ≡ Begins → IsPartial version bytes → Stands i before (next m b Begins) (came ++ b ∷ []) given
           begins j partial = record {
             goes = record {
               used = s.goes.used;
@@ -186,33 +193,32 @@ module _ (keep : ℕ) (t : Intervals) where
             later = s.later;
           }
 
-          shows : (fault : UnitFault) → Shows V1 bytes fault → Stands i before (next m b (Faulty fault)) (came ++ b ∷ []) given
+          shows : (fault : UnitFault) → Shows version bytes fault → Stands i before (next m b (Faulty fault)) (came ++ b ∷ []) given
           shows fault h =
-              stands_moment m b came (Faulty fault) (Fault fault bytes) refl
-              (tests.0, at_rest, s.goes.cache, same_later m.conn.state.cache, (h, shortest)) refl refl s.goes.cache s.later s
+              stands_moment m b came (Faulty fault) (Fault version fault bytes) refl
+              (tests.0, at_rest, s.goes.cache, same_later m.conn.state.cache, (refl, h, shortest)) refl refl s.goes.cache s.later s
 
-          reads : (u : Unit) → Reads V1 u bytes → Stands i before (next m b (Whole u)) (came ++ b ∷ []) given
-          reads u h = by_memory (takes_memory i u && not (finds_memory m.wanting)) refl
+          reads : (u : Unit) → Reads version u bytes → Stands i before (next m b (Whole u)) (came ++ b ∷ []) given
+          reads u h = by_memory (takes_memory version i u && not (finds_memory m.wanting)) refl
             where
-              by_memory : (w : Bool) → (takes_memory i u && not (finds_memory m.wanting)) ≡ w → Stands i before (next m b (Whole u)) (came ++ b ∷ []) given
+              by_memory : (w : Bool) → (takes_memory version i u && not (finds_memory m.wanting)) ≡ w → Stands i before (next m b (Whole u)) (came ++ b ∷ []) given
               by_memory true e =
-                  stands_moment m b came (Whole u) (Wanting i u bytes) (ap (λ x. Some (if x then Wanting i u bytes else Read i u bytes)) e)
-                  (tests.0, at_rest, is, s.later, (h, (and_parts (takes_memory i u) (not (finds_memory m.wanting)) e).0)) refl refl is (same_later i) s
+                  stands_moment m b came (Whole u) (Wanting version i u bytes) (ap (λ x. Some (if x then Wanting version i u bytes else Read version i u bytes)) e)
+                  (tests.0, at_rest, is, s.later, (refl, h, (and_parts (takes_memory version i u) (not (finds_memory m.wanting)) e).0)) refl refl is (same_later i) s
               by_memory false e =
-                  stands_moment m b came (Whole u) (Read i u bytes) (ap (λ x. Some (if x then Wanting i u bytes else Read i u bytes)) e)
-                  (tests.0, at_rest, is, s.later, h) refl refl is (same_later i) s
+                  stands_moment m b came (Whole u) (Read version i u bytes) (ap (λ x. Some (if x then Wanting version i u bytes else Read version i u bytes)) e)
+                  (tests.0, at_rest, is, s.later, (refl, h)) refl refl is (same_later i) s
 
-          so : (j : Judgement) → judge V1 false bytes ≡ j → Stands i before (next m b j) (came ++ b ∷ []) given → Stands i before (next m b (judge V1 false bytes)) (came ++ b ∷ []) given
+          so : (j : Judgement) → judge version false bytes ≡ j → Stands i before (next m b j) (came ++ b ∷ []) given → Stands i before (next m b (judge version false bytes)) (came ++ b ∷ []) given
           so j e h = subst (λ x. Stands i before (next m b x) (came ++ b ∷ []) given) (sym e) h
 
-          by_case : judging.Case V1 (as_read V1 false bytes) (judge V1 false bytes) → Stands i before (next m b (judge V1 false bytes)) (came ++ b ∷ []) given
-          by_case (judging.begins e partial) = so Begins e (begins e (subst (λ x. IsPartial V1 x) (read_plainly bytes) partial))
-          by_case (judging.shows fault e h) = so (Faulty fault) e (shows fault (subst (λ x. Shows V1 x fault) (read_plainly bytes) h))
+          by_case : judging.Case version (as_read version false bytes) (judge version false bytes) → Stands i before (next m b (judge version false bytes)) (came ++ b ∷ []) given
+          by_case (judging.begins e partial) = so Begins e (begins e (subst (λ x. IsPartial version x) (read_plainly version bytes) partial))
+          by_case (judging.shows fault e h) = so (Faulty fault) e (shows fault (subst (λ x. Shows version x fault) (read_plainly version bytes) h))
           by_case (judging.whole e w sound) =
-              let u : Unit = unit_in V1 (as_read V1 false bytes) in
-              so (Whole (unit_in V1 (as_read V1 false bytes))) e
-              (reads (unit_in V1 (as_read V1 false bytes)) (subst (λ x. Reads V1 (unit_in V1 (as_read V1 false bytes)) x) (read_plainly bytes)
-              ((whole_exactly V1 false bytes (unit_in V1 (as_read V1 false bytes)) each (next_size V1 false m.conn.held b part w)).0 e)))
+              so (Whole (unit_in version (as_read version false bytes))) e
+              (reads (unit_in version (as_read version false bytes)) (subst (λ x. Reads version (unit_in version (as_read version false bytes)) x) (read_plainly version bytes)
+              ((whole_exactly version false bytes (unit_in version (as_read version false bytes)) each (next_size version false m.conn.held b part w)).0 e)))
 
       -- a piece, byte by byte
       abbrev step : Taking → ℕ → Taking
@@ -274,19 +280,24 @@ module _ (keep : ℕ) (t : Intervals) where
         still : (count : ℕ) (c : Connection) (held : List ℕ) → MayHold c held → MayHold (record c { due = drop count c.due }) held
         still count c held h = by_end c.ended h
           where
-            by_end : (b : Bool) → MatchBool b (held ≡ []) (IsPartial V1 held × ((held ≡ []) ⊎ ((c.due ≡ []) ⊎ (c.notified ≡ true)))) → MatchBool b (held ≡ []) (IsPartial V1 held × ((held ≡ []) ⊎ ((drop count c.due ≡ []) ⊎ (c.notified ≡ true))))
+            by_end : (b : Bool) → MatchBool b (held ≡ []) (IsPartial (version_in c.version held) held × ((held ≡ []) ⊎ ((c.due ≡ []) ⊎ (c.notified ≡ true)))) → MatchBool b (held ≡ []) (IsPartial (version_in c.version held) held × ((held ≡ []) ⊎ ((drop count c.due ≡ []) ⊎ (c.notified ≡ true))))
             by_end true h = h
             by_end false h = (h.0, rests count c held h.1)
 
+    -- It is notified in a version in which it may be.
+    may_notify : (agreed : Option Version) (held : List ℕ) → MayNotifyIn agreed (spoken_in (header_version agreed held))
+    may_notify None held = tt
+    may_notify (Some version) held = refl
+
     -- the router is notified, or cannot be
     notified_goes : (i : Instance) → IsInstance i → (s : Serving) → IsLater s.conn.state.cache i → Goes opened_at s.conn s.moments s.came s.given → (b : Bool) → can_notify i s.conn ≡ b
-        → Goes opened_at (if b then record s.conn { state = conn_after keep t s.conn.state (Notify i) } else s.conn) (if b then s.moments ++ Notify i ∷ [] else s.moments) s.came s.given
+        → Goes opened_at (if b then record s.conn { state = conn_after keep t s.conn.state (Notify (speaks_in s.conn) i) } else s.conn) (if b then s.moments ++ Notify (speaks_in s.conn) i ∷ [] else s.moments) s.came s.given
     notified_goes i is s later g false e = g
     notified_goes i is s later g true e = record {
       used = g.used ++ [];
-      runs = runs_more (opened opened_at) s.moments g.used s.conn.state (Notify i) g.runs (ended, due, is, later, parts.0);
+      runs = runs_more (opened opened_at) s.moments g.used s.conn.state (Notify (speaks_in s.conn) i) g.runs (ended, due, is, later, (may_notify s.conn.state.version s.conn.held, parts.0));
       came_is = g.came_is ∙ ap (λ x. x ++ s.conn.held) (sym (append-nil g.used));
-      given_is = g.given_is ∙ sym (append-nil (pulled keep t (opened opened_at) s.moments)) ∙ sym (pulled_more (opened opened_at) s.moments g.used s.conn.state (Notify i) g.runs);
+      given_is = g.given_is ∙ sym (append-nil (pulled keep t (opened opened_at) s.moments)) ∙ sym (pulled_more (opened opened_at) s.moments g.used s.conn.state (Notify (speaks_in s.conn) i) g.runs);
       holds = (holds_part s.conn.state s.conn.held ended g.holds, inr (inr refl));
       bytes = g.bytes;
       cache = is;
@@ -318,14 +329,14 @@ module _ (keep : ℕ) (t : Intervals) where
       where
         by_current : (b : Bool) → IsLater c (if b then i else record i { sets = set ∷ i.sets })
         by_current true = l
-        by_current false = record { session = l.session; start = l.start; more = set ∷ l.more; sets = ap (λ x. set ∷ x) l.sets }
+        by_current false = record { session = l.session; session0 = l.session0; start = l.start; more = set ∷ l.more; sets = ap (λ x. set ∷ x) l.sets }
 
     pub record Served (s : Serving) : Type 0 where
       pub goes : Goes opened_at s.conn s.moments s.came s.given
       pub later : IsLater s.conn.state.cache s.cache
       pub cache : IsInstance s.cache
 
-    later_by : (i : Instance) (s : Serving) (b : Bool) → IsLater s.conn.state.cache i → IsLater (if b then record s.conn { state = conn_after keep t s.conn.state (Notify i) } else s.conn).state.cache i
+    later_by : (i : Instance) (s : Serving) (b : Bool) → IsLater s.conn.state.cache i → IsLater (if b then record s.conn { state = conn_after keep t s.conn.state (Notify (speaks_in s.conn) i) } else s.conn).state.cache i
     later_by i s true l = same_later i
     later_by i s false l = l
 

@@ -15,7 +15,7 @@ conn_takes_so keep t i wanting piece o = feed_takes (λ m. conn_stops m.conn) (c
 
 pub conn_stops_so : ConnStops
 unfolding conn_byte
-conn_stops_so keep t i m b h = ap (λ j. conn_stops (cache.conn_judged keep t i m (m.conn.held ++ b ∷ []) j).conn) h
+conn_stops_so keep t i m b h = ap (λ j. conn_stops (cache.conn_judged keep t i m (cache.version_at m.conn (b ∷ [])) (m.conn.held ++ b ∷ []) j).conn) h
 
 pub router_takes_so : RouterTakes
 unfolding receives

@@ -1,18 +1,18 @@
 -- Whole answers, byte by byte.
-use Rattle.std.proofs.Common.{◌≡◌, ℕ, arith, inl, inr, true, false, List, [], ◌∷◌, ◌++◌, map, drop, refl, ap}
+use Rattle.std.proofs.Common.{Some, ◌≡◌, ℕ, arith, inl, inr, true, false, List, [], ◌∷◌, ◌++◌, map, drop, refl, ap}
 use Rattle.std.specs.List.Sorted.{IsStrictlySortedBy}
 use Rattle.prefixes.specs.Payload.{Payload, vrp_cmp}
 use Rattle.prefixes.specs.declared.prefix.IpPrefix.TheVariants.{V4, V6}
 use Rattle.vrps.specs.Instance.{Instance, IsInstance}
 use Rattle.vrps.specs.VrpSet.{VrpSet, set_of, empty}
 use Rattle.vrps.proofs.SetLaws.{listing-set_of, listing-without-set_of}
-use Rattle.rtr_pdu.specs.declared.version.Version.TheVariants.{V1}
+use Rattle.rtr_pdu.specs.declared.version.Version.TheVariants.{V0, V1}
 use Rattle.rtr_pdu.specs.Unit.{Reads, zeros}
 use Rattle.rtr_pdu.specs.declared.unit.Unit.{Unit}
 use Rattle.rtr_pdu.specs.declared.unit.Unit.TheVariants.{SerialQuery, ResetQuery, CacheReset, Prefix}
 use Rattle.rtr_pdu.specs.declared.unit.UnitFault.TheVariants as faults
 use Rattle.rtr_ends.specs.Answer.{answer, response, sent, sent_all}
-use Rattle.rtr_ends.specs.Connection.{Read, Wanting, Fault, Notify, Pull, IsHistory, IsLater, fault_report, opened, replies}
+use Rattle.rtr_ends.specs.Connection.{bytes_sent, in_version, Read, Wanting, Fault, Notify, Pull, IsHistory, IsLater, fault_report, opened, replies}
 use Rattle.rtr_ends.specs.Timing.{default_intervals}
 
 -- 192.0.2.0/24 maximum 24 AS64496, and 198.51.100.0/24 maximum 24 AS64497
@@ -24,7 +24,7 @@ w = record { prefix = V4 (record { addr = 0xc6336400; len = 24 }); max_len = 24;
 
 -- a cache of session 0x1234 with these sets, the newest first
 abbrev pub cache : ℕ → List VrpSet → Instance
-cache start sets = record { session = 0x1234; start = start; sets = sets }
+cache start sets = record { session = 0x1234; session0 = 0x1234; start = start; sets = sets }
 
 abbrev just_v : VrpSet
 just_v = set_of (v ∷ [])
@@ -102,10 +102,10 @@ goes_round = λ i. sent_all V1 (with_changes 0 v_and_w (listing-without-set_of (
 
 -- A Reset Query was read while v was current; v and w are published before its answer was pulled to its end. The answer stays
 -- v's, and the next query is answered with the change.
-pub published_meanwhile : drop 10 (replies 2 default_intervals (Read (cache 5 (just_v ∷ [])) ResetQuery reset_bytes ∷ Read (cache 5 (v_and_w ∷ just_v ∷ [])) (SerialQuery 0x1234 5) serial_bytes ∷ []))
+pub published_meanwhile : drop 10 (replies 2 default_intervals (Read V1 (cache 5 (just_v ∷ [])) ResetQuery reset_bytes ∷ Read V1 (cache 5 (v_and_w ∷ just_v ∷ [])) (SerialQuery 0x1234 5) serial_bytes ∷ []))
     ≡ drop 10 (response_bytes ++ v_bytes ++ end_bytes 5) ++ response_bytes ++ w_bytes ++ end_bytes 6
-published_meanwhile = λ i. drop 10 (sent_all V1 (with_all_of 5 just_v (listing-set_of (v ∷ []) v_ascends i)
-    ++ (with_changes 6 v_and_w (listing-without-set_of (v ∷ []) (v ∷ w ∷ []) v_ascends i) (listing-without-set_of (v ∷ w ∷ []) (v ∷ []) both_ascend i) ++ [])))
+published_meanwhile = λ i. drop 10 (bytes_sent (in_version V1 (with_all_of 5 just_v (listing-set_of (v ∷ []) v_ascends i))
+    ++ (in_version V1 (with_changes 6 v_and_w (listing-without-set_of (v ∷ []) (v ∷ w ∷ []) v_ascends i) (listing-without-set_of (v ∷ w ∷ []) (v ∷ []) both_ascend i)) ++ [])))
 
 -- serials 4 to 7: nothing, v, v and w, v
 abbrev four : Instance
@@ -116,64 +116,72 @@ pub came_and_went : sent_all V1 (answer V1 four 2 default_intervals (SerialQuery
 came_and_went = ap (λ vs. sent_all V1 (with_changes 7 just_v vs vs)) (listing-without-set_of (v ∷ []) (v ∷ []) v_ascends)
 
 -- A serial that is no longer kept; then the router asks for all.
-pub not_kept : replies 2 default_intervals (Read four (SerialQuery 0x1234 4) (sent V1 (SerialQuery 0x1234 4)) ∷ Read four ResetQuery reset_bytes ∷ [])
+pub not_kept : replies 2 default_intervals (Read V1 four (SerialQuery 0x1234 4) (sent V1 (SerialQuery 0x1234 4)) ∷ Read V1 four ResetQuery reset_bytes ∷ [])
     ≡ 0x01 ∷ 0x08 ∷ 0 ∷ 0 ∷ 0 ∷ 0 ∷ 0 ∷ 0x08 ∷ response_bytes ++ v_bytes ++ end_bytes 7
-not_kept = ap (λ vs. sent_all V1 (CacheReset ∷ (with_all_of 7 just_v vs ++ []))) (listing-set_of (v ∷ []) v_ascends)
+not_kept = ap (λ vs. bytes_sent (in_version V1 (CacheReset ∷ []) ++ (in_version V1 (with_all_of 7 just_v vs) ++ []))) (listing-set_of (v ∷ []) v_ascends)
 
 -- Nothing is published yet, and the connection goes on.
 pub no_data : (answer V1 (cache 5 []) 2 default_intervals ResetQuery).goes_on ≡ true
 no_data = refl
 
-pub no_data_twice : replies 2 default_intervals (Read (cache 5 []) ResetQuery reset_bytes ∷ Read (cache 5 []) ResetQuery reset_bytes ∷ []) ≡ no_data_bytes ++ no_data_bytes
+pub no_data_twice : replies 2 default_intervals (Read V1 (cache 5 []) ResetQuery reset_bytes ∷ Read V1 (cache 5 []) ResetQuery reset_bytes ∷ []) ≡ no_data_bytes ++ no_data_bytes
 no_data_twice = refl
 
 -- A query of another session is answered with Corrupt Data. The connection ends, and a query after it is not answered.
-pub other_session : replies 2 default_intervals (Read (record { session = 0x2222; start = 5; sets = [] }) (SerialQuery 0x1234 5) serial_bytes ∷ Read (cache 5 []) ResetQuery reset_bytes ∷ [])
+pub other_session : replies 2 default_intervals (Read V1 (record { session = 0x2222; session0 = 0x2222; start = 5; sets = [] }) (SerialQuery 0x1234 5) serial_bytes ∷ Read V1 (cache 5 []) ResetQuery reset_bytes ∷ [])
     ≡ 0x01 ∷ 0x0a ∷ 0 ∷ 0 ∷ 0 ∷ 0 ∷ 0 ∷ 0x1c ∷ 0 ∷ 0 ∷ 0 ∷ 0x0c ∷ serial_bytes ++ 0 ∷ 0 ∷ 0 ∷ 0 ∷ []
 other_session = refl
 
 -- A unit that only a cache sends is an Invalid Request.
-pub not_a_query : replies 2 default_intervals (Read (cache 5 []) CacheReset (sent V1 CacheReset) ∷ [])
+pub not_a_query : replies 2 default_intervals (Read V1 (cache 5 []) CacheReset (sent V1 CacheReset) ∷ [])
     ≡ 0x01 ∷ 0x0a ∷ 0 ∷ 0x03 ∷ 0 ∷ 0 ∷ 0 ∷ 0x18 ∷ 0 ∷ 0 ∷ 0 ∷ 0x08 ∷ sent V1 CacheReset ++ 0 ∷ 0 ∷ 0 ∷ 0 ∷ []
 not_a_query = refl
 
 -- a length that cannot be, and a type that is none
-pub bad_length : replies 2 default_intervals (Fault faults.Length (0x01 ∷ 0x04 ∷ 0 ∷ 0 ∷ 0xff ∷ 0xff ∷ 0xff ∷ 0xff ∷ []) ∷ [])
+pub bad_length : replies 2 default_intervals (Fault V1 faults.Length (0x01 ∷ 0x04 ∷ 0 ∷ 0 ∷ 0xff ∷ 0xff ∷ 0xff ∷ 0xff ∷ []) ∷ [])
     ≡ 0x01 ∷ 0x0a ∷ 0 ∷ 0 ∷ 0 ∷ 0 ∷ 0 ∷ 0x18 ∷ 0 ∷ 0 ∷ 0 ∷ 0x08 ∷ 0x01 ∷ 0x04 ∷ 0 ∷ 0 ∷ 0xff ∷ 0xff ∷ 0xff ∷ 0xff ∷ 0 ∷ 0 ∷ 0 ∷ 0 ∷ []
 bad_length = refl
 
-pub bad_type : replies 2 default_intervals (Fault faults.«Type» (0x01 ∷ 0x05 ∷ 0 ∷ 0 ∷ 0 ∷ 0 ∷ 0 ∷ 0x08 ∷ []) ∷ [])
+pub bad_type : replies 2 default_intervals (Fault V1 faults.«Type» (0x01 ∷ 0x05 ∷ 0 ∷ 0 ∷ 0 ∷ 0 ∷ 0 ∷ 0x08 ∷ []) ∷ [])
     ≡ 0x01 ∷ 0x0a ∷ 0 ∷ 0x05 ∷ 0 ∷ 0 ∷ 0 ∷ 0x18 ∷ 0 ∷ 0 ∷ 0 ∷ 0x08 ∷ 0x01 ∷ 0x05 ∷ 0 ∷ 0 ∷ 0 ∷ 0 ∷ 0 ∷ 0x08 ∷ 0 ∷ 0 ∷ 0 ∷ 0 ∷ []
 bad_type = refl
 
 abbrev version_0 : List ℕ
 version_0 = 0 ∷ 0x02 ∷ 0 ∷ 0 ∷ 0 ∷ 0 ∷ 0 ∷ 0x08 ∷ []
 
--- another version before a query and after one
-pub other_version : replies 2 default_intervals (Fault faults.Version version_0 ∷ []) ≡ 0x01 ∷ 0x0a ∷ 0 ∷ 0x04 ∷ 0 ∷ 0 ∷ 0 ∷ 0x18 ∷ 0 ∷ 0 ∷ 0 ∷ 0x08 ∷ version_0 ++ 0 ∷ 0 ∷ 0 ∷ 0 ∷ []
+abbrev version_2 : List ℕ
+version_2 = 0x02 ∷ 0x02 ∷ 0 ∷ 0 ∷ 0 ∷ 0 ∷ 0 ∷ 0x08 ∷ []
+
+-- a version that there is not before a query, and another than the one spoken after one
+pub other_version : replies 2 default_intervals (Fault V1 faults.Version version_2 ∷ []) ≡ 0x01 ∷ 0x0a ∷ 0 ∷ 0x04 ∷ 0 ∷ 0 ∷ 0 ∷ 0x18 ∷ 0 ∷ 0 ∷ 0 ∷ 0x08 ∷ version_2 ++ 0 ∷ 0 ∷ 0 ∷ 0 ∷ []
 other_version = refl
 
-pub other_version_later : replies 2 default_intervals (Read (cache 5 []) ResetQuery reset_bytes ∷ Fault faults.Version version_0 ∷ [])
+pub other_version_later : replies 2 default_intervals (Read V1 (cache 5 []) ResetQuery reset_bytes ∷ Fault V1 faults.Version version_0 ∷ [])
     ≡ no_data_bytes ++ 0x01 ∷ 0x0a ∷ 0 ∷ 0x08 ∷ 0 ∷ 0 ∷ 0 ∷ 0x18 ∷ 0 ∷ 0 ∷ 0 ∷ 0x08 ∷ version_0 ++ 0 ∷ 0 ∷ 0 ∷ 0 ∷ []
 other_version_later = refl
 
+pub version_1_later : replies 2 default_intervals (Read V0 (cache 5 []) ResetQuery version_0 ∷ Fault V0 faults.Version reset_bytes ∷ [])
+    ≡ 0 ∷ 0x0a ∷ 0 ∷ 0x02 ∷ 0 ∷ 0 ∷ 0 ∷ 0x18 ∷ 0 ∷ 0 ∷ 0 ∷ 0x08 ∷ version_0 ++ 0 ∷ 0 ∷ 0 ∷ 0
+    ∷ 0 ∷ 0x0a ∷ 0 ∷ 0x04 ∷ 0 ∷ 0 ∷ 0 ∷ 0x18 ∷ 0 ∷ 0 ∷ 0 ∷ 0x08 ∷ reset_bytes ++ 0 ∷ 0 ∷ 0 ∷ 0 ∷ []
+version_1_later = refl
+
 -- No report is sent on an Error Report.
-pub report_on_none : fault_report true faults.Length (0x01 ∷ 0x0a ∷ 0 ∷ 0 ∷ 0 ∷ 0 ∷ 0 ∷ 0x0f ∷ []) ≡ []
+pub report_on_none : fault_report (Some V1) faults.Length (0x01 ∷ 0x0a ∷ 0 ∷ 0 ∷ 0 ∷ 0 ∷ 0 ∷ 0x0f ∷ []) ≡ []
 report_on_none = refl
 
 -- a notify
-pub notified : replies 2 default_intervals (Notify (cache 5 (just_v ∷ [])) ∷ []) ≡ 0x01 ∷ 0 ∷ 0x12 ∷ 0x34 ∷ 0 ∷ 0 ∷ 0 ∷ 0x0c ∷ 0 ∷ 0 ∷ 0 ∷ 0x05 ∷ []
+pub notified : replies 2 default_intervals (Notify V1 (cache 5 (just_v ∷ [])) ∷ []) ≡ 0x01 ∷ 0 ∷ 0x12 ∷ 0x34 ∷ 0 ∷ 0 ∷ 0 ∷ 0x0c ∷ 0 ∷ 0 ∷ 0 ∷ 0x05 ∷ []
 notified = refl
 
 -- want of memory
-pub wanted : replies 2 default_intervals (Wanting (cache 5 (just_v ∷ [])) ResetQuery reset_bytes ∷ []) ≡ 0x01 ∷ 0x0a ∷ 0 ∷ 0x01 ∷ 0 ∷ 0 ∷ 0 ∷ 0x10 ∷ 0 ∷ 0 ∷ 0 ∷ 0 ∷ 0 ∷ 0 ∷ 0 ∷ 0 ∷ []
+pub wanted : replies 2 default_intervals (Wanting V1 (cache 5 (just_v ∷ [])) ResetQuery reset_bytes ∷ []) ≡ 0x01 ∷ 0x0a ∷ 0 ∷ 0x01 ∷ 0 ∷ 0 ∷ 0 ∷ 0x10 ∷ 0 ∷ 0 ∷ 0 ∷ 0 ∷ 0 ∷ 0 ∷ 0 ∷ 0 ∷ []
 wanted = refl
 
 -- A whole history: a query, its report pulled in two parts, another query, and the beginning of a third
 two_queries : IsInstance (cache 5 []) → IsHistory 2 default_intervals (opened (cache 5 []))
-    (Read (cache 5 []) ResetQuery reset_bytes ∷ Pull 10 ∷ Pull 14 ∷ Read (cache 5 []) ResetQuery reset_bytes ∷ Pull 24 ∷ []) (reset_bytes ++ reset_bytes ++ 1 ∷ [])
+    (Read V1 (cache 5 []) ResetQuery reset_bytes ∷ Pull 10 ∷ Pull 14 ∷ Read V1 (cache 5 []) ResetQuery reset_bytes ∷ Pull 24 ∷ []) (reset_bytes ++ reset_bytes ++ 1 ∷ [])
 two_queries is = (
-  (refl, refl, is, stays, reads),
+  (refl, refl, is, stays, (refl, reads)),
   (
     left,
     refl,
@@ -188,7 +196,7 @@ two_queries is = (
             left,
             refl,
             (
-              (refl, refl, is, stays, reads),
+              (refl, refl, is, stays, (refl, reads)),
               (
                 1 ∷ [],
                 refl,
@@ -206,7 +214,7 @@ two_queries is = (
     left = reset_bytes ++ 1 ∷ []
 
     stays : IsLater (cache 5 []) (cache 5 [])
-    stays = record { session = refl; start = refl; more = []; sets = refl }
+    stays = record { session = refl; session0 = refl; start = refl; more = []; sets = refl }
 
     reads : Reads V1 ResetQuery reset_bytes
-    reads = record { fits = tt; ignored = zeros; bits = record { header = omega arith; flags = omega arith; byte = omega arith }; bytes_are = refl }
+    reads = record { of_version = refl; fits = tt; ignored = zeros; bits = record { header = omega arith; flags = omega arith; byte = omega arith }; bytes_are = refl }

@@ -5,12 +5,17 @@ use Rattle.vrps.specs.Change.{between}
 use Rattle.vrps.specs.Instance.{Instance, NumberedSet, versions, with_serial}
 use Rattle.vrps.specs.VrpSet.{VrpSet, listing}
 use Rattle.rtr_pdu.specs.declared.version.Version.{Version}
-use Rattle.rtr_pdu.specs.declared.version.Version.TheVariants.{V1}
+use Rattle.rtr_pdu.specs.declared.version.Version.TheVariants.{V0, V1}
 use Rattle.rtr_pdu.specs.Code.{CORRUPT_DATA, NO_DATA_AVAILABLE, INVALID_REQUEST}
 use Rattle.rtr_pdu.specs.Unit.{REPORT_ROOM, unit_bytes}
 use Rattle.rtr_pdu.specs.declared.unit.Unit.{Unit}
-use Rattle.rtr_pdu.specs.declared.unit.Unit.TheVariants.{SerialQuery, ResetQuery, CacheResponse, Prefix, EndOfData, CacheReset, ErrorReport}
+use Rattle.rtr_pdu.specs.declared.unit.Unit.TheVariants.{SerialQuery, ResetQuery, CacheResponse, Prefix, EndOfData, EndOfData0, CacheReset, ErrorReport}
 use Rattle.rtr_ends.specs.Timing.{Intervals}
+
+-- The session of a cache in a version of the protocol
+abbrev pub session_in : Version → Instance → ℕ
+session_in V0 i = i.session0
+session_in V1 i = i.session
 
 -- What a cache sends, and whether the connection goes on after it
 pub record Reply : Type 0 where
@@ -41,8 +46,9 @@ announcements s = map (λ v. Prefix true v) (listing s)
 abbrev pub withdrawals : VrpSet → List Unit
 withdrawals s = map (λ v. Prefix false v) (listing s)
 
--- The End of Data of an answer in a version of the protocol: from version 1 on it tells the intervals (RFC 8210 section 5.8).
+-- The End of Data of an answer in a version of the protocol: in version 1 it tells the intervals (RFC 6810 section 5.8, RFC 8210 section 5.8).
 abbrev pub end_of_data : Version → ℕ → ℕ → Intervals → Unit
+end_of_data V0 session serial t = EndOfData0 session serial
 end_of_data V1 session serial t = EndOfData session serial t.refresh t.retry t.expire
 
 -- Cache Response, these records, and End of Data of this set (RFC 8210 section 8.1)
@@ -69,9 +75,9 @@ serial_answer version session keep t serial (now ∷ older) = step_answer versio
 -- The answer to a unit in a version of the protocol, as the cache was when the unit was read. Another session than the cache's: Corrupt Data; an Error
 -- Report: nothing; another unit: Invalid Request. After these three the connection ends.
 abbrev pub answer : Version → Instance → ℕ → Intervals → Unit → Reply
-answer version i keep t ResetQuery = and_on (whole_answer version i.session t (versions i))
+answer version i keep t ResetQuery = and_on (whole_answer version (session_in version i) t (versions i))
 answer version i keep t (SerialQuery session serial) =
-    if session == i.session then and_on (serial_answer version i.session keep t serial (versions i))
+    if session == session_in version i then and_on (serial_answer version (session_in version i) keep t serial (versions i))
     else and_end (report CORRUPT_DATA (sent version (SerialQuery session serial)) ∷ [])
 answer version i keep t (ErrorReport r) = and_end []
 answer version i keep t u = and_end (report INVALID_REQUEST (sent version u) ∷ [])

@@ -4,6 +4,8 @@ use Rattle.std.specs.List.{AllByRecursion}
 use Rattle.vrps.specs.Instance.{Instance, IsInstance}
 use Rattle.vrps.specs.Store.{published}
 use Rattle.vrps.specs.VrpSet.{VrpSet, IsVrpSet}
+use Rattle.rtr_pdu.specs.Version.{header_version, version_in}
+use Rattle.rtr_pdu.specs.declared.version.Version.{Version}
 use Rattle.rtr_pdu.specs.declared.version.Version.TheVariants.{V1}
 use Rattle.rtr_pdu.specs.Judging.{Judgement, Begins, Whole, Faulty, judge}
 use Rattle.rtr_pdu.specs.Payloads.{AreBytes}
@@ -27,11 +29,12 @@ is_none (b ∷ bytes) = false
 abbrev pub conn_stops : Conn → Bool
 conn_stops o = o.state.ended || not (is_none o.state.due)
 
--- The moment that the last of these bytes brings. Want of memory acts only where the answer takes memory.
-abbrev pub conn_moment_of : Instance → Bool → List ℕ → Judgement → Option ConnMoment
-conn_moment_of i memory bytes Begins = None
-conn_moment_of i memory bytes (Whole u) = Some (if takes_memory i u && not memory then Wanting i u bytes else Read i u bytes)
-conn_moment_of i memory bytes (Faulty fault) = Some (Fault fault bytes)
+-- The moment that the last of these bytes of a version brings. Want of memory acts only where the answer takes memory.
+abbrev pub conn_moment_of : Instance → Bool → Version → List ℕ → Judgement → Option ConnMoment
+conn_moment_of i memory version bytes Begins = None
+conn_moment_of i memory version bytes (Whole u) =
+    Some (if takes_memory version i u && not memory then Wanting version i u bytes else Read version i u bytes)
+conn_moment_of i memory version bytes (Faulty fault) = Some (Fault version fault bytes)
 
 abbrev pub with_moment : ℕ → Intervals → List ℕ → Conn → Option ConnMoment → Conn
 with_moment keep t bytes o None = record o { held = bytes }
@@ -57,14 +60,19 @@ abbrev pub and_moment : List ConnMoment → Option ConnMoment → List ConnMomen
 and_moment moments None = moments
 and_moment moments (Some m) = moments ++ m ∷ []
 
-abbrev pub conn_judged : ℕ → Intervals → Instance → Taking → List ℕ → Judgement → Taking
-conn_judged keep t i m bytes judgement =
-    let came = conn_moment_of i (finds_memory m.wanting) bytes judgement in
+abbrev pub conn_judged : ℕ → Intervals → Instance → Taking → Version → List ℕ → Judgement → Taking
+conn_judged keep t i m version bytes judgement =
+    let came = conn_moment_of i (finds_memory m.wanting) version bytes judgement in
     record { conn = with_moment keep t bytes m.conn came; moments = and_moment m.moments came; wanting = counted judgement m.wanting }
 
--- the next byte
+-- the version of these bytes at the front of what comes, where they follow
+abbrev pub version_at : Conn → List ℕ → Version
+version_at o bytes = version_in o.state.version (o.held ++ bytes)
+
+-- The next byte. It is judged by the version of the connection, or of the first header.
 unfoldable pub conn_byte : ℕ → Intervals → Instance → Taking → ℕ → Taking
-conn_byte keep t i m b = conn_judged keep t i m (m.conn.held ++ b ∷ []) (judge V1 false (m.conn.held ++ b ∷ []))
+conn_byte keep t i m b =
+    conn_judged keep t i m (version_at m.conn (b ∷ [])) (m.conn.held ++ b ∷ []) (judge (version_at m.conn (b ∷ [])) false (m.conn.held ++ b ∷ []))
 
 -- A piece is handed in; memory is wanting at this unit of it, if at any.
 unfoldable pub conn_takes : ℕ → Intervals → Instance → Option ℕ → List ℕ → Conn → FedPiece Taking
@@ -75,8 +83,16 @@ conn_takes keep t i wanting piece o =
 abbrev pub can_notify : Instance → Conn → Bool
 can_notify i o = is_published i && not (conn_stops o)
 
+-- The version of a notify, or of another unit that is sent without a query: that of a header that has come whole, else version 1
+abbrev pub spoken_in : Option Version → Version
+spoken_in None = V1
+spoken_in (Some version) = version
+
+abbrev pub speaks_in : Conn → Version
+speaks_in o = spoken_in (header_version o.state.version o.held)
+
 unfoldable pub conn_notified : ℕ → Intervals → Instance → Conn → Conn
-conn_notified keep t i o = if can_notify i o then record o { state = conn_after keep t o.state (Notify i) } else o
+conn_notified keep t i o = if can_notify i o then record o { state = conn_after keep t o.state (Notify (speaks_in o) i) } else o
 
 -- At most so many of the bytes due are pulled.
 abbrev pub pulled_count : ℕ → Conn → ℕ
@@ -117,7 +133,7 @@ serve keep t (Gives most) s = record s {
 }
 serve keep t Notifies s = record s {
   conn = conn_notified keep t s.cache s.conn;
-  moments = if can_notify s.cache s.conn then s.moments ++ Notify s.cache ∷ [] else s.moments;
+  moments = if can_notify s.cache s.conn then s.moments ++ Notify (speaks_in s.conn) s.cache ∷ [] else s.moments;
 }
 
 -- after these calls, the last first, on a connection that was opened at this instance
@@ -142,7 +158,7 @@ ConnTakes =
 -- It stops only where a unit ends, or a fault shows.
 abbrev pub ConnStops : Type 0
 ConnStops =
-    (keep : ℕ) (t : Intervals) (i : Instance) (m : Taking) (b : ℕ) → judge V1 false (m.conn.held ++ b ∷ []) ≡ Begins →
+    (keep : ℕ) (t : Intervals) (i : Instance) (m : Taking) (b : ℕ) → judge (version_at m.conn (b ∷ [])) false (m.conn.held ++ b ∷ []) ≡ Begins →
     conn_stops (conn_byte keep t i m b).conn ≡ conn_stops m.conn
 
 -- What happened on a connection is its history: what came by it is what was consumed, what was pulled is what was given, and

@@ -93,6 +93,7 @@ peer_at peers c = unboxed (joined (slice_get peers c))
 -- The machine's state is shown by this cache, over a store of which this holds.
 pub record ShowsCache {S : Type 0} (holds : ℕ → Instance → S → Type 0) (m : CacheState) (cache : Cache S) : Type 0 where
   pub timing : cache.timing ≡ m.timing
+  pub session0 : cache.session0 ≡ m.cache.session0
   pub store : holds m.keep m.cache cache.store
   pub slots : (c : ℕ) → ShowsSlot m.timing m.cache (m.at c) (peer_at cache.peers.items c)
 
@@ -122,10 +123,11 @@ abbrev pub Opens : {S : Type 0} → (ℕ → Instance → S → Type 0) → Cach
 Opens holds m (Ok conn) new = IsLeastFree m.at conn.0 × ShowsCache holds (with_conn conn.0 (Some (new_conn m.cache)) m) new
 Opens holds m (Err error) new = ShowsCache holds m new
 
--- What a connection shows at one instance it shows at another of the same session, at which this is the newest version.
+-- What a connection shows at one instance it shows at another of the same sessions, at which this is the newest version.
 abbrev pub Brings : NumberedSet → Option Peer → Option Peer → Type 0
 Brings v old new =
-    (t : Intervals) (i j : Instance) (a : Option Conn) → i.session ≡ j.session → Some v ≡ newest (versions j) → ShowsSlot t i a old → ShowsSlot t j a new
+    (t : Intervals) (i j : Instance) (a : Option Conn) → i.session ≡ j.session → i.session0 ≡ j.session0 → Some v ≡ newest (versions j) → ShowsSlot t i a old →
+    ShowsSlot t j a new
 
 -- One connection has a share of a newer version.
 pub record OffersAt {A : Type 0} (old : List (Option (Box Peer A))) (c : ℕ) (share : Share) (new : List (Option (Box Peer A))) : Type 0 where

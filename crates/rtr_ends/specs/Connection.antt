@@ -1,55 +1,72 @@
 -- A connection at the cache: what may happen on it, and what is sent (RFC 8210 sections 5, 7, 8 and 12).
-use Rattle.std.specs.Prelude.{◌≡◌, ◌⊎◌, ℕ, ◌≤◌, Bool, true, false, not, ◌||◌, ◌&&◌, ◌==◌, List, [], ◌∷◌, ◌++◌, length, take, drop, Option, IsTrue, MatchBool, if◌then◌else◌, ⊤}
+use Rattle.std.specs.Prelude.{◌≡◌, ◌⊎◌, ℕ, ◌≤◌, Bool, true, false, not, ◌||◌, ◌&&◌, ◌==◌, List, [], ◌∷◌, ◌++◌, length, take, drop, map, Option, Some, None, IsTrue, MatchBool, if◌then◌else◌, ⊤}
+use Rattle.std.specs.List.{flat_map}
 use Rattle.vrps.specs.Instance.{Instance, IsInstance, NumberedSet, versions}
 use Rattle.vrps.specs.VrpSet.{VrpSet}
+use Rattle.rtr_pdu.specs.declared.version.Version.{Version}
 use Rattle.rtr_pdu.specs.declared.version.Version.TheVariants.{V1}
 use Rattle.rtr_pdu.specs.declared.kind.Kind.TheVariants as kinds
 use Rattle.rtr_pdu.specs.Code.{CORRUPT_DATA, INTERNAL_ERROR, UNSUPPORTED_VERSION, UNSUPPORTED_TYPE, UNEXPECTED_VERSION}
+use Rattle.rtr_pdu.specs.Version.{first_version, version_in}
 use Rattle.rtr_pdu.specs.Stream.{IsPartial, IsShortest, Shows, Splits, is_kind}
 use Rattle.rtr_pdu.specs.Unit.{Reads}
 use Rattle.rtr_pdu.specs.declared.unit.Unit.{Unit}
 use Rattle.rtr_pdu.specs.declared.unit.Unit.TheVariants.{SerialNotify, SerialQuery, ResetQuery}
 use Rattle.rtr_pdu.specs.declared.unit.UnitFault.{UnitFault}
 use Rattle.rtr_pdu.specs.declared.unit.UnitFault.TheVariants as faults
-use Rattle.rtr_ends.specs.Answer.{Reply, and_on, and_end, answer, report, sent_all}
+use Rattle.rtr_ends.specs.Answer.{Reply, and_on, and_end, answer, report, sent, sent_all, session_in}
 use Rattle.rtr_ends.specs.Timing.{Intervals}
 
--- What happens, as the cache is then: bytes were read as a unit; so they were, and memory for its answer was wanting; bytes
--- show a fault; the router is notified; or this many of the bytes due were pulled.
+-- What happens, as the cache is then: bytes were read as a unit of a version; so they were, and memory for its answer was wanting;
+-- bytes show a fault where units of a version are expected; the router is notified in a version; or this many of the bytes due were
+-- pulled.
 pub data ConnMoment : Type 0 where
-  Read : (cache : Instance) → (unit : Unit) → (bytes : List ℕ) → ConnMoment
-  Wanting : (cache : Instance) → (unit : Unit) → (bytes : List ℕ) → ConnMoment
-  Fault : (fault : UnitFault) → (bytes : List ℕ) → ConnMoment
-  Notify : (cache : Instance) → ConnMoment
+  Read : (version : Version) → (cache : Instance) → (unit : Unit) → (bytes : List ℕ) → ConnMoment
+  Wanting : (version : Version) → (cache : Instance) → (unit : Unit) → (bytes : List ℕ) → ConnMoment
+  Fault : (version : Version) → (fault : UnitFault) → (bytes : List ℕ) → ConnMoment
+  Notify : (version : Version) → (cache : Instance) → ConnMoment
   Pull : (count : ℕ) → ConnMoment
 
 -- memory was wanting at it
 abbrev pub is_wanting : ConnMoment → Bool
-is_wanting (Wanting cache unit bytes) = true
+is_wanting (Wanting version cache unit bytes) = true
 is_wanting m = false
 
 -- The bytes that came by it
 abbrev pub bytes_of : ConnMoment → List ℕ
-bytes_of (Read cache unit bytes) = bytes
-bytes_of (Wanting cache unit bytes) = bytes
-bytes_of (Fault fault bytes) = bytes
-bytes_of (Notify cache) = []
+bytes_of (Read version cache unit bytes) = bytes
+bytes_of (Wanting version cache unit bytes) = bytes
+bytes_of (Fault version fault bytes) = bytes
+bytes_of (Notify version cache) = []
 bytes_of (Pull count) = []
 
--- A query that is read is the agreement on the version (RFC 8210 section 7).
-abbrev pub is_query : Unit → Bool
-is_query (SerialQuery session serial) = true
-is_query ResetQuery = true
-is_query u = false
+-- the version in which is sent at it
+abbrev pub sent_by : ConnMoment → Version
+sent_by (Read version cache unit bytes) = version
+sent_by (Wanting version cache unit bytes) = version
+sent_by (Fault version fault bytes) = version
+sent_by (Notify version cache) = version
+sent_by (Pull count) = V1
 
--- The code of a fault (RFC 8210 section 12): the version, before and after agreement; the type; corrupt data
-abbrev pub fault_code : Bool → UnitFault → ℕ
-fault_code agreed faults.Version = if agreed then UNEXPECTED_VERSION else UNSUPPORTED_VERSION
+-- The version on which a connection of this version agreed, where it did
+abbrev pub agreed_version : Bool → Version → Option Version
+agreed_version true version = Some version
+agreed_version false version = None
+
+-- The code where bytes show another version than the one agreed on (RFC 8210 section 12): version 0 has no code 8, Unexpected
+-- Protocol Version (RFC 6810 section 10); nor is there one before a version is agreed on (RFC 8210 section 7).
+abbrev pub version_code : Option Version → ℕ
+version_code (Some V1) = UNEXPECTED_VERSION
+version_code agreed = UNSUPPORTED_VERSION
+
+-- The code of a fault (RFC 8210 section 12): the version; the type; corrupt data
+abbrev pub fault_code : Option Version → UnitFault → ℕ
+fault_code agreed faults.Version = version_code agreed
 fault_code agreed faults.«Type» = UNSUPPORTED_TYPE
 fault_code agreed fault = CORRUPT_DATA
 
 -- The report on a fault copies the bytes as they came. There is none on a unit of type 10, nor where the input ends in a unit.
-abbrev pub fault_report : Bool → UnitFault → List ℕ → List Unit
+abbrev pub fault_report : Option Version → UnitFault → List ℕ → List Unit
 fault_report agreed faults.Truncated bytes = []
 fault_report agreed fault bytes = if is_kind kinds.ErrorReport bytes then [] else report (fault_code agreed fault) bytes ∷ []
 
@@ -58,71 +75,94 @@ abbrev pub notice : ℕ → List NumberedSet → List Unit
 notice session [] = []
 notice session (now ∷ older) = SerialNotify session now.serial ∷ []
 
--- What the cache sends at a moment. Want of memory is an Internal Error, and ends the connection.
-abbrev pub reply : ℕ → Intervals → Bool → ConnMoment → Reply
-reply keep t agreed (Read cache unit bytes) = answer V1 cache keep t unit
-reply keep t agreed (Wanting cache unit bytes) = and_end (report INTERNAL_ERROR [] ∷ [])
-reply keep t agreed (Fault fault bytes) = and_end (fault_report agreed fault bytes)
-reply keep t agreed (Notify cache) = and_on (notice cache.session (versions cache))
+-- What the cache sends at a moment, where this version was agreed on, if any. Want of memory is an Internal Error, and ends the
+-- connection.
+abbrev pub reply : ℕ → Intervals → Option Version → ConnMoment → Reply
+reply keep t agreed (Read version cache unit bytes) = answer version cache keep t unit
+reply keep t agreed (Wanting version cache unit bytes) = and_end (report INTERNAL_ERROR [] ∷ [])
+reply keep t agreed (Fault version fault bytes) = and_end (fault_report agreed fault bytes)
+reply keep t agreed (Notify version cache) = and_on (notice (session_in version cache) (versions cache))
 reply keep t agreed (Pull count) = and_on []
 
-abbrev pub agreed_after : Bool → ConnMoment → Bool
-agreed_after agreed (Read cache unit bytes) = agreed || is_query unit
-agreed_after agreed (Wanting cache unit bytes) = agreed || is_query unit
-agreed_after agreed m = agreed
+-- The first header fixes the version of a connection (RFC 8210 section 7).
+abbrev pub version_after : Option Version → ConnMoment → Option Version
+version_after agreed (Read version cache unit bytes) = Some version
+version_after agreed (Wanting version cache unit bytes) = Some version
+version_after agreed (Fault version fault bytes) = Some version
+version_after agreed m = agreed
+
+-- A unit, and the version in which it is sent
+pub record Sent : Type 0 where
+  pub version : Version
+  pub unit : Unit
+
+abbrev pub in_version : Version → List Unit → List Sent
+in_version version units = map (λ u. record { version = version; unit = u }) units
+
+-- The bytes of units, one after the other, each in its version
+abbrev pub bytes_sent : List Sent → List ℕ
+bytes_sent units = flat_map (λ s. sent s.version s.unit) units
 
 -- What is sent on a connection: the replies in order, to the first that ends it
-abbrev pub replies_from : ℕ → Intervals → Bool → List ConnMoment → List Unit
+abbrev pub replies_from : ℕ → Intervals → Option Version → List ConnMoment → List Sent
 replies_from keep t agreed [] = []
 replies_from keep t agreed (m ∷ later) =
     let now = reply keep t agreed m in
-    now.units ++ (if now.goes_on then replies_from keep t (agreed_after agreed m) later else [])
+    in_version (sent_by m) now.units ++ (if now.goes_on then replies_from keep t (version_after agreed m) later else [])
 
 abbrev pub replies : ℕ → Intervals → List ConnMoment → List ℕ
-replies keep t moments = sent_all V1 (replies_from keep t false moments)
+replies keep t moments = bytes_sent (replies_from keep t None moments)
 
 abbrev pub is_published : Instance → Bool
 is_published i = not (length i.sets == 0)
 
 -- The units whose answers may take memory: Serial Queries that are answered from what is published, where two sets are
 -- compared. All else is ready.
-abbrev pub takes_memory : Instance → Unit → Bool
-takes_memory i (SerialQuery session serial) = session == i.session && is_published i
-takes_memory i u = false
+abbrev pub takes_memory : Version → Instance → Unit → Bool
+takes_memory version i (SerialQuery session serial) = session == session_in version i && is_published i
+takes_memory version i u = false
 
--- A moment is what it says of its bytes and of the cache.
-abbrev pub IsConnMoment : ConnMoment → Type 0
-IsConnMoment (Read cache unit bytes) = Reads V1 unit bytes
-IsConnMoment (Wanting cache unit bytes) = Reads V1 unit bytes × IsTrue (takes_memory cache unit)
-IsConnMoment (Fault fault bytes) = Shows V1 bytes fault × IsShortest V1 false bytes
-IsConnMoment (Notify cache) = IsTrue (is_published cache)
-IsConnMoment (Pull count) = ⊤
+-- A notify is of the version that was agreed on. Before that it is of version 1, or of that of a header that has come.
+abbrev pub MayNotifyIn : Option Version → Version → Type 0
+MayNotifyIn None version = ⊤
+MayNotifyIn (Some agreed) version = version ≡ agreed
 
--- A connection between two moments: the cache as it was last, whether a version was agreed on, whether it has ended, the bytes
--- due, which were sent and not pulled yet, and whether what was sent last is a notify
+-- A moment is what it says of its bytes and of the cache, where this version was agreed on, if any.
+abbrev pub IsConnMoment : Option Version → ConnMoment → Type 0
+IsConnMoment agreed (Read version cache unit bytes) = (version ≡ version_in agreed bytes) × Reads version unit bytes
+IsConnMoment agreed (Wanting version cache unit bytes) =
+    (version ≡ version_in agreed bytes) × Reads version unit bytes × IsTrue (takes_memory version cache unit)
+IsConnMoment agreed (Fault version fault bytes) =
+    (version ≡ version_in agreed bytes) × Shows version bytes fault × IsShortest version false bytes
+IsConnMoment agreed (Notify version cache) = MayNotifyIn agreed version × IsTrue (is_published cache)
+IsConnMoment agreed (Pull count) = ⊤
+
+-- A connection between two moments: the cache as it was last, the version of its first header, once a unit came, whether it has
+-- ended, the bytes due, which were sent and not pulled yet, and whether what was sent last is a notify
 pub record Connection : Type 0 where
   pub cache : Instance
-  pub agreed : Bool
+  pub version : Option Version
   pub ended : Bool
   pub due : List ℕ
   pub notified : Bool
 
 abbrev pub opened : Instance → Connection
-opened i = record { cache = i; agreed = false; ended = false; due = []; notified = false }
+opened i = record { cache = i; version = None; ended = false; due = []; notified = false }
 
 abbrev pub is_notice : ConnMoment → Bool
-is_notice (Notify cache) = true
+is_notice (Notify version cache) = true
 is_notice m = false
 
 abbrev pub cache_after : Instance → ConnMoment → Instance
-cache_after i (Read cache unit bytes) = cache
-cache_after i (Wanting cache unit bytes) = cache
-cache_after i (Notify cache) = cache
+cache_after i (Read version cache unit bytes) = cache
+cache_after i (Wanting version cache unit bytes) = cache
+cache_after i (Notify version cache) = cache
 cache_after i m = i
 
 -- One cache is there, which publishes more and more.
 pub record IsLater (earlier later : Instance) : Type 0 where
   pub session : earlier.session ≡ later.session
+  pub session0 : earlier.session0 ≡ later.session0
   pub start : earlier.start ≡ later.start
   pub more : List VrpSet
   pub sets : later.sets ≡ more ++ earlier.sets
@@ -131,17 +171,17 @@ pub record IsLater (earlier later : Instance) : Type 0 where
 abbrev pub MayCome : Connection → ConnMoment → Type 0
 MayCome c (Pull count) = count ≤ length c.due
 MayCome c m =
-    (c.ended ≡ false) × (c.due ≡ []) × IsInstance (cache_after c.cache m) × IsLater c.cache (cache_after c.cache m) × IsConnMoment m
+    (c.ended ≡ false) × (c.due ≡ []) × IsInstance (cache_after c.cache m) × IsLater c.cache (cache_after c.cache m) × IsConnMoment c.version m
 
 abbrev pub conn_after : ℕ → Intervals → Connection → ConnMoment → Connection
 conn_after keep t c (Pull count) = record c { due = drop count c.due }
 conn_after keep t c m =
-    let now = reply keep t c.agreed m in
+    let now = reply keep t c.version m in
     record {
       cache = cache_after c.cache m;
-      agreed = agreed_after c.agreed m;
+      version = version_after c.version m;
       ended = not now.goes_on;
-      due = sent_all V1 now.units;
+      due = sent_all (sent_by m) now.units;
       notified = is_notice m;
     }
 
@@ -149,7 +189,7 @@ conn_after keep t c m =
 -- unit in which no fault shows. A notify may be due in the middle of a unit.
 abbrev pub MayHold : Connection → List ℕ → Type 0
 MayHold c bytes =
-    MatchBool c.ended (bytes ≡ []) (IsPartial V1 bytes × ((bytes ≡ []) ⊎ ((c.due ≡ []) ⊎ (c.notified ≡ true))))
+    MatchBool c.ended (bytes ≡ []) (IsPartial (version_in c.version bytes) bytes × ((bytes ≡ []) ⊎ ((c.due ≡ []) ⊎ (c.notified ≡ true))))
 
 -- These moments, in their order, are the history of a connection on which these bytes came: each may come where it stands, and
 -- the bytes are those that came by them and what may be left.
@@ -178,12 +218,12 @@ PulledAreReplies =
 -- the units that were read
 abbrev pub units_of : List ConnMoment → List Unit
 units_of [] = []
-units_of (Read cache unit bytes ∷ later) = unit ∷ units_of later
-units_of (Wanting cache unit bytes ∷ later) = unit ∷ units_of later
+units_of (Read version cache unit bytes ∷ later) = unit ∷ units_of later
+units_of (Wanting version cache unit bytes ∷ later) = unit ∷ units_of later
 units_of (m ∷ later) = units_of later
 
--- The units of a history are those by which the stream of its bytes is split.
+-- The units of a history are those by which the stream of its bytes is split, in the version of the first header.
 abbrev pub HistorySplits : Type 0
 HistorySplits =
     (keep : ℕ) (t : Intervals) (i : Instance) (moments : List ConnMoment) (bytes : List ℕ) → IsHistory keep t (opened i) moments bytes →
-    (rest : List ℕ) × (fault : Option UnitFault) × Splits V1 false bytes (units_of moments) rest fault
+    (rest : List ℕ) × (fault : Option UnitFault) × Splits (first_version bytes) false bytes (units_of moments) rest fault

@@ -5,11 +5,12 @@ use Rattle.vrps.specs.Serial.{is_before}
 use Rattle.vrps.specs.VrpSet.{VrpSet, empty, has, size}
 use Rattle.rtr_pdu.specs.Code.{CORRUPT_DATA, NO_DATA_AVAILABLE, UNKNOWN_WITHDRAWAL, DUPLICATE_ANNOUNCEMENT}
 use Rattle.rtr_pdu.specs.declared.unit.Unit.{Unit}
-use Rattle.rtr_pdu.specs.declared.unit.Unit.TheVariants.{SerialNotify, CacheResponse, Prefix, EndOfData, CacheReset, RouterKey, ErrorReport}
+use Rattle.rtr_pdu.specs.declared.unit.Unit.TheVariants.{SerialNotify, CacheResponse, Prefix, EndOfData, EndOfData0, CacheReset, RouterKey, ErrorReport}
 use Rattle.rtr_ends.specs.declared.link.End.TheVariants as ends
 use Rattle.rtr_pdu.specs.declared.version.Version.TheVariants.{V1}
 use Rattle.rtr_ends.specs.Answer.{report, sent}
 use Rattle.rtr_ends.specs.Transcript.{Question, AskReset, AskSerial, query, Begun, Committed, choose, is_among, led_to, base_of, session_of, differs, is_serial, is_wrong, bounded, sum_of, retry_of}
+use Rattle.rtr_ends.specs.Timing.{default_intervals}
 use Rattle.rtr_ends.specs.RouterLink.{Link, Closed, Idle, Asked, Answering, Ended}
 
 -- What a router holds: the committed table and version; the mark that the next query must be a Reset Query; when an idle link
@@ -125,6 +126,10 @@ on_unit (Answering a) (EndOfData session serial refresh retry expire) r =
     if session == a.session
     then commit a (record { session = session; serial = serial; moment = r.now; intervals = bounded refresh retry expire }) r
     else fails (EndOfData session serial refresh retry expire) r
+on_unit (Answering a) (EndOfData0 session serial) r =
+    if session == a.session
+    then commit a (record { session = session; serial = serial; moment = r.now; intervals = default_intervals }) r
+    else fails (EndOfData0 session serial) r
 on_unit (Answering a) (ErrorReport e) r = told_off a.question e.code r
 on_unit (Answering a) u r = reports 0 u r
 
@@ -136,4 +141,5 @@ is_staged other = false
 abbrev pub may_lack : Link → Unit → Router → Bool
 may_lack (Answering a) (Prefix announce v) r = is_staged (stage (base_of a.question r.table) a announce v)
 may_lack (Answering a) (EndOfData session serial refresh retry expire) r = session == a.session
+may_lack (Answering a) (EndOfData0 session serial) r = session == a.session
 may_lack link u r = false

@@ -5,21 +5,22 @@ use Rattle.vrps.specs.Instance.{Instance, versions}
 use Rattle.vrps.specs.Stores.{newest}
 use Rattle.rtr_pdu.specs.Unit.{MAX_UNIT_LEN}
 use Rattle.rtr_pdu.specs.Code.{INTERNAL_ERROR}
-use Rattle.rtr_pdu.specs.Reader.{fresh}
+use Rattle.rtr_pdu.specs.Reader.{fresh, known_version}
 use Rattle.rtr_pdu.specs.declared.unit.Unit.{Unit}
 use Rattle.rtr_pdu.specs.declared.unit.UnitFault.{UnitFault}
-use Rattle.rtr_pdu.specs.declared.version.Version.TheVariants.{V1}
-use Rattle.rtr_ends.specs.Answer.{Reply, and_on, and_end, answer, report, sent_all, serial_answer}
-use Rattle.rtr_ends.specs.Cache.{Conn, conn_pulled, conn_takes}
+use Rattle.rtr_pdu.specs.declared.version.Version.{Version}
+use Rattle.rtr_ends.specs.Answer.{Reply, and_on, and_end, answer, report, sent_all, serial_answer, session_in}
+use Rattle.rtr_ends.specs.Cache.{Conn, conn_pulled, conn_takes, spoken_in}
 use Rattle.rtr_ends.specs.Connection.{fault_report, is_wanting, takes_memory}
-use Rattle.rtr_ends.specs.Sender.{PullsBytes, KeepsRoom, Sends, Stays, due_of, newest_of, ready_in}
+use Rattle.rtr_ends.specs.Sender.{PullsBytes, KeepsRoom, Sends, StaysBut, due_of, newest_of, ready_in}
 use Rattle.rtr_ends.specs.Timing.{Intervals}
 use Rattle.rtr_ends.specs.declared.peer.Peer.{Peer}
 use Rattle.rtr_ends.specs.declared.sender.Sender.{Sender}
 
 -- What is sent is of this instance, and a share of its current version is ready.
 pub record Knows (t : Intervals) (i : Instance) (s : Sender) : Type 0 where
-  pub session : s.session ≡ i.session
+  pub session : s.sessions.v1 ≡ i.session
+  pub session0 : s.sessions.v0 ≡ i.session0
   pub timing : s.timing ≡ t
   pub newest : newest_of s ≡ newest (versions i)
 
@@ -38,8 +39,7 @@ pub record HasBufferRoom (h : Held) : Type 0 where
 
 -- The machine's connection is shown by this one, at a cache with these intervals and this instance.
 pub record ShowsPeer (t : Intervals) (i : Instance) (o : Conn) (p : Peer) : Type 0 where
-  pub reader : p.reader ≡ record { held = o.held; any = false; later = false; fault = None }
-  pub agreed : p.agreed ≡ o.state.agreed
+  pub reader : p.reader ≡ record { version = o.state.version; held = o.held; any = false; later = false; fault = None }
   pub ended : p.ended ≡ o.state.ended
   pub due : due_of p.sender ≡ o.state.due
   pub knows : Knows t i p.sender
@@ -48,16 +48,14 @@ pub record ShowsPeer (t : Intervals) (i : Instance) (o : Conn) (p : Peer) : Type
 -- These units are sent, and the connection ends.
 pub record EndsConnection (old : Peer) (units : List Unit) (new : Peer) : Type 0 where
   pub reader : new.reader ≡ old.reader
-  pub agreed : new.agreed ≡ old.agreed
   pub ended : new.ended ≡ true
   pub sends : Sends old.sender units new.sender
 
 -- This reply is sent.
-pub record SendsReply (t : Intervals) (i : Instance) (r : Reply) (agree : Bool) (old new : Peer) : Type 0 where
+pub record SendsReply (t : Intervals) (i : Instance) (r : Reply) (old new : Peer) : Type 0 where
   pub reader : new.reader ≡ old.reader
-  pub agreed : new.agreed ≡ agree
   pub ended : new.ended ≡ not r.goes_on
-  pub due : due_of new.sender ≡ sent_all V1 r.units
+  pub due : due_of new.sender ≡ sent_all old.sender.version r.units
   pub knows : Knows t i new.sender
   pub room : KeepsRoom old.sender new.sender
 
@@ -65,19 +63,19 @@ pub record SendsReply (t : Intervals) (i : Instance) (r : Reply) (agree : Bool) 
 abbrev pub no_memory : Reply
 no_memory = and_end (report INTERNAL_ERROR [] ∷ [])
 
-abbrev pub since_reply : ℕ → Intervals → Instance → Bool → ℕ → Reply
-since_reply keep t i memory serial = if memory then and_on (serial_answer V1 i.session keep t serial (versions i)) else no_memory
+abbrev pub since_reply : Version → ℕ → Intervals → Instance → Bool → ℕ → Reply
+since_reply version keep t i memory serial =
+    if memory then and_on (serial_answer version (session_in version i) keep t serial (versions i)) else no_memory
 
-abbrev pub read_reply : ℕ → Intervals → Instance → Bool → Unit → Reply
-read_reply keep t i memory u = if takes_memory i u && not memory then no_memory else answer V1 i keep t u
+abbrev pub read_reply : Version → ℕ → Intervals → Instance → Bool → Unit → Reply
+read_reply version keep t i memory u = if takes_memory version i u && not memory then no_memory else answer version i keep t u
 
 -- A fault is reported, where it is.
 pub record ReportsFault (old : Peer) (fault : UnitFault) (new : Peer) : Type 0 where
-  pub reader : new.reader ≡ fresh false
-  pub agreed : new.agreed ≡ old.agreed
+  pub reader : new.reader ≡ fresh (Some (spoken_in (known_version old.reader))) false
   pub ended : new.ended ≡ true
-  pub due : due_of new.sender ≡ sent_all V1 (fault_report old.agreed fault old.reader.held)
-  pub stays : Stays old.sender new.sender
+  pub due : due_of new.sender ≡ sent_all (spoken_in (known_version old.reader)) (fault_report old.reader.version fault old.reader.held)
+  pub stays : StaysBut old.sender new.sender
 
 abbrev pub maybe : Option Unit → List Unit
 maybe None = []

@@ -1,5 +1,6 @@
 -- A router as a machine, byte by byte (RFC 8210 sections 5 to 8 and 12).
 use Rattle.std.specs.Prelude.{ℕ, Bool, true, false, not, ◌&&◌, List, [], ◌∷◌, ◌++◌, drop, Option, Some, None, if◌then◌else◌}
+use Rattle.rtr_pdu.specs.declared.version.Version.{Version}
 use Rattle.rtr_pdu.specs.declared.version.Version.TheVariants.{V1}
 use Rattle.rtr_pdu.specs.declared.kind.Kind.TheVariants as kinds
 use Rattle.rtr_pdu.specs.Judging.{Judgement, Begins, Whole, Faulty, judge}
@@ -10,7 +11,7 @@ use Rattle.rtr_ends.specs.declared.link.End.{End}
 use Rattle.rtr_ends.specs.declared.link.End.TheVariants as ends
 use Rattle.rtr_ends.specs.Answer.{sent_all}
 use Rattle.rtr_ends.specs.Cache.{is_none, finds_memory, counted}
-use Rattle.rtr_ends.specs.Connection.{fault_code, fault_report}
+use Rattle.rtr_ends.specs.Connection.{agreed_version, fault_code, fault_report}
 use Rattle.rtr_ends.specs.Feeding.{FedPiece, feed}
 use Rattle.rtr_ends.specs.Transcript.{AskSerial, Item, At, Opened, Asks, Reads, Lacks, Breaks, Shut, choose, is_serial, is_over, later, sum_of, retry_of}
 use Rattle.rtr_ends.specs.LinkRules.{Router, new_router, ask, emptied, on_unit, may_lack}
@@ -36,12 +37,12 @@ reads u r = let n : Router = on_unit r.link u r in record { router = n; items = 
 abbrev pub lacks : Unit → Router → Noted
 lacks u r = record { router = record r { link = Ended ends.Memory }; items = Lacks u ∷ [] }
 
-abbrev pub fault_end : Bool → UnitFault → List ℕ → End
+abbrev pub fault_end : Option Version → UnitFault → List ℕ → End
 fault_end agreed fault bytes = if is_kind kinds.ErrorReport bytes then ends.Malformed else ends.Reported (fault_code agreed fault)
 
 abbrev pub breaks : UnitFault → List ℕ → Router → Noted
 breaks fault bytes r = record {
-  router = record r { held = []; link = Ended (fault_end r.agreed fault bytes); out = sent_all V1 (fault_report r.agreed fault bytes) };
+  router = record r { held = []; link = Ended (fault_end (agreed_version r.agreed V1) fault bytes); out = sent_all V1 (fault_report (agreed_version r.agreed V1) fault bytes) };
   items = Breaks fault ∷ [];
 }
 

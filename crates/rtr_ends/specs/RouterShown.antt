@@ -2,6 +2,7 @@
 use Rattle.std.specs.Prelude.{◌≡◌, ℕ, ◌-◌, Bool, true, false, not, List, [], ◌∷◌, length, Option, Some, None, IfSome}
 use Rattle.std.specs.List.{AllByRecursion, list_any}
 use Rattle.rtr_pdu.specs.Reader.{Reader}
+use Rattle.rtr_pdu.specs.declared.version.Version.TheVariants.{V1}
 use Rattle.rtr_ends.specs.Consumed.{IsRouterCall, IsSplit, came}
 use Rattle.rtr_ends.specs.Feeding.{FedPiece, feed}
 use Rattle.rtr_ends.specs.Peer.{Held}
@@ -15,7 +16,7 @@ use Rattle.rtr_ends.specs.declared.router.Router as code
 
 -- a reader that has so much of a unit
 abbrev pub reading : Bool → List ℕ → Reader
-reading agreed held = record { held = held; any = not agreed; later = not agreed; fault = None }
+reading agreed held = record { version = Some V1; held = held; any = not agreed; later = not agreed; fault = None }
 
 -- The value is this router of the machine. A link that is closed or has ended reads nothing.
 pub record IsShown (r : Router) (v : code.Router) : Type 0 where

@@ -1,16 +1,18 @@
 -- What a connection at the cache has to send: the unit in its buffer, and what is left of an answer under way.
 use Rattle.std.specs.Prelude.{◌≡◌, Bool, true, false, ℕ, ◌+◌, ◌-◌, ◌≤◌, List, [], ◌∷◌, ◌++◌, length, take, drop, min, Option, Some, None}
 use Rattle.vrps.specs.Instance.{NumberedSet}
-use Rattle.rtr_pdu.specs.Unit.{MAX_UNIT_LEN, IsUnit}
+use Rattle.rtr_pdu.specs.Unit.{MAX_UNIT_LEN, IsUnitOf}
 use Rattle.rtr_pdu.specs.declared.unit.Unit.{Unit}
-use Rattle.rtr_pdu.specs.declared.unit.Unit.TheVariants.{CacheResponse, EndOfData}
+use Rattle.rtr_pdu.specs.declared.unit.Unit.TheVariants.{CacheResponse}
 use Rattle.rtr_ends.specs.declared.sender.Records.{Records}
 use Rattle.rtr_ends.specs.declared.sender.Records.TheVariants.{Whole, Step}
 use Rattle.rtr_ends.specs.declared.sender.Sender.{Sender}
 use Rattle.rtr_ends.specs.declared.sender.Share.{Share}
 use Rattle.rtr_ends.specs.declared.sender.AnswerCursor.{AnswerCursor}
-use Rattle.rtr_pdu.specs.declared.version.Version.TheVariants.{V1}
-use Rattle.rtr_ends.specs.Answer.{announcements, withdrawals, sent, sent_all}
+use Rattle.rtr_ends.specs.declared.sessions.Sessions.{Sessions}
+use Rattle.rtr_pdu.specs.declared.version.Version.{Version}
+use Rattle.rtr_pdu.specs.declared.version.Version.TheVariants.{V0, V1}
+use Rattle.rtr_ends.specs.Answer.{announcements, end_of_data, withdrawals, sent, sent_all}
 use Rattle.rtr_ends.specs.Timing.{Intervals}
 
 abbrev pub numbered_of : Share → NumberedSet
@@ -24,17 +26,25 @@ abbrev pub serial_in : Records → ℕ
 serial_in (Whole share) = share.serial.0
 serial_in (Step serial change) = serial.0
 
+-- the session in a version, and in that in which is sent
+abbrev pub session_by : Version → Sessions → ℕ
+session_by V0 s = s.v0
+session_by V1 s = s.v1
+
+abbrev pub own_session : Sender → ℕ
+own_session s = session_by s.version s.sessions
+
 -- the units that are left of an answer
-abbrev pub left_in : ℕ → Intervals → Option AnswerCursor → List Unit
-left_in session t None = []
-left_in session t (Some a) = drop a.place (units_in a.records) ++ EndOfData session (serial_in a.records) t.refresh t.retry t.expire ∷ []
+abbrev pub left_in : Version → ℕ → Intervals → Option AnswerCursor → List Unit
+left_in version session t None = []
+left_in version session t (Some a) = drop a.place (units_in a.records) ++ end_of_data version session (serial_in a.records) t ∷ []
 
 unfoldable pub left : Sender → List Unit
-left s = left_in s.session s.timing s.answer
+left s = left_in s.version (own_session s) s.timing s.answer
 
 -- the bytes due
 unfoldable pub due_of : Sender → List ℕ
-due_of s = drop s.pulled s.buffer.items ++ sent_all V1 (left s)
+due_of s = drop s.pulled s.buffer.items ++ sent_all s.version (left s)
 
 -- how many bytes in the buffer are ready to be pulled
 unfoldable pub ready_in : Sender → ℕ
@@ -57,30 +67,46 @@ newest_of s = newest_in s.ready s.answer
 abbrev pub KeepsRoom : Sender → Sender → Type 0
 KeepsRoom old new = ready_in old ≤ MAX_UNIT_LEN → ready_in new ≤ MAX_UNIT_LEN
 
--- the rest stays
-pub record Stays (old new : Sender) : Type 0 where
-  pub session : new.session ≡ old.session
+-- the rest stays, but for the version in which is sent
+pub record StaysBut (old new : Sender) : Type 0 where
+  pub sessions : new.sessions ≡ old.sessions
   pub timing : new.timing ≡ old.timing
   pub newest : newest_of new ≡ newest_of old
   pub room : KeepsRoom old new
 
+-- the rest stays
+pub record Stays (old new : Sender) : Type 0 where
+  pub version : new.version ≡ old.version
+  pub sessions : new.sessions ≡ old.sessions
+  pub timing : new.timing ≡ old.timing
+  pub newest : newest_of new ≡ newest_of old
+  pub room : KeepsRoom old new
+
+-- From now on is sent in this version. Nothing is due.
+pub record Speaks (version : Version) (old new : Sender) : Type 0 where
+  pub version_is : new.version ≡ version
+  pub due : due_of new ≡ []
+  pub stays : StaysBut old new
+
 -- these units are due
 pub record Sends (old : Sender) (units : List Unit) (new : Sender) : Type 0 where
-  pub due : due_of new ≡ sent_all V1 units
+  pub due : due_of new ≡ sent_all old.version units
   pub stays : Stays old new
 
 -- Its Cache Response is due, and then the rest of the answer.
 pub record BeginsAnswer (old : Sender) (records : Records) (new : Sender) : Type 0 where
-  pub session : new.session ≡ old.session
+  pub version : new.version ≡ old.version
+  pub sessions : new.sessions ≡ old.sessions
   pub timing : new.timing ≡ old.timing
   pub ready : new.ready ≡ old.ready
   pub answer : new.answer ≡ Some (record { records = records; place = 0 })
-  pub due : due_of new ≡ sent_all V1 (CacheResponse old.session ∷ units_in records ++ EndOfData old.session (serial_in records) old.timing.refresh old.timing.retry old.timing.expire ∷ [])
+  pub due : due_of new ≡ sent_all old.version (CacheResponse (own_session old) ∷ units_in records ++ end_of_data old.version (own_session old) (serial_in records) old.timing ∷ [])
   pub room : ready_in new ≤ MAX_UNIT_LEN
 
 -- the records of an answer that has ended
 pub record KeepsRecords (old : Sender) (records : Records) (new : Sender) : Type 0 where
-  pub session : new.session ≡ old.session
+  pub version : new.version ≡ old.version
+  pub sessions : new.sessions ≡ old.sessions
   pub timing : new.timing ≡ old.timing
   pub buffer : new.buffer ≡ old.buffer
   pub pulled : new.pulled ≡ old.pulled
@@ -88,15 +114,15 @@ pub record KeepsRecords (old : Sender) (records : Records) (new : Sender) : Type
   pub ready : newest_in new.ready None ≡ newest_in old.ready (Some (record { records = records; place = 0 }))
 
 -- A unit is written into a buffer, which has these bytes then, where there is a unit.
-abbrev pub Writes : {B : Type 0} → Option Unit → Bool → B → List ℕ → B → Type 0
-Writes None written old bytes new = (written ≡ false) × (new ≡ old)
-Writes (Some u) written old bytes new = (written ≡ true) × (bytes ≡ sent V1 u) × IsUnit u
+abbrev pub Writes : {B : Type 0} → Version → Option Unit → Bool → B → List ℕ → B → Type 0
+Writes version None written old bytes new = (written ≡ false) × (new ≡ old)
+Writes version (Some u) written old bytes new = (written ≡ true) × (bytes ≡ sent version u) × IsUnitOf version u
 
 -- The first unit that was left stands in the buffer, and the others are left.
 pub record Hands (old new : Sender) : Type 0 where
   pub first : Unit
   pub was : left old ≡ first ∷ left new
-  pub bytes : new.buffer.items ≡ sent V1 first
+  pub bytes : new.buffer.items ≡ sent old.version first
   pub pulled : new.pulled ≡ 0
   pub stays : Stays old new
 
@@ -117,7 +143,8 @@ pub record GivesFrom (old : Sender) (out : List ℕ) (filled result : ℕ) (now 
   pub result_is : result ≡ filled + count
   pub now_is : now ≡ take filled out ++ take count (drop old.pulled old.buffer.items) ++ drop (filled + count) out
   pub left : drop new.pulled new.buffer.items ≡ drop count (drop old.pulled old.buffer.items)
-  pub session : new.session ≡ old.session
+  pub version : new.version ≡ old.version
+  pub sessions : new.sessions ≡ old.sessions
   pub timing : new.timing ≡ old.timing
   pub ready : new.ready ≡ old.ready
   pub answer : new.answer ≡ old.answer

@@ -7,10 +7,10 @@ use Rattle.prefixes.specs.Payload.{Payload, vrp_cmp}
 use Rattle.vrps.specs.VrpSet.{VrpSet, empty, has, set_of, union, without}
 use Rattle.rtr_pdu.specs.Code.{CORRUPT_DATA, NO_DATA_AVAILABLE}
 use Rattle.rtr_pdu.specs.declared.unit.Unit.{Unit}
-use Rattle.rtr_pdu.specs.declared.unit.Unit.TheVariants.{SerialNotify, SerialQuery, ResetQuery, CacheResponse, Prefix, EndOfData, CacheReset, RouterKey, ErrorReport}
+use Rattle.rtr_pdu.specs.declared.unit.Unit.TheVariants.{SerialNotify, SerialQuery, ResetQuery, CacheResponse, Prefix, EndOfData, EndOfData0, CacheReset, RouterKey, ErrorReport}
 use Rattle.rtr_pdu.specs.declared.unit.UnitFault.{UnitFault}
 use Rattle.rtr_ends.specs.Commit.{Commits}
-use Rattle.rtr_ends.specs.Timing.{Intervals, intervals}
+use Rattle.rtr_ends.specs.Timing.{Intervals, default_intervals, intervals}
 
 -- A question: for all, or for what changed since a version (RFC 8210 sections 5.3 and 5.4)
 pub data Question : Type 0 where
@@ -210,6 +210,8 @@ at_end_of_data (Some a) version k =
 abbrev pub kept_unit : Unit → List Item → Kept → Kept
 kept_unit (EndOfData session serial refresh retry expire) items k =
     at_end_of_data (under_way items) (record { session = session; serial = serial; moment = moment items; intervals = bounded refresh retry expire }) k
+kept_unit (EndOfData0 session serial) items k =
+    at_end_of_data (under_way items) (record { session = session; serial = serial; moment = moment items; intervals = default_intervals }) k
 kept_unit (SerialNotify session serial) items k = emptied_if (has_agreed items && differs (session_of (responded items) k.version) session) k
 kept_unit (CacheResponse session) items k = emptied_if (is_wrong (waiting items) k.version session) k
 kept_unit (ErrorReport r) items k = emptied_if (r.code == CORRUPT_DATA && is_serial (outstanding items)) k
@@ -231,6 +233,7 @@ kept (item ∷ items) = kept items
 -- The last item is a commit: an End of Data that completes an answer.
 abbrev pub is_commit : List Item → Bool
 is_commit (Reads (EndOfData session serial refresh retry expire) ∷ items) = does_commit (under_way items) session (kept items).table
+is_commit (Reads (EndOfData0 session serial) ∷ items) = does_commit (under_way items) session (kept items).table
 is_commit items = false
 
 -- Moments are u64; sums stop at the greatest.
@@ -260,6 +263,8 @@ due (Reads (EndOfData session serial refresh retry expire) ∷ items) =
     if does_commit (under_way items) session (kept items).table
     then refreshed (kept (Reads (EndOfData session serial refresh retry expire) ∷ items)).version
     else due items
+due (Reads (EndOfData0 session serial) ∷ items) =
+    if does_commit (under_way items) session (kept items).table then refreshed (kept (Reads (EndOfData0 session serial) ∷ items)).version else due items
 due (Reads (ErrorReport r) ∷ items) = if r.code == NO_DATA_AVAILABLE && is_some (outstanding items) then retried items else due items
 due (item ∷ items) = due items
 
@@ -275,6 +280,7 @@ marked [] = false
 marked (Restarts ∷ items) = false
 marked (Reads (Prefix announce v) ∷ items) = acts_wrongly (under_way items) (kept items).table announce v || marked items
 marked (Reads (EndOfData session serial refresh retry expire) ∷ items) = not (does_commit (under_way items) session (kept items).table) && marked items
+marked (Reads (EndOfData0 session serial) ∷ items) = not (does_commit (under_way items) session (kept items).table) && marked items
 marked (item ∷ items) = marked items
 
 -- A Serial Query where something is committed and the mark is not set, else a Reset Query

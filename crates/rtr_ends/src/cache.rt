@@ -10,6 +10,7 @@ ghost use Rattle.rtr_ends.specs.ServeStream.{is_within};
 
 use crate::peer::Peer;
 use crate::sender::Share;
+use crate::sessions::Sessions;
 use crate::timing::Timing;
 use std::alloc::{AllocError, Global};
 use std::rc::Rc;
@@ -25,19 +26,31 @@ pub struct Conn(usize);
 pub struct Cache<S> {
     alloc: Global,
     store: S,
+    /// The session number of version 0.
+    session0: u16,
     timing: Timing,
     /// The connections by their numbers.
     peers: Vec<Option<Box<Peer>>>,
 }
 
 impl<S: VersionStore> Cache<S> {
-    /// A cache over this store, which tells its routers these intervals, without a connection. It takes no memory.
+    /// A cache over this store, which tells its routers these intervals, without a connection. The session number of the store stands
+    /// for both versions of the protocol. It takes no memory.
     pub fn new(alloc: Global, store: S, timing: Timing) -> Cache<S>
-        ensures { (keep : ℕ) (i : Instance) → S.holds keep i store → ShowsCache S.holds (without_conns keep timing i) result }
+        ensures { (keep : ℕ) (i : Instance) → S.holds keep i store → i.session0 ≡ i.session → ShowsCache S.holds (without_conns keep timing i) result }
+    {
+        let session0 = store.session();
+        Cache::new_both(alloc, store, session0, timing)
+    }
+
+    /// The same with a session number of its own for version 0: a session is one of a version of the protocol (RFC 8210 section 5.1).
+    pub fn new_both(alloc: Global, store: S, session0: u16, timing: Timing) -> Cache<S>
+        ensures { (keep : ℕ) (i : Instance) → S.holds keep i store → i.session0 ≡ session0 → ShowsCache S.holds (without_conns keep timing i) result }
     {
         Cache {
             alloc,
             store,
+            session0,
             timing,
             peers: Vec::new(alloc),
         }
@@ -172,15 +185,23 @@ impl<S: VersionStore> Cache<S> {
         }
     }
 
+    /// The session numbers.
+    fn sessions(&self) -> Sessions
+        ensures v0 { result.v0 ≡ self.now.session0 }
+        ensures v1 { (keep : ℕ) (i : Instance) → S.holds keep i self.now.store → result.v1 ≡ i.session }
+    {
+        Sessions {
+            v0: self.session0,
+            v1: self.store.session(),
+        }
+    }
+
     /// Opens a connection. Its number is the least that no connection has. Without memory nothing is changed.
     pub fn open(&mut self) -> Result<Conn, AllocError>
         ensures { (m : CacheState) → ShowsCache S.holds m self.old → Opens S.holds m result self.new }
     {
         let ready = self.share()?;
-        let peer = Box::new(
-            self.alloc,
-            Peer::new(self.store.session(), self.timing, ready),
-        )?;
+        let peer = Box::new(self.alloc, Peer::new(self.sessions(), self.timing, ready))?;
         let number = self.least_free();
         if number < self.peers.len() {
             self.peers[number] = Some(peer);

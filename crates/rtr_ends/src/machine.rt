@@ -1,8 +1,9 @@
 //! A router between two units: what it holds, its link, and what it asks (RFC 8210 sections 5 to 8).
-ghost use Rattle.std.specs.Prelude.{◌≡◌, ◌&&◌, [], None, false};
+ghost use Rattle.std.specs.Prelude.{◌≡◌, ◌&&◌, [], None, true, false};
 ghost use Rattle.vrps.specs.Origin.{state};
 ghost use Rattle.vrps.specs.VrpSet.{empty};
 ghost use Rattle.rtr_pdu.specs.Code.{CORRUPT_DATA};
+ghost use Rattle.rtr_pdu.specs.Unit.{fits};
 ghost use Rattle.rtr_pdu.specs.declared.version.Version.TheVariants.{V1};
 ghost use Rattle.rtr_ends.specs.Answer.{report, sent};
 ghost use Rattle.rtr_ends.specs.Cache.{is_none};
@@ -17,7 +18,7 @@ use crate::question::{CommittedVersion, Question};
 use crate::reports::report_on;
 use crate::staging::Staging;
 use crate::table::Table;
-use rtr_pdu::{Unit, error_code};
+use rtr_pdu::{Unit, Version, error_code};
 use std::alloc::Global;
 
 /// The state of a link.
@@ -82,9 +83,10 @@ impl Machine {
         ensures { self.new ≡ record self.old { state = states.Asked question; out = sent V1 (query (seen_question question)) } }
     {
         match question {
-            Question::Reset => self.out.put(&Unit::ResetQuery),
+            Question::Reset => self.out.put(Version::V1, &Unit::ResetQuery),
             Question::Serial { session, serial } => {
-                self.out.put(&Unit::SerialQuery { session, serial })
+                self.out
+                    .put(Version::V1, &Unit::SerialQuery { session, serial })
             }
         }
         self.state = State::Asked(question);
@@ -128,14 +130,17 @@ impl Machine {
 
     /// Ends the link with a report on a unit.
     pub fn reports(&mut self, code: u16, unit: &Unit)
+        requires { fits V1 unit.now ≡ true }
         ensures { self.new ≡ record self.old { state = states.Ended (ends.Reported code); out = sent V1 (report code (sent V1 unit.now)) } }
     {
-        self.out.put(&report_on(code, unit));
+        self.out
+            .put(Version::V1, &report_on(Version::V1, code, unit));
         self.state = State::Ended(End::Reported(code));
     }
 
     /// The same with code 0, Corrupt Data, and what is committed is dropped.
     pub fn fails(&mut self, unit: &Unit)
+        requires { fits V1 unit.now ≡ true }
         ensures { self.new ≡ record self.old { table = empty; version = None; mark = false; state = states.Ended (ends.Reported CORRUPT_DATA); out = sent V1 (report CORRUPT_DATA (sent V1 unit.now)) } }
     {
         self.empty();

@@ -2,6 +2,7 @@
 ghost use Rattle.std.specs.Prelude.{◌≡◌, ◌≤◌, ◌&&◌, ℕ, [], true, Some, Ok};
 ghost use Rattle.vrps.specs.VrpSet.{has, size};
 ghost use Rattle.rtr_pdu.specs.Code.{CORRUPT_DATA};
+ghost use Rattle.rtr_pdu.specs.Unit.{fits};
 ghost use Rattle.rtr_pdu.specs.declared.version.Version.TheVariants.{V1};
 ghost use Rattle.rtr_ends.specs.Answer.{report, sent};
 ghost use Rattle.rtr_ends.specs.Router as model;
@@ -13,10 +14,10 @@ ghost use Rattle.rtr_ends.specs.Transcript.{base_of, differs, is_wrong, session_
 use crate::link::End;
 use crate::machine::{Machine, State};
 use crate::question::{CommittedVersion, Question, within};
-use crate::reports::{code_of, fault_unit, type_byte};
+use crate::reports::{agreed_version, code_of, fault_unit, type_byte};
 use crate::staging::{Staged, Staging};
 use prefixes::Vrp;
-use rtr_pdu::{Kind, Unit, UnitFault, error_code};
+use rtr_pdu::{Kind, Unit, UnitFault, Version, error_code};
 use std::mem;
 use vrps::SetFault;
 
@@ -27,6 +28,7 @@ impl Machine {
 
     /// A unit is read. Whether memory was wanting; then the link has ended.
     pub fn read(&mut self, unit: &Unit) -> bool
+        requires { fits V1 unit.now ≡ true }
         ensures { ReadsOrLacks result unit.now self.old self.new }
     {
         match self.state {
@@ -58,7 +60,8 @@ impl Machine {
 
     /// A unit on an idle link.
     fn on_idle(&mut self, unit: &Unit)
-        requires { self.old.state ≡ states.Idle }
+        requires state { self.old.state ≡ states.Idle }
+        requires fits { fits V1 unit.now ≡ true }
         ensures { Does (λ r. rules.on_unit r.link unit.now r) self.old self.new }
     {
         match unit {
@@ -73,6 +76,7 @@ impl Machine {
             Unit::Prefix { .. } => self.reports(error_code::CORRUPT_DATA, unit),
             Unit::RouterKey(_) => self.reports(error_code::CORRUPT_DATA, unit),
             Unit::EndOfData { .. } => self.reports(error_code::CORRUPT_DATA, unit),
+            Unit::EndOfData0 { .. } => self.reports(error_code::CORRUPT_DATA, unit),
             Unit::CacheReset => self.reports(error_code::CORRUPT_DATA, unit),
             Unit::SerialQuery { .. } => self.reports(error_code::CORRUPT_DATA, unit),
             Unit::ResetQuery => self.reports(error_code::CORRUPT_DATA, unit),
@@ -87,7 +91,8 @@ impl Machine {
 
     /// A unit where the question is not answered yet.
     fn on_asked(&mut self, question: Question, unit: &Unit)
-        requires { self.old.state ≡ states.Asked question }
+        requires state { self.old.state ≡ states.Asked question }
+        requires fits { fits V1 unit.now ≡ true }
         ensures { Does (λ r. rules.on_unit r.link unit.now r) self.old self.new }
     {
         match unit {
@@ -106,6 +111,7 @@ impl Machine {
             Unit::Prefix { .. } => self.reports(error_code::CORRUPT_DATA, unit),
             Unit::RouterKey(_) => self.reports(error_code::CORRUPT_DATA, unit),
             Unit::EndOfData { .. } => self.reports(error_code::CORRUPT_DATA, unit),
+            Unit::EndOfData0 { .. } => self.reports(error_code::CORRUPT_DATA, unit),
             Unit::CacheReset => match question {
                 Question::Serial { .. } => {
                     self.agreed = true;
@@ -130,7 +136,8 @@ impl Machine {
         session: u16,
         unit: &Unit,
     ) -> Result<(), SetFault>
-        requires { self.old.state ≡ states.Answering question session }
+        requires state { self.old.state ≡ states.Answering question session }
+        requires fits { fits V1 unit.now ≡ true }
         ensures { UnitIsRead result unit.now self.old self.new }
     {
         match unit {
@@ -155,6 +162,16 @@ impl Machine {
                 }
                 self.commit(question, session, *serial, *refresh, *retry, *expire)
             }
+            Unit::EndOfData0 {
+                session: named,
+                serial,
+            } => {
+                if *named != session {
+                    self.fails(unit);
+                    return Ok(());
+                }
+                self.commit_0(question, session, *serial)
+            }
             Unit::ErrorReport(report) => {
                 self.told_off(question, report.code());
                 Ok(())
@@ -168,6 +185,7 @@ impl Machine {
 
     /// A unit that does not belong in an answer.
     fn rejects(&mut self, unit: &Unit) -> Result<(), SetFault>
+        requires { fits V1 unit.now ≡ true }
         ensures ok { result ≡ Ok tt }
         ensures reports { self.new ≡ record self.old { state = states.Ended (ends.Reported CORRUPT_DATA); out = sent V1 (report CORRUPT_DATA (sent V1 unit.now)) } }
     {
@@ -194,6 +212,7 @@ impl Machine {
         announce: bool,
         vrp: &Vrp,
     ) -> Result<(), SetFault>
+        requires { fits V1 unit.now ≡ true }
         ensures { (session : ℕ) → self.old.state ≡ states.Answering question session → unit.now ≡ Unit.Prefix announce vrp.now → UnitIsRead result unit.now self.old self.new }
     {
         let in_base = self.is_in_base(question, vrp);
@@ -241,6 +260,13 @@ impl Machine {
             }
             Err(fault) => Err(fault),
         }
+    }
+
+    /// The end of an answer of version 0, which tells no intervals: those that the standard recommends are kept.
+    fn commit_0(&mut self, question: Question, session: u16, serial: u32) -> Result<(), SetFault>
+        ensures { self.old.state ≡ states.Answering question session → UnitIsRead result (Unit.EndOfData0 session serial) self.old self.new }
+    {
+        self.commit(question, session, serial, 3600, 600, 7200)
     }
 
     /// An Error Report to the question that is outstanding: code 2, No Data Available, leaves the link idle; code 0, Corrupt Data,
@@ -320,14 +346,15 @@ impl Machine {
     pub fn breaks(&mut self, fault: UnitFault, bytes: &[u8])
         ensures { Does (λ r. (model.breaks fault bytes.now r).router) self.old self.new }
     {
-        match fault_unit(self.agreed, fault, bytes) {
+        let agreed = agreed_version(self.agreed, Version::V1);
+        match fault_unit(agreed, fault, bytes) {
             None => self.out.clear(),
-            Some(unit) => self.out.put(&unit),
+            Some(unit) => self.out.put(Version::V1, &unit),
         }
         if type_byte(bytes) == Kind::ErrorReport.number() {
             self.state = State::Ended(End::Malformed);
         } else {
-            self.state = State::Ended(End::Reported(code_of(self.agreed, fault)));
+            self.state = State::Ended(End::Reported(code_of(agreed, fault)));
         }
     }
 }

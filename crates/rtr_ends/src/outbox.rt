@@ -1,10 +1,10 @@
 //! Bytes to be pulled.
-ghost use Rattle.std.specs.Prelude.{◌≡◌, ◌≤◌, ◌==◌, [], ◌++◌, length, take, drop, min};
-ghost use Rattle.rtr_pdu.specs.declared.version.Version.TheVariants.{V1};
+ghost use Rattle.std.specs.Prelude.{◌≡◌, ◌≤◌, ◌==◌, true, [], ◌++◌, length, take, drop, min};
+ghost use Rattle.rtr_pdu.specs.Unit.{fits};
 ghost use Rattle.rtr_ends.specs.Answer.{sent};
 ghost use Rattle.rtr_ends.specs.Cache.{is_none};
 
-use rtr_pdu::{MAX_UNIT_LEN, Unit, UnitBuffer, encode};
+use rtr_pdu::{MAX_UNIT_LEN, Unit, UnitBuffer, Version, encode_as};
 use std::marker::Model;
 
 /// The bytes of one unit that are still to be pulled. It takes no memory.
@@ -59,11 +59,12 @@ impl Outbox {
         self.pulled = 0;
     }
 
-    /// A unit is to be pulled, and nothing else.
-    pub fn put(&mut self, unit: &Unit)
-        ensures { self.new ≡ sent V1 unit.now }
+    /// A unit of this version is to be pulled, and nothing else.
+    pub fn put(&mut self, version: Version, unit: &Unit)
+        requires { fits version unit.now ≡ true }
+        ensures { self.new ≡ sent version unit.now }
     {
-        encode(unit, &mut self.unit);
+        encode_as(version, unit, &mut self.unit);
         self.pulled = 0;
     }
 

@@ -2,37 +2,37 @@
 ghost use Rattle.std.specs.Prelude.{◌≡◌, ◌≤◌, ℕ, length, Bool, true, false, not, ◌||◌, List, [], ◌∷◌, Some, option_map};
 ghost use Rattle.vrps.specs.Instance.{Instance, versions};
 ghost use Rattle.vrps.specs.Stores.{newest};
-ghost use Rattle.rtr_ends.specs.Cache.{Conn, can_notify, conn_notified, is_none, new_conn};
-ghost use Rattle.rtr_ends.specs.Connection.{fault_report, is_query};
+ghost use Rattle.rtr_pdu.specs.Reader.{known_version};
+ghost use Rattle.rtr_pdu.specs.Unit.{fits};
+ghost use Rattle.rtr_ends.specs.Cache.{Conn, can_notify, conn_notified, is_none, new_conn, spoken_in};
 ghost use Rattle.rtr_ends.specs.Peer.{SendsReply, EndsConnection, ReportsFault, Knows, Pulls, Receives, ShowsPeer, maybe, read_reply, since_reply};
-ghost use Rattle.rtr_ends.specs.Sender.{due_of, newest_of, numbered_of};
+ghost use Rattle.rtr_ends.specs.Sender.{Speaks, due_of, newest_of, numbered_of};
 ghost use Rattle.rtr_ends.specs.Timing.{Intervals};
 
 use crate::reports::{fault_unit, report, report_on};
 use crate::sender::{Sender, Share};
+use crate::sessions::Sessions;
 use crate::timing::Timing;
-use rtr_pdu::{Next, Unit, UnitFault, UnitReader, error_code};
+use rtr_pdu::{Next, Unit, UnitFault, UnitReader, Version, error_code};
 use vrps::{Serial, Since, VersionStore};
 
 /// One connection at the cache (RFC 8210 sections 5 to 8). It holds at most 4,096 bytes that came and 4,096 to be sent.
 #[derive(Drop)]
 pub struct Peer {
     pub reader: UnitReader,
-    pub agreed: bool,
     pub ended: bool,
     pub sender: Sender,
 }
 
 impl Peer {
     /// A connection on which nothing came yet.
-    pub fn new(session: u16, timing: Timing, ready: Option<Share>) -> Self
-        ensures { (i : Instance) → session ≡ i.session → option_map numbered_of ready ≡ newest (versions i) → ShowsPeer timing i (new_conn i) result }
+    pub fn new(sessions: Sessions, timing: Timing, ready: Option<Share>) -> Self
+        ensures { (i : Instance) → sessions.v1 ≡ i.session → sessions.v0 ≡ i.session0 → option_map numbered_of ready ≡ newest (versions i) → ShowsPeer timing i (new_conn i) result }
     {
         Peer {
             reader: UnitReader::for_cache(),
-            agreed: false,
             ended: false,
-            sender: Sender::new(session, timing, ready),
+            sender: Sender::new(sessions, timing, ready),
         }
     }
 
@@ -50,9 +50,23 @@ impl Peer {
         !self.reader.held().is_empty()
     }
 
+    /// From now on is sent in the version of what came, in version 1 where no header has come.
+    fn speak(&mut self)
+        requires { due_of self.old.sender ≡ [] }
+        ensures reader { self.new.reader ≡ self.old.reader }
+        ensures ended { self.new.ended ≡ self.old.ended }
+        ensures speaks { Speaks (spoken_in (known_version self.old.reader)) self.old.sender self.new.sender }
+    {
+        match self.reader.version() {
+            None => self.sender.speak(Version::V1),
+            Some(version) => self.sender.speak(version),
+        }
+    }
+
     /// Sends a report, and ends.
     fn end(&mut self, unit: &Unit)
-        requires { due_of self.old.sender ≡ [] }
+        requires due { due_of self.old.sender ≡ [] }
+        requires fits { fits self.old.sender.version unit.now ≡ true }
         ensures { EndsConnection self.old (unit.now ∷ []) self.new }
     {
         self.sender.send(unit);
@@ -65,7 +79,7 @@ impl Peer {
         requires goes_on { self.old.ended ≡ false }
         requires current { Some current.0 ≡ option_map (λ v. v.serial) (newest_of self.old.sender) }
         ensures { (keep : ℕ) (t : Intervals) (i : Instance) → S.holds keep i store.now → Knows t i self.old.sender →
-            (memory : Bool) × SendsReply t i (since_reply keep t i memory asked.0) self.old.agreed self.old self.new }
+            (memory : Bool) × SendsReply t i (since_reply self.old.sender.version keep t i memory asked.0) self.old self.new }
     {
         match store.since(asked) {
             Err(_) => self.end(&report(error_code::INTERNAL_ERROR, &[])),
@@ -80,17 +94,19 @@ impl Peer {
         requires due { due_of self.old.sender ≡ [] }
         requires goes_on { self.old.ended ≡ false }
         ensures { (keep : ℕ) (t : Intervals) (i : Instance) → S.holds keep i store.now → Knows t i self.old.sender →
-            (memory : Bool) × SendsReply t i (read_reply keep t i memory (Unit.SerialQuery session serial)) self.old.agreed self.old self.new }
+            (memory : Bool) × SendsReply t i (read_reply self.old.sender.version keep t i memory (Unit.SerialQuery session serial)) self.old self.new }
     {
+        let version = self.sender.version;
         let query = Unit::SerialQuery { session, serial };
-        if session != self.sender.session {
-            self.end(&report_on(error_code::CORRUPT_DATA, &query));
+        if session != self.sender.session() {
+            self.end(&report_on(version, error_code::CORRUPT_DATA, &query));
             return;
         }
         match self.sender.current() {
-            None => self
-                .sender
-                .send(&report_on(error_code::NO_DATA_AVAILABLE, &query)),
+            None => {
+                let report = report_on(version, error_code::NO_DATA_AVAILABLE, &query);
+                self.sender.send(&report);
+            }
             Some(current) => self.answer_since(store, Serial(serial), current),
         }
     }
@@ -99,20 +115,18 @@ impl Peer {
     fn answer<S: VersionStore>(&mut self, store: &S, unit: &Unit)
         requires due { due_of self.old.sender ≡ [] }
         requires goes_on { self.old.ended ≡ false }
+        requires fits { fits self.old.sender.version unit.now ≡ true }
         ensures { (keep : ℕ) (t : Intervals) (i : Instance) → S.holds keep i store.now → Knows t i self.old.sender →
-            (memory : Bool) × SendsReply t i (read_reply keep t i memory unit.now) (self.old.agreed || is_query unit.now) self.old self.new }
+            (memory : Bool) × SendsReply t i (read_reply self.old.sender.version keep t i memory unit.now) self.old self.new }
     {
+        let version = self.sender.version;
         match unit {
-            Unit::ResetQuery => {
-                self.agreed = true;
-                self.sender.answer_reset();
-            }
+            Unit::ResetQuery => self.sender.answer_reset(),
             Unit::SerialQuery { session, serial } => {
-                self.agreed = true;
                 self.answer_serial(store, *session, *serial);
             }
             Unit::ErrorReport(_) => self.ended = true,
-            _ => self.end(&report_on(error_code::INVALID_REQUEST, unit)),
+            _ => self.end(&report_on(version, error_code::INVALID_REQUEST, unit)),
         }
     }
 
@@ -121,8 +135,9 @@ impl Peer {
         requires { due_of self.old.sender ≡ [] }
         ensures { ReportsFault self.old fault self.new }
     {
-        let unit = fault_unit(self.agreed, fault, self.reader.held());
-        self.reader = UnitReader::for_cache();
+        self.speak();
+        let unit = fault_unit(self.reader.expected(), fault, self.reader.held());
+        self.reader = UnitReader::of_version(self.sender.version);
         match unit {
             None => self.ended = true,
             Some(unit) => self.end(&unit),
@@ -143,6 +158,7 @@ impl Peer {
         match self.reader.next(&mut rest) {
             Next::NeedMore => piece.len(),
             Next::Unit(unit) => {
+                self.speak();
                 self.answer(store, &unit);
                 piece.len() - rest.len()
             }
@@ -172,7 +188,8 @@ impl Peer {
         match self.sender.current() {
             None => false,
             Some(serial) => {
-                let session = self.sender.session;
+                self.speak();
+                let session = self.sender.session();
                 let serial = serial.0;
                 self.sender.send(&Unit::SerialNotify { session, serial });
                 true
@@ -182,7 +199,7 @@ impl Peer {
 
     /// A share of a newer version is ready from now on.
     pub fn offer(&mut self, share: Share)
-        ensures { (t : Intervals) (i j : Instance) (o : Conn) → i.session ≡ j.session → Some (numbered_of share) ≡ newest (versions j) →
+        ensures { (t : Intervals) (i j : Instance) (o : Conn) → i.session ≡ j.session → i.session0 ≡ j.session0 → Some (numbered_of share) ≡ newest (versions j) →
             ShowsPeer t i o self.old → ShowsPeer t j o self.new }
     {
         self.sender.offer(share);

@@ -13,9 +13,10 @@ ghost use Rattle.rtr_ends.specs.RouterLink.{asked_on, name_of, told_link};
 ghost use Rattle.vrps.specs.Origin.{state};
 
 use crate::link::{AskFault, Link};
+use crate::link_reader::LinkReader;
 use crate::machine::{Machine, State};
 use prefixes::Route;
-use rtr_pdu::{Next, UnitReader};
+use rtr_pdu::Next;
 use std::alloc::Global;
 use vrps::{OriginState, Serial, VrpSet};
 
@@ -24,7 +25,7 @@ use vrps::{OriginState, Serial, VrpSet};
 #[derive(Drop)]
 pub struct Router {
     machine: Machine,
-    reader: UnitReader,
+    reader: LinkReader,
 }
 
 impl Router {
@@ -36,7 +37,7 @@ impl Router {
     {
         Router {
             machine: Machine::new(alloc),
-            reader: UnitReader::for_router(),
+            reader: LinkReader::for_router(),
         }
     }
 
@@ -46,7 +47,7 @@ impl Router {
         ensures leads { LeadsOn (model.Connects now) self.old self.new }
     {
         self.machine.connect(now);
-        self.reader = UnitReader::for_router();
+        self.reader = LinkReader::for_router();
     }
 
     /// The connection is closed. It takes no memory.

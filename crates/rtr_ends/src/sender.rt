@@ -1,15 +1,17 @@
 //! What a connection at the cache has to send.
 ghost use Rattle.std.specs.Prelude.{◌≡◌, ℕ, ◌<◌, ◌≤◌, length, Bool, true, false, not, [], ◌∷◌, ◌++◌, ◌+◌, Some, None, option_map, slice_get};
 ghost use Rattle.vrps.specs.Instance.{NumberedSet};
+ghost use Rattle.rtr_pdu.specs.Unit.{fits};
 ghost use Rattle.rtr_pdu.specs.declared.version.Version.TheVariants.{V1};
-ghost use Rattle.rtr_ends.specs.Answer.{announcements, response, sent, whole_answer, withdrawals};
+ghost use Rattle.rtr_ends.specs.Answer.{announcements, end_of_data, response, sent, whole_answer, withdrawals};
 ghost use Rattle.rtr_ends.specs.Cache.{is_none};
-ghost use Rattle.rtr_ends.specs.Sender.{BeginsAnswer, PullsBytes, GivesFrom, Hands, KeepsRecords, KeepsRoom, Sends, Stays, Writes, as_list, due_of, left, newest_of, ready_in, serial_in, units_in, numbered_of};
+ghost use Rattle.rtr_ends.specs.Sender.{BeginsAnswer, PullsBytes, GivesFrom, Hands, KeepsRecords, KeepsRoom, Sends, Speaks, Stays, Writes, as_list, due_of, left, newest_of, own_session, ready_in, serial_in, units_in, numbered_of};
 
 use crate::reports::report_on;
+use crate::sessions::Sessions;
 use crate::timing::Timing;
 use arrayvec::ArrayVec;
-use rtr_pdu::{MAX_UNIT_LEN, Unit, UnitBuffer, encode, encode_prefix, error_code};
+use rtr_pdu::{MAX_UNIT_LEN, Unit, UnitBuffer, Version, encode_as, encode_prefix, error_code};
 use std::rc::Rc;
 use vrps::{Change, Serial, VrpSet};
 
@@ -37,14 +39,14 @@ pub struct AnswerCursor {
 }
 
 /// Writes the record of this set at this place, announced, and says whether there is one.
-fn write_announced(set: &VrpSet, place: usize, buffer: &mut UnitBuffer) -> bool
-    ensures writes { Writes (slice_get (announcements set.now) place) result buffer.old buffer.new.items buffer.new }
+fn write_announced(version: Version, set: &VrpSet, place: usize, buffer: &mut UnitBuffer) -> bool
+    ensures writes { Writes version (slice_get (announcements set.now) place) result buffer.old buffer.new.items buffer.new }
     ensures low { result ≡ true → place < 16777215 }
 {
     match set.as_slice().get(place) {
         None => false,
         Some(vrp) => {
-            encode_prefix(true, vrp, buffer);
+            encode_prefix(version, true, vrp, buffer);
             true
         }
     }
@@ -52,19 +54,21 @@ fn write_announced(set: &VrpSet, place: usize, buffer: &mut UnitBuffer) -> bool
 
 impl AnswerCursor {
     /// Writes the record at the place, and says whether there is one.
-    fn write(&self, buffer: &mut UnitBuffer) -> bool
-        ensures writes { Writes (slice_get (units_in self.now.records) self.now.place) result buffer.old buffer.new.items buffer.new }
+    fn write(&self, version: Version, buffer: &mut UnitBuffer) -> bool
+        ensures writes { Writes version (slice_get (units_in self.now.records) self.now.place) result buffer.old buffer.new.items buffer.new }
         ensures low { result ≡ true → self.now.place < 33554430 }
     {
         match &self.records {
-            Records::Whole(share) => write_announced(share.set.as_ref(), self.place, buffer),
+            Records::Whole(share) => {
+                write_announced(version, share.set.as_ref(), self.place, buffer)
+            }
             Records::Step(_, change) => {
                 let withdrawn = change.withdraw.as_slice();
                 if self.place >= withdrawn.len() {
                     let place = self.place - withdrawn.len();
-                    return write_announced(&change.announce, place, buffer);
+                    return write_announced(version, &change.announce, place, buffer);
                 }
-                encode_prefix(false, &withdrawn[self.place], buffer);
+                encode_prefix(version, false, &withdrawn[self.place], buffer);
                 true
             }
         }
@@ -85,7 +89,9 @@ impl AnswerCursor {
 /// they are kept.
 #[derive(Drop)]
 pub struct Sender {
-    pub session: u16,
+    /// The version in which is sent.
+    pub version: Version,
+    pub sessions: Sessions,
     pub timing: Timing,
     /// The share of the current version that is kept ready for a Reset Query.
     pub ready: Option<Share>,
@@ -97,21 +103,38 @@ pub struct Sender {
 
 impl Sender {
     /// Nothing is due.
-    pub fn new(session: u16, timing: Timing, ready: Option<Share>) -> Self
+    pub fn new(sessions: Sessions, timing: Timing, ready: Option<Share>) -> Self
         ensures due { due_of result ≡ [] }
-        ensures session { result.session ≡ session }
+        ensures version { result.version ≡ V1 }
+        ensures sessions { result.sessions ≡ sessions }
         ensures timing { result.timing ≡ timing }
         ensures newest { newest_of result ≡ option_map numbered_of ready }
         ensures room { ready_in result ≤ MAX_UNIT_LEN }
     {
         Sender {
-            session,
+            version: Version::V1,
+            sessions,
             timing,
             ready,
             answer: None,
             buffer: ArrayVec::new(),
             pulled: 0,
         }
+    }
+
+    /// From now on is sent in this version.
+    pub fn speak(&mut self, version: Version)
+        requires { due_of self.old ≡ [] }
+        ensures { Speaks version self.old self.new }
+    {
+        self.version = version;
+    }
+
+    /// The session in the version in which is sent.
+    pub fn session(&self) -> u16
+        ensures { result ≡ own_session self.now }
+    {
+        self.sessions.of(self.version)
     }
 
     /// Whether bytes are due.
@@ -123,10 +146,11 @@ impl Sender {
 
     /// Sends a unit.
     pub fn send(&mut self, unit: &Unit)
-        requires { due_of self.old ≡ [] }
+        requires due { due_of self.old ≡ [] }
+        requires fits { fits self.old.version unit.now ≡ true }
         ensures { Sends self.old (unit.now ∷ []) self.new }
     {
-        encode(unit, &mut self.buffer);
+        encode_as(self.version, unit, &mut self.buffer);
         self.pulled = 0;
     }
 
@@ -154,22 +178,32 @@ impl Sender {
         let _none = self.answer.replace(AnswerCursor { records, place });
     }
 
+    /// The End of Data of a version of this serial.
+    fn end_of_data(&self, serial: u32) -> Unit
+        ensures value { result ≡ end_of_data self.now.version (own_session self.now) serial self.now.timing }
+        ensures fits { fits self.now.version result ≡ true }
+    {
+        let session = self.session();
+        match self.version {
+            Version::V0 => Unit::EndOfData0 { session, serial },
+            Version::V1 => Unit::EndOfData {
+                session,
+                serial,
+                refresh: self.timing.refresh(),
+                retry: self.timing.retry(),
+                expire: self.timing.expire(),
+            },
+        }
+    }
+
     /// Writes the End of Data of the answer under way into the buffer.
     fn next_end(&mut self, cursor: AnswerCursor)
         requires none { self.old.answer ≡ None }
         requires at { None ≡ slice_get (units_in cursor.records) cursor.place }
         ensures { Hands (record self.old { answer = Some cursor }) self.new }
     {
-        encode(
-            &Unit::EndOfData {
-                session: self.session,
-                serial: cursor.serial(),
-                refresh: self.timing.refresh(),
-                retry: self.timing.retry(),
-                expire: self.timing.expire(),
-            },
-            &mut self.buffer,
-        );
+        let end = self.end_of_data(cursor.serial());
+        encode_as(self.version, &end, &mut self.buffer);
         self.pulled = 0;
         self.keep(cursor.records);
     }
@@ -179,7 +213,7 @@ impl Sender {
         requires { self.old.answer ≡ None }
         ensures { Hands (record self.old { answer = Some cursor }) self.new }
     {
-        if cursor.write(&mut self.buffer) {
+        if cursor.write(self.version, &mut self.buffer) {
             self.next_record(cursor);
         } else {
             self.next_end(cursor);
@@ -202,10 +236,10 @@ impl Sender {
         requires { due_of self.old ≡ [] }
         ensures { BeginsAnswer self.old records self.new }
     {
-        encode(
-            &Unit::CacheResponse {
-                session: self.session,
-            },
+        let session = self.session();
+        encode_as(
+            self.version,
+            &Unit::CacheResponse { session },
             &mut self.buffer,
         );
         self.pulled = 0;
@@ -215,10 +249,17 @@ impl Sender {
     /// Answers a Reset Query.
     pub fn answer_reset(&mut self)
         requires { due_of self.old ≡ [] }
-        ensures { Sends self.old (whole_answer V1 self.old.session self.old.timing (as_list (newest_of self.old))) self.new }
+        ensures { Sends self.old (whole_answer self.old.version (own_session self.old) self.old.timing (as_list (newest_of self.old))) self.new }
     {
         match self.ready.take() {
-            None => self.send(&report_on(error_code::NO_DATA_AVAILABLE, &Unit::ResetQuery)),
+            None => {
+                let report = report_on(
+                    self.version,
+                    error_code::NO_DATA_AVAILABLE,
+                    &Unit::ResetQuery,
+                );
+                self.send(&report);
+            }
             Some(share) => self.begin(Records::Whole(share)),
         }
     }
@@ -228,14 +269,15 @@ impl Sender {
         requires due { due_of self.old ≡ [] }
         requires serial { Some serial.0 ≡ option_map (λ v. v.serial) (newest_of self.old) }
         ensures { (v : NumberedSet) → newest_of self.old ≡ Some v →
-            Sends self.old (response V1 self.old.session self.old.timing v (withdrawals change.withdraw ++ announcements change.announce)) self.new }
+            Sends self.old (response self.old.version (own_session self.old) self.old.timing v (withdrawals change.withdraw ++ announcements change.announce)) self.new }
     {
         self.begin(Records::Step(serial, change));
     }
 
     /// A share of a newer version is ready from now on.
     pub fn offer(&mut self, share: Share)
-        ensures session { self.new.session ≡ self.old.session }
+        ensures version { self.new.version ≡ self.old.version }
+        ensures sessions { self.new.sessions ≡ self.old.sessions }
         ensures timing { self.new.timing ≡ self.old.timing }
         ensures due { due_of self.new ≡ due_of self.old }
         ensures newest { newest_of self.new ≡ Some (numbered_of share) }

@@ -8,4 +8,4 @@ pub returns-in-Some-clause-takes : goal.returns-in-Some-clause-takes
 returns-in-Some-clause-takes g c = λ m shows.
     let at : peer_at c.args.self.now.peers.items c.args.conn.0 ≡ Some c.deref_mut.result.now =
     slot_of c.args.self.now.peers.items c.args.conn.0 c.index_mut.result.now c.in-Some.peer (omega (arith, c.if-conn-len.false, c.len.ensures)) c.index_mut.ensures.value c.in-Some.is ∙ ap Some (sym c.deref_mut.ensures.value) in
-    takes_piece g.S.VersionStore.holds m c.args.self.now _ c.args.conn.0 shows (omega (arith, c.if-conn-len.false, c.len.ensures)) refl refl c.deref_mut.result.now (with_value c.in-Some.peer c.receive.new.self) at refl c.args.piece.now c.receive.result (λ o s. c.receive.ensures.receives m.keep m.timing m.cache o shows.store s)
+    takes_piece g.S.VersionStore.holds m c.args.self.now _ c.args.conn.0 shows (omega (arith, c.if-conn-len.false, c.len.ensures)) refl refl refl c.deref_mut.result.now (with_value c.in-Some.peer c.receive.new.self) at refl c.args.piece.now c.receive.result (λ o s. c.receive.ensures.receives m.keep m.timing m.cache o shows.store s)

@@ -6,41 +6,41 @@ use Rattle.rtr_ends.proofs.machine.Machine.on_answering.Goals as goal
 
 pub returns-then-is_strange : goal.returns-then-is_strange
 returns-then-is_strange c =
-    fails_so c.args.unit.now (states.Answering c.args.question c.args.session) _ _ c.requires
+    fails_so c.args.unit.now (states.Answering c.args.question c.args.session) _ _ c.requires.state
     (λ w a held. answering_strange _ _ c.args.unit.now c.in-SerialNotify.is (seen c.args.self.now w a held) (begun_with c.args.question c.args.session w a) (sym c.is_strange.ensures ∙ c.if-is_strange.true)) c.fails.ensures
 
 pub returns-else-is_strange : goal.returns-else-is_strange
 returns-else-is_strange c =
-    stays_so c.args.unit.now (states.Answering c.args.question c.args.session) _ c.requires
+    stays_so c.args.unit.now (states.Answering c.args.question c.args.session) _ c.requires.state
     (λ w a held. answering_same _ _ c.args.unit.now c.in-SerialNotify.is (seen c.args.self.now w a held) (begun_with c.args.question c.args.session w a) (sym c.is_strange.ensures ∙ c.if-is_strange.false))
 
 pub returns-in-RouterKey : goal.returns-in-RouterKey
 returns-in-RouterKey c =
-    stays_so c.args.unit.now (states.Answering c.args.question c.args.session) _ c.requires
+    stays_so c.args.unit.now (states.Answering c.args.question c.args.session) _ c.requires.state
     (λ w a held. answering_key c.in-RouterKey.field-0 c.args.unit.now c.in-RouterKey.is (begun_with c.args.question c.args.session w a) (seen c.args.self.now w a held))
 
 pub returns-then-named-session : goal.returns-then-named-session
 returns-then-named-session c =
-    fails_so c.args.unit.now (states.Answering c.args.question c.args.session) _ _ c.requires
+    fails_so c.args.unit.now (states.Answering c.args.question c.args.session) _ _ c.requires.state
     (λ w a held. answering_ends c.args.question c.args.session _ _ _ _ _ c.args.unit.now c.in-EndOfData.is c.if-named-session.true w a (seen c.args.self.now w a held)) c.fails-then-named-session.ensures
 
 pub returns-in-ErrorReport : goal.returns-in-ErrorReport
 returns-in-ErrorReport c =
-    does_so c.args.unit.now (states.Answering c.args.question c.args.session) _ _ _ c.requires
+    does_so c.args.unit.now (states.Answering c.args.question c.args.session) _ _ _ c.requires.state
     (λ w a held. answering_told c.in-ErrorReport.report c.args.unit.now c.in-ErrorReport.is (begun_with c.args.question c.args.session w a) (seen c.args.self.now w a held)) (told_now (seen_question c.args.question) _ _ c.args.self.now _ c.code.ensures c.told_off.ensures)
 
 pub returns-in-CacheResponse : goal.returns-in-CacheResponse
-returns-in-CacheResponse c = rw c.rejects.ensures.ok (reports_so c.args.unit.now (states.Answering c.args.question c.args.session) _ _ c.requires
+returns-in-CacheResponse c = rw c.rejects.ensures.ok (reports_so c.args.unit.now (states.Answering c.args.question c.args.session) _ _ c.requires.state
     (λ w a held. answering_rejects (begun_with c.args.question c.args.session w a) c.args.unit.now (ap foreign_answering c.in-CacheResponse.is) (seen c.args.self.now w a held)) c.rejects.ensures.reports)
 
 pub returns-in-CacheReset : goal.returns-in-CacheReset
-returns-in-CacheReset c = rw c.rejects-in-CacheReset.ensures.ok (reports_so c.args.unit.now (states.Answering c.args.question c.args.session) _ _ c.requires
+returns-in-CacheReset c = rw c.rejects-in-CacheReset.ensures.ok (reports_so c.args.unit.now (states.Answering c.args.question c.args.session) _ _ c.requires.state
     (λ w a held. answering_rejects (begun_with c.args.question c.args.session w a) c.args.unit.now (ap foreign_answering c.in-CacheReset.is) (seen c.args.self.now w a held)) c.rejects-in-CacheReset.ensures.reports)
 
 pub returns-in-SerialQuery : goal.returns-in-SerialQuery
-returns-in-SerialQuery c = rw c.rejects-in-SerialQuery.ensures.ok (reports_so c.args.unit.now (states.Answering c.args.question c.args.session) _ _ c.requires
+returns-in-SerialQuery c = rw c.rejects-in-SerialQuery.ensures.ok (reports_so c.args.unit.now (states.Answering c.args.question c.args.session) _ _ c.requires.state
     (λ w a held. answering_rejects (begun_with c.args.question c.args.session w a) c.args.unit.now (ap foreign_answering c.in-SerialQuery.is) (seen c.args.self.now w a held)) c.rejects-in-SerialQuery.ensures.reports)
 
 pub returns-in-ResetQuery : goal.returns-in-ResetQuery
-returns-in-ResetQuery c = rw c.rejects-in-ResetQuery.ensures.ok (reports_so c.args.unit.now (states.Answering c.args.question c.args.session) _ _ c.requires
+returns-in-ResetQuery c = rw c.rejects-in-ResetQuery.ensures.ok (reports_so c.args.unit.now (states.Answering c.args.question c.args.session) _ _ c.requires.state
     (λ w a held. answering_rejects (begun_with c.args.question c.args.session w a) c.args.unit.now (ap foreign_answering c.in-ResetQuery.is) (seen c.args.self.now w a held)) c.rejects-in-ResetQuery.ensures.reports)

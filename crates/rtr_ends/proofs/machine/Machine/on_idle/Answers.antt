@@ -7,52 +7,56 @@ use Rattle.rtr_ends.proofs.machine.Machine.on_idle.Goals as goal
 
 pub returns-then-is_strange : goal.returns-then-is_strange
 returns-then-is_strange c =
-    fails_so c.args.unit.now states.Idle _ _ c.requires (λ w a held. idle_strange _ _ c.args.unit.now c.in-SerialNotify.is (seen c.args.self.now w a held) (sym c.is_strange.ensures ∙ c.if-is_strange.true)) c.fails.ensures
+    fails_so c.args.unit.now states.Idle _ _ c.requires.state (λ w a held. idle_strange _ _ c.args.unit.now c.in-SerialNotify.is (seen c.args.self.now w a held) (sym c.is_strange.ensures ∙ c.if-is_strange.true)) c.fails.ensures
 
 pub returns-then-is_news : goal.returns-then-is_news
 returns-then-is_news c =
-    does_so c.args.unit.now states.Idle ask _ _ c.requires
+    does_so c.args.unit.now states.Idle ask _ _ c.requires.state
     (λ w a held. idle_news _ _ c.args.unit.now c.in-SerialNotify.is (seen c.args.self.now w a held) (sym c.is_strange.ensures ∙ c.if-is_strange.false) (sym c.is_news.ensures ∙ c.if-is_news.true)) c.ask.ensures
 
 pub returns-else-is_news : goal.returns-else-is_news
 returns-else-is_news c =
-    stays_so c.args.unit.now states.Idle _ c.requires
+    stays_so c.args.unit.now states.Idle _ c.requires.state
     (λ w a held. idle_old _ _ c.args.unit.now c.in-SerialNotify.is (seen c.args.self.now w a held) (sym c.is_strange.ensures ∙ c.if-is_strange.false) (sym c.is_news.ensures ∙ c.if-is_news.false))
 
 pub returns-in-CacheResponse : goal.returns-in-CacheResponse
 returns-in-CacheResponse c =
-    reports_so c.args.unit.now states.Idle _ _ c.requires (λ w a held. idle_rejects c.args.unit.now (ap foreign_idle c.in-CacheResponse.is) (seen c.args.self.now w a held)) c.reports.ensures
+    reports_so c.args.unit.now states.Idle _ _ c.requires.state (λ w a held. idle_rejects c.args.unit.now (ap foreign_idle c.in-CacheResponse.is) (seen c.args.self.now w a held)) c.reports.ensures
 
 pub returns-in-Prefix : goal.returns-in-Prefix
 returns-in-Prefix c =
-    reports_so c.args.unit.now states.Idle _ _ c.requires (λ w a held. idle_rejects c.args.unit.now (ap foreign_idle c.in-Prefix.is) (seen c.args.self.now w a held)) c.reports-in-Prefix.ensures
+    reports_so c.args.unit.now states.Idle _ _ c.requires.state (λ w a held. idle_rejects c.args.unit.now (ap foreign_idle c.in-Prefix.is) (seen c.args.self.now w a held)) c.reports-in-Prefix.ensures
 
 pub returns-in-RouterKey : goal.returns-in-RouterKey
 returns-in-RouterKey c =
-    reports_so c.args.unit.now states.Idle _ _ c.requires (λ w a held. idle_rejects c.args.unit.now (ap foreign_idle c.in-RouterKey.is) (seen c.args.self.now w a held)) c.reports-in-RouterKey.ensures
+    reports_so c.args.unit.now states.Idle _ _ c.requires.state (λ w a held. idle_rejects c.args.unit.now (ap foreign_idle c.in-RouterKey.is) (seen c.args.self.now w a held)) c.reports-in-RouterKey.ensures
 
 pub returns-in-EndOfData : goal.returns-in-EndOfData
 returns-in-EndOfData c =
-    reports_so c.args.unit.now states.Idle _ _ c.requires (λ w a held. idle_rejects c.args.unit.now (ap foreign_idle c.in-EndOfData.is) (seen c.args.self.now w a held)) c.reports-in-EndOfData.ensures
+    reports_so c.args.unit.now states.Idle _ _ c.requires.state (λ w a held. idle_rejects c.args.unit.now (ap foreign_idle c.in-EndOfData.is) (seen c.args.self.now w a held)) c.reports-in-EndOfData.ensures
+
+pub returns-in-EndOfData0 : goal.returns-in-EndOfData0
+returns-in-EndOfData0 c =
+    reports_so c.args.unit.now states.Idle _ _ c.requires.state (λ w a held. idle_rejects c.args.unit.now (ap foreign_idle c.in-EndOfData0.is) (seen c.args.self.now w a held)) c.reports-in-EndOfData0.ensures
 
 pub returns-in-CacheReset : goal.returns-in-CacheReset
 returns-in-CacheReset c =
-    reports_so c.args.unit.now states.Idle _ _ c.requires (λ w a held. idle_rejects c.args.unit.now (ap foreign_idle c.in-CacheReset.is) (seen c.args.self.now w a held)) c.reports-in-CacheReset.ensures
+    reports_so c.args.unit.now states.Idle _ _ c.requires.state (λ w a held. idle_rejects c.args.unit.now (ap foreign_idle c.in-CacheReset.is) (seen c.args.self.now w a held)) c.reports-in-CacheReset.ensures
 
 pub returns-in-SerialQuery : goal.returns-in-SerialQuery
 returns-in-SerialQuery c =
-    reports_so c.args.unit.now states.Idle _ _ c.requires (λ w a held. idle_rejects c.args.unit.now (ap foreign_idle c.in-SerialQuery.is) (seen c.args.self.now w a held)) c.reports-in-SerialQuery.ensures
+    reports_so c.args.unit.now states.Idle _ _ c.requires.state (λ w a held. idle_rejects c.args.unit.now (ap foreign_idle c.in-SerialQuery.is) (seen c.args.self.now w a held)) c.reports-in-SerialQuery.ensures
 
 pub returns-in-ResetQuery : goal.returns-in-ResetQuery
 returns-in-ResetQuery c =
-    reports_so c.args.unit.now states.Idle _ _ c.requires (λ w a held. idle_rejects c.args.unit.now (ap foreign_idle c.in-ResetQuery.is) (seen c.args.self.now w a held)) c.reports-in-ResetQuery.ensures
+    reports_so c.args.unit.now states.Idle _ _ c.requires.state (λ w a held. idle_rejects c.args.unit.now (ap foreign_idle c.in-ResetQuery.is) (seen c.args.self.now w a held)) c.reports-in-ResetQuery.ensures
 
 pub returns-then-code-ne-NO_DATA_AVAILABLE : goal.returns-then-code-ne-NO_DATA_AVAILABLE
 returns-then-code-ne-NO_DATA_AVAILABLE c =
-    told_so c.args.unit.now states.Idle _ c.code-code.result c.requires
+    told_so c.args.unit.now states.Idle _ c.code-code.result c.requires.state
     (λ w a held. rw c.code-code.ensures (idle_told c.in-ErrorReport.report c.args.unit.now c.in-ErrorReport.is (seen c.args.self.now w a held) (no_code _ _ 2 c.code-code.ensures c.if-code-ne-NO_DATA_AVAILABLE.true)))
 
 pub returns-else-code-ne-NO_DATA_AVAILABLE : goal.returns-else-code-ne-NO_DATA_AVAILABLE
 returns-else-code-ne-NO_DATA_AVAILABLE c =
-    stays_so c.args.unit.now states.Idle _ c.requires
+    stays_so c.args.unit.now states.Idle _ c.requires.state
     (λ w a held. idle_no_data c.in-ErrorReport.report c.args.unit.now c.in-ErrorReport.is (seen c.args.self.now w a held) (is_code _ _ 2 c.code-code.ensures c.if-code-ne-NO_DATA_AVAILABLE.false))

@@ -1,4 +1,4 @@
-use Rattle.std.proofs.Common.{◌∙◌, ap, sym, refl}
+use Rattle.std.proofs.Common.{◌∙◌, ap, sym}
 use Rattle.std.specs.Prelude.{option_map}
 use Rattle.vrps.specs.declared.serial.Serial.{Serial}
 use Rattle.rtr_ends.proofs.PeerLaws.{stops_as, notified_stops, notified_none, notified_some}
@@ -14,5 +14,6 @@ returns-in-None c = λ keep t i o shows.
 
 pub returns-in-Some : goal.returns-in-Some
 returns-in-Some c = λ keep t i o shows.
-    notified_some keep t i o c.args.self.now c.args.self.now.sender.session c.in-Some.serial.0 c.send.new.self (sym (stops_as keep t i o c.args.self.now shows) ∙ sym c.stops.ensures ∙ c.if-stops.false) refl
+    notified_some keep t i o c.args.self.now c.speak.new.self c.session-session.result c.in-Some.serial.0 c.send.new.self (sym (stops_as keep t i o c.args.self.now shows) ∙ sym c.stops.ensures ∙ c.if-stops.false)
+    c.speak.ensures.reader c.speak.ensures.ended c.speak.ensures.speaks c.session-session.ensures
     (sym (ap (option_map (λ (s : Serial). s.0)) c.in-Some.is) ∙ c.current.ensures) shows c.send.ensures

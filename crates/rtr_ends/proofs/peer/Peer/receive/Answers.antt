@@ -12,8 +12,8 @@ returns-in-NeedMore-clause-receives g c = λ keep t i o holds shows.
 
 pub returns-in-Unit-clause-receives : goal.returns-in-Unit-clause-receives
 returns-in-Unit-clause-receives g c = λ keep t i o holds shows.
-    receives_unit keep t i o c.args.piece.now c.next.new.piece.now c.in-Unit.unit c.args.self.now c.answer.new.self c.next.new.self (sym (stops_as keep t i o c.args.self.now shows) ∙ sym c.stops.ensures ∙ c.if-stops.false) shows
-    c.in-Unit.ensures.reader c.in-Unit.ensures.takes (c.answer.ensures keep t i holds shows.knows)
+    receives_unit keep t i o c.args.piece.now c.next.new.piece.now c.in-Unit.unit c.args.self.now c.speak.new.self c.answer.new.self c.next.new.self (sym (stops_as keep t i o c.args.self.now shows) ∙ sym c.stops.ensures ∙ c.if-stops.false) shows
+    c.in-Unit.ensures.reader c.in-Unit.ensures.takes c.speak.ensures.reader c.speak.ensures.speaks (c.answer.ensures keep t i holds)
 
 pub returns-in-Fault-clause-receives : goal.returns-in-Fault-clause-receives
 returns-in-Fault-clause-receives g c = λ keep t i o holds shows.

@@ -19,7 +19,7 @@ returns-else-self-withdrawn-clause-writes c =
     withdrawn_at c.in-Step.change.withdraw c.in-Step.change.announce c.args.self.now.place c.index-withdrawn-self.result
     (omega (arith, c.if-self-withdrawn.false, ap length c.as_slice-withdrawn.ensures.value)) is
     ∙ ap (λ r. slice_get (units_in r) c.args.self.now.place) (sym c.in-Step.is) in
-    subst (λ o. Writes o true c.args.buffer.now c.encode_prefix.new.buffer.items c.encode_prefix.new.buffer) at (refl, c.encode_prefix.ensures.bytes, c.encode_prefix.ensures.unit)
+    subst (λ o. Writes c.args.version o true c.args.buffer.now c.encode_prefix.new.buffer.items c.encode_prefix.new.buffer) at (refl, c.encode_prefix.ensures.bytes, (c.encode_prefix.ensures.unit, refl))
 
 pub returns-else-self-withdrawn-clause-low : goal.returns-else-self-withdrawn-clause-low
 returns-else-self-withdrawn-clause-low c = λ _.

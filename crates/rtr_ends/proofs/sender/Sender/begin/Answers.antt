@@ -1,14 +1,17 @@
-use Rattle.std.proofs.Common.{refl}
+use Rattle.std.proofs.Common.{ap, ◌∙◌, refl}
+use Rattle.rtr_ends.specs.Answer.{sent}
+use Rattle.rtr_ends.specs.Sender.{own_session}
 use Rattle.rtr_pdu.specs.declared.unit.Unit.TheVariants.{CacheResponse}
 use Rattle.rtr_ends.proofs.SenderLaws.{due_begins, unit_ready}
 use Rattle.rtr_ends.proofs.sender.Sender.begin.Goals as goal
 
 pub returns : goal.returns
 returns c = record {
-  session = refl;
+  version = refl;
+  sessions = refl;
   timing = refl;
   ready = refl;
   answer = c.replace-none.ensures.after;
-  room = unit_ready _ (CacheResponse c.args.self.now.session) c.encode.ensures.unit refl c.encode.ensures.bytes;
-  due = due_begins _ c.args.self.now.session c.args.self.now.timing c.args.records refl refl refl c.encode.ensures.bytes c.replace-none.ensures.after;
+  room = unit_ready c.args.self.now.version _ (CacheResponse c.session-session.result) (c.encode_as.ensures.unit, refl) refl c.encode_as.ensures.bytes;
+  due = due_begins _ c.args.self.now.version (own_session c.args.self.now) c.args.self.now.timing c.args.records refl refl refl refl (c.encode_as.ensures.bytes ∙ ap (λ n. sent c.args.self.now.version (CacheResponse n)) c.session-session.ensures) c.replace-none.ensures.after;
 }
