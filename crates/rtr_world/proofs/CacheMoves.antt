@@ -6,12 +6,13 @@ use Rattle.std.proofs.lemmas.Bool.{and_parts, or_parts}
 use Rattle.std.proofs.lemmas.List.{append-nil}
 use Rattle.vrps.specs.Instance.{Instance, versions, versions_from}
 use Rattle.vrps.specs.VrpSet.{VrpSet}
+use Rattle.rtr_pdu.specs.declared.version.Version.{Version}
 use Rattle.rtr_pdu.specs.declared.version.Version.TheVariants.{V1}
 use Rattle.rtr_pdu.specs.Judging.{Judgement, Begins, Whole, Faulty, judge}
-use Rattle.rtr_pdu.specs.Unit.{IsUnit}
+use Rattle.rtr_pdu.specs.Unit.{IsUnitOf}
 use Rattle.rtr_pdu.specs.declared.unit.Unit.{Unit}
 use Rattle.rtr_ends.specs.Answer.{answer, report, sent_all}
-use Rattle.rtr_ends.specs.Cache.{Conn, Taking, is_none, conn_stops, conn_moment_of, with_moment, counted, finds_memory, conn_byte, can_notify, conn_notified}
+use Rattle.rtr_ends.specs.Cache.{Conn, Taking, is_none, conn_stops, conn_moment_of, with_moment, counted, finds_memory, conn_byte, can_notify, conn_notified, speaks_in, version_at}
 use Rattle.rtr_ends.specs.Connection.{Connection, Read, Wanting, Notify, conn_after, notice, is_published, takes_memory}
 use Rattle.rtr_ends.specs.Feeding.{FedPiece, feed}
 use Rattle.rtr_ends.specs.LinkRules.{Router}
@@ -26,7 +27,7 @@ use Rattle.rtr_world.proofs.CacheSteps.{from_now, is_now, IsAnswered, answered_r
 use Rattle.rtr_world.proofs.Invariant.{OneReply, QuestionFits, Replies, no_memory, Shape, Open, Flow, Live, GoodLink, GoodRouter}
 use Rattle.rtr_world.proofs.UnitsAtRouters.{live_link}
 use Rattle.rtr_world.proofs.SideSteps.{live_of}
-use Rattle.rtr_world.proofs.UnitStreams.{Stream, ByteCase, partly, wholly, byte_case, stream-append, all_bytes}
+use Rattle.rtr_world.proofs.UnitStreams.{MaySpeak, Stream, byte_version, held_version, ByteCase, partly, wholly, byte_case, stream-append, all_bytes}
 use Rattle.rtr_world.proofs.Versions.{TableAt, Present}
 use Rattle.rtr_world.proofs.LinkedSides.{Seen}
 
@@ -43,7 +44,7 @@ dead_link (Asked q) all i home r conn conn' up up' down down' dead g = absurd (l
 dead_link (Answering a) all i home r conn conn' up up' down down' dead g = absurd (let e : true ≡ false = dead in cc)
 
 -- units are added at the cache's end, where nothing was to be pulled
-stream_more : (held down due lost : List ℕ) (coming units : List Unit) → due ≡ [] → lost ≡ [] → AllByRecursion IsUnit units → Stream held (down ++ (due ++ lost)) coming → Stream held (down ++ (sent_all V1 units ++ lost)) (coming ++ units)
+stream_more : (held down due lost : List ℕ) (coming units : List Unit) → due ≡ [] → lost ≡ [] → AllByRecursion (IsUnitOf V1) units → Stream held (down ++ (due ++ lost)) coming → Stream held (down ++ (sent_all V1 units ++ lost)) (coming ++ units)
 stream_more held down due lost coming units de le fit s =
     let more : Stream held ((down ++ (due ++ lost)) ++ sent_all V1 units) (coming ++ units) = stream-append held (down ++ (due ++ lost)) coming units s fit in
     let bytes : (down ++ (due ++ lost)) ++ sent_all V1 units ≡ down ++ (sent_all V1 units ++ lost) =
@@ -73,9 +74,9 @@ module _ (all : List Instance) (i : Instance) (p : Present all i) (keep : ℕ) (
       ]
 
   -- The cache has read the question, and these units are the answer.
-  answered : (o : Conn) (up bs : List ℕ) (h : Seen) (f : Flow all i h r (Some o) up down) (q : Question) (units : List Unit) (st : Connection) → home ≡ Some h → o.state.due ≡ [] → st.due ≡ sent_all V1 units → Stream [] (bs ++ r.out) [] → r.link ≡ Asked q
+  answered : (o : Conn) (up bs : List ℕ) (h : Seen) (f : Flow all i h r (Some o) up down) (q : Question) (units : List Unit) (st : Connection) → MaySpeak V1 st.version → home ≡ Some h → o.state.due ≡ [] → st.due ≡ sent_all V1 units → Stream [] (bs ++ r.out) [] → r.link ≡ Asked q
       → without_notifies f.coming ≡ [] → QuestionFits h.session q r.version → IsAnswered units → Replies all h q (base_of q r.table) units → OneReply all h q units → Live all i home r (Some (record { state = st; held = [] })) bs down
-  answered o up bs h f q units st eh eo due up_stream link rest fits is replies one =
+  answered o up bs h f q units st spoken eh eo due up_stream link rest fits is replies one =
       let op : Open i h r.out up f.wanted f.lost o = f.open_at in
       let whole : without_notifies (f.coming ++ units) ≡ units = without-append f.coming units ∙ ap (λ x. x ++ without_notifies units) rest ∙ plain_stays units is.plain in (
         h,
@@ -85,7 +86,7 @@ module _ (all : List Instance) (i : Instance) (p : Present all i) (keep : ℕ) (
           lost = f.lost;
           wanted = [];
           downward = subst (λ x. Stream r.held (down ++ (x ++ f.lost)) (f.coming ++ units)) (sym due) (stream_more r.held down o.state.due f.lost f.coming units eo op.whole is.fit f.downward);
-          open_at = record { upward = up_stream; whole = op.whole; session = op.session; made = op.made; later = op.later };
+          open_at = record { upward = up_stream; spoken = spoken; whole = op.whole; session = op.session; made = op.made; later = op.later };
           notifies = notifies-append h.session f.coming units f.notifies (plain_notifies h.session units is.plain);
           own = f.own;
           mine = f.mine;
@@ -95,10 +96,10 @@ module _ (all : List Instance) (i : Instance) (p : Present all i) (keep : ℕ) (
 
   -- it reads a byte
   byte_live : (m : Taking) (b : ℕ) (bs : List ℕ) (h : Seen) (f : Flow all i h r (Some m.conn) (b ∷ bs) down) → home ≡ Some h → m.conn.state.due ≡ [] → is_reading r.link ≡ true → TableAt all r.version r.table
-      → ByteCase false m.conn.held b (bs ++ r.out) f.wanted → (memory : Bool) → Live all i home r (Some (with_moment keep timing (m.conn.held ++ b ∷ []) m.conn (conn_moment_of i memory (m.conn.held ++ b ∷ []) (judge V1 false (m.conn.held ++ b ∷ []))))) bs down
+      → ByteCase false m.conn.held b (bs ++ r.out) f.wanted → (memory : Bool) → Live all i home r (Some (with_moment keep timing (m.conn.held ++ b ∷ []) m.conn (conn_moment_of i memory V1 (m.conn.held ++ b ∷ []) (judge V1 false (m.conn.held ++ b ∷ []))))) bs down
   byte_live m b bs h f eh eo live table (partly e s) memory =
       let op : Open i h r.out (b ∷ bs) f.wanted f.lost m.conn = f.open_at in
-      subst (λ j. Live all i home r (Some (with_moment keep timing (m.conn.held ++ b ∷ []) m.conn (conn_moment_of i memory (m.conn.held ++ b ∷ []) j))) bs down) (sym e) (
+      subst (λ j. Live all i home r (Some (with_moment keep timing (m.conn.held ++ b ∷ []) m.conn (conn_moment_of i memory V1 (m.conn.held ++ b ∷ []) j))) bs down) (sym e) (
         h,
         eh,
         record {
@@ -106,7 +107,7 @@ module _ (all : List Instance) (i : Instance) (p : Present all i) (keep : ℕ) (
           lost = f.lost;
           wanted = f.wanted;
           downward = f.downward;
-          open_at = record { upward = s; whole = op.whole; session = op.session; made = op.made; later = op.later };
+          open_at = record { upward = s; spoken = op.spoken; whole = op.whole; session = op.session; made = op.made; later = op.later };
           notifies = f.notifies;
           own = f.own;
           mine = f.mine;
@@ -114,7 +115,7 @@ module _ (all : List Instance) (i : Instance) (p : Present all i) (keep : ℕ) (
         },
       )
   byte_live m b bs h f eh eo live table (wholly u more is e fit s) memory =
-      subst (λ j. Live all i home r (Some (with_moment keep timing bytes m.conn (conn_moment_of i memory bytes j))) bs down) (sym e) (by_memory (takes_memory i u && not memory) refl)
+      subst (λ j. Live all i home r (Some (with_moment keep timing bytes m.conn (conn_moment_of i memory V1 bytes j))) bs down) (sym e) (by_memory (takes_memory V1 i u && not memory) refl)
     where
       bytes : List ℕ
       bytes = m.conn.held ++ b ∷ []
@@ -128,14 +129,14 @@ module _ (all : List Instance) (i : Instance) (p : Present all i) (keep : ℕ) (
       up_stream : Stream [] (bs ++ r.out) []
       up_stream = subst (λ x. Stream [] (bs ++ r.out) x) w.no_more s
 
-      by_memory : (t : Bool) → (takes_memory i u && not memory) ≡ t → Live all i home r (Some (record { state = conn_after keep timing m.conn.state (if t then Wanting i u bytes else Read i u bytes); held = [] })) bs down
+      by_memory : (t : Bool) → (takes_memory V1 i u && not memory) ≡ t → Live all i home r (Some (record { state = conn_after keep timing m.conn.state (if t then Wanting V1 i u bytes else Read V1 i u bytes); held = [] })) bs down
       by_memory true wants =
-          answered m.conn (b ∷ bs) bs h f w.q (report 1 [] ∷ []) (conn_after keep timing m.conn.state (Wanting i u bytes)) eh eo refl up_stream w.asks w.none w.fits
+          answered m.conn (b ∷ bs) bs h f w.q (report 1 [] ∷ []) (conn_after keep timing m.conn.state (Wanting V1 i u bytes)) refl eh eo refl up_stream w.asks w.none w.fits
           (answered_report 1 [] (omega arith) (all_bytes [] tt)) (no_memory refl)
-          (inr (record { cache = i; was = is_now all i p h op.session op.made op.later; takes = subst (λ x. takes_memory i x ≡ true) w.is (and_parts (takes_memory i u) (not memory) wants).0 }, refl))
+          (inr (record { cache = i; was = is_now all i p h op.session op.made op.later; takes = subst (λ x. takes_memory V1 i x ≡ true) w.is (and_parts (takes_memory V1 i u) (not memory) wants).0 }, refl))
       by_memory false wants =
           let a = answer_answers all i p h op.session op.made keep w.q r.version r.table w.fits table (from_now all i p h op.session op.made w.q keep (keeps h eh) op.later) in
-          answered m.conn (b ∷ bs) bs h f w.q (answer V1 i keep timing (query w.q)).units (conn_after keep timing m.conn.state (Read i u bytes)) eh eo (ap (λ x. sent_all V1 (answer V1 i keep timing x).units) w.is) up_stream w.asks w.none w.fits a.answered a.replies (inl a.from)
+          answered m.conn (b ∷ bs) bs h f w.q (answer V1 i keep timing (query w.q)).units (conn_after keep timing m.conn.state (Read V1 i u bytes)) refl eh eo (ap (λ x. sent_all V1 (answer V1 i keep timing x).units) w.is) up_stream w.asks w.none w.fits a.answered a.replies (inl a.from)
 
   abbrev GoodC : Conn → List ℕ → Type 0
   GoodC o up = GoodRouter all i home (Some o) up down r
@@ -147,14 +148,19 @@ module _ (all : List Instance) (i : Instance) (p : Present all i) (keep : ℕ) (
       due : m.conn.state.due ≡ []
       due = none_is m.conn.state.due (or_parts m.conn.state.ended (not (is_none m.conn.state.due)) goes_on).1
 
-      by_link : (live : Bool) → is_reading r.link ≡ live
-          → GoodLink all i home r.link r (Some (with_moment keep timing (m.conn.held ++ b ∷ []) m.conn (conn_moment_of i (finds_memory m.wanting) (m.conn.held ++ b ∷ []) (judge V1 false (m.conn.held ++ b ∷ []))))) bs down
-      by_link false dead = dead_link r.link all i home r (Some m.conn) (Some (with_moment keep timing (m.conn.held ++ b ∷ []) m.conn (conn_moment_of i (finds_memory m.wanting) (m.conn.held ++ b ∷ []) (judge V1 false (m.conn.held ++ b ∷ []))))) (b ∷ bs) bs down down dead g.link
+      -- the connection behind the byte, which is judged by this version
+      behind : Version → Conn
+      behind v = with_moment keep timing (m.conn.held ++ b ∷ []) m.conn (conn_moment_of i (finds_memory m.wanting) v (m.conn.held ++ b ∷ []) (judge v false (m.conn.held ++ b ∷ [])))
+
+      by_link : (live : Bool) → is_reading r.link ≡ live → GoodLink all i home r.link r (Some (behind (version_at m.conn (b ∷ [])))) bs down
+      by_link false dead = dead_link r.link all i home r (Some m.conn) (Some (behind (version_at m.conn (b ∷ [])))) (b ∷ bs) bs down down dead g.link
       by_link true live =
           let l = live_of r.link all i home r (Some m.conn) (b ∷ bs) down g.link live in
           let op : Open i l.0 r.out (b ∷ bs) l.2.wanted l.2.lost m.conn = l.2.open_at in
-          live_link all i home (Some (with_moment keep timing (m.conn.held ++ b ∷ []) m.conn (conn_moment_of i (finds_memory m.wanting) (m.conn.held ++ b ∷ []) (judge V1 false (m.conn.held ++ b ∷ []))))) bs down r r.link refl live
-          (byte_live m b bs l.0 l.2 l.1 due live g.table (byte_case false m.conn.held b (bs ++ r.out) l.2.wanted op.upward) (finds_memory m.wanting))
+          let version : version_at m.conn (b ∷ []) ≡ V1 = byte_version m.conn.state.version m.conn.held b (bs ++ r.out) l.2.wanted op.spoken op.upward in
+          subst (λ v. GoodLink all i home r.link r (Some (behind v)) bs down) (sym version)
+          (live_link all i home (Some (behind V1)) bs down r r.link refl live
+          (byte_live m b bs l.0 l.2 l.1 due live g.table (byte_case false m.conn.held b (bs ++ r.out) l.2.wanted op.upward) (finds_memory m.wanting)))
 
   abbrev by_stop : Taking → ℕ → List ℕ → Bool → FedPiece Taking
   by_stop m b piece s = elim s [ true ↦ record { machine = m; rest = b ∷ piece } | false ↦ feed (λ (x : Taking). conn_stops x.conn) (conn_byte keep timing i) (conn_byte keep timing i m b) piece ]
@@ -187,11 +193,13 @@ module _ (all : List Instance) (i : Instance) (p : Present all i) (keep : ℕ) (
 
   byte_counts : (wanting : Option ℕ) (m : Taking) (b : ℕ) → (wanting ≡ None → m.wanting ≡ None) → wanting ≡ None → (conn_byte keep timing i m b).wanting ≡ None
   unfolding conn_byte
-  byte_counts wanting m b same none = ap (counted (judge V1 false (m.conn.held ++ b ∷ []))) (same none) ∙ none_counted (judge V1 false (m.conn.held ++ b ∷ []))
+  byte_counts wanting m b same none =
+      ap (counted (judge (version_at m.conn (b ∷ [])) false (m.conn.held ++ b ∷ []))) (same none) ∙ none_counted (judge (version_at m.conn (b ∷ [])) false (m.conn.held ++ b ∷ []))
 
   byte_now : (old : List ℕ) (wanting : Option ℕ) (m : Taking) (b : ℕ) (bs : List ℕ) → conn_stops m.conn ≡ false → is_reading r.link ≡ true → (wanting ≡ None → m.wanting ≡ None) → GoodC m.conn (b ∷ bs) → DueNow old wanting m.conn → DueNow old wanting (conn_byte keep timing i m b).conn
   unfolding conn_byte
-  byte_now old wanting m b bs goes_on live same g now = by_case (byte_case false m.conn.held b (bs ++ r.out) l.2.wanted op.upward)
+  byte_now old wanting m b bs goes_on live same g now =
+      subst (λ v. DueNow old wanting (with_moment keep timing bytes m.conn (conn_moment_of i memory v bytes (judge v false bytes)))) (sym version) (by_case (byte_case false m.conn.held b (bs ++ r.out) l.2.wanted op.upward))
     where
       l : Live all i home r (Some m.conn) (b ∷ bs) down
       l = live_of r.link all i home r (Some m.conn) (b ∷ bs) down g.link live
@@ -205,20 +213,23 @@ module _ (all : List Instance) (i : Instance) (p : Present all i) (keep : ℕ) (
       memory : Bool
       memory = finds_memory m.wanting
 
-      by_case : ByteCase false m.conn.held b (bs ++ r.out) l.2.wanted → DueNow old wanting (with_moment keep timing bytes m.conn (conn_moment_of i memory bytes (judge V1 false bytes)))
-      by_case (partly e s) = subst (λ j. DueNow old wanting (with_moment keep timing bytes m.conn (conn_moment_of i memory bytes j))) (sym e) now
+      version : version_at m.conn (b ∷ []) ≡ V1
+      version = byte_version m.conn.state.version m.conn.held b (bs ++ r.out) l.2.wanted op.spoken op.upward
+
+      by_case : ByteCase false m.conn.held b (bs ++ r.out) l.2.wanted → DueNow old wanting (with_moment keep timing bytes m.conn (conn_moment_of i memory V1 bytes (judge V1 false bytes)))
+      by_case (partly e s) = subst (λ j. DueNow old wanting (with_moment keep timing bytes m.conn (conn_moment_of i memory V1 bytes j))) (sym e) now
       by_case (wholly u more is e fit s) =
-          subst (λ j. DueNow old wanting (with_moment keep timing bytes m.conn (conn_moment_of i memory bytes j))) (sym e) (inr (subst (λ x. IsOfNow i keep wanting x (read (takes_memory i u && not memory)).due) (sym w.asks) (by_memory (takes_memory i u && not memory) refl)))
+          subst (λ j. DueNow old wanting (with_moment keep timing bytes m.conn (conn_moment_of i memory V1 bytes j))) (sym e) (inr (subst (λ x. IsOfNow i keep wanting x (read (takes_memory V1 i u && not memory)).due) (sym w.asks) (by_memory (takes_memory V1 i u && not memory) refl)))
         where
           w : IsWhole l.0 r.link u more (without_notifies l.2.coming)
           w = whole_question l.0 r.link u more (without_notifies l.2.coming) live (subst (λ x. Shape all l.0 r.link r.agreed r.version r.table x (without_notifies l.2.coming)) is l.2.shape)
 
           read : Bool → Connection
-          read t = conn_after keep timing m.conn.state (if t then Wanting i u bytes else Read i u bytes)
+          read t = conn_after keep timing m.conn.state (if t then Wanting V1 i u bytes else Read V1 i u bytes)
 
-          by_memory : (t : Bool) → (takes_memory i u && not memory) ≡ t → IsOfNow i keep wanting (Asked w.q) (read t).due
+          by_memory : (t : Bool) → (takes_memory V1 i u && not memory) ≡ t → IsOfNow i keep wanting (Asked w.q) (read t).due
           by_memory true wants =
-              let parts = and_parts (takes_memory i u) (not memory) wants in inr (some_wants wanting m.wanting same parts.1, subst (λ x. takes_memory i x ≡ true) w.is parts.0, refl)
+              let parts = and_parts (takes_memory V1 i u) (not memory) wants in inr (some_wants wanting m.wanting same parts.1, subst (λ x. takes_memory V1 i x ≡ true) w.is parts.0, refl)
           by_memory false wants = inl (ap (λ x. sent_all V1 (answer V1 i keep timing x).units) w.is)
 
   pub fed_now : (old tail : List ℕ) (m : Taking) (piece : List ℕ) (wanting : Option ℕ) → is_reading r.link ≡ true → (wanting ≡ None → m.wanting ≡ None) → GoodC m.conn (piece ++ tail) → DueNow old wanting m.conn → DueNow old wanting (feed (λ (x : Taking). conn_stops x.conn) (conn_byte keep timing i) m piece).machine.conn
@@ -227,9 +238,9 @@ module _ (all : List Instance) (i : Instance) (p : Present all i) (keep : ℕ) (
       (λ b rest x on k. (byte_counts wanting x b k.0, byte_good x b (rest ++ tail) on k.1, byte_now old wanting x b (rest ++ tail) on live k.0 k.1 k.2)) m piece (same, g, now)).2
 
   -- a notify
-  notice_fit : (sets : List VrpSet) → AllByRecursion IsUnit (notice i.session (versions_from i.start sets))
+  notice_fit : (sets : List VrpSet) → AllByRecursion (IsUnitOf V1) (notice i.session (versions_from i.start sets))
   notice_fit [] = tt
-  notice_fit (x ∷ older) = ((p.is.session, serial_low i.start (length older)), tt)
+  notice_fit (x ∷ older) = (((p.is.session, serial_low i.start (length older)), refl), tt)
 
   notice_silent : (sets : List VrpSet) → without_notifies (notice i.session (versions_from i.start sets)) ≡ []
   notice_silent [] = refl
@@ -239,7 +250,7 @@ module _ (all : List Instance) (i : Instance) (p : Present all i) (keep : ℕ) (
   notice_own session e [] = tt
   notice_own session e (x ∷ older) = (sym e, tt)
 
-  notified_live : (o : Conn) (up : List ℕ) → o.state.due ≡ [] → Live all i home r (Some o) up down → Live all i home r (Some (record o { state = conn_after keep timing o.state (Notify i) })) up down
+  notified_live : (o : Conn) (up : List ℕ) → o.state.due ≡ [] → Live all i home r (Some o) up down → Live all i home r (Some (record o { state = conn_after keep timing o.state (Notify V1 i) })) up down
   notified_live o up due l =
       let f = l.2 in
       let op : Open i l.0 r.out up f.wanted f.lost o = f.open_at in
@@ -253,7 +264,7 @@ module _ (all : List Instance) (i : Instance) (p : Present all i) (keep : ℕ) (
           lost = f.lost;
           wanted = f.wanted;
           downward = stream_more r.held down o.state.due f.lost f.coming (notice i.session (versions i)) due op.whole (notice_fit i.sets) f.downward;
-          open_at = record { upward = op.upward; whole = op.whole; session = op.session; made = op.made; later = op.later };
+          open_at = record { upward = op.upward; spoken = op.spoken; whole = op.whole; session = op.session; made = op.made; later = op.later };
           notifies = notifies-append l.0.session f.coming (notice i.session (versions i)) f.notifies (notice_own l.0.session op.session i.sets);
           own = f.own;
           mine = f.mine;
@@ -269,12 +280,20 @@ module _ (all : List Instance) (i : Instance) (p : Present all i) (keep : ℕ) (
       not_true true h = false_true h
       not_true false h = refl
 
+      -- the connection, notified in this version
+      told : Version → Conn
+      told v = record o { state = conn_after keep timing o.state (Notify v i) }
+
       o' : Conn
-      o' = record o { state = conn_after keep timing o.state (Notify i) }
+      o' = told (speaks_in o)
 
       by_link : (live : Bool) → is_reading r.link ≡ live → o.state.due ≡ [] → GoodLink all i home r.link r (Some o') up down
       by_link false dead due = dead_link r.link all i home r (Some o) (Some o') up up down down dead g.link
-      by_link true live due = live_link all i home (Some o') up down r r.link refl live (notified_live o up due (live_of r.link all i home r (Some o) up down g.link live))
+      by_link true live due =
+          let l = live_of r.link all i home r (Some o) up down g.link live in
+          let op : Open i l.0 r.out up l.2.wanted l.2.lost o = l.2.open_at in
+          subst (λ v. GoodLink all i home r.link r (Some (told v)) up down) (sym (held_version o.state.version o.held (up ++ r.out) l.2.wanted op.spoken op.upward))
+          (live_link all i home (Some (told V1)) up down r r.link refl live (notified_live o up due l))
 
       by_test : (b : Bool) → can_notify i o ≡ b → GoodC (if b then o' else o) up
       by_test false e = g

@@ -14,7 +14,7 @@ use Rattle.vrps.specs.VrpSet.{VrpSet, IsVrpSet, empty, has, listing, set_of, wit
 use Rattle.vrps.proofs.Listed.{part_is_set}
 use Rattle.vrps.proofs.SetLaws.{all_of_members, has-empty, has-union, has-without, listing_ascends, same_set, set_of-listing}
 use Rattle.rtr_pdu.specs.Payloads.{AreBytes}
-use Rattle.rtr_pdu.specs.Unit.{IsUnit}
+use Rattle.rtr_pdu.specs.Unit.{IsUnitOf}
 use Rattle.rtr_pdu.specs.declared.unit.Unit.{Unit}
 use Rattle.rtr_pdu.specs.declared.unit.Unit.TheVariants.{SerialQuery, ResetQuery, CacheResponse, Prefix, EndOfData}
 use Rattle.rtr_pdu.proofs.ReadLaws.{AreBytes-take}
@@ -39,14 +39,14 @@ not_both b h k = let e : true ≡ false = sym h ∙ k in cc
 -- units that are no notify, and that can be sent
 pub record IsAnswered (units : List Unit) : Type 0 where
   pub plain : Plain units
-  pub fit : AllByRecursion IsUnit units
+  pub fit : AllByRecursion (IsUnitOf V1) units
 
 answered-append : (us vs : List Unit) → IsAnswered us → IsAnswered vs → IsAnswered (us ++ vs)
-answered-append us vs h k = record { plain = plain-append us vs h.plain k.plain; fit = all-append IsUnit us vs h.fit k.fit }
+answered-append us vs h k = record { plain = plain-append us vs h.plain k.plain; fit = all-append (IsUnitOf V1) us vs h.fit k.fit }
 
-fit_records : (announce : Bool) (vs : List Payload) → All IsPayload vs → AllByRecursion IsUnit (map (λ v. Prefix announce v) vs)
+fit_records : (announce : Bool) (vs : List Payload) → All IsPayload vs → AllByRecursion (IsUnitOf V1) (map (λ v. Prefix announce v) vs)
 fit_records announce [] h = tt
-fit_records announce (v ∷ vs) h = (All-head IsPayload v vs h, fit_records announce vs (All-tail IsPayload v vs h))
+fit_records announce (v ∷ vs) h = ((All-head IsPayload v vs h, refl), fit_records announce vs (All-tail IsPayload v vs h))
 
 answered_records : (announce : Bool) (s : VrpSet) → IsVrpSet s → IsAnswered (map (λ v. Prefix announce v) (listing s))
 answered_records announce s h = record { plain = plain_records announce (listing s); fit = fit_records announce (listing s) h.payloads }
@@ -55,18 +55,18 @@ pub serial_low : (start position : ℕ) → serial_at start position < 2 ^ 32
 serial_low start position = omega arith
 
 answered_end : (session serial : ℕ) → session < 2 ^ 16 → serial < 2 ^ 32 → IsAnswered (EndOfData session serial timing.refresh timing.retry timing.expire ∷ [])
-answered_end session serial low number = record { plain = tt; fit = ((low, number, omega arith, omega arith, omega arith), tt) }
+answered_end session serial low number = record { plain = tt; fit = (((low, number, omega arith, omega arith, omega arith), refl), tt) }
 
 answered_response : (session serial : ℕ) (set : VrpSet) (records : List Unit) → session < 2 ^ 16 → serial < 2 ^ 32 → IsAnswered records → IsAnswered (response_of V1 session timing (record { serial = serial; set = set }) records)
 answered_response session serial set records low number h =
     let k = answered-append records (EndOfData session serial timing.refresh timing.retry timing.expire ∷ []) h (answered_end session serial low number) in
-    record { plain = k.plain; fit = (low, k.fit) }
+    record { plain = k.plain; fit = ((low, refl), k.fit) }
 
 -- reports
 pub answered_report : (code : ℕ) (copy : List ℕ) → code < 2 ^ 16 → AreBytes copy → IsAnswered (report code copy ∷ [])
 answered_report code copy low each =
     let size = length-take 4080 copy in
-    record { plain = tt; fit = ((low, short (length (take 4080 copy)) size, IsUtf8-nil, AreBytes-take 4080 copy each), tt) }
+    record { plain = tt; fit = (((low, short (length (take 4080 copy)) size, IsUtf8-nil, AreBytes-take 4080 copy each), refl), tt) }
   where
     short : (n : ℕ) → n ≡ min 4080 (length copy) → n + 0 ≤ 4080
     short n e = let m = min-le_left 4080 (length copy) in omega (arith, e, m)
@@ -113,7 +113,7 @@ module _ (all : List Instance) (i : Instance) (p : Present all i) (home : Seen) 
     since = later;
     latest = i;
     found = subst (λ s. find_session s all ≡ Some i) (sym later.session) p.found;
-    until = record { session = refl; start = refl; more = []; sets = refl };
+    until = record { session = refl; session0 = refl; start = refl; more = []; sets = refl };
   }
 
   pub from_now : (q : Question) (keep : ℕ) → home.keep ≡ keep → IsLater home.made i → FromCache all home q (answer V1 i keep timing (query q)).units
@@ -234,7 +234,7 @@ module _ (all : List Instance) (i : Instance) (p : Present all i) (home : Seen) 
       → FromCache all home (AskSerial one serial) (answer_to x older o) → Answers all home (AskSerial one serial) table (answer_to x older o)
   step_answers one serial table x older o own e fits (inl f) from =
       subst (λ v. Answers all home (AskSerial one serial) table (answer_to x older v)) (sym f)
-      (record { replies = not_kept serial (ap (λ s. AskSerial s serial) own) refl; from = subst (λ v. FromCache all home (AskSerial one serial) (answer_to x older v)) f from; answered = record { plain = tt; fit = (tt, tt) } })
+      (record { replies = not_kept serial (ap (λ s. AskSerial s serial) own) refl; from = subst (λ v. FromCache all home (AskSerial one serial) (answer_to x older v)) f from; answered = record { plain = tt; fit = ((tt, refl), tt) } })
   step_answers one serial table x older o own e fits (inr f) from =
       subst (λ v. Answers all home (AskSerial one serial) table (answer_to x older v)) (sym f)
       (responds (AskSerial one serial) table x older (withdrawals (without table x) ++ announcements (without x table)) own e

@@ -2,21 +2,23 @@
 use Rattle.std.specs.Prelude.{◌≡◌, ◌⊎◌, ℕ, ◌<◌, Bool, true, false, not, ◌&&◌, ◌||◌, ◌==◌, List, [], ◌∷◌, ◌++◌, length, take, Option, Some, None, if◌then◌else◌, refl}
 use Rattle.std.proofs.Common.{sym, ap, ◌∙◌, append_assoc, subst, arith, inl, inr}
 use Rattle.std.proofs.lemmas.Bool.{and_parts}
+use Rattle.std.proofs.lemmas.List.{length-append}
 use Rattle.vrps.specs.Instance.{Instance, NumberedSet, versions_from, with_serial}
 use Rattle.vrps.specs.Serial.{serial_at}
 use Rattle.vrps.specs.VrpSet.{VrpSet}
 use Rattle.rtr_pdu.specs.declared.version.Version.TheVariants.{V1}
 use Rattle.rtr_pdu.specs.Judging.{judge}
-use Rattle.rtr_pdu.specs.Unit.{IsUnit}
+use Rattle.rtr_pdu.specs.Unit.{IsUnitOf}
 use Rattle.rtr_pdu.specs.declared.unit.Unit.{Unit}
 use Rattle.rtr_pdu.specs.declared.unit.Unit.TheVariants.{SerialQuery, ResetQuery, CacheReset, ErrorReport}
 use Rattle.rtr_pdu.proofs.NextLaws.{judge_part, judge_sent, some_sent}
 use Rattle.rtr_ends.specs.Answer.{Reply, and_end, and_on, answer, report, sent, sent_all, serial_answer, step_answer, whole_answer}
-use Rattle.rtr_ends.specs.Cache.{Conn, Taking, conn_byte, conn_stops, conn_takes, finds_memory, is_none, conn_judged, with_moment}
+use Rattle.rtr_ends.specs.Cache.{Conn, Taking, conn_byte, conn_stops, conn_takes, finds_memory, is_none, conn_judged, version_at, with_moment}
 use Rattle.rtr_ends.specs.Connection.{Read, Wanting, takes_memory}
 use Rattle.rtr_ends.specs.Transcript.{AskReset, AskSerial, Question, query}
 use Rattle.rtr_ends.proofs.FeedingLaws.{feed_keeps, feed_takes}
 use Rattle.rtr_world.specs.World.{timing}
+use Rattle.rtr_world.proofs.UnitStreams.{MaySpeak, part_version}
 
 abbrev pub code_of : Unit → ℕ
 code_of (ErrorReport e) = e.code
@@ -60,7 +62,7 @@ no_wanting i keep (AskSerial session serial) = by_session (session == i.session)
     by_session true e = by_sets i.sets e
     by_session false e = other_report 0 1 (sent V1 (SerialQuery session serial)) [] (λ k. absurd (omega (arith, k))) e
 
-module _ (keep : ℕ) (i : Instance) (u : Unit) (fits : IsUnit u) (wanting : Option ℕ) where
+module _ (keep : ℕ) (i : Instance) (u : Unit) (fits : IsUnitOf V1 u) (wanting : Option ℕ) where
   -- what is due once the unit is read, and whether the connection has ended then: its answer, or Error Report 1 in its place
   abbrev pub IsDue : Bool → List Unit → Type 0
   IsDue ended units = ((units ≡ (answer V1 i keep timing u).units) × (ended ≡ not (answer V1 i keep timing u).goes_on)) ⊎ ((units ≡ report 1 [] ∷ []) × (wanting ≡ None → ⊥))
@@ -70,6 +72,7 @@ module _ (keep : ℕ) (i : Instance) (u : Unit) (fits : IsUnit u) (wanting : Opt
     pub due : o.state.due ≡ sent_all V1 units
     pub reply : IsDue o.state.ended units
     pub held : o.held ≡ []
+    pub spoken : MaySpeak V1 o.state.version
 
   -- some of it is to come
   record Comes (rest : List ℕ) (m : Taking) : Type 0 where
@@ -80,35 +83,42 @@ module _ (keep : ℕ) (i : Instance) (u : Unit) (fits : IsUnit u) (wanting : Opt
     due : m.conn.state.due ≡ []
     on : m.conn.state.ended ≡ false
     same : m.wanting ≡ wanting
+    spoken : MaySpeak V1 m.conn.state.version
 
   abbrev Reads : List ℕ → Taking → Type 0
   Reads rest m = Comes rest m ⊎ ((rest ≡ []) × IsRead m.conn)
 
-  byte_whole : (m : Taking) (bytes : List ℕ) → m.wanting ≡ wanting → IsRead (with_moment keep timing bytes m.conn (Some (if takes_memory i u && not (finds_memory m.wanting) then Wanting i u bytes else Read i u bytes)))
-  byte_whole m bytes same = by_memory (takes_memory i u && not (finds_memory m.wanting)) refl
+  byte_whole : (m : Taking) (bytes : List ℕ) → m.wanting ≡ wanting → IsRead (with_moment keep timing bytes m.conn (Some (if takes_memory V1 i u && not (finds_memory m.wanting) then Wanting V1 i u bytes else Read V1 i u bytes)))
+  byte_whole m bytes same = by_memory (takes_memory V1 i u && not (finds_memory m.wanting)) refl
     where
-      lacks : (takes_memory i u && not (finds_memory m.wanting)) ≡ true → wanting ≡ None → ⊥
+      lacks : (takes_memory V1 i u && not (finds_memory m.wanting)) ≡ true → wanting ≡ None → ⊥
       lacks e none =
-          let parts = and_parts (takes_memory i u) (not (finds_memory m.wanting)) e in
+          let parts = and_parts (takes_memory V1 i u) (not (finds_memory m.wanting)) e in
           let finds : false ≡ true = ap (λ x. not (finds_memory x)) (sym (same ∙ none)) ∙ parts.1 in cc
 
-      by_memory : (b : Bool) → (takes_memory i u && not (finds_memory m.wanting)) ≡ b → IsRead (with_moment keep timing bytes m.conn (Some (if b then Wanting i u bytes else Read i u bytes)))
-      by_memory true e = record { units = report 1 [] ∷ []; due = refl; reply = inr (refl, lacks e); held = refl }
-      by_memory false e = record { units = (answer V1 i keep timing u).units; due = refl; reply = inl (refl, refl); held = refl }
+      by_memory : (b : Bool) → (takes_memory V1 i u && not (finds_memory m.wanting)) ≡ b → IsRead (with_moment keep timing bytes m.conn (Some (if b then Wanting V1 i u bytes else Read V1 i u bytes)))
+      by_memory true e = record { units = report 1 [] ∷ []; due = refl; reply = inr (refl, lacks e); held = refl; spoken = refl }
+      by_memory false e = record { units = (answer V1 i keep timing u).units; due = refl; reply = inl (refl, refl); held = refl; spoken = refl }
 
-  byte_comes : (rest : List ℕ) (m : Taking) (b : ℕ) → m.conn.held ++ b ∷ rest ≡ sent V1 u → m.conn.state.due ≡ [] → m.conn.state.ended ≡ false → m.wanting ≡ wanting → Reads rest (conn_byte keep timing i m b)
+  byte_comes : (rest : List ℕ) (m : Taking) (b : ℕ) → m.conn.held ++ b ∷ rest ≡ sent V1 u → m.conn.state.due ≡ [] → m.conn.state.ended ≡ false → m.wanting ≡ wanting → MaySpeak V1 m.conn.state.version → Reads rest (conn_byte keep timing i m b)
   unfolding conn_byte
-  byte_comes [] m b whole due on same =
-      let is = ap (judge V1 false) whole ∙ judge_sent V1 false u fits in
-      subst (λ j. Reads [] (conn_judged keep timing i m (m.conn.held ++ b ∷ []) j)) (sym is) (inr (refl, byte_whole m (m.conn.held ++ b ∷ []) same))
-  byte_comes (c ∷ rest) m b whole due on same =
-      let begun : (m.conn.held ++ b ∷ []) ++ c ∷ rest ≡ sent V1 u = append_assoc m.conn.held (b ∷ []) (c ∷ rest) ∙ whole in
-      let is = judge_part V1 false u (m.conn.held ++ b ∷ []) rest c fits begun in
-      subst (λ j. Reads (c ∷ rest) (conn_judged keep timing i m (m.conn.held ++ b ∷ []) j)) (sym is)
-      (inl (record { next = c; more = rest; rest_is = refl; whole = begun; due = due; on = on; same = same }))
+  byte_comes rest m b whole due on same spoken =
+      let version : version_at m.conn (b ∷ []) ≡ V1 =
+      part_version V1 m.conn.state.version u (m.conn.held ++ b ∷ []) rest spoken (append_assoc m.conn.held (b ∷ []) rest ∙ whole) (omega (arith, length-append m.conn.held (b ∷ []))) in
+      subst (λ v. Reads rest (conn_judged keep timing i m v (m.conn.held ++ b ∷ []) (judge v false (m.conn.held ++ b ∷ [])))) (sym version) (by_rest rest whole)
+    where
+      by_rest : (rest : List ℕ) → m.conn.held ++ b ∷ rest ≡ sent V1 u → Reads rest (conn_judged keep timing i m V1 (m.conn.held ++ b ∷ []) (judge V1 false (m.conn.held ++ b ∷ [])))
+      by_rest [] whole =
+          let is = ap (judge V1 false) whole ∙ judge_sent V1 false u fits.0 fits.1 in
+          subst (λ j. Reads [] (conn_judged keep timing i m V1 (m.conn.held ++ b ∷ []) j)) (sym is) (inr (refl, byte_whole m (m.conn.held ++ b ∷ []) same))
+      by_rest (c ∷ rest) whole =
+          let begun : (m.conn.held ++ b ∷ []) ++ c ∷ rest ≡ sent V1 u = append_assoc m.conn.held (b ∷ []) (c ∷ rest) ∙ whole in
+          let is = judge_part V1 false u (m.conn.held ++ b ∷ []) rest c fits.0 fits.1 begun in
+          subst (λ j. Reads (c ∷ rest) (conn_judged keep timing i m V1 (m.conn.held ++ b ∷ []) j)) (sym is)
+          (inl (record { next = c; more = rest; rest_is = refl; whole = begun; due = due; on = on; same = same; spoken = spoken }))
 
   reads_byte : (b : ℕ) (rest : List ℕ) (m : Taking) → conn_stops m.conn ≡ false → Reads (b ∷ rest) m → Reads rest (conn_byte keep timing i m b)
-  reads_byte b rest m goes (inl c) = byte_comes rest m b c.whole c.due c.on c.same
+  reads_byte b rest m goes (inl c) = byte_comes rest m b c.whole c.due c.on c.same c.spoken
   reads_byte b rest m goes (inr r) = absurd (let e : b ∷ rest ≡ [] = r.0 in cc)
 
   -- what a connection that stops has read
@@ -119,13 +129,13 @@ module _ (keep : ℕ) (i : Instance) (u : Unit) (fits : IsUnit u) (wanting : Opt
       let some = ap length c.rest_is in
       absurd (let e : true ≡ false = sym (stops (omega (arith, some))) ∙ on in cc)
 
-  start : (bytes : List ℕ) (o : Conn) → bytes ≡ sent V1 u → o.held ≡ [] → o.state.due ≡ [] → o.state.ended ≡ false → Reads bytes (record { conn = o; moments = []; wanting = wanting })
-  start [] o e held due on = absurd (some_sent V1 u (sym e))
-  start (b ∷ bytes) o e held due on = inl (record { next = b; more = bytes; rest_is = refl; whole = ap (λ x. x ++ b ∷ bytes) held ∙ e; due = due; on = on; same = refl })
+  start : (bytes : List ℕ) (o : Conn) → bytes ≡ sent V1 u → o.held ≡ [] → MaySpeak V1 o.state.version → o.state.due ≡ [] → o.state.ended ≡ false → Reads bytes (record { conn = o; moments = []; wanting = wanting })
+  start [] o e held spoken due on = absurd (some_sent V1 u (sym e))
+  start (b ∷ bytes) o e held spoken due on = inl (record { next = b; more = bytes; rest_is = refl; whole = ap (λ x. x ++ b ∷ bytes) held ∙ e; due = due; on = on; same = refl; spoken = spoken })
 
-  pub is_read : (bytes : List ℕ) (o : Conn) → bytes ≡ sent V1 u → o.held ≡ [] → o.state.due ≡ [] → o.state.ended ≡ false
+  pub is_read : (bytes : List ℕ) (o : Conn) → bytes ≡ sent V1 u → o.held ≡ [] → MaySpeak V1 o.state.version → o.state.due ≡ [] → o.state.ended ≡ false
       → ((conn_takes keep timing i wanting bytes o).rest ≡ []) × IsRead (conn_takes keep timing i wanting bytes o).machine.conn
   unfolding conn_takes
-  is_read bytes o e held due on =
+  is_read bytes o e held spoken due on =
       let taken = feed_takes (λ (x : Taking). conn_stops x.conn) (conn_byte keep timing i) (record { conn = o; moments = []; wanting = wanting }) bytes in
-      stopped _ _ taken.1.all_or (feed_keeps (λ (x : Taking). conn_stops x.conn) (conn_byte keep timing i) Reads reads_byte (record { conn = o; moments = []; wanting = wanting }) bytes (start bytes o e held due on))
+      stopped _ _ taken.1.all_or (feed_keeps (λ (x : Taking). conn_stops x.conn) (conn_byte keep timing i) Reads reads_byte (record { conn = o; moments = []; wanting = wanting }) bytes (start bytes o e held spoken due on))

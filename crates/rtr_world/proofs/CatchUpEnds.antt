@@ -60,7 +60,7 @@ module _ (w : World) (p : Present (instances w) w.present) where
         knows = record {
           session = refl;
           made = omega arith;
-          later = record { session = refl; start = refl; more = []; sets = refl };
+          later = record { session = refl; session0 = refl; start = refl; more = []; sets = refl };
           keeps = refl;
           fits = fits;
           table_at = table;
@@ -68,6 +68,7 @@ module _ (w : World) (p : Present (instances w) w.present) where
         conn = new_conn w.present;
         conn_is = refl;
         held = refl;
+        spoken = tt;
         due = refl;
         on = refl;
         up = refl;

@@ -16,6 +16,7 @@ use Rattle.rtr_world.specs.World.{Side, World, instances, router_sends, settle}
 use Rattle.rtr_world.proofs.CatchUpSettling.{settle_open}
 use Rattle.rtr_world.proofs.Invariant.{QuestionFits}
 use Rattle.rtr_world.proofs.LinkedSides.{Seen}
+use Rattle.rtr_world.proofs.UnitStreams.{MaySpeak}
 use Rattle.rtr_world.proofs.Versions.{Present, TableAt}
 
 module _ (w : World) (p : Present (instances w) w.present) (h : Seen) where
@@ -34,6 +35,7 @@ module _ (w : World) (p : Present (instances w) w.present) (h : Seen) where
     pub conn : Conn
     pub conn_is : s.conn ≡ Some conn
     pub held : conn.held ≡ []
+    pub spoken : MaySpeak V1 conn.state.version
     pub due : conn.state.due ≡ []
     pub on : conn.state.ended ≡ false
     pub up : s.up ≡ []
@@ -48,6 +50,7 @@ module _ (w : World) (p : Present (instances w) w.present) (h : Seen) where
     pub conn : Conn
     pub conn_is : s.conn ≡ Some conn
     pub held : conn.held ≡ []
+    pub spoken : MaySpeak V1 conn.state.version
     pub due : conn.state.due ≡ []
     pub on : conn.state.ended ≡ false
     pub up : s.up ≡ sent V1 (query q)
@@ -60,6 +63,7 @@ module _ (w : World) (p : Present (instances w) w.present) (h : Seen) where
     pub o : Conn
     pub is : conn ≡ Some o
     pub held : o.held ≡ []
+    pub spoken : MaySpeak V1 o.state.version
     pub due : o.state.due ≡ []
     pub on : o.state.ended ≡ false
 
@@ -76,6 +80,7 @@ module _ (w : World) (p : Present (instances w) w.present) (h : Seen) where
         conn = a.conn;
         conn_is = a.conn_is;
         held = a.held;
+        spoken = a.spoken;
         due = a.due;
         on = a.on;
         up = ap (λ x. x ++ take most s.router.out) a.up ∙ take_all most s.router.out all ∙ a.out;

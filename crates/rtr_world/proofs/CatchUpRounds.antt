@@ -7,7 +7,7 @@ use Rattle.std.proofs.Math.Nat.{le-min}
 use Rattle.std.proofs.lemmas.List.{take_all}
 use Rattle.vrps.specs.VrpSet.{VrpSet}
 use Rattle.rtr_pdu.specs.declared.version.Version.TheVariants.{V1}
-use Rattle.rtr_pdu.specs.Unit.{IsUnit}
+use Rattle.rtr_pdu.specs.Unit.{IsUnitOf}
 use Rattle.rtr_pdu.specs.declared.unit.Unit.{Unit}
 use Rattle.rtr_pdu.proofs.NextLaws.{sent_most, some_sent}
 use Rattle.rtr_ends.specs.Answer.{answer, report, sent, sent_all}
@@ -25,7 +25,7 @@ use Rattle.rtr_world.proofs.CatchUpSettling.{Emptied, settle_closes, settle_empt
 use Rattle.rtr_world.proofs.Invariant.{Mine, Replies, no_memory}
 use Rattle.rtr_world.proofs.UnitsAtRouters.{query_unit}
 use Rattle.rtr_world.proofs.LinkedSides.{Seen}
-use Rattle.rtr_world.proofs.UnitStreams.{Stream, all_bytes}
+use Rattle.rtr_world.proofs.UnitStreams.{MaySpeak, Stream, all_bytes}
 use Rattle.rtr_world.proofs.Versions.{Present, TableAt}
 use Rattle.rtr_world.proofs.CatchUpQuestions.{Asks, Knows, Quiet, Sent, reading, sends_all}
 use Rattle.rtr_world.proofs.CatchUpSizes.{answer_bytes, one_unit}
@@ -43,7 +43,7 @@ module _ (w : World) (p : Present (instances w) w.present) (h : Seen) where
     -- a whole reply to the question
     record Reply (q : Question) (table : VrpSet) (units : List Unit) : Type 0 where
       replies : Replies (instances w) h q (base_of q table) units
-      fit : AllByRecursion IsUnit units
+      fit : AllByRecursion (IsUnitOf V1) units
       memory : units ≡ report 1 [] ∷ [] → Lacking
       few : length (sent_all V1 units) ≤ 2 ^ 37
 
@@ -55,6 +55,7 @@ module _ (w : World) (p : Present (instances w) w.present) (h : Seen) where
       conn : Conn
       conn_is : s.conn ≡ Some conn
       held : conn.held ≡ []
+      spoken : MaySpeak V1 conn.state.version
       due : conn.state.due ≡ sent_all V1 units
       shown : Shows (conn.state.ended ≡ false) units
       up : s.up ≡ []
@@ -77,13 +78,13 @@ module _ (w : World) (p : Present (instances w) w.present) (h : Seen) where
       router_held : s.router.held ≡ []
 
     -- what is due is a whole reply
-    is_reply : (q : Question) (version : Option Committed) (table : VrpSet) (unit : IsUnit (query q)) (ended : Bool) (units : List Unit) → Knows w p h q version table → IsDue w.keep w.present (query q) unit at_cache ended units
+    is_reply : (q : Question) (version : Option Committed) (table : VrpSet) (unit : IsUnitOf V1 (query q)) (ended : Bool) (units : List Unit) → Knows w p h q version table → IsDue w.keep w.present (query q) unit at_cache ended units
         → Reply q table units × Shows (ended ≡ false) units
     is_reply q version table unit ended units k (inl e) =
         let a = answer_answers (instances w) w.present p h k.session k.made w.keep q version table k.fits k.table_at (from_now (instances w) w.present p h k.session k.made q w.keep k.keeps k.later) in (
           record {
             replies = subst (λ x. Replies (instances w) h q (base_of q table) x) (sym e.0) a.replies;
-            fit = subst (AllByRecursion IsUnit) (sym e.0) a.answered.fit;
+            fit = subst (AllByRecursion (IsUnitOf V1)) (sym e.0) a.answered.fit;
             memory = λ one. absurd (no_wanting w.present w.keep q (sym e.0 ∙ one));
             few = subst (λ x. length (sent_all V1 x) ≤ 2 ^ 37) (sym e.0) (answer_bytes w.present w.keep q p.is.sets a.answered.fit);
           },
@@ -96,9 +97,9 @@ module _ (w : World) (p : Present (instances w) w.present) (h : Seen) where
     is_reply q version table unit ended units k (inr e) = (
       record {
         replies = no_memory e.0;
-        fit = subst (AllByRecursion IsUnit) (sym e.0) (answered_report 1 [] (omega arith) (all_bytes [] tt)).fit;
+        fit = subst (AllByRecursion (IsUnitOf V1)) (sym e.0) (answered_report 1 [] (omega arith) (all_bytes [] tt)).fit;
         memory = λ one none other. e.1 none;
-        few = one_unit units (report 1 []) e.0 (subst (AllByRecursion IsUnit) (sym e.0) (answered_report 1 [] (omega arith) (all_bytes [] tt)).fit);
+        few = one_unit units (report 1 []) e.0 (subst (AllByRecursion (IsUnitOf V1)) (sym e.0) (answered_report 1 [] (omega arith) (all_bytes [] tt)).fit);
       },
       inl (inr (λ none other. e.1 none)),
     )
@@ -117,7 +118,7 @@ module _ (w : World) (p : Present (instances w) w.present) (h : Seen) where
     gets_all q most s all a =
         let k = a.knows in
         let unit = query_unit (instances w) h.session q s.router.version s.router.table k.fits k.table_at in
-        let read = is_read w.keep w.present (query q) unit at_cache (take most s.up) a.conn (take_all most s.up all ∙ a.up) a.held a.due a.on in
+        let read = is_read w.keep w.present (query q) unit at_cache (take most s.up) a.conn (take_all most s.up all ∙ a.up) a.held a.spoken a.due a.on in
         let o : Conn = (conn_takes w.keep timing w.present at_cache (take most s.up) a.conn).machine.conn in
         let reply = is_reply q s.router.version s.router.table unit (conn_takes w.keep timing w.present at_cache (take most s.up) a.conn).machine.conn.state.ended read.1.units k read.1.reply in
         let got : Got q (gets_at w most at_cache s (Some a.conn)) =
@@ -128,6 +129,7 @@ module _ (w : World) (p : Present (instances w) w.present) (h : Seen) where
           conn = (conn_takes w.keep timing w.present at_cache (take most s.up) a.conn).machine.conn;
           conn_is = refl;
           held = read.1.held;
+          spoken = read.1.spoken;
           due = read.1.due;
           shown = reply.1;
           up = (λ j. read.0 j ++ drop_of_length-le s.up all j);
@@ -172,7 +174,7 @@ module _ (w : World) (p : Present (instances w) w.present) (h : Seen) where
             elim (settle_full (instances w) n o b bytes refl none_due (down ∙ sym a.due ∙ e) (reading w p h q s.router.link a.link)) [
               | inl shut ↦ subst (λ x. Given q x) (sym shut.1)
                   (record { knows = a.knows; units = a.units; reply = a.reply; conn = inl refl; shown = shut_shows shut.0 a.shown; up = a.up; down = down; link = a.link; out = a.out; router_held = a.router_held })
-              | inr same ↦ (let c : Quiet w p h n.conn = record { o = o; is = refl; held = a.held; due = none_due; on = same.0 } in
+              | inr same ↦ (let c : Quiet w p h n.conn = record { o = o; is = refl; held = a.held; spoken = a.spoken; due = none_due; on = same.0 } in
                   subst (λ x. Given q x) (sym same.1)
                   (record { knows = a.knows; units = a.units; reply = a.reply; conn = inr c; shown = inl (inl c); up = a.up; down = down; link = a.link; out = a.out; router_held = a.router_held }))
             ]
@@ -238,6 +240,7 @@ module _ (w : World) (p : Present (instances w) w.present) (h : Seen) where
                   conn = c.o;
                   conn_is = c.is;
                   held = c.held;
+                  spoken = c.spoken;
                   due = c.due;
                   on = c.on;
                   up = a.up;
@@ -259,14 +262,16 @@ module _ (w : World) (p : Present (instances w) w.present) (h : Seen) where
     asks_few : (q : Question) (most : ℕ) (s : Side) → IsAll most → Asks w p h q s → length s.router.out ≤ most
     asks_few q most s enough a =
         let k = a.knows in
-        let few = sent_most V1 (query q) (query_unit (instances w) h.session q s.router.version s.router.table k.fits k.table_at) in
+        let unit = query_unit (instances w) h.session q s.router.version s.router.table k.fits k.table_at in
+        let few = sent_most V1 (query q) unit.0 unit.1 in
         let size = ap length a.out in
         omega (arith, enough, few, size)
 
     sent_few : (q : Question) (most : ℕ) (s : Side) → IsAll most → Sent w p h q s → length s.up ≤ most
     sent_few q most s enough a =
         let k = a.knows in
-        let few = sent_most V1 (query q) (query_unit (instances w) h.session q s.router.version s.router.table k.fits k.table_at) in
+        let unit = query_unit (instances w) h.session q s.router.version s.router.table k.fits k.table_at in
+        let few = sent_most V1 (query q) unit.0 unit.1 in
         let size = ap length a.up in
         omega (arith, enough, few, size)
 

@@ -8,7 +8,7 @@ use Rattle.vrps.specs.Serial.{serial_at}
 use Rattle.vrps.specs.VrpSet.{VrpSet, IsVrpSet, listing, without}
 use Rattle.vrps.proofs.Listed.{part_is_set, size_of_listing}
 use Rattle.rtr_pdu.specs.declared.version.Version.TheVariants.{V1}
-use Rattle.rtr_pdu.specs.Unit.{IsUnit}
+use Rattle.rtr_pdu.specs.Unit.{IsUnitOf}
 use Rattle.rtr_pdu.specs.declared.unit.Unit.{Unit}
 use Rattle.rtr_pdu.specs.declared.unit.Unit.TheVariants.{EndOfData, Prefix, SerialQuery}
 use Rattle.rtr_pdu.proofs.NextLaws.{sent_most}
@@ -16,11 +16,11 @@ use Rattle.rtr_ends.specs.Answer.{and_end, and_on, announcements, answer, report
 use Rattle.rtr_ends.specs.Transcript.{AskReset, AskSerial, Question, query}
 use Rattle.rtr_world.specs.World.{timing}
 
-bytes_of : (units : List Unit) → AllByRecursion IsUnit units → length (sent_all V1 units) ≤ length units * 4096
+bytes_of : (units : List Unit) → AllByRecursion (IsUnitOf V1) units → length (sent_all V1 units) ≤ length units * 4096
 bytes_of [] fit = omega arith
 bytes_of (u ∷ units) fit =
     let rest = bytes_of units fit.1 in
-    let first = sent_most V1 u fit.0 in
+    let first = sent_most V1 u fit.0.0 fit.0.1 in
     let both = length-append (sent V1 u) (sent_all V1 units) in
     omega (arith, rest, first, both)
 
@@ -78,13 +78,13 @@ answer_few i keep (AskSerial session serial) is = by_session (session == i.sessi
     by_session false = omega arith
 
 -- at most 2^25 units of at most 2^12 bytes
-pub answer_bytes : (i : Instance) (keep : ℕ) (q : Question) → AllByRecursion IsVrpSet i.sets → AllByRecursion IsUnit (answer V1 i keep timing (query q)).units → length (sent_all V1 (answer V1 i keep timing (query q)).units) ≤ 2 ^ 37
+pub answer_bytes : (i : Instance) (keep : ℕ) (q : Question) → AllByRecursion IsVrpSet i.sets → AllByRecursion (IsUnitOf V1) (answer V1 i keep timing (query q)).units → length (sent_all V1 (answer V1 i keep timing (query q)).units) ≤ 2 ^ 37
 answer_bytes i keep q is fit =
     let few = answer_few i keep q is in
     let bytes = bytes_of (answer V1 i keep timing (query q)).units fit in
     omega (arith, few, bytes)
 
-pub one_unit : (units : List Unit) (u : Unit) → units ≡ u ∷ [] → AllByRecursion IsUnit units → length (sent_all V1 units) ≤ 2 ^ 37
+pub one_unit : (units : List Unit) (u : Unit) → units ≡ u ∷ [] → AllByRecursion (IsUnitOf V1) units → length (sent_all V1 units) ≤ 2 ^ 37
 one_unit units u e fit =
     let one = ap length e in
     let bytes = bytes_of units fit in

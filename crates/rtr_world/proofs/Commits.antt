@@ -7,7 +7,7 @@ use Rattle.vrps.specs.VrpSet.{VrpSet}
 use Rattle.rtr_pdu.specs.declared.version.Version.TheVariants.{V1}
 use Rattle.rtr_pdu.specs.Judging.{judge}
 use Rattle.rtr_pdu.specs.declared.unit.Unit.{Unit}
-use Rattle.rtr_pdu.specs.declared.unit.Unit.TheVariants.{EndOfData}
+use Rattle.rtr_pdu.specs.declared.unit.Unit.TheVariants.{EndOfData, EndOfData0}
 use Rattle.rtr_ends.specs.Cache.{Conn, is_none, finds_memory}
 use Rattle.rtr_ends.specs.Feeding.{feed}
 use Rattle.rtr_ends.specs.LinkRules.{Router, on_unit, may_lack}
@@ -41,6 +41,7 @@ places-append all (x ∷ xs) ys before =
 -- only an End of Data commits
 no_commit : (u : Unit) (items : List Item) → is_end u ≡ false → is_commit (Reads u ∷ items) ≡ false
 no_commit (EndOfData session serial refresh retry expire) items h = absurd (let e : true ≡ false = h in cc)
+no_commit (EndOfData0 session serial) items h = absurd (let e : true ≡ false = h in cc)
 no_commit u items h = refl
 
 one_place : (b : Bool) (p : Option VersionPlace) → ((if b then p ∷ [] else []) ++ []) ≡ (if b then p ∷ [] else [])
@@ -109,7 +110,7 @@ module _ (keep : ℕ) (past : List Instance) (i : Instance) (home : Option Insta
       let here : find_session i.session (i ∷ past) ≡ Some i = ap (λ b. if b then Some i else find_session i.session past) (eq_self i.session) in
       let same : a.i ≡ i = same_instance a.i i (find_session session (i ∷ past)) a.found (subst (λ s. find_session s (i ∷ past) ≡ Some i) (sym (own ∙ op.session)) here) in
       let k = young_enough i a.newer set a.older (ap (λ x. x.sets) (sym same) ∙ a.sets) in
-      record { upward = op.upward; whole = op.whole; session = op.session; made = omega (arith, k); later = op.later }
+      record { upward = op.upward; spoken = op.spoken; whole = op.whole; session = op.session; made = omega (arith, k); later = op.later }
 
   raised : (down : List ℕ) (r : Router) (h : Seen) (session serial : ℕ) (set : VrpSet) (a : Stands (i ∷ past) session serial set) → session ≡ h.session → r.link ≡ Idle
       → GoodRouter (i ∷ past) i (Some h) conn up down r → GoodRouter (i ∷ past) i (Some (record h { sets = set ∷ a.older })) conn up down r

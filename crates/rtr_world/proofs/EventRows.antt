@@ -1,7 +1,7 @@
 -- Events of the world that other rows do not have: a second router, notifies, questions, ticks, restarts of routers, refusals for want of
 -- memory, and ends of links.
 use Rattle.std.specs.Prelude.{◌≡◌, ℕ, ◌≤◌, Bool, true, false, List, [], ◌∷◌, ◌++◌, length, take, drop, Some, None, refl}
-use Rattle.std.proofs.Common.{ap, arith}
+use Rattle.std.proofs.Common.{Option, ap, arith}
 use Rattle.std.specs.Str.{chars, is_utf8}
 use Rattle.vrps.specs.Instance.{Instance}
 use Rattle.vrps.specs.Store.{is_current}
@@ -11,6 +11,7 @@ use Rattle.rtr_pdu.specs.Judging.{judge}
 use Rattle.rtr_pdu.specs.Stream.{as_read}
 use Rattle.rtr_pdu.specs.declared.unit.Unit.TheVariants.{SerialNotify, SerialQuery}
 use Rattle.rtr_ends.specs.declared.link.End.TheVariants as ends
+use Rattle.rtr_pdu.specs.declared.version.Version.{Version}
 use Rattle.rtr_pdu.specs.declared.version.Version.TheVariants.{V1}
 use Rattle.rtr_ends.specs.Answer.{report, sent, sent_all}
 use Rattle.rtr_ends.specs.Cache.{Conn, new_conn, conn_takes, conn_byte, conn_pulled, conn_notified}
@@ -54,7 +55,7 @@ first_sends = refl
 
 -- a notify is queued, and none while one is due
 abbrev notified : Conn
-notified = record { state = record { cache = with_v; agreed = false; ended = false; due = sent V1 (SerialNotify 0x1234 5); notified = true }; held = [] }
+notified = record { state = record { cache = with_v; version = None; ended = false; due = sent V1 (SerialNotify 0x1234 5); notified = true }; held = [] }
 
 notifies : after (On 0 NotifyRouter) (Done None) (world (open_side asking (new_conn with_v) [] [] opened ∷ [])) ≡ world (open_side asking notified [] [] opened ∷ [])
 unfolding goes_through settled settle side_step conn_notified
@@ -107,7 +108,7 @@ expires_asked = refl
 
 -- The cache began anew: the router is told so, is emptied, and is told that the connection is closed. Its end is noted.
 abbrev ended_conn : List ℕ → Conn
-ended_conn due = record { state = record { cache = with_v; agreed = true; ended = true; due = due; notified = false }; held = [] }
+ended_conn due = record { state = record { cache = with_v; version = Some V1; ended = true; due = due; notified = false }; held = [] }
 
 abbrev other : Router
 other = record idle { version = Some (record version_5 { session = 0x2222 }); session = None; agreed = false; link = Asked (AskSerial 0x2222 5) }
@@ -225,23 +226,23 @@ now_v = cache 5 (just_v ∷ empty ∷ [])
 abbrev later_world : Conn → List ℕ → World
 later_world o up = record { keep = 2; past = []; present = now_v; sides = record (open_side asking o up [] opened) { home = Some at_first } ∷ [] }
 
-abbrev told_now : Bool → List ℕ → Bool → Conn
-told_now agreed due is_notice = record { state = record { cache = now_v; agreed = agreed; ended = false; due = due; notified = is_notice }; held = [] }
+abbrev told_now : Option Version → List ℕ → Bool → Conn
+told_now version due is_notice = record { state = record { cache = now_v; version = version; ended = false; due = due; notified = is_notice }; held = [] }
 
-notifies_of_now : after (On 0 NotifyRouter) (Done None) (later_world (new_conn at_first) []) ≡ later_world (told_now false (sent V1 (SerialNotify 0x1234 6)) true) []
+notifies_of_now : after (On 0 NotifyRouter) (Done None) (later_world (new_conn at_first) []) ≡ later_world (told_now None (sent V1 (SerialNotify 0x1234 6)) true) []
 unfolding goes_through settled settle side_step conn_notified
 notifies_of_now = refl
 
-answers_as_now : after (On 0 (CacheGets 8)) (Done None) (later_world (new_conn at_first) reset_bytes) ≡ later_world (told_now true (response_bytes ++ v_bytes ++ end_bytes 6) false) []
+answers_as_now : after (On 0 (CacheGets 8)) (Done None) (later_world (new_conn at_first) reset_bytes) ≡ later_world (told_now (Some V1) (response_bytes ++ v_bytes ++ end_bytes 6) false) []
 unfolding goes_through settled settle side_step cache_gets conn_takes conn_byte judge as_read
-answers_as_now = ap (λ vs. later_world (told_now true (sent_all V1 (with_all_of 6 just_v vs)) false) []) (listing-set_of (v ∷ []) v_ascends)
+answers_as_now = ap (λ vs. later_world (told_now (Some V1) (sent_all V1 (with_all_of 6 just_v vs)) false) []) (listing-set_of (v ∷ []) v_ascends)
 
 -- Too many versions are counted from the one that a router committed under this session, and from the one that was current when its
 -- connection was made, or the first; an instance that ended does not count, nor is a set refused that is current already.
 counted_so : (sets : List VrpSet) → length sets ≡ 2147483648 → let i = cache 5 sets in
     (is_near i (Some 0) ≡ false) × (is_near i (Some 1) ≡ true)
     × (room_since i (Some (cache 5 [])) ≡ false) × (room_since i (Some (cache 5 (just_v ∷ empty ∷ []))) ≡ true)
-    × (room_since i (Some (record (cache 5 []) { session = 0x2222 })) ≡ true) × (room_since i None ≡ true)
+    × (room_since i (Some (record (cache 5 []) { session = 0x2222; session0 = 0x2222 })) ≡ true) × (room_since i None ≡ true)
     × (room_for i (Some (record version_5 { session = 0x2222 })) ≡ true) × (room_for i None ≡ true)
 counted_so sets count = rw count (refl, refl, refl, refl, refl, refl, refl, refl)
 

@@ -35,7 +35,7 @@ sent_first most held up out units s = subst (λ x. Stream held x units) (ap (λ 
 
 open_sent : (i : Instance) (h : Seen) (most : ℕ) (out up : List ℕ) (wanted : List Unit) (lost : List ℕ) (conn : Option Conn) → IfOpen conn (Open i h out up wanted lost) → IfOpen conn (Open i h (drop most out) (up ++ take most out) wanted lost)
 open_sent i h most out up wanted lost None op = tt
-open_sent i h most out up wanted lost (Some o) op = record { upward = sent_first most o.held up out wanted op.upward; whole = op.whole; session = op.session; made = op.made; later = op.later }
+open_sent i h most out up wanted lost (Some o) op = record { upward = sent_first most o.held up out wanted op.upward; spoken = op.spoken; whole = op.whole; session = op.session; made = op.made; later = op.later }
 
 module _ (w : World) (p : Present (instances w) w.present) where
   abbrev GoodS : Side → Type 0
@@ -96,7 +96,7 @@ module _ (w : World) (p : Present (instances w) w.present) where
               lost = f.lost;
               wanted = f.wanted;
               downward = subst (λ x. Stream s.router.held x f.coming) bytes f.downward;
-              open_at = record { upward = op.upward; whole = op.whole; session = op.session; made = op.made; later = op.later };
+              open_at = record { upward = op.upward; spoken = op.spoken; whole = op.whole; session = op.session; made = op.made; later = op.later };
               notifies = f.notifies;
               own = f.own;
               mine = f.mine;
@@ -207,10 +207,11 @@ module _ (w : World) (p : Present (instances w) w.present) where
                   partial = inl refl;
                   fit = (query_unit (instances w) w.present.session (choose (close (clocked s.router.now s.router)).version (close (clocked s.router.now s.router)).mark) (close (clocked s.router.now s.router)).version (close (clocked s.router.now s.router)).table fits shut.table, tt);
                 };
+                spoken = tt;
                 whole = refl;
                 session = refl;
                 made = omega arith;
-                later = record { session = refl; start = refl; more = []; sets = refl };
+                later = record { session = refl; session0 = refl; start = refl; more = []; sets = refl };
               };
               notifies = tt;
               own = own (close (clocked s.router.now s.router)).session shut.session;

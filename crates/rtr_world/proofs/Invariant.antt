@@ -17,7 +17,7 @@ use Rattle.rtr_world.specs.History.{conn_due}
 use Rattle.rtr_world.specs.OneAnswer.{EndsWith, NotifiesOf, announced_in, withdrawn_in, without_notifies}
 use Rattle.rtr_world.specs.World.{Side, timing}
 use Rattle.rtr_world.proofs.Places.{Ordered}
-use Rattle.rtr_world.proofs.UnitStreams.{Stream}
+use Rattle.rtr_world.proofs.UnitStreams.{MaySpeak, Stream}
 use Rattle.rtr_world.proofs.Versions.{Stands, TableAt, find_session}
 use Rattle.rtr_world.proofs.LinkedSides.{Seen, IsSeen}
 
@@ -92,7 +92,7 @@ pub record FromCache (all : List Instance) (home : Seen) (q : Question) (units :
 pub record Lacked (all : List Instance) (home : Seen) (q : Question) : Type 0 where
   pub cache : Instance
   pub was : WasCache all home cache
-  pub takes : takes_memory cache (query q) ≡ true
+  pub takes : takes_memory V1 cache (query q) ≡ true
 
 abbrev pub OneReply : List Instance → Seen → Question → List Unit → Type 0
 OneReply all home q units = FromCache all home q units ⊎ (Lacked all home q × (units ≡ report 1 [] ∷ []))
@@ -140,6 +140,7 @@ IfOpen (Some o) P = P o
 -- Open at the cache: what the router asked and the cache has not read whole are these units.
 pub record Open (i : Instance) (home : Seen) (out up : List ℕ) (wanted : List Unit) (lost : List ℕ) (o : Conn) : Type 0 where
   pub upward : Stream o.held (up ++ out) wanted
+  pub spoken : MaySpeak V1 o.state.version
   pub whole : lost ≡ []
   pub session : home.session ≡ i.session
   pub made : length home.sets ≤ length i.sets

@@ -34,7 +34,7 @@ abbrev version : ℕ → Committed
 version serial = record { session = 0x1234; serial = serial; moment = 0; intervals = default_intervals }
 
 abbrev replied : Instance → Conn
-replied i = record { state = record { cache = i; agreed = true; ended = false; due = []; notified = false }; held = [] }
+replied i = record { state = record { cache = i; version = Some V1; ended = false; due = []; notified = false }; held = [] }
 
 abbrev place : ℕ → ℕ → Option VersionPlace
 place instance position = Some (record { instance = instance; position = position })
@@ -63,7 +63,7 @@ second_commit = ap (λ s. world_of (committed_twice s)) (led_none just_v)
 
 -- The cache began anew and published nothing; the router restarted, and commits that. Its earlier places stay.
 abbrev anew : Instance
-anew = record { session = 0x2222; start = 9; sets = empty ∷ [] }
+anew = record { session = 0x2222; session0 = 0x2222; start = 9; sets = empty ∷ [] }
 
 abbrev later_world : Side → World
 later_world s = record { keep = 2; past = thrice ∷ []; present = anew; sides = s ∷ [] }

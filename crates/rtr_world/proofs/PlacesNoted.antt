@@ -6,7 +6,8 @@ use Rattle.std.proofs.lemmas.Bool.{and_parts}
 use Rattle.vrps.specs.Instance.{Instance}
 use Rattle.vrps.specs.Store.{is_current}
 use Rattle.vrps.specs.VrpSet.{VrpSet}
-use Rattle.rtr_pdu.specs.declared.unit.Unit.TheVariants.{SerialNotify, SerialQuery, ResetQuery, CacheResponse, Prefix, EndOfData, CacheReset, RouterKey, ErrorReport}
+use Rattle.rtr_pdu.specs.declared.unit.Unit.TheVariants.{SerialNotify, SerialQuery, ResetQuery, CacheResponse, Prefix, EndOfData, EndOfData0, CacheReset, RouterKey, ErrorReport}
+use Rattle.rtr_ends.specs.Timing.{default_intervals}
 use Rattle.rtr_ends.specs.Router.{Noted, asks, closed_at, connects_at, of_received, receives, ticks_at}
 use Rattle.rtr_ends.specs.RouterLink.{is_closed}
 use Rattle.rtr_ends.specs.Transcript.{Begun, Committed, Item, At, Opened, Asks, Reads, Lacks, Breaks, Refused, Shut, Restarts, Kept, acts_once, at_end_of_data, base_of, bounded, differs, does_commit, emptied_if, has_agreed, is_commit, is_over, is_serial, is_wrong, kept, later, led_to, moment, nothing, outstanding, responded, session_of, under_way, waiting}
@@ -43,6 +44,8 @@ end_leaves (Some a) version k none = by_test (version.session == a.session) (act
 item_leaves : (item : Item) (items : List Item) → is_commit (item ∷ items) ≡ false → Leaves (kept items).version (kept (item ∷ items)).version
 item_leaves (Reads (EndOfData session serial refresh retry expire)) items none =
     end_leaves (under_way items) (record { session = session; serial = serial; moment = moment items; intervals = bounded refresh retry expire }) (kept items) none
+item_leaves (Reads (EndOfData0 session serial)) items none =
+    end_leaves (under_way items) (record { session = session; serial = serial; moment = moment items; intervals = default_intervals }) (kept items) none
 item_leaves (Reads (SerialNotify session serial)) items none = emptied_leaves (has_agreed items && differs (session_of (responded items) (kept items).version) session) (kept items)
 item_leaves (Reads (SerialQuery session serial)) items none = inr refl
 item_leaves (Reads ResetQuery) items none = inr refl
@@ -213,7 +216,7 @@ through_places (Publish set) wanting w may g t h = by_current (is_current w.pres
         (published_places w.keep w.past i set g.present w.sides (or_cases (is_current i.sets set) (all_have_room i w.sides) free e) g.sides t h)
 through_places (Restart session start) wanting w may g t h =
     let unused = restarted_so (is_used (instances w) session) w (Restart session start) wanting may in
-    restarted_places w.keep w.past w.present (record { session = session; start = start; sets = [] }) (none_found (find_session session (instances w)) unused) w.sides
+    restarted_places w.keep w.past w.present (record { session = session; session0 = session; start = start; sets = [] }) (none_found (find_session session (instances w)) unused) w.sides
     (all_both (Good w.keep w.past w.present) (λ s. SideTells s × SidePlaces (instances w) s) w.sides g.sides (all_both SideTells (SidePlaces (instances w)) w.sides t h))
 through_places (On r event) wanting w may g t h =
     all_on_side (SidePlaces (instances w)) (SidePlaces (instances w)) r (side_step w event wanting) w.sides (λ s x. x) (step_places w event wanting) h
@@ -244,5 +247,5 @@ places_noted made history w leads =
     (new_world made.routers made.session made.start made.keep) history w leads.1 (
       new_good made leads.0,
       all_new SideTells new_side_tells made.routers,
-      all_new (λ s. HasPlaces (record { session = made.session; start = made.start; sets = [] } ∷ []) s.items s.places) (record { count = refl; last = tt }) made.routers,
+      all_new (λ s. HasPlaces (record { session = made.session; session0 = made.session; start = made.start; sets = [] } ∷ []) s.items s.places) (record { count = refl; last = tt }) made.routers,
     )).2

@@ -63,7 +63,7 @@ restart_fails w v n session start result h low fits free is_err keep sessions sa
 
 -- the new instance, and the world in which it begins
 abbrev pub begun : ℕ → ℕ → Instance
-begun session start = record { session = session; start = start; sets = [] }
+begun session start = record { session = session; session0 = session; start = start; sets = [] }
 
 abbrev pub restarted : World → ℕ → ℕ → World
 restarted w session start = record w { past = w.present ∷ w.past; present = begun session start; sides = map cache_gone w.sides }

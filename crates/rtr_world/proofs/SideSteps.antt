@@ -253,7 +253,7 @@ module _ (all : List Instance) (i : Instance) (home : Option Seen) (conn : Optio
     open_quiet h out wanted lost (Some o) e op =
         let none : o.held ++ (up ++ out) ≡ [] = op.upward.whole ∙ ap (λ x. sent_all V1 x) e in
         let empty_out : out ≡ [] = nothing_right up out (nothing_right o.held (up ++ out) none) in
-        record { upward = subst (λ x. Stream o.held (up ++ x) wanted) empty_out op.upward; whole = op.whole; session = op.session; made = op.made; later = op.later }
+        record { upward = subst (λ x. Stream o.held (up ++ x) wanted) empty_out op.upward; spoken = op.spoken; whole = op.whole; session = op.session; made = op.made; later = op.later }
 
     pub asks_good : (l : Link) (r : Router) (b : Bool) → r.link ≡ l → (is_idle l ≡ false → b ≡ false) → GoodR r → GoodLink all i home l r conn up down → GoodR (asks_if b r).router
     asks_good l r false is idle g k = g

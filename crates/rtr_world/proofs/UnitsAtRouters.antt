@@ -5,7 +5,7 @@ use Rattle.std.proofs.lemmas.List.{append-nil}
 use Rattle.prefixes.specs.Payload.{Payload}
 use Rattle.vrps.specs.Instance.{Instance}
 use Rattle.vrps.specs.VrpSet.{VrpSet, has, size}
-use Rattle.rtr_pdu.specs.Unit.{IsUnit}
+use Rattle.rtr_pdu.specs.Unit.{IsUnitOf}
 use Rattle.rtr_pdu.specs.declared.unit.Unit.{Unit}
 use Rattle.rtr_pdu.specs.declared.unit.Unit.TheVariants.{SerialNotify, CacheResponse, Prefix, EndOfData, CacheReset}
 use Rattle.rtr_ends.specs.declared.link.End.{End}
@@ -27,11 +27,11 @@ use Rattle.rtr_world.proofs.LinkedSides.{Seen}
 use Rattle.prefixes.proofs.Basics.{eq_true}
 
 -- a query fits its fields
-pub query_unit : (all : List Instance) (session : ℕ) (q : Question) (version : Option Committed) (table : VrpSet) → QuestionFits session q version → TableAt all version table → IsUnit (query q)
-query_unit all session AskReset version table f t = tt
+pub query_unit : (all : List Instance) (session : ℕ) (q : Question) (version : Option Committed) (table : VrpSet) → QuestionFits session q version → TableAt all version table → IsUnitOf V1 (query q)
+query_unit all session AskReset version table f t = (tt, refl)
 query_unit all session (AskSerial one serial) None table f t = absurd f
 query_unit all session (AskSerial one serial) (Some version) table f t =
-    (subst (λ x. x < 65536) (sym f.0) t.low, (let n = t.serial_is in let e = f.1 in omega (arith, n, e)))
+    ((subst (λ x. x < 65536) (sym f.0) t.low, (let n = t.serial_is in let e = f.1 in omega (arith, n, e))), refl)
 
 pub question_fits : (session : ℕ) (version : Option Committed) (mark : Bool) → mark ≡ false → Mine session version → QuestionFits session (choose version mark) version
 question_fits session None mark unmarked mine = tt
@@ -184,13 +184,14 @@ module _ (all : List Instance) (i : Instance) (home : Option Seen) (conn : Optio
   }
 
   -- a question is put where none is on its way
-  pub open_asking : (h : Seen) (wanted : List Unit) (lost : List ℕ) (q : Question) (o : Option Conn) → wanted ≡ [] → IsUnit (query q) → IfOpen o (Open i h [] up wanted lost) → IfOpen o (Open i h (sent V1 (query q)) up (query q ∷ []) lost)
+  pub open_asking : (h : Seen) (wanted : List Unit) (lost : List ℕ) (q : Question) (o : Option Conn) → wanted ≡ [] → IsUnitOf V1 (query q) → IfOpen o (Open i h [] up wanted lost) → IfOpen o (Open i h (sent V1 (query q)) up (query q ∷ []) lost)
   open_asking h wanted lost q None e fit op = tt
   open_asking h wanted lost q (Some o) e fit op =
       let before : Stream o.held (up ++ []) [] = subst (λ x. Stream o.held (up ++ []) x) e op.upward in
       let after : Stream o.held ((up ++ []) ++ sent_all V1 (query q ∷ [])) (query q ∷ []) = stream-append o.held (up ++ []) [] (query q ∷ []) before (fit, tt) in
       record {
         upward = subst (λ x. Stream o.held x (query q ∷ [])) (ap (λ x. x ++ sent_all V1 (query q ∷ [])) (append-nil up) ∙ ap (λ x. up ++ x) (append-nil (sent V1 (query q)))) after;
+        spoken = op.spoken;
         whole = op.whole;
         session = op.session;
         made = op.made;

@@ -7,15 +7,16 @@ use Rattle.rtr_pdu.specs.declared.version.Version.TheVariants.{V1}
 use Rattle.rtr_pdu.specs.Judging.{Judgement, Begins, Whole, Faulty, judge}
 use Rattle.rtr_pdu.specs.Stream.{type_of}
 use Rattle.rtr_pdu.specs.declared.unit.Unit.{Unit}
-use Rattle.rtr_pdu.specs.declared.unit.Unit.TheVariants.{SerialNotify, SerialQuery, ResetQuery, CacheResponse, Prefix, EndOfData, CacheReset, RouterKey, ErrorReport}
+use Rattle.rtr_pdu.specs.declared.unit.Unit.TheVariants.{SerialNotify, SerialQuery, ResetQuery, CacheResponse, Prefix, EndOfData, EndOfData0, CacheReset, RouterKey, ErrorReport}
+use Rattle.rtr_ends.specs.Timing.{default_intervals}
 use Rattle.rtr_ends.specs.declared.link.End.TheVariants as ends
 use Rattle.rtr_ends.specs.Cache.{counted, finds_memory}
-use Rattle.rtr_ends.specs.Connection.{fault_code}
+use Rattle.rtr_ends.specs.Connection.{agreed_version, fault_code}
 use Rattle.rtr_ends.specs.Feeding.{feed}
 use Rattle.rtr_ends.specs.LinkRules.{Router, Staged, Stays, Wrong, Over, ask, commit, emptied, fails, is_news, is_strange, may_lack, on_unit, stage, staged, ended_by, told_off}
 use Rattle.rtr_ends.specs.Router.{Noted, Receiving, asks, asks_if, clocked, close, closed_at, connects_at, expired, lacks, of_received, reads, receives, router_byte, router_pulled, router_stops, ticks_at, with_bytes}
 use Rattle.rtr_ends.specs.RouterLink.{Link, Closed, Idle, Asked, Answering, Ended, is_closed, is_due, is_idle}
-use Rattle.rtr_ends.specs.Transcript.{At, Question, AskReset, AskSerial, base_of, bounded, is_over, is_serial, is_wrong, later, retry_of, sum_of}
+use Rattle.rtr_ends.specs.Transcript.{At, Question, AskReset, AskSerial, base_of, Begun, Committed, bounded, is_over, is_serial, is_wrong, later, retry_of, sum_of}
 use Rattle.rtr_ends.proofs.FeedingLaws.{feed_keeps}
 use Rattle.rtr_world.specs.Claims.{NamesNone, NoneByMemory, NotByMemory}
 use Rattle.rtr_world.specs.History.{Outcome, Done, SessionUsed, TooManyVersions, NoSuchRouter, Memory, Entry, LeadsFrom, after}
@@ -60,6 +61,10 @@ staged_free u (Stays a) r = tt
 staged_free u (Wrong code) r = tt
 staged_free u Over r = tt
 
+ended_free : (a : Begun) (u : Unit) (version : Committed) (r : Router) (b : Bool) → Free (if b then commit a version r else fails u r).link
+ended_free a u version r true = tt
+ended_free a u version r false = tt
+
 unit_free : (l : Link) (u : Unit) (r : Router) → Free r.link → Free (on_unit l u r).link
 unfolding on_unit
 unit_free Closed u r h = h
@@ -71,6 +76,7 @@ unit_free Idle ResetQuery r h = tt
 unit_free Idle (CacheResponse session) r h = tt
 unit_free Idle (Prefix announce v) r h = tt
 unit_free Idle (EndOfData session serial refresh retry expire) r h = tt
+unit_free Idle (EndOfData0 session serial) r h = tt
 unit_free Idle CacheReset r h = tt
 unit_free Idle (RouterKey key) r h = tt
 unit_free (Asked question) (SerialNotify session serial) r h = strange_free (is_strange r session) (SerialNotify session serial) r h
@@ -86,15 +92,15 @@ unit_free (Asked question) (SerialQuery session serial) r h = tt
 unit_free (Asked question) ResetQuery r h = tt
 unit_free (Asked question) (Prefix announce v) r h = tt
 unit_free (Asked question) (EndOfData session serial refresh retry expire) r h = tt
+unit_free (Asked question) (EndOfData0 session serial) r h = tt
 unit_free (Asked question) (RouterKey key) r h = tt
 unit_free (Answering a) (SerialNotify session serial) r h = strange_free (is_strange r session) (SerialNotify session serial) r h
 unit_free (Answering a) (Prefix announce v) r h = staged_free (Prefix announce v) (stage (base_of a.question r.table) a announce v) r
 unit_free (Answering a) (RouterKey key) r h = h
-unit_free (Answering a) (EndOfData session serial refresh retry expire) r h = by_session (session == a.session)
-  where
-    by_session : (b : Bool) → Free (if b then commit a (record { session = session; serial = serial; moment = r.now; intervals = bounded refresh retry expire }) r else fails (EndOfData session serial refresh retry expire) r).link
-    by_session true = tt
-    by_session false = tt
+unit_free (Answering a) (EndOfData session serial refresh retry expire) r h =
+    ended_free a (EndOfData session serial refresh retry expire) (record { session = session; serial = serial; moment = r.now; intervals = bounded refresh retry expire }) r (session == a.session)
+unit_free (Answering a) (EndOfData0 session serial) r h =
+    ended_free a (EndOfData0 session serial) (record { session = session; serial = serial; moment = r.now; intervals = default_intervals }) r (session == a.session)
 unit_free (Answering a) (ErrorReport e) r h = told_free a.question e.code r
 unit_free (Answering a) (SerialQuery session serial) r h = tt
 unit_free (Answering a) ResetQuery r h = tt
@@ -111,7 +117,7 @@ byte_free bytes r (Whole u) h = by_memory (may_lack r.link u r)
     by_memory false = unit_free r.link u (record r { held = [] }) h
 byte_free bytes r (Faulty fault) h = by_type (type_of bytes == 10)
   where
-    by_type : (b : Bool) → NotByMemory (if b then ends.Malformed else ends.Reported (fault_code r.agreed fault))
+    by_type : (b : Bool) → NotByMemory (if b then ends.Malformed else ends.Reported (fault_code (agreed_version r.agreed V1) fault))
     by_type true = tt
     by_type false = tt
 

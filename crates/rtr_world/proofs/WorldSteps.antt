@@ -129,7 +129,7 @@ module _ (keep : ℕ) (past : List Instance) (i : Instance) (y : VrpSet) (p : Pr
             since = f.since;
             latest = next;
             found = ap (λ b. if b then Some next else find_session h.made.session past) e;
-            until = record { session = u.session; start = u.start; more = y ∷ u.more; sets = ap (λ x. y ∷ x) u.sets };
+            until = record { session = u.session; session0 = u.session0; start = u.start; more = y ∷ u.more; sets = ap (λ x. y ∷ x) u.sets };
           }
       by_session false e g = record {
         since = f.since;
@@ -146,7 +146,7 @@ module _ (keep : ℕ) (past : List Instance) (i : Instance) (y : VrpSet) (p : Pr
 
   open_published : (h : Seen) (out up : List ℕ) (wanted : List Unit) (lost : List ℕ) (conn : Option Conn) → IfOpen conn (Open i h out up wanted lost) → IfOpen conn (Open next h out up wanted lost)
   open_published h out up wanted lost None op = tt
-  open_published h out up wanted lost (Some o) op = record { upward = op.upward; whole = op.whole; session = op.session; made = (let m = op.made in omega (arith, m)); later = (let l = op.later in record { session = l.session; start = l.start; more = y ∷ l.more; sets = ap (λ x. y ∷ x) l.sets }) }
+  open_published h out up wanted lost (Some o) op = record { upward = op.upward; spoken = op.spoken; whole = op.whole; session = op.session; made = (let m = op.made in omega (arith, m)); later = (let l = op.later in record { session = l.session; session0 = l.session0; start = l.start; more = y ∷ l.more; sets = ap (λ x. y ∷ x) l.sets }) }
 
   side_published : (s : Side) → (room_for i s.router.version && room_since i s.home) ≡ true → Good keep past i s → Good keep past next s
   side_published s room g =
@@ -254,16 +254,16 @@ through_good (Publish set) wanting w fits may g t = by_current (is_current w.pre
           sides = sides_published w.keep w.past i set g.present w.sides (or_cases (is_current i.sets set) (all_have_room i w.sides) free e) g.sides;
         })
 through_good (Restart session start) wanting w fits may g t =
-    let i : Instance = record { session = session; start = start; sets = [] } in
+    let i : Instance = record { session = session; session0 = session; start = start; sets = [] } in
     let unused = restarted_so (is_used (instances w) session) w (Restart session start) wanting may in
     let new : find_session session (instances w) ≡ None = none_found (find_session session (instances w)) unused in
     record {
       present = record {
-        found = ap (λ b. if b then Some (record { session = session; start = start; sets = [] }) else find_session session (instances w)) (eq_self session);
-        is = record { session = fits.0; start = fits.1; sets = tt; news = tt };
+        found = ap (λ b. if b then Some (record { session = session; session0 = session; start = start; sets = [] }) else find_session session (instances w)) (eq_self session);
+        is = record { session = fits.0; session0 = fits.0; start = fits.1; sets = tt; news = tt };
       };
-      sides = all_map (Good w.keep w.past w.present) (Good w.keep (instances w) (record { session = session; start = start; sets = [] })) cache_gone w.sides
-          (side_restarted w.keep w.past w.present (record { session = session; start = start; sets = [] }) new) g.sides;
+      sides = all_map (Good w.keep w.past w.present) (Good w.keep (instances w) (record { session = session; session0 = session; start = start; sets = [] })) cache_gone w.sides
+          (side_restarted w.keep w.past w.present (record { session = session; session0 = session; start = start; sets = [] }) new) g.sides;
     }
 through_good (On r event) wanting w fits may g t =
     record {
@@ -299,13 +299,13 @@ history_good old history w leads g t =
 
 pub new_good : (made : Made) → IsMade made → GoodWorld (new_world made.routers made.session made.start made.keep)
 new_good made is =
-    let i : Instance = record { session = made.session; start = made.start; sets = [] } in
+    let i : Instance = record { session = made.session; session0 = made.session; start = made.start; sets = [] } in
     record {
       present = record {
-        found = ap (λ b. if b then Some (record { session = made.session; start = made.start; sets = [] }) else None) (eq_self made.session);
-        is = record { session = is.session; start = is.start; sets = tt; news = tt };
+        found = ap (λ b. if b then Some (record { session = made.session; session0 = made.session; start = made.start; sets = [] }) else None) (eq_self made.session);
+        is = record { session = is.session; session0 = is.session; start = is.start; sets = tt; news = tt };
       };
-      sides = all_new (Good made.keep [] (record { session = made.session; start = made.start; sets = [] })) (record { seen = None; is_seen = tt; order = record { never_back = tt; current = tt; at_seen = tt }; router = record { table = refl; unmarked = refl; link = (refl, refl, refl, refl) } }) made.routers;
+      sides = all_new (Good made.keep [] (record { session = made.session; session0 = made.session; start = made.start; sets = [] })) (record { seen = None; is_seen = tt; order = record { never_back = tt; current = tt; at_seen = tt }; router = record { table = refl; unmarked = refl; link = (refl, refl, refl, refl) } }) made.routers;
     }
 
 -- The headline

@@ -60,7 +60,7 @@ pub record IsAnswer (w : World) (home : Instance) (question : Question) (units :
 pub record IsWantingAnswer (w : World) (home : Instance) (question : Question) (units : List Unit) : Type 0 where
   pub cache : Instance
   pub was : WasSo w home cache
-  pub takes : takes_memory cache (query question) ≡ true
+  pub takes : takes_memory V1 cache (query question) ≡ true
   pub are : units ≡ report INTERNAL_ERROR [] ∷ []
 
 abbrev pub IsReply : World → Instance → Question → List Unit → Type 0
@@ -138,5 +138,5 @@ Between w s link = OneAnswer w s
 abbrev pub IsOfNow : Instance → ℕ → Option ℕ → Link → List ℕ → Type 0
 IsOfNow cache keep wanting (Asked question) due =
     (due ≡ sent_all V1 (answer V1 cache keep timing (query question)).units)
-    ⊎ (IsSome wanting × (takes_memory cache (query question) ≡ true) × (due ≡ sent_all V1 (report INTERNAL_ERROR [] ∷ [])))
+    ⊎ (IsSome wanting × (takes_memory V1 cache (query question) ≡ true) × (due ≡ sent_all V1 (report INTERNAL_ERROR [] ∷ [])))
 IsOfNow cache keep wanting link due = ⊥

@@ -57,7 +57,7 @@ abbrev pub new_world : ℕ → ℕ → ℕ → ℕ → World
 new_world routers session start keep = record {
   keep = keep;
   past = [];
-  present = record { session = session; start = start; sets = [] };
+  present = record { session = session; session0 = session; start = start; sets = [] };
   sides = new_sides routers;
 }
 
@@ -229,7 +229,7 @@ unfoldable pub goes_through : Event → Option ℕ → World → World
 goes_through (Publish set) wanting w = record w { present = published set w.present }
 goes_through (Restart session start) wanting w = record w {
   past = w.present ∷ w.past;
-  present = record { session = session; start = start; sets = [] };
+  present = record { session = session; session0 = session; start = start; sets = [] };
   sides = map cache_gone w.sides;
 }
 goes_through (On r event) wanting w = record w { sides = on_side r (side_step w event wanting) w.sides }

@@ -22,7 +22,7 @@ returns c =
         rest = record { keep = refl; used = λ session. ap (list_any (λ y. y == session)) (c.in_ok-push.ensures.items ∙ ap (λ l. l ++ c.args.session ∷ []) c.new-sessions.ensures.items) ∙ used_more [] [] w.present session refl; session = refl; start = refl };
         at = λ n. None;
         parts = record {
-          serves = subst (λ (t : Intervals). ShowsCache HoldsSteps (without_conns c.args.keep t w.present) c.new-2.result) c.default.ensures (c.new-2.ensures c.args.keep w.present c.in_ok-store.ensures);
+          serves = subst (λ (t : Intervals). ShowsCache HoldsSteps (without_conns c.args.keep t w.present) c.new-2.result) c.default.ensures (c.new-2.ensures c.args.keep w.present (c.in_ok-store.ensures c.args.session) refl);
           each = λ r. subst (λ n. ShowsAt w at (side_at r (new_sides n)) (slice_get c.in_ok-sides.sides.items r)) c.in_ok-sides.ensures.0 (all_new_show w at c.in_ok-sides.sides.items c.in_ok-sides.ensures.1 r);
           own = new_own c.in_ok-sides.sides.items c.in_ok-sides.ensures.1;
           all = λ n some. absurd (let k : false ≡ true = some in cc);

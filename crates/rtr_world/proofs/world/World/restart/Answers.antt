@@ -29,7 +29,7 @@ pub returns : goal.returns
 returns c = λ w reached h.
     let free = sym (h.rest.used c.args.session) ∙ sym c.is_used.ensures ∙ c.if-is_used.false in
     let sides = ap (λ (x : code.World). x.sides.items) c.self.view_is in
-    let serves = subst (λ (t : Intervals). ShowsCache HoldsSteps (without_conns w.keep t (begun c.args.session c.args.start)) c.new-2.result) c.default.ensures (c.new-2.ensures w.keep (begun c.args.session c.args.start) (subst (λ keep. HoldsSteps keep (begun c.args.session c.args.start) c.in_ok-store.store) (ap (λ (x : code.World). x.keep) c.self.view_is ∙ h.rest.keep) c.in_ok-store.ensures)) in
+    let serves = subst (λ (t : Intervals). ShowsCache HoldsSteps (without_conns w.keep t (begun c.args.session c.args.start)) c.new-2.result) c.default.ensures (c.new-2.ensures w.keep (begun c.args.session c.args.start) (subst (λ keep. HoldsSteps keep (begun c.args.session c.args.start) c.in_ok-store.store) (ap (λ (x : code.World). x.keep) c.self.view_is ∙ h.rest.keep) (c.in_ok-store.ensures c.args.session)) refl) in
     restarts w c.args.self.now _ c.args.session c.args.start h c.ranges.session.fits c.ranges.start.fits free (ap (λ (x : code.World). x.keep) c.self.view_is)
     (is_pushed c.push.result _ _ _ (sym c.is_err.ensures.value ∙ c.if-is_err.false) c.push.ensures.items ∙ ap (λ (x : code.World). x.sessions.items ++ c.args.session ∷ []) c.self.view_is) refl refl
     (c.settle_all.ensures (restarted w c.args.session c.args.start) (λ d. None) (gone_parts w c.args.session c.args.start h.at c.args.self.now.cache _ c.args.self.now.sides.items c.lose_caches.new.sides.items free h.parts
