@@ -7,7 +7,7 @@ use Rattle.prefixes.specs.Payload.{IsPayload, Payload}
 use Rattle.vrps.specs.VrpSet.{SameMembers, VrpSet, listing}
 use Rattle.rtr_pdu.specs.Judging.{Judgement, Begins, Whole, Faulty, judge}
 use Rattle.rtr_pdu.specs.Stream.{NoBeginning, WrittenIsRead}
-use Rattle.rtr_pdu.specs.Unit.{IsUnit}
+use Rattle.rtr_pdu.specs.Unit.{IsUnitOf}
 use Rattle.rtr_pdu.specs.declared.unit.Unit.TheVariants.{Prefix}
 use Rattle.rtr_pdu.specs.declared.version.Version.TheVariants.{V1}
 use Rattle.rtr_ends.specs.Answer.{sent_all}
@@ -26,7 +26,8 @@ use Rattle.rtr_ends.specs.declared.router.Router as code
 use Rattle.rtr_ends.specs.declared.streams.StreamFault.{StreamFault}
 use Rattle.feed.specs.Feed.{answer_bytes}
 use Rattle.feed.specs.Loopback.{HasTable}
-use Rattle.feed.proofs.Serving.{feed_keeps}
+use Rattle.feed.proofs.Serving.{feed_keeps, sent_in}
+use Rattle.rtr_ends.specs.Connection.{bytes_sent, in_version}
 use Rattle.feed.proofs.FrontUnits.{read_are_first}
 use Rattle.feed.proofs.Transcripts.{OneConnection, answer_units, holds, last}
 
@@ -118,16 +119,16 @@ are_calls (call ∷ turns) h = (is_call call h.0, are_calls turns h.1)
 
 -- ---- the answer
 
-are_units : (vs : List Payload) → All IsPayload vs → AllByRecursion IsUnit (map (λ v. Prefix true v) vs ++ last ∷ [])
-are_units [] h = ((omega arith, omega arith, omega arith, omega arith, omega arith), tt)
-are_units (v ∷ vs) h = (All-head IsPayload v vs h, are_units vs (All-tail IsPayload v vs h))
+are_units : (vs : List Payload) → All IsPayload vs → AllByRecursion (IsUnitOf V1) (map (λ v. Prefix true v) vs ++ last ∷ [])
+are_units [] h = (((omega arith, omega arith, omega arith, omega arith, omega arith), refl), tt)
+are_units (v ∷ vs) h = ((All-head IsPayload v vs h, refl), are_units vs (All-tail IsPayload v vs h))
 
-all_units : (vs : List Payload) → All IsPayload vs → AllByRecursion IsUnit (answer_units vs)
-all_units vs h = (omega arith, are_units vs h)
+all_units : (vs : List Payload) → All IsPayload vs → AllByRecursion (IsUnitOf V1) (answer_units vs)
+all_units vs h = ((omega arith, refl), are_units vs h)
 
 answer_is : (set : VrpSet) → answer_bytes set ≡ sent_all V1 (answer_units (listing set))
 unfolding answer_bytes
-answer_is set = ap (sent_all V1) (append-nil (answer_units (listing set)))
+answer_is set = ap bytes_sent (append-nil (in_version V1 (answer_units (listing set)))) ∙ sent_in V1 (answer_units (listing set))
 
 module _ (apart : NoBeginning) (written : WrittenIsRead) (same : SameMembers) where
   -- What such a router has committed is the set.

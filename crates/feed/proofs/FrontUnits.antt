@@ -5,9 +5,10 @@ use Rattle.std.specs.List.{AllByRecursion}
 use Rattle.prefixes.specs.declared.prefix.IpPrefix.{IpPrefix}
 use Rattle.prefixes.specs.declared.prefix.IpPrefix.TheVariants.{V4, V6}
 use Rattle.rtr_pdu.specs.Stream.{AreRead, NoBeginning, WrittenIsRead, as_read, is_notify, is_notify_header}
-use Rattle.rtr_pdu.specs.Unit.{IsUnit, Reads, prefix_bytes, zeros}
+use Rattle.rtr_pdu.specs.Unit.{IsUnitOf, Reads, prefix_bytes, zeros}
 use Rattle.rtr_pdu.specs.declared.unit.Unit.{Unit}
-use Rattle.rtr_pdu.specs.declared.unit.Unit.TheVariants.{SerialNotify, SerialQuery, ResetQuery, CacheResponse, Prefix, EndOfData, CacheReset, RouterKey, ErrorReport}
+use Rattle.rtr_pdu.specs.declared.unit.Unit.TheVariants.{SerialNotify, SerialQuery, ResetQuery, CacheResponse, Prefix, EndOfData, EndOfData0, CacheReset, RouterKey, ErrorReport}
+use Rattle.rtr_pdu.specs.declared.version.Version.{Version}
 use Rattle.rtr_pdu.specs.declared.version.Version.TheVariants.{V1}
 use Rattle.rtr_ends.specs.Answer.{sent, sent_all}
 
@@ -23,6 +24,7 @@ begins (Prefix announce v) = by_family v.prefix
     by_family (V4 p) = (_, refl)
     by_family (V6 p) = (_, refl)
 begins (EndOfData session serial refresh retry expire) = (_, refl)
+begins (EndOfData0 session serial) = (_, refl)
 begins CacheReset = (_, refl)
 begins (RouterKey k) = (_, refl)
 begins (ErrorReport r) = (_, refl)
@@ -54,20 +56,20 @@ no_front (b ∷ front) back e = cc
 
 module _ (apart : NoBeginning) (written : WrittenIsRead) where
   -- No unit is without a byte.
-  pub never_empty : (u : Unit) → Reads V1 u [] → ⊥
-  never_empty u r = let e = (apart V1 u ResetQuery [] (sent V1 ResetQuery) (sent V1 ResetQuery) [] r (written V1 ResetQuery tt) refl).1 in cc
+  pub never_empty : (version : Version) (u : Unit) → Reads version u [] → ⊥
+  never_empty version u r = let e = (apart version u ResetQuery [] (sent version ResetQuery) (sent version ResetQuery) [] r (written version ResetQuery tt refl) refl).1 in cc
 
   -- What is read from a beginning of units as they are sent are the first of them.
-  pub read_are_first : (any : Bool) (all units : List Unit) (front back : List ℕ) → AllByRecursion IsUnit all → AreRead V1 any units front → front ++ back ≡ sent_all V1 all → (rest : List Unit) × (units ++ rest ≡ all)
+  pub read_are_first : (any : Bool) (all units : List Unit) (front back : List ℕ) → AllByRecursion (IsUnitOf V1) all → AreRead V1 any units front → front ++ back ≡ sent_all V1 all → (rest : List Unit) × (units ++ rest ≡ all)
   read_are_first any all [] front back fit read e = (all, refl)
   read_are_first any [] (u ∷ units) front back fit read e =
       let parts : read.0 ++ (read.1 ++ back) ≡ [] = sym (append_assoc read.0 read.1 back) ∙ ap (λ f. f ++ back) (sym read.2) ∙ e in
       let none : read.0 ≡ [] = no_front read.0 (read.1 ++ back) parts in
-      absurd (never_empty u (subst (λ b. Reads V1 u b) (ap (as_read V1 any) none ∙ read_none any) read.3))
+      absurd (never_empty V1 u (subst (λ b. Reads V1 u b) (ap (as_read V1 any) none ∙ read_none any) read.3))
   read_are_first any (v ∷ all) (u ∷ units) front back fit read e =
       let start = begins v in
       let parts : read.0 ++ (read.1 ++ back) ≡ sent V1 v ++ sent_all V1 all = sym (append_assoc read.0 read.1 back) ∙ ap (λ f. f ++ back) (sym read.2) ∙ e in
       let seen : as_read V1 any read.0 ≡ read.0 = read_front any read.0 (read.1 ++ back) (start.0 ++ sent_all V1 all) (parts ∙ ap (λ b. b ++ sent_all V1 all) start.1) in
-      let same = apart V1 u v read.0 (sent V1 v) (read.1 ++ back) (sent_all V1 all) (subst (λ b. Reads V1 u b) seen read.3) (written V1 v fit.0) parts in
+      let same = apart V1 u v read.0 (sent V1 v) (read.1 ++ back) (sent_all V1 all) (subst (λ b. Reads V1 u b) seen read.3) (written V1 v fit.0.0 fit.0.1) parts in
       let later = read_are_first (any && is_notify u) all units read.1 back fit.1 read.4 same.1 in
       (later.0, λ i. same.0 i ∷ later.1 i)

@@ -48,11 +48,11 @@ pub record IsUsed (now : CivilMoment) (offers : List Offer) (set : VrpSet) : Typ
 
 -- the cache whose one version is this set, as serial 0 of session 1
 abbrev pub cache_publishing : VrpSet → Instance
-cache_publishing set = record { session = 1; start = 0; sets = set ∷ [] }
+cache_publishing set = record { session = 1; session0 = 1; start = 0; sets = set ∷ [] }
 
 -- its replies to one Reset Query
 unfoldable pub answer_bytes : VrpSet → List ℕ
-answer_bytes set = replies 1 default_intervals (Read (cache_publishing set) ResetQuery (sent V1 ResetQuery) ∷ [])
+answer_bytes set = replies 1 default_intervals (Read V1 (cache_publishing set) ResetQuery (sent V1 ResetQuery) ∷ [])
 
 -- The state of the route is that over the payloads in use, which a set can hold, and what the cache sent is its answer with them.
 pub record IsFed (now : CivilMoment) (offers : List Offer) (route : Route) (fed : Fed) : Type 0 where
