@@ -18,11 +18,12 @@ impl From<AllocError> for WordsFault {
     }
 }
 
-/// A command: its name, its options, which take one value each, its other words, and words that come
-/// once or more.
+/// A command: its name, its options, which take one value each, those of them that may be left out, its other words, and words that
+/// come once or more.
 struct Form {
     name: &'static str,
     options: &'static [&'static str],
+    extras: &'static [&'static str],
     words: &'static [&'static str],
     lists: &'static [&'static str],
 }
@@ -31,60 +32,70 @@ static FORMS: [Form; 10] = [
     Form {
         name: "roa",
         options: &[],
+        extras: &[],
         words: &["FILE"],
         lists: &[],
     },
     Form {
         name: "manifest",
         options: &[],
+        extras: &[],
         words: &["FILE"],
         lists: &[],
     },
     Form {
         name: "payloads",
         options: &["now"],
+        extras: &[],
         words: &[],
         lists: &["DIR"],
     },
     Form {
         name: "units",
         options: &[],
+        extras: &[],
         words: &["FILE"],
         lists: &[],
     },
     Form {
         name: "answer",
         options: &["session", "serial", "vrps"],
+        extras: &["session0"],
         words: &["HEX"],
         lists: &[],
     },
     Form {
         name: "route",
         options: &["vrps"],
+        extras: &[],
         words: &["PREFIX", "ORIGIN"],
         lists: &[],
     },
     Form {
         name: "serve",
         options: &["port", "session", "start", "vrps", "connections"],
+        extras: &["session0"],
         words: &[],
         lists: &[],
     },
     Form {
         name: "fetch",
         options: &["port"],
+        extras: &[],
         words: &[],
         lists: &[],
     },
     Form {
         name: "loop",
         options: &["session", "start", "vrps"],
+        extras: &[],
         words: &["PREFIX", "ORIGIN"],
         lists: &[],
     },
     Form {
         name: "world",
         options: &[],
+        extras: &[],
         words: &["FILE"],
         lists: &[],
     },
@@ -98,6 +109,9 @@ fn subcommand<'a>(alloc: Global, form: &Form) -> Result<Command<'a>, AllocError>
     let mut command = Command::new(alloc, form.name);
     for name in form.options {
         command = command.arg(word(alloc, name).long(name))?;
+    }
+    for name in form.extras {
+        command = command.arg(word(alloc, name).long(name).required(false))?;
     }
     for name in form.words {
         command = command.arg(word(alloc, name))?;
@@ -143,9 +157,10 @@ pub enum Order<'a> {
     Units {
         file: &'a str,
     },
-    /// The answers of a cache to the bytes that HEX spells.
+    /// The answers of a cache to the bytes that HEX spells. Its session in version 0 of the protocol is `session0`.
     Answer {
         session: u16,
+        session0: u16,
         serial: u32,
         vrps: &'a str,
         hex: &'a str,
@@ -157,10 +172,11 @@ pub enum Order<'a> {
         origin: &'a str,
     },
     /// So many connections on a port of this machine, served one after the other by a cache whose one version, under the serial `start`, is
-    /// the list of the file `vrps`.
+    /// the list of the file `vrps`. Its session in version 0 of the protocol is `session0`.
     Serve {
         port: u16,
         session: u16,
+        session0: u16,
         start: u32,
         vrps: &'a str,
         connections: u32,
@@ -212,6 +228,14 @@ fn number_16(found: &ArgMatches<'_>, name: &str) -> Result<u16, WordsFault> {
     u16::try_from(number).map_err(|_| WordsFault::NoOrder)
 }
 
+/// The number of 16 bits under this name, or this one where the option is left out.
+fn number_16_or(found: &ArgMatches<'_>, name: &str, number: u16) -> Result<u16, WordsFault> {
+    match found.get_str(name) {
+        None => Ok(number),
+        Some(_) => number_16(found, name),
+    }
+}
+
 /// The number of 32 bits under this name.
 fn number_32(found: &ArgMatches<'_>, name: &str) -> Result<u32, WordsFault> {
     let number = decimal(value(found, name)?).ok_or(WordsFault::NoOrder)?;
@@ -250,8 +274,10 @@ fn units_order<'a>(found: &ArgMatches<'a>) -> Result<Order<'a>, WordsFault> {
 }
 
 fn answer_order<'a>(found: &ArgMatches<'a>) -> Result<Order<'a>, WordsFault> {
+    let session = number_16(found, "session")?;
     Ok(Order::Answer {
-        session: number_16(found, "session")?,
+        session,
+        session0: number_16_or(found, "session0", session)?,
         serial: number_32(found, "serial")?,
         vrps: value(found, "vrps")?,
         hex: value(found, "HEX")?,
@@ -267,9 +293,11 @@ fn route_order<'a>(found: &ArgMatches<'a>) -> Result<Order<'a>, WordsFault> {
 }
 
 fn serve_order<'a>(found: &ArgMatches<'a>) -> Result<Order<'a>, WordsFault> {
+    let session = number_16(found, "session")?;
     Ok(Order::Serve {
         port: number_16(found, "port")?,
-        session: number_16(found, "session")?,
+        session,
+        session0: number_16_or(found, "session0", session)?,
         start: number_32(found, "start")?,
         vrps: value(found, "vrps")?,
         connections: number_32(found, "connections")?,

@@ -8,10 +8,10 @@ use Rattle.std.proofs.Math.Seq.{take-append_seam}
 use Rattle.std.proofs.lemmas.List.{length-append, length-drop, length-take-le, take-append-drop, take_min}
 use Rattle.vrps.specs.Instance.{Instance}
 use Rattle.vrps.specs.Steps.{HoldsSteps, Steps}
-use Rattle.rtr_pdu.specs.declared.version.Version.TheVariants.{V1}
+use Rattle.rtr_pdu.specs.declared.version.Version.{Version}
 use Rattle.rtr_pdu.specs.Judging.{Judgement, Begins, Whole, Faulty, judge}
 use Rattle.rtr_pdu.specs.Payloads.{AreBytes}
-use Rattle.rtr_ends.specs.Cache.{Conn, Gives, Taking, Takes, conn_byte, conn_pulled, conn_stops, conn_takes, finds_memory, is_none, conn_moment_of, and_moment}
+use Rattle.rtr_ends.specs.Cache.{Conn, Gives, Taking, Takes, conn_byte, conn_pulled, conn_stops, conn_takes, finds_memory, is_none, conn_moment_of, and_moment, version_at}
 use Rattle.rtr_ends.specs.CacheState.{CacheState, GivesBytes, ShowsCache, ShowsSlot, TakesPiece, conn_consumed, due_at, given, has_bytes_at, is_open_at, peer_at, taken, with_conn}
 use Rattle.rtr_ends.specs.Connection.{ConnMoment, Read, Wanting, takes_memory}
 use Rattle.rtr_ends.specs.Feeding.{FedPiece, feed}
@@ -71,18 +71,18 @@ module _ (i : Instance) (c : ℕ) where
       }
 
   -- the moments that a piece brings
-  own_moment : (memory : Bool) (bytes : List ℕ) (j : Judgement) (ms : List ConnMoment) → AllByRecursion (IsOwn i) ms → AllByRecursion (IsOwn i) (and_moment ms (conn_moment_of i memory bytes j))
-  own_moment memory bytes Begins ms h = h
-  own_moment memory bytes (Whole u) ms h = by_test (takes_memory i u && not memory)
+  own_moment : (memory : Bool) (version : Version) (bytes : List ℕ) (j : Judgement) (ms : List ConnMoment) → AllByRecursion (IsOwn i) ms → AllByRecursion (IsOwn i) (and_moment ms (conn_moment_of i memory version bytes j))
+  own_moment memory version bytes Begins ms h = h
+  own_moment memory version bytes (Whole u) ms h = by_test (takes_memory version i u && not memory)
     where
-      by_test : (b : Bool) → AllByRecursion (IsOwn i) (ms ++ (if b then Wanting i u bytes else Read i u bytes) ∷ [])
+      by_test : (b : Bool) → AllByRecursion (IsOwn i) (ms ++ (if b then Wanting version i u bytes else Read version i u bytes) ∷ [])
       by_test true = all_both (IsOwn i) ms _ h (refl, tt)
       by_test false = all_both (IsOwn i) ms _ h (refl, tt)
-  own_moment memory bytes (Faulty fault) ms h = all_both (IsOwn i) ms _ h (tt, tt)
+  own_moment memory version bytes (Faulty fault) ms h = all_both (IsOwn i) ms _ h (tt, tt)
 
   own_byte : (m : Taking) (b : ℕ) → AllByRecursion (IsOwn i) m.moments → AllByRecursion (IsOwn i) (conn_byte 1 default_intervals i m b).moments
   unfolding conn_byte
-  own_byte m b h = own_moment (finds_memory m.wanting) (m.conn.held ++ b ∷ []) (judge V1 false (m.conn.held ++ b ∷ [])) m.moments h
+  own_byte m b h = own_moment (finds_memory m.wanting) (version_at m.conn (b ∷ [])) (m.conn.held ++ b ∷ []) (judge (version_at m.conn (b ∷ [])) false (m.conn.held ++ b ∷ [])) m.moments h
 
   own_taken : (wanting : Option ℕ) (piece : List ℕ) (o : Conn) → AllByRecursion (IsOwn i) (conn_takes 1 default_intervals i wanting piece o).machine.moments
   unfolding conn_takes

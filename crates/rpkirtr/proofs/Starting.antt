@@ -15,17 +15,17 @@ use Rattle.rpkirtr.specs.Lines.{cache_of}
 use Rattle.rpkirtr.specs.Serves.{HasServed, Starts}
 use Rattle.rtr_ends.proofs.CacheStateLaws.{with_conn_at}
 
-abbrev empty_cache : ℕ → ℕ → Instance
-empty_cache session serial = record { session = session; start = serial; sets = [] }
+abbrev empty_cache : ℕ → ℕ → ℕ → Instance
+empty_cache session session0 serial = record { session = session; session0 = session0; start = serial; sets = [] }
 
-instance_of : (session serial : ℕ) (set : VrpSet) → session < 2 ^ 16 → serial < 2 ^ 32 → IsVrpSet set → IsInstance (cache_of session serial set)
-instance_of session serial set low number fits = record { session = low; start = number; sets = (fits, tt); news = tt }
+instance_of : (session session0 serial : ℕ) (set : VrpSet) → session < 2 ^ 16 → session0 < 2 ^ 16 → serial < 2 ^ 32 → IsVrpSet set → IsInstance (cache_of session session0 serial set)
+instance_of session session0 serial set low low0 number fits = record { session = low; session0 = low0; start = number; sets = (fits, tt); news = tt }
 
 -- The first set is published, whatever it is.
-pub starts : (session serial : ℕ) (set : VrpSet) (cache : Cache Steps) (answer : Published) → session < 2 ^ 16 → serial < 2 ^ 32 → IsVrpSet set
-    → Publishes (λ i now. ShowsCache HoldsSteps (record (without_conns 1 default_intervals (empty_cache session serial)) { cache = i }) now) (Ok answer) set (empty_cache session serial) cache → Starts (cache_of session serial set) cache
-starts session serial set cache (New number) low low_serial fits h = record { is = instance_of session serial set low low_serial fits; shows = h.0 }
-starts session serial set cache Unchanged low low_serial fits h = absurd (let e : false ≡ true = h.1 in cc)
+pub starts : (session session0 serial : ℕ) (set : VrpSet) (cache : Cache Steps) (answer : Published) → session < 2 ^ 16 → session0 < 2 ^ 16 → serial < 2 ^ 32 → IsVrpSet set
+    → Publishes (λ i now. ShowsCache HoldsSteps (record (without_conns 1 default_intervals (empty_cache session session0 serial)) { cache = i }) now) (Ok answer) set (empty_cache session session0 serial) cache → Starts (cache_of session session0 serial set) cache
+starts session session0 serial set cache (New number) low low0 low_serial fits h = record { is = instance_of session session0 serial set low low0 low_serial fits; shows = h.0 }
+starts session session0 serial set cache Unchanged low low0 low_serial fits h = absurd (let e : false ≡ true = h.1 in cc)
 
 -- A connection is opened.
 pub opens : (i : Instance) (cache new : Cache Steps) (c : ℕ) → Starts i cache → ShowsCache HoldsSteps (with_conn c (Some (new_conn i)) (without_conns 1 default_intervals i)) new → HasServed i c [] [] new

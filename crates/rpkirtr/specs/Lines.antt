@@ -5,16 +5,16 @@ use Rattle.hex.specs.Hex.{encode_lower}
 use Rattle.vrps.specs.Instance.{Instance}
 use Rattle.vrps.specs.VrpSet.{VrpSet}
 use Rattle.rtr_pdu.specs.declared.unit.Unit.{Unit}
-use Rattle.rtr_pdu.specs.declared.version.Version.TheVariants.{V1}
+use Rattle.rtr_pdu.specs.declared.version.Version.{Version}
 use Rattle.rtr_ends.specs.Answer.{sent}
 
--- a unit as a line: its bytes in lower-case hexadecimal
-abbrev pub line_of : Unit → List ℕ
-line_of u = encode_lower (sent V1 u) ++ codes "\n"
+-- a unit of a version as a line: its bytes in lower-case hexadecimal
+abbrev pub line_of : Version → Unit → List ℕ
+line_of version u = encode_lower (sent version u) ++ codes "\n"
 
-abbrev pub lines_of : List Unit → List ℕ
-lines_of units = flat_map line_of units
+abbrev pub lines_of : Version → List Unit → List ℕ
+lines_of version units = flat_map (line_of version) units
 
--- the cache whose one published set is a list's
-abbrev pub cache_of : ℕ → ℕ → VrpSet → Instance
-cache_of session serial set = record { session = session; start = serial; sets = set ∷ [] }
+-- the cache whose one published set is a list's, with its sessions in version 1 and in version 0
+abbrev pub cache_of : ℕ → ℕ → ℕ → VrpSet → Instance
+cache_of session session0 serial set = record { session = session; session0 = session0; start = serial; sets = set ∷ [] }

@@ -3,7 +3,7 @@ use Rattle.std.specs.Prelude.{◌≡◌, ℕ, ◌==◌, Bool, true, false, List,
 use Rattle.std.specs.List.{AllByRecursion}
 use Rattle.vrps.specs.Instance.{Instance, IsInstance}
 use Rattle.vrps.specs.Steps.{HoldsSteps, Steps}
-use Rattle.rtr_pdu.specs.declared.version.Version.TheVariants.{V1}
+use Rattle.rtr_pdu.specs.declared.version.Version.{Version}
 use Rattle.rtr_pdu.specs.Code.{INTERNAL_ERROR}
 use Rattle.rtr_pdu.specs.Stream.{Splits}
 use Rattle.rtr_pdu.specs.declared.unit.Unit.{Unit}
@@ -23,10 +23,10 @@ pub record Starts (i : Instance) (cache : Cache Steps) : Type 0 where
 
 -- What happens is of this instance, and no notify.
 abbrev pub IsOwn : Instance → ConnMoment → Type 0
-IsOwn i (Read cache unit bytes) = cache ≡ i
-IsOwn i (Wanting cache unit bytes) = cache ≡ i
-IsOwn i (Fault fault bytes) = ⊤
-IsOwn i (Notify cache) = ⊥
+IsOwn i (Read version cache unit bytes) = cache ≡ i
+IsOwn i (Wanting version cache unit bytes) = cache ≡ i
+IsOwn i (Fault version fault bytes) = ⊤
+IsOwn i (Notify version cache) = ⊥
 IsOwn i (Pull count) = ⊤
 
 -- the connection after these calls
@@ -67,11 +67,11 @@ abbrev pub is_internal_error : Unit → Bool
 is_internal_error (ErrorReport r) = r.code == INTERNAL_ERROR
 is_internal_error u = false
 
--- The lines of the units by which the bytes are split, none of which is an Internal Error.
-pub record HasLines (bytes : List ℕ) (lines : List ℕ) : Type 0 where
+-- The lines of the units of a version by which the bytes are split, none of which is an Internal Error.
+pub record HasLines (version : Version) (bytes : List ℕ) (lines : List ℕ) : Type 0 where
   pub units : List Unit
   pub rest : List ℕ
   pub fault : Option UnitFault
-  pub splits : Splits V1 false bytes units rest fault
+  pub splits : Splits version false bytes units rest fault
   pub sound : AllByRecursion (λ u. is_internal_error u ≡ false) units
-  pub lines_are : lines ≡ lines_of units
+  pub lines_are : lines ≡ lines_of version units

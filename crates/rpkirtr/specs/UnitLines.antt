@@ -6,11 +6,11 @@ use Rattle.std.specs.Io.KnownBytes.{Appends}
 use Rattle.hex.specs.Hex.{encode_lower}
 use Rattle.prefixes.specs.Payload.{Payload}
 use Rattle.prefixes.specs.Text.{written_text}
-use Rattle.rtr_pdu.specs.declared.version.Version.TheVariants.{V1}
+use Rattle.rtr_pdu.specs.Version.{first_version}
 use Rattle.rtr_pdu.specs.Fault.{fault_number}
 use Rattle.rtr_pdu.specs.Stream.{Splits, end_fault}
 use Rattle.rtr_pdu.specs.declared.unit.Unit.{Unit}
-use Rattle.rtr_pdu.specs.declared.unit.Unit.TheVariants.{SerialNotify, SerialQuery, ResetQuery, CacheResponse, Prefix, EndOfData, CacheReset, RouterKey, ErrorReport}
+use Rattle.rtr_pdu.specs.declared.unit.Unit.TheVariants.{SerialNotify, SerialQuery, ResetQuery, CacheResponse, Prefix, EndOfData, EndOfData0, CacheReset, RouterKey, ErrorReport}
 use Rattle.rtr_pdu.specs.declared.unit.UnitFault.{UnitFault}
 use Rattle.rpkirtr.specs.declared.units.UnitsEnd.{UnitsEnd}
 use Rattle.rpkirtr.specs.declared.units.UnitsEnd.TheVariants.{Whole, Refused}
@@ -42,6 +42,7 @@ unit_line (Prefix true vrp) = codes "announce" ++ payload_text vrp ++ codes "\n"
 unit_line (Prefix false vrp) = codes "withdraw" ++ payload_text vrp ++ codes "\n"
 unit_line (EndOfData session serial refresh retry expire) =
     codes "end-of-data" ++ number_text session ++ number_text serial ++ number_text refresh ++ number_text retry ++ number_text expire ++ codes "\n"
+unit_line (EndOfData0 session serial) = codes "end-of-data" ++ number_text session ++ number_text serial ++ codes "\n"
 unit_line CacheReset = codes "cache-reset\n"
 unit_line (RouterKey key) = codes "router-key\n"
 unit_line (ErrorReport r) = report_line r.code r.copy
@@ -51,11 +52,11 @@ abbrev pub FollowsUnits : ℕ → List ℕ → Option UnitFault → UnitsEnd →
 FollowsUnits offset rest fault Whole = rest ≡ []
 FollowsUnits offset rest fault (Refused number at) = (at ≡ offset) × (shown : UnitFault) × (end_fault rest fault ≡ Some shown) × (number ≡ fault_number shown)
 
--- The units by which the bytes are split are printed, a line each, and this follows them.
+-- The units by which the bytes are split, in the version of the first header, are printed, a line each, and this follows them.
 pub record TellsUnits (bytes : List ℕ) (old new : Option (List ℕ)) (end : UnitsEnd) : Type 0 where
   pub units : List Unit
   pub rest : List ℕ
   pub fault : Option UnitFault
-  pub splits : Splits V1 false bytes units rest fault
+  pub splits : Splits (first_version bytes) false bytes units rest fault
   pub printed : Appends old new (flat_map unit_line units)
   pub follows : FollowsUnits (length bytes - length rest) rest fault end

@@ -1,5 +1,6 @@
 //! The answers of a cache, a unit a line.
-ghost use Rattle.std.specs.Prelude.{◌≡◌, ℕ, [], ◌++◌, List, string_bytes, IfOk, OnOk, IsErrOf, Ok};
+ghost use Rattle.rtr_pdu.specs.Unit.{fits};
+ghost use Rattle.std.specs.Prelude.{◌≡◌, true, ℕ, [], ◌++◌, List, string_bytes, IfOk, OnOk, IsErrOf, Ok};
 ghost use Rattle.hex.specs.Hex.{decode_of};
 ghost use Rattle.vrps.specs.Instance.{Instance};
 ghost use Rattle.rpkirtr.specs.Answered.{AnswersBytes, LeavesOff};
@@ -9,7 +10,7 @@ ghost use Rattle.rpkirtr.specs.Serves.{HasExchanged, HasLines, HasServed, Serves
 use crate::hexadecimal::push_hex;
 use hex::FromHexError;
 use rtr_ends::{Cache, Conn, Timing};
-use rtr_pdu::{MAX_UNIT_LEN, Next, Unit, UnitBuffer, UnitReader, encode, error_code};
+use rtr_pdu::{MAX_UNIT_LEN, Next, Unit, UnitBuffer, UnitReader, Version, encode_as, error_code};
 use std::alloc::{AllocError, Global};
 use vrps::{Serial, VersionLog, VrpSet};
 
@@ -52,18 +53,19 @@ impl From<AllocError> for AnswerFault {
     }
 }
 
-/// A cache that has published this set alone, under this serial.
+/// A cache that has published this set alone, under this serial, and a session for each version of the protocol.
 pub(crate) fn cache_with(
     alloc: Global,
     session: u16,
+    session0: u16,
     serial: u32,
     set: VrpSet,
 ) -> Result<Cache<VersionLog>, AllocError>
-    ensures { IfOk result (λ cache. Starts (cache_of session serial set) cache) }
+    ensures { IfOk result (λ cache. Starts (cache_of session session0 serial set) cache) }
 {
     let _within_limit = set.len();
     let log = VersionLog::new(alloc, session, serial, 1)?;
-    let mut cache = Cache::new(alloc, log, Timing::default());
+    let mut cache = Cache::new_both(alloc, log, session0, Timing::default());
     let _published = cache.publish(set)?;
     Ok(cache)
 }
@@ -115,37 +117,38 @@ fn is_internal_error(unit: &Unit) -> bool
     }
 }
 
-/// Appends the line of a unit.
-fn push_line(lines: &mut String, unit: &Unit) -> Result<(), AllocError>
-    ensures { OnOk result (string_bytes lines.new ≡ string_bytes lines.old ++ line_of unit.now) }
+/// Appends the line of a unit of this version.
+fn push_line(lines: &mut String, version: Version, unit: &Unit) -> Result<(), AllocError>
+    requires { fits version unit.now ≡ true }
+    ensures { OnOk result (string_bytes lines.new ≡ string_bytes lines.old ++ line_of version unit.now) }
 {
     let mut buffer = UnitBuffer::new();
-    encode(unit, &mut buffer);
+    encode_as(version, unit, &mut buffer);
     push_hex(lines, buffer.as_slice())?;
     lines.push('\n')
 }
 
-/// The lines of the units with which the bytes begin. An Internal Error among them is want of memory at the cache.
-fn unit_lines(alloc: Global, bytes: &[u8]) -> Result<String, AllocError>
-    ensures { IfOk result (λ lines. HasLines bytes.now (string_bytes lines)) }
+/// The lines of the units of this version with which the bytes begin. An Internal Error among them is want of memory at the cache.
+fn unit_lines(alloc: Global, version: Version, bytes: &[u8]) -> Result<String, AllocError>
+    ensures { IfOk result (λ lines. HasLines version bytes.now (string_bytes lines)) }
 {
     let mut lines = String::new(alloc);
-    let mut reader = UnitReader::for_cache();
+    let mut reader = UnitReader::of_version(version);
     let mut rest = bytes;
     while let Next::Unit(unit) = reader.next(&mut rest) {
         if is_internal_error(&unit) {
             return Err(AllocError);
         }
-        push_line(&mut lines, &unit)?;
+        push_line(&mut lines, version, &unit)?;
     }
     Ok(lines)
 }
 
-/// Where the beginning of a unit stands with which the bytes end.
+/// Where the beginning of a unit stands with which the bytes end. They are of the version that the first header tells.
 fn cut_off(bytes: &[u8]) -> Option<usize>
     ensures { LeavesOff bytes.now result }
 {
-    let mut reader = UnitReader::for_cache();
+    let mut reader = UnitReader::of_version(Version::first(bytes));
     let mut rest = bytes;
     loop {
         let offset = bytes.len() - rest.len();
@@ -170,7 +173,7 @@ fn answers_of(
     let conn = cache.open()?;
     let mut replies = Vec::new(alloc);
     exchange(cache, conn, bytes, &mut replies)?;
-    let lines = unit_lines(alloc, replies.as_slice())?;
+    let lines = unit_lines(alloc, Version::first(bytes), replies.as_slice())?;
     let left = if cache.is_open(conn) {
         cut_off(bytes)
     } else {
@@ -179,16 +182,19 @@ fn answers_of(
     Ok(Answered { lines, left })
 }
 
-/// The answers, a unit a line, of a cache that has published this set alone, under this session and serial, to the bytes that come on a
-/// connection. They are given in hexadecimal. `BadHex`: they are not. `Memory`: memory was wanting, for an answer or for its lines.
+/// The answers, a unit a line, of a cache that has published this set alone, under this serial, to the bytes that come on a connection.
+/// Its session is `session` in version 1 of the protocol and `session0` in version 0; it answers in the version of the first header
+/// (RFC 8210 section 7). The bytes are given in hexadecimal. `BadHex`: they are not. `Memory`: memory was wanting, for an answer or for
+/// its lines.
 pub fn answer_lines(
     alloc: Global,
     session: u16,
+    session0: u16,
     serial: u32,
     set: VrpSet,
     hex: &str,
 ) -> Result<Answered, AnswerFault>
-    ensures ok { IfOk result (λ answered. (bytes : List ℕ) × (decode_of hex.now ≡ Ok bytes) × AnswersBytes (cache_of session serial set) bytes answered) }
+    ensures ok { IfOk result (λ answered. (bytes : List ℕ) × (decode_of hex.now ≡ Ok bytes) × AnswersBytes (cache_of session session0 serial set) bytes answered) }
     ensures bad_hex { IsErrOf result AnswerFault.BadHex → (bytes : List ℕ) → ¬ (decode_of hex.now ≡ Ok bytes) }
 {
     let bytes = match hex::decode(alloc, hex) {
@@ -196,6 +202,6 @@ pub fn answer_lines(
         Err(FromHexError::OutOfMemory) => return Err(AnswerFault::Memory),
         Err(_) => return Err(AnswerFault::BadHex),
     };
-    let mut cache = cache_with(alloc, session, serial, set)?;
+    let mut cache = cache_with(alloc, session, session0, serial, set)?;
     Ok(answers_of(alloc, &mut cache, bytes.as_slice())?)
 }

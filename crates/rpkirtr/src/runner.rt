@@ -18,14 +18,14 @@ use orders::{Order, WordsFault, read_words};
 use payload_lists::{ListFault, read_list, write_list};
 use payloads::{PayloadFault, decode_manifest, decode_roa};
 use points::Repository;
-use rtr_ends::{Fetched, StreamFault};
+use rtr_ends::{Cache, Fetched, StreamFault};
 use std::alloc::{AllocError, Global};
 use std::io::{BufWriter, ErrorKind, Write};
 use std::net::Net;
 use std::rt::Files;
 use std::{fs, io};
 use thiserror::Error;
-use vrps::VrpSet;
+use vrps::{VersionLog, VrpSet};
 
 /// Why a command did not end well. The text is what the program writes on standard error.
 #[derive(Debug, Drop, Error)]
@@ -134,10 +134,18 @@ fn run<R: Files + Net + AllocGlobal + Clone + Drop, O: Write, E: Write>(
         Order::Units { file } => units(rt, file, out),
         Order::Answer {
             session,
+            session0,
             serial,
             vrps,
             hex,
-        } => answer(rt, session, serial, vrps, hex, out),
+        } => {
+            let name = CacheName {
+                session,
+                session0,
+                serial,
+            };
+            answer(rt, name, vrps, hex, out)
+        }
         Order::Route {
             vrps,
             prefix,
@@ -146,10 +154,18 @@ fn run<R: Files + Net + AllocGlobal + Clone + Drop, O: Write, E: Write>(
         Order::Serve {
             port,
             session,
+            session0,
             start,
             vrps,
             connections,
-        } => serve(rt, port, (session, start), vrps, connections, out),
+        } => {
+            let name = CacheName {
+                session,
+                session0,
+                serial: start,
+            };
+            serve(rt, port, name, vrps, connections, out)
+        }
         Order::Fetch { port } => fetch(rt, port, out),
         Order::Loop {
             session,
@@ -157,7 +173,14 @@ fn run<R: Files + Net + AllocGlobal + Clone + Drop, O: Write, E: Write>(
             vrps,
             prefix,
             origin,
-        } => both_ends(rt, (session, start), vrps, (prefix, origin), out),
+        } => {
+            let name = CacheName {
+                session,
+                session0: session,
+                serial: start,
+            };
+            both_ends(rt, name, vrps, (prefix, origin), out)
+        }
         Order::World { file } => world(rt, file, out),
     }
 }
@@ -291,11 +314,25 @@ fn tell_end<O: Write>(end: UnitsEnd, out: &mut O) -> Result<u8, ProgramFault>
     }
 }
 
+/// What names the version that a cache has published: the session in version 1 of the protocol, that in version 0, and the serial.
+#[derive(Clone, Copy)]
+struct CacheName {
+    session: u16,
+    session0: u16,
+    serial: u32,
+}
+
+impl CacheName {
+    /// A cache that has published this set alone.
+    fn cache(self, alloc: Global, set: VrpSet) -> Result<Cache<VersionLog>, AllocError> {
+        cache_with(alloc, self.session, self.session0, self.serial, set)
+    }
+}
+
 /// The command `answer`: the answers of a cache whose one version is the list of the file `vrps`, to the bytes that `hex` spells.
 fn answer<R: Files + AllocGlobal, O: Write>(
     rt: &R,
-    session: u16,
-    serial: u32,
+    name: CacheName,
     vrps: &str,
     hex: &str,
     out: &mut O,
@@ -305,7 +342,14 @@ fn answer<R: Files + AllocGlobal, O: Write>(
     let Some(set) = read_set(rt, vrps)? else {
         return refuse("list", out);
     };
-    match answer_lines(rt.alloc(), session, serial, set, hex) {
+    match answer_lines(
+        rt.alloc(),
+        name.session,
+        name.session0,
+        name.serial,
+        set,
+        hex,
+    ) {
         Ok(answered) => tell_answers(&answered, out),
         Err(AnswerFault::BadHex) => refuse("hex", out),
         Err(AnswerFault::Memory) => Err(ProgramFault::Memory),
@@ -333,11 +377,11 @@ fn route<R: Files + AllocGlobal, O: Write>(
 }
 
 /// The command `serve`: serves so many connections on a port of this machine, by a cache that has published the list of the file `vrps`
-/// under the session and the serial of `name`. A connection that failed is served too, and gives the status.
+/// under `name`. A connection that failed is served too, and gives the status.
 fn serve<R: Files + Net + AllocGlobal, O: Write>(
     rt: &R,
     port: u16,
-    name: (u16, u32),
+    name: CacheName,
     vrps: &str,
     connections: u32,
     out: &mut O,
@@ -348,7 +392,7 @@ fn serve<R: Files + Net + AllocGlobal, O: Write>(
     let Some(set) = read_set(rt, vrps)? else {
         return refuse("list", out);
     };
-    let mut cache = cache_with(rt.alloc(), name.0, name.1, set)?;
+    let mut cache = name.cache(rt.alloc(), set)?;
     let first = serve_all(&listener, &mut cache, connections)?;
     writeln!(out, "served {connections}")?;
     match first {
@@ -368,10 +412,10 @@ fn fetch<R: Net + AllocGlobal, O: Write>(rt: &R, port: u16, out: &mut O) -> Resu
 }
 
 /// The command `loop`: both ends in this process over a connection of this machine. The cache has published the list of the file `vrps`
-/// under the session and the serial of `name`; what the router judges is the route of two words.
+/// under `name`; what the router judges is the route of two words.
 fn both_ends<R: Files + Net + AllocGlobal, O: Write>(
     rt: &R,
-    name: (u16, u32),
+    name: CacheName,
     vrps: &str,
     words: (&str, &str),
     out: &mut O,
@@ -385,7 +429,7 @@ fn both_ends<R: Files + Net + AllocGlobal, O: Write>(
     let Some(set) = read_set(rt, vrps)? else {
         return refuse("list", out);
     };
-    let mut cache = cache_with(rt.alloc(), name.0, name.1, set)?;
+    let mut cache = name.cache(rt.alloc(), set)?;
     let (router, fetched) = fetch_in_turns(rt.alloc(), &mut cache, near, far)?;
     if fetched != Fetched::Committed {
         return tell_fetched(rt.alloc(), &router, fetched, out);

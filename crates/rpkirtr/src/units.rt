@@ -5,7 +5,7 @@ ghost use Rattle.rpkirtr.specs.UnitLines.{TellsUnits, copy_text, report_line, un
 
 use crate::hexadecimal::print_hex;
 use prefixes::Vrp;
-use rtr_pdu::{Counted, ReadFault, Unit, read_unit};
+use rtr_pdu::{Counted, ReadFault, Unit, Version, read_unit_of};
 use std::io::{self, ErrorKind, Write};
 
 /// What follows the units with which an input begins.
@@ -75,20 +75,23 @@ pub fn print_unit<W: Write>(unit: &Unit, out: &mut W) -> io::Result<()>
                 "end-of-data {session} {serial} {refresh} {retry} {expire}"
             )
         }
+        Unit::EndOfData0 { session, serial } => writeln!(out, "end-of-data {session} {serial}"),
         Unit::CacheReset => writeln!(out, "cache-reset"),
         Unit::RouterKey(_) => writeln!(out, "router-key"),
         Unit::ErrorReport(report) => print_report(report.code(), report.copy(), out),
     }
 }
 
-/// Prints the units with which the bytes begin, a line each, as a cache reads them (RFC 8210 section 5), and tells what follows them.
+/// Prints the units with which the bytes begin, a line each, as a cache reads them (RFC 6810 section 5, RFC 8210 section 5), and tells
+/// what follows them. The first header tells the version of all; another version later is a fault.
 pub fn print_units<W: Write>(bytes: &[u8], out: &mut W) -> io::Result<UnitsEnd>
     ensures { IfOk result (λ end. TellsUnits bytes.now (W.contents out.old) (W.contents out.new) end) }
 {
+    let version = Version::first(bytes);
     let mut input = Counted::new(bytes);
     loop {
         let offset = bytes.len() - input.device().len();
-        match read_unit(&mut input) {
+        match read_unit_of(version, &mut input) {
             Ok(Some(unit)) => print_unit(&unit, out)?,
             Ok(None) => return Ok(UnitsEnd::Whole),
             Err(ReadFault::Fault(fault)) => {

@@ -1,7 +1,8 @@
 use Rattle.std.proofs.Common.{arith, subst, sym, [], List, ℕ}
+use Rattle.std.specs.Prelude.{string_bytes}
 use Rattle.rtr_ends.specs.CacheState.{without_conns}
 use Rattle.rtr_ends.specs.Timing.{default_intervals}
-use Rattle.rpkirtr.specs.Serves.{HasServed}
+use Rattle.rpkirtr.specs.Serves.{HasLines, HasServed}
 use Rattle.rpkirtr.proofs.Concluding.{answers_ended, answers_open}
 use Rattle.rpkirtr.proofs.Starting.{opens}
 use Rattle.rpkirtr.proofs.answering.answers_of.Goals as goal
@@ -20,7 +21,7 @@ returns c i s =
     subst (λ (x : List ℕ). HasServed i c.in_ok-conn.conn.0 [] x c.open.new.self) (sym c.new-replies.ensures.items)
     (opens i c.args.cache.now c.open.new.self c.in_ok-conn.conn.0 s (c.in_ok-conn.ensures (without_conns 1 default_intervals i) s.shows).1) in
     let x = c.in_ok-exchange.ensures i served in
-    let lines = c.in_ok-lines.ensures in
+    let lines = subst (λ v. HasLines v c.as_slice.result.now (string_bytes c.in_ok-lines.lines)) c.first.ensures c.in_ok-lines.ensures in
     elim c.if-is_open.branch [
       | then-is_open w ↦ answers_open i c.in_ok-conn.conn.0 c.args.bytes.now c.exchange.new.replies.items c.as_slice.result.now c.exchange.new.cache c.in_ok-lines.lines c.if-is_open.left _ c.is_open.result (λ k. omega (arith, c.type_inv.bytes k)) x c.as_slice.ensures.value lines c.is_open.ensures w.if-is_open.true w.cut_off-left.ensures w.left-is
       | else-is_open w ↦ answers_ended i c.in_ok-conn.conn.0 c.args.bytes.now c.exchange.new.replies.items c.as_slice.result.now c.exchange.new.cache c.in_ok-lines.lines c.if-is_open.left c.is_open.result (λ k. omega (arith, c.type_inv.bytes k)) x c.as_slice.ensures.value lines c.is_open.ensures w.if-is_open.false w.left-is

@@ -1,11 +1,12 @@
 use Rattle.std.proofs.Common.{◌≡◌, false, length, string_bytes}
+use Rattle.std.specs.Prelude.{Some}
 use Rattle.rtr_pdu.specs.Reader.{fresh}
 use Rattle.rpkirtr.proofs.SplitLines.{Lined, Read}
 use Rattle.rpkirtr.proofs.answering.unit_lines.Given as goal
 
 -- the units so far have their lines, and the reader holds nothing
 abbrev pub invariant-loop-unit : goal.invariant-loop-unit
-invariant-loop-unit l = (l.reader ≡ fresh false) × Read (Lined (string_bytes l.lines)) l.bytes l.rest
+invariant-loop-unit l = (l.reader ≡ fresh (Some l.version) false) × Read l.version (Lined l.version (string_bytes l.lines)) l.bytes l.rest
 
 abbrev pub decreases-loop-unit : goal.decreases-loop-unit
 decreases-loop-unit l = length l.rest
