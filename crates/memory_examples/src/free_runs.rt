@@ -8,7 +8,7 @@ use der_lite::Cursor;
 use payloads::{Roa, RoaEntry};
 use prefixes::{Asn, IpPrefix, Route};
 use rtr_ends::Router;
-use rtr_pdu::{Counted, Next, Unit, UnitReader, encode, read_unit, write_unit};
+use rtr_pdu::{Counted, Next, Unit, UnitReader, Version, encode, read_unit, write_unit};
 use std::alloc::Global;
 use std::test::Fail;
 use vrps::{OriginIndex, OriginState, Serial};
@@ -171,7 +171,7 @@ fn free_units(rt: HostRuntime) -> Result<(), Fail> {
     let unit = Unit::CacheResponse { session: 4660 };
     encode(&unit, &mut buffer);
     tell_bytes(&rt, buffer.as_slice())?;
-    let mut reader = UnitReader::for_router();
+    let mut reader = UnitReader::for_router(Version::V1);
     let mut piece = ANSWER;
     tell_whether(
         &rt,

@@ -1,6 +1,6 @@
 use crate::wire::{
-    ANSWER, Bytes, CACHE_RESET, END_0, END_5, END_6, END_7, RESET_QUERY, RESPONSE, SERIAL_QUERY,
-    UNCHANGED, V as V_UNIT, W as W_UNIT, all_of, bytes,
+    ANSWER, ANSWER_0, Bytes, CACHE_RESET, END_0, END_5, END_6, END_7, RESET_QUERY, RESPONSE,
+    SERIAL_QUERY, UNCHANGED, V as V_UNIT, V_0 as V_UNIT_0, W as W_UNIT, all_of, bytes,
 };
 use prefixes::{Asn, IpPrefix, Prefix, V4, Vrp};
 use rtr_ends::laws::each_has_room;
@@ -168,28 +168,124 @@ fn two_queries_in_one_piece(rt: HostRuntime) -> Result<(), Fail> {
 #[test]
 fn another_version_is_reported(rt: HostRuntime) -> Result<(), Fail> {
     let alloc = rt.alloc();
+    let query_0 = "00 02 0000 00000008";
     let rows = [
         (
-            false,
-            "01 0a 0004 00000018 00000008 0002000000000008 00000000",
+            "",
+            "",
+            "02 02 0000 00000008",
+            "01 0a 0004 00000018 00000008 0202000000000008 00000000",
         ),
         (
-            true,
+            RESET_QUERY,
+            ANSWER,
+            query_0,
             "01 0a 0008 00000018 00000008 0002000000000008 00000000",
         ),
+        (
+            query_0,
+            ANSWER_0,
+            RESET_QUERY,
+            "00 0a 0004 00000018 00000008 0102000000000008 00000000",
+        ),
+        (
+            query_0,
+            ANSWER_0,
+            "02 02 0000 00000008",
+            "00 0a 0004 00000018 00000008 0202000000000008 00000000",
+        ),
     ];
-    for (agreed, report) in rows {
+    for (first, answer, other, report) in rows {
         let mut cache = cache_of(alloc, 5, 2, &[&[V]])?;
         let conn = cache.open()?;
-        if agreed {
-            hand(&mut cache, conn, RESET_QUERY);
-            expect_sent(&rt, &mut cache, conn, 64, &[ANSWER]);
-        }
-        assert!(rt; hand(&mut cache, conn, "00 02 0000 00000008") == 8);
+        hand(&mut cache, conn, first);
+        expect_sent(&rt, &mut cache, conn, 64, &[answer]);
+        assert!(rt; cache.is_open(conn));
+        assert!(rt; hand(&mut cache, conn, other) == 8);
         assert!(rt; !cache.is_open(conn));
         expect_sent(&rt, &mut cache, conn, 64, &[report]);
         assert!(rt; hand(&mut cache, conn, RESET_QUERY) == 0);
     }
+    Ok(())
+}
+
+/// A cache of session 0x1234 in version 1 and 0x0777 in version 0, whose one version, of serial 5, has v.
+fn cache_of_both(alloc: Global) -> Result<Cache<VersionLog>, Fail> {
+    let log = VersionLog::new(alloc, 0x1234, 5, 2)?;
+    let mut cache = Cache::new_both(alloc, log, 0x0777, Timing::default());
+    cache.publish(set_of(alloc, &[V])?)?;
+    Ok(cache)
+}
+
+#[test]
+fn each_version_has_a_session(rt: HostRuntime) -> Result<(), Fail> {
+    let alloc = rt.alloc();
+    let response = "00 03 0777 00000008";
+    let end = "00 07 0777 0000000c 00000005";
+    let rows: [(&str, &[&str], bool); 6] = [
+        ("00 02 0000 00000008", &[response, V_UNIT_0, end], true),
+        ("00 01 0777 0000000c 00000005", &[response, end], true),
+        (
+            "00 01 0777 0000000c 00000004",
+            &["00 08 0000 00000008"],
+            true,
+        ),
+        (
+            "00 01 1234 0000000c 00000005",
+            &["00 0a 0000 0000001c 0000000c 000112340000000c00000005 00000000"],
+            false,
+        ),
+        (SERIAL_QUERY, &[UNCHANGED], true),
+        (
+            "01 01 0777 0000000c 00000005",
+            &["01 0a 0000 0000001c 0000000c 010107770000000c00000005 00000000"],
+            false,
+        ),
+    ];
+    for (query, answer, goes_on) in rows {
+        for size in [1, 7, 64] {
+            let mut cache = cache_of_both(alloc)?;
+            let conn = cache.open()?;
+            hand(&mut cache, conn, query);
+            expect_sent(&rt, &mut cache, conn, size, answer);
+            assert!(rt; cache.is_open(conn) == goes_on);
+        }
+    }
+    Ok(())
+}
+
+#[test]
+fn a_connection_has_the_version_of_its_first_header(rt: HostRuntime) -> Result<(), Fail> {
+    let alloc = rt.alloc();
+    let mut cache = cache_of_both(alloc)?;
+    let old = cache.open()?;
+    let new = cache.open()?;
+    let notify = ["01 00 1234 0000000c 00000005"];
+    let notify_0 = ["00 00 0777 0000000c 00000005"];
+    // Before a header has come whole, and after it.
+    assert!(rt; cache.notify(old));
+    expect_sent(&rt, &mut cache, old, 64, &notify);
+    hand(&mut cache, old, "00 02 0000 000000");
+    assert!(rt; cache.notify(old));
+    expect_sent(&rt, &mut cache, old, 64, &notify);
+    hand(&mut cache, old, "08");
+    hand(&mut cache, new, RESET_QUERY);
+    let answer_0 = [
+        "00 03 0777 00000008",
+        V_UNIT_0,
+        "00 07 0777 0000000c 00000005",
+    ];
+    expect_sent(&rt, &mut cache, old, 64, &answer_0);
+    expect_sent(&rt, &mut cache, new, 64, &[ANSWER]);
+    assert!(rt; cache.notify(old));
+    assert!(rt; cache.notify(new));
+    expect_sent(&rt, &mut cache, old, 64, &notify_0);
+    expect_sent(&rt, &mut cache, new, 64, &notify);
+    // A connection that is opened anew has no version.
+    cache.close(old);
+    let again = cache.open()?;
+    hand(&mut cache, again, RESET_QUERY);
+    expect_sent(&rt, &mut cache, again, 64, &[ANSWER]);
     Ok(())
 }
 
@@ -210,8 +306,9 @@ fn routers_are_notified(rt: HostRuntime) -> Result<(), Fail> {
 type Row = (&'static str, &'static str, bool);
 
 const ROWS: &[Row] = &[
-    // A Reset Query, also with what is ignored.
+    // A Reset Query, also with what is ignored, and in version 0.
     (RESET_QUERY, ANSWER, true),
+    ("00 02 0000 00000008", ANSWER_0, true),
     ("01 02 ffff 00000008", ANSWER, true),
     // A Serial Query of the current serial, of a serial that is not known, and of another session.
     (SERIAL_QUERY, UNCHANGED, true),
@@ -239,8 +336,8 @@ const ROWS: &[Row] = &[
     ),
     // Faults of the version, the type, the length, a length over 4,096, a record and a report.
     (
-        "00 02 0000 00000008",
-        "01 0a 0004 00000018 00000008 0002000000000008 00000000",
+        "02 02 0000 00000008",
+        "01 0a 0004 00000018 00000008 0202000000000008 00000000",
         false,
     ),
     (

@@ -13,6 +13,8 @@ mod streams;
 #[cfg(test)]
 mod units;
 #[cfg(test)]
+mod units_v0;
+#[cfg(test)]
 mod wire;
 #[cfg(test)]
 mod worlds;

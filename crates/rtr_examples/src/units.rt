@@ -2,11 +2,13 @@ use crate::wire;
 use arrayvec::ArrayVec;
 use prefixes::{Asn, IpPrefix, Vrp};
 use rtr_pdu::{
-    Counted, Next, ReadFault, Unit, UnitFault, UnitReader, encode, read_all, read_unit, write_unit,
+    Counted, Next, ReadFault, Unit, UnitFault, UnitReader, Version, encode, encode_as, read_all,
+    read_unit, write_unit,
 };
 use std::alloc::{AllocError, Global};
 use std::io;
 use std::io::{Read, Write};
+use std::process::Abort;
 use std::test::Fail;
 
 const SERIAL_NOTIFY: [u8; 12] = [
@@ -41,55 +43,68 @@ const ERROR_REPORT: [u8; 24] = [
     0x00, 0x00, 0x00, 0x08, 0x00, 0x00, 0x00, 0x00,
 ];
 
-/// The bytes of these units.
-fn written(alloc: Global, units: &[Unit]) -> Result<Vec<u8>, AllocError> {
+/// The bytes of those of these units that there are in this version.
+fn written(alloc: Global, version: Version, units: &[Unit]) -> Result<Vec<u8>, AllocError> {
     let mut bytes = Vec::new(alloc);
     let mut buffer = ArrayVec::new();
     for unit in units {
-        encode(unit, &mut buffer);
-        bytes.extend_from_slice(buffer.as_slice())?;
+        if unit.fits(version) {
+            encode_as(version, unit, &mut buffer);
+            bytes.extend_from_slice(buffer.as_slice())?;
+        }
     }
     Ok(bytes)
 }
 
-/// Whether units are read from these bytes, cut at this place, that are written as the same bytes.
-fn comes_back(alloc: Global, bytes: &[u8], cut: usize) -> Result<bool, AllocError> {
+/// Whether units of this version are read from these bytes, cut at this place, that are written as the same bytes.
+fn comes_back(
+    alloc: Global,
+    version: Version,
+    bytes: &[u8],
+    cut: usize,
+) -> Result<bool, AllocError> {
     let (first, second) = bytes.split_at(cut.min(bytes.len()));
     let mut pieces = Vec::new(alloc);
     pieces.push(first.to_vec(alloc)?)?;
     pieces.push(second.to_vec(alloc)?)?;
-    let (units, fault) = read_all(alloc, false, pieces.as_slice())?;
-    let again = written(alloc, units.as_slice())?;
+    let (units, fault) = read_all(alloc, None, pieces.as_slice())?;
+    let again = written(alloc, version, units.as_slice())?;
     Ok(fault.is_none() && again.as_slice() == bytes)
 }
 
 /// The same for the bytes one by one.
-fn comes_back_by_bytes(alloc: Global, bytes: &[u8]) -> Result<bool, AllocError> {
+fn comes_back_by_bytes(alloc: Global, version: Version, bytes: &[u8]) -> Result<bool, AllocError> {
     let mut pieces = Vec::new(alloc);
     for byte in bytes {
         pieces.push([*byte].to_vec(alloc)?)?;
     }
-    let (units, fault) = read_all(alloc, false, pieces.as_slice())?;
-    let again = written(alloc, units.as_slice())?;
+    let (units, fault) = read_all(alloc, None, pieces.as_slice())?;
+    let again = written(alloc, version, units.as_slice())?;
     Ok(fault.is_none() && again.as_slice() == bytes)
 }
 
 /// Whether they come back in every cutting into two pieces, and byte by byte.
-fn always_comes_back(alloc: Global, bytes: &[u8]) -> Result<bool, AllocError> {
+pub(crate) fn always_comes_back(
+    alloc: Global,
+    version: Version,
+    bytes: &[u8],
+) -> Result<bool, AllocError> {
     for cut in 0..bytes.len() {
-        if !comes_back(alloc, bytes, cut)? {
+        if !comes_back(alloc, version, bytes, cut)? {
             return Ok(false);
         }
     }
-    comes_back_by_bytes(alloc, bytes)
+    comes_back_by_bytes(alloc, version, bytes)
 }
 
-/// The fault of the first unit, how many bytes are held then, and how many are left.
-fn first_fault(router: bool, bytes: &[u8]) -> (Option<UnitFault>, usize, usize) {
-    let mut reader = if router {
-        UnitReader::for_router()
-    } else {
-        UnitReader::for_cache()
+/// The fault of the first unit, how many bytes are held then, and how many are left: at a router of this version, or at the cache.
+pub(crate) fn first_fault(
+    router: Option<Version>,
+    bytes: &[u8],
+) -> (Option<UnitFault>, usize, usize) {
+    let mut reader = match router {
+        Some(version) => UnitReader::for_router(version),
+        None => UnitReader::for_cache(),
     };
     let mut piece = bytes;
     let fault = match reader.next(&mut piece) {
@@ -102,13 +117,13 @@ fn first_fault(router: bool, bytes: &[u8]) -> (Option<UnitFault>, usize, usize) 
 
 #[test]
 fn units_in_every_cutting(rt: HostRuntime) -> Result<(), Fail> {
-    assert!(rt; always_comes_back(rt.alloc(), &SERIAL_NOTIFY)?);
-    assert!(rt; always_comes_back(rt.alloc(), &SERIAL_QUERY)?);
-    assert!(rt; always_comes_back(rt.alloc(), &RESET_QUERY)?);
-    assert!(rt; always_comes_back(rt.alloc(), &ANSWER)?);
-    assert!(rt; always_comes_back(rt.alloc(), &ANNOUNCEMENT)?);
-    assert!(rt; always_comes_back(rt.alloc(), &CACHE_RESET)?);
-    assert!(rt; always_comes_back(rt.alloc(), &ERROR_REPORT)?);
+    assert!(rt; always_comes_back(rt.alloc(), Version::V1, &SERIAL_NOTIFY)?);
+    assert!(rt; always_comes_back(rt.alloc(), Version::V1, &SERIAL_QUERY)?);
+    assert!(rt; always_comes_back(rt.alloc(), Version::V1, &RESET_QUERY)?);
+    assert!(rt; always_comes_back(rt.alloc(), Version::V1, &ANSWER)?);
+    assert!(rt; always_comes_back(rt.alloc(), Version::V1, &ANNOUNCEMENT)?);
+    assert!(rt; always_comes_back(rt.alloc(), Version::V1, &CACHE_RESET)?);
+    assert!(rt; always_comes_back(rt.alloc(), Version::V1, &ERROR_REPORT)?);
     Ok(())
 }
 
@@ -129,7 +144,7 @@ fn longest_units(rt: HostRuntime) -> Result<(), Fail> {
             unit[i] = head[i];
         }
         for cut in [0, 7, 8, 9, 4095, 4096usize] {
-            assert!(rt; comes_back(rt.alloc(), unit.as_slice(), cut)?);
+            assert!(rt; comes_back(rt.alloc(), Version::V1, unit.as_slice(), cut)?);
         }
     }
     Ok(())
@@ -138,25 +153,25 @@ fn longest_units(rt: HostRuntime) -> Result<(), Fail> {
 #[test]
 fn faults(rt: HostRuntime) {
     let version = [0x00, 0x02, 0x00, 0x00, 0x00, 0x00, 0x00, 0x08];
-    assert!(rt; first_fault(true, &version) == (Some(UnitFault::Version), 8, 0));
+    assert!(rt; first_fault(Some(Version::V1), &version) == (Some(UnitFault::Version), 8, 0));
     let kind = [0x01, 0x05, 0x00, 0x00, 0x00, 0x00, 0x00, 0x08, 0x01];
-    assert!(rt; first_fault(false, &kind) == (Some(UnitFault::Type), 8, 1));
+    assert!(rt; first_fault(None, &kind) == (Some(UnitFault::Type), 8, 1));
     let length = [0x01, 0x04, 0x00, 0x00, 0xff, 0xff, 0xff, 0xff, 0x01];
-    assert!(rt; first_fault(false, &length) == (Some(UnitFault::Length), 8, 1));
+    assert!(rt; first_fault(None, &length) == (Some(UnitFault::Length), 8, 1));
     let long = [0x01, 0x09, 0x00, 0x00, 0xff, 0xff, 0xff, 0xff, 0x01, 0x01];
-    assert!(rt; first_fault(false, &long) == (Some(UnitFault::TooLong), 8, 2));
+    assert!(rt; first_fault(None, &long) == (Some(UnitFault::TooLong), 8, 2));
     let record = [
         0x01, 0x04, 0x00, 0x00, 0x00, 0x00, 0x00, 0x14, 0x01, 0x18, 0x17, 0x00, 0xc0, 0x00, 0x02,
         0x00, 0x00, 0x00, 0xfb, 0xf0, 0x01,
     ];
-    assert!(rt; first_fault(false, &record) == (Some(UnitFault::Record), 20, 1));
+    assert!(rt; first_fault(None, &record) == (Some(UnitFault::Record), 20, 1));
     let report = [
         0x01, 0x0a, 0x00, 0x00, 0x00, 0x00, 0x00, 0x10, 0x00, 0x00, 0x00, 0x01, 0x00, 0x00, 0x00,
         0x00,
     ];
-    assert!(rt; first_fault(false, &report) == (Some(UnitFault::ErrorReport), 16, 0));
-    assert!(rt; first_fault(false, &[0x01, 0x02]) == (Some(UnitFault::Truncated), 2, 0));
-    assert!(rt; first_fault(false, &[]) == (None, 0, 0));
+    assert!(rt; first_fault(None, &report) == (Some(UnitFault::ErrorReport), 16, 0));
+    assert!(rt; first_fault(None, &[0x01, 0x02]) == (Some(UnitFault::Truncated), 2, 0));
+    assert!(rt; first_fault(None, &[]) == (None, 0, 0));
     assert!(rt; UnitFault::Truncated.number() == 7);
 }
 
@@ -168,9 +183,10 @@ fn reserved_bits(rt: HostRuntime) -> Result<(), Fail> {
     unit[11] = 0xff;
     let mut pieces = Vec::new(rt.alloc());
     pieces.push(unit.as_slice().to_vec(rt.alloc())?)?;
-    let (units, fault) = read_all(rt.alloc(), false, pieces.as_slice())?;
+    let (units, fault) = read_all(rt.alloc(), None, pieces.as_slice())?;
     assert!(rt; fault == None);
-    assert!(rt; written(rt.alloc(), units.as_slice())?.as_slice() == ANNOUNCEMENT.as_slice());
+    let again = written(rt.alloc(), Version::V1, units.as_slice())?;
+    assert!(rt; again.as_slice() == ANNOUNCEMENT.as_slice());
     Ok(())
 }
 
@@ -190,7 +206,7 @@ fn a_fault_is_answered_again(rt: HostRuntime) {
 fn agreement_within_a_unit(rt: HostRuntime) {
     let mut notify = SERIAL_NOTIFY;
     notify[0] = 2;
-    let mut reader = UnitReader::for_router();
+    let mut reader = UnitReader::for_router(Version::V1);
     let (mut front, mut back) = notify.as_slice().split_at(9);
     assert!(rt; matches!(reader.next(&mut front), Next::NeedMore));
     reader.agreed();
@@ -247,13 +263,18 @@ impl Read for Broken {
 }
 
 /// The units of a reader in memory, as bytes, to its end or to a fault.
-fn read_apart(alloc: Global, bytes: &[u8]) -> Result<(Vec<u8>, Option<ReadFault>), AllocError> {
+fn read_apart<R: Abort>(
+    rt: &R,
+    alloc: Global,
+    bytes: &[u8],
+) -> Result<(Vec<u8>, Option<ReadFault>), AllocError> {
     let mut input = Counted::new(bytes);
     let mut again = Vec::new(alloc);
     let mut buffer = ArrayVec::new();
     for _ in 0..9 {
         match read_unit(&mut input) {
             Ok(Some(unit)) => {
+                assert!(rt; unit.fits(Version::V1));
                 encode(&unit, &mut buffer);
                 again.extend_from_slice(buffer.as_slice())?;
             }
@@ -266,10 +287,10 @@ fn read_apart(alloc: Global, bytes: &[u8]) -> Result<(Vec<u8>, Option<ReadFault>
 
 #[test]
 fn units_from_a_reader(rt: HostRuntime) -> Result<(), Fail> {
-    let (again, fault) = read_apart(rt.alloc(), &ANSWER)?;
+    let (again, fault) = read_apart(&rt, rt.alloc(), &ANSWER)?;
     assert!(rt; again.as_slice() == ANSWER.as_slice());
     assert!(rt; fault == None);
-    let (front, fault) = read_apart(rt.alloc(), &ANSWER[..51])?;
+    let (front, fault) = read_apart(&rt, rt.alloc(), &ANSWER[..51])?;
     assert!(rt; front.as_slice() == &ANSWER[..28]);
     assert!(rt; fault == Some(ReadFault::Fault(UnitFault::Truncated)));
     assert!(rt; ReadFault::Fault(UnitFault::Truncated).number() == 7);

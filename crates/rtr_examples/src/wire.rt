@@ -64,3 +64,10 @@ pub(crate) const UNCHANGED: &str =
     "01 03 1234 00000008 | 01 07 1234 00000018 00000005 00000e10 00000258 00001c20";
 
 pub(crate) const CACHE_RESET: &str = "01 08 0000 00000008";
+
+/// v in version 0, announced.
+pub(crate) const V_0: &str = "00 04 0000 00000014 01 18 18 00 c0000200 0000fbf0";
+
+/// The whole answer of that cache in version 0, in which its session is 4660 too.
+pub(crate) const ANSWER_0: &str =
+    "00 03 1234 00000008 | 00 04 0000 00000014 01 18 18 00 c0000200 0000fbf0 | 00 07 1234 0000000c 00000005";

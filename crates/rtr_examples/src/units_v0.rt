@@ -1,0 +1,447 @@
+use crate::units::{always_comes_back, first_fault};
+use crate::wire;
+use crate::wire::bytes;
+use arrayvec::ArrayVec;
+use prefixes::{Asn, IpPrefix, Vrp};
+use rtr_pdu::{
+    Counted, ErrorReport, Kind, Next, ReadFault, RouterKey, Unit, UnitFault, UnitReader, Version,
+    encode_as, encode_prefix, read_all, read_unit_of,
+};
+use std::process::Abort;
+use std::test::Fail;
+
+const NOTIFY: &str = "00 00 0777 0000000c 00000005";
+
+/// The same in version 1, and in a version that there is not.
+const NOTIFY_1: &str = "01 00 0777 0000000c 00000005";
+
+const NOTIFY_2: &str = "02 00 0777 0000000c 00000005";
+
+const QUERY: &str = "00 01 0777 0000000c 00000005";
+
+const RESET_QUERY: &str = "00 02 0000 00000008";
+
+const RESPONSE: &str = "00 03 0777 00000008";
+
+/// 192.0.2.0/24 up to 24 of AS 64496, announced.
+const V: &str = "00 04 0000 00000014 01 18 18 00 c0000200 0000fbf0";
+
+/// 2001:db8::/32 up to 48 of AS 64496, withdrawn.
+const V6_WITHDRAWN: &str =
+    "00 06 0000 00000020 00 20 30 00 20010db8 00000000 00000000 00000000 0000fbf0";
+
+const END: &str = "00 07 0777 0000000c 00000005";
+
+const CACHE_RESET: &str = "00 08 0000 00000008";
+
+/// Code 0, Corrupt Data, to the Serial Query of another session.
+const REPORT: &str = "00 0a 0000 0000001c 0000000c 00 01 1234 0000000c 00000005 00000000";
+
+/// The units of an answer.
+const ANSWER: &str =
+    "00 03 0777 00000008 | 00 04 0000 00000014 01 18 18 00 c0000200 0000fbf0 | 00 07 0777 0000000c 00000005";
+
+/// The payload of `V`, and that of `V6_WITHDRAWN`.
+fn payloads() -> Result<(Vrp, Vrp), Fail> {
+    Ok((
+        Vrp::new(IpPrefix::parse("192.0.2.0/24")?, 24, Asn(64496))?,
+        Vrp::new(IpPrefix::parse("2001:db8::/32")?, 48, Asn(64496))?,
+    ))
+}
+
+/// An End of Data of version 1.
+fn end_of_version_1() -> Unit {
+    Unit::EndOfData {
+        session: 0x777,
+        serial: 5,
+        refresh: 3600,
+        retry: 600,
+        expire: 7200,
+    }
+}
+
+fn router_key() -> Unit {
+    Unit::RouterKey(RouterKey::new(true, [7; 20], 64496, &[1, 2]))
+}
+
+#[test]
+fn each_unit_is_written(rt: HostRuntime) -> Result<(), Fail> {
+    let (v, v6) = payloads()?;
+    let query = bytes("00 01 1234 0000000c 00000005");
+    assert!(rt; query.len() < 20);
+    let rows = [
+        (
+            Unit::SerialNotify {
+                session: 0x777,
+                serial: 5,
+            },
+            NOTIFY,
+        ),
+        (
+            Unit::SerialQuery {
+                session: 0x777,
+                serial: 5,
+            },
+            QUERY,
+        ),
+        (Unit::ResetQuery, RESET_QUERY),
+        (Unit::CacheResponse { session: 0x777 }, RESPONSE),
+        (
+            Unit::Prefix {
+                announce: true,
+                vrp: v,
+            },
+            V,
+        ),
+        (
+            Unit::Prefix {
+                announce: false,
+                vrp: v6,
+            },
+            V6_WITHDRAWN,
+        ),
+        (
+            Unit::EndOfData0 {
+                session: 0x777,
+                serial: 5,
+            },
+            END,
+        ),
+        (Unit::CacheReset, CACHE_RESET),
+        (
+            Unit::ErrorReport(ErrorReport::new(0, query.as_slice(), "")),
+            REPORT,
+        ),
+    ];
+    let mut buffer = ArrayVec::new();
+    for (unit, text) in &rows {
+        assert!(rt; unit.fits(Version::V0));
+        encode_as(Version::V0, unit, &mut buffer);
+        assert!(rt; buffer.as_slice() == bytes(text).as_slice(), "{text}");
+    }
+    encode_prefix(Version::V0, true, &v, &mut buffer);
+    assert!(rt; buffer.as_slice() == bytes(V).as_slice());
+    encode_prefix(Version::V1, true, &v, &mut buffer);
+    assert!(rt; buffer.as_slice() == bytes(wire::V).as_slice());
+    encode_as(Version::V1, &Unit::ResetQuery, &mut buffer);
+    assert!(rt; buffer.as_slice() == bytes(wire::RESET_QUERY).as_slice());
+    Ok(())
+}
+
+/// The unit with which these bytes begin, in version 0.
+fn first_of(text: &str) -> Option<Unit> {
+    let all = bytes(text);
+    let mut piece = all.as_slice();
+    match UnitReader::of_version(Version::V0).next(&mut piece) {
+        Next::Unit(unit) => Some(unit),
+        _ => None,
+    }
+}
+
+/// Whether these bytes are a unit of version 0 that is written so again.
+fn comes_back(text: &str) -> bool {
+    let mut buffer = ArrayVec::new();
+    match first_of(text) {
+        Some(unit) => {
+            if !unit.fits(Version::V0) {
+                return false;
+            }
+            encode_as(Version::V0, &unit, &mut buffer);
+            buffer.as_slice() == bytes(text).as_slice()
+        }
+        None => false,
+    }
+}
+
+#[test]
+fn each_unit_is_read(rt: HostRuntime) -> Result<(), Fail> {
+    let notify = first_of(NOTIFY);
+    assert!(rt;
+        matches!(
+            notify,
+            Some(Unit::SerialNotify {
+                session: 0x777,
+                serial: 5
+            })
+        )
+    );
+    let query = first_of(QUERY);
+    assert!(rt;
+        matches!(
+            query,
+            Some(Unit::SerialQuery {
+                session: 0x777,
+                serial: 5
+            })
+        )
+    );
+    assert!(rt; matches!(first_of(RESET_QUERY), Some(Unit::ResetQuery)));
+    let response = first_of(RESPONSE);
+    assert!(rt; matches!(response, Some(Unit::CacheResponse { session: 0x777 })));
+    assert!(rt; matches!(first_of(V), Some(Unit::Prefix { announce: true, .. })));
+    let withdrawn = first_of(V6_WITHDRAWN);
+    assert!(rt;
+        matches!(
+            withdrawn,
+            Some(Unit::Prefix {
+                announce: false,
+                ..
+            })
+        )
+    );
+    assert!(rt; comes_back(V) && comes_back(V6_WITHDRAWN));
+    let end = first_of(END);
+    assert!(rt;
+        matches!(
+            end,
+            Some(Unit::EndOfData0 {
+                session: 0x777,
+                serial: 5
+            })
+        )
+    );
+    assert!(rt; matches!(first_of(CACHE_RESET), Some(Unit::CacheReset)));
+    match first_of(REPORT) {
+        Some(Unit::ErrorReport(report)) => {
+            assert!(rt; report.code() == 0);
+            assert!(rt; report.copy() == bytes("00 01 1234 0000000c 00000005").as_slice());
+            assert!(rt; report.text().is_empty());
+        }
+        _ => return Err(Fail::from("report")),
+    }
+    Ok(())
+}
+
+#[test]
+fn units_in_every_cutting(rt: HostRuntime) -> Result<(), Fail> {
+    for units in [
+        wire::all_of(&[NOTIFY, QUERY, RESET_QUERY]),
+        bytes(ANSWER),
+        wire::all_of(&[RESPONSE, V, V6_WITHDRAWN, END, CACHE_RESET]),
+        wire::all_of(&[REPORT, END]),
+    ] {
+        assert!(rt; always_comes_back(rt.alloc(), Version::V0, units.as_slice())?);
+    }
+    Ok(())
+}
+
+#[test]
+fn units_that_fit_a_version(rt: HostRuntime) -> Result<(), Fail> {
+    let (v, _) = payloads()?;
+    for unit in [
+        Unit::SerialNotify {
+            session: 0,
+            serial: 0,
+        },
+        Unit::SerialQuery {
+            session: 0,
+            serial: 0,
+        },
+        Unit::ResetQuery,
+        Unit::CacheResponse { session: 0 },
+        Unit::Prefix {
+            announce: true,
+            vrp: v,
+        },
+        Unit::CacheReset,
+        Unit::ErrorReport(ErrorReport::new(0, &[], "")),
+    ] {
+        assert!(rt; unit.fits(Version::V0) && unit.fits(Version::V1));
+    }
+    for unit in [end_of_version_1(), router_key()] {
+        assert!(rt; !unit.fits(Version::V0) && unit.fits(Version::V1));
+    }
+    let end = Unit::EndOfData0 {
+        session: 0,
+        serial: 0,
+    };
+    assert!(rt; end.fits(Version::V0) && !end.fits(Version::V1));
+    Ok(())
+}
+
+#[test]
+fn types_of_a_version(rt: HostRuntime) {
+    let (old, new) = (Version::V0, Version::V1);
+    assert!(rt; old.number() == 0 && new.number() == 1);
+    assert!(rt; Kind::from_number(old, 9) == None);
+    assert!(rt; Kind::from_number(new, 9) == Some(Kind::RouterKey));
+    assert!(rt; Kind::from_number(old, 7) == Some(Kind::EndOfData));
+    assert!(rt; Kind::EndOfData.fixed_len(old) == 12 && Kind::EndOfData.fixed_len(new) == 24);
+    assert!(rt; Kind::EndOfData.may_have(old, 12) && !Kind::EndOfData.may_have(old, 24));
+    assert!(rt; Version::first(&[0]) == old && Version::first(&[1, 0]) == new);
+    assert!(rt; Version::first(&[2]) == new && Version::first(&[]) == new);
+}
+
+#[test]
+fn faults_of_each_version(rt: HostRuntime) {
+    let fault = |router, text: &str| first_fault(router, bytes(text).as_slice());
+    // A Router Key, an End of Data with intervals, and a type that there is in no version.
+    let key = "00 09 0100 00000022 07";
+    assert!(rt; fault(None, key) == (Some(UnitFault::Type), 8, 1));
+    let long_end = "00 07 0777 00000018 00";
+    assert!(rt; fault(None, long_end) == (Some(UnitFault::Length), 8, 1));
+    assert!(rt; fault(None, "00 05 0000 00000008") == (Some(UnitFault::Type), 8, 0));
+    assert!(rt; fault(Some(Version::V0), key) == (Some(UnitFault::Type), 8, 1));
+    assert!(rt; fault(Some(Version::V0), long_end) == (Some(UnitFault::Length), 8, 1));
+    // An End of Data without intervals in version 1.
+    let short_end = "01 07 0777 0000000c 00000005";
+    assert!(rt; fault(None, short_end) == (Some(UnitFault::Length), 8, 4));
+    assert!(rt; fault(Some(Version::V1), short_end) == (Some(UnitFault::Length), 8, 4));
+    // The other version, and one that there is not.
+    assert!(rt; fault(Some(Version::V0), RESPONSE) == (None, 0, 0));
+    assert!(rt; fault(Some(Version::V0), wire::RESPONSE) == (Some(UnitFault::Version), 8, 0));
+    assert!(rt; fault(Some(Version::V1), RESPONSE) == (Some(UnitFault::Version), 8, 0));
+    assert!(rt; fault(None, "02 02 0000 00000008") == (Some(UnitFault::Version), 8, 0));
+    assert!(rt; fault(None, "00 02 0000") == (Some(UnitFault::Truncated), 4, 0));
+}
+
+/// Checks how many units a cache reads of these, which fault follows them, and the version that is told then.
+fn expect_read<R: Abort>(
+    rt: &R,
+    text: &str,
+    units: usize,
+    fault: Option<UnitFault>,
+    version: Version,
+) {
+    let all = bytes(text);
+    let mut reader = UnitReader::for_cache();
+    let mut piece = all.as_slice();
+    for _ in 0..units {
+        assert!(rt; matches!(reader.next(&mut piece), Next::Unit(_)), "{text}");
+    }
+    let found = match reader.next(&mut piece) {
+        Next::Fault(fault) => Some(fault),
+        _ => None,
+    };
+    assert!(rt; found == fault && piece.is_empty(), "{text}");
+    assert!(rt; reader.version() == Some(version), "{text}");
+}
+
+#[test]
+fn the_first_header_tells_the_version_of_all(rt: HostRuntime) {
+    let fault = Some(UnitFault::Version);
+    let (old, new) = (Version::V0, Version::V1);
+    expect_read(&rt, ANSWER, 3, None, old);
+    expect_read(&rt, wire::ANSWER, 3, None, new);
+    expect_read(
+        &rt,
+        "00 02 0000 00000008 | 01 02 0000 00000008",
+        1,
+        fault,
+        old,
+    );
+    expect_read(
+        &rt,
+        "01 02 0000 00000008 | 00 02 0000 00000008",
+        1,
+        fault,
+        new,
+    );
+    expect_read(
+        &rt,
+        "00 02 0000 00000008 | 02 02 0000 00000008",
+        1,
+        fault,
+        old,
+    );
+    expect_read(&rt, "02 02 0000 00000008", 0, fault, new);
+}
+
+#[test]
+fn a_version_is_told_once_a_header_has_come(rt: HostRuntime) {
+    for (text, version) in [(NOTIFY, Version::V0), (wire::END_5, Version::V1)] {
+        let all = bytes(text);
+        let mut reader = UnitReader::for_cache();
+        for (at, byte) in all.as_slice().iter().enumerate() {
+            let told = if at < 8 { None } else { Some(version) };
+            assert!(rt;
+                reader.held().len() == at && reader.version() == told,
+                "{at}"
+            );
+            let one = [*byte];
+            let mut piece = one.as_slice();
+            let is_unit = matches!(reader.next(&mut piece), Next::Unit(_));
+            assert!(rt; is_unit == (at + 1 == all.len()), "{at}");
+        }
+        assert!(rt; reader.held().is_empty() && reader.version() == Some(version));
+    }
+    // Each other reader knows its version from the start.
+    assert!(rt; UnitReader::of_version(Version::V0).version() == Some(Version::V0));
+    assert!(rt; UnitReader::for_router(Version::V0).version() == Some(Version::V0));
+    assert!(rt; UnitReader::for_router(Version::V1).version() == Some(Version::V1));
+}
+
+#[test]
+fn notifies_before_agreement(rt: HostRuntime) -> Result<(), Fail> {
+    for version in [Version::V0, Version::V1] {
+        let mut reader = UnitReader::for_router(version);
+        for text in [NOTIFY, NOTIFY_1, NOTIFY_2] {
+            let notify = bytes(text);
+            let mut piece = notify.as_slice();
+            let read = reader.next(&mut piece);
+            let is_notify = matches!(
+                read,
+                Next::Unit(Unit::SerialNotify {
+                    session: 0x777,
+                    serial: 5
+                })
+            );
+            assert!(rt; is_notify && reader.version() == Some(version), "{text}");
+        }
+        reader.agreed();
+        let (same, other) = match version {
+            Version::V0 => (bytes(NOTIFY), bytes(NOTIFY_1)),
+            Version::V1 => (bytes(NOTIFY_1), bytes(NOTIFY)),
+        };
+        let mut piece = same.as_slice();
+        assert!(rt; matches!(reader.next(&mut piece), Next::Unit(_)));
+        let mut piece = other.as_slice();
+        assert!(rt; matches!(reader.next(&mut piece), Next::Fault(UnitFault::Version)));
+    }
+    // A router agrees at the first unit that is no Serial Notify.
+    for (units, count) in [
+        ([NOTIFY_1, NOTIFY_2, NOTIFY, RESPONSE, NOTIFY], 5),
+        ([NOTIFY_1, RESPONSE, NOTIFY, NOTIFY_1, END], 3),
+        ([RESPONSE, V, NOTIFY_2, END, END], 2),
+    ] {
+        let mut pieces = Vec::new(rt.alloc());
+        pieces.push(wire::all_of(&units).as_slice().to_vec(rt.alloc())?)?;
+        let (read, fault) = read_all(rt.alloc(), Some(Version::V0), pieces.as_slice())?;
+        assert!(rt; read.len() == count, "{count}");
+        assert!(rt; fault.is_none() == (count == 5), "{count}");
+        assert!(rt; count == 5 || fault == Some(UnitFault::Version), "{count}");
+    }
+    Ok(())
+}
+
+#[test]
+fn one_unit_of_a_version(rt: HostRuntime) {
+    let ends = wire::all_of(&[END, wire::END_5]);
+    let mut input = Counted::new(ends.as_slice());
+    let first = read_unit_of(Version::V0, &mut input);
+    assert!(rt;
+        matches!(
+            first,
+            Ok(Some(Unit::EndOfData0 {
+                session: 0x777,
+                serial: 5
+            }))
+        )
+    );
+    assert!(rt; input.device().len() == 24);
+    assert!(rt; (input.calls(), input.failures()) == (2, 0));
+    assert!(rt;
+        matches!(
+            read_unit_of(Version::V0, &mut input),
+            Err(ReadFault::Fault(UnitFault::Version))
+        )
+    );
+    assert!(rt; input.device().len() == 16);
+    let mut other = Counted::new(ends.as_slice());
+    assert!(rt;
+        matches!(
+            read_unit_of(Version::V1, &mut other),
+            Err(ReadFault::Fault(UnitFault::Version))
+        )
+    );
+}
