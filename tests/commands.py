@@ -13,7 +13,7 @@ import tempfile
 
 BAD = "rpkirtr: bad words\n"
 DEVICE = "rpkirtr: device failed\n"
-RESET = "0102000000000008"
+RESET, RESET_0 = "0102000000000008", "0002000000000008"
 QUERY = "010112340000000c00000005"
 
 # AS64496 and 192.0.2.0/24, as an entry, as a list, as an announcement, and in the answer to a Reset Query.
@@ -113,12 +113,57 @@ def each_unit():
 def faults_of_units():
     answers("01040000ffffffff", "010a0000000000180000000801040000ffffffff00000000\n")
     answers("0105000000000008", "010a00050000001800000008010500000000000800000000\n")
-    answers("0002000000000008", "010a00040000001800000008000200000000000800000000\n")
+    answers("0202000000000008", "010a00040000001800000008020200000000000800000000\n")
     # after a query that was answered the version is agreed on
-    answers(RESET + "0002000000000008", ANSWER + "010a00080000001800000008000200000000000800000000\n")
+    answers(RESET + RESET_0, ANSWER + "010a00080000001800000008000200000000000800000000\n")
     # a report holds as much of a unit as fits
     key = "0109010000001000" + "0" * 8176
     answers(key, "010a00030000100000000ff0" + key[: 2 * 4080] + "00000000\n")
+
+
+def version_0():
+    """A cache of session 4660 in version 1 and 1911 in version 0; without a session of its own, version 0 has that of version 1."""
+    both = "answer --session 4660 --session0 1911 --serial 5 --vrps v.json"
+    response, announcement, end = (it for it, _ in UNITS_0)
+    whole = f"{response}\n{announcement}\n{end}\n"
+    query = "000107770000000c00000005"
+    report = "000a00000000001c0000000c000112340000000c0000000500000000\n"
+    for came, output in (
+        (RESET_0, whole),
+        (query, f"{response}\n{end}\n"),
+        (RESET_0 + query, f"{whole}{response}\n{end}\n"),
+        ("000107770000000c00000004", "0008000000000008\n"),
+        ("000112340000000c00000005", report),
+        ("000112340000000c00000005" + RESET_0, report),
+        ("0202000000000008", "010a00040000001800000008020200000000000800000000\n"),
+        # version 1 has its own session
+        (RESET, ANSWER),
+        (QUERY, NO_CHANGE),
+        ("010107770000000c00000005", "010a00000000001c0000000c010107770000000c0000000500000000\n"),
+        # no other version behind the first header, no Router Key and no intervals in version 0
+        (RESET_0 + RESET, whole + "000a00040000001800000008010200000000000800000000\n"),
+        (RESET_0 + "0202000000000008", whole + "000a00040000001800000008020200000000000800000000\n"),
+        ("0009010000000020" + "01" * 20 + "0000fbf0", "000a00050000001800000008000901000000002000000000\n"),
+        ("0007077700000018", "000a00000000001800000008000707770000001800000000\n"),
+        (end, f"000a00030000001c0000000c{end}00000000\n"),
+        ("000a0002000000100000000000000000", ""),
+    ):
+        expect(f"{both} {came}", 0, output)
+    expect(f"{both} {RESET_0}0001", 1, whole + "refused 7 at 8\n")
+    expect(f"{both} 0001", 1, "refused 7 at 0\n")
+    answers(RESET_0, whole.replace("0777", "1234"))
+    expect(f"answer --serial 5 --session0=1911 --vrps v.json --session 4660 {RESET_0}", 0, whole)
+    expect(f"answer --session 1 --session0 0 --serial 5 --vrps v.json {RESET_0}", 0, whole.replace("0777", "0000"))
+    for word in ("65536", "x", "01", "-1", ""):
+        expect(["answer", "--session", "1", f"--session0={word}", "--serial", "5", "--vrps", "v.json", RESET_0], 2, "", BAD)
+    for options in ("--session0 1", "--session 1 --session0 2 --session0 3", "--session 1 --session0"):
+        expect(f"answer {options} --serial 5 --vrps v.json {RESET_0}", 2, "", BAD)
+    for other in (
+        "route --session0 1 --vrps v.json 192.0.2.0/24 1",
+        "fetch --session0 1 --port 1",
+        "loop --session0 1 --session 1 --start 1 --vrps v.json 192.0.2.0/24 1",
+    ):
+        expect(other, 2, "", BAD)
 
 
 def words():
@@ -377,6 +422,12 @@ UNITS = (
     ("010a00000000001c0000000c010112340000000c0000000500000000", f"error-report 0 {QUERY}\n"),
     ("010a0001000000100000000000000000", "error-report 1 -\n"),
 )
+# The units of an answer in version 0, whose End of Data tells no intervals.
+UNITS_0 = (
+    ("0003077700000008", "cache-response 1911\n"),
+    ("000400000000001401181800c00002000000fbf0", "announce 192.0.2.0/24 24 64496\n"),
+    ("000707770000000c00000005", "end-of-data 1911 5\n"),
+)
 
 
 def units():
@@ -387,10 +438,20 @@ def units():
         ("0103123400000008010200", 1, "cache-response 4660\nrefused 7 at 8\n"),
         ("01040000ffffffff", 1, "refused 3 at 0\n"),
         ("01031234000000080105000000000008", 1, "cache-response 4660\nrefused 2 at 8\n"),
-        ("0002000000000008", 1, "refused 1 at 0\n"),
+        ("0202000000000008", 1, "refused 1 at 0\n"),
         ("0109000000001001", 1, "refused 4 at 0\n"),
         ("010400000000001401181700c00002000000fbf0", 1, "refused 5 at 0\n"),
         ("010a0002000000110000000000000001ff", 1, "refused 6 at 0\n"),
+        # the first header tells the version of all
+        ("".join(it for it, _ in UNITS_0), 0, "".join(it for _, it in UNITS_0)),
+        ("000a00000000001c0000000c000112340000000c0000000500000000", 0, "error-report 0 000112340000000c00000005\n"),
+        ("00030777000000080103123400000008", 1, "cache-response 1911\nrefused 1 at 8\n"),
+        ("01031234000000080003077700000008", 1, "cache-response 4660\nrefused 1 at 8\n"),
+        ("00030777000000080203077700000008", 1, "cache-response 1911\nrefused 1 at 8\n"),
+        ("0009010000000020" + "01" * 20 + "0000fbf0", 1, "refused 2 at 0\n"),
+        ("0007077700000018", 1, "refused 3 at 0\n"),
+        ("010707770000000c00000005", 1, "refused 3 at 0\n"),
+        ("00030777000000080007", 1, "cache-response 1911\nrefused 7 at 8\n"),
     ):
         write("some.bin", bytes.fromhex(stream))
         expect("units some.bin", status, output)
@@ -597,7 +658,7 @@ if __name__ == "__main__":
     with tempfile.TemporaryDirectory() as folder:
         os.chdir(folder)
         for part in (
-            *(resets, refusals_of_bytes, each_unit, faults_of_units, words, roas, manifests, points, states_of_routes, order_of_refusals, lists, units),
+            *(resets, refusals_of_bytes, each_unit, faults_of_units, version_0, words, roas, manifests, points, states_of_routes, order_of_refusals, lists, units),
             *(full_outputs, every_cut, cuts, catch_ups, restarts_of_the_cache, restarts_of_a_router, several_routers, questions, notifies_and_ticks),
             *(refused_events, long_log, unreadable_beginnings, unreadable_lines, items_and_files),
         ):

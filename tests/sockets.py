@@ -78,6 +78,17 @@ def asks_once(peer):
     differs("the answer to a Reset Query", receive(peer, 1000), ANSWER)
 
 
+def asks_in_version_0(session):
+    def asks(peer):
+        peer.sendall(bytes.fromhex("0002000000000008"))
+        answer = bytes.fromhex(f"0003{session}00000008") + b"\0" + ANSWER[9:28] + bytes.fromhex(f"0007{session}0000000c00000005")
+        differs("the answer to a Reset Query of version 0", receive(peer, len(answer)), answer)
+        peer.sendall(RESET)
+        differs("the report on version 1", receive(peer, 1000), bytes.fromhex("000a00040000001800000008010200000000000800000000"))
+
+    return asks
+
+
 def waits_for_its_answers(peer):
     peer.sendall(RESET[:3])
     time.sleep(0.02)
@@ -131,11 +142,13 @@ def serves():
     served([hangs_up, asks_once], 3, errors=DEVICE)
     served([])
     served([asks_once])
+    served([asks_in_version_0("1234"), asks_once, asks_in_version_0("1234")])
+    served([asks_in_version_0("0777"), asks_once], extra=" --session0 1911")
     served([waits_for_its_answers, closes_within_a_unit, asks_twice_at_once, sends_what_no_router_sends, asks_once])
     expect("serve --port 0 --session 4660 --start 5 --vrps v.json --connections 0", 0, "served 0\n")
     expect("serve --port 0 --session 4660 --start 5 --vrps gone --connections 0", 3, "", DEVICE)
     expect("serve --port 0 --session 4660 --start 5 --vrps bad --connections 0", 1, "refused list\n")
-    for words in ("--port 65536 --session 1", "--port 0 --session 65536", "--port -1 --session 1", "--port 00 --session 1", "--session 1"):
+    for words in ("--port 65536 --session 1", "--port 0 --session 65536", "--port -1 --session 1", "--port 00 --session 1", "--session 1", "--port 0 --session 1 --session0 65536"):
         expect(f"serve {words} --start 5 --vrps v.json --connections 0", 2, "", BAD)
     expect("serve --port 0 --session 1 --start 4294967296 --vrps v.json --connections 0", 2, "", BAD)
     expect("serve --port 0 --session 1 --start 5 --vrps v.json --connections 4294967296", 2, "", BAD)
