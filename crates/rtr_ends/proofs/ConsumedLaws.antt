@@ -15,9 +15,9 @@ use Rattle.rtr_ends.specs.Cache.{is_none, finds_memory}
 use Rattle.rtr_ends.specs.Consumed.{units_read_in, fault_in, consumed, came, IsRouterCall, IsSplit, RouterSplits}
 use Rattle.rtr_ends.specs.Feeding.{feed, run}
 use Rattle.rtr_ends.specs.LinkRules.{Router, ask, emptied}
-use Rattle.rtr_ends.specs.Router.{Noted, Receiving, asks, asks_if, RouterCall, Connects, Receives, Pulls, Closes, AsksNow, Ticks, clocked, close, closed_at, connects_at, expired, played, receives, router_byte, router_pulled, router_stops, ticks_at, with_bytes}
+use Rattle.rtr_ends.specs.Router.{Noted, Receiving, asks, asks_if, RouterCall, Connects, Receives, Pulls, Closes, AsksNow, Ticks, Speaks, clocked, close, closed_at, connects_at, expired, played, receives, router_byte, router_pulled, router_stops, ticks_at, with_bytes}
 use Rattle.rtr_ends.specs.RouterLink.{Link, Closed, Idle, Asked, Answering, Ended, is_closed, is_due, is_idle, is_reading}
-use Rattle.rtr_ends.specs.Transcript.{choose, AskReset, AskSerial, Item, At, Opened, Asks, Shut, has_agreed, is_over, is_serial, later, retry_of, sum_of}
+use Rattle.rtr_ends.specs.Transcript.{choose, AskReset, AskSerial, Item, At, Opened, Asks, Shut, has_agreed, is_over, is_serial, later, of_version, retry_of, spoken, sum_of}
 use Rattle.rtr_ends.proofs.ByteLists.{none_bytes, bytes_front, drop_none, front_of}
 use Rattle.rtr_ends.proofs.FeedingLaws.{feed_takes}
 use Rattle.rtr_ends.proofs.KeptUnits.{Tells}
@@ -34,7 +34,7 @@ byte_comes : (m : Receiving) (b : ℕ) (items : List Item) (bytes : List ℕ) �
 unfolding router_byte
 byte_comes m b items bytes byte goes_on c =
     let parts = and_parts (is_reading m.router.link) (is_none m.router.out) (true_of_not (is_reading m.router.link && is_none m.router.out) goes_on) in
-    let n : Noted = with_bytes (finds_memory m.wanting) (m.router.held ++ b ∷ []) m.router (judge V1 (not m.router.agreed) (m.router.held ++ b ∷ [])) in
+    let n : Noted = with_bytes (finds_memory m.wanting) (m.router.held ++ b ∷ []) m.router (judge m.router.spoken (not m.router.agreed) (m.router.held ++ b ∷ [])) in
     subst (λ x. Comes n.router x (bytes ++ b ∷ [])) (sym (append_assoc n.items m.items items))
     (bytes_come (finds_memory m.wanting) b m.router (m.items ++ items) bytes byte parts.0 (none_is m.router.out parts.1) c.tells (c.live parts.0))
 
@@ -100,25 +100,26 @@ record Quiet (items later : List Item) : Type 0 where
   pub units : units_read_in later ≡ units_read_in items
   pub fault : fault_in later ≡ fault_in items
   pub agreed : has_agreed later ≡ has_agreed items
+  pub version : spoken later ≡ spoken items
 
 quiet_split : (items later : List Item) (bytes : List ℕ) → Quiet items later → Split items bytes → Split later bytes
-quiet_split items later bytes q s = (s.0, subst₂ (λ us f. Splits V1 true bytes us s.0 f) (sym q.units) (sym q.fault) s.1)
+quiet_split items later bytes q s = (s.0, subst (λ v. Splits v true bytes (units_read_in later) s.0 (fault_in later)) (sym q.version) (subst₂ (λ us f. Splits (spoken items) true bytes us s.0 f) (sym q.units) (sym q.fault) s.1))
 
 quiet_live : (r n : Router) (items later : List Item) (bytes : List ℕ) → Quiet items later → n.held ≡ r.held → Live r items bytes → Live n later bytes
 quiet_live r n items later bytes q held l = record {
   front = l.front;
   whole = l.whole ∙ ap (λ x. l.front ++ x) (sym held);
-  read = subst (λ us. AreRead V1 true us l.front) (sym q.units) l.read;
+  read = subst₂ (λ v us. AreRead v true us l.front) (sym q.version) (sym q.units) l.read;
   any_is = ap (any_after true) q.units ∙ l.any_is ∙ ap not (sym q.agreed);
   sound = q.fault ∙ l.sound;
-  partial = subst₂ (λ b x. IsPartial V1 (as_read V1 (not b) x)) (sym q.agreed) (sym held) l.partial;
+  partial = subst (λ v. IsPartial v (as_read v (not (has_agreed later)) n.held)) (sym q.version) (subst₂ (λ b x. IsPartial (spoken items) (as_read (spoken items) (not b) x)) (sym q.agreed) (sym held) l.partial);
   each = subst (λ x. AreBytes x) (sym held) l.each;
 }
 
 clocked_comes : (now : ℕ) (r : Router) (items : List Item) (bytes : List ℕ) → Comes r items bytes → Comes (clocked now r) (At now ∷ items) bytes
 clocked_comes now r items bytes c =
     let t = clocked_told now r in
-    let q : Quiet items (At now ∷ items) = record { units = refl; fault = refl; agreed = refl } in
+    let q : Quiet items (At now ∷ items) = record { units = refl; fault = refl; agreed = refl; version = refl } in
     record {
       tells = clocked_tells now r items c.tells;
       live = λ h. quiet_live r (clocked now r) items (At now ∷ items) bytes q t.held (c.live (t.reads h));
@@ -165,7 +166,7 @@ closed_comes now r items bytes c tells =
     record {
       tells = tells;
       live = λ h. absurd (reading_open (close (clocked now r)).link h shut.closed);
-      split = quiet_split (At now ∷ items) (Shut ∷ At now ∷ items) bytes (record { units = refl; fault = refl; agreed = refl }) k.split;
+      split = quiet_split (At now ∷ items) (Shut ∷ At now ∷ items) bytes (record { units = refl; fault = refl; agreed = refl; version = refl }) k.split;
       none_held = λ h. shut.held;
       none_out = λ h. shut.out;
     }
@@ -173,11 +174,11 @@ closed_comes now r items bytes c tells =
 asks_comes : (r : Router) (items : List Item) (bytes : List ℕ) (b : Bool) → (b ≡ true → is_idle r.link ≡ true) → Comes r items bytes → Tells (asks_if b r).router ((asks_if b r).items ++ items) → Comes (asks_if b r).router ((asks_if b r).items ++ items) bytes
 asks_comes r items bytes false idle c tells = record { tells = tells; live = c.live; split = c.split; none_held = c.none_held; none_out = c.none_out }
 asks_comes r items bytes true idle c tells =
-    let q : Quiet items (Asks (choose r.version r.mark) ∷ items) = record { units = refl; fault = refl; agreed = refl } in
+    let q : Quiet items (Asks (choose (of_version r.spoken r.version) r.mark) ∷ items) = record { units = refl; fault = refl; agreed = refl; version = refl } in
     record {
       tells = tells;
-      live = λ h. quiet_live r (ask r) items (Asks (choose r.version r.mark) ∷ items) bytes q refl (c.live (idle_reads r.link (idle refl)));
-      split = quiet_split items (Asks (choose r.version r.mark) ∷ items) bytes q c.split;
+      live = λ h. quiet_live r (ask r) items (Asks (choose (of_version r.spoken r.version) r.mark) ∷ items) bytes q refl (c.live (idle_reads r.link (idle refl)));
+      split = quiet_split items (Asks (choose (of_version r.spoken r.version) r.mark) ∷ items) bytes q c.split;
       none_held = λ h. false_true h;
       none_out = λ h. false_true h;
     }
@@ -187,20 +188,20 @@ unfolding connects_at
 connect_comes now r items bytes c tells =
     let k = clocked_comes now r items bytes c in
     let shut = closing_link (clocked now r) k.none_held k.none_out in
-    let later : List Item = Asks (choose (close (clocked now r)).version (close (clocked now r)).mark) ∷ Opened ∷ At now ∷ items in
-    let goes : Live (ask (close (clocked now r))) later [] = record {
+    let later : List Item = Asks (choose (of_version (close (clocked now r)).speaks (close (clocked now r)).version) (close (clocked now r)).mark) ∷ Opened (close (clocked now r)).speaks ∷ At now ∷ items in
+    let goes : Live (ask (record (close (clocked now r)) { spoken = (close (clocked now r)).speaks })) later [] = record {
       front = [];
       whole = sym shut.held;
       read = refl;
       any_is = refl;
       sound = refl;
-      partial = subst (λ x. IsPartial V1 (as_read V1 true x)) (sym shut.held) (partial_empty V1 true);
+      partial = subst (λ x. IsPartial (close (clocked now r)).speaks (as_read (close (clocked now r)).speaks true x)) (sym shut.held) (partial_empty (close (clocked now r)).speaks true);
       each = subst (λ x. AreBytes x) (sym shut.held) none_bytes;
     } in
     record {
       tells = tells;
       live = λ h. goes;
-      split = live_split (ask (close (clocked now r))) later [] goes;
+      split = live_split (ask (record (close (clocked now r)) { spoken = (close (clocked now r)).speaks })) later [] goes;
       none_held = λ h. false_true h;
       none_out = λ h. false_true h;
     }
@@ -228,10 +229,19 @@ called_comes (Pulls most) calls each c =
     same_bytes (record r { out = drop most r.out }) (played calls).items (came calls)
     (record {
       tells = called_tells (Pulls most) (played calls).router (played calls).items c.tells;
-      live = λ h. quiet_live (played calls).router (record r { out = drop most r.out }) (played calls).items (played calls).items (came calls) (record { units = refl; fault = refl; agreed = refl }) refl (c.live h);
+      live = λ h. quiet_live (played calls).router (record r { out = drop most r.out }) (played calls).items (played calls).items (came calls) (record { units = refl; fault = refl; agreed = refl; version = refl }) refl (c.live h);
       split = c.split;
       none_held = c.none_held;
       none_out = λ h. drop_none most r.out (c.none_out h);
+    })
+called_comes (Speaks version) calls each c =
+    same_bytes (record (played calls).router { speaks = version }) (played calls).items (came calls)
+    (record {
+      tells = called_tells (Speaks version) (played calls).router (played calls).items c.tells;
+      live = λ h. quiet_live (played calls).router (record (played calls).router { speaks = version }) (played calls).items (played calls).items (came calls) (record { units = refl; fault = refl; agreed = refl; version = refl }) refl (c.live h);
+      split = c.split;
+      none_held = c.none_held;
+      none_out = c.none_out;
     })
 called_comes (Closes now) calls each c =
     same_bytes (close (clocked now (played calls).router)) (Shut ∷ At now ∷ (played calls).items) (came calls)

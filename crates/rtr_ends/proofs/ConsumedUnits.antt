@@ -1,10 +1,9 @@
 -- The transcript of a router has the split of what it consumed, after each unit and fault.
 use Rattle.std.specs.Prelude.{◌≡◌, ℕ, ◌<◌, Bool, true, false, not, ◌&&◌, ◌==◌, List, [], ◌∷◌, ◌++◌, Option, Some, None, if◌then◌else◌, refl}
-use Rattle.std.proofs.Common.{sym, ap, ◌∙◌, subst, append_assoc}
+use Rattle.std.proofs.Common.{sym, ap, ◌∙◌, subst, subst₂, append_assoc}
 use Rattle.std.proofs.Math.Bool.{and-false, and-true}
 use Rattle.std.proofs.lemmas.List.{append-nil}
 use Rattle.vrps.specs.VrpSet.{VrpSet}
-use Rattle.rtr_pdu.specs.declared.version.Version.TheVariants.{V1}
 use Rattle.rtr_pdu.specs.Judging.{Judgement, Begins, Whole, Faulty, judge, unit_in}
 use Rattle.rtr_pdu.specs.Payloads.{AreBytes}
 use Rattle.rtr_pdu.specs.Stream.{AreRead, IsPartial, Shows, Splits, any_after, as_read, is_notify}
@@ -23,7 +22,7 @@ use Rattle.rtr_ends.specs.LinkRules.{Router, Staged, Stays, Wrong, Over, ask, co
 use Rattle.rtr_ends.specs.Router.{Noted, asked_by, lacks, reads, with_bytes}
 use Rattle.rtr_ends.specs.RouterLaws.{LinkTells}
 use Rattle.rtr_ends.specs.RouterLink.{Link, Closed, Idle, Asked, Answering, Ended, is_closed, is_reading}
-use Rattle.rtr_ends.specs.Transcript.{Question, AskReset, AskSerial, Item, Asks, Reads, Lacks, base_of, bounded, has_agreed, is_connected, is_serial, is_wrong, later, retry_of, sum_of}
+use Rattle.rtr_ends.specs.Transcript.{Question, AskReset, AskSerial, Item, Asks, Reads, Lacks, base_of, bounded, has_agreed, is_connected, is_serial, is_wrong, later, of_version, retry_of, spoken, sum_of}
 use Rattle.rtr_ends.proofs.ByteLists.{none_bytes, more_bytes}
 use Rattle.rtr_ends.proofs.KeptUnits.{Tells, bytes_add, connected}
 use Rattle.rtr_ends.proofs.TableLaws.{false_true}
@@ -32,14 +31,14 @@ use Rattle.rtr_ends.proofs.TableLaws.{false_true}
 pub record Live (r : Router) (items : List Item) (bytes : List ℕ) : Type 0 where
   pub front : List ℕ
   pub whole : bytes ≡ front ++ r.held
-  pub read : AreRead V1 true (units_read_in items) front
+  pub read : AreRead (spoken items) true (units_read_in items) front
   pub any_is : any_after true (units_read_in items) ≡ not (has_agreed items)
   pub sound : fault_in items ≡ None
-  pub partial : IsPartial V1 (as_read V1 (not (has_agreed items)) r.held)
+  pub partial : IsPartial (spoken items) (as_read (spoken items) (not (has_agreed items)) r.held)
   pub each : AreBytes r.held
 
 abbrev pub Split : List Item → List ℕ → Type 0
-Split items bytes = (rest : List ℕ) × Splits V1 true bytes (units_read_in items) rest (fault_in items)
+Split items bytes = (rest : List ℕ) × Splits (spoken items) true bytes (units_read_in items) rest (fault_in items)
 
 pub record Comes (r : Router) (items : List Item) (bytes : List ℕ) : Type 0 where
   pub tells : Tells r items
@@ -48,10 +47,10 @@ pub record Comes (r : Router) (items : List Item) (bytes : List ℕ) : Type 0 wh
   pub none_held : is_closed r.link ≡ true → r.held ≡ []
   pub none_out : is_closed r.link ≡ true → r.out ≡ []
 
-pub live_splits : (r : Router) (items : List Item) (bytes : List ℕ) → Live r items bytes → Splits V1 true bytes (units_read_in items) r.held (fault_in items)
+pub live_splits : (r : Router) (items : List Item) (bytes : List ℕ) → Live r items bytes → Splits (spoken items) true bytes (units_read_in items) r.held (fault_in items)
 live_splits r items bytes l =
-    subst (λ f. Splits V1 true bytes (units_read_in items) r.held f) (sym l.sound)
-    (record { front = l.front; whole = l.whole; read = l.read; after = subst (λ b. IsPartial V1 (as_read V1 b r.held)) (sym l.any_is) l.partial })
+    subst (λ f. Splits (spoken items) true bytes (units_read_in items) r.held f) (sym l.sound)
+    (record { front = l.front; whole = l.whole; read = l.read; after = subst (λ b. IsPartial (spoken items) (as_read (spoken items) b r.held)) (sym l.any_is) l.partial })
 
 pub live_split : (r : Router) (items : List Item) (bytes : List ℕ) → Live r items bytes → Split items bytes
 live_split r items bytes l = (r.held, live_splits r items bytes l)
@@ -81,7 +80,7 @@ closed_of (Asked q) agreed session table items c t = false_true c
 closed_of (Answering a) agreed session table items c t = false_true c
 
 -- A question that is noted leaves what does not look at questions.
-asked_leaves : {X : Type 0} (f : List Item → X) (l : Link) (out : List ℕ) (items : List Item) → ((q : Question) → f (Asks q ∷ items) ≡ f items) → f (asked_by l out ++ items) ≡ f items
+pub asked_leaves : {X : Type 0} (f : List Item → X) (l : Link) (out : List ℕ) (items : List Item) → ((q : Question) → f (Asks q ∷ items) ≡ f items) → f (asked_by l out ++ items) ≡ f items
 asked_leaves f (Asked q) (b ∷ out) items leaves = leaves q
 asked_leaves f (Asked q) [] items leaves = refl
 asked_leaves f Closed out items leaves = refl
@@ -102,61 +101,64 @@ agreed_more CacheReset items = and-false (not (has_agreed items))
 agreed_more (RouterKey key) items = and-false (not (has_agreed items))
 agreed_more (ErrorReport e) items = and-false (not (has_agreed items))
 
--- No unit changes what is held.
-if_held : (b : Bool) (r : Router) (x y : Router) → x.held ≡ r.held → y.held ≡ r.held → (if b then x else y).held ≡ r.held
+-- No unit changes what is held, and the version of the next connection.
+abbrev pub SameHand : Router → Router → Type 0
+SameHand r n = (n.held ≡ r.held) × (n.speaks ≡ r.speaks)
+
+if_held : (b : Bool) (r : Router) (x y : Router) → SameHand r x → SameHand r y → SameHand r (if b then x else y)
 if_held true r x y hx hy = hx
 if_held false r x y hx hy = hy
 
-staged_held : (u : Unit) (st : Staged) (r : Router) → (staged u st r).held ≡ r.held
-staged_held u (Stays a) r = refl
-staged_held u (Wrong code) r = refl
-staged_held u Over r = refl
+staged_held : (u : Unit) (st : Staged) (r : Router) → SameHand r (staged u st r)
+staged_held u (Stays a) r = (refl, refl)
+staged_held u (Wrong code) r = (refl, refl)
+staged_held u Over r = (refl, refl)
 
-told_held : (q : Question) (code : ℕ) (r : Router) → (told_off q code r).held ≡ r.held
+told_held : (q : Question) (code : ℕ) (r : Router) → SameHand r (told_off q code r)
 told_held q code r =
-    if_held (code == 2) r (record r { link = Idle; due = Some (sum_of r.now (retry_of r.version)); no_data = true }) (if code == 0 && is_serial (Some q) then ended_by code (emptied r) else ended_by code r) refl
-    (if_held (code == 0 && is_serial (Some q)) r (ended_by code (emptied r)) (ended_by code r) refl refl)
+    if_held (code == 2) r (record r { link = Idle; due = Some (sum_of r.now (retry_of r.version)); no_data = true }) (if code == 0 && is_serial (Some q) then ended_by code (emptied r) else ended_by code r) (refl, refl)
+    (if_held (code == 0 && is_serial (Some q)) r (ended_by code (emptied r)) (ended_by code r) (refl, refl) (refl, refl))
 
-unit_held : (l : Link) (u : Unit) (r : Router) → (on_unit l u r).held ≡ r.held
+pub unit_held : (l : Link) (u : Unit) (r : Router) → SameHand r (on_unit l u r)
 unfolding on_unit
-unit_held Closed u r = refl
-unit_held (Ended end) u r = refl
+unit_held Closed u r = (refl, refl)
+unit_held (Ended end) u r = (refl, refl)
 unit_held Idle (SerialNotify session serial) r =
-    if_held (is_strange r session) r (fails (SerialNotify session serial) r) (if is_news r.version serial then ask r else r) refl (if_held (is_news r.version serial) r (ask r) r refl refl)
-unit_held Idle (ErrorReport e) r = if_held (e.code == 2) r r (ended_by e.code r) refl refl
-unit_held Idle (SerialQuery session serial) r = refl
-unit_held Idle ResetQuery r = refl
-unit_held Idle (CacheResponse session) r = refl
-unit_held Idle (Prefix announce v) r = refl
-unit_held Idle (EndOfData session serial refresh retry expire) r = refl
-unit_held Idle (EndOfData0 session serial) r = refl
-unit_held Idle CacheReset r = refl
-unit_held Idle (RouterKey key) r = refl
-unit_held (Asked q) (SerialNotify session serial) r = if_held (is_strange r session) r (fails (SerialNotify session serial) r) r refl refl
+    if_held (is_strange r session) r (fails (SerialNotify session serial) r) (if is_news (of_version r.spoken r.version) serial then ask r else r) (refl, refl) (if_held (is_news (of_version r.spoken r.version) serial) r (ask r) r (refl, refl) (refl, refl))
+unit_held Idle (ErrorReport e) r = if_held (e.code == 2) r r (ended_by e.code r) (refl, refl) (refl, refl)
+unit_held Idle (SerialQuery session serial) r = (refl, refl)
+unit_held Idle ResetQuery r = (refl, refl)
+unit_held Idle (CacheResponse session) r = (refl, refl)
+unit_held Idle (Prefix announce v) r = (refl, refl)
+unit_held Idle (EndOfData session serial refresh retry expire) r = (refl, refl)
+unit_held Idle (EndOfData0 session serial) r = (refl, refl)
+unit_held Idle CacheReset r = (refl, refl)
+unit_held Idle (RouterKey key) r = (refl, refl)
+unit_held (Asked q) (SerialNotify session serial) r = if_held (is_strange r session) r (fails (SerialNotify session serial) r) r (refl, refl) (refl, refl)
 unit_held (Asked q) (CacheResponse session) r =
-    if_held (is_wrong (Some q) r.version session) r (fails (CacheResponse session) r)
-    (record r { agreed = true; session = Some session; link = Answering (record { question = q; session = session; withdrawn = []; announced = [] }) }) refl refl
-unit_held (Asked (AskSerial session serial)) CacheReset r = refl
-unit_held (Asked AskReset) CacheReset r = refl
+    if_held (is_wrong (Some q) (of_version r.spoken r.version) session) r (fails (CacheResponse session) r)
+    (record r { agreed = true; session = Some session; link = Answering (record { question = q; session = session; withdrawn = []; announced = [] }) }) (refl, refl) (refl, refl)
+unit_held (Asked (AskSerial session serial)) CacheReset r = (refl, refl)
+unit_held (Asked AskReset) CacheReset r = (refl, refl)
 unit_held (Asked q) (ErrorReport e) r = told_held q e.code (record r { agreed = true })
-unit_held (Asked q) (SerialQuery session serial) r = refl
-unit_held (Asked q) ResetQuery r = refl
-unit_held (Asked q) (Prefix announce v) r = refl
-unit_held (Asked q) (EndOfData session serial refresh retry expire) r = refl
-unit_held (Asked q) (EndOfData0 session serial) r = refl
-unit_held (Asked q) (RouterKey key) r = refl
-unit_held (Answering a) (SerialNotify session serial) r = if_held (is_strange r session) r (fails (SerialNotify session serial) r) r refl refl
+unit_held (Asked q) (SerialQuery session serial) r = (refl, refl)
+unit_held (Asked q) ResetQuery r = (refl, refl)
+unit_held (Asked q) (Prefix announce v) r = (refl, refl)
+unit_held (Asked q) (EndOfData session serial refresh retry expire) r = (refl, refl)
+unit_held (Asked q) (EndOfData0 session serial) r = (refl, refl)
+unit_held (Asked q) (RouterKey key) r = (refl, refl)
+unit_held (Answering a) (SerialNotify session serial) r = if_held (is_strange r session) r (fails (SerialNotify session serial) r) r (refl, refl) (refl, refl)
 unit_held (Answering a) (Prefix announce v) r = staged_held (Prefix announce v) (stage (base_of a.question r.table) a announce v) r
-unit_held (Answering a) (RouterKey key) r = refl
+unit_held (Answering a) (RouterKey key) r = (refl, refl)
 unit_held (Answering a) (EndOfData session serial refresh retry expire) r =
-    if_held (session == a.session) r (commit a (record { session = session; serial = serial; moment = r.now; intervals = bounded refresh retry expire }) r) (fails (EndOfData session serial refresh retry expire) r) refl refl
+    if_held (session == a.session) r (commit a (record { version = r.spoken; session = session; serial = serial; moment = r.now; intervals = bounded refresh retry expire }) r) (fails (EndOfData session serial refresh retry expire) r) (refl, refl) (refl, refl)
 unit_held (Answering a) (EndOfData0 session serial) r =
-    if_held (session == a.session) r (commit a (record { session = session; serial = serial; moment = r.now; intervals = default_intervals }) r) (fails (EndOfData0 session serial) r) refl refl
+    if_held (session == a.session) r (commit a (record { version = r.spoken; session = session; serial = serial; moment = r.now; intervals = default_intervals }) r) (fails (EndOfData0 session serial) r) (refl, refl) (refl, refl)
 unit_held (Answering a) (ErrorReport e) r = told_held a.question e.code r
-unit_held (Answering a) (CacheResponse session) r = refl
-unit_held (Answering a) (SerialQuery session serial) r = refl
-unit_held (Answering a) ResetQuery r = refl
-unit_held (Answering a) CacheReset r = refl
+unit_held (Answering a) (CacheResponse session) r = (refl, refl)
+unit_held (Answering a) (SerialQuery session serial) r = (refl, refl)
+unit_held (Answering a) ResetQuery r = (refl, refl)
+unit_held (Answering a) CacheReset r = (refl, refl)
 
 -- a list and one byte more
 more_whole : (bytes front held : List ℕ) (b : ℕ) → bytes ≡ front ++ held → bytes ++ b ∷ [] ≡ front ++ (held ++ b ∷ [])
@@ -164,27 +166,32 @@ more_whole bytes front held b e = ap (λ x. x ++ b ∷ []) e ∙ append_assoc fr
 
 -- These bytes were read as a unit, or memory for it was wanting.
 record UnitRead (u : Unit) (items : List Item) (bytes : List ℕ) : Type 0 where
-  pub read : AreRead V1 true (units_read_in items ++ u ∷ []) bytes
+  pub read : AreRead (spoken items) true (units_read_in items ++ u ∷ []) bytes
   pub sound : fault_in items ≡ None
 
+-- What was read is so by a transcript of the same version.
+later_read : (u : Unit) (items later : List Item) (bytes : List ℕ) → units_read_in later ≡ units_read_in items ++ u ∷ [] → spoken later ≡ spoken items → AreRead (spoken items) true (units_read_in items ++ u ∷ []) bytes
+    → AreRead (spoken later) true (units_read_in later) bytes
+later_read u items later bytes us vs read = subst₂ (λ v x. AreRead v true x bytes) (sym vs) (sym us) read
+
 -- Nothing follows it yet.
-unit_split : (u : Unit) (items later : List Item) (bytes : List ℕ) → UnitRead u items bytes → units_read_in later ≡ units_read_in items ++ u ∷ [] → fault_in later ≡ fault_in items → Split later bytes
-unit_split u items later bytes h us fs = (
+unit_split : (u : Unit) (items later : List Item) (bytes : List ℕ) → UnitRead u items bytes → units_read_in later ≡ units_read_in items ++ u ∷ [] → fault_in later ≡ fault_in items → spoken later ≡ spoken items → Split later bytes
+unit_split u items later bytes h us fs vs = (
   [],
-  subst (λ f. Splits V1 true bytes (units_read_in later) [] f) (sym (fs ∙ h.sound))
-      (record { front = bytes; whole = sym (append-nil bytes); read = subst (λ x. AreRead V1 true x bytes) (sym us) h.read; after = partial_empty V1 (any_after true (units_read_in later)) }),
+  subst (λ f. Splits (spoken later) true bytes (units_read_in later) [] f) (sym (fs ∙ h.sound))
+      (record { front = bytes; whole = sym (append-nil bytes); read = later_read u items later bytes us vs h.read; after = partial_empty (spoken later) (any_after true (units_read_in later)) }),
 )
 
 -- the router after a unit
 read_live : (r n : Router) (u : Unit) (items later : List Item) (bytes : List ℕ) → n.held ≡ [] → UnitRead u items bytes → any_after true (units_read_in items) ≡ not (has_agreed items)
-    → units_read_in later ≡ units_read_in items ++ u ∷ [] → fault_in later ≡ fault_in items → has_agreed later ≡ has_agreed (Reads u ∷ items) → Live n later bytes
-read_live r n u items later bytes none h any us fs agreed = record {
+    → units_read_in later ≡ units_read_in items ++ u ∷ [] → fault_in later ≡ fault_in items → has_agreed later ≡ has_agreed (Reads u ∷ items) → spoken later ≡ spoken items → Live n later bytes
+read_live r n u items later bytes none h any us fs agreed vs = record {
   front = bytes;
   whole = sym (append-nil bytes) ∙ ap (λ x. bytes ++ x) (sym none);
-  read = subst (λ x. AreRead V1 true x bytes) (sym us) h.read;
+  read = later_read u items later bytes us vs h.read;
   any_is = ap (any_after true) us ∙ any_after-push true (units_read_in items) u ∙ ap (λ b. b && is_notify u) any ∙ agreed_more u items ∙ ap not (sym agreed);
   sound = fs ∙ h.sound;
-  partial = subst (λ x. IsPartial V1 (as_read V1 (not (has_agreed later)) x)) (sym none) (partial_empty V1 (not (has_agreed later)));
+  partial = subst (λ x. IsPartial (spoken later) (as_read (spoken later) (not (has_agreed later)) x)) (sym none) (partial_empty (spoken later) (not (has_agreed later)));
   each = subst (λ x. AreBytes x) (sym none) none_bytes;
 }
 
@@ -192,8 +199,8 @@ reads_come : (r : Router) (u : Unit) (items : List Item) (bytes : List ℕ) → 
     → Tells (reads u r).router ((reads u r).items ++ items) → Comes (reads u r).router ((reads u r).items ++ items) bytes
 reads_come r u items bytes none live before h any tells = record {
   tells = tells;
-  live = λ goes_on. read_live r n u items later bytes n_held h any us fs agreed;
-  split = unit_split u items later bytes h us fs;
+  live = λ goes_on. read_live r n u items later bytes n_held h any us fs agreed vs;
+  split = unit_split u items later bytes h us fs vs;
   none_held = λ c. n_held;
   none_out = λ c. absurd (not_both (is_connected later) goes (closed_of n.link n.agreed n.session n.table later c tells.link));
 }
@@ -208,7 +215,7 @@ reads_come r u items bytes none live before h any tells = record {
     later_is = append_assoc (asked_by n.link n.out) (Reads u ∷ []) items
 
     n_held : n.held ≡ []
-    n_held = unit_held r.link u r ∙ none
+    n_held = (unit_held r.link u r).0 ∙ none
 
     us : units_read_in later ≡ units_read_in items ++ u ∷ []
     us = ap units_read_in later_is ∙ asked_leaves units_read_in n.link n.out (Reads u ∷ items) (λ q. refl)
@@ -219,6 +226,9 @@ reads_come r u items bytes none live before h any tells = record {
     agreed : has_agreed later ≡ has_agreed (Reads u ∷ items)
     agreed = ap has_agreed later_is ∙ asked_leaves has_agreed n.link n.out (Reads u ∷ items) (λ q. refl)
 
+    vs : spoken later ≡ spoken items
+    vs = ap spoken later_is ∙ asked_leaves spoken n.link n.out (Reads u ∷ items) (λ q. refl)
+
     goes : is_connected later ≡ true
     goes = ap is_connected later_is ∙ asked_leaves is_connected n.link n.out (Reads u ∷ items) (λ q. refl) ∙ connected r.link r.agreed r.session r.table items live before.link
 
@@ -227,8 +237,10 @@ reads_come r u items bytes none live before h any tells = record {
 
 -- the next byte, as it is judged
 pub bytes_come : (memory : Bool) (b : ℕ) (r : Router) (items : List Item) (bytes : List ℕ) → b < 256 → is_reading r.link ≡ true → r.out ≡ [] → Tells r items → Live r items bytes
-    → let n : Noted = with_bytes memory (r.held ++ b ∷ []) r (judge V1 (not r.agreed) (r.held ++ b ∷ [])) in Comes n.router (n.items ++ items) (bytes ++ b ∷ [])
-bytes_come memory b r items bytes byte live none t l = by_case (judge_case V1 (not r.agreed) seen)
+    → let n : Noted = with_bytes memory (r.held ++ b ∷ []) r (judge r.spoken (not r.agreed) (r.held ++ b ∷ [])) in Comes n.router (n.items ++ items) (bytes ++ b ∷ [])
+bytes_come memory b r items bytes byte live none t l =
+    subst (λ v. let n : Noted = with_bytes memory (r.held ++ b ∷ []) r (judge v (not r.agreed) (r.held ++ b ∷ [])) in Comes n.router (n.items ++ items) (bytes ++ b ∷ [])) t.spoken_is
+    (by_case (judge_case (spoken items) (not r.agreed) seen))
   where
     seen : List ℕ
     seen = r.held ++ b ∷ []
@@ -239,8 +251,8 @@ bytes_come memory b r items bytes byte live none t l = by_case (judge_case V1 (n
     each : AreBytes seen
     each = more_bytes r.held b l.each byte
 
-    part : IsPartial V1 (as_read V1 (not r.agreed) r.held)
-    part = subst (λ x. IsPartial V1 (as_read V1 x r.held)) any_so l.partial
+    part : IsPartial (spoken items) (as_read (spoken items) (not r.agreed) r.held)
+    part = subst (λ x. IsPartial (spoken items) (as_read (spoken items) x r.held)) any_so l.partial
 
     NowComes : Judgement → Type 0
     NowComes j = let n : Noted = with_bytes memory seen r j in Comes n.router (n.items ++ items) (bytes ++ b ∷ [])
@@ -248,7 +260,7 @@ bytes_come memory b r items bytes byte live none t l = by_case (judge_case V1 (n
     added : (j : Judgement) → let n : Noted = with_bytes memory seen r j in Tells n.router (n.items ++ items)
     added j = (bytes_add memory seen r j items live none t).tells
 
-    begins : IsPartial V1 (as_read V1 (not r.agreed) seen) → NowComes Begins
+    begins : IsPartial (spoken items) (as_read (spoken items) (not r.agreed) seen) → NowComes Begins
     begins partial =
         let goes : Live (record r { held = seen }) items (bytes ++ b ∷ []) = record {
           front = l.front;
@@ -256,7 +268,7 @@ bytes_come memory b r items bytes byte live none t l = by_case (judge_case V1 (n
           read = l.read;
           any_is = l.any_is;
           sound = l.sound;
-          partial = subst (λ x. IsPartial V1 (as_read V1 x seen)) (sym any_so) partial;
+          partial = subst (λ x. IsPartial (spoken items) (as_read (spoken items) x seen)) (sym any_so) partial;
           each = each;
         } in
         record {
@@ -267,7 +279,7 @@ bytes_come memory b r items bytes byte live none t l = by_case (judge_case V1 (n
           none_out = λ c. absurd (reading_open r.link live c);
         }
 
-    shows : (fault : UnitFault) → Shows V1 (as_read V1 (not r.agreed) seen) fault → NowComes (Faulty fault)
+    shows : (fault : UnitFault) → Shows (spoken items) (as_read (spoken items) (not r.agreed) seen) fault → NowComes (Faulty fault)
     shows fault h = record {
       tells = added (Faulty fault);
       live = λ live. false_true live;
@@ -277,21 +289,21 @@ bytes_come memory b r items bytes byte live none t l = by_case (judge_case V1 (n
           front = l.front;
           whole = more_whole bytes l.front r.held b l.whole;
           read = l.read;
-          after = subst (λ x. Shows V1 (as_read V1 x seen) fault) (sym (l.any_is ∙ any_so)) h;
+          after = subst (λ x. Shows (spoken items) (as_read (spoken items) x seen) fault) (sym (l.any_is ∙ any_so)) h;
         },
       );
       none_held = λ c. false_true c;
       none_out = λ c. false_true c;
     }
 
-    unit_read : (u : Unit) → units.Reads V1 u (as_read V1 (not r.agreed) seen) → UnitRead u items (bytes ++ b ∷ [])
+    unit_read : (u : Unit) → units.Reads (spoken items) u (as_read (spoken items) (not r.agreed) seen) → UnitRead u items (bytes ++ b ∷ [])
     unit_read u h = record {
-      read = subst (λ x. AreRead V1 true (units_read_in items ++ u ∷ []) x) (sym (more_whole bytes l.front r.held b l.whole))
-          (AreRead-push V1 true (units_read_in items) l.front seen u l.read (subst (λ x. units.Reads V1 u (as_read V1 x seen)) (sym (l.any_is ∙ any_so)) h));
+      read = subst (λ x. AreRead (spoken items) true (units_read_in items ++ u ∷ []) x) (sym (more_whole bytes l.front r.held b l.whole))
+          (AreRead-push (spoken items) true (units_read_in items) l.front seen u l.read (subst (λ x. units.Reads (spoken items) u (as_read (spoken items) x seen)) (sym (l.any_is ∙ any_so)) h));
       sound = l.sound;
     }
 
-    reads_it : (u : Unit) → units.Reads V1 u (as_read V1 (not r.agreed) seen) → NowComes (Whole u)
+    reads_it : (u : Unit) → units.Reads (spoken items) u (as_read (spoken items) (not r.agreed) seen) → NowComes (Whole u)
     reads_it u h = by_memory (may_lack r.link u r && not memory) (added (Whole u))
       where
         hand : Router
@@ -304,20 +316,20 @@ bytes_come memory b r items bytes byte live none t l = by_case (judge_case V1 (n
         by_memory true tells = record {
           tells = tells;
           live = λ live. false_true live;
-          split = unit_split u items (Lacks u ∷ items) (bytes ++ b ∷ []) (unit_read u h) refl refl;
+          split = unit_split u items (Lacks u ∷ items) (bytes ++ b ∷ []) (unit_read u h) refl refl refl;
           none_held = λ c. false_true c;
           none_out = λ c. false_true c;
         }
         by_memory false tells =
-            reads_come hand u items (bytes ++ b ∷ []) refl live (record { kept_is = t.kept_is; due_is = t.due_is; now_is = t.now_is; link = t.link }) (unit_read u h) l.any_is tells
+            reads_come hand u items (bytes ++ b ∷ []) refl live (record { kept_is = t.kept_is; due_is = t.due_is; now_is = t.now_is; spoken_is = t.spoken_is; link = t.link }) (unit_read u h) l.any_is tells
 
-    so : (j : Judgement) → judge V1 (not r.agreed) seen ≡ j → NowComes j → NowComes (judge V1 (not r.agreed) seen)
+    so : (j : Judgement) → judge (spoken items) (not r.agreed) seen ≡ j → NowComes j → NowComes (judge (spoken items) (not r.agreed) seen)
     so j e h = subst NowComes (sym e) h
 
-    by_case : judging.Case V1 (as_read V1 (not r.agreed) seen) (judge V1 (not r.agreed) seen) → NowComes (judge V1 (not r.agreed) seen)
+    by_case : judging.Case (spoken items) (as_read (spoken items) (not r.agreed) seen) (judge (spoken items) (not r.agreed) seen) → NowComes (judge (spoken items) (not r.agreed) seen)
     by_case (judging.begins e partial) = so Begins e (begins partial)
     by_case (judging.shows fault e h) = so (Faulty fault) e (shows fault h)
     by_case (judging.whole e w sound) =
-        so (Whole (unit_in V1 (as_read V1 (not r.agreed) seen))) e
-        (reads_it (unit_in V1 (as_read V1 (not r.agreed) seen))
-        ((whole_exactly V1 (not r.agreed) seen (unit_in V1 (as_read V1 (not r.agreed) seen)) each (next_size V1 (not r.agreed) r.held b part w)).0 e))
+        so (Whole (unit_in (spoken items) (as_read (spoken items) (not r.agreed) seen))) e
+        (reads_it (unit_in (spoken items) (as_read (spoken items) (not r.agreed) seen))
+        ((whole_exactly (spoken items) (not r.agreed) seen (unit_in (spoken items) (as_read (spoken items) (not r.agreed) seen)) each (next_size (spoken items) (not r.agreed) r.held b part w)).0 e))

@@ -7,7 +7,6 @@ use Rattle.std.proofs.lemmas.List.{append-nil, length-append, length-take, take-
 use Rattle.std.specs.List.{AllByRecursion}
 use Rattle.std.specs.Io.KnownBytes.{Appends, Consumes, IsAtEnd, Keeps}
 use Rattle.std.proofs.KnownBytes.{Appends-nil, Appends-trans, Consumes-kept, Consumes-nil, Consumes-trans}
-use Rattle.rtr_pdu.specs.declared.version.Version.TheVariants.{V1}
 use Rattle.rtr_pdu.specs.Device.{GoesOutInPart}
 use Rattle.rtr_pdu.specs.Judging.{Judgement, Begins, Whole, Faulty, judge}
 use Rattle.rtr_pdu.specs.Payloads.{AreBytes}
@@ -118,7 +117,7 @@ open_after memory bytes r (Whole u) h = by_memory (may_lack r.link u r && not me
 
 byte_open : (b : ℕ) (rest : List ℕ) (m : Receiving) → router_stops m.router ≡ false → is_closed m.router.link ≡ false → is_closed (router_byte m b).router.link ≡ false
 unfolding router_byte
-byte_open b rest m on h = open_after (finds_memory m.wanting) (m.router.held ++ b ∷ []) m.router (judge V1 (not m.router.agreed) (m.router.held ++ b ∷ [])) (and_parts (is_reading m.router.link) (is_none m.router.out) (goes (is_reading m.router.link && is_none m.router.out) on)).0
+byte_open b rest m on h = open_after (finds_memory m.wanting) (m.router.held ++ b ∷ []) m.router (judge m.router.spoken (not m.router.agreed) (m.router.held ++ b ∷ [])) (and_parts (is_reading m.router.link) (is_none m.router.out) (goes (is_reading m.router.link && is_none m.router.out) on)).0
   where
     goes : (b : Bool) → not b ≡ false → b ≡ true
     goes true h = refl

@@ -12,14 +12,14 @@ use Rattle.rtr_pdu.specs.declared.unit.Unit.{Unit}
 use Rattle.rtr_pdu.specs.declared.unit.Unit.TheVariants.{SerialNotify, SerialQuery, ResetQuery, CacheResponse, Prefix, EndOfData, EndOfData0, CacheReset, RouterKey, ErrorReport}
 use Rattle.rtr_ends.specs.declared.link.End.{End}
 use Rattle.rtr_ends.specs.declared.link.End.TheVariants as ends
-use Rattle.rtr_pdu.specs.declared.version.Version.TheVariants.{V1}
+use Rattle.rtr_pdu.specs.declared.version.Version.{Version}
 use Rattle.rtr_ends.specs.Answer.{sent}
 use Rattle.rtr_ends.specs.LinkRules.{Router, Staged, Stays, Wrong, Over, asking, ask, emptied, reports, ended_by, fails, is_strange, is_news, stage, staged, commit, told_off, on_unit, may_lack}
 use Rattle.rtr_ends.specs.Router.{Noted, asked_by, reads, lacks, with_bytes}
 use Rattle.rtr_ends.specs.RouterLaws.{LinkTells}
 use Rattle.rtr_ends.specs.RouterLink.{Link, Closed, Idle, Asked, Answering, Ended, is_reading}
 use Rattle.rtr_ends.specs.Timing.{Intervals, default_intervals}
-use Rattle.rtr_ends.specs.Transcript.{choose, Question, AskReset, AskSerial, query, Item, Asks, Reads, Begun, begun, with_record, waiting, under_way, outstanding, question_of, has_agreed, responded, is_connected, moment, is_among, may_withdraw, may_announce, acts_once, led_to, Committed, Kept, nothing, bounded, base_of, session_of, differs, is_serial, is_wrong, does_commit, emptied_if, at_end_of_data, kept, sum_of, retry_of, refreshed, due}
+use Rattle.rtr_ends.specs.Transcript.{choose, of_version, spoken, Question, AskReset, AskSerial, query, Item, Asks, Reads, Begun, begun, with_record, waiting, under_way, outstanding, question_of, has_agreed, responded, is_connected, moment, is_among, may_withdraw, may_announce, acts_once, led_to, Committed, Kept, nothing, bounded, base_of, session_of, differs, is_serial, is_wrong, does_commit, emptied_if, at_end_of_data, kept, sum_of, retry_of, refreshed, due}
 
 abbrev pub holds : Router → Kept
 holds r = record { version = r.version; table = r.table }
@@ -28,6 +28,7 @@ pub record Tells (r : Router) (items : List Item) : Type 0 where
   pub kept_is : kept items ≡ holds r
   pub due_is : due items ≡ r.due
   pub now_is : moment items ≡ r.now
+  pub spoken_is : spoken items ≡ r.spoken
   pub link : LinkTells r.link r.agreed r.session r.table items
 
 two_not_zero : (n : ℕ) → (n == 2) ≡ true → (n == 0) ≡ false
@@ -42,12 +43,13 @@ pub record Leaves (r : Router) (u : Unit) (items : List Item) : Type 0 where
   pub kept_is : kept (Reads u ∷ items) ≡ holds r
   pub due_is : due (Reads u ∷ items) ≡ r.due
   pub now_is : moment items ≡ r.now
+  pub spoken_is : spoken items ≡ r.spoken
 
 -- a link that ended asks nothing
 ended_after : (r : Router) (u : Unit) (items : List Item) (end : End) → r.link ≡ Ended end → is_connected items ≡ true → Leaves r u items → After r u items
 ended_after r u items end is c h =
     subst (λ l. Tells r (asked_by l r.out ++ Reads u ∷ items)) (sym is)
-    (record { kept_is = h.kept_is; due_is = h.due_is; now_is = h.now_is; link = subst (λ l. LinkTells l r.agreed r.session r.table (Reads u ∷ items)) (sym is) c })
+    (record { kept_is = h.kept_is; due_is = h.due_is; now_is = h.now_is; spoken_is = h.spoken_is; link = subst (λ l. LinkTells l r.agreed r.session r.table (Reads u ∷ items)) (sym is) c })
 
 -- a router that keeps its link
 no_question : (l : Link) (out : List ℕ) → out ≡ [] → asked_by l out ≡ []
@@ -63,50 +65,51 @@ no_question l out e = ap (asked_by l) e ∙ none l
 stays_after : (r : Router) (u : Unit) (items : List Item) (l : Link) → r.link ≡ l → r.out ≡ [] → Leaves r u items → LinkTells l r.agreed r.session r.table (Reads u ∷ items) → After r u items
 stays_after r u items l is none h t =
     subst (λ x. Tells r (x ++ Reads u ∷ items)) (sym (no_question r.link r.out none))
-    (record { kept_is = h.kept_is; due_is = h.due_is; now_is = h.now_is; link = subst (λ x. LinkTells x r.agreed r.session r.table (Reads u ∷ items)) (sym is) t })
+    (record { kept_is = h.kept_is; due_is = h.due_is; now_is = h.now_is; spoken_is = h.spoken_is; link = subst (λ x. LinkTells x r.agreed r.session r.table (Reads u ∷ items)) (sym is) t })
 
 -- a question that is put stands in the transcript
-put_asks : (q : Question) → asked_by (Asked q) (sent V1 (query q)) ≡ Asks q ∷ []
-put_asks AskReset = refl
-put_asks (AskSerial session serial) = refl
+put_asks : (version : Version) (q : Question) → asked_by (Asked q) (sent version (query q)) ≡ Asks q ∷ []
+put_asks version AskReset = refl
+put_asks version (AskSerial session serial) = refl
 
 asking_after : (r : Router) (q : Question) (u : Unit) (items : List Item) → is_connected items ≡ true → Leaves r u items → has_agreed (Reads u ∷ items) ≡ r.agreed → responded (Reads u ∷ items) ≡ r.session → After (asking q r) u items
 asking_after r q u items c h a s =
-    subst (λ x. Tells (asking q r) (x ++ Reads u ∷ items)) (sym (put_asks q))
-    (record { kept_is = h.kept_is; due_is = h.due_is; now_is = h.now_is; link = (c, refl, refl, a, s) })
+    subst (λ x. Tells (asking q r) (x ++ Reads u ∷ items)) (sym (put_asks r.spoken q))
+    (record { kept_is = h.kept_is; due_is = h.due_is; now_is = h.now_is; spoken_is = h.spoken_is; link = (c, refl, refl, a, s) })
 
 -- before a unit
 pub record Before (r : Router) (items : List Item) : Type 0 where
   pub kept_is : kept items ≡ holds r
   pub due_is : due items ≡ r.due
   pub now_is : moment items ≡ r.now
+  pub spoken_is : spoken items ≡ r.spoken
   pub none : r.out ≡ []
 
 -- a notify
 abbrev strange_by : Router → ℕ → Bool
-strange_by r session = r.agreed && differs (session_of r.session r.version) session
+strange_by r session = r.agreed && differs (session_of r.session (of_version r.spoken r.version)) session
 
-strange_same : (r : Router) (items : List Item) (session : ℕ) → kept items ≡ holds r → has_agreed items ≡ r.agreed → responded items ≡ r.session
-    → (has_agreed items && differs (session_of (responded items) (kept items).version) session) ≡ strange_by r session
-strange_same r items session k a s = λ i. a i && differs (session_of (s i) (k i).version) session
+strange_same : (r : Router) (items : List Item) (session : ℕ) → kept items ≡ holds r → spoken items ≡ r.spoken → has_agreed items ≡ r.agreed → responded items ≡ r.session
+    → (has_agreed items && differs (session_of (responded items) (of_version (spoken items) (kept items).version)) session) ≡ strange_by r session
+strange_same r items session k v a s = λ i. a i && differs (session_of (s i) (of_version (v i) (k i).version)) session
 
 notify_leaves : (r : Router) (items : List Item) (session serial : ℕ) (b : Bool) → Before r items → has_agreed items ≡ r.agreed → responded items ≡ r.session → strange_by r session ≡ b
     → kept (Reads (SerialNotify session serial) ∷ items) ≡ emptied_if b (holds r)
 notify_leaves r items session serial b h a s e =
-    ap (λ x. emptied_if x (kept items)) (strange_same r items session h.kept_is a s ∙ e) ∙ ap (emptied_if b) h.kept_is
+    ap (λ x. emptied_if x (kept items)) (strange_same r items session h.kept_is h.spoken_is a s ∙ e) ∙ ap (emptied_if b) h.kept_is
 
 idle_notified : (r : Router) (items : List Item) (session serial : ℕ) (b news : Bool) → r.link ≡ Idle → Before r items → kept (Reads (SerialNotify session serial) ∷ items) ≡ emptied_if b (holds r) → LinkTells Idle r.agreed r.session r.table items
     → After (if b then fails (SerialNotify session serial) r else if news then ask r else r) (SerialNotify session serial) items
-idle_notified r items session serial true news is h k l = ended_after (fails (SerialNotify session serial) r) (SerialNotify session serial) items (ends.Reported 0) refl l.0 (record { kept_is = k; due_is = h.due_is; now_is = h.now_is })
+idle_notified r items session serial true news is h k l = ended_after (fails (SerialNotify session serial) r) (SerialNotify session serial) items (ends.Reported 0) refl l.0 (record { kept_is = k; due_is = h.due_is; now_is = h.now_is; spoken_is = h.spoken_is })
 idle_notified r items session serial false true is h k l =
-    asking_after r (choose r.version r.mark) (SerialNotify session serial) items l.0 (record { kept_is = k; due_is = h.due_is; now_is = h.now_is }) l.3 l.4
-idle_notified r items session serial false false is h k l = stays_after r (SerialNotify session serial) items Idle is h.none (record { kept_is = k; due_is = h.due_is; now_is = h.now_is }) l
+    asking_after r (choose (of_version r.spoken r.version) r.mark) (SerialNotify session serial) items l.0 (record { kept_is = k; due_is = h.due_is; now_is = h.now_is; spoken_is = h.spoken_is }) l.3 l.4
+idle_notified r items session serial false false is h k l = stays_after r (SerialNotify session serial) items Idle is h.none (record { kept_is = k; due_is = h.due_is; now_is = h.now_is; spoken_is = h.spoken_is }) l
 
 other_notified : (r : Router) (items : List Item) (session serial : ℕ) (b : Bool) (l : Link) → r.link ≡ l → is_connected items ≡ true → Before r items → kept (Reads (SerialNotify session serial) ∷ items) ≡ emptied_if b (holds r)
     → LinkTells l r.agreed r.session r.table (Reads (SerialNotify session serial) ∷ items)
     → After (if b then fails (SerialNotify session serial) r else r) (SerialNotify session serial) items
-other_notified r items session serial true l is c h k t = ended_after (fails (SerialNotify session serial) r) (SerialNotify session serial) items (ends.Reported 0) refl c (record { kept_is = k; due_is = h.due_is; now_is = h.now_is })
-other_notified r items session serial false l is c h k t = stays_after r (SerialNotify session serial) items l is h.none (record { kept_is = k; due_is = h.due_is; now_is = h.now_is }) t
+other_notified r items session serial true l is c h k t = ended_after (fails (SerialNotify session serial) r) (SerialNotify session serial) items (ends.Reported 0) refl c (record { kept_is = k; due_is = h.due_is; now_is = h.now_is; spoken_is = h.spoken_is })
+other_notified r items session serial false l is c h k t = stays_after r (SerialNotify session serial) items l is h.none (record { kept_is = k; due_is = h.due_is; now_is = h.now_is; spoken_is = h.spoken_is }) t
 
 -- An Error Report on an idle link
 idle_report : (r : Router) (e : Report) (items : List Item) (b : Bool) → (e.code == 2) ≡ b → r.link ≡ Idle → Before r items → LinkTells Idle r.agreed r.session r.table items → After (if b then r else ended_by e.code r) (ErrorReport e) items
@@ -121,11 +124,12 @@ idle_report r e items b is el h l = by_code b
       due_is = ap (λ o. if e.code == 2 && is_some o then Some (sum_of (moment items) (retry_of (kept items).version)) else due items) asked_none
           ∙ ap (λ x. if x then Some (sum_of (moment items) (retry_of (kept items).version)) else due items) (and-false (e.code == 2)) ∙ h.due_is;
       now_is = h.now_is;
+      spoken_is = h.spoken_is;
     }
 
     by_code : (b : Bool) → After (if b then r else ended_by e.code r) (ErrorReport e) items
     by_code true = stays_after r (ErrorReport e) items Idle el h.none leaves (l.0, refl, refl, sym l.5, l.4, l.5)
-    by_code false = ended_after (ended_by e.code r) (ErrorReport e) items (ends.Told e.code) refl l.0 (record { kept_is = leaves.kept_is; due_is = leaves.due_is; now_is = leaves.now_is })
+    by_code false = ended_after (ended_by e.code r) (ErrorReport e) items (ends.Told e.code) refl l.0 (record { kept_is = leaves.kept_is; due_is = leaves.due_is; now_is = leaves.now_is; spoken_is = leaves.spoken_is })
 
 -- an Error Report to the question that is outstanding
 told_unit : (r : Router) (q : Question) (e : Report) (items : List Item) → r.agreed ≡ true → is_connected items ≡ true → Before r items → outstanding items ≡ Some q → responded items ≡ r.session → After (told_off q e.code r) (ErrorReport e) items
@@ -141,8 +145,8 @@ told_unit r q e items agreed c h asked session = by_two (e.code == 2) refl
     due_by b is = ap (λ o. retried_then (e.code == 2 && is_some o)) asked ∙ ap retried_then (and-true (e.code == 2) ∙ is)
 
     by_zero : (b : Bool) → (e.code == 0 && is_serial (Some q)) ≡ b → (e.code == 2) ≡ false → After (if b then ended_by e.code (emptied r) else ended_by e.code r) (ErrorReport e) items
-    by_zero true is two = ended_after (ended_by e.code (emptied r)) (ErrorReport e) items (ends.Told e.code) refl c (record { kept_is = kept_by true is; due_is = due_by false two ∙ h.due_is; now_is = h.now_is })
-    by_zero false is two = ended_after (ended_by e.code r) (ErrorReport e) items (ends.Told e.code) refl c (record { kept_is = kept_by false is; due_is = due_by false two ∙ h.due_is; now_is = h.now_is })
+    by_zero true is two = ended_after (ended_by e.code (emptied r)) (ErrorReport e) items (ends.Told e.code) refl c (record { kept_is = kept_by true is; due_is = due_by false two ∙ h.due_is; now_is = h.now_is; spoken_is = h.spoken_is })
+    by_zero false is two = ended_after (ended_by e.code r) (ErrorReport e) items (ends.Told e.code) refl c (record { kept_is = kept_by false is; due_is = due_by false two ∙ h.due_is; now_is = h.now_is; spoken_is = h.spoken_is })
 
     idle_again : Router
     idle_again = record r { link = Idle; due = Some (sum_of r.now (retry_of r.version)); no_data = true }
@@ -158,6 +162,7 @@ told_unit r q e items agreed c h asked session = by_two (e.code == 2) refl
           kept_is = kept_by false (ap (λ x. x && is_serial (Some q)) (two_not_zero e.code two));
           due_is = due_by true two ∙ (λ i. Some (sum_of (h.now_is i) (retry_of (h.kept_is i).version)));
           now_is = h.now_is;
+          spoken_is = h.spoken_is;
         })
         (c, refl, refl, sym agreed, session, agreed))
     by_two false two = subst (λ x. After (by_test x) (ErrorReport e) items) (sym two) (by_zero (e.code == 0 && is_serial (Some q)) refl two)
@@ -166,43 +171,43 @@ told_unit r q e items agreed c h asked session = by_two (e.code == 2) refl
 abbrev Ends0 : Router → Unit → List Item → Type 0
 Ends0 r u items = After (reports 0 u r) u items
 
-ends_0 : (r : Router) (u : Unit) (items : List Item) → is_connected items ≡ true → moment items ≡ r.now → kept (Reads u ∷ items) ≡ holds r → due (Reads u ∷ items) ≡ r.due → After (reports 0 u r) u items
-ends_0 r u items c n k d = ended_after (reports 0 u r) u items (ends.Reported 0) refl c (record { kept_is = k; due_is = d; now_is = n })
+ends_0 : (r : Router) (u : Unit) (items : List Item) → is_connected items ≡ true → Before r items → kept (Reads u ∷ items) ≡ holds r → due (Reads u ∷ items) ≡ r.due → After (reports 0 u r) u items
+ends_0 r u items c h k d = ended_after (reports 0 u r) u items (ends.Reported 0) refl c (record { kept_is = k; due_is = d; now_is = h.now_is; spoken_is = h.spoken_is })
 
 -- an End of Data where no answer is under way
 end_nothing : (r : Router) (items : List Item) (u : Unit) (session serial : ℕ) (t : Intervals) → is_connected items ≡ true → Before r items → under_way items ≡ None
-    → kept (Reads u ∷ items) ≡ at_end_of_data (under_way items) (record { session = session; serial = serial; moment = moment items; intervals = t }) (kept items)
+    → kept (Reads u ∷ items) ≡ at_end_of_data (under_way items) (record { version = spoken items; session = session; serial = serial; moment = moment items; intervals = t }) (kept items)
     → due (Reads u ∷ items) ≡ (if does_commit (under_way items) session (kept items).table then refreshed (kept (Reads u ∷ items)).version else due items)
     → After (reports 0 u r) u items
 end_nothing r items u session serial t c h none k d =
-    ends_0 r u items c h.now_is
-    (k ∙ ap (λ o. at_end_of_data o (record { session = session; serial = serial; moment = moment items; intervals = t }) (kept items)) none ∙ h.kept_is)
+    ends_0 r u items c h
+    (k ∙ ap (λ o. at_end_of_data o (record { version = spoken items; session = session; serial = serial; moment = moment items; intervals = t }) (kept items)) none ∙ h.kept_is)
     (d ∙ ap (λ o. if does_commit o session (kept items).table then refreshed (kept (Reads u ∷ items)).version else due items) none ∙ h.due_is)
 
 -- the link is idle
 idle_unit : (r : Router) (u : Unit) (items : List Item) → r.link ≡ Idle → Before r items → LinkTells Idle r.agreed r.session r.table items → After (on_unit Idle u r) u items
 unfolding on_unit
 idle_unit r (SerialNotify session serial) items is h l =
-    idle_notified r items session serial (is_strange r session) (is_news r.version serial) is h (notify_leaves r items session serial (is_strange r session) h l.3 l.4 refl) l
+    idle_notified r items session serial (is_strange r session) (is_news (of_version r.spoken r.version) serial) is h (notify_leaves r items session serial (is_strange r session) h l.3 l.4 refl) l
 idle_unit r (ErrorReport e) items is h l = idle_report r e items (e.code == 2) refl is h l
-idle_unit r (CacheResponse session) items is h l = ends_0 r (CacheResponse session) items l.0 h.now_is (ap (λ o. emptied_if (is_wrong o (kept items).version session) (kept items)) l.1 ∙ h.kept_is) h.due_is
+idle_unit r (CacheResponse session) items is h l = ends_0 r (CacheResponse session) items l.0 h (ap (λ o. emptied_if (is_wrong o (of_version (spoken items) (kept items).version) session) (kept items)) l.1 ∙ h.kept_is) h.due_is
 idle_unit r (EndOfData session serial refresh retry expire) items is h l =
     end_nothing r items (EndOfData session serial refresh retry expire) session serial (bounded refresh retry expire) l.0 h l.2 refl refl
 idle_unit r (EndOfData0 session serial) items is h l = end_nothing r items (EndOfData0 session serial) session serial default_intervals l.0 h l.2 refl refl
-idle_unit r (SerialQuery session serial) items is h l = ends_0 r (SerialQuery session serial) items l.0 h.now_is h.kept_is h.due_is
-idle_unit r ResetQuery items is h l = ends_0 r ResetQuery items l.0 h.now_is h.kept_is h.due_is
-idle_unit r (Prefix announce v) items is h l = ends_0 r (Prefix announce v) items l.0 h.now_is h.kept_is h.due_is
-idle_unit r (RouterKey key) items is h l = ends_0 r (RouterKey key) items l.0 h.now_is h.kept_is h.due_is
-idle_unit r CacheReset items is h l = ends_0 r CacheReset items l.0 h.now_is h.kept_is h.due_is
+idle_unit r (SerialQuery session serial) items is h l = ends_0 r (SerialQuery session serial) items l.0 h h.kept_is h.due_is
+idle_unit r ResetQuery items is h l = ends_0 r ResetQuery items l.0 h h.kept_is h.due_is
+idle_unit r (Prefix announce v) items is h l = ends_0 r (Prefix announce v) items l.0 h h.kept_is h.due_is
+idle_unit r (RouterKey key) items is h l = ends_0 r (RouterKey key) items l.0 h h.kept_is h.due_is
+idle_unit r CacheReset items is h l = ends_0 r CacheReset items l.0 h h.kept_is h.due_is
 
 -- a Cache Response to the question
 response_after : (r : Router) (q : Question) (session : ℕ) (items : List Item) (b : Bool) → is_connected items ≡ true → Before r items → kept (Reads (CacheResponse session) ∷ items) ≡ emptied_if b (holds r) → waiting items ≡ Some q
     → After (if b then fails (CacheResponse session) r else record r { agreed = true; session = Some session; link = Answering (record { question = q; session = session; withdrawn = []; announced = [] }) }) (CacheResponse session) items
-response_after r q session items true c h k w = ended_after (fails (CacheResponse session) r) (CacheResponse session) items (ends.Reported 0) refl c (record { kept_is = k; due_is = h.due_is; now_is = h.now_is })
+response_after r q session items true c h k w = ended_after (fails (CacheResponse session) r) (CacheResponse session) items (ends.Reported 0) refl c (record { kept_is = k; due_is = h.due_is; now_is = h.now_is; spoken_is = h.spoken_is })
 response_after r q session items false c h k w =
     let a : Begun = record { question = q; session = session; withdrawn = []; announced = [] } in
     stays_after (record r { agreed = true; session = Some session; link = Answering a }) (CacheResponse session) items (Answering a) refl h.none
-    (record { kept_is = k; due_is = h.due_is; now_is = h.now_is })
+    (record { kept_is = k; due_is = h.due_is; now_is = h.now_is; spoken_is = h.spoken_is })
     (c, refl, ap (λ o. begun o session) w, refl, refl, refl, refl)
 
 asked_unit : (r : Router) (q : Question) (u : Unit) (items : List Item) → r.link ≡ Asked q → Before r items → LinkTells (Asked q) r.agreed r.session r.table items → After (on_unit (Asked q) u r) u items
@@ -210,21 +215,21 @@ unfolding on_unit
 asked_unit r q (SerialNotify session serial) items is h l =
     other_notified r items session serial (is_strange r session) (Asked q) is l.0 h (notify_leaves r items session serial (is_strange r session) h l.3 l.4 refl) l
 asked_unit r q (CacheResponse session) items is h l =
-    response_after r q session items (is_wrong (Some q) r.version session) l.0 h
-    (λ i. emptied_if (is_wrong (l.1 i) (h.kept_is i).version session) (h.kept_is i)) l.1
+    response_after r q session items (is_wrong (Some q) (of_version r.spoken r.version) session) l.0 h
+    (λ i. emptied_if (is_wrong (l.1 i) (of_version (h.spoken_is i) (h.kept_is i).version) session) (h.kept_is i)) l.1
 asked_unit r (AskSerial session serial) CacheReset items is h l =
-    asking_after (record r { agreed = true }) AskReset CacheReset items l.0 (record { kept_is = h.kept_is; due_is = h.due_is; now_is = h.now_is }) refl l.4
-asked_unit r AskReset CacheReset items is h l = ends_0 r CacheReset items l.0 h.now_is h.kept_is h.due_is
+    asking_after (record r { agreed = true }) AskReset CacheReset items l.0 (record { kept_is = h.kept_is; due_is = h.due_is; now_is = h.now_is; spoken_is = h.spoken_is }) refl l.4
+asked_unit r AskReset CacheReset items is h l = ends_0 r CacheReset items l.0 h h.kept_is h.due_is
 asked_unit r q (ErrorReport e) items is h l =
-    told_unit (record r { agreed = true }) q e items refl l.0 (record { kept_is = h.kept_is; due_is = h.due_is; now_is = h.now_is; none = h.none })
+    told_unit (record r { agreed = true }) q e items refl l.0 (record { kept_is = h.kept_is; due_is = h.due_is; now_is = h.now_is; spoken_is = h.spoken_is; none = h.none })
     (λ i. question_of (l.2 i) (l.1 i)) l.4
 asked_unit r q (EndOfData session serial refresh retry expire) items is h l =
     end_nothing r items (EndOfData session serial refresh retry expire) session serial (bounded refresh retry expire) l.0 h l.2 refl refl
 asked_unit r q (EndOfData0 session serial) items is h l = end_nothing r items (EndOfData0 session serial) session serial default_intervals l.0 h l.2 refl refl
-asked_unit r q (SerialQuery session serial) items is h l = ends_0 r (SerialQuery session serial) items l.0 h.now_is h.kept_is h.due_is
-asked_unit r q ResetQuery items is h l = ends_0 r ResetQuery items l.0 h.now_is h.kept_is h.due_is
-asked_unit r q (Prefix announce v) items is h l = ends_0 r (Prefix announce v) items l.0 h.now_is h.kept_is h.due_is
-asked_unit r q (RouterKey key) items is h l = ends_0 r (RouterKey key) items l.0 h.now_is h.kept_is h.due_is
+asked_unit r q (SerialQuery session serial) items is h l = ends_0 r (SerialQuery session serial) items l.0 h h.kept_is h.due_is
+asked_unit r q ResetQuery items is h l = ends_0 r ResetQuery items l.0 h h.kept_is h.due_is
+asked_unit r q (Prefix announce v) items is h l = ends_0 r (Prefix announce v) items l.0 h h.kept_is h.due_is
+asked_unit r q (RouterKey key) items is h l = ends_0 r (RouterKey key) items l.0 h h.kept_is h.due_is
 
 -- how a record is staged, where what is staged acts once
 abbrev More : VrpSet → Begun → Bool → Payload → Begun → Type 0
@@ -262,41 +267,41 @@ announced_more base a v P once stays wrong over = by_test (has base v || is_amon
 record_staged : (r : Router) (a : Begun) (announce : Bool) (v : Payload) (items : List Item) → Before r items → LinkTells (Answering a) r.agreed r.session r.table items
     → (b : Begun) → More (base_of a.question r.table) a announce v b → After (record r { link = Answering b }) (Prefix announce v) items
 record_staged r a announce v items h l b m =
-    stays_after (record r { link = Answering b }) (Prefix announce v) items (Answering b) refl h.none (record { kept_is = h.kept_is; due_is = h.due_is; now_is = h.now_is })
+    stays_after (record r { link = Answering b }) (Prefix announce v) items (Answering b) refl h.none (record { kept_is = h.kept_is; due_is = h.due_is; now_is = h.now_is; spoken_is = h.spoken_is })
     (l.0, refl, ap (λ o. with_record announce v o) l.2 ∙ m.0, sym l.5, l.4, l.5, ap (λ q. acts_once (base_of q r.table) b.withdrawn b.announced) m.1 ∙ m.2)
 
 -- an End of Data in an answer
 end_unit : (r : Router) (a : Begun) (u : Unit) (session serial : ℕ) (t : Intervals) (items : List Item) → Before r items → LinkTells (Answering a) r.agreed r.session r.table items
-    → kept (Reads u ∷ items) ≡ at_end_of_data (under_way items) (record { session = session; serial = serial; moment = moment items; intervals = t }) (kept items)
+    → kept (Reads u ∷ items) ≡ at_end_of_data (under_way items) (record { version = spoken items; session = session; serial = serial; moment = moment items; intervals = t }) (kept items)
     → due (Reads u ∷ items) ≡ (if does_commit (under_way items) session (kept items).table then refreshed (kept (Reads u ∷ items)).version else due items)
     → LinkTells Idle r.agreed r.session r.table (Reads u ∷ items)
-    → After (if session == a.session then commit a (record { session = session; serial = serial; moment = r.now; intervals = t }) r else fails u r) u items
+    → After (if session == a.session then commit a (record { version = r.spoken; session = session; serial = serial; moment = r.now; intervals = t }) r else fails u r) u items
 end_unit r a u session serial t items h l k d told = ending (session == a.session) refl
   where
-    version : ℕ → Committed
-    version now = record { session = session; serial = serial; moment = now; intervals = t }
+    version : Version → ℕ → Committed
+    version spoken now = record { version = spoken; session = session; serial = serial; moment = now; intervals = t }
 
     committed : Kept
-    committed = record { version = Some (version r.now); table = led_to (base_of a.question r.table) a.withdrawn a.announced }
+    committed = record { version = Some (version r.spoken r.now); table = led_to (base_of a.question r.table) a.withdrawn a.announced }
 
     -- what is kept, and when it asks again, by the tests of session and records
     ended_as : Bool → Bool → Kept
     ended_as same once = if same then (if once then committed else holds r) else nothing
 
     kept_by : kept (Reads u ∷ items) ≡ ended_as (session == a.session) (acts_once (base_of a.question r.table) a.withdrawn a.announced)
-    kept_by = k ∙ (λ i. at_end_of_data (l.2 i) (version (h.now_is i)) (h.kept_is i))
+    kept_by = k ∙ (λ i. at_end_of_data (l.2 i) (version (h.spoken_is i) (h.now_is i)) (h.kept_is i))
 
     due_by : due (Reads u ∷ items) ≡ (if (session == a.session) && acts_once (base_of a.question r.table) a.withdrawn a.announced then refreshed (ended_as (session == a.session) (acts_once (base_of a.question r.table) a.withdrawn a.announced)).version else r.due)
     due_by = d ∙ (λ i. if does_commit (l.2 i) session (h.kept_is i).table then refreshed (kept_by i).version else h.due_is i)
 
-    ending : (b : Bool) → (session == a.session) ≡ b → After (if b then commit a (version r.now) r else fails u r) u items
+    ending : (b : Bool) → (session == a.session) ≡ b → After (if b then commit a (version r.spoken r.now) r else fails u r) u items
     ending true same =
-        stays_after (commit a (version r.now) r) u items Idle refl h.none
-        (record { kept_is = kept_by ∙ (λ i. ended_as (same i) (l.6 i)); due_is = due_by ∙ (λ i. if same i && l.6 i then refreshed (ended_as (same i) (l.6 i)).version else r.due); now_is = h.now_is })
+        stays_after (commit a (version r.spoken r.now) r) u items Idle refl h.none
+        (record { kept_is = kept_by ∙ (λ i. ended_as (same i) (l.6 i)); due_is = due_by ∙ (λ i. if same i && l.6 i then refreshed (ended_as (same i) (l.6 i)).version else r.due); now_is = h.now_is; spoken_is = h.spoken_is })
         told
     ending false same =
         ended_after (fails u r) u items (ends.Reported 0) refl l.0
-        (record { kept_is = kept_by ∙ (λ i. ended_as (same i) (l.6 i)); due_is = due_by ∙ (λ i. if same i && l.6 i then refreshed (ended_as (same i) (l.6 i)).version else r.due); now_is = h.now_is })
+        (record { kept_is = kept_by ∙ (λ i. ended_as (same i) (l.6 i)); due_is = due_by ∙ (λ i. if same i && l.6 i then refreshed (ended_as (same i) (l.6 i)).version else r.due); now_is = h.now_is; spoken_is = h.spoken_is })
 
 -- an answer is under way
 answering_unit : (r : Router) (a : Begun) (u : Unit) (items : List Item) → r.link ≡ Answering a → Before r items → LinkTells (Answering a) r.agreed r.session r.table items → After (on_unit (Answering a) u r) u items
@@ -306,24 +311,24 @@ answering_unit r a (SerialNotify session serial) items is h l =
 answering_unit r a (Prefix false v) items is h l =
     withdrawn_more (base_of a.question r.table) a v (λ st. After (staged (Prefix false v) st r) (Prefix false v) items) l.6
     (record_staged r a false v items h l)
-    (λ code. ended_after (record (reports code (Prefix false v) r) { mark = true }) (Prefix false v) items (ends.Reported code) refl l.0 (record { kept_is = h.kept_is; due_is = h.due_is; now_is = h.now_is }))
-    (ended_after (record r { link = Ended ends.TooMany }) (Prefix false v) items ends.TooMany refl l.0 (record { kept_is = h.kept_is; due_is = h.due_is; now_is = h.now_is }))
+    (λ code. ended_after (record (reports code (Prefix false v) r) { mark = true }) (Prefix false v) items (ends.Reported code) refl l.0 (record { kept_is = h.kept_is; due_is = h.due_is; now_is = h.now_is; spoken_is = h.spoken_is }))
+    (ended_after (record r { link = Ended ends.TooMany }) (Prefix false v) items ends.TooMany refl l.0 (record { kept_is = h.kept_is; due_is = h.due_is; now_is = h.now_is; spoken_is = h.spoken_is }))
 answering_unit r a (Prefix true v) items is h l =
     announced_more (base_of a.question r.table) a v (λ st. After (staged (Prefix true v) st r) (Prefix true v) items) l.6
     (record_staged r a true v items h l)
-    (λ code. ended_after (record (reports code (Prefix true v) r) { mark = true }) (Prefix true v) items (ends.Reported code) refl l.0 (record { kept_is = h.kept_is; due_is = h.due_is; now_is = h.now_is }))
-    (ended_after (record r { link = Ended ends.TooMany }) (Prefix true v) items ends.TooMany refl l.0 (record { kept_is = h.kept_is; due_is = h.due_is; now_is = h.now_is }))
+    (λ code. ended_after (record (reports code (Prefix true v) r) { mark = true }) (Prefix true v) items (ends.Reported code) refl l.0 (record { kept_is = h.kept_is; due_is = h.due_is; now_is = h.now_is; spoken_is = h.spoken_is }))
+    (ended_after (record r { link = Ended ends.TooMany }) (Prefix true v) items ends.TooMany refl l.0 (record { kept_is = h.kept_is; due_is = h.due_is; now_is = h.now_is; spoken_is = h.spoken_is }))
 answering_unit r a (RouterKey key) items is h l =
-    stays_after r (RouterKey key) items (Answering a) is h.none (record { kept_is = h.kept_is; due_is = h.due_is; now_is = h.now_is }) (l.0, refl, l.2, sym l.5, l.4, l.5, l.6)
+    stays_after r (RouterKey key) items (Answering a) is h.none (record { kept_is = h.kept_is; due_is = h.due_is; now_is = h.now_is; spoken_is = h.spoken_is }) (l.0, refl, l.2, sym l.5, l.4, l.5, l.6)
 answering_unit r a (EndOfData session serial refresh retry expire) items is h l =
     end_unit r a (EndOfData session serial refresh retry expire) session serial (bounded refresh retry expire) items h l refl refl (l.0, refl, refl, sym l.5, l.4, l.5)
 answering_unit r a (EndOfData0 session serial) items is h l =
     end_unit r a (EndOfData0 session serial) session serial default_intervals items h l refl refl (l.0, refl, refl, sym l.5, l.4, l.5)
 answering_unit r a (ErrorReport e) items is h l = told_unit r a.question e items l.5 l.0 h (λ i. question_of (l.2 i) (l.1 i)) l.4
-answering_unit r a (CacheResponse session) items is h l = ends_0 r (CacheResponse session) items l.0 h.now_is (ap (λ o. emptied_if (is_wrong o (kept items).version session) (kept items)) l.1 ∙ h.kept_is) h.due_is
-answering_unit r a (SerialQuery session serial) items is h l = ends_0 r (SerialQuery session serial) items l.0 h.now_is h.kept_is h.due_is
-answering_unit r a ResetQuery items is h l = ends_0 r ResetQuery items l.0 h.now_is h.kept_is h.due_is
-answering_unit r a CacheReset items is h l = ends_0 r CacheReset items l.0 h.now_is h.kept_is h.due_is
+answering_unit r a (CacheResponse session) items is h l = ends_0 r (CacheResponse session) items l.0 h (ap (λ o. emptied_if (is_wrong o (of_version (spoken items) (kept items).version) session) (kept items)) l.1 ∙ h.kept_is) h.due_is
+answering_unit r a (SerialQuery session serial) items is h l = ends_0 r (SerialQuery session serial) items l.0 h h.kept_is h.due_is
+answering_unit r a ResetQuery items is h l = ends_0 r ResetQuery items l.0 h h.kept_is h.due_is
+answering_unit r a CacheReset items is h l = ends_0 r CacheReset items l.0 h h.kept_is h.due_is
 
 -- every unit
 pub live_unit : (r : Router) (l : Link) (u : Unit) (items : List Item) → is_reading l ≡ true → r.link ≡ l → Before r items → LinkTells l r.agreed r.session r.table items → After (on_unit l u r) u items
@@ -346,18 +351,18 @@ pub record Adds (n : Noted) (items : List Item) : Type 0 where
 
 reads_adds : (r : Router) (u : Unit) (items : List Item) → is_reading r.link ≡ true → r.out ≡ [] → Tells r items → Adds (reads u r) items
 reads_adds r u items live none t =
-    let after = live_unit r r.link u items live refl (record { kept_is = t.kept_is; due_is = t.due_is; now_is = t.now_is; none = none }) t.link in
+    let after = live_unit r r.link u items live refl (record { kept_is = t.kept_is; due_is = t.due_is; now_is = t.now_is; spoken_is = t.spoken_is; none = none }) t.link in
     record { tells = subst (λ x. Tells (on_unit r.link u r) x) (sym (append_assoc (asked_by (on_unit r.link u r).link (on_unit r.link u r).out) (Reads u ∷ []) items)) after }
 
 pub bytes_add : (memory : Bool) (bytes : List ℕ) (r : Router) (j : Judgement) (items : List Item) → is_reading r.link ≡ true → r.out ≡ [] → Tells r items → Adds (with_bytes memory bytes r j) items
-bytes_add memory bytes r Begins items live none t = record { tells = record { kept_is = t.kept_is; due_is = t.due_is; now_is = t.now_is; link = t.link } }
+bytes_add memory bytes r Begins items live none t = record { tells = record { kept_is = t.kept_is; due_is = t.due_is; now_is = t.now_is; spoken_is = t.spoken_is; link = t.link } }
 bytes_add memory bytes r (Faulty fault) items live none t =
-    record { tells = record { kept_is = t.kept_is; due_is = t.due_is; now_is = t.now_is; link = connected r.link r.agreed r.session r.table items live t.link } }
+    record { tells = record { kept_is = t.kept_is; due_is = t.due_is; now_is = t.now_is; spoken_is = t.spoken_is; link = connected r.link r.agreed r.session r.table items live t.link } }
 bytes_add memory bytes r (Whole u) items live none t = by_memory (may_lack r.link u r && not memory)
   where
     emptied_hand : Router
     emptied_hand = record r { held = [] }
 
     by_memory : (b : Bool) → Adds (if b then lacks u emptied_hand else reads u emptied_hand) items
-    by_memory true = record { tells = record { kept_is = t.kept_is; due_is = t.due_is; now_is = t.now_is; link = connected r.link r.agreed r.session r.table items live t.link } }
-    by_memory false = reads_adds emptied_hand u items live none (record { kept_is = t.kept_is; due_is = t.due_is; now_is = t.now_is; link = t.link })
+    by_memory true = record { tells = record { kept_is = t.kept_is; due_is = t.due_is; now_is = t.now_is; spoken_is = t.spoken_is; link = connected r.link r.agreed r.session r.table items live t.link } }
+    by_memory false = reads_adds emptied_hand u items live none (record { kept_is = t.kept_is; due_is = t.due_is; now_is = t.now_is; spoken_is = t.spoken_is; link = t.link })

@@ -27,9 +27,11 @@ pub mod SeenLaws
 pub mod SenderLaws
 pub mod ServeStreamLaws
 pub mod ServingLaws
+pub mod SpokenLaws
 pub mod StagingLaws
 pub mod TableLaws
 pub mod TakenLaws
 pub mod TranscriptRows
 pub mod UnitByUnit
+pub mod VersionRows
 pub mod WholeAnswerRows

@@ -26,7 +26,7 @@ use Rattle.rtr_ends.proofs.RouterRows.{just_v, asked_all, answering, by_stage, v
 
 -- A report with code 0 and a copy of the unit. The link ends, and what is held stays.
 abbrev Rejects : Link → Unit → Router → Type 0
-Rejects link u r = on_unit link u r ≡ record r { link = Ended (ends.Reported 0); out = sent V1 (report 0 (sent V1 u)) }
+Rejects link u r = on_unit link u r ≡ record r { link = Ended (ends.Reported 0); out = sent r.spoken (report 0 (sent r.spoken u)) }
 
 idle_rejects : (r : Router) (announce : Bool) (x : Payload) (key : Key) (session serial refresh retry expire : ℕ)
     → Rejects Idle (CacheResponse session) r × Rejects Idle (Prefix announce x) r × Rejects Idle (RouterKey key) r

@@ -11,14 +11,13 @@ use Rattle.rtr_pdu.specs.declared.unit.Unit.{Unit}
 use Rattle.rtr_pdu.specs.declared.unit.Unit.TheVariants.{SerialNotify, SerialQuery, ResetQuery, CacheResponse, Prefix, EndOfData, EndOfData0, CacheReset, RouterKey, ErrorReport}
 use Rattle.rtr_ends.specs.declared.link.End.{End}
 use Rattle.rtr_ends.specs.declared.link.End.TheVariants as ends
-use Rattle.rtr_pdu.specs.declared.version.Version.TheVariants.{V1}
 use Rattle.rtr_ends.specs.Answer.{report, sent}
 use Rattle.rtr_ends.specs.LinkRules as rules
 use Rattle.rtr_ends.specs.LinkRules.{Router, ask, asking, commit, fails, is_news, is_staged, is_strange, may_lack, on_unit, reports, stage, staged, ended_by, told_off}
 use Rattle.rtr_ends.specs.Router.{asks, asks_if, clocked, close, closed_at, connects_at, expired, judged_by_clock, ticks_at}
 use Rattle.rtr_ends.specs.RouterLink.{Link, Idle, Asked, Answering, Ended, is_due, is_idle}
 use Rattle.rtr_ends.specs.Timing.{default_intervals}
-use Rattle.rtr_ends.specs.Transcript.{Question, AskReset, AskSerial, Begun, base_of, bounded, is_over, is_wrong, later, query, sum_of, within}
+use Rattle.rtr_ends.specs.Transcript.{Question, AskReset, AskSerial, Begun, base_of, bounded, is_over, is_wrong, later, of_version, query, sum_of, within}
 use Rattle.rtr_ends.specs.Seen.{Does, EndsLink, IsStaged, UnitIsRead, ShowsRouter, Stages, begun_with, seen, seen_link, seen_question, seen_version, seen_versions}
 use Rattle.rtr_ends.specs.Staging.{StagesRecord, GoesTo, LeadsToSet}
 use Rattle.rtr_ends.specs.declared.staging.Staging.{Staging}
@@ -40,19 +39,19 @@ Steps s u step old = (withdrawn announced : List Payload) (held : List ℕ) → 
 
 -- The link ends with a report, and what is held stays.
 pub reports_so : (u : Unit) (s : State) (old new : Machine) → old.state ≡ s → Steps s u (reports 0 u) old
-    → new ≡ record old { state = states.Ended (ends.Reported 0); out = sent V1 (report 0 (sent V1 u)) } → Does (λ r. on_unit r.link u r) old new
+    → new ≡ record old { state = states.Ended (ends.Reported 0); out = sent old.spoken (report 0 (sent old.spoken u)) } → Does (λ r. on_unit r.link u r) old new
 reports_so u s old new is steps e =
     unit_does u s old new is (λ withdrawn announced held staged.
     subst (λ n. ShowsRouter (on_unit (seen_link s withdrawn announced) u (seen old withdrawn announced held)) n) (sym e)
-    (shown_as _ (record old { state = states.Ended (ends.Reported 0); out = sent V1 (report 0 (sent V1 u)) }) withdrawn announced held (steps withdrawn announced held) tt))
+    (shown_as _ (record old { state = states.Ended (ends.Reported 0); out = sent old.spoken (report 0 (sent old.spoken u)) }) withdrawn announced held (steps withdrawn announced held) tt))
 
 -- The same, and emptied.
 pub fails_so : (u : Unit) (s : State) (old new : Machine) → old.state ≡ s → Steps s u (fails u) old
-    → new ≡ record old { table = empty; version = None; mark = false; state = states.Ended (ends.Reported 0); out = sent V1 (report 0 (sent V1 u)) } → Does (λ r. on_unit r.link u r) old new
+    → new ≡ record old { table = empty; version = None; mark = false; state = states.Ended (ends.Reported 0); out = sent old.spoken (report 0 (sent old.spoken u)) } → Does (λ r. on_unit r.link u r) old new
 fails_so u s old new is steps e =
     unit_does u s old new is (λ withdrawn announced held staged.
     subst (λ n. ShowsRouter (on_unit (seen_link s withdrawn announced) u (seen old withdrawn announced held)) n) (sym e)
-    (shown_as _ (record old { table = empty; version = None; mark = false; state = states.Ended (ends.Reported 0); out = sent V1 (report 0 (sent V1 u)) }) withdrawn announced held (steps withdrawn announced held) tt))
+    (shown_as _ (record old { table = empty; version = None; mark = false; state = states.Ended (ends.Reported 0); out = sent old.spoken (report 0 (sent old.spoken u)) }) withdrawn announced held (steps withdrawn announced held) tt))
 
 -- Nothing happens.
 pub stays_so : (u : Unit) (s : State) (old : Machine) → old.state ≡ s → Steps s u (λ r. r) old → Does (λ r. on_unit r.link u r) old old
@@ -95,7 +94,7 @@ no_code ended_by code n e h = by_test (code == n) refl
     by_test true is = absurd (h (let same : code ≡ n = grind (arith, nat_tests) in e ∙ same))
 
 -- A Reset Query is asked, after agreement.
-pub asks_again : (old new : Machine) → new ≡ record old { agreed = true; state = states.Asked questions.Reset; out = sent V1 (query AskReset) } → Does (λ r. asking AskReset (record r { agreed = true })) old new
+pub asks_again : (old new : Machine) → new ≡ record old { agreed = true; state = states.Asked questions.Reset; out = sent old.spoken (query AskReset) } → Does (λ r. asking AskReset (record r { agreed = true })) old new
 asks_again old new e r s =
     subst (λ n. ShowsRouter (asking AskReset (record r { agreed = true })) n) (sym e)
     (record { withdrawn = s.withdrawn; announced = s.announced; staged = tt; is = ap (λ (x : Router). asking AskReset (record x { agreed = true })) s.is })
@@ -163,7 +162,7 @@ module _ (session serial : ℕ) (u : Unit) (is : u ≡ SerialNotify session seri
   -- A notify of another session
   pub idle_strange : is_strange r session ≡ true → on_unit Idle u r ≡ fails u r
   unfolding on_unit
-  idle_strange h = subst (λ x. on_unit Idle x r ≡ fails x r) (sym is) (ap (λ b. if b then fails (SerialNotify session serial) r else if is_news r.version serial then ask r else r) h)
+  idle_strange h = subst (λ x. on_unit Idle x r ≡ fails x r) (sym is) (ap (λ b. if b then fails (SerialNotify session serial) r else if is_news (of_version r.spoken r.version) serial then ask r else r) h)
 
   pub asked_strange : (q : Question) → is_strange r session ≡ true → on_unit (Asked q) u r ≡ fails u r
   unfolding on_unit
@@ -174,11 +173,11 @@ module _ (session serial : ℕ) (u : Unit) (is : u ≡ SerialNotify session seri
   answering_strange a h = subst (λ x. on_unit (Answering a) x r ≡ fails x r) (sym is) (ap (λ b. if b then fails (SerialNotify session serial) r else r) h)
 
   -- of this session
-  pub idle_news : is_strange r session ≡ false → is_news r.version serial ≡ true → on_unit Idle u r ≡ ask r
+  pub idle_news : is_strange r session ≡ false → is_news (of_version r.spoken r.version) serial ≡ true → on_unit Idle u r ≡ ask r
   unfolding on_unit
   idle_news h k = subst (λ x. on_unit Idle x r ≡ ask r) (sym is) (λ i. if h i then fails (SerialNotify session serial) r else if k i then ask r else r)
 
-  pub idle_old : is_strange r session ≡ false → is_news r.version serial ≡ false → on_unit Idle u r ≡ r
+  pub idle_old : is_strange r session ≡ false → is_news (of_version r.spoken r.version) serial ≡ false → on_unit Idle u r ≡ r
   unfolding on_unit
   idle_old h k = subst (λ x. on_unit Idle x r ≡ r) (sym is) (λ i. if h i then fails (SerialNotify session serial) r else if k i then ask r else r)
 
@@ -209,13 +208,13 @@ unfolding on_unit
 answering_told e u is a r = ap (λ x. on_unit (Answering a) x r) is
 
 -- A Cache Response
-pub asked_wrong : (session : ℕ) (u : Unit) → u ≡ CacheResponse session → (q : Question) (r : Router) → is_wrong (Some q) r.version session ≡ true → on_unit (Asked q) u r ≡ fails u r
+pub asked_wrong : (session : ℕ) (u : Unit) → u ≡ CacheResponse session → (q : Question) (r : Router) → is_wrong (Some q) (of_version r.spoken r.version) session ≡ true → on_unit (Asked q) u r ≡ fails u r
 unfolding on_unit
 asked_wrong session u is q r h =
     subst (λ x. on_unit (Asked q) x r ≡ fails x r) (sym is)
     (ap (λ b. if b then fails (CacheResponse session) r else record r { agreed = true; session = Some session; link = Answering (record { question = q; session = session; withdrawn = []; announced = [] }) }) h)
 
-pub asked_begins : (session : ℕ) (u : Unit) → u ≡ CacheResponse session → (q : Question) (r : Router) → is_wrong (Some q) r.version session ≡ false
+pub asked_begins : (session : ℕ) (u : Unit) → u ≡ CacheResponse session → (q : Question) (r : Router) → is_wrong (Some q) (of_version r.spoken r.version) session ≡ false
     → on_unit (Asked q) u r ≡ record r { agreed = true; session = Some session; link = Answering (record { question = q; session = session; withdrawn = []; announced = [] }) }
 unfolding on_unit
 asked_begins session u is q r h =
@@ -275,7 +274,7 @@ module _ (old : Machine) (q : Question.Question) (session : ℕ) (is : old.state
       by_staged withdrawn announced held (rules.Wrong code) e h = absurd h
       by_staged withdrawn announced held rules.Over e h = absurd h
 
-  pub wrong_staged : (s : Staging) (n : ℕ) (new : Machine) → Goes (Ok (code.Wrong n)) s → new ≡ record old { staging = s; state = states.Ended (ends.Reported n); out = sent V1 (report n (sent V1 u)) }
+  pub wrong_staged : (s : Staging) (n : ℕ) (new : Machine) → Goes (Ok (code.Wrong n)) s → new ≡ record old { staging = s; state = states.Ended (ends.Reported n); out = sent old.spoken (report n (sent old.spoken u)) }
       → Does (λ r. on_unit r.link u r) old (record new { mark = true })
   wrong_staged s n new g e = unit_does u (states.Answering q session) old (record new { mark = true }) is (λ withdrawn announced held st.
       by_staged withdrawn announced held (stage base (a_of withdrawn announced) announce v) refl (goes (Ok (code.Wrong n)) s g withdrawn announced st))
@@ -285,7 +284,7 @@ module _ (old : Machine) (q : Question.Question) (session : ℕ) (is : old.state
       by_staged withdrawn announced held (rules.Stays a) k h = absurd h
       by_staged withdrawn announced held (rules.Wrong m) k h =
           subst (λ y. ShowsRouter (on_unit (Answering (a_of withdrawn announced)) u (seen old withdrawn announced held)) (record y { mark = true })) (sym e)
-          (shown_as (on_unit (Answering (a_of withdrawn announced)) u (seen old withdrawn announced held)) (record old { staging = s; state = states.Ended (ends.Reported n); out = sent V1 (report n (sent V1 u)); mark = true }) withdrawn announced held
+          (shown_as (on_unit (Answering (a_of withdrawn announced)) u (seen old withdrawn announced held)) (record old { staging = s; state = states.Ended (ends.Reported n); out = sent old.spoken (report n (sent old.spoken u)); mark = true }) withdrawn announced held
           (reads_record (a_of withdrawn announced) (seen old withdrawn announced held) ∙ ap (λ x. staged u x (seen old withdrawn announced held)) k
           ∙ ap (λ c. record (reports c u (seen old withdrawn announced held)) { mark = true }) (sym h)) tt)
       by_staged withdrawn announced held rules.Over k h = absurd h
@@ -325,12 +324,12 @@ module _ (old : Machine) (q : Question.Question) (session serial refresh retry e
   last_unit = EndOfData session serial refresh retry expire
 
   abbrev version_now : CommittedVersion
-  version_now = record { session = session; serial = serial; moment = old.clock; refresh = within 1 86400 refresh; retry = within 1 7200 retry; expire = within 600 172800 expire }
+  version_now = record { version = old.spoken; session = session; serial = serial; moment = old.clock; refresh = within 1 86400 refresh; retry = within 1 7200 retry; expire = within 600 172800 expire }
 
-  reads_end : (a : Begun) (r : Router) → a.session ≡ session → on_unit (Answering a) last_unit r ≡ commit a (record { session = session; serial = serial; moment = r.now; intervals = bounded refresh retry expire }) r
+  reads_end : (a : Begun) (r : Router) → a.session ≡ session → on_unit (Answering a) last_unit r ≡ commit a (record { version = r.spoken; session = session; serial = serial; moment = r.now; intervals = bounded refresh retry expire }) r
   unfolding on_unit
   reads_end a r e =
-      ap (λ b. if b then commit a (record { session = session; serial = serial; moment = r.now; intervals = bounded refresh retry expire }) r else fails last_unit r)
+      ap (λ b. if b then commit a (record { version = r.spoken; session = session; serial = serial; moment = r.now; intervals = bounded refresh retry expire }) r else fails last_unit r)
       (ap (λ n. session == n) e ∙ eq_self session)
 
   -- what is led to
@@ -363,7 +362,7 @@ pub answering_ends : (q : Question.Question) (session named serial refresh retry
 unfolding on_unit
 answering_ends q session named serial refresh retry expire u is other withdrawn announced r =
     subst (λ x. on_unit (Answering (begun_with q session withdrawn announced)) x r ≡ fails x r) (sym is)
-    (ap (λ b. if b then commit (begun_with q session withdrawn announced) (record { session = named; serial = serial; moment = r.now; intervals = bounded refresh retry expire }) r else fails (EndOfData named serial refresh retry expire) r) (no_code named named session refl other))
+    (ap (λ b. if b then commit (begun_with q session withdrawn announced) (record { version = r.spoken; session = named; serial = serial; moment = r.now; intervals = bounded refresh retry expire }) r else fails (EndOfData named serial refresh retry expire) r) (no_code named named session refl other))
 
 -- An End of Data of this session without intervals does what one with the recommended ones does.
 pub end_as_default : (old new : Machine) (q : Question.Question) (session serial : ℕ) (result : Result ⊤ SetFault) → old.state ≡ states.Answering q session
@@ -377,8 +376,8 @@ end_as_default old new q session serial result is h = by_result result h
         (same_session r (session == session) (eq_self session) (begun_with q session withdrawn announced), refl)
       where
         same_session : (r : Router) (b : Bool) → b ≡ true → (a : Begun)
-            → (if b then commit a (record { session = session; serial = serial; moment = r.now; intervals = default_intervals }) r else fails (EndOfData session serial 3600 600 7200) r)
-            ≡ (if b then commit a (record { session = session; serial = serial; moment = r.now; intervals = default_intervals }) r else fails (EndOfData0 session serial) r)
+            → (if b then commit a (record { version = r.spoken; session = session; serial = serial; moment = r.now; intervals = default_intervals }) r else fails (EndOfData session serial 3600 600 7200) r)
+            ≡ (if b then commit a (record { version = r.spoken; session = session; serial = serial; moment = r.now; intervals = default_intervals }) r else fails (EndOfData0 session serial) r)
         same_session r true e a = refl
         same_session r false e a = false_true e
 
@@ -433,9 +432,16 @@ stays_on old now clock is over = does_from (λ r. judged_by_clock (record r { no
     subst (λ x. ShowsRouter (judged_by_clock (record r { now = x })) (record old { clock = clock })) is
     (subst (λ x. ShowsRouter (if x then expired r.link r else r) (record old { clock = clock })) (sym over) (shown (record old { clock = clock }) withdrawn announced held st)))
 
+-- A connection is of the version that was told last.
+abbrev pub opens : Router → Router
+opens r = record r { spoken = r.speaks }
+
+pub opens_so : (old : Machine) → Does opens old (record old { spoken = old.speaks })
+opens_so old r s = record { withdrawn = s.withdrawn; announced = s.announced; staged = s.staged; is = ap opens s.is }
+
 -- Calls
 module _ (now : ℕ) where
-  pub connects : (r : Router) → (connects_at now r).router ≡ ask (close (clocked now r))
+  pub connects : (r : Router) → (connects_at now r).router ≡ ask (opens (close (clocked now r)))
   unfolding connects_at
   connects r = refl
 

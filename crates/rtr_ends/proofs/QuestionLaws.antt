@@ -4,7 +4,6 @@ use Rattle.std.proofs.Common.{sym, ap, ◌∙◌, subst, append_assoc, inl, inr}
 use Rattle.std.proofs.lemmas.Bool.{and_parts}
 use Rattle.prefixes.specs.Payload.{Payload}
 use Rattle.vrps.specs.VrpSet.{VrpSet, has, size}
-use Rattle.rtr_pdu.specs.declared.version.Version.TheVariants.{V1}
 use Rattle.rtr_pdu.specs.Judging.{Judgement, Begins, Whole, Faulty, judge}
 use Rattle.rtr_pdu.specs.Payloads.{Report}
 use Rattle.rtr_pdu.specs.declared.unit.Unit.{Unit}
@@ -14,11 +13,11 @@ use Rattle.rtr_ends.specs.declared.link.End.TheVariants as ends
 use Rattle.rtr_ends.specs.Cache.{is_none, finds_memory}
 use Rattle.rtr_ends.specs.Answer.{sent}
 use Rattle.rtr_ends.specs.LinkRules.{may_lack, Router, Staged, Stays, Wrong, Over, ask, commit, emptied, fails, is_news, is_strange, on_unit, reports, stage, staged, ended_by, told_off}
-use Rattle.rtr_ends.specs.Router.{RouterCall, Connects, Receives, Pulls, Closes, AsksNow, Ticks, called, played, Receiving, router_byte, router_stops, asks, asks_if, clocked, close, closed_at, connects_at, expired, receives, router_pulled, ticks_at, Noted, asked_by, lacks, reads, with_bytes}
+use Rattle.rtr_ends.specs.Router.{RouterCall, Connects, Receives, Pulls, Closes, AsksNow, Ticks, Speaks, called, played, Receiving, router_byte, router_stops, asks, asks_if, clocked, close, closed_at, connects_at, expired, receives, router_pulled, ticks_at, Noted, asked_by, lacks, reads, with_bytes}
 use Rattle.rtr_ends.specs.RouterLaws.{RouterAsks, LinkTells}
 use Rattle.rtr_ends.specs.RouterLink.{is_closed, is_due, Link, Closed, Idle, Asked, Answering, Ended, is_idle, is_reading}
 use Rattle.rtr_ends.specs.Timing.{Intervals, default_intervals}
-use Rattle.rtr_ends.specs.Transcript.{Question, AskReset, AskSerial, AsksRightly, Begun, Item, At, Opened, Asks, Reads, Lacks, Breaks, Refused, Restarts, Shut, acts_once, acts_wrongly, base_of, bounded, choose, does_commit, is_among, is_serial, is_wrong, is_over, kept, later, led_to, marked, next_question, query, retry_of, sum_of, under_way}
+use Rattle.rtr_ends.specs.Transcript.{Question, AskReset, AskSerial, AsksRightly, Begun, Item, At, Opened, Asks, Reads, Lacks, Breaks, Refused, Restarts, Shut, acts_once, acts_wrongly, base_of, bounded, choose, does_commit, is_among, is_serial, is_wrong, is_over, kept, later, led_to, marked, next_question, of_version, query, retry_of, spoken, sum_of, under_way}
 use Rattle.rtr_ends.proofs.FeedingLaws.{feed_keeps}
 use Rattle.rtr_ends.proofs.KeptUnits.{Tells, bytes_add, holds}
 use Rattle.rtr_ends.proofs.KeptLaws.{called_tells, clocked_tells, new_tells, none_is}
@@ -29,14 +28,17 @@ use Rattle.prefixes.proofs.Basics.{true_of_not}
 abbrev MarkTells : Router → List Item → Type 0
 MarkTells r items = (r.version ≡ None) ⊎ (marked items ≡ r.mark)
 
-choose_same : (r : Router) (items : List Item) → kept items ≡ holds r → MarkTells r items → choose r.version r.mark ≡ choose (kept items).version (marked items)
-choose_same r items k (inl none) = ap (λ v. choose v r.mark) none ∙ sym (ap (λ x. choose x.version (marked items)) k ∙ ap (λ v. choose v (marked items)) none)
-choose_same r items k (inr e) = λ i. choose (sym k i).version (sym e i)
+choose_same : (r : Router) (items : List Item) → kept items ≡ holds r → spoken items ≡ r.spoken → MarkTells r items
+    → choose (of_version r.spoken r.version) r.mark ≡ choose (of_version (spoken items) (kept items).version) (marked items)
+choose_same r items k s (inl none) =
+    ap (λ v. choose (of_version r.spoken v) r.mark) none
+    ∙ sym (ap (λ x. choose (of_version (spoken items) x.version) (marked items)) k ∙ ap (λ v. choose (of_version (spoken items) v) (marked items)) none)
+choose_same r items k s (inr e) = λ i. choose (of_version (sym s i) (sym k i).version) (sym e i)
 
 -- the question that a unit makes a router put
 abbrev put_by : Unit → Router → Question
 put_by CacheReset n = AskReset
-put_by u n = choose n.version n.mark
+put_by u n = choose (of_version n.spoken n.version) n.mark
 
 abbrev Puts : Unit → Router → Link → List ℕ → Type 0
 Puts u n (Asked q) (b ∷ out) = q ≡ put_by u n
@@ -60,7 +62,7 @@ puts_none u n (Asked q) [] e = tt
 puts_none u n (Asked q) (b ∷ out) e = absurd (let h : b ∷ out ≡ [] = e in cc)
 
 -- a question that is put
-puts_it : (u : Unit) (n : Router) (q : Question) → q ≡ put_by u n → Puts u n (Asked q) (sent V1 (query q))
+puts_it : (u : Unit) (n : Router) (q : Question) → q ≡ put_by u n → Puts u n (Asked q) (sent n.spoken (query q))
 puts_it u n AskReset e = e
 puts_it u n (AskSerial session serial) e = e
 
@@ -80,8 +82,8 @@ idle_asks : (u : Unit) (r : Router) (items : List Item) → r.out ≡ [] → und
 unfolding on_unit
 idle_asks (SerialNotify session serial) r items none w m =
     let u : Unit = SerialNotify session serial in
-    if_asks u (is_strange r session) (fails u r) (if is_news r.version serial then ask r else r) (Reads u ∷ items) (ends_quiet u (fails u r) (ends.Reported 0) (Reads u ∷ items) refl (inl refl))
-    (if_asks u (is_news r.version serial) (ask r) r (Reads u ∷ items) (record { mark = m; puts = puts_it u (ask r) (choose r.version r.mark) refl }) (quiet u r (Reads u ∷ items) none m))
+    if_asks u (is_strange r session) (fails u r) (if is_news (of_version r.spoken r.version) serial then ask r else r) (Reads u ∷ items) (ends_quiet u (fails u r) (ends.Reported 0) (Reads u ∷ items) refl (inl refl))
+    (if_asks u (is_news (of_version r.spoken r.version) serial) (ask r) r (Reads u ∷ items) (record { mark = m; puts = puts_it u (ask r) (choose (of_version r.spoken r.version) r.mark) refl }) (quiet u r (Reads u ∷ items) none m))
 idle_asks (ErrorReport e) r items none w m =
     let u : Unit = ErrorReport e in
     if_asks u (e.code == 2) r (ended_by e.code r) (Reads u ∷ items) (quiet u r (Reads u ∷ items) none m) (ends_quiet u (ended_by e.code r) (ends.Told e.code) (Reads u ∷ items) refl m)
@@ -120,7 +122,7 @@ asked_asks q (SerialNotify session serial) r items none w m =
 asked_asks q (CacheResponse session) r items none w m =
     let u : Unit = CacheResponse session in
     let n : Router = record r { agreed = true; session = Some session; link = Answering (record { question = q; session = session; withdrawn = []; announced = [] }) } in
-    if_asks u (is_wrong (Some q) r.version session) (fails u r) n (Reads u ∷ items) (ends_quiet u (fails u r) (ends.Reported 0) (Reads u ∷ items) refl (inl refl)) (quiet u n (Reads u ∷ items) none m)
+    if_asks u (is_wrong (Some q) (of_version r.spoken r.version) session) (fails u r) n (Reads u ∷ items) (ends_quiet u (fails u r) (ends.Reported 0) (Reads u ∷ items) refl (inl refl)) (quiet u n (Reads u ∷ items) none m)
 asked_asks (AskSerial session serial) CacheReset r items none w m = record { mark = m; puts = refl }
 asked_asks AskReset CacheReset r items none w m = ends_quiet CacheReset (reports 0 CacheReset r) (ends.Reported 0) (Reads CacheReset ∷ items) refl m
 asked_asks q (ErrorReport e) r items none w m = told_asks q e (record r { agreed = true }) items none m
@@ -178,11 +180,11 @@ staged_asks u Over b r items later none k e m = ends_quiet u (record r { link = 
 end_asks : (a : Begun) (u : Unit) (session serial : ℕ) (t : Intervals) (r : Router) (items : List Item) → r.out ≡ [] → under_way items ≡ Some a → kept items ≡ holds r
     → acts_once (base_of a.question r.table) a.withdrawn a.announced ≡ true
     → marked (Reads u ∷ items) ≡ (not (does_commit (under_way items) session (kept items).table) && marked items)
-    → After u (if session == a.session then commit a (record { session = session; serial = serial; moment = r.now; intervals = t }) r else fails u r) items
+    → After u (if session == a.session then commit a (record { version = r.spoken; session = session; serial = serial; moment = r.now; intervals = t }) r else fails u r) items
 end_asks a u session serial t r items none w k once n = by_session (session == a.session) refl
   where
     done : Router
-    done = commit a (record { session = session; serial = serial; moment = r.now; intervals = t }) r
+    done = commit a (record { version = r.spoken; session = session; serial = serial; moment = r.now; intervals = t }) r
 
     by_session : (b : Bool) → (session == a.session) ≡ b → After u (if b then done else fails u r) items
     by_session true same = quiet u done (Reads u ∷ items) none (inr (n ∙ (λ i. not (does_commit (w i) session (k i).table) && marked items) ∙ (λ i. not (same i && once i) && marked items)))
@@ -219,10 +221,10 @@ abbrev is_reset : List Item → Bool
 is_reset (Reads CacheReset ∷ items) = true
 is_reset items = false
 
-next_is : (items : List Item) → is_reset items ≡ false → next_question items ≡ choose (kept items).version (marked items)
+next_is : (items : List Item) → is_reset items ≡ false → next_question items ≡ choose (of_version (spoken items) (kept items).version) (marked items)
 next_is [] h = refl
 next_is (At now ∷ items) h = refl
-next_is (Opened ∷ items) h = refl
+next_is (Opened version ∷ items) h = refl
 next_is (Asks q ∷ items) h = refl
 next_is (Lacks u ∷ items) h = refl
 next_is (Breaks fault ∷ items) h = refl
@@ -257,17 +259,17 @@ record Chooses (r : Router) (items : List Item) : Type 0 where
   pub not_reset : is_idle r.link ≡ true → is_reset items ≡ false
 
 -- what a unit adds
-asked_so : (u : Unit) (n : Router) (items : List Item) (l : Link) (out : List ℕ) → kept (asked_by l out ++ Reads u ∷ items) ≡ holds n → MarkTells n (Reads u ∷ items) → Puts u n l out → AsksRightly items → AsksRightly (asked_by l out ++ Reads u ∷ items)
-asked_so u n items Closed out k m p a = a
-asked_so u n items (Ended end) out k m p a = a
-asked_so u n items Idle out k m p a = a
-asked_so u n items (Answering b) out k m p a = a
-asked_so u n items (Asked q) [] k m p a = a
-asked_so u n items (Asked q) (b ∷ out) k m p a = (by_unit u k m p, a)
+asked_so : (u : Unit) (n : Router) (items : List Item) (l : Link) (out : List ℕ) → kept (asked_by l out ++ Reads u ∷ items) ≡ holds n → spoken (asked_by l out ++ Reads u ∷ items) ≡ n.spoken → MarkTells n (Reads u ∷ items) → Puts u n l out → AsksRightly items → AsksRightly (asked_by l out ++ Reads u ∷ items)
+asked_so u n items Closed out k s m p a = a
+asked_so u n items (Ended end) out k s m p a = a
+asked_so u n items Idle out k s m p a = a
+asked_so u n items (Answering b) out k s m p a = a
+asked_so u n items (Asked q) [] k s m p a = a
+asked_so u n items (Asked q) (b ∷ out) k s m p a = (by_unit u k s m p, a)
   where
-    by_unit : (v : Unit) → kept (Reads v ∷ items) ≡ holds n → MarkTells n (Reads v ∷ items) → q ≡ put_by v n → q ≡ next_question (Reads v ∷ items)
-    by_unit CacheReset k m p = p
-    by_unit v k m p = p ∙ choose_same n (Reads v ∷ items) k m
+    by_unit : (v : Unit) → kept (Reads v ∷ items) ≡ holds n → spoken (Reads v ∷ items) ≡ n.spoken → MarkTells n (Reads v ∷ items) → q ≡ put_by v n → q ≡ next_question (Reads v ∷ items)
+    by_unit CacheReset k s m p = p
+    by_unit v k s m p = p ∙ choose_same n (Reads v ∷ items) k s m
 
 -- the mark beside a question
 asked_mark : (n : Router) (items : List Item) (l : Link) (out : List ℕ) → MarkTells n items → MarkTells n (asked_by l out ++ items)
@@ -306,7 +308,7 @@ reads_choose r u items live none c tells = record { tells = tells; mark = mark; 
     mark = subst (λ x. MarkTells n x) (sym later_is) (asked_mark n (Reads u ∷ items) n.link n.out did.mark)
 
     asked : AsksRightly ((asked_by n.link n.out ++ Reads u ∷ []) ++ items)
-    asked = subst (λ x. AsksRightly x) (sym later_is) (asked_so u n items n.link n.out (ap kept (sym later_is) ∙ tells.kept_is) did.mark did.puts c.asked)
+    asked = subst (λ x. AsksRightly x) (sym later_is) (asked_so u n items n.link n.out (ap kept (sym later_is) ∙ tells.kept_is) (ap spoken (sym later_is) ∙ tells.spoken_is) did.mark did.puts c.asked)
 
     not_reset : is_idle n.link ≡ true → is_reset ((asked_by n.link n.out ++ Reads u ∷ []) ++ items) ≡ false
     not_reset idle = ap is_reset later_is ∙ idle_so n.link n.out u items idle (not_reset_unit r u items live idle)
@@ -327,16 +329,16 @@ bytes_choose memory bytes r (Whole u) items live none c = by_memory (may_lack r.
     by_memory true tells = record { tells = tells; mark = c.mark; asked = c.asked; not_reset = λ h. false_true h }
     by_memory false tells =
         reads_choose hand u items live none
-        (record { tells = record { kept_is = c.tells.kept_is; due_is = c.tells.due_is; now_is = c.tells.now_is; link = c.tells.link }; mark = c.mark; asked = c.asked; not_reset = c.not_reset }) tells
+        (record { tells = record { kept_is = c.tells.kept_is; due_is = c.tells.due_is; now_is = c.tells.now_is; spoken_is = c.tells.spoken_is; link = c.tells.link }; mark = c.mark; asked = c.asked; not_reset = c.not_reset }) tells
 
 -- a piece, byte by byte
 byte_chooses : (items : List Item) (m : Receiving) (b : ℕ) → router_stops m.router ≡ false → Chooses m.router (m.items ++ items) → Chooses (router_byte m b).router ((router_byte m b).items ++ items)
 unfolding router_byte
 byte_chooses items m b goes_on c =
     let parts = and_parts (is_reading m.router.link) (is_none m.router.out) (true_of_not (is_reading m.router.link && is_none m.router.out) goes_on) in
-    let n : Noted = with_bytes (finds_memory m.wanting) (m.router.held ++ b ∷ []) m.router (judge V1 (not m.router.agreed) (m.router.held ++ b ∷ [])) in
+    let n : Noted = with_bytes (finds_memory m.wanting) (m.router.held ++ b ∷ []) m.router (judge m.router.spoken (not m.router.agreed) (m.router.held ++ b ∷ [])) in
     subst (λ x. Chooses n.router x) (sym (append_assoc n.items m.items items))
-    (bytes_choose (finds_memory m.wanting) (m.router.held ++ b ∷ []) m.router (judge V1 (not m.router.agreed) (m.router.held ++ b ∷ [])) (m.items ++ items) parts.0 (none_is m.router.out parts.1) c)
+    (bytes_choose (finds_memory m.wanting) (m.router.held ++ b ∷ []) m.router (judge m.router.spoken (not m.router.agreed) (m.router.held ++ b ∷ [])) (m.items ++ items) parts.0 (none_is m.router.out parts.1) c)
 
 -- the clock
 expired_mark : (l : Link) (r : Router) (items : List Item) → MarkTells (expired l r) items
@@ -374,13 +376,13 @@ close_mark r items m = by_test (is_closed r.link)
     by_test false = m
 
 -- the question of an idle link, or of a new connection
-asks_choose : (r : Router) (items : List Item) (b : Bool) → (b ≡ true → is_reset items ≡ false) → (b ≡ false → is_idle r.link ≡ true → is_reset items ≡ false) → kept items ≡ holds r → MarkTells r items → AsksRightly items
+asks_choose : (r : Router) (items : List Item) (b : Bool) → (b ≡ true → is_reset items ≡ false) → (b ≡ false → is_idle r.link ≡ true → is_reset items ≡ false) → kept items ≡ holds r → spoken items ≡ r.spoken → MarkTells r items → AsksRightly items
     → Tells (asks_if b r).router ((asks_if b r).items ++ items) → Chooses (asks_if b r).router ((asks_if b r).items ++ items)
-asks_choose r items false resets idle k m a tells = record { tells = tells; mark = m; asked = a; not_reset = idle refl }
-asks_choose r items true resets idle k m a tells = record {
+asks_choose r items false resets idle k s m a tells = record { tells = tells; mark = m; asked = a; not_reset = idle refl }
+asks_choose r items true resets idle k s m a tells = record {
   tells = tells;
   mark = m;
-  asked = (choose_same r items k m ∙ sym (next_is items (resets refl)), a);
+  asked = (choose_same r items k s m ∙ sym (next_is items (resets refl)), a);
   not_reset = λ h. false_true h;
 }
 
@@ -394,25 +396,26 @@ called_chooses (Connects now) r items c =
     record {
       tells = tells;
       mark = m;
-      asked = (choose_same (close (clocked now r)) (Opened ∷ At now ∷ items) tells.kept_is m, c.asked);
+      asked = (choose_same (record (close (clocked now r)) { spoken = (close (clocked now r)).speaks }) (Opened (close (clocked now r)).speaks ∷ At now ∷ items) tells.kept_is refl m, c.asked);
       not_reset = λ h. false_true h;
     }
 called_chooses (Receives now wanting piece) r items c =
     feed_keeps (λ (m : Receiving). router_stops m.router) router_byte (λ rest m. Chooses m.router (m.items ++ items)) (λ b rest m goes_on h. byte_chooses items m b goes_on h)
     (record { router = clocked now r; items = At now ∷ []; wanting = wanting }) piece (clocked_chooses now r items c)
 called_chooses (Pulls most) r items c = record { tells = called_tells (Pulls most) r items c.tells; mark = c.mark; asked = c.asked; not_reset = c.not_reset }
+called_chooses (Speaks version) r items c = record { tells = called_tells (Speaks version) r items c.tells; mark = c.mark; asked = c.asked; not_reset = c.not_reset }
 called_chooses (Closes now) r items c =
     let k = clocked_chooses now r items c in
     record { tells = called_tells (Closes now) r items c.tells; mark = close_mark (clocked now r) (At now ∷ items) k.mark; asked = c.asked; not_reset = λ h. refl }
 called_chooses AsksNow r items c =
-    asks_choose r items (is_idle r.link) c.not_reset (λ off on. false_true (sym off ∙ on)) c.tells.kept_is c.mark c.asked (called_tells AsksNow r items c.tells)
+    asks_choose r items (is_idle r.link) c.not_reset (λ off on. false_true (sym off ∙ on)) c.tells.kept_is c.tells.spoken_is c.mark c.asked (called_tells AsksNow r items c.tells)
 called_chooses (Ticks now) r items c =
     let k = clocked_chooses now r items c in
     let n : Router = clocked now r in
     let b : Bool = is_due n.link n.due n.now in
     let e = append_assoc (asks_if b n).items (At now ∷ []) items in
     subst (λ x. Chooses (asks_if b n).router x) (sym e)
-    (asks_choose n (At now ∷ items) b (λ h. refl) (λ off on. refl) k.tells.kept_is k.mark k.asked (subst (λ x. Tells (asks_if b n).router x) e (called_tells (Ticks now) r items c.tells)))
+    (asks_choose n (At now ∷ items) b (λ h. refl) (λ off on. refl) k.tells.kept_is k.tells.spoken_is k.mark k.asked (subst (λ x. Tells (asks_if b n).router x) e (called_tells (Ticks now) r items c.tells)))
 
 played_choose : (calls : List RouterCall) → Chooses (played calls).router (played calls).items
 played_choose [] = record { tells = new_tells; mark = inl refl; asked = tt; not_reset = λ h. false_true h }
@@ -422,4 +425,4 @@ played_choose (call ∷ calls) = called_chooses call (played calls).router (play
 pub router_asks : RouterAsks
 router_asks calls =
     let c = played_choose calls in
-    record { next = choose_same (played calls).router (played calls).items c.tells.kept_is c.mark; asked = c.asked }
+    record { next = choose_same (played calls).router (played calls).items c.tells.kept_is c.tells.spoken_is c.mark; asked = c.asked }

@@ -1,6 +1,5 @@
 -- What a router takes byte by byte is what its reader takes unit by unit.
 use Rattle.std.specs.Prelude.{◌≡◌, ℕ, suc, Bool, true, false, not, List, [], ◌++◌, Option, Some, None, refl}
-use Rattle.rtr_pdu.specs.declared.version.Version.TheVariants.{V1}
 use Rattle.rtr_pdu.specs.Judging.{Whole, Faulty}
 use Rattle.rtr_pdu.specs.Reader.{IsFaulty, IsRead}
 use Rattle.rtr_pdu.specs.Stream.{IsPartial, as_read}
@@ -22,7 +21,7 @@ router_machine = record {
   step = router_byte;
   held = λ m. m.router.held;
   any = λ m. not m.router.agreed;
-  start = λ m. Some V1;
+  start = λ m. Some m.router.spoken;
   holding = λ m bytes. record m { router = record m.router { held = bytes } };
   judged = λ m version. router_judged m;
   own = λ m. refl;
@@ -41,21 +40,21 @@ stopped r items wanting piece stop = units.none_taken router_machine (taking r i
 
 module _ (r : Router) (taken rest : List ℕ) (on : router_stops r ≡ false) (items : List Item) (wanting : Option ℕ) where
   -- A reader asks for more.
-  pub more_taken : IsPartial V1 (as_read V1 (not r.agreed) (r.held ++ taken)) → fed r items wanting (taken ++ []) ≡ fed (record r { held = r.held ++ taken }) items wanting []
+  pub more_taken : IsPartial r.spoken (as_read r.spoken (not r.agreed) (r.held ++ taken)) → fed r items wanting (taken ++ []) ≡ fed (record r { held = r.held ++ taken }) items wanting []
   unfolding router_machine
-  more_taken part = units.more_taken router_machine (taking r items wanting) on V1 taken [] refl part
+  more_taken part = units.more_taken router_machine (taking r items wanting) on r.spoken taken [] refl part
 
   -- It gives a unit.
-  pub unit_taken : IsPartial V1 (as_read V1 (not r.agreed) r.held) → (u : Unit) → IsRead V1 (not r.agreed) (r.held ++ taken) u
+  pub unit_taken : IsPartial r.spoken (as_read r.spoken (not r.agreed) r.held) → (u : Unit) → IsRead r.spoken (not r.agreed) (r.held ++ taken) u
       → fed r items wanting (taken ++ rest) ≡ feed stops router_byte (router_judged (taking (record r { held = r.held ++ but_last taken }) items wanting) (r.held ++ taken) (Whole u)) rest
   unfolding router_machine
-  unit_taken part u read = units.unit_taken router_machine (taking r items wanting) on V1 taken rest u refl part read
+  unit_taken part u read = units.unit_taken router_machine (taking r items wanting) on r.spoken taken rest u refl part read
 
   -- It shows a fault.
-  pub fault_taken : IsPartial V1 (as_read V1 (not r.agreed) r.held) → (fault : UnitFault) → IsFaulty V1 (not r.agreed) (r.held ++ taken) fault
+  pub fault_taken : IsPartial r.spoken (as_read r.spoken (not r.agreed) r.held) → (fault : UnitFault) → IsFaulty r.spoken (not r.agreed) (r.held ++ taken) fault
       → fed r items wanting (taken ++ rest) ≡ feed stops router_byte (router_judged (taking r items wanting) (r.held ++ taken) (Faulty fault)) rest
   unfolding router_machine
-  fault_taken part fault faulty = units.fault_taken router_machine (taking r items wanting) on V1 taken rest fault refl part faulty
+  fault_taken part fault faulty = units.fault_taken router_machine (taking r items wanting) on r.spoken taken rest fault refl part faulty
 
 -- What comes of a unit: it is read, or memory for it is wanting.
 abbrev pub shifted : Option ℕ → Option ℕ

@@ -7,6 +7,7 @@ use Rattle.std.specs.Str.{chars, is_utf8}
 use Rattle.prefixes.specs.Payload.{Payload}
 use Rattle.vrps.specs.VrpSet.{empty, has, set_of, without}
 use Rattle.vrps.proofs.SetLaws.{same_set, has-union, has-without}
+use Rattle.rtr_pdu.specs.declared.version.Version.{Version}
 use Rattle.rtr_pdu.specs.declared.version.Version.TheVariants.{V1}
 use Rattle.rtr_pdu.specs.Judging.{Judgement, Begins, Whole, Faulty, judge}
 use Rattle.rtr_pdu.specs.Stream.{as_read}
@@ -242,9 +243,9 @@ begun_so (Whole u) h = false_true h
 begun_so (Faulty fault) h = false_true h
 
 -- Behind the bytes held, each of these leaves the beginning of a unit.
-abbrev all_begin : Bool → List ℕ → List ℕ → Bool
-all_begin any held [] = true
-all_begin any held (b ∷ bytes) = is_begun (judge V1 any (held ++ b ∷ [])) && all_begin any (held ++ b ∷ []) bytes
+abbrev all_begin : Version → Bool → List ℕ → List ℕ → Bool
+all_begin version any held [] = true
+all_begin version any held (b ∷ bytes) = is_begun (judge version any (held ++ b ∷ [])) && all_begin version any (held ++ b ∷ []) bytes
 
 abbrev holding : Receiving → List ℕ → Receiving
 holding m held = record m { router = record m.router { held = held } }
@@ -252,17 +253,17 @@ holding m held = record m { router = record m.router { held = held } }
 abbrev fed : Receiving → List ℕ → FedPiece Receiving
 fed m piece = feed (λ n. router_stops n.router) router_byte m piece
 
-begins_at : (m : Receiving) (b : ℕ) → judge V1 (not m.router.agreed) (m.router.held ++ b ∷ []) ≡ Begins → router_byte m b ≡ holding m (m.router.held ++ b ∷ [])
+begins_at : (m : Receiving) (b : ℕ) → judge m.router.spoken (not m.router.agreed) (m.router.held ++ b ∷ []) ≡ Begins → router_byte m b ≡ holding m (m.router.held ++ b ∷ [])
 unfolding router_byte
 begins_at m b h = ap (λ j. router_judged m (m.router.held ++ b ∷ []) j) h
 
 -- However many of them come, they are held.
-are_held : (m : Receiving) (bytes : List ℕ) (k : ℕ) → router_stops m.router ≡ false → all_begin (not m.router.agreed) m.router.held bytes ≡ true
+are_held : (m : Receiving) (bytes : List ℕ) (k : ℕ) → router_stops m.router ≡ false → all_begin m.router.spoken (not m.router.agreed) m.router.held bytes ≡ true
     → fed m (take k bytes) ≡ record { machine = holding m (m.router.held ++ take k bytes); rest = [] }
 are_held m bytes zero on h = λ i. record { machine = holding m (sym (append-nil m.router.held) i); rest = [] }
 are_held m [] (suc k) on h = λ i. record { machine = holding m (sym (append-nil m.router.held) i); rest = [] }
 are_held m (b ∷ bytes) (suc k) on h =
-    let parts = and_parts (is_begun (judge V1 (not m.router.agreed) (m.router.held ++ b ∷ []))) (all_begin (not m.router.agreed) (m.router.held ++ b ∷ []) bytes) h in
+    let parts = and_parts (is_begun (judge m.router.spoken (not m.router.agreed) (m.router.held ++ b ∷ []))) (all_begin m.router.spoken (not m.router.agreed) (m.router.held ++ b ∷ []) bytes) h in
     let next : Receiving = holding m (m.router.held ++ b ∷ []) in
     feed_on (λ n. router_stops n.router) router_byte m next (b ∷ []) (take k bytes)
     (λ i. elim (on i) [ true ↦ record { machine = m; rest = b ∷ [] } | false ↦ record { machine = begins_at m b (begun_so _ parts.0) i; rest = [] } ])
@@ -284,11 +285,11 @@ take_in zero (x ∷ xs) ys = inl refl
 take_in (suc k) [] ys = inr (k, refl)
 take_in (suc k) (x ∷ xs) ys = elim (take_in k xs ys) [ inl e ↦ inl (ap (λ zs. x ∷ zs) e) | inr p ↦ inr (p.0, ap (λ zs. x ∷ zs) p.1) ]
 
-keeps_held : (r : Router) (m : Receiving) (bytes : List ℕ) → router_stops m.router ≡ false → all_begin (not m.router.agreed) m.router.held bytes ≡ true → Keeps r m → KeepsAll r m bytes
+keeps_held : (r : Router) (m : Receiving) (bytes : List ℕ) → router_stops m.router ≡ false → all_begin m.router.spoken (not m.router.agreed) m.router.held bytes ≡ true → Keeps r m → KeepsAll r m bytes
 keeps_held r m bytes on h keeps k = subst (λ f. Keeps r f.machine) (sym (are_held m bytes k on h)) keeps
 
 -- a unit, of which all but the last byte is held
-keeps_unit : (r : Router) (m n : Receiving) (front : List ℕ) (b : ℕ) → router_stops m.router ≡ false → all_begin (not m.router.agreed) m.router.held front ≡ true
+keeps_unit : (r : Router) (m n : Receiving) (front : List ℕ) (b : ℕ) → router_stops m.router ≡ false → all_begin m.router.spoken (not m.router.agreed) m.router.held front ≡ true
     → fed m (front ++ b ∷ []) ≡ record { machine = n; rest = [] } → Keeps r m → Keeps r n → KeepsAll r m (front ++ b ∷ [])
 keeps_unit r m n front b on h e before after k = elim (take_in k front (b ∷ [])) [
   | inl g ↦ subst (λ zs. Keeps r (fed m zs).machine) (sym g) (keeps_held r m front on h before k)

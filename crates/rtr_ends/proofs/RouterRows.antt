@@ -71,7 +71,7 @@ cut_in_a_record = refl
 
 -- the End of Data commits
 abbrev pub committed_at : ℕ → Committed
-committed_at now = record { session = 0x1234; serial = 5; moment = now; intervals = default_intervals }
+committed_at now = record { version = V1; session = 0x1234; serial = 5; moment = now; intervals = default_intervals }
 
 abbrev pub holds_v : Router
 holds_v = record (answering v_read) { table = just_v; version = Some (committed_at 100); due = Some 3700; link = Idle }
@@ -87,7 +87,7 @@ not_yet = refl
 
 -- what the transcript of all that keeps, and when it asks
 abbrev told_v : List Item
-told_v = Reads (EndOfData 0x1234 5 3600 600 7200) ∷ At 100 ∷ Reads (Prefix true v) ∷ At 100 ∷ Reads (CacheResponse 0x1234) ∷ At 100 ∷ Asks AskReset ∷ Opened ∷ At 100 ∷ []
+told_v = Reads (EndOfData 0x1234 5 3600 600 7200) ∷ At 100 ∷ Reads (Prefix true v) ∷ At 100 ∷ Reads (CacheResponse 0x1234) ∷ At 100 ∷ Asks AskReset ∷ Opened V1 ∷ At 100 ∷ []
 
 keeps_v : kept told_v ≡ record { version = Some (committed_at 100); table = just_v }
 keeps_v =

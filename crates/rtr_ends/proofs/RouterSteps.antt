@@ -5,10 +5,10 @@ use Rattle.std.proofs.Common.{sym, ap, ◌∙◌, subst, inl, inr}
 use Rattle.std.proofs.Math.Bool.{and-false}
 use Rattle.std.proofs.lemmas.Bool.{and_parts}
 use Rattle.vrps.specs.VrpSet.{VrpSet}
-use Rattle.rtr_pdu.specs.declared.version.Version.TheVariants.{V1}
+use Rattle.rtr_pdu.specs.declared.version.Version.{Version}
 use Rattle.rtr_pdu.specs.Judging.{Whole, Faulty}
 use Rattle.rtr_pdu.specs.Reader as reader
-use Rattle.rtr_pdu.specs.Reader.{Reader, IsReader, after_agreed, fresh}
+use Rattle.rtr_pdu.specs.Reader.{Reader, IsReader, after_agreed, fresh, version_with}
 use Rattle.rtr_pdu.specs.Stream.{IsPartial, as_read}
 use Rattle.rtr_pdu.specs.declared.unit.Next.{Next}
 use Rattle.rtr_pdu.specs.declared.unit.Next.TheVariants as next
@@ -26,7 +26,7 @@ use Rattle.rtr_ends.specs.Router.{RouterCall, Noted, Receiving, asks, asks_if, b
 use Rattle.rtr_ends.specs.RouterLink.{Link, Closed, Idle, Asked, Answering, Ended, is_closed, is_due, is_idle, is_reading}
 use Rattle.rtr_ends.specs.Seen.{Does, ReadsOrLacks, ShowsRouter, seen_link}
 use Rattle.rtr_ends.specs.RouterShown.{Arrives, Calls, GoesOn, IsShown, CallsLead, LeadsOn, Led, IsLacking, ReceivesSo, TakesOn, fed, is_lacking, is_wanted_by_router, reading, taking}
-use Rattle.rtr_ends.specs.Transcript.{Item, At, Question, AskReset, AskSerial, bounded, is_over, is_serial, is_wrong, later, retry_of, sum_of}
+use Rattle.rtr_ends.specs.Transcript.{Item, At, Question, AskReset, AskSerial, bounded, is_over, is_serial, is_wrong, later, of_version, retry_of, sum_of}
 use Rattle.rtr_ends.specs.declared.machine.Machine.{Machine}
 use Rattle.rtr_ends.specs.declared.machine.State.{State}
 use Rattle.rtr_ends.specs.declared.machine.State.TheVariants as states
@@ -40,10 +40,11 @@ use Rattle.rtr_ends.proofs.TableLaws.{false_true}
 use Rattle.prefixes.proofs.Basics.{false_if_never}
 use Rattle.rtr_ends.proofs.ConsumedUnits.{reading_open}
 
--- What a unit leaves: what is held; agreement; and a connection
+-- What a unit leaves: what is held; agreement; the version; and a connection
 pub record Keeps (r n : Router) : Type 0 where
   pub held : n.held ≡ r.held
   pub agreed : r.agreed ≡ true → n.agreed ≡ true
+  pub spoken : n.spoken ≡ r.spoken
   pub connected : is_closed n.link ≡ false
 
 keeps_if : (b : Bool) (r x y : Router) → Keeps r x → Keeps r y → Keeps r (if b then x else y)
@@ -51,36 +52,36 @@ keeps_if true r x y h k = h
 keeps_if false r x y h k = k
 
 ends_keeps : (r : Router) (end : End) (table : VrpSet) (version : Option _) (mark : Bool) (out : List ℕ) → Keeps r (record r { link = Ended end; table = table; version = version; mark = mark; out = out })
-ends_keeps r end table version mark out = record { held = refl; agreed = λ h. h; connected = refl }
+ends_keeps r end table version mark out = record { held = refl; agreed = λ h. h; spoken = refl; connected = refl }
 
 told_keeps : (q : Question) (code : ℕ) (r s : Router) → Keeps r s → Keeps r (told_off q code s)
 told_keeps q code r s k =
     keeps_if (code == 2) r (record s { link = Idle; due = Some (sum_of s.now (retry_of s.version)); no_data = true }) (if code == 0 && is_serial (Some q) then ended_by code (emptied s) else ended_by code s)
-    (record { held = k.held; agreed = k.agreed; connected = refl })
-    (keeps_if (code == 0 && is_serial (Some q)) r (ended_by code (emptied s)) (ended_by code s) (record { held = k.held; agreed = k.agreed; connected = refl }) (record { held = k.held; agreed = k.agreed; connected = refl }))
+    (record { held = k.held; agreed = k.agreed; spoken = k.spoken; connected = refl })
+    (keeps_if (code == 0 && is_serial (Some q)) r (ended_by code (emptied s)) (ended_by code s) (record { held = k.held; agreed = k.agreed; spoken = k.spoken; connected = refl }) (record { held = k.held; agreed = k.agreed; spoken = k.spoken; connected = refl }))
 
 staged_keeps : (u : Unit) (st : rules.Staged) (r : Router) → Keeps r (staged u st r)
-staged_keeps u (rules.Stays a) r = record { held = refl; agreed = λ h. h; connected = refl }
-staged_keeps u (rules.Wrong code) r = record { held = refl; agreed = λ h. h; connected = refl }
-staged_keeps u rules.Over r = record { held = refl; agreed = λ h. h; connected = refl }
+staged_keeps u (rules.Stays a) r = record { held = refl; agreed = λ h. h; spoken = refl; connected = refl }
+staged_keeps u (rules.Wrong code) r = record { held = refl; agreed = λ h. h; spoken = refl; connected = refl }
+staged_keeps u rules.Over r = record { held = refl; agreed = λ h. h; spoken = refl; connected = refl }
 
 abbrev same_router : (r : Router) → is_closed r.link ≡ false → Keeps r r
-same_router r open_so = record { held = refl; agreed = λ h. h; connected = open_so }
+same_router r open_so = record { held = refl; agreed = λ h. h; spoken = refl; connected = open_so }
 
 fails_keep : (u : Unit) (r : Router) → Keeps r (fails u r)
-fails_keep u r = record { held = refl; agreed = λ h. h; connected = refl }
+fails_keep u r = record { held = refl; agreed = λ h. h; spoken = refl; connected = refl }
 
 reports_keep : (u : Unit) (r : Router) → Keeps r (reports 0 u r)
-reports_keep u r = record { held = refl; agreed = λ h. h; connected = refl }
+reports_keep u r = record { held = refl; agreed = λ h. h; spoken = refl; connected = refl }
 
 pub unit_keeps : (l : Link) (u : Unit) (r : Router) → r.link ≡ l → is_reading l ≡ true → Keeps r (on_unit l u r)
 unfolding on_unit
 unit_keeps Closed u r is h = false_true h
 unit_keeps (Ended end) u r is h = false_true h
 unit_keeps Idle (SerialNotify session serial) r is h =
-    keeps_if (is_strange r session) r (fails (SerialNotify session serial) r) (if is_news r.version serial then ask r else r) (fails_keep (SerialNotify session serial) r)
-    (keeps_if (is_news r.version serial) r (ask r) r (record { held = refl; agreed = λ h. h; connected = refl }) (same_router r (ap is_closed is)))
-unit_keeps Idle (ErrorReport e) r is h = keeps_if (e.code == 2) r r (ended_by e.code r) (same_router r (ap is_closed is)) (record { held = refl; agreed = λ h. h; connected = refl })
+    keeps_if (is_strange r session) r (fails (SerialNotify session serial) r) (if is_news (of_version r.spoken r.version) serial then ask r else r) (fails_keep (SerialNotify session serial) r)
+    (keeps_if (is_news (of_version r.spoken r.version) serial) r (ask r) r (record { held = refl; agreed = λ h. h; spoken = refl; connected = refl }) (same_router r (ap is_closed is)))
+unit_keeps Idle (ErrorReport e) r is h = keeps_if (e.code == 2) r r (ended_by e.code r) (same_router r (ap is_closed is)) (record { held = refl; agreed = λ h. h; spoken = refl; connected = refl })
 unit_keeps Idle (SerialQuery session serial) r is h = reports_keep (SerialQuery session serial) r
 unit_keeps Idle ResetQuery r is h = reports_keep ResetQuery r
 unit_keeps Idle (CacheResponse session) r is h = reports_keep (CacheResponse session) r
@@ -92,12 +93,12 @@ unit_keeps Idle (RouterKey key) r is h = reports_keep (RouterKey key) r
 unit_keeps (Asked q) (SerialNotify session serial) r is h =
     keeps_if (is_strange r session) r (fails (SerialNotify session serial) r) r (fails_keep (SerialNotify session serial) r) (same_router r (ap is_closed is))
 unit_keeps (Asked q) (CacheResponse session) r is h =
-    keeps_if (is_wrong (Some q) r.version session) r (fails (CacheResponse session) r) (record r { agreed = true; session = Some session; link = Answering (record { question = q; session = session; withdrawn = []; announced = [] }) })
-    (fails_keep (CacheResponse session) r) (record { held = refl; agreed = λ h. refl; connected = refl })
-unit_keeps (Asked (AskSerial session serial)) CacheReset r is h = record { held = refl; agreed = λ h. refl; connected = refl }
+    keeps_if (is_wrong (Some q) (of_version r.spoken r.version) session) r (fails (CacheResponse session) r) (record r { agreed = true; session = Some session; link = Answering (record { question = q; session = session; withdrawn = []; announced = [] }) })
+    (fails_keep (CacheResponse session) r) (record { held = refl; agreed = λ h. refl; spoken = refl; connected = refl })
+unit_keeps (Asked (AskSerial session serial)) CacheReset r is h = record { held = refl; agreed = λ h. refl; spoken = refl; connected = refl }
 unit_keeps (Asked AskReset) CacheReset r is h = reports_keep CacheReset r
-unit_keeps (Asked AskReset) (ErrorReport e) r is h = told_keeps AskReset e.code r (record r { agreed = true }) (record { held = refl; agreed = λ h. refl; connected = ap is_closed is })
-unit_keeps (Asked (AskSerial session serial)) (ErrorReport e) r is h = told_keeps (AskSerial session serial) e.code r (record r { agreed = true }) (record { held = refl; agreed = λ h. refl; connected = ap is_closed is })
+unit_keeps (Asked AskReset) (ErrorReport e) r is h = told_keeps AskReset e.code r (record r { agreed = true }) (record { held = refl; agreed = λ h. refl; spoken = refl; connected = ap is_closed is })
+unit_keeps (Asked (AskSerial session serial)) (ErrorReport e) r is h = told_keeps (AskSerial session serial) e.code r (record r { agreed = true }) (record { held = refl; agreed = λ h. refl; spoken = refl; connected = ap is_closed is })
 unit_keeps (Asked q) (SerialQuery session serial) r is h = reports_keep (SerialQuery session serial) r
 unit_keeps (Asked q) ResetQuery r is h = reports_keep ResetQuery r
 unit_keeps (Asked q) (Prefix announce v) r is h = reports_keep (Prefix announce v) r
@@ -109,11 +110,11 @@ unit_keeps (Answering a) (SerialNotify session serial) r is h =
 unit_keeps (Answering a) (Prefix announce v) r is h = staged_keeps (Prefix announce v) (stage _ a announce v) r
 unit_keeps (Answering a) (RouterKey key) r is h = same_router r (ap is_closed is)
 unit_keeps (Answering a) (EndOfData session serial refresh retry expire) r is h =
-    keeps_if (session == a.session) r (commit a (record { session = session; serial = serial; moment = r.now; intervals = bounded refresh retry expire }) r) (fails (EndOfData session serial refresh retry expire) r)
-    (record { held = refl; agreed = λ h. h; connected = refl }) (fails_keep (EndOfData session serial refresh retry expire) r)
+    keeps_if (session == a.session) r (commit a (record { version = r.spoken; session = session; serial = serial; moment = r.now; intervals = bounded refresh retry expire }) r) (fails (EndOfData session serial refresh retry expire) r)
+    (record { held = refl; agreed = λ h. h; spoken = refl; connected = refl }) (fails_keep (EndOfData session serial refresh retry expire) r)
 unit_keeps (Answering a) (EndOfData0 session serial) r is h =
-    keeps_if (session == a.session) r (commit a (record { session = session; serial = serial; moment = r.now; intervals = default_intervals }) r) (fails (EndOfData0 session serial) r)
-    (record { held = refl; agreed = λ h. h; connected = refl }) (fails_keep (EndOfData0 session serial) r)
+    keeps_if (session == a.session) r (commit a (record { version = r.spoken; session = session; serial = serial; moment = r.now; intervals = default_intervals }) r) (fails (EndOfData0 session serial) r)
+    (record { held = refl; agreed = λ h. h; spoken = refl; connected = refl }) (fails_keep (EndOfData0 session serial) r)
 unit_keeps (Answering a) (ErrorReport e) r is h = told_keeps a.question e.code r r (same_router r (ap is_closed is))
 unit_keeps (Answering a) (SerialQuery session serial) r is h = reports_keep (SerialQuery session serial) r
 unit_keeps (Answering a) ResetQuery r is h = reports_keep ResetQuery r
@@ -150,21 +151,35 @@ wanted_shifted : (w : Option ℕ) (f : FedPiece Receiving) → IsLacking w f →
 wanted_shifted None f h = tt
 wanted_shifted (Some unit) f h = h
 
-module _ (old : code.Router) (piece rest : List ℕ) (takes : (is_reading (seen_link old.machine.state [] []) && is_none old.machine.out) ≡ true) (is_reader : IsReader V1 old.reader) where
+module _ (old : code.Router) (piece rest : List ℕ) (takes : (is_reading (seen_link old.machine.state [] []) && is_none old.machine.out) ≡ true) (is_reader : IsReader (version_with old.reader piece) old.reader) where
   on : (r : Router) → IsShown r old → router_stops r ≡ false
   on r s = stops_of old.machine r s.machine ∙ ap not takes
 
-  reads_so : (r : Router) (s : IsShown r old) → old.reader ≡ reading r.agreed r.held
+  reads_so : (r : Router) (s : IsShown r old) → old.reader ≡ reading r.spoken r.agreed r.held
   reads_so r s = s.reader (reads_of r (on r s))
 
-  part_so : (r : Router) (s : IsShown r old) → IsPartial V1 (as_read V1 (not r.agreed) r.held)
-  part_so r s = let h : IsReader V1 (reading r.agreed r.held) = subst (λ x. IsReader V1 x) (reads_so r s) is_reader in h
+  part_so : (r : Router) (s : IsShown r old) → IsPartial r.spoken (as_read r.spoken (not r.agreed) r.held)
+  part_so r s = let h : IsReader r.spoken (reading r.spoken r.agreed r.held) = subst (λ x. IsReader (version_with x piece) x) (reads_so r s) is_reader in h
 
-  takes_so : (answer : Next) (new : Reader) (r : Router) (s : IsShown r old) → reader.ReaderTakes V1 old.reader piece answer rest new → reader.ReaderTakes V1 (reading r.agreed r.held) piece answer rest new
-  takes_so answer new r s t = subst (λ x. reader.ReaderTakes V1 x piece answer rest new) (reads_so r s) t
+  takes_so : (answer : Next) (new : Reader) (r : Router) (s : IsShown r old) → reader.ReaderTakes (version_with old.reader piece) old.reader piece answer rest new
+      → reader.ReaderTakes r.spoken (reading r.spoken r.agreed r.held) piece answer rest new
+  takes_so answer new r s t = subst (λ x. reader.ReaderTakes (version_with x piece) x piece answer rest new) (reads_so r s) t
 
   -- a unit
-  module _ (u : Unit) (new : Reader) (t : reader.ReaderTakes V1 old.reader piece (next.Unit u) rest new) (m : Machine) where
+  module _ (u : Unit) (new : Reader) (t : reader.ReaderTakes (version_with old.reader piece) old.reader piece (next.Unit u) rest new) (mid m : Machine)
+      (follows : (spoken : Version) → new.version ≡ Some spoken → mid ≡ record old.machine { spoken = spoken }) where
+    made_so : (r : Router) → IsShown r old → new ≡ fresh (Some r.spoken) (not r.agreed)
+    made_so r s = (takes_so (next.Unit u) new r s t).gives.2
+
+    -- It is of the version of the connection.
+    same_machine : (r : Router) → IsShown r old → mid ≡ old.machine
+    same_machine r s =
+        follows r.spoken (ap (λ (x : Reader). x.version) (made_so r s))
+        ∙ (λ i. record old.machine { spoken = ap (λ (x : Router). x.spoken) s.machine.is i })
+
+    followed : (r : Router) → IsShown r old → (n : Router) → ShowsRouter n old.machine → ShowsRouter n mid
+    followed r s n shows = subst (λ x. ShowsRouter n x) (sym (same_machine r s)) shows
+
     abbrev agreed_reader : Reader
     agreed_reader = if m.agreed then after_agreed new else new
 
@@ -174,25 +189,24 @@ module _ (old : code.Router) (piece rest : List ℕ) (takes : (is_reading (seen_
     abbrev cleared : Router → Router
     cleared r = record r { held = [] }
 
-    told_reader : (b : Bool) (n r : Router) → Keeps r n → n.agreed ≡ b → new ≡ fresh (Some V1) (not r.agreed) → (if b then after_agreed new else new) ≡ reading b []
+    told_reader : (b : Bool) (n r : Router) → Keeps r n → n.agreed ≡ b → new ≡ fresh (Some r.spoken) (not r.agreed) → (if b then after_agreed new else new) ≡ reading r.spoken b []
     told_reader true n r k is e = ap (λ x. after_agreed x) e
     told_reader false n r k is e =
         let fell : r.agreed ≡ false = false_if_never r.agreed (λ h. false_true (sym is ∙ k.agreed h)) in
-        e ∙ ap (λ b. fresh (Some V1) (not b)) fell
+        e ∙ ap (λ b. fresh (Some r.spoken) (not b)) fell
 
-    read_shown : (r : Router) → IsShown r old → Does (λ x. on_unit x.link u x) old.machine m → IsShown (on_unit r.link u (cleared r)) after_unit
+    read_shown : (r : Router) → IsShown r old → Does (λ x. on_unit x.link u x) mid m → IsShown (on_unit r.link u (cleared r)) after_unit
     read_shown r s does =
         let n : Router = on_unit r.link u (cleared r) in
         let k : Keeps (cleared r) n = unit_keeps r.link u (cleared r) refl (reads_of r (on r s)) in
-        let machine : ShowsRouter n m = does (cleared r) (rehold r old.machine [] s.machine) in
-        let made : new ≡ fresh (Some V1) (not r.agreed) = (takes_so (next.Unit u) new r s t).gives.2 in
+        let machine : ShowsRouter n m = does (cleared r) (followed r s (cleared r) (rehold r old.machine [] s.machine)) in
         record {
           machine = machine;
-          reader = λ h. told_reader m.agreed n (cleared r) k (agreed_is m n machine) made ∙ (λ i. reading (sym (agreed_is m n machine) i) (sym k.held i));
+          reader = λ h. told_reader m.agreed n (cleared r) k (agreed_is m n machine) (made_so r s) ∙ (λ i. reading (sym k.spoken i) (sym (agreed_is m n machine) i) (sym k.held i));
           closed = λ c. false_true (sym k.connected ∙ c);
         }
 
-    pub unit_goes : (lacking : Bool) → ReadsOrLacks lacking u old.machine m → TakesOn true old piece after_unit rest
+    pub unit_goes : (lacking : Bool) → ReadsOrLacks lacking u mid m → TakesOn true old piece after_unit rest
     unit_goes false does = (shifted, λ r s. (on_unit r.link u (cleared r), read_shown r s does, goes r s))
       where
         goes : (r : Router) → IsShown r old → GoesOn shifted r piece (on_unit r.link u (cleared r)) rest
@@ -213,14 +227,14 @@ module _ (old : code.Router) (piece rest : List ℕ) (takes : (is_reading (seen_
         ended r = record r { held = []; link = Ended ends.Memory }
 
         shown_ended : (r : Router) → IsShown r old → IsShown (ended r) after_unit
-        shown_ended r s = record { machine = lacking.1 (cleared r) (rehold r old.machine [] s.machine); reader = λ h. false_true h; closed = λ c. false_true c }
+        shown_ended r s = record { machine = lacking.1 (cleared r) (followed r s (cleared r) (rehold r old.machine [] s.machine)); reader = λ h. false_true h; closed = λ c. false_true c }
 
         goes : (r : Router) → IsShown r old → GoesOn (λ w. Some zero) r piece (ended r) rest
         goes r s items w =
             let x = takes_so (next.Unit u) new r s t in
             let front : List ℕ = r.held ++ but_last x.taken in
             let bytes : List ℕ = r.held ++ x.taken in
-            let lack : may_lack r.link u (record r { held = front }) ≡ true = lacking.0 (record r { held = front }) (rehold r old.machine front s.machine) in
+            let lack : may_lack r.link u (record r { held = front }) ≡ true = lacking.0 (record r { held = front }) (followed r s (record r { held = front }) (rehold r old.machine front s.machine)) in
             let had : Noted = with_bytes false bytes (record r { held = front }) (Whole u) in
             let same : had ≡ lacks u (cleared r) = ap (λ b. if b && true then lacks u (cleared r) else reads u (cleared r)) lack in
             let whole : fed r items (Some zero) piece ≡ fed (ended r) ((lacks u (cleared r)).items ++ items) None rest =
@@ -237,7 +251,7 @@ module _ (old : code.Router) (piece rest : List ℕ) (takes : (is_reading (seen_
             )
 
   -- more is asked for
-  pub more_goes : (new : Reader) → reader.ReaderTakes V1 old.reader piece next.NeedMore rest new → TakesOn false old piece (record old { reader = new }) rest
+  pub more_goes : (new : Reader) → reader.ReaderTakes (version_with old.reader piece) old.reader piece next.NeedMore rest new → TakesOn false old piece (record old { reader = new }) rest
   more_goes new t = (None, λ r s. (held_so r s, shown_held r s, ends r s))
     where
       held_so : (r : Router) → IsShown r old → Router
@@ -258,7 +272,7 @@ module _ (old : code.Router) (piece rest : List ℕ) (takes : (is_reading (seen_
           record { router_is = ap (λ f. f.machine.router) whole; rest_is = ap (λ f. f.rest) whole ∙ sym x.gives.2; wanted = tt }
 
   -- a fault
-  pub fault_goes : (fault : UnitFault) (new : Reader) (bytes : List ℕ) (m : Machine) → reader.ReaderTakes V1 old.reader piece (next.Fault fault) rest new → bytes ≡ new.held → Does (λ r. (breaks fault bytes r).router) old.machine m
+  pub fault_goes : (fault : UnitFault) (new : Reader) (bytes : List ℕ) (m : Machine) → reader.ReaderTakes (version_with old.reader piece) old.reader piece (next.Fault fault) rest new → bytes ≡ new.held → Does (λ r. (breaks fault bytes r).router) old.machine m
       → TakesOn false old piece (record { machine = m; reader = new }) rest
   fault_goes fault new bytes m t is does = (None, λ r s. ((breaks fault bytes r).router, shown_broken r s, ends r s))
     where
@@ -327,12 +341,12 @@ goes_stop v piece h = (
   ),
 )
 
--- A step that leaves what is held and agreed on, and opens and closes nothing
-pub keeps_shown : (old new : code.Router) (r n : Router) → ShowsRouter n new.machine → new.reader ≡ old.reader → IsShown r old → n.held ≡ r.held → n.agreed ≡ r.agreed → (is_reading n.link ≡ true → is_reading r.link ≡ true)
+-- A step that leaves what is held and agreed on and the version, and opens and closes nothing
+pub keeps_shown : (old new : code.Router) (r n : Router) → ShowsRouter n new.machine → new.reader ≡ old.reader → IsShown r old → n.held ≡ r.held → n.agreed ≡ r.agreed → n.spoken ≡ r.spoken → (is_reading n.link ≡ true → is_reading r.link ≡ true)
     → (is_closed n.link ≡ true → is_closed r.link ≡ true) → IsShown n new
-keeps_shown old new r n machine same s held agreed reads_on closed_on = record {
+keeps_shown old new r n machine same s held agreed spoken reads_on closed_on = record {
   machine = machine;
-  reader = λ h. same ∙ s.reader (reads_on h) ∙ (λ i. reading (sym agreed i) (sym held i));
+  reader = λ h. same ∙ s.reader (reads_on h) ∙ (λ i. reading (sym spoken i) (sym agreed i) (sym held i));
   closed = λ h. let was = s.closed (closed_on h) in (held ∙ was.0, agreed ∙ was.1);
 }
 
@@ -340,35 +354,36 @@ keeps_shown old new r n machine same s held agreed reads_on closed_on = record {
 pub record Clocks (r n : Router) : Type 0 where
   pub held : n.held ≡ r.held
   pub agreed : n.agreed ≡ r.agreed
+  pub spoken : n.spoken ≡ r.spoken
   pub reads_on : is_reading n.link ≡ true → is_reading r.link ≡ true
   pub closed_on : is_closed n.link ≡ is_closed r.link
 
-same_clock : (r s : Router) → s.held ≡ r.held → s.agreed ≡ r.agreed → s.link ≡ r.link → Clocks r s
-same_clock r s held agreed link = record { held = held; agreed = agreed; reads_on = λ h. ap is_reading (sym link) ∙ h; closed_on = ap is_closed link }
+same_clock : (r s : Router) → s.held ≡ r.held → s.agreed ≡ r.agreed → s.spoken ≡ r.spoken → s.link ≡ r.link → Clocks r s
+same_clock r s held agreed spoken link = record { held = held; agreed = agreed; spoken = spoken; reads_on = λ h. ap is_reading (sym link) ∙ h; closed_on = ap is_closed link }
 
 expired_clocks : (l : Link) (r : Router) → r.link ≡ l → Clocks r (expired l r)
-expired_clocks Closed r is = same_clock r (emptied r) refl refl refl
-expired_clocks Idle r is = same_clock r (emptied r) refl refl refl
-expired_clocks (Ended end) r is = same_clock r (emptied r) refl refl refl
-expired_clocks (Asked AskReset) r is = same_clock r (emptied r) refl refl refl
-expired_clocks (Asked (AskSerial session serial)) r is = record { held = refl; agreed = refl; reads_on = λ h. false_true h; closed_on = ap is_closed (sym is) }
+expired_clocks Closed r is = same_clock r (emptied r) refl refl refl refl
+expired_clocks Idle r is = same_clock r (emptied r) refl refl refl refl
+expired_clocks (Ended end) r is = same_clock r (emptied r) refl refl refl refl
+expired_clocks (Asked AskReset) r is = same_clock r (emptied r) refl refl refl refl
+expired_clocks (Asked (AskSerial session serial)) r is = record { held = refl; agreed = refl; spoken = refl; reads_on = λ h. false_true h; closed_on = ap is_closed (sym is) }
 expired_clocks (Answering a) r is = by_test (is_serial (Some a.question))
   where
     by_test : (b : Bool) → Clocks r (if b then record (emptied r) { link = Ended ends.Expired; out = [] } else emptied r)
-    by_test true = record { held = refl; agreed = refl; reads_on = λ h. false_true h; closed_on = ap is_closed (sym is) }
-    by_test false = same_clock r (emptied r) refl refl refl
+    by_test true = record { held = refl; agreed = refl; spoken = refl; reads_on = λ h. false_true h; closed_on = ap is_closed (sym is) }
+    by_test false = same_clock r (emptied r) refl refl refl refl
 
 pub clocked_keeps : (now : ℕ) (r : Router) → Clocks r (clocked now r)
 unfolding clocked
 clocked_keeps now r = by_test (is_over r.version (later r.now now))
   where
     by_test : (b : Bool) → Clocks r (if b then expired r.link (record r { now = later r.now now }) else record r { now = later r.now now })
-    by_test true = let k = expired_clocks r.link (record r { now = later r.now now }) refl in record { held = k.held; agreed = k.agreed; reads_on = k.reads_on; closed_on = k.closed_on }
-    by_test false = same_clock r (record r { now = later r.now now }) refl refl refl
+    by_test true = let k = expired_clocks r.link (record r { now = later r.now now }) refl in record { held = k.held; agreed = k.agreed; spoken = k.spoken; reads_on = k.reads_on; closed_on = k.closed_on }
+    by_test false = same_clock r (record r { now = later r.now now }) refl refl refl refl
 
 pub told_shown : (old new : code.Router) (now : ℕ) (r : Router) → ShowsRouter (clocked now r) new.machine → new.reader ≡ old.reader → IsShown r old → IsShown (clocked now r) new
 told_shown old new now r machine same s =
-    let k = clocked_keeps now r in keeps_shown old new r (clocked now r) machine same s k.held k.agreed k.reads_on (λ h. sym k.closed_on ∙ h)
+    let k = clocked_keeps now r in keeps_shown old new r (clocked now r) machine same s k.held k.agreed k.spoken k.reads_on (λ h. sym k.closed_on ∙ h)
 
 -- What is closed holds nothing, and no version is agreed on.
 closes_so : (r : Router) → (is_closed r.link ≡ true → (r.held ≡ []) × (r.agreed ≡ false)) → ((close r).held ≡ []) × ((close r).agreed ≡ false) × (is_closed (close r).link ≡ true)
@@ -384,11 +399,11 @@ closes_so r h = by_test (is_closed r.link) refl
 closed_clock : (old : code.Router) (now : ℕ) (r : Router) → IsShown r old → is_closed (clocked now r).link ≡ true → ((clocked now r).held ≡ []) × ((clocked now r).agreed ≡ false)
 closed_clock old now r s h = let k = clocked_keeps now r in let was = s.closed (sym k.closed_on ∙ h) in (k.held ∙ was.0, k.agreed ∙ was.1)
 
-pub connects_shown : (old new : code.Router) (now : ℕ) (r : Router) → IsShown r old → ShowsRouter (connects_at now r).router new.machine → new.reader ≡ fresh (Some V1) true → IsShown (connects_at now r).router new
+pub connects_shown : (old new : code.Router) (now : ℕ) (r : Router) → IsShown r old → ShowsRouter (connects_at now r).router new.machine → new.reader ≡ fresh (Some new.machine.spoken) true → IsShown (connects_at now r).router new
 unfolding connects_at
 connects_shown old new now r s machine made =
     let c = closes_so (clocked now r) (closed_clock old now r s) in
-    record { machine = machine; reader = λ h. made ∙ (λ i. reading (sym c.1 i) (sym c.0 i)); closed = λ h. false_true h }
+    record { machine = machine; reader = λ h. made ∙ (λ i. reading (sym (ap (λ (x : Router). x.spoken) machine.is) i) (sym c.1 i) (sym c.0 i)); closed = λ h. false_true h }
 
 pub closes_shown : (old new : code.Router) (now : ℕ) (r : Router) → IsShown r old → ShowsRouter (closed_at now r).router new.machine → IsShown (closed_at now r).router new
 unfolding closed_at
@@ -398,8 +413,8 @@ closes_shown old new now r s machine =
 
 -- An idle link may ask.
 asks_shown : (old new : code.Router) (r : Router) (b : Bool) → (b ≡ true → is_reading r.link ≡ true) → IsShown r old → ShowsRouter (asks_if b r).router new.machine → new.reader ≡ old.reader → IsShown (asks_if b r).router new
-asks_shown old new r true idle s machine same = keeps_shown old new r (ask r) machine same s refl refl (λ h. idle refl) (λ h. false_true h)
-asks_shown old new r false idle s machine same = keeps_shown old new r r machine same s refl refl (λ h. h) (λ h. h)
+asks_shown old new r true idle s machine same = keeps_shown old new r (ask r) machine same s refl refl refl (λ h. idle refl) (λ h. false_true h)
+asks_shown old new r false idle s machine same = keeps_shown old new r r machine same s refl refl refl (λ h. h) (λ h. h)
 
 due_reads : (l : Link) (due : Option ℕ) (now : ℕ) → is_due l due now ≡ true → is_reading l ≡ true
 due_reads Idle due now h = refl
@@ -419,7 +434,14 @@ pulls_shown old new r most e s =
     subst (λ v. IsShown (record r { out = drop most r.out }) v) (sym e)
     (keeps_shown old (record old { machine = record old.machine { out = drop most old.machine.out } }) r (record r { out = drop most r.out })
     (record { withdrawn = s.machine.withdrawn; announced = s.machine.announced; staged = s.machine.staged; is = ap (λ (x : Router). record x { out = drop most x.out }) s.machine.is })
-    refl s refl refl (λ h. h) (λ h. h))
+    refl s refl refl refl (λ h. h) (λ h. h))
+
+-- The version of the next connection is told.
+pub speaks_shown : (old : code.Router) (r : Router) (version : Version) → IsShown r old → IsShown (record r { speaks = version }) (record old { machine = record old.machine { speaks = version } })
+speaks_shown old r version s =
+    keeps_shown old (record old { machine = record old.machine { speaks = version } }) r (record r { speaks = version })
+    (record { withdrawn = s.machine.withdrawn; announced = s.machine.announced; staged = s.machine.staged; is = ap (λ (x : Router). record x { speaks = version }) s.machine.is })
+    refl s refl refl refl (λ h. h) (λ h. h)
 
 -- A moment is told, and an idle link asks where it is due.
 pub ticks_shown : (old new : code.Router) (now : ℕ) (r : Router) → IsShown r old → ShowsRouter (ticks_at now r).router new.machine → new.reader ≡ old.reader → IsShown (ticks_at now r).router new
@@ -428,8 +450,8 @@ ticks_shown old new now r s machine same =
     by_test (is_due (clocked now r).link (clocked now r).due (clocked now r).now) (due_reads (clocked now r).link (clocked now r).due (clocked now r).now) machine
   where
     by_test : (b : Bool) → (b ≡ true → is_reading (clocked now r).link ≡ true) → ShowsRouter (asks_if b (clocked now r)).router new.machine → IsShown (asks_if b (clocked now r)).router new
-    by_test true idle m = keeps_shown old new r (ask (clocked now r)) m same s (clocked_keeps now r).held (clocked_keeps now r).agreed (λ h. (clocked_keeps now r).reads_on (idle refl)) (λ h. false_true h)
-    by_test false idle m = keeps_shown old new r (clocked now r) m same s (clocked_keeps now r).held (clocked_keeps now r).agreed (clocked_keeps now r).reads_on (λ h. sym (clocked_keeps now r).closed_on ∙ h)
+    by_test true idle m = keeps_shown old new r (ask (clocked now r)) m same s (clocked_keeps now r).held (clocked_keeps now r).agreed (clocked_keeps now r).spoken (λ h. (clocked_keeps now r).reads_on (idle refl)) (λ h. false_true h)
+    by_test false idle m = keeps_shown old new r (clocked now r) m same s (clocked_keeps now r).held (clocked_keeps now r).agreed (clocked_keeps now r).spoken (clocked_keeps now r).reads_on (λ h. sym (clocked_keeps now r).closed_on ∙ h)
 
 -- The unit at which memory was wanting took memory.
 wanted_so : (now : ℕ) (piece : List ℕ) (r : Router) (wanting : Option ℕ) → IsLacking wanting (fed (clocked now r) (At now ∷ []) wanting piece) → IfSome wanting (λ unit. is_wanted_by_router now piece r unit ≡ true)

@@ -1,10 +1,12 @@
 -- What a transcript says behind each item that ends something, whatever was before.
 use Rattle.std.proofs.Common.{◌≡◌, ℕ, false, List, ◌∷◌, Some, None, refl}
 use Rattle.rtr_pdu.specs.Payloads.{Report}
+use Rattle.rtr_pdu.specs.declared.version.Version.{Version}
+use Rattle.rtr_pdu.specs.declared.version.Version.TheVariants.{V1}
 use Rattle.rtr_pdu.specs.declared.unit.Unit.{Unit}
 use Rattle.rtr_pdu.specs.declared.unit.Unit.TheVariants.{CacheReset, EndOfData, ErrorReport}
 use Rattle.rtr_pdu.specs.declared.unit.UnitFault.{UnitFault}
-use Rattle.rtr_ends.specs.Transcript.{Question, AskReset, Item, Asks, Breaks, Lacks, Opened, Reads, Refused, Restarts, Shut, has_agreed, is_connected, marked, moment, next_question, outstanding, responded, waiting}
+use Rattle.rtr_ends.specs.Transcript.{Question, AskReset, Item, Asks, Breaks, Lacks, Opened, Reads, Refused, Restarts, Shut, has_agreed, is_connected, marked, moment, next_question, outstanding, responded, spoken, waiting}
 
 module _ (items : List Item) where
   -- No question is outstanding after a close, a restart, a refused event, a fault, or want of memory,
@@ -34,16 +36,19 @@ module _ (items : List Item) where
   told report = refl
 
   -- A new connection has neither agreement nor a session of its own, and its question is the next one.
-  opened_agreed : has_agreed (Opened ∷ items) ≡ false
-  opened_agreed = refl
+  opened_agreed : (version : Version) → has_agreed (Opened version ∷ items) ≡ false
+  opened_agreed version = refl
 
-  opened_responded : responded (Opened ∷ items) ≡ None
-  opened_responded = refl
+  opened_responded : (version : Version) → responded (Opened version ∷ items) ≡ None
+  opened_responded version = refl
 
-  opened_waits : (question : Question) → waiting (Asks question ∷ Opened ∷ items) ≡ Some question
-  opened_waits question = refl
+  opened_waits : (version : Version) (question : Question) → waiting (Asks question ∷ Opened version ∷ items) ≡ Some question
+  opened_waits version question = refl
 
-  -- After a restart there is no mark, no agreement, no session, no connection, and the clock stands at its beginning.
+  opened_spoken : (version : Version) → spoken (Opened version ∷ items) ≡ version
+  opened_spoken version = refl
+
+  -- After a restart there is no mark, no agreement, no session, no connection of any version, and the clock stands at its beginning.
   restarted_mark : marked (Restarts ∷ items) ≡ false
   restarted_mark = refl
 
@@ -55,6 +60,9 @@ module _ (items : List Item) where
 
   restarted_connected : is_connected (Restarts ∷ items) ≡ false
   restarted_connected = refl
+
+  restarted_spoken : spoken (Restarts ∷ items) ≡ V1
+  restarted_spoken = refl
 
   restarted_moment : moment (Restarts ∷ items) ≡ 0
   restarted_moment = refl

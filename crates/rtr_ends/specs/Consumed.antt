@@ -1,7 +1,6 @@
 -- What a router consumed on its latest connection, and the split of it in its transcript (RFC 8210 sections 5, 7 and 12).
 use Rattle.std.specs.Prelude.{◌≡◌, ℕ, ◌-◌, true, List, [], ◌∷◌, ◌++◌, length, take, Option, Some, None, ⊤}
 use Rattle.std.specs.List.{AllByRecursion}
-use Rattle.rtr_pdu.specs.declared.version.Version.TheVariants.{V1}
 use Rattle.rtr_pdu.specs.Payloads.{AreBytes}
 use Rattle.rtr_pdu.specs.Stream.{Splits}
 use Rattle.rtr_pdu.specs.declared.unit.Unit.{Unit}
@@ -9,12 +8,12 @@ use Rattle.rtr_pdu.specs.declared.unit.UnitFault.{UnitFault}
 use Rattle.rtr_ends.specs.LinkRules.{Router}
 use Rattle.rtr_ends.specs.Router.{RouterCall, Connects, Receives, played, receives}
 use Rattle.rtr_ends.specs.RouterLink.{is_closed, is_reading}
-use Rattle.rtr_ends.specs.Transcript.{Item, Opened, Reads, Lacks, Breaks, Restarts}
+use Rattle.rtr_ends.specs.Transcript.{Item, Opened, Reads, Lacks, Breaks, Restarts, spoken}
 
 -- the units that came on the latest connection, in their order, those included at which memory was wanting
 abbrev pub units_read_in : List Item → List Unit
 units_read_in [] = []
-units_read_in (Opened ∷ items) = []
+units_read_in (Opened version ∷ items) = []
 units_read_in (Restarts ∷ items) = []
 units_read_in (Reads unit ∷ items) = units_read_in items ++ unit ∷ []
 units_read_in (Lacks unit ∷ items) = units_read_in items ++ unit ∷ []
@@ -23,7 +22,7 @@ units_read_in (item ∷ items) = units_read_in items
 -- the fault that its bytes showed
 abbrev pub fault_in : List Item → Option UnitFault
 fault_in [] = None
-fault_in (Opened ∷ items) = None
+fault_in (Opened version ∷ items) = None
 fault_in (Restarts ∷ items) = None
 fault_in (Breaks fault ∷ items) = Some fault
 fault_in (item ∷ items) = fault_in items
@@ -48,7 +47,7 @@ IsRouterCall call = ⊤
 -- none shows, and what follows the units is held. A closed link holds nothing, and nothing is to be pulled from it.
 pub record IsSplit (r : Router) (items : List Item) (bytes : List ℕ) : Type 0 where
   pub rest : List ℕ
-  pub split : Splits V1 true bytes (units_read_in items) rest (fault_in items)
+  pub split : Splits (spoken items) true bytes (units_read_in items) rest (fault_in items)
   pub held : is_reading r.link ≡ true → rest ≡ r.held
   pub sound : is_reading r.link ≡ true → fault_in items ≡ None
   pub none_held : is_closed r.link ≡ true → r.held ≡ []

@@ -7,16 +7,17 @@ use Rattle.rtr_pdu.specs.Code.{CORRUPT_DATA, NO_DATA_AVAILABLE, UNKNOWN_WITHDRAW
 use Rattle.rtr_pdu.specs.declared.unit.Unit.{Unit}
 use Rattle.rtr_pdu.specs.declared.unit.Unit.TheVariants.{SerialNotify, CacheResponse, Prefix, EndOfData, EndOfData0, CacheReset, RouterKey, ErrorReport}
 use Rattle.rtr_ends.specs.declared.link.End.TheVariants as ends
+use Rattle.rtr_pdu.specs.declared.version.Version.{Version}
 use Rattle.rtr_pdu.specs.declared.version.Version.TheVariants.{V1}
 use Rattle.rtr_ends.specs.Answer.{report, sent}
-use Rattle.rtr_ends.specs.Transcript.{Question, AskReset, AskSerial, query, Begun, Committed, choose, is_among, led_to, base_of, session_of, differs, is_serial, is_wrong, bounded, sum_of, retry_of}
+use Rattle.rtr_ends.specs.Transcript.{Question, AskReset, AskSerial, query, Begun, Committed, choose, is_among, led_to, base_of, of_version, session_of, differs, is_serial, is_wrong, bounded, sum_of, retry_of}
 use Rattle.rtr_ends.specs.Timing.{default_intervals}
 use Rattle.rtr_ends.specs.RouterLink.{Link, Closed, Idle, Asked, Answering, Ended}
 
 -- What a router holds: the committed table and version; the mark that the next query must be a Reset Query; when an idle link
--- asks; whether code 2, No Data Available, and no commit brought a link to idle last; the greatest moment so far; and of its
--- connection the link, whether a version is agreed on, the session of the latest Cache Response, what has come of a unit, and the
--- bytes to be pulled
+-- asks; whether code 2, No Data Available, and no commit brought a link to idle last; the greatest moment so far; the version of its
+-- next connection, and that of its connection, or of the latest one; and of its connection the link, whether a version is agreed on,
+-- the session of the latest Cache Response, what has come of a unit, and the bytes to be pulled
 pub record Router : Type 0 where
   pub table : VrpSet
   pub version : Option Committed
@@ -24,6 +25,8 @@ pub record Router : Type 0 where
   pub due : Option ℕ
   pub no_data : Bool
   pub now : ℕ
+  pub speaks : Version
+  pub spoken : Version
   pub link : Link
   pub agreed : Bool
   pub session : Option ℕ
@@ -31,13 +34,13 @@ pub record Router : Type 0 where
   pub out : List ℕ
 
 abbrev pub new_router : Router
-new_router = record { table = empty; version = None; mark = false; due = None; no_data = false; now = 0; link = Closed; agreed = false; session = None; held = []; out = [] }
+new_router = record { table = empty; version = None; mark = false; due = None; no_data = false; now = 0; speaks = V1; spoken = V1; link = Closed; agreed = false; session = None; held = []; out = [] }
 
 abbrev pub asking : Question → Router → Router
-asking question r = record r { link = Asked question; out = sent V1 (query question) }
+asking question r = record r { link = Asked question; out = sent r.spoken (query question) }
 
 abbrev pub ask : Router → Router
-ask r = asking (choose r.version r.mark) r
+ask r = asking (choose (of_version r.spoken r.version) r.mark) r
 
 -- Emptied: no table, no session, no mark
 abbrev pub emptied : Router → Router
@@ -45,7 +48,7 @@ emptied r = record r { table = empty; version = None; mark = false }
 
 -- The link ends: with a report on a unit, or by one that was read.
 abbrev pub reports : ℕ → Unit → Router → Router
-reports code u r = record r { link = Ended (ends.Reported code); out = sent V1 (report code (sent V1 u)) }
+reports code u r = record r { link = Ended (ends.Reported code); out = sent r.spoken (report code (sent r.spoken u)) }
 
 abbrev pub ended_by : ℕ → Router → Router
 ended_by code r = record r { link = Ended (ends.Told code) }
@@ -56,7 +59,7 @@ fails u r = reports 0 u (emptied r)
 
 -- After agreement, a unit of another session than the connection's
 abbrev pub is_strange : Router → ℕ → Bool
-is_strange r session = r.agreed && differs (session_of r.session r.version) session
+is_strange r session = r.agreed && differs (session_of r.session (of_version r.spoken r.version)) session
 
 -- A notify of a serial that is not known yet
 abbrev pub is_news : Option Committed → ℕ → Bool
@@ -108,13 +111,13 @@ on_unit Closed u r = r
 on_unit (Ended end) u r = r
 on_unit Idle (SerialNotify session serial) r =
     if is_strange r session then fails (SerialNotify session serial) r
-    else if is_news r.version serial then ask r
+    else if is_news (of_version r.spoken r.version) serial then ask r
     else r
 on_unit Idle (ErrorReport e) r = if e.code == NO_DATA_AVAILABLE then r else ended_by e.code r
 on_unit Idle u r = reports 0 u r
 on_unit (Asked question) (SerialNotify session serial) r = if is_strange r session then fails (SerialNotify session serial) r else r
 on_unit (Asked question) (CacheResponse session) r =
-    if is_wrong (Some question) r.version session then fails (CacheResponse session) r
+    if is_wrong (Some question) (of_version r.spoken r.version) session then fails (CacheResponse session) r
     else record r { agreed = true; session = Some session; link = Answering (record { question = question; session = session; withdrawn = []; announced = [] }) }
 on_unit (Asked (AskSerial session serial)) CacheReset r = asking AskReset (record r { agreed = true })
 on_unit (Asked question) (ErrorReport e) r = told_off question e.code (record r { agreed = true })
@@ -124,11 +127,11 @@ on_unit (Answering a) (Prefix announce v) r = staged (Prefix announce v) (stage 
 on_unit (Answering a) (RouterKey key) r = r
 on_unit (Answering a) (EndOfData session serial refresh retry expire) r =
     if session == a.session
-    then commit a (record { session = session; serial = serial; moment = r.now; intervals = bounded refresh retry expire }) r
+    then commit a (record { version = r.spoken; session = session; serial = serial; moment = r.now; intervals = bounded refresh retry expire }) r
     else fails (EndOfData session serial refresh retry expire) r
 on_unit (Answering a) (EndOfData0 session serial) r =
     if session == a.session
-    then commit a (record { session = session; serial = serial; moment = r.now; intervals = default_intervals }) r
+    then commit a (record { version = r.spoken; session = session; serial = serial; moment = r.now; intervals = default_intervals }) r
     else fails (EndOfData0 session serial) r
 on_unit (Answering a) (ErrorReport e) r = told_off a.question e.code r
 on_unit (Answering a) u r = reports 0 u r

@@ -1,7 +1,6 @@
 -- A router as a machine, byte by byte (RFC 8210 sections 5 to 8 and 12).
 use Rattle.std.specs.Prelude.{ℕ, Bool, true, false, not, ◌&&◌, List, [], ◌∷◌, ◌++◌, drop, Option, Some, None, if◌then◌else◌}
 use Rattle.rtr_pdu.specs.declared.version.Version.{Version}
-use Rattle.rtr_pdu.specs.declared.version.Version.TheVariants.{V1}
 use Rattle.rtr_pdu.specs.declared.kind.Kind.TheVariants as kinds
 use Rattle.rtr_pdu.specs.Judging.{Judgement, Begins, Whole, Faulty, judge}
 use Rattle.rtr_pdu.specs.Stream.{is_kind}
@@ -13,7 +12,7 @@ use Rattle.rtr_ends.specs.Answer.{sent_all}
 use Rattle.rtr_ends.specs.Cache.{is_none, finds_memory, counted}
 use Rattle.rtr_ends.specs.Connection.{agreed_version, fault_code, fault_report}
 use Rattle.rtr_ends.specs.Feeding.{FedPiece, feed}
-use Rattle.rtr_ends.specs.Transcript.{AskSerial, Item, At, Opened, Asks, Reads, Lacks, Breaks, Shut, choose, is_serial, is_over, later, sum_of, retry_of}
+use Rattle.rtr_ends.specs.Transcript.{AskSerial, Item, At, Opened, Asks, Reads, Lacks, Breaks, Shut, choose, of_version, is_serial, is_over, later, sum_of, retry_of}
 use Rattle.rtr_ends.specs.LinkRules.{Router, new_router, ask, emptied, on_unit, may_lack}
 use Rattle.rtr_ends.specs.RouterLink.{Link, Closed, Asked, Answering, Ended, is_reading, is_closed, is_due, is_idle}
 
@@ -42,7 +41,7 @@ fault_end agreed fault bytes = if is_kind kinds.ErrorReport bytes then ends.Malf
 
 abbrev pub breaks : UnitFault → List ℕ → Router → Noted
 breaks fault bytes r = record {
-  router = record r { held = []; link = Ended (fault_end (agreed_version r.agreed V1) fault bytes); out = sent_all V1 (fault_report (agreed_version r.agreed V1) fault bytes) };
+  router = record r { held = []; link = Ended (fault_end (agreed_version r.agreed r.spoken) fault bytes); out = sent_all r.spoken (fault_report (agreed_version r.agreed r.spoken) fault bytes) };
   items = Breaks fault ∷ [];
 }
 
@@ -70,7 +69,7 @@ router_judged m bytes judgement = with_read m judgement (with_bytes (finds_memor
 
 -- The next byte. Until a version is agreed on, a notify of any version is read (RFC 8210 section 7).
 unfoldable pub router_byte : Receiving → ℕ → Receiving
-router_byte m b = router_judged m (m.router.held ++ b ∷ []) (judge V1 (not m.router.agreed) (m.router.held ++ b ∷ []))
+router_byte m b = router_judged m (m.router.held ++ b ∷ []) (judge m.router.spoken (not m.router.agreed) (m.router.held ++ b ∷ []))
 
 -- The clock, judged first wherever a moment is told: what has expired is emptied. A Serial Query that is outstanding then ends the
 -- link (RFC 8210 section 6).
@@ -97,17 +96,17 @@ close r = if is_closed r.link then r else record r {
 }
 
 abbrev pub asks_if : Bool → Router → Noted
-asks_if true r = record { router = ask r; items = Asks (choose r.version r.mark) ∷ [] }
+asks_if true r = record { router = ask r; items = Asks (choose (of_version r.spoken r.version) r.mark) ∷ [] }
 asks_if false r = silent r
 
 abbrev pub and_then : List Item → Noted → Noted
 and_then items n = record { router = n.router; items = n.items ++ items }
 
--- The calls. `connect` closes an older connection; `ask` asks where the link is idle.
+-- The calls. `connect` closes an older connection, and makes one of the version that was told last; `ask` asks where the link is idle.
 unfoldable pub connects_at : ℕ → Router → Noted
 connects_at now r =
     let closed : Router = close (clocked now r) in
-    record { router = ask closed; items = Asks (choose closed.version closed.mark) ∷ Opened ∷ At now ∷ [] }
+    record { router = ask (record closed { spoken = closed.speaks }); items = Asks (choose (of_version closed.speaks closed.version) closed.mark) ∷ Opened closed.speaks ∷ At now ∷ [] }
 
 unfoldable pub closed_at : ℕ → Router → Noted
 closed_at now r = record { router = close (clocked now r); items = Shut ∷ At now ∷ [] }
@@ -125,7 +124,8 @@ receives now wanting piece r =
 unfoldable pub router_pulled : ℕ → Router → Router
 router_pulled most r = record r { out = drop most r.out }
 
--- What is called on a router. At `receive` memory may be wanting at a unit of the piece, counted from 0.
+-- What is called on a router. At `receive` memory may be wanting at a unit of the piece, counted from 0. `speak` tells the version of
+-- the next connection.
 pub data RouterCall : Type 0 where
   Connects : (now : ℕ) → RouterCall
   Receives : (now : ℕ) → (wanting : Option ℕ) → (piece : List ℕ) → RouterCall
@@ -133,6 +133,7 @@ pub data RouterCall : Type 0 where
   Closes : (now : ℕ) → RouterCall
   AsksNow : RouterCall
   Ticks : (now : ℕ) → RouterCall
+  Speaks : (version : Version) → RouterCall
 
 abbrev pub of_received : FedPiece Receiving → Noted
 of_received f = record { router = f.machine.router; items = f.machine.items }
@@ -144,6 +145,7 @@ called (Pulls most) r = silent (router_pulled most r)
 called (Closes now) r = closed_at now r
 called AsksNow r = asks r
 called (Ticks now) r = ticks_at now r
+called (Speaks version) r = silent (record r { speaks = version })
 
 -- a new router and its transcript after these calls, the last first
 abbrev pub played : List RouterCall → Noted

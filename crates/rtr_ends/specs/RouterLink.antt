@@ -1,5 +1,6 @@
 -- The link of a router to its cache, how it ends, and what is told of it (RFC 8210 sections 5 to 8).
 use Rattle.std.specs.Prelude.{ℕ, Bool, true, false, not, nat_lt, Option, Some, None, Result, Ok, Err, ⊤}
+use Rattle.rtr_pdu.specs.declared.version.Version.{Version}
 use Rattle.rtr_ends.specs.Transcript.{Question, Begun, Committed}
 use Rattle.rtr_ends.specs.declared.link.AskFault.{AskFault}
 use Rattle.rtr_ends.specs.declared.link.AskFault.TheVariants.{Busy, NotConnected}
@@ -62,6 +63,6 @@ asked_on (Asked question) = Err Busy
 asked_on (Answering answer) = Err Busy
 asked_on (Ended end) = Err NotConnected
 
-abbrev pub name_of : Option Committed → Option (ℕ × ℕ)
+abbrev pub name_of : Option Committed → Option (Version × ℕ × ℕ)
 name_of None = None
-name_of (Some version) = Some (version.session, version.serial)
+name_of (Some version) = Some (version.version, version.session, version.serial)

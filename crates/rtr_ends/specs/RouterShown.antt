@@ -2,7 +2,7 @@
 use Rattle.std.specs.Prelude.{◌≡◌, ℕ, ◌-◌, Bool, true, false, not, List, [], ◌∷◌, length, Option, Some, None, IfSome}
 use Rattle.std.specs.List.{AllByRecursion, list_any}
 use Rattle.rtr_pdu.specs.Reader.{Reader}
-use Rattle.rtr_pdu.specs.declared.version.Version.TheVariants.{V1}
+use Rattle.rtr_pdu.specs.declared.version.Version.{Version}
 use Rattle.rtr_ends.specs.Consumed.{IsRouterCall, IsSplit, came}
 use Rattle.rtr_ends.specs.Feeding.{FedPiece, feed}
 use Rattle.rtr_ends.specs.Peer.{Held}
@@ -14,14 +14,14 @@ use Rattle.rtr_ends.specs.Seen.{ShowsRouter}
 use Rattle.rtr_ends.specs.Transcript.{Item, Lacks}
 use Rattle.rtr_ends.specs.declared.router.Router as code
 
--- a reader that has so much of a unit
-abbrev pub reading : Bool → List ℕ → Reader
-reading agreed held = record { version = Some V1; held = held; any = not agreed; later = not agreed; fault = None }
+-- a reader of this version that has so much of a unit
+abbrev pub reading : Version → Bool → List ℕ → Reader
+reading version agreed held = record { version = Some version; held = held; any = not agreed; later = not agreed; fault = None }
 
 -- The value is this router of the machine. A link that is closed or has ended reads nothing.
 pub record IsShown (r : Router) (v : code.Router) : Type 0 where
   pub machine : ShowsRouter r v.machine
-  pub reader : is_reading r.link ≡ true → v.reader ≡ reading r.agreed r.held
+  pub reader : is_reading r.link ≡ true → v.reader ≡ reading r.spoken r.agreed r.held
   pub closed : is_closed r.link ≡ true → (r.held ≡ []) × (r.agreed ≡ false)
 
 -- the bytes that a router holds

@@ -25,7 +25,7 @@ seen_question questions.Reset = AskReset
 seen_question (questions.Serial session serial) = AskSerial session serial
 
 abbrev pub seen_version : CommittedVersion → Committed
-seen_version v = record { session = v.session; serial = v.serial; moment = v.moment; intervals = intervals v.refresh v.retry v.expire }
+seen_version v = record { version = v.version; session = v.session; serial = v.serial; moment = v.moment; intervals = intervals v.refresh v.retry v.expire }
 
 abbrev pub seen_versions : Option CommittedVersion → Option Committed
 seen_versions None = None
@@ -53,6 +53,8 @@ seen m withdrawn announced held = record {
   due = m.due;
   no_data = m.no_data;
   now = m.clock;
+  speaks = m.speaks;
+  spoken = m.spoken;
   link = seen_link m.state withdrawn announced;
   agreed = m.agreed;
   session = m.session;

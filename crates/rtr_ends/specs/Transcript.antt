@@ -6,6 +6,8 @@ use Rattle.std.specs.Ordering.{eq_by_cmp}
 use Rattle.prefixes.specs.Payload.{Payload, vrp_cmp}
 use Rattle.vrps.specs.VrpSet.{VrpSet, empty, has, set_of, union, without}
 use Rattle.rtr_pdu.specs.Code.{CORRUPT_DATA, NO_DATA_AVAILABLE}
+use Rattle.rtr_pdu.specs.declared.version.Version.{Version}
+use Rattle.rtr_pdu.specs.declared.version.Version.TheVariants.{V0, V1}
 use Rattle.rtr_pdu.specs.declared.unit.Unit.{Unit}
 use Rattle.rtr_pdu.specs.declared.unit.Unit.TheVariants.{SerialNotify, SerialQuery, ResetQuery, CacheResponse, Prefix, EndOfData, EndOfData0, CacheReset, RouterKey, ErrorReport}
 use Rattle.rtr_pdu.specs.declared.unit.UnitFault.{UnitFault}
@@ -21,12 +23,12 @@ abbrev pub query : Question → Unit
 query AskReset = ResetQuery
 query (AskSerial session serial) = SerialQuery session serial
 
--- What happens at a router: a moment is told; a connection is made; a question is put; a unit is read, or it is and memory for
+-- What happens at a router: a moment is told; a connection is made, of a version; a question is put; a unit is read, or it is and memory for
 -- it is wanting; bytes show a fault; the world refuses an event for want of memory; the connection is closed; the router is
 -- a new one.
 pub data Item : Type 0 where
   At : (now : ℕ) → Item
-  Opened : Item
+  Opened : (version : Version) → Item
   Asks : (question : Question) → Item
   Reads : (unit : Unit) → Item
   Lacks : (unit : Unit) → Item
@@ -48,10 +50,17 @@ moment (item ∷ items) = moment items
 -- a connection was made, and not closed since
 abbrev pub is_connected : List Item → Bool
 is_connected [] = false
-is_connected (Opened ∷ items) = true
+is_connected (Opened version ∷ items) = true
 is_connected (Shut ∷ items) = false
 is_connected (Restarts ∷ items) = false
 is_connected (item ∷ items) = is_connected items
+
+-- the version of the latest connection, 1 where there was none
+abbrev pub spoken : List Item → Version
+spoken [] = V1
+spoken (Restarts ∷ items) = V1
+spoken (Opened version ∷ items) = version
+spoken (item ∷ items) = spoken items
 
 -- the question of which no answer has begun. Notifies and moments leave it.
 abbrev pub waiting : List Item → Option Question
@@ -98,7 +107,7 @@ outstanding items = question_of (under_way items) (waiting items)
 -- A version is agreed on: a unit other than a notify was read on this connection (RFC 8210 section 7).
 abbrev pub has_agreed : List Item → Bool
 has_agreed [] = false
-has_agreed (Opened ∷ items) = false
+has_agreed (Opened version ∷ items) = false
 has_agreed (Restarts ∷ items) = false
 has_agreed (Reads (SerialNotify session serial) ∷ items) = has_agreed items
 has_agreed (Reads unit ∷ items) = true
@@ -108,7 +117,7 @@ has_agreed (item ∷ items) = has_agreed items
 -- the session of the latest Cache Response on this connection
 abbrev pub responded : List Item → Option ℕ
 responded [] = None
-responded (Opened ∷ items) = None
+responded (Opened version ∷ items) = None
 responded (Restarts ∷ items) = None
 responded (Reads (CacheResponse session) ∷ items) = Some session
 responded (item ∷ items) = responded items
@@ -139,12 +148,24 @@ ActsExactly =
     (base : VrpSet) (withdrawn announced : List Payload) →
     (acts_once base withdrawn announced ≡ true) ↔ Commits base withdrawn announced (led_to base withdrawn announced)
 
--- the version that was committed: its name, when that was, and its intervals
+-- the version that was committed: the version of the protocol, its name, when that was, and its intervals
 pub record Committed : Type 0 where
+  pub version : Version
   pub session : ℕ
   pub serial : ℕ
   pub moment : ℕ
   pub intervals : Intervals
+
+-- two versions of the protocol are the same
+abbrev pub is_same : Version → Version → Bool
+is_same V0 V0 = true
+is_same V1 V1 = true
+is_same one other = false
+
+-- what was committed, where it is of this version of the protocol
+abbrev pub of_version : Version → Option Committed → Option Committed
+of_version spoken None = None
+of_version spoken (Some version) = if is_same spoken version.version then Some version else None
 
 -- what a router holds
 pub record Kept : Type 0 where
@@ -166,7 +187,7 @@ abbrev pub base_of : Question → VrpSet → VrpSet
 base_of AskReset table = empty
 base_of (AskSerial session serial) table = table
 
--- The session of a connection: that of its latest Cache Response, else the committed one, else none. None differs from none.
+-- The session of a connection: that of its latest Cache Response, else the one committed in its version, else none. None differs from none.
 abbrev pub session_of : Option ℕ → Option Committed → Option ℕ
 session_of (Some session) version = Some session
 session_of None (Some version) = Some version.session
@@ -181,7 +202,7 @@ abbrev pub is_serial : Option Question → Bool
 is_serial (Some (AskSerial session serial)) = true
 is_serial question = false
 
--- a response to a Serial Query has another session than the committed one
+-- a response to a Serial Query has another session than the one committed in its version
 abbrev pub is_wrong : Option Question → Option Committed → ℕ → Bool
 is_wrong (Some (AskSerial old serial)) version session = differs (session_of None version) session
 is_wrong question version session = false
@@ -209,11 +230,11 @@ at_end_of_data (Some a) version k =
 -- Response to a Serial Query, of another session; code 0, Corrupt Data, to a Serial Query
 abbrev pub kept_unit : Unit → List Item → Kept → Kept
 kept_unit (EndOfData session serial refresh retry expire) items k =
-    at_end_of_data (under_way items) (record { session = session; serial = serial; moment = moment items; intervals = bounded refresh retry expire }) k
+    at_end_of_data (under_way items) (record { version = spoken items; session = session; serial = serial; moment = moment items; intervals = bounded refresh retry expire }) k
 kept_unit (EndOfData0 session serial) items k =
-    at_end_of_data (under_way items) (record { session = session; serial = serial; moment = moment items; intervals = default_intervals }) k
-kept_unit (SerialNotify session serial) items k = emptied_if (has_agreed items && differs (session_of (responded items) k.version) session) k
-kept_unit (CacheResponse session) items k = emptied_if (is_wrong (waiting items) k.version session) k
+    at_end_of_data (under_way items) (record { version = spoken items; session = session; serial = serial; moment = moment items; intervals = default_intervals }) k
+kept_unit (SerialNotify session serial) items k = emptied_if (has_agreed items && differs (session_of (responded items) (of_version (spoken items) k.version)) session) k
+kept_unit (CacheResponse session) items k = emptied_if (is_wrong (waiting items) (of_version (spoken items) k.version) session) k
 kept_unit (ErrorReport r) items k = emptied_if (r.code == CORRUPT_DATA && is_serial (outstanding items)) k
 kept_unit unit items k = k
 
@@ -257,7 +278,7 @@ retried items = Some (sum_of (moment items) (retry_of (kept items).version))
 abbrev pub due : List Item → Option ℕ
 due [] = None
 due (Restarts ∷ items) = None
-due (Opened ∷ items) = if is_connected items then retried items else due items
+due (Opened version ∷ items) = if is_connected items then retried items else due items
 due (Shut ∷ items) = if is_connected items then retried items else due items
 due (Reads (EndOfData session serial refresh retry expire) ∷ items) =
     if does_commit (under_way items) session (kept items).table
@@ -283,7 +304,7 @@ marked (Reads (EndOfData session serial refresh retry expire) ∷ items) = not (
 marked (Reads (EndOfData0 session serial) ∷ items) = not (does_commit (under_way items) session (kept items).table) && marked items
 marked (item ∷ items) = marked items
 
--- A Serial Query where something is committed and the mark is not set, else a Reset Query
+-- A Serial Query where something is committed, in the version of the connection, and the mark is not set, else a Reset Query
 abbrev pub choose : Option Committed → Bool → Question
 choose (Some version) false = AskSerial version.session version.serial
 choose version mark = AskReset
@@ -291,7 +312,7 @@ choose version mark = AskReset
 -- The question that is put next: after a Cache Reset a Reset Query (RFC 8210 section 5.9)
 abbrev pub next_question : List Item → Question
 next_question (Reads CacheReset ∷ items) = AskReset
-next_question items = choose (kept items).version (marked items)
+next_question items = choose (of_version (spoken items) (kept items).version) (marked items)
 
 -- Each question is the one to be put.
 abbrev pub AsksRightly : List Item → Type 0

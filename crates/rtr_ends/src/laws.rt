@@ -5,7 +5,7 @@ ghost use Rattle.rtr_ends.specs.Commit.{ChangeCommits, OneCommit};
 ghost use Rattle.rtr_ends.specs.Connection.{HistorySplits, PulledAreReplies};
 ghost use Rattle.rtr_ends.specs.Consumed.{RouterSplits};
 ghost use Rattle.rtr_ends.specs.Peer.{HasBufferRoom};
-ghost use Rattle.rtr_ends.specs.RouterLaws.{RouterAsks, RouterKeeps, RouterStops, RouterTakes};
+ghost use Rattle.rtr_ends.specs.RouterLaws.{RouterAsks, RouterKeeps, RouterSpeaks, RouterStops, RouterTakes};
 ghost use Rattle.rtr_ends.specs.RouterShown.{held_by_router};
 ghost use Rattle.rtr_ends.specs.Transcript.{ActsExactly};
 
@@ -74,6 +74,12 @@ pub fn router_keeps()
 /// all where nothing is, where a record acted wrongly since, or after a Cache Reset; and so is the one that it would choose now.
 pub fn router_asks()
     ensures { RouterAsks }
+{}
+
+/// After any calls the next connection of a router is of the version that it was told last, of version 1 where it was told none; and its
+/// latest one is of the version that it had been told by then.
+pub fn router_speaks()
+    ensures { RouterSpeaks }
 {}
 
 /// What is called on a cache, in any order and on any number of connections, makes the history of each of them, since it was opened.

@@ -1,11 +1,10 @@
-//! The two ends of the RPKI-to-Router protocol (RFC 8210).
+//! The two ends of the RPKI-to-Router protocol (RFC 6810, RFC 8210).
 #![tactic(auto)]
 
 mod cache;
 mod fetching;
 pub mod laws;
 mod link;
-mod link_reader;
 mod machine;
 mod machine_clock;
 mod machine_units;

@@ -1,16 +1,16 @@
 //! A router between two units: what it holds, its link, and what it asks (RFC 8210 sections 5 to 8).
-ghost use Rattle.std.specs.Prelude.{◌≡◌, ◌&&◌, [], None, true, false};
+ghost use Rattle.std.specs.Prelude.{◌≡◌, ◌&&◌, [], Some, None, true, false};
 ghost use Rattle.vrps.specs.Origin.{state};
 ghost use Rattle.vrps.specs.VrpSet.{empty};
 ghost use Rattle.rtr_pdu.specs.Code.{CORRUPT_DATA};
 ghost use Rattle.rtr_pdu.specs.Unit.{fits};
-ghost use Rattle.rtr_pdu.specs.declared.version.Version.TheVariants.{V1};
+ghost use Rattle.rtr_pdu.specs.declared.version.Version.{Version as Protocol};
 ghost use Rattle.rtr_ends.specs.Answer.{report, sent};
 ghost use Rattle.rtr_ends.specs.Cache.{is_none};
 ghost use Rattle.rtr_ends.specs.RouterLink as linked;
 ghost use Rattle.rtr_ends.specs.LinkRules as rules;
 ghost use Rattle.rtr_ends.specs.Seen.{seen_question, seen_versions};
-ghost use Rattle.rtr_ends.specs.Transcript.{choose, query};
+ghost use Rattle.rtr_ends.specs.Transcript.{choose, of_version, query};
 
 use crate::link::End;
 use crate::outbox::Outbox;
@@ -45,6 +45,10 @@ pub struct Machine {
     pub no_data: bool,
     /// The greatest moment so far.
     pub clock: u64,
+    /// The version of the next connection.
+    pub speaks: Version,
+    /// The version of the connection, or of the latest one.
+    pub spoken: Version,
     pub state: State,
     pub agreed: bool,
     /// The session of the latest Cache Response.
@@ -70,6 +74,8 @@ impl Machine {
             due: None,
             no_data: false,
             clock: 0,
+            speaks: Version::V1,
+            spoken: Version::V1,
             state: State::Closed,
             agreed: false,
             session: None,
@@ -80,23 +86,48 @@ impl Machine {
 
     /// A question is put.
     pub fn asks(&mut self, question: Question)
-        ensures { self.new ≡ record self.old { state = states.Asked question; out = sent V1 (query (seen_question question)) } }
+        ensures { self.new ≡ record self.old { state = states.Asked question; out = sent self.old.spoken (query (seen_question question)) } }
     {
         match question {
-            Question::Reset => self.out.put(Version::V1, &Unit::ResetQuery),
+            Question::Reset => self.out.put(self.spoken, &Unit::ResetQuery),
             Question::Serial { session, serial } => {
                 self.out
-                    .put(Version::V1, &Unit::SerialQuery { session, serial })
+                    .put(self.spoken, &Unit::SerialQuery { session, serial })
             }
         }
         self.state = State::Asked(question);
     }
 
-    /// Which question is to be put.
-    pub fn choose(&self) -> Question
-        ensures { seen_question result ≡ choose (seen_versions self.now.version) self.now.mark }
+    /// The units of the connection are of this version.
+    pub fn follow(&mut self, version: Option<Version>)
+        ensures { (spoken : Protocol) → version ≡ Some spoken → self.new ≡ record self.old { spoken = spoken } }
+    {
+        if let Some(version) = version {
+            self.spoken = version;
+        }
+    }
+
+    /// What is committed, where it is of the version of the connection.
+    pub fn known(&self) -> Option<CommittedVersion>
+        ensures { seen_versions result ≡ of_version self.now.spoken (seen_versions self.now.version) }
     {
         match &self.version {
+            Some(version) => {
+                if version.is_of(self.spoken) {
+                    Some(*version)
+                } else {
+                    None
+                }
+            }
+            None => None,
+        }
+    }
+
+    /// Which question is to be put.
+    pub fn choose(&self) -> Question
+        ensures { seen_question result ≡ choose (of_version self.now.spoken (seen_versions self.now.version)) self.now.mark }
+    {
+        match self.known() {
             Some(version) => {
                 if self.mark {
                     Question::Reset
@@ -130,18 +161,18 @@ impl Machine {
 
     /// Ends the link with a report on a unit.
     pub fn reports(&mut self, code: u16, unit: &Unit)
-        requires { fits V1 unit.now ≡ true }
-        ensures { self.new ≡ record self.old { state = states.Ended (ends.Reported code); out = sent V1 (report code (sent V1 unit.now)) } }
+        requires { fits self.old.spoken unit.now ≡ true }
+        ensures { self.new ≡ record self.old { state = states.Ended (ends.Reported code); out = sent self.old.spoken (report code (sent self.old.spoken unit.now)) } }
     {
         self.out
-            .put(Version::V1, &report_on(Version::V1, code, unit));
+            .put(self.spoken, &report_on(self.spoken, code, unit));
         self.state = State::Ended(End::Reported(code));
     }
 
     /// The same with code 0, Corrupt Data, and what is committed is dropped.
     pub fn fails(&mut self, unit: &Unit)
-        requires { fits V1 unit.now ≡ true }
-        ensures { self.new ≡ record self.old { table = empty; version = None; mark = false; state = states.Ended (ends.Reported CORRUPT_DATA); out = sent V1 (report CORRUPT_DATA (sent V1 unit.now)) } }
+        requires { fits self.old.spoken unit.now ≡ true }
+        ensures { self.new ≡ record self.old { table = empty; version = None; mark = false; state = states.Ended (ends.Reported CORRUPT_DATA); out = sent self.old.spoken (report CORRUPT_DATA (sent self.old.spoken unit.now)) } }
     {
         self.empty();
         self.reports(error_code::CORRUPT_DATA, unit);

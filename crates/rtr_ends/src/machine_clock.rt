@@ -59,12 +59,13 @@ impl Machine {
         }
     }
 
-    /// A connection is made.
+    /// A connection is made, of the version that was told last.
     pub fn connect(&mut self, now: u64)
         ensures { Does (λ r. (model.connects_at now r).router) self.old self.new }
     {
         self.tell(now);
         self.close();
+        self.spoken = self.speaks;
         self.ask();
     }
 

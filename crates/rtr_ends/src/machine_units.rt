@@ -3,13 +3,12 @@ ghost use Rattle.std.specs.Prelude.{◌≡◌, ◌≤◌, ◌&&◌, ℕ, [], tru
 ghost use Rattle.vrps.specs.VrpSet.{has, size};
 ghost use Rattle.rtr_pdu.specs.Code.{CORRUPT_DATA};
 ghost use Rattle.rtr_pdu.specs.Unit.{fits};
-ghost use Rattle.rtr_pdu.specs.declared.version.Version.TheVariants.{V1};
 ghost use Rattle.rtr_ends.specs.Answer.{report, sent};
 ghost use Rattle.rtr_ends.specs.Router as model;
 ghost use Rattle.rtr_ends.specs.RouterLink as linked;
 ghost use Rattle.rtr_ends.specs.LinkRules as rules;
 ghost use Rattle.rtr_ends.specs.Seen.{seen_question, seen_versions};
-ghost use Rattle.rtr_ends.specs.Transcript.{base_of, differs, is_wrong, session_of};
+ghost use Rattle.rtr_ends.specs.Transcript.{base_of, differs, is_wrong, of_version, session_of};
 
 use crate::link::End;
 use crate::machine::{Machine, State};
@@ -17,7 +16,7 @@ use crate::question::{CommittedVersion, Question, within};
 use crate::reports::{agreed_version, code_of, fault_unit, type_byte};
 use crate::staging::{Staged, Staging};
 use prefixes::Vrp;
-use rtr_pdu::{Kind, Unit, UnitFault, Version, error_code};
+use rtr_pdu::{Kind, Unit, UnitFault, error_code};
 use std::mem;
 use vrps::SetFault;
 
@@ -28,7 +27,7 @@ impl Machine {
 
     /// A unit is read. Whether memory was wanting; then the link has ended.
     pub fn read(&mut self, unit: &Unit) -> bool
-        requires { fits V1 unit.now ≡ true }
+        requires { fits self.old.spoken unit.now ≡ true }
         ensures { ReadsOrLacks result unit.now self.old self.new }
     {
         match self.state {
@@ -61,7 +60,7 @@ impl Machine {
     /// A unit on an idle link.
     fn on_idle(&mut self, unit: &Unit)
         requires state { self.old.state ≡ states.Idle }
-        requires fits { fits V1 unit.now ≡ true }
+        requires fits { fits self.old.spoken unit.now ≡ true }
         ensures { Does (λ r. rules.on_unit r.link unit.now r) self.old self.new }
     {
         match unit {
@@ -92,7 +91,7 @@ impl Machine {
     /// A unit where the question is not answered yet.
     fn on_asked(&mut self, question: Question, unit: &Unit)
         requires state { self.old.state ≡ states.Asked question }
-        requires fits { fits V1 unit.now ≡ true }
+        requires fits { fits self.old.spoken unit.now ≡ true }
         ensures { Does (λ r. rules.on_unit r.link unit.now r) self.old self.new }
     {
         match unit {
@@ -137,7 +136,7 @@ impl Machine {
         unit: &Unit,
     ) -> Result<(), SetFault>
         requires state { self.old.state ≡ states.Answering question session }
-        requires fits { fits V1 unit.now ≡ true }
+        requires fits { fits self.old.spoken unit.now ≡ true }
         ensures { UnitIsRead result unit.now self.old self.new }
     {
         match unit {
@@ -185,9 +184,9 @@ impl Machine {
 
     /// A unit that does not belong in an answer.
     fn rejects(&mut self, unit: &Unit) -> Result<(), SetFault>
-        requires { fits V1 unit.now ≡ true }
+        requires { fits self.old.spoken unit.now ≡ true }
         ensures ok { result ≡ Ok tt }
-        ensures reports { self.new ≡ record self.old { state = states.Ended (ends.Reported CORRUPT_DATA); out = sent V1 (report CORRUPT_DATA (sent V1 unit.now)) } }
+        ensures reports { self.new ≡ record self.old { state = states.Ended (ends.Reported CORRUPT_DATA); out = sent self.old.spoken (report CORRUPT_DATA (sent self.old.spoken unit.now)) } }
     {
         self.reports(error_code::CORRUPT_DATA, unit);
         Ok(())
@@ -212,7 +211,7 @@ impl Machine {
         announce: bool,
         vrp: &Vrp,
     ) -> Result<(), SetFault>
-        requires { fits V1 unit.now ≡ true }
+        requires { fits self.old.spoken unit.now ≡ true }
         ensures { (session : ℕ) → self.old.state ≡ states.Answering question session → unit.now ≡ Unit.Prefix announce vrp.now → UnitIsRead result unit.now self.old self.new }
     {
         let in_base = self.is_in_base(question, vrp);
@@ -245,6 +244,7 @@ impl Machine {
                 let refresh = within(1, 86_400, refresh);
                 self.table = table;
                 self.version = Some(CommittedVersion {
+                    version: self.spoken,
                     session,
                     serial,
                     moment: self.clock,
@@ -289,11 +289,11 @@ impl Machine {
 
     /// Whether the session differs from the connection's, after agreement.
     fn is_strange(&self, session: u16) -> bool
-        ensures { result ≡ (self.now.agreed && differs (session_of self.now.session (seen_versions self.now.version)) session) }
+        ensures { result ≡ (self.now.agreed && differs (session_of self.now.session (of_version self.now.spoken (seen_versions self.now.version))) session) }
     {
         let own = match self.session {
             Some(own) => own,
-            None => match &self.version {
+            None => match self.known() {
                 Some(version) => version.session,
                 None => return false,
             },
@@ -303,9 +303,9 @@ impl Machine {
 
     /// Whether a notify of this serial is of a later version than the committed one.
     fn is_news(&self, serial: u32) -> bool
-        ensures { result ≡ rules.is_news (seen_versions self.now.version) serial }
+        ensures { result ≡ rules.is_news (of_version self.now.spoken (seen_versions self.now.version)) serial }
     {
-        match &self.version {
+        match self.known() {
             Some(version) => version.is_before(serial),
             None => true,
         }
@@ -313,9 +313,9 @@ impl Machine {
 
     /// Whether a Cache Response of this session does not answer the question.
     fn is_wrong(&self, question: Question, session: u16) -> bool
-        ensures { result ≡ is_wrong (Some (seen_question question)) (seen_versions self.now.version) session }
+        ensures { result ≡ is_wrong (Some (seen_question question)) (of_version self.now.spoken (seen_versions self.now.version)) session }
     {
-        match &self.version {
+        match self.known() {
             Some(version) => question.is_serial() && version.session != session,
             None => false,
         }
@@ -346,10 +346,10 @@ impl Machine {
     pub fn breaks(&mut self, fault: UnitFault, bytes: &[u8])
         ensures { Does (λ r. (model.breaks fault bytes.now r).router) self.old self.new }
     {
-        let agreed = agreed_version(self.agreed, Version::V1);
+        let agreed = agreed_version(self.agreed, self.spoken);
         match fault_unit(agreed, fault, bytes) {
             None => self.out.clear(),
-            Some(unit) => self.out.put(Version::V1, &unit),
+            Some(unit) => self.out.put(self.spoken, &unit),
         }
         if type_byte(bytes) == Kind::ErrorReport.number() {
             self.state = State::Ended(End::Malformed);

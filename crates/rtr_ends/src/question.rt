@@ -1,8 +1,9 @@
 //! What a router asks for, and what it has committed.
 ghost use Rattle.std.specs.Prelude.{◌≡◌, ℕ, Option, Some, None};
 ghost use Rattle.vrps.specs.Serial.{is_before};
-ghost use Rattle.rtr_ends.specs.Transcript.{is_over, is_serial, within};
+ghost use Rattle.rtr_ends.specs.Transcript.{is_over, is_same, is_serial, within};
 
+use rtr_pdu::Version;
 use vrps::Serial;
 
 /// A question: for all, or for what changed since a version (RFC 8210 sections 5.3 and 5.4).
@@ -28,9 +29,10 @@ impl Question {
     }
 }
 
-/// The version that was committed: its name, when that was, and its intervals, in seconds (RFC 8210 sections 5.8 and 6).
+/// The version that was committed: the version of the protocol, its name, when that was, and its intervals, in seconds (RFC 8210 sections 5.8 and 6).
 #[derive(Clone, Copy, Debug, PartialEq, Eq)]
 pub struct CommittedVersion {
+    pub version: Version,
     pub session: u16,
     pub serial: u32,
     pub moment: u64,
@@ -41,6 +43,22 @@ pub struct CommittedVersion {
 
 impl CommittedVersion {
     ghost use Rattle.rtr_ends.specs.Seen.{seen_version, seen_versions};
+
+    /// Whether it was committed in this version of the protocol.
+    pub fn is_of(&self, version: Version) -> bool
+        ensures { result ≡ is_same version self.now.version }
+    {
+        match version {
+            Version::V0 => match self.version {
+                Version::V0 => true,
+                Version::V1 => false,
+            },
+            Version::V1 => match self.version {
+                Version::V0 => false,
+                Version::V1 => true,
+            },
+        }
+    }
 
     /// Whether more than expire has passed since the commit.
     pub fn is_over(&self, now: u64) -> bool

@@ -13,41 +13,48 @@ ghost use Rattle.rtr_ends.specs.RouterLink.{asked_on, name_of, told_link};
 ghost use Rattle.vrps.specs.Origin.{state};
 
 use crate::link::{AskFault, Link};
-use crate::link_reader::LinkReader;
 use crate::machine::{Machine, State};
 use prefixes::Route;
-use rtr_pdu::Next;
+use rtr_pdu::{Next, UnitReader, Version};
 use std::alloc::Global;
 use vrps::{OriginState, Serial, VrpSet};
 
-/// A router: what it has committed, and at most one connection (RFC 8210 sections 5 to 8). Moments are in seconds of a clock that the
+/// A router: what it has committed, and at most one connection (RFC 6810, RFC 8210 sections 5 to 8). Moments are in seconds of a clock that the
 /// caller hands in; one below the greatest so far counts as that one.
 #[derive(Drop)]
 pub struct Router {
     machine: Machine,
-    reader: LinkReader,
+    reader: UnitReader,
 }
 
 impl Router {
     ghost use Rattle.rtr_ends.specs.RouterShown.{Calls, IsShown, CallsLead, LeadsOn, ReceivesSo, TakesOn, held_by_router};
 
-    /// Nothing is committed, and there is no connection.
+    /// Nothing is committed, and there is no connection. Connections are of version 1, until `speak` tells another.
     pub fn new(alloc: Global) -> Router
         ensures { IsShown rules.new_router result }
     {
         Router {
             machine: Machine::new(alloc),
-            reader: LinkReader::for_router(),
+            reader: UnitReader::for_router(Version::V1),
         }
     }
 
-    /// A connection is made, and a question put on it. An older connection is closed. It takes no memory.
+    /// The version of the connections from the next one on; one that is there stays as it is. It takes no memory.
+    pub fn speak(&mut self, version: Version)
+        ensures calls { Calls (λ r. (called (model.Speaks version) r).router) self.old self.new }
+        ensures leads { LeadsOn (model.Speaks version) self.old self.new }
+    {
+        self.machine.speaks = version;
+    }
+
+    /// A connection is made, of the version that was told last, and a question put on it. An older connection is closed. It takes no memory.
     pub fn connect(&mut self, now: u64)
         ensures calls { Calls (λ r. (called (model.Connects now) r).router) self.old self.new }
         ensures leads { LeadsOn (model.Connects now) self.old self.new }
     {
         self.machine.connect(now);
-        self.reader = LinkReader::for_router();
+        self.reader = UnitReader::for_router(self.machine.spoken);
     }
 
     /// The connection is closed. It takes no memory.
@@ -109,13 +116,13 @@ impl Router {
         self.machine.table.set()
     }
 
-    /// The session and serial of the committed version, if there is one.
-    pub fn committed(&self) -> Option<(u16, Serial)>
-        ensures shown { (r : rules.Router) → IsShown r self.now → option_map (λ name. (name.0, name.1.0)) result ≡ name_of r.version }
-        ensures kept { (calls : List model.RouterCall) → CallsLead calls self.now → option_map (λ name. (name.0, name.1.0)) result ≡ name_of (kept (model.played calls).items).version }
+    /// The version of the protocol, session and serial of the committed version, if there is one.
+    pub fn committed(&self) -> Option<(Version, u16, Serial)>
+        ensures shown { (r : rules.Router) → IsShown r self.now → option_map (λ name. (name.0, name.1, name.2.0)) result ≡ name_of r.version }
+        ensures kept { (calls : List model.RouterCall) → CallsLead calls self.now → option_map (λ name. (name.0, name.1, name.2.0)) result ≡ name_of (kept (model.played calls).items).version }
     {
         match &self.machine.version {
-            Some(version) => Some((version.session, Serial(version.serial))),
+            Some(version) => Some((version.version, version.session, Serial(version.serial))),
             None => None,
         }
     }
@@ -198,6 +205,7 @@ impl Router {
     {
         match self.reader.next(piece) {
             Next::Unit(unit) => {
+                self.machine.follow(self.reader.expected());
                 let _lacks = self.machine.read(&unit);
                 self.agree();
                 true
