@@ -16,7 +16,7 @@ use Rattle.rtr_ends.specs.Consumed.{came}
 use Rattle.rtr_ends.specs.Feeding.{FedPiece, feed}
 use Rattle.rtr_ends.specs.FetchStream.{AllAsked, Awaits, FetchEnds, FetchReads, FetchedAs, IsFetchCall, IsReached, StillAsks, Taken, TakenPart, is_asking, pulled_by, reached_by, calls_since}
 use Rattle.rtr_ends.specs.LinkRules.{Router, emptied, may_lack}
-use Rattle.rtr_ends.specs.Router.{RouterCall, Connects, Receives, Pulls, Closes, AsksNow, Ticks, Receiving, clocked, connects_at, expired, lacks, played, reads, receives, router_byte, router_pulled, router_stops, with_bytes}
+use Rattle.rtr_ends.specs.Router.{RouterCall, Connects, Receives, Pulls, Closes, AsksNow, Ticks, Speaks, Receiving, clocked, connects_at, expired, lacks, played, reads, receives, router_byte, router_pulled, router_stops, with_bytes}
 use Rattle.rtr_ends.specs.RouterLink.{Link, Closed, Idle, Asked, Answering, Ended, is_closed, is_reading}
 use Rattle.rtr_ends.specs.RouterShown.{IsShown, CallsLead, LeadsOn, ReceivesSo}
 use Rattle.rtr_ends.specs.Transcript.{At, AskReset, AskSerial, is_over, is_serial, later}
@@ -137,6 +137,7 @@ stays_open now calls (Connects at ∷ turns) h = absurd h.0
 stays_open now calls (Closes at ∷ turns) h = absurd h.0
 stays_open now calls (AsksNow ∷ turns) h = absurd h.0
 stays_open now calls (Ticks at ∷ turns) h = absurd h.0
+stays_open now calls (Speaks version ∷ turns) h = absurd h.0
 
 -- What router.pull tells
 abbrev PullsBytes : (room now : List ℕ) (count : ℕ) → code.Router → Type 0

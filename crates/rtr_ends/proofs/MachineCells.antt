@@ -364,6 +364,13 @@ answering_ends q session named serial refresh retry expire u is other withdrawn 
     subst (λ x. on_unit (Answering (begun_with q session withdrawn announced)) x r ≡ fails x r) (sym is)
     (ap (λ b. if b then commit (begun_with q session withdrawn announced) (record { version = r.spoken; session = named; serial = serial; moment = r.now; intervals = bounded refresh retry expire }) r else fails (EndOfData named serial refresh retry expire) r) (no_code named named session refl other))
 
+pub answering_ends_0 : (q : Question.Question) (session named serial : ℕ) (u : Unit) → u ≡ EndOfData0 named serial → (named ≡ session → ⊥) → (withdrawn announced : List Payload) (r : Router)
+    → on_unit (Answering (begun_with q session withdrawn announced)) u r ≡ fails u r
+unfolding on_unit
+answering_ends_0 q session named serial u is other withdrawn announced r =
+    subst (λ x. on_unit (Answering (begun_with q session withdrawn announced)) x r ≡ fails x r) (sym is)
+    (ap (λ b. if b then commit (begun_with q session withdrawn announced) (record { version = r.spoken; session = named; serial = serial; moment = r.now; intervals = default_intervals }) r else fails (EndOfData0 named serial) r) (no_code named named session refl other))
+
 -- An End of Data of this session without intervals does what one with the recommended ones does.
 pub end_as_default : (old new : Machine) (q : Question.Question) (session serial : ℕ) (result : Result ⊤ SetFault) → old.state ≡ states.Answering q session
     → UnitIsRead result (EndOfData session serial 3600 600 7200) old new → UnitIsRead result (EndOfData0 session serial) old new

@@ -1,7 +1,7 @@
 use Rattle.std.proofs.Common.{sym, ap, ◌∙◌}
 use Rattle.rtr_ends.specs.Seen.{begun_with, seen, seen_question}
 use Rattle.rtr_ends.specs.declared.machine.State.TheVariants as states
-use Rattle.rtr_ends.proofs.MachineCells.{answering_ends, answering_key, answering_rejects, answering_same, answering_strange, answering_told, does_so, fails_so, foreign_answering, reports_so, stays_so, told_now}
+use Rattle.rtr_ends.proofs.MachineCells.{answering_ends, answering_ends_0, answering_key, answering_rejects, answering_same, answering_strange, answering_told, does_so, fails_so, foreign_answering, reports_so, stays_so, told_now}
 use Rattle.rtr_ends.proofs.machine.Machine.on_answering.Goals as goal
 
 pub returns-then-is_strange : goal.returns-then-is_strange
@@ -23,6 +23,11 @@ pub returns-then-named-session : goal.returns-then-named-session
 returns-then-named-session c =
     fails_so c.args.unit.now (states.Answering c.args.question c.args.session) _ _ c.requires.state
     (λ w a held. answering_ends c.args.question c.args.session _ _ _ _ _ c.args.unit.now c.in-EndOfData.is c.if-named-session.true w a (seen c.args.self.now w a held)) c.fails-then-named-session.ensures
+
+pub returns-then-named-session-2 : goal.returns-then-named-session-2
+returns-then-named-session-2 c =
+    fails_so c.args.unit.now (states.Answering c.args.question c.args.session) _ _ c.requires.state
+    (λ w a held. answering_ends_0 c.args.question c.args.session _ _ c.args.unit.now c.in-EndOfData0.is c.if-named-session-2.true w a (seen c.args.self.now w a held)) c.fails-then-named-session-2.ensures
 
 pub returns-in-ErrorReport : goal.returns-in-ErrorReport
 returns-in-ErrorReport c =

@@ -1,4 +1,4 @@
-use Rattle.std.proofs.Common.{sym, subst, true}
+use Rattle.std.proofs.Common.{sym, ◌∙◌, subst, true}
 use Rattle.rtr_pdu.specs.Reader.{version_with}
 use Rattle.rtr_pdu.proofs.RunLaws.{takes_some}
 use Rattle.rtr_ends.specs.RouterShown.{TakesOn}
