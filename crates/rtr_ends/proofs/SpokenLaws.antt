@@ -1,5 +1,5 @@
 -- A router speaks what it was told, from the next connection on.
-use Rattle.std.specs.Prelude.{◌≡◌, ℕ, Bool, true, false, not, ◌&&◌, List, [], ◌∷◌, ◌++◌, Option, Some, None, if◌then◌else◌, refl}
+use Rattle.std.specs.Prelude.{◌≡◌, ℕ, Bool, true, false, not, ◌&&◌, List, [], ◌∷◌, ◌++◌, Some, None, if◌then◌else◌, refl}
 use Rattle.std.proofs.Common.{sym, ap, ◌∙◌, subst, append_assoc}
 use Rattle.rtr_pdu.specs.declared.version.Version.{Version}
 use Rattle.rtr_pdu.specs.declared.unit.Unit.{Unit}
@@ -7,7 +7,7 @@ use Rattle.rtr_pdu.specs.Judging.{Judgement, Begins, Whole, Faulty, judge}
 use Rattle.rtr_ends.specs.declared.link.End.TheVariants as ends
 use Rattle.rtr_ends.specs.Cache.{finds_memory}
 use Rattle.rtr_ends.specs.LinkRules.{Router, emptied, may_lack, on_unit}
-use Rattle.rtr_ends.specs.Router.{Noted, Receiving, RouterCall, Connects, Receives, Pulls, Closes, AsksNow, Ticks, Speaks, asked_by, asks, asks_if, called, clocked, close, closed_at, connects_at, expired, lacks, played, reads, receives, router_byte, router_pulled, router_stops, ticks_at, with_bytes}
+use Rattle.rtr_ends.specs.Router.{Noted, Receiving, RouterCall, Connects, Receives, Pulls, Closes, AsksNow, Ticks, Speaks, asked_by, asks, asks_if, clocked, close, closed_at, connects_at, expired, lacks, played, reads, receives, router_byte, router_pulled, router_stops, ticks_at, with_bytes}
 use Rattle.rtr_ends.specs.RouterLaws.{RouterSpeaks, connected_version, told_version}
 use Rattle.rtr_ends.specs.RouterLink.{Link, Closed, Idle, Asked, Answering, Ended, is_closed, is_due, is_idle}
 use Rattle.rtr_ends.specs.Transcript.{AskReset, AskSerial, Item, At, Reads, is_over, is_serial, later, retry_of, spoken, sum_of}

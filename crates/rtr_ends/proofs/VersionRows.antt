@@ -1,19 +1,19 @@
 -- A router that speaks version 0, and one that changes its version, worked out.
-use Rattle.std.proofs.Common.{◌≡◌, ℕ, Bool, true, false, List, [], ◌∷◌, ◌++◌, length, Some, None, refl, ap}
-use Rattle.vrps.specs.VrpSet.{VrpSet, empty}
+use Rattle.std.proofs.Common.{◌≡◌, ℕ, List, [], ◌∷◌, ◌++◌, Some, None, refl}
+use Rattle.vrps.specs.VrpSet.{empty}
 use Rattle.rtr_pdu.specs.Judging.{judge}
 use Rattle.rtr_pdu.specs.Stream.{as_read}
 use Rattle.rtr_pdu.specs.declared.version.Version.TheVariants.{V0, V1}
 use Rattle.rtr_pdu.specs.declared.unit.Unit.TheVariants.{SerialNotify, CacheResponse, EndOfData0, CacheReset}
 use Rattle.rtr_ends.specs.declared.link.End.TheVariants as ends
 use Rattle.rtr_ends.specs.Answer.{report, sent}
-use Rattle.rtr_ends.specs.LinkRules.{Router, new_router, on_unit}
+use Rattle.rtr_ends.specs.LinkRules.{Router, on_unit}
 use Rattle.rtr_ends.specs.Router.{router_byte, receives, clocked, connects_at, ticks_at, asks, called, played, Connects, Receives, AsksNow, Ticks, Speaks}
-use Rattle.rtr_ends.specs.RouterLink.{Closed, Idle, Asked, Answering, Ended}
-use Rattle.rtr_ends.specs.Transcript.{Item, At, Opened, Asks, Reads, Committed, AskReset, AskSerial}
+use Rattle.rtr_ends.specs.RouterLink.{Asked, Ended}
+use Rattle.rtr_ends.specs.Transcript.{At, Opened, Asks, Committed, AskReset, AskSerial}
 use Rattle.rtr_ends.specs.Timing.{intervals}
 use Rattle.rtr_ends.proofs.WholeAnswerRows.{reset_bytes, response_bytes}
-use Rattle.rtr_ends.proofs.RouterRows.{asked_all, answering, nothing_yet, v_read, just_v, committed_at, holds_v, closed_v}
+use Rattle.rtr_ends.proofs.RouterRows.{asked_all, answering, nothing_yet, v_read, holds_v, closed_v}
 use Rattle.rtr_ends.proofs.LinkCells.{with_table}
 
 -- A Reset Query of version 0

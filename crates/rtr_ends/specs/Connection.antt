@@ -1,5 +1,5 @@
 -- A connection at the cache: what may happen on it, and what is sent (RFC 8210 sections 5, 7, 8 and 12).
-use Rattle.std.specs.Prelude.{◌≡◌, ◌⊎◌, ℕ, ◌≤◌, Bool, true, false, not, ◌||◌, ◌&&◌, ◌==◌, List, [], ◌∷◌, ◌++◌, length, take, drop, map, Option, Some, None, IsTrue, MatchBool, if◌then◌else◌, ⊤}
+use Rattle.std.specs.Prelude.{◌≡◌, ◌⊎◌, ℕ, ◌≤◌, Bool, true, false, not, ◌&&◌, ◌==◌, List, [], ◌∷◌, ◌++◌, length, take, drop, map, Option, Some, None, IsTrue, MatchBool, if◌then◌else◌, ⊤}
 use Rattle.std.specs.List.{flat_map}
 use Rattle.vrps.specs.Instance.{Instance, IsInstance, NumberedSet, versions}
 use Rattle.vrps.specs.VrpSet.{VrpSet}
@@ -11,7 +11,7 @@ use Rattle.rtr_pdu.specs.Version.{first_version, version_in}
 use Rattle.rtr_pdu.specs.Stream.{IsPartial, IsShortest, Shows, Splits, is_kind}
 use Rattle.rtr_pdu.specs.Unit.{Reads}
 use Rattle.rtr_pdu.specs.declared.unit.Unit.{Unit}
-use Rattle.rtr_pdu.specs.declared.unit.Unit.TheVariants.{SerialNotify, SerialQuery, ResetQuery}
+use Rattle.rtr_pdu.specs.declared.unit.Unit.TheVariants.{SerialNotify, SerialQuery}
 use Rattle.rtr_pdu.specs.declared.unit.UnitFault.{UnitFault}
 use Rattle.rtr_pdu.specs.declared.unit.UnitFault.TheVariants as faults
 use Rattle.rtr_ends.specs.Answer.{Reply, and_on, and_end, answer, report, sent, sent_all, session_in}
