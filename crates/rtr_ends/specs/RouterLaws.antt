@@ -37,7 +37,8 @@ LinkTells (Answering a) agreed session table items =
     (is_connected items ≡ true) × (waiting items ≡ None) × (under_way items ≡ Some a) × (has_agreed items ≡ agreed) × (responded items ≡ session) × (agreed ≡ true)
     × (acts_once (base_of a.question table) a.withdrawn a.announced ≡ true)
 
--- What a router holds, when it asks, the greatest moment it was told and the version of its latest connection are those of its transcript, and its link is as that says.
+-- What a router holds, when it asks, the greatest moment it was told and the version of its latest connection are those of its
+-- transcript, and its link is as that says.
 pub record IsKept (r : Router) (items : List Item) : Type 0 where
   pub table : r.table ≡ (kept items).table
   pub version : r.version ≡ (kept items).version

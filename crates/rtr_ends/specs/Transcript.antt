@@ -23,8 +23,8 @@ abbrev pub query : Question → Unit
 query AskReset = ResetQuery
 query (AskSerial session serial) = SerialQuery session serial
 
--- What happens at a router: a moment is told; a connection is made, of a version; a question is put; a unit is read, or it is and memory for
--- it is wanting; bytes show a fault; the world refuses an event for want of memory; the connection is closed; the router is
+-- What happens at a router: a moment is told; a connection is made, of a version; a question is put; a unit is read, or it is and
+-- memory for it is wanting; bytes show a fault; the world refuses an event for want of memory; the connection is closed; the router is
 -- a new one.
 pub data Item : Type 0 where
   At : (now : ℕ) → Item

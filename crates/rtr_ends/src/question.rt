@@ -29,7 +29,8 @@ impl Question {
     }
 }
 
-/// The version that was committed: the version of the protocol, its name, when that was, and its intervals, in seconds (RFC 8210 sections 5.8 and 6).
+/// The version that was committed: the version of the protocol, its name, when that was, and its intervals, in seconds (RFC 8210
+/// sections 5.8 and 6).
 #[derive(Clone, Copy, Debug, PartialEq, Eq)]
 pub struct CommittedVersion {
     pub version: Version,

@@ -19,8 +19,8 @@ use rtr_pdu::{Next, UnitReader, Version};
 use std::alloc::Global;
 use vrps::{OriginState, Serial, VrpSet};
 
-/// A router: what it has committed, and at most one connection (RFC 6810, RFC 8210 sections 5 to 8). Moments are in seconds of a clock that the
-/// caller hands in; one below the greatest so far counts as that one.
+/// A router: what it has committed, and at most one connection (RFC 6810, RFC 8210 sections 5 to 8). Moments are in seconds of a clock
+/// that the caller hands in; one below the greatest so far counts as that one.
 #[derive(Drop)]
 pub struct Router {
     machine: Machine,
@@ -48,7 +48,8 @@ impl Router {
         self.machine.speaks = version;
     }
 
-    /// A connection is made, of the version that was told last, and a question put on it. An older connection is closed. It takes no memory.
+    /// A connection is made, of the version that was told last, and a question put on it. An older connection is closed. It takes no
+    /// memory.
     pub fn connect(&mut self, now: u64)
         ensures calls { Calls (λ r. (called (model.Connects now) r).router) self.old self.new }
         ensures leads { LeadsOn (model.Connects now) self.old self.new }
