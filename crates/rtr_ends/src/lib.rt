@@ -26,5 +26,6 @@ pub use fetching::{Fetched, fetch_stream};
 pub use link::{AskFault, End, Link};
 pub use router::Router;
 pub use serving::{Served, serve_stream};
+pub use sessions::Sessions;
 pub use streams::StreamFault;
 pub use timing::{Timing, TimingFault};
