@@ -2,7 +2,7 @@
 use Rattle.std.specs.Prelude.{◌≡◌, Bool, true, false, ◌&&◌, ◌==◌, List, [], ◌∷◌, Option, Some, None, if◌then◌else◌, refl}
 use Rattle.rtr_pdu.specs.declared.unit.Unit.TheVariants.{SerialNotify, SerialQuery, ResetQuery, CacheResponse, Prefix, EndOfData, EndOfData0, CacheReset, RouterKey, ErrorReport}
 use Rattle.rtr_ends.specs.Timing.{default_intervals}
-use Rattle.rtr_ends.specs.Transcript.{Begun, Committed, Item, At, Opened, Asks, Reads, Lacks, Breaks, Refused, Shut, Restarts, Kept, acts_once, at_end_of_data, base_of, bounded, does_commit, kept, led_to, moment, nothing, under_way}
+use Rattle.rtr_ends.specs.Transcript.{Begun, Committed, Item, At, Opened, Asks, Reads, Lacks, Breaks, Refused, Shut, Restarts, Kept, acts_once, at_end_of_data, base_of, bounded, does_commit, kept, led_to, moment, nothing, spoken, under_way}
 use Rattle.rtr_ends.proofs.TableLaws.{acts_exactly}
 use Rattle.rtr_world.specs.Claims.{ActsOnce, EachOnce}
 
@@ -19,9 +19,9 @@ at_end_once (Some a) version k = by_test (version.session == a.session) (acts_on
 pub each_once : (items : List Item) → EachOnce items
 each_once [] = tt
 each_once (Reads (EndOfData session serial refresh retry expire) ∷ items) =
-    (at_end_once (under_way items) (record { session = session; serial = serial; moment = moment items; intervals = bounded refresh retry expire }) (kept items), each_once items)
+    (at_end_once (under_way items) (record { version = spoken items; session = session; serial = serial; moment = moment items; intervals = bounded refresh retry expire }) (kept items), each_once items)
 each_once (Reads (EndOfData0 session serial) ∷ items) =
-    (at_end_once (under_way items) (record { session = session; serial = serial; moment = moment items; intervals = default_intervals }) (kept items), each_once items)
+    (at_end_once (under_way items) (record { version = spoken items; session = session; serial = serial; moment = moment items; intervals = default_intervals }) (kept items), each_once items)
 each_once (Reads (SerialNotify session serial) ∷ items) = (tt, each_once items)
 each_once (Reads (SerialQuery session serial) ∷ items) = (tt, each_once items)
 each_once (Reads ResetQuery ∷ items) = (tt, each_once items)
@@ -31,7 +31,7 @@ each_once (Reads CacheReset ∷ items) = (tt, each_once items)
 each_once (Reads (RouterKey key) ∷ items) = (tt, each_once items)
 each_once (Reads (ErrorReport r) ∷ items) = (tt, each_once items)
 each_once (At now ∷ items) = (tt, each_once items)
-each_once (Opened ∷ items) = (tt, each_once items)
+each_once (Opened version ∷ items) = (tt, each_once items)
 each_once (Asks question ∷ items) = (tt, each_once items)
 each_once (Lacks unit ∷ items) = (tt, each_once items)
 each_once (Breaks fault ∷ items) = (tt, each_once items)

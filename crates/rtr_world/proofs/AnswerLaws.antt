@@ -15,9 +15,12 @@ use Rattle.vrps.specs.VrpSet.{VrpSet, empty, has, size, listing, set_of, with_al
 use Rattle.vrps.proofs.SetLaws.{same_set, has-empty, has-union, has-without, has-set_of, has-listing, listing_ascends, all_of_members}
 use Rattle.vrps.proofs.SetVersions.{tied}
 use Rattle.rtr_pdu.specs.declared.unit.Unit.{Unit}
-use Rattle.rtr_pdu.specs.declared.unit.Unit.TheVariants.{SerialNotify, Prefix, EndOfData}
-use Rattle.rtr_ends.specs.Answer.{announcements, withdrawals}
+use Rattle.rtr_pdu.specs.declared.unit.Unit.TheVariants.{SerialNotify, Prefix}
+use Rattle.rtr_pdu.specs.declared.version.Version.{Version}
+use Rattle.rtr_pdu.specs.declared.version.Version.TheVariants.{V0, V1}
+use Rattle.rtr_ends.specs.Answer.{announcements, end_of_data, withdrawals}
 use Rattle.rtr_ends.specs.LinkRules.{Stays, Wrong, Over, stage}
+use Rattle.rtr_ends.specs.Timing.{Intervals}
 use Rattle.rtr_ends.specs.Transcript.{Begun, is_among, led_to}
 use Rattle.rtr_ends.proofs.TableLaws.{false_true}
 use Rattle.rtr_world.specs.OneAnswer.{NotifiesOf, without_notifies}
@@ -173,14 +176,8 @@ module _ (base set : VrpSet) (session serial : ℕ) (fits : size set ≤ 1677721
       listed q false e l = come q l
 
   -- the End of Data
-  ends : (a : Begun) (refresh retry expire : ℕ) → AllGone a → ((q : Payload) → is_among q a.announced ≡ (has set q && not (has base q))) → Leads base a (EndOfData session serial refresh retry expire ∷ []) session serial set
-  ends a refresh retry expire gone come = (
-    refl,
-    refl,
-    refl,
-    same_set _ _ (λ q.
-        has-led_to base a.withdrawn a.announced q ∙ (λ i. (has base q && not (gone q i)) || come q i) ∙ moved (has base q) (has set q)),
-  )
+  ends : (a : Begun) (pv : Version) (t : Intervals) → AllGone a → ((q : Payload) → is_among q a.announced ≡ (has set q && not (has base q))) → Leads base a (end_of_data pv session serial t ∷ []) session serial set
+  ends a pv t gone come = by_version pv
     where
       moved : (a b : Bool) → ((a && not (a && not b)) || (b && not a)) ≡ b
       moved true true = refl
@@ -188,17 +185,25 @@ module _ (base set : VrpSet) (session serial : ℕ) (fits : size set ≤ 1677721
       moved false true = refl
       moved false false = refl
 
+      leads : led_to base a.withdrawn a.announced ≡ set
+      leads = same_set _ _ (λ q.
+          has-led_to base a.withdrawn a.announced q ∙ (λ i. (has base q && not (gone q i)) || come q i) ∙ moved (has base q) (has set q))
+
+      by_version : (pv : Version) → Leads base a (end_of_data pv session serial t ∷ []) session serial set
+      by_version V0 = (refl, refl, refl, leads)
+      by_version V1 = (refl, refl, refl, leads)
+
   or_none : (b : Bool) → (b || false) ≡ b
   or_none true = refl
   or_none false = refl
 
   -- All of a set leads to it from nothing, or from a base of which all is announced.
-  pub announced_lead : (a : Begun) (ws : List Payload) (refresh retry expire : ℕ) → a.announced ≡ [] → Fresh ws → ((q : Payload) → is_among q ws ≡ (has set q && not (has base q))) → AllByRecursion (λ v. has base v ≡ false) ws → AllByRecursion (λ v. has set v ≡ true) ws → AllGone a
-      → Leads base a (map (λ v. Prefix true v) ws ++ EndOfData session serial refresh retry expire ∷ []) session serial set
-  announced_lead a ws refresh retry expire nothing once listed known new gone =
-      announces a ws (EndOfData session serial refresh retry expire ∷ []) once known new (subst (λ x. NoneListed x ws) (sym nothing) (none_of ws)) gone
+  pub announced_lead : (a : Begun) (ws : List Payload) (pv : Version) (t : Intervals) → a.announced ≡ [] → Fresh ws → ((q : Payload) → is_among q ws ≡ (has set q && not (has base q))) → AllByRecursion (λ v. has base v ≡ false) ws → AllByRecursion (λ v. has set v ≡ true) ws → AllGone a
+      → Leads base a (map (λ v. Prefix true v) ws ++ end_of_data pv session serial t ∷ []) session serial set
+  announced_lead a ws pv t nothing once listed known new gone =
+      announces a ws (end_of_data pv session serial t ∷ []) once known new (subst (λ x. NoneListed x ws) (sym nothing) (none_of ws)) gone
       (λ q h. absurd (false_true (sym (ap (is_among q) nothing) ∙ h)))
-      (λ b same joins. ends b refresh retry expire (λ q. ap (λ x. is_among q x) same ∙ gone q) (λ q. joins q ∙ ap (λ x. is_among q ws || is_among q x) nothing ∙ or_none (is_among q ws) ∙ listed q))
+      (λ b same joins. ends b pv t (λ q. ap (λ x. is_among q x) same ∙ gone q) (λ q. joins q ∙ ap (λ x. is_among q ws || is_among q x) nothing ∙ or_none (is_among q ws) ∙ listed q))
 
 -- what a set without another lists
 is_among-without : (s t : VrpSet) (q : Payload) → is_among q (listing (without s t)) ≡ (has s q && not (has t q))
@@ -218,21 +223,21 @@ once_listed : (s : VrpSet) → Fresh (listing s)
 once_listed s = IsDistinct-from_sorted vrp_cmp (listing s) (listing_ascends s)
 
 -- The change between two sets leads from the first to the second.
-pub change_leads : (base set : VrpSet) (a : Begun) (session serial refresh retry expire : ℕ) → size set ≤ 16777215 → a.withdrawn ≡ [] → a.announced ≡ []
-    → Leads base a ((withdrawals (between base set).withdraw ++ announcements (between base set).announce) ++ EndOfData session serial refresh retry expire ∷ []) session serial set
-change_leads base set a session serial refresh retry expire fits gone come =
-    let tail : List Unit = announcements (without set base) ++ EndOfData session serial refresh retry expire ∷ [] in
-    subst (λ x. Leads base a x session serial set) (sym (append_assoc (withdrawals (without base set)) (announcements (without set base)) (EndOfData session serial refresh retry expire ∷ [])))
-    (withdraws base set session serial fits a (listing (without base set)) (announcements (without set base) ++ EndOfData session serial refresh retry expire ∷ []) (once_listed (without base set)) (members base set)
+pub change_leads : (base set : VrpSet) (a : Begun) (pv : Version) (session serial : ℕ) (t : Intervals) → size set ≤ 16777215 → a.withdrawn ≡ [] → a.announced ≡ []
+    → Leads base a ((withdrawals (between base set).withdraw ++ announcements (between base set).announce) ++ end_of_data pv session serial t ∷ []) session serial set
+change_leads base set a pv session serial t fits gone come =
+    let tail : List Unit = announcements (without set base) ++ end_of_data pv session serial t ∷ [] in
+    subst (λ x. Leads base a x session serial set) (sym (append_assoc (withdrawals (without base set)) (announcements (without set base)) (end_of_data pv session serial t ∷ [])))
+    (withdraws base set session serial fits a (listing (without base set)) (announcements (without set base) ++ end_of_data pv session serial t ∷ []) (once_listed (without base set)) (members base set)
     (subst (λ x. NoneListed x (listing (without base set))) (sym gone) (none_of (listing (without base set))))
-    (λ b same joins. announced_lead base set session serial fits b (listing (without set base)) refresh retry expire (same ∙ come) (once_listed (without set base)) (is_among-without set base) (outsiders set base) (members set base)
+    (λ b same joins. announced_lead base set session serial fits b (listing (without set base)) pv t (same ∙ come) (once_listed (without set base)) (is_among-without set base) (outsiders set base) (members set base)
     (λ q. joins q ∙ ap (λ x. is_among q (listing (without base set)) || is_among q x) gone ∙ or_none base set session serial fits (is_among q (listing (without base set))) ∙ is_among-without base set q)))
 
 -- All of a set leads to it from nothing.
-pub whole_leads : (set : VrpSet) (a : Begun) (session serial refresh retry expire : ℕ) → size set ≤ 16777215 → a.withdrawn ≡ [] → a.announced ≡ []
-    → Leads empty a (announcements set ++ EndOfData session serial refresh retry expire ∷ []) session serial set
-whole_leads set a session serial refresh retry expire fits gone come =
-    announced_lead empty set session serial fits a (listing set) refresh retry expire come (once_listed set)
+pub whole_leads : (set : VrpSet) (a : Begun) (pv : Version) (session serial : ℕ) (t : Intervals) → size set ≤ 16777215 → a.withdrawn ≡ [] → a.announced ≡ []
+    → Leads empty a (announcements set ++ end_of_data pv session serial t ∷ []) session serial set
+whole_leads set a pv session serial t fits gone come =
+    announced_lead empty set session serial fits a (listing set) pv t come (once_listed set)
     (λ q. sym (has-listing set q) ∙ sym (and-true (has set q)) ∙ ap (λ b. has set q && not b) (sym (has-empty q)))
     (all_of_members (λ v. has empty v ≡ false) set (λ q h. has-empty q)) (all_of_members (λ v. has set v ≡ true) set (λ q h. h))
     (λ q. ap (is_among q) gone ∙ ap (λ b. b && not (has set q)) (sym (has-empty q)))

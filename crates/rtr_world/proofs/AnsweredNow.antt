@@ -17,10 +17,10 @@ unfolding cache_gets
 answers_now made history w leads = each w.sides good.sides
   where
     good : GoodWorld w
-    good = history_good (new_world made.routers made.session made.start made.keep) history w leads.1 (new_good made leads.0) (all_new SideTells new_side_tells made.routers)
+    good = history_good (new_world made.routers made.session made.session0 made.start made.keep) history w leads.1 (new_good made leads.0) (all_new SideTells new_side_tells made.routers)
 
     each : (sides : List Side) → AllByRecursion (Good w.keep w.past w.present) sides → AllByRecursion (λ s.
         is_reading s.router.link ≡ true → (most : ℕ) (wanting : Option ℕ) →
-        (conn_due (cache_gets w most wanting s).conn ≡ conn_due s.conn) ⊎ IsOfNow w.present w.keep wanting s.router.link (conn_due (cache_gets w most wanting s).conn)) sides
+        (conn_due (cache_gets w most wanting s).conn ≡ conn_due s.conn) ⊎ IsOfNow s.router.spoken w.present w.keep wanting s.router.link (conn_due (cache_gets w most wanting s).conn)) sides
     each [] h = tt
     each (s ∷ sides) h = (λ live most wanting. gets_now w good.present most wanting s s.conn refl live h.0, each sides h.1)

@@ -4,7 +4,6 @@ use Rattle.std.proofs.Common.{sym, ap, ◌∙◌, subst, append_assoc}
 use Rattle.std.proofs.lemmas.Bool.{and_parts}
 use Rattle.std.proofs.lemmas.List.{take-append-drop}
 use Rattle.vrps.specs.Instance.{Instance}
-use Rattle.rtr_pdu.specs.declared.version.Version.TheVariants.{V1}
 use Rattle.rtr_pdu.specs.Judging.{judge}
 use Rattle.rtr_pdu.specs.declared.unit.Unit.{Unit}
 use Rattle.rtr_pdu.specs.declared.unit.Unit.TheVariants.{SerialNotify, Prefix}
@@ -14,20 +13,20 @@ use Rattle.rtr_ends.specs.Feeding.{feed}
 use Rattle.rtr_ends.specs.LinkRules.{Router, on_unit, may_lack, emptied}
 use Rattle.rtr_ends.specs.Router.{Noted, Receiving, asked_by, reads, lacks, with_bytes, router_stops, router_byte, expired, clocked, close, asks_if, connects_at, closed_at, ticks_at, asks, receives, router_pulled}
 use Rattle.rtr_ends.specs.RouterLink.{Link, Closed, Idle, Asked, Answering, Ended, is_reading, is_closed, is_due, is_idle}
-use Rattle.rtr_ends.specs.Transcript.{AskReset, AskSerial, Item, At, Reads, is_serial, is_over, later, sum_of, retry_of}
+use Rattle.rtr_ends.specs.Transcript.{AskReset, AskSerial, Item, At, Reads, is_serial, is_over, later, of_version, sum_of, retry_of}
 use Rattle.rtr_ends.proofs.FeedingLaws.{feed_keeps}
 use Rattle.rtr_ends.proofs.TableLaws.{false_true}
 use Rattle.rtr_world.specs.History.{conn_due}
 use Rattle.rtr_world.specs.OneAnswer.{NotifiesOf, answered, without_notifies}
-use Rattle.rtr_world.specs.World.{Side, World, instances, SideEvent, RouterRestart, Connect, RouterSends, CacheGets, CacheSends, RouterGets, Cut, NotifyRouter, Ask, Tick, noted, connects, router_restarts, router_sends, cache_sends, cache_gets, router_gets, cut, side_step, side_refused, tell_closed, settle_conn, settle_link, settle_rest, settle_wire, settle}
+use Rattle.rtr_world.specs.World.{Side, World, instances, SideEvent, RouterRestart, Speak, Connect, RouterSends, CacheGets, CacheSends, RouterGets, Cut, NotifyRouter, Ask, Tick, noted, connects, router_restarts, speaks, router_sends, cache_sends, cache_gets, router_gets, cut, side_step, side_refused, tell_closed, settle_conn, settle_link, settle_rest, settle_wire, settle}
 use Rattle.rtr_world.proofs.Histories.{Kept, Known}
 use Rattle.rtr_world.proofs.Folding.{Blind, sends_keep, gets_keep, notifies_keep, settle_keeps}
 use Rattle.rtr_world.proofs.Invariant.{Flow, GoodRouter, Good, Shape, read_of}
 use Rattle.rtr_world.proofs.UnitsAtRouters.{right_response}
 use Rattle.rtr_world.proofs.LinkedSides.{Seen}
 use Rattle.rtr_world.proofs.SideSteps.{live_of, byte_good, clocked_good}
-use Rattle.rtr_world.proofs.UnitStreams.{ByteCase, partly, wholly, byte_case}
-use Rattle.rtr_world.proofs.UnitCases.{Brings, goes_on, ends_other, ends_memory, commits, stays, begins, stages, leaves, is_answering, unit_brings}
+use Rattle.rtr_world.proofs.UnitStreams.{ByteCase, partly, notified, wholly, byte_case, early_open}
+use Rattle.rtr_world.proofs.UnitCases.{Brings, goes_on, ends_other, ends_memory, commits, stays, begins, stages, leaves, is_answering, early_brings, unit_brings}
 use Rattle.prefixes.proofs.Basics.{true_of_not}
 
 -- what was read of the answer that is under way
@@ -67,16 +66,30 @@ module _ (all : List Instance) (i : Instance) (seen : Option Seen) (conn : Optio
   unit_reads h r u items s (goes_on on none (leaves k)) = reads_none (on_unit r.link u r).link (asked_by (on_unit r.link u r).link (on_unit r.link u r).out ++ Reads u ∷ items) k
   unit_reads h r u items s (ends_other session serial is other e none) = subst (λ x. ReadsSo x (asked_by x (on_unit r.link u r).out ++ Reads u ∷ items)) (sym e) tt
   unit_reads h r u items s (ends_memory e none) = subst (λ x. ReadsSo x (asked_by x (on_unit r.link u r).out ++ Reads u ∷ items)) (sym e) tt
-  unit_reads h r u items s (commits version table e v own stands since) = subst (λ x. ReadsSo x (asked_by x (on_unit r.link u r).out ++ Reads u ∷ items)) (sym e) tt
+  unit_reads h r u items s (commits version table e v of own stands since) = subst (λ x. ReadsSo x (asked_by x (on_unit r.link u r).out ++ Reads u ∷ items)) (sym e) tt
 
   -- a byte is read
   abbrev NotedSo : Noted → List Item → Type 0
   NotedSo n items = ReadsSo n.router.link (n.items ++ items)
 
   byte_read : (down : List ℕ) (r : Router) (b : ℕ) (memory : Bool) (items : List Item) (h : Seen) (f : Flow all i h r conn up (b ∷ down)) → is_reading r.link ≡ true → ReadsSo r.link items
-      → ByteCase (not r.agreed) r.held b (down ++ (conn_due conn ++ f.lost)) f.coming → NotedSo (with_bytes memory (r.held ++ b ∷ []) r (judge V1 (not r.agreed) (r.held ++ b ∷ []))) items
+      → ByteCase r.spoken r.agreed r.held b (down ++ (conn_due conn ++ f.lost)) f.early f.coming → NotedSo (with_bytes memory (r.held ++ b ∷ []) r (judge r.spoken (not r.agreed) (r.held ++ b ∷ []))) items
   byte_read down r b memory items h f live so (partly e s) = subst (λ j. NotedSo (with_bytes memory (r.held ++ b ∷ []) r j) items) (sym e) so
-  byte_read down r b memory items h f live so (wholly u more is e fit s) =
+  byte_read down r b memory items h f live so (notified session serial rest is e s) =
+      subst (λ j. NotedSo (with_bytes memory (r.held ++ b ∷ []) r j) items) (sym e) (by_memory (may_lack r.link (SerialNotify session serial) r && not memory))
+    where
+      k : Router
+      k = record r { held = [] }
+
+      brings : Brings all h k r.link (SerialNotify session serial) (on_unit r.link (SerialNotify session serial) k)
+      brings = early_brings all h k session serial live (early_open r.agreed session serial rest (λ a. sym is ∙ f.are_early.1 a))
+
+      by_memory : (w : Bool) → NotedSo (if w then lacks (SerialNotify session serial) k else reads (SerialNotify session serial) k) items
+      by_memory true = tt
+      by_memory false =
+          subst (λ x. ReadsSo (on_unit r.link (SerialNotify session serial) k).link x) (sym (append_assoc (asked_by (on_unit r.link (SerialNotify session serial) k).link (on_unit r.link (SerialNotify session serial) k).out) (Reads (SerialNotify session serial) ∷ []) items))
+          (unit_reads h k (SerialNotify session serial) items so brings)
+  byte_read down r b memory items h f live so (wholly alone u more is e fit s) =
       subst (λ j. NotedSo (with_bytes memory (r.held ++ b ∷ []) r j) items) (sym e) (by_memory (may_lack r.link u r && not memory))
     where
       k : Router
@@ -84,8 +97,8 @@ module _ (all : List Instance) (i : Instance) (seen : Option Seen) (conn : Optio
 
       brings : Brings all h k r.link u (on_unit r.link u k)
       brings =
-          unit_brings all h k r.link u more f.wanted refl live f.own f.mine (λ q. right_response all i seen conn up down h.session q r.version) (subst (λ x. NotifiesOf h.session x) is f.notifies)
-          (subst (λ x. Shape all h r.link r.agreed r.version r.table f.wanted (without_notifies x)) is f.shape)
+          unit_brings all h k r.link u more f.wanted refl live f.own f.mine (λ q. right_response all i seen conn up down h.session q (of_version r.spoken r.version)) (subst (λ x. NotifiesOf h.session x) is f.notifies)
+          (subst (λ x. Shape all r.spoken h r.link r.agreed r.version r.table f.wanted (without_notifies x)) is f.shape)
 
       by_memory : (w : Bool) → NotedSo (if w then lacks u k else reads u k) items
       by_memory true = tt
@@ -102,9 +115,9 @@ module _ (all : List Instance) (i : Instance) (seen : Option Seen) (conn : Optio
   byte_so items b down m on g =
       let parts = and_parts (is_reading m.router.link) (is_none m.router.out) (true_of_not (is_reading m.router.link && is_none m.router.out) on) in
       let l = live_of m.router.link all i seen m.router conn up (b ∷ down) g.good.link parts.0 in
-      let n : Noted = with_bytes (finds_memory m.wanting) (m.router.held ++ b ∷ []) m.router (judge V1 (not m.router.agreed) (m.router.held ++ b ∷ [])) in
+      let n : Noted = with_bytes (finds_memory m.wanting) (m.router.held ++ b ∷ []) m.router (judge m.router.spoken (not m.router.agreed) (m.router.held ++ b ∷ [])) in
       subst (λ x. ReadsSo n.router.link x) (sym (append_assoc n.items m.items items))
-      (byte_read down m.router b (finds_memory m.wanting) (m.items ++ items) l.0 l.2 parts.0 g.reads_so (byte_case (not m.router.agreed) m.router.held b (down ++ (conn_due conn ++ l.2.lost)) l.2.coming l.2.downward))
+      (byte_read down m.router b (finds_memory m.wanting) (m.items ++ items) l.0 l.2 parts.0 g.reads_so (byte_case m.router.spoken m.router.agreed m.router.held b (down ++ (conn_due conn ++ l.2.lost)) l.2.early l.2.coming l.2.are_early l.2.downward))
 
   goes_byte : (items : List Item) (tail : List ℕ) (b : ℕ) (rest : List ℕ) (m : Receiving) → router_stops m.router ≡ false → Goes items (b ∷ rest ++ tail) m → Goes items (rest ++ tail) (router_byte m b)
   goes_byte items tail b rest m on g = record { good = byte_good all i seen conn up (rest ++ tail) m b on g.good; reads_so = byte_so items b (rest ++ tail) m on g }
@@ -184,8 +197,9 @@ blind_reads : Blind SideReads
 blind_reads s conn up down h = record { reads_so = h.reads_so }
 
 step_so : (w : World) (event : SideEvent) (wanting : Option ℕ) (s : Side) → Known w s → SideReads s → SideReads (side_step w event wanting s)
-unfolding side_step connects connects_at router_restarts router_sends router_pulled cache_sends cache_gets cut ticks_at asks
+unfolding side_step speaks connects connects_at router_restarts router_sends router_pulled cache_sends cache_gets cut ticks_at asks
 step_so w RouterRestart wanting s k h = record { reads_so = tt }
+step_so w (Speak version) wanting s k h = record { reads_so = h.reads_so }
 step_so w Connect wanting s k h = record { reads_so = tt }
 step_so w (RouterSends most) wanting s k h = record { reads_so = h.reads_so }
 step_so w (CacheGets most) wanting s k h = gets_keep SideReads blind_reads w most wanting s s.conn h

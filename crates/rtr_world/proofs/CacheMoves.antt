@@ -1,34 +1,37 @@
 -- What the cache reads and sends keeps the invariant.
-use Rattle.std.specs.Prelude.{◌≡◌, ◌⊎◌, ℕ, Bool, true, false, not, ◌&&◌, List, [], ◌∷◌, ◌++◌, length, Option, Some, None, IsSome, if◌then◌else◌, refl}
+use Rattle.std.specs.Prelude.{◌≡◌, ◌⊎◌, ℕ, ◌+◌, Bool, true, false, not, ◌&&◌, nat_lt, List, [], ◌∷◌, ◌++◌, length, Option, Some, None, IsSome, if◌then◌else◌, refl}
 use Rattle.std.proofs.Common.{sym, ap, ◌∙◌, subst, arith, inl, inr}
 use Rattle.std.specs.List.{AllByRecursion}
 use Rattle.std.proofs.lemmas.Bool.{and_parts, or_parts}
-use Rattle.std.proofs.lemmas.List.{append-nil}
+use Rattle.std.proofs.lemmas.Bool.Decides.{nat_tests}
+use Rattle.std.proofs.lemmas.List.{append-nil, length-append}
 use Rattle.vrps.specs.Instance.{Instance, versions, versions_from}
 use Rattle.vrps.specs.VrpSet.{VrpSet}
 use Rattle.rtr_pdu.specs.declared.version.Version.{Version}
 use Rattle.rtr_pdu.specs.declared.version.Version.TheVariants.{V1}
 use Rattle.rtr_pdu.specs.Judging.{Judgement, Begins, Whole, Faulty, judge}
 use Rattle.rtr_pdu.specs.Unit.{IsUnitOf}
+use Rattle.rtr_pdu.specs.Version.{first_version, header_version}
 use Rattle.rtr_pdu.specs.declared.unit.Unit.{Unit}
-use Rattle.rtr_ends.specs.Answer.{answer, report, sent_all}
-use Rattle.rtr_ends.specs.Cache.{Conn, Taking, is_none, conn_stops, conn_moment_of, with_moment, counted, finds_memory, conn_byte, can_notify, conn_notified, speaks_in, version_at}
-use Rattle.rtr_ends.specs.Connection.{Connection, Read, Wanting, Notify, conn_after, notice, is_published, takes_memory}
+use Rattle.rtr_pdu.specs.declared.unit.Unit.TheVariants.{SerialNotify}
+use Rattle.rtr_ends.specs.Answer.{answer, report, sent_all, session_in}
+use Rattle.rtr_ends.specs.Cache.{Conn, Taking, is_none, conn_stops, conn_moment_of, with_moment, counted, finds_memory, conn_byte, can_notify, conn_notified, spoken_in, speaks_in, version_at}
+use Rattle.rtr_ends.specs.Connection.{Connection, Read, Wanting, Notify, conn_after, notice, is_published, takes_memory, in_version}
 use Rattle.rtr_ends.specs.Feeding.{FedPiece, feed}
 use Rattle.rtr_ends.specs.LinkRules.{Router}
 use Rattle.rtr_ends.specs.RouterLink.{Link, Closed, Idle, Asked, Answering, Ended, is_reading}
-use Rattle.rtr_ends.specs.Transcript.{Question, query, base_of}
+use Rattle.rtr_ends.specs.Transcript.{Question, query, base_of, of_version}
 use Rattle.rtr_ends.proofs.TableLaws.{false_true}
 use Rattle.rtr_ends.proofs.FeedingLaws.{feed_keeps}
 use Rattle.rtr_world.specs.OneAnswer.{IsOfNow, NotifiesOf, without_notifies}
 use Rattle.rtr_world.specs.World.{timing}
 use Rattle.rtr_world.proofs.AnswerLaws.{plain_stays, plain_notifies, without-append, notifies-append}
-use Rattle.rtr_world.proofs.CacheSteps.{from_now, is_now, IsAnswered, answered_report, answer_answers, serial_low}
-use Rattle.rtr_world.proofs.Invariant.{OneReply, QuestionFits, Replies, no_memory, Shape, Open, Flow, Live, GoodLink, GoodRouter}
-use Rattle.rtr_world.proofs.UnitsAtRouters.{live_link}
+use Rattle.rtr_world.proofs.CacheSteps.{from_now, is_now, IsAnswered, answered_report, answer_answers, serial_low, session_low}
+use Rattle.rtr_world.proofs.Invariant.{OneReply, QuestionFits, Replies, no_memory, Shape, Open, Unheard, Flow, Live, GoodLink, GoodRouter}
+use Rattle.rtr_world.proofs.UnitsAtRouters.{live_link, no_unit}
 use Rattle.rtr_world.proofs.SideSteps.{live_of}
-use Rattle.rtr_world.proofs.UnitStreams.{MaySpeak, Stream, byte_version, held_version, ByteCase, partly, wholly, byte_case, stream-append, all_bytes}
-use Rattle.rtr_world.proofs.Versions.{TableAt, Present}
+use Rattle.rtr_world.proofs.UnitStreams.{MaySpeak, Stream, byte_version, held_version, ByteCase, partly, notified, wholly, behind_early, byte_case, stream-append, stream-early, all_bytes}
+use Rattle.rtr_world.proofs.Versions.{TableAt, Present, held_at}
 use Rattle.rtr_world.proofs.LinkedSides.{Seen}
 
 none_is : (out : List ℕ) → not (is_none out) ≡ false → out ≡ []
@@ -44,13 +47,34 @@ dead_link (Asked q) all i home r conn conn' up up' down down' dead g = absurd (l
 dead_link (Answering a) all i home r conn conn' up up' down down' dead g = absurd (let e : true ≡ false = dead in cc)
 
 -- units are added at the cache's end, where nothing was to be pulled
-stream_more : (held down due lost : List ℕ) (coming units : List Unit) → due ≡ [] → lost ≡ [] → AllByRecursion (IsUnitOf V1) units → Stream held (down ++ (due ++ lost)) coming → Stream held (down ++ (sent_all V1 units ++ lost)) (coming ++ units)
-stream_more held down due lost coming units de le fit s =
-    let more : Stream held ((down ++ (due ++ lost)) ++ sent_all V1 units) (coming ++ units) = stream-append held (down ++ (due ++ lost)) coming units s fit in
-    let bytes : (down ++ (due ++ lost)) ++ sent_all V1 units ≡ down ++ (sent_all V1 units ++ lost) =
-    ap (λ x. (down ++ (x ++ lost)) ++ sent_all V1 units) de ∙ ap (λ x. (down ++ x) ++ sent_all V1 units) le ∙ ap (λ x. x ++ sent_all V1 units) (append-nil down)
-    ∙ ap (λ x. down ++ x) (sym (append-nil (sent_all V1 units)) ∙ ap (λ x. sent_all V1 units ++ x) (sym le)) in
-    subst (λ x. Stream held x (coming ++ units)) bytes more
+more_bytes : (down due lost sent : List ℕ) → due ≡ [] → lost ≡ [] → (down ++ (due ++ lost)) ++ sent ≡ down ++ (sent ++ lost)
+more_bytes down due lost sent de le =
+    ap (λ x. (down ++ (x ++ lost)) ++ sent) de ∙ ap (λ x. (down ++ x) ++ sent) le ∙ ap (λ x. x ++ sent) (append-nil down) ∙ ap (λ x. down ++ x) (sym (append-nil sent) ∙ ap (λ x. sent ++ x) (sym le))
+
+stream_more : (pv : Version) (held down due lost : List ℕ) (early coming units : List Unit) → due ≡ [] → lost ≡ [] → AllByRecursion (IsUnitOf pv) units → Stream held (down ++ (due ++ lost)) (behind_early pv early coming)
+    → Stream held (down ++ (sent_all pv units ++ lost)) (behind_early pv early (coming ++ units))
+stream_more pv held down due lost early coming units de le fit s =
+    subst (λ x. Stream held x (behind_early pv early (coming ++ units))) (more_bytes down due lost (sent_all pv units) de le) (stream-append pv held (down ++ (due ++ lost)) early coming units s fit)
+
+-- notifies of version 1, where no others came
+stream_earlier : (pv : Version) (held down due lost : List ℕ) (early coming units : List Unit) → coming ≡ [] → due ≡ [] → lost ≡ [] → AllByRecursion (IsUnitOf V1) units → Stream held (down ++ (due ++ lost)) (behind_early pv early coming)
+    → Stream held (down ++ (sent_all V1 units ++ lost)) (behind_early pv (early ++ units) coming)
+stream_earlier pv held down due lost early coming units none de le fit s =
+    let before : Stream held (down ++ (due ++ lost)) (behind_early pv early []) = subst (λ x. Stream held (down ++ (due ++ lost)) (behind_early pv early x)) none s in
+    subst (λ x. Stream held (down ++ (sent_all V1 units ++ lost)) (behind_early pv (early ++ units) x)) (sym none)
+    (subst (λ x. Stream held x (behind_early pv (early ++ units) [])) (more_bytes down due lost (sent_all V1 units) de le) (stream-early pv held (down ++ (due ++ lost)) early units before fit))
+
+-- Where a header has not come whole by the next byte, none had.
+unheard_more : (agreed : Option Version) (held more : List ℕ) (coming : List Unit) (agrees : Bool) → Unheard (header_version agreed held) coming agrees → Unheard (header_version agreed (held ++ more)) coming agrees
+unheard_more (Some version) held more coming agrees u = tt
+unheard_more None held more coming agrees u = by_length (nat_lt (length (held ++ more)) 8) refl
+  where
+    shorter : (n m k : ℕ) → k ≡ n + m → nat_lt k 8 ≡ true → nat_lt n 8 ≡ true
+    shorter n m k e h = grind (arith, nat_tests)
+
+    by_length : (b : Bool) → nat_lt (length (held ++ more)) 8 ≡ b → Unheard (if b then None else Some (first_version (held ++ more))) coming agrees
+    by_length true e = subst (λ b. Unheard (if b then None else Some (first_version held)) coming agrees) (shorter (length held) (length more) (length (held ++ more)) (length-append held more) e) u
+    by_length false e = tt
 
 module _ (all : List Instance) (i : Instance) (p : Present all i) (keep : ℕ) (home : Option Seen) (keeps : (h : Seen) → home ≡ Some h → h.keep ≡ keep) (r : Router) (down : List ℕ) where
   -- What the router waits for, once the cache has read its question whole
@@ -60,9 +84,9 @@ module _ (all : List Instance) (i : Instance) (p : Present all i) (keep : ℕ) (
     is : u ≡ query q
     no_more : more ≡ []
     none : rest ≡ []
-    fits : QuestionFits h.session q r.version
+    fits : QuestionFits h.session q (of_version r.spoken r.version)
 
-  whole_question : (h : Seen) (l : Link) (u : Unit) (more rest : List Unit) → is_reading l ≡ true → Shape all h l r.agreed r.version r.table (u ∷ more) rest → IsWhole h l u more rest
+  whole_question : (h : Seen) (l : Link) (u : Unit) (more rest : List Unit) → is_reading l ≡ true → Shape all r.spoken h l r.agreed r.version r.table (u ∷ more) rest → IsWhole h l u more rest
   whole_question h Closed u more rest live s = false_true live
   whole_question h (Ended end) u more rest live s = false_true live
   whole_question h Idle u more rest live s = absurd (let e : u ∷ more ≡ [] = s.0 in cc)
@@ -74,69 +98,94 @@ module _ (all : List Instance) (i : Instance) (p : Present all i) (keep : ℕ) (
       ]
 
   -- The cache has read the question, and these units are the answer.
-  answered : (o : Conn) (up bs : List ℕ) (h : Seen) (f : Flow all i h r (Some o) up down) (q : Question) (units : List Unit) (st : Connection) → MaySpeak V1 st.version → home ≡ Some h → o.state.due ≡ [] → st.due ≡ sent_all V1 units → Stream [] (bs ++ r.out) [] → r.link ≡ Asked q
-      → without_notifies f.coming ≡ [] → QuestionFits h.session q r.version → IsAnswered units → Replies all h q (base_of q r.table) units → OneReply all h q units → Live all i home r (Some (record { state = st; held = [] })) bs down
+  answered : (o : Conn) (up bs : List ℕ) (h : Seen) (f : Flow all i h r (Some o) up down) (q : Question) (units : List Unit) (st : Connection) → st.version ≡ Some r.spoken → home ≡ Some h → o.state.due ≡ [] → st.due ≡ sent_all r.spoken units → Stream [] (bs ++ r.out) [] → r.link ≡ Asked q
+      → without_notifies f.coming ≡ [] → QuestionFits h.session q (of_version r.spoken r.version) → IsAnswered r.spoken units → Replies all r.spoken h q (base_of q r.table) units → OneReply all r.spoken h q units → Live all i home r (Some (record { state = st; held = [] })) bs down
   answered o up bs h f q units st spoken eh eo due up_stream link rest fits is replies one =
-      let op : Open i h r.out up f.wanted f.lost o = f.open_at in
+      let op : Open i r.spoken h r.out up f.wanted f.coming r.agreed f.lost o = f.open_at in
       let whole : without_notifies (f.coming ++ units) ≡ units = without-append f.coming units ∙ ap (λ x. x ++ without_notifies units) rest ∙ plain_stays units is.plain in (
         h,
         eh,
         record {
+          version = f.version;
+          early = f.early;
           coming = f.coming ++ units;
           lost = f.lost;
           wanted = [];
-          downward = subst (λ x. Stream r.held (down ++ (x ++ f.lost)) (f.coming ++ units)) (sym due) (stream_more r.held down o.state.due f.lost f.coming units eo op.whole is.fit f.downward);
-          open_at = record { upward = up_stream; spoken = spoken; whole = op.whole; session = op.session; made = op.made; later = op.later };
+          downward = subst (λ x. Stream r.held (down ++ (x ++ f.lost)) (behind_early r.spoken f.early (f.coming ++ units))) (sym due) (stream_more r.spoken r.held down o.state.due f.lost f.early f.coming units eo op.whole is.fit f.downward);
+          open_at = record {
+            upward = up_stream;
+            spoken = subst (MaySpeak r.spoken) (sym spoken) refl;
+            unheard = subst (λ v. Unheard (header_version v []) (f.coming ++ units) r.agreed) (sym spoken) tt;
+            whole = op.whole;
+            session = op.session;
+            made = op.made;
+            later = op.later;
+          };
+          are_early = f.are_early;
+          early_notifies = f.early_notifies;
           notifies = notifies-append h.session f.coming units f.notifies (plain_notifies h.session units is.plain);
           own = f.own;
           mine = f.mine;
-          shape = subst (λ x. Shape all h x r.agreed r.version r.table [] (without_notifies (f.coming ++ units))) (sym link) (fits, inr (refl, subst (λ x. Replies all h q (base_of q r.table) x) (sym whole) replies, subst (λ x. OneReply all h q x) (sym whole) one));
+          shape = subst (λ x. Shape all r.spoken h x r.agreed r.version r.table [] (without_notifies (f.coming ++ units))) (sym link) (fits, inr (refl, subst (λ x. Replies all r.spoken h q (base_of q r.table) x) (sym whole) replies, subst (λ x. OneReply all r.spoken h q x) (sym whole) one));
         },
       )
 
   -- it reads a byte
   byte_live : (m : Taking) (b : ℕ) (bs : List ℕ) (h : Seen) (f : Flow all i h r (Some m.conn) (b ∷ bs) down) → home ≡ Some h → m.conn.state.due ≡ [] → is_reading r.link ≡ true → TableAt all r.version r.table
-      → ByteCase false m.conn.held b (bs ++ r.out) f.wanted → (memory : Bool) → Live all i home r (Some (with_moment keep timing (m.conn.held ++ b ∷ []) m.conn (conn_moment_of i memory V1 (m.conn.held ++ b ∷ []) (judge V1 false (m.conn.held ++ b ∷ []))))) bs down
+      → ByteCase r.spoken true m.conn.held b (bs ++ r.out) [] f.wanted → (memory : Bool) → Live all i home r (Some (with_moment keep timing (m.conn.held ++ b ∷ []) m.conn (conn_moment_of i memory r.spoken (m.conn.held ++ b ∷ []) (judge r.spoken false (m.conn.held ++ b ∷ []))))) bs down
   byte_live m b bs h f eh eo live table (partly e s) memory =
-      let op : Open i h r.out (b ∷ bs) f.wanted f.lost m.conn = f.open_at in
-      subst (λ j. Live all i home r (Some (with_moment keep timing (m.conn.held ++ b ∷ []) m.conn (conn_moment_of i memory V1 (m.conn.held ++ b ∷ []) j))) bs down) (sym e) (
+      let op : Open i r.spoken h r.out (b ∷ bs) f.wanted f.coming r.agreed f.lost m.conn = f.open_at in
+      subst (λ j. Live all i home r (Some (with_moment keep timing (m.conn.held ++ b ∷ []) m.conn (conn_moment_of i memory r.spoken (m.conn.held ++ b ∷ []) j))) bs down) (sym e) (
         h,
         eh,
         record {
+          version = f.version;
+          early = f.early;
           coming = f.coming;
           lost = f.lost;
           wanted = f.wanted;
           downward = f.downward;
-          open_at = record { upward = s; spoken = op.spoken; whole = op.whole; session = op.session; made = op.made; later = op.later };
+          open_at = record {
+            upward = s;
+            spoken = op.spoken;
+            unheard = unheard_more m.conn.state.version m.conn.held (b ∷ []) f.coming r.agreed op.unheard;
+            whole = op.whole;
+            session = op.session;
+            made = op.made;
+            later = op.later;
+          };
+          are_early = f.are_early;
+          early_notifies = f.early_notifies;
           notifies = f.notifies;
           own = f.own;
           mine = f.mine;
           shape = f.shape;
         },
       )
-  byte_live m b bs h f eh eo live table (wholly u more is e fit s) memory =
-      subst (λ j. Live all i home r (Some (with_moment keep timing bytes m.conn (conn_moment_of i memory V1 bytes j))) bs down) (sym e) (by_memory (takes_memory V1 i u && not memory) refl)
+  byte_live m b bs h f eh eo live table (notified session serial rest none e s) memory = absurd (no_unit (SerialNotify session serial) rest (sym none))
+  byte_live m b bs h f eh eo live table (wholly none u more is e fit s) memory =
+      subst (λ j. Live all i home r (Some (with_moment keep timing bytes m.conn (conn_moment_of i memory r.spoken bytes j))) bs down) (sym e) (by_memory (takes_memory r.spoken i u && not memory) refl)
     where
       bytes : List ℕ
       bytes = m.conn.held ++ b ∷ []
 
-      op : Open i h r.out (b ∷ bs) f.wanted f.lost m.conn
+      op : Open i r.spoken h r.out (b ∷ bs) f.wanted f.coming r.agreed f.lost m.conn
       op = f.open_at
 
       w : IsWhole h r.link u more (without_notifies f.coming)
-      w = whole_question h r.link u more (without_notifies f.coming) live (subst (λ x. Shape all h r.link r.agreed r.version r.table x (without_notifies f.coming)) is f.shape)
+      w = whole_question h r.link u more (without_notifies f.coming) live (subst (λ x. Shape all r.spoken h r.link r.agreed r.version r.table x (without_notifies f.coming)) is f.shape)
 
       up_stream : Stream [] (bs ++ r.out) []
-      up_stream = subst (λ x. Stream [] (bs ++ r.out) x) w.no_more s
+      up_stream = subst (λ x. Stream [] (bs ++ r.out) (in_version r.spoken x)) w.no_more s
 
-      by_memory : (t : Bool) → (takes_memory V1 i u && not memory) ≡ t → Live all i home r (Some (record { state = conn_after keep timing m.conn.state (if t then Wanting V1 i u bytes else Read V1 i u bytes); held = [] })) bs down
+      by_memory : (t : Bool) → (takes_memory r.spoken i u && not memory) ≡ t → Live all i home r (Some (record { state = conn_after keep timing m.conn.state (if t then Wanting r.spoken i u bytes else Read r.spoken i u bytes); held = [] })) bs down
       by_memory true wants =
-          answered m.conn (b ∷ bs) bs h f w.q (report 1 [] ∷ []) (conn_after keep timing m.conn.state (Wanting V1 i u bytes)) refl eh eo refl up_stream w.asks w.none w.fits
-          (answered_report 1 [] (omega arith) (all_bytes [] tt)) (no_memory refl)
-          (inr (record { cache = i; was = is_now all i p h op.session op.made op.later; takes = subst (λ x. takes_memory V1 i x ≡ true) w.is (and_parts (takes_memory V1 i u) (not memory) wants).0 }, refl))
+          answered m.conn (b ∷ bs) bs h f w.q (report 1 [] ∷ []) (conn_after keep timing m.conn.state (Wanting r.spoken i u bytes)) refl eh eo refl up_stream w.asks w.none w.fits
+          (answered_report r.spoken 1 [] (omega arith) (all_bytes [] tt)) (no_memory refl)
+          (inr (record { cache = i; was = is_now all i p r.spoken h op.session op.made op.later; takes = subst (λ x. takes_memory r.spoken i x ≡ true) w.is (and_parts (takes_memory r.spoken i u) (not memory) wants).0 }, refl))
       by_memory false wants =
-          let a = answer_answers all i p h op.session op.made keep w.q r.version r.table w.fits table (from_now all i p h op.session op.made w.q keep (keeps h eh) op.later) in
-          answered m.conn (b ∷ bs) bs h f w.q (answer V1 i keep timing (query w.q)).units (conn_after keep timing m.conn.state (Read V1 i u bytes)) refl eh eo (ap (λ x. sent_all V1 (answer V1 i keep timing x).units) w.is) up_stream w.asks w.none w.fits a.answered a.replies (inl a.from)
+          let a = answer_answers all i p r.spoken h op.session op.made keep w.q (of_version r.spoken r.version) r.table w.fits (held_at all r.spoken r.version r.table table) (from_now all i p r.spoken h op.session op.made w.q keep (keeps h eh) op.later) in
+          answered m.conn (b ∷ bs) bs h f w.q (answer r.spoken i keep timing (query w.q)).units (conn_after keep timing m.conn.state (Read r.spoken i u bytes)) refl eh eo (ap (λ x. sent_all r.spoken (answer r.spoken i keep timing x).units) w.is) up_stream w.asks w.none w.fits a.answered a.replies (inl a.from)
 
   abbrev GoodC : Conn → List ℕ → Type 0
   GoodC o up = GoodRouter all i home (Some o) up down r
@@ -156,11 +205,11 @@ module _ (all : List Instance) (i : Instance) (p : Present all i) (keep : ℕ) (
       by_link false dead = dead_link r.link all i home r (Some m.conn) (Some (behind (version_at m.conn (b ∷ [])))) (b ∷ bs) bs down down dead g.link
       by_link true live =
           let l = live_of r.link all i home r (Some m.conn) (b ∷ bs) down g.link live in
-          let op : Open i l.0 r.out (b ∷ bs) l.2.wanted l.2.lost m.conn = l.2.open_at in
-          let version : version_at m.conn (b ∷ []) ≡ V1 = byte_version m.conn.state.version m.conn.held b (bs ++ r.out) l.2.wanted op.spoken op.upward in
+          let op : Open i r.spoken l.0 r.out (b ∷ bs) l.2.wanted l.2.coming r.agreed l.2.lost m.conn = l.2.open_at in
+          let version : version_at m.conn (b ∷ []) ≡ r.spoken = byte_version r.spoken m.conn.state.version m.conn.held b (bs ++ r.out) l.2.wanted op.spoken op.upward in
           subst (λ v. GoodLink all i home r.link r (Some (behind v)) bs down) (sym version)
-          (live_link all i home (Some (behind V1)) bs down r r.link refl live
-          (byte_live m b bs l.0 l.2 l.1 due live g.table (byte_case false m.conn.held b (bs ++ r.out) l.2.wanted op.upward) (finds_memory m.wanting)))
+          (live_link all i home (Some (behind r.spoken)) bs down r r.link refl live
+          (byte_live m b bs l.0 l.2 l.1 due live g.table (byte_case r.spoken true m.conn.held b (bs ++ r.out) [] l.2.wanted (refl, λ e. refl) op.upward) (finds_memory m.wanting)))
 
   abbrev by_stop : Taking → ℕ → List ℕ → Bool → FedPiece Taking
   by_stop m b piece s = elim s [ true ↦ record { machine = m; rest = b ∷ piece } | false ↦ feed (λ (x : Taking). conn_stops x.conn) (conn_byte keep timing i) (conn_byte keep timing i m b) piece ]
@@ -179,7 +228,7 @@ module _ (all : List Instance) (i : Instance) (p : Present all i) (keep : ℕ) (
 
   -- What is due then is what was, or the answer to the question as the cache is now.
   abbrev pub DueNow : List ℕ → Option ℕ → Conn → Type 0
-  DueNow old wanting o = (o.state.due ≡ old) ⊎ IsOfNow i keep wanting r.link o.state.due
+  DueNow old wanting o = (o.state.due ≡ old) ⊎ IsOfNow r.spoken i keep wanting r.link o.state.due
 
   -- Memory is wanting only where it was told.
   some_wants : (wanting now : Option ℕ) → (wanting ≡ None → now ≡ None) → not (finds_memory now) ≡ true → IsSome wanting
@@ -199,12 +248,12 @@ module _ (all : List Instance) (i : Instance) (p : Present all i) (keep : ℕ) (
   byte_now : (old : List ℕ) (wanting : Option ℕ) (m : Taking) (b : ℕ) (bs : List ℕ) → conn_stops m.conn ≡ false → is_reading r.link ≡ true → (wanting ≡ None → m.wanting ≡ None) → GoodC m.conn (b ∷ bs) → DueNow old wanting m.conn → DueNow old wanting (conn_byte keep timing i m b).conn
   unfolding conn_byte
   byte_now old wanting m b bs goes_on live same g now =
-      subst (λ v. DueNow old wanting (with_moment keep timing bytes m.conn (conn_moment_of i memory v bytes (judge v false bytes)))) (sym version) (by_case (byte_case false m.conn.held b (bs ++ r.out) l.2.wanted op.upward))
+      subst (λ v. DueNow old wanting (with_moment keep timing bytes m.conn (conn_moment_of i memory v bytes (judge v false bytes)))) (sym version) (by_case (byte_case r.spoken true m.conn.held b (bs ++ r.out) [] l.2.wanted (refl, λ e. refl) op.upward))
     where
       l : Live all i home r (Some m.conn) (b ∷ bs) down
       l = live_of r.link all i home r (Some m.conn) (b ∷ bs) down g.link live
 
-      op : Open i l.0 r.out (b ∷ bs) l.2.wanted l.2.lost m.conn
+      op : Open i r.spoken l.0 r.out (b ∷ bs) l.2.wanted l.2.coming r.agreed l.2.lost m.conn
       op = l.2.open_at
 
       bytes : List ℕ
@@ -213,24 +262,25 @@ module _ (all : List Instance) (i : Instance) (p : Present all i) (keep : ℕ) (
       memory : Bool
       memory = finds_memory m.wanting
 
-      version : version_at m.conn (b ∷ []) ≡ V1
-      version = byte_version m.conn.state.version m.conn.held b (bs ++ r.out) l.2.wanted op.spoken op.upward
+      version : version_at m.conn (b ∷ []) ≡ r.spoken
+      version = byte_version r.spoken m.conn.state.version m.conn.held b (bs ++ r.out) l.2.wanted op.spoken op.upward
 
-      by_case : ByteCase false m.conn.held b (bs ++ r.out) l.2.wanted → DueNow old wanting (with_moment keep timing bytes m.conn (conn_moment_of i memory V1 bytes (judge V1 false bytes)))
-      by_case (partly e s) = subst (λ j. DueNow old wanting (with_moment keep timing bytes m.conn (conn_moment_of i memory V1 bytes j))) (sym e) now
-      by_case (wholly u more is e fit s) =
-          subst (λ j. DueNow old wanting (with_moment keep timing bytes m.conn (conn_moment_of i memory V1 bytes j))) (sym e) (inr (subst (λ x. IsOfNow i keep wanting x (read (takes_memory V1 i u && not memory)).due) (sym w.asks) (by_memory (takes_memory V1 i u && not memory) refl)))
+      by_case : ByteCase r.spoken true m.conn.held b (bs ++ r.out) [] l.2.wanted → DueNow old wanting (with_moment keep timing bytes m.conn (conn_moment_of i memory r.spoken bytes (judge r.spoken false bytes)))
+      by_case (partly e s) = subst (λ j. DueNow old wanting (with_moment keep timing bytes m.conn (conn_moment_of i memory r.spoken bytes j))) (sym e) now
+      by_case (notified session serial rest none e s) = absurd (no_unit (SerialNotify session serial) rest (sym none))
+      by_case (wholly none u more is e fit s) =
+          subst (λ j. DueNow old wanting (with_moment keep timing bytes m.conn (conn_moment_of i memory r.spoken bytes j))) (sym e) (inr (subst (λ x. IsOfNow r.spoken i keep wanting x (read (takes_memory r.spoken i u && not memory)).due) (sym w.asks) (by_memory (takes_memory r.spoken i u && not memory) refl)))
         where
           w : IsWhole l.0 r.link u more (without_notifies l.2.coming)
-          w = whole_question l.0 r.link u more (without_notifies l.2.coming) live (subst (λ x. Shape all l.0 r.link r.agreed r.version r.table x (without_notifies l.2.coming)) is l.2.shape)
+          w = whole_question l.0 r.link u more (without_notifies l.2.coming) live (subst (λ x. Shape all r.spoken l.0 r.link r.agreed r.version r.table x (without_notifies l.2.coming)) is l.2.shape)
 
           read : Bool → Connection
-          read t = conn_after keep timing m.conn.state (if t then Wanting V1 i u bytes else Read V1 i u bytes)
+          read t = conn_after keep timing m.conn.state (if t then Wanting r.spoken i u bytes else Read r.spoken i u bytes)
 
-          by_memory : (t : Bool) → (takes_memory V1 i u && not memory) ≡ t → IsOfNow i keep wanting (Asked w.q) (read t).due
+          by_memory : (t : Bool) → (takes_memory r.spoken i u && not memory) ≡ t → IsOfNow r.spoken i keep wanting (Asked w.q) (read t).due
           by_memory true wants =
-              let parts = and_parts (takes_memory V1 i u) (not memory) wants in inr (some_wants wanting m.wanting same parts.1, subst (λ x. takes_memory V1 i x ≡ true) w.is parts.0, refl)
-          by_memory false wants = inl (ap (λ x. sent_all V1 (answer V1 i keep timing x).units) w.is)
+              let parts = and_parts (takes_memory r.spoken i u) (not memory) wants in inr (some_wants wanting m.wanting same parts.1, subst (λ x. takes_memory r.spoken i x ≡ true) w.is parts.0, refl)
+          by_memory false wants = inl (ap (λ x. sent_all r.spoken (answer r.spoken i keep timing x).units) w.is)
 
   pub fed_now : (old tail : List ℕ) (m : Taking) (piece : List ℕ) (wanting : Option ℕ) → is_reading r.link ≡ true → (wanting ≡ None → m.wanting ≡ None) → GoodC m.conn (piece ++ tail) → DueNow old wanting m.conn → DueNow old wanting (feed (λ (x : Taking). conn_stops x.conn) (conn_byte keep timing i) m piece).machine.conn
   fed_now old tail m piece wanting live same g now =
@@ -238,37 +288,81 @@ module _ (all : List Instance) (i : Instance) (p : Present all i) (keep : ℕ) (
       (λ b rest x on k. (byte_counts wanting x b k.0, byte_good x b (rest ++ tail) on k.1, byte_now old wanting x b (rest ++ tail) on live k.0 k.1 k.2)) m piece (same, g, now)).2
 
   -- a notify
-  notice_fit : (sets : List VrpSet) → AllByRecursion (IsUnitOf V1) (notice i.session (versions_from i.start sets))
-  notice_fit [] = tt
-  notice_fit (x ∷ older) = (((p.is.session, serial_low i.start (length older)), refl), tt)
+  notice_fit : (pv : Version) (sets : List VrpSet) → AllByRecursion (IsUnitOf pv) (notice (session_in pv i) (versions_from i.start sets))
+  notice_fit pv [] = tt
+  notice_fit pv (x ∷ older) = (((session_low pv i p.is, serial_low i.start (length older)), refl), tt)
 
-  notice_silent : (sets : List VrpSet) → without_notifies (notice i.session (versions_from i.start sets)) ≡ []
-  notice_silent [] = refl
-  notice_silent (x ∷ older) = refl
+  notice_silent : (session : ℕ) (sets : List VrpSet) → without_notifies (notice session (versions_from i.start sets)) ≡ []
+  notice_silent session [] = refl
+  notice_silent session (x ∷ older) = refl
 
-  notice_own : (session : ℕ) → session ≡ i.session → (sets : List VrpSet) → NotifiesOf session (notice i.session (versions_from i.start sets))
-  notice_own session e [] = tt
-  notice_own session e (x ∷ older) = (sym e, tt)
+  notice_own : (session one : ℕ) → session ≡ one → (sets : List VrpSet) → NotifiesOf session (notice one (versions_from i.start sets))
+  notice_own session one e [] = tt
+  notice_own session one e (x ∷ older) = (sym e, tt)
 
-  notified_live : (o : Conn) (up : List ℕ) → o.state.due ≡ [] → Live all i home r (Some o) up down → Live all i home r (Some (record o { state = conn_after keep timing o.state (Notify V1 i) })) up down
-  notified_live o up due l =
+  -- the connection, notified in this version
+  abbrev told : Conn → Version → Conn
+  told o v = record o { state = conn_after keep timing o.state (Notify v i) }
+
+  -- in the version of a header that has come,
+  notified_live : (o : Conn) (up : List ℕ) → o.state.due ≡ [] → header_version o.state.version o.held ≡ Some r.spoken → Live all i home r (Some o) up down → Live all i home r (Some (told o r.spoken)) up down
+  notified_live o up due heard l =
       let f = l.2 in
-      let op : Open i l.0 r.out up f.wanted f.lost o = f.open_at in
-      let units : List Unit = notice i.session (versions i) in
-      let whole : without_notifies (f.coming ++ notice i.session (versions i)) ≡ without_notifies f.coming =
-      without-append f.coming (notice i.session (versions i)) ∙ ap (λ x. without_notifies f.coming ++ x) (notice_silent i.sets) ∙ append-nil (without_notifies f.coming) in (
+      let op : Open i r.spoken l.0 r.out up f.wanted f.coming r.agreed f.lost o = f.open_at in
+      let whole : without_notifies (f.coming ++ notice (session_in r.spoken i) (versions i)) ≡ without_notifies f.coming =
+      without-append f.coming (notice (session_in r.spoken i) (versions i)) ∙ ap (λ x. without_notifies f.coming ++ x) (notice_silent (session_in r.spoken i) i.sets) ∙ append-nil (without_notifies f.coming) in (
         l.0,
         l.1,
         record {
-          coming = f.coming ++ notice i.session (versions i);
+          version = f.version;
+          early = f.early;
+          coming = f.coming ++ notice (session_in r.spoken i) (versions i);
           lost = f.lost;
           wanted = f.wanted;
-          downward = stream_more r.held down o.state.due f.lost f.coming (notice i.session (versions i)) due op.whole (notice_fit i.sets) f.downward;
-          open_at = record { upward = op.upward; spoken = op.spoken; whole = op.whole; session = op.session; made = op.made; later = op.later };
-          notifies = notifies-append l.0.session f.coming (notice i.session (versions i)) f.notifies (notice_own l.0.session op.session i.sets);
+          downward = stream_more r.spoken r.held down o.state.due f.lost f.early f.coming (notice (session_in r.spoken i) (versions i)) due op.whole (notice_fit r.spoken i.sets) f.downward;
+          open_at = record {
+            upward = op.upward;
+            spoken = op.spoken;
+            unheard = subst (λ v. Unheard v (f.coming ++ notice (session_in r.spoken i) (versions i)) r.agreed) (sym heard) tt;
+            whole = op.whole;
+            session = op.session;
+            made = op.made;
+            later = op.later;
+          };
+          are_early = f.are_early;
+          early_notifies = f.early_notifies;
+          notifies = notifies-append l.0.session f.coming (notice (session_in r.spoken i) (versions i)) f.notifies (notice_own l.0.session (session_in r.spoken i) op.session i.sets);
           own = f.own;
           mine = f.mine;
-          shape = subst (λ x. Shape all l.0 r.link r.agreed r.version r.table f.wanted x) (sym whole) f.shape;
+          shape = subst (λ x. Shape all r.spoken l.0 r.link r.agreed r.version r.table f.wanted x) (sym whole) f.shape;
+        },
+      )
+
+  -- or in version 1, where none has
+  notified_early : (o : Conn) (up : List ℕ) → o.state.due ≡ [] → header_version o.state.version o.held ≡ None → Live all i home r (Some o) up down → Live all i home r (Some (told o V1)) up down
+  notified_early o up due unheard l =
+      let f = l.2 in
+      let op : Open i r.spoken l.0 r.out up f.wanted f.coming r.agreed f.lost o = f.open_at in
+      let nothing : Unheard None f.coming r.agreed = subst (λ v. Unheard v f.coming r.agreed) unheard op.unheard in (
+        l.0,
+        l.1,
+        record {
+          version = f.version;
+          early = f.early ++ notice i.session (versions i);
+          coming = f.coming;
+          lost = f.lost;
+          wanted = f.wanted;
+          downward = stream_earlier r.spoken r.held down o.state.due f.lost f.early f.coming (notice i.session (versions i)) nothing.0 due op.whole (notice_fit V1 i.sets) f.downward;
+          open_at = record { upward = op.upward; spoken = op.spoken; unheard = op.unheard; whole = op.whole; session = op.session; made = op.made; later = op.later };
+          are_early = (
+            without-append f.early (notice i.session (versions i)) ∙ ap (λ x. x ++ without_notifies (notice i.session (versions i))) f.are_early.0 ∙ notice_silent i.session i.sets,
+            λ e. false_true (sym nothing.1 ∙ e),
+          );
+          early_notifies = notifies-append l.0.made.session f.early (notice i.session (versions i)) f.early_notifies (notice_own l.0.made.session i.session op.later.session i.sets);
+          notifies = f.notifies;
+          own = f.own;
+          mine = f.mine;
+          shape = f.shape;
         },
       )
 
@@ -280,20 +374,25 @@ module _ (all : List Instance) (i : Instance) (p : Present all i) (keep : ℕ) (
       not_true true h = false_true h
       not_true false h = refl
 
-      -- the connection, notified in this version
-      told : Version → Conn
-      told v = record o { state = conn_after keep timing o.state (Notify v i) }
-
       o' : Conn
-      o' = told (speaks_in o)
+      o' = told o (speaks_in o)
 
       by_link : (live : Bool) → is_reading r.link ≡ live → o.state.due ≡ [] → GoodLink all i home r.link r (Some o') up down
       by_link false dead due = dead_link r.link all i home r (Some o) (Some o') up up down down dead g.link
       by_link true live due =
-          let l = live_of r.link all i home r (Some o) up down g.link live in
-          let op : Open i l.0 r.out up l.2.wanted l.2.lost o = l.2.open_at in
-          subst (λ v. GoodLink all i home r.link r (Some (told v)) up down) (sym (held_version o.state.version o.held (up ++ r.out) l.2.wanted op.spoken op.upward))
-          (live_link all i home (Some (told V1)) up down r r.link refl live (notified_live o up due l))
+          by_header (header_version o.state.version o.held) refl (held_version r.spoken o.state.version o.held (up ++ r.out) l.2.wanted op.spoken op.upward)
+        where
+          l : Live all i home r (Some o) up down
+          l = live_of r.link all i home r (Some o) up down g.link live
+
+          op : Open i r.spoken l.0 r.out up l.2.wanted l.2.coming r.agreed l.2.lost o
+          op = l.2.open_at
+
+          by_header : (v : Option Version) → header_version o.state.version o.held ≡ v → MaySpeak r.spoken v → GoodLink all i home r.link r (Some (told o (spoken_in v))) up down
+          by_header None e speaks = live_link all i home (Some (told o V1)) up down r r.link refl live (notified_early o up due e l)
+          by_header (Some v) e speaks =
+              subst (λ v. GoodLink all i home r.link r (Some (told o v)) up down) (sym speaks)
+              (live_link all i home (Some (told o r.spoken)) up down r r.link refl live (notified_live o up due (e ∙ ap Some speaks) l))
 
       by_test : (b : Bool) → can_notify i o ≡ b → GoodC (if b then o' else o) up
       by_test false e = g

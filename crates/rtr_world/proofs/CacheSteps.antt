@@ -8,18 +8,20 @@ use Rattle.std.proofs.lemmas.Str.{IsUtf8-nil}
 use Rattle.std.proofs.lemmas.List.{append-nil, length-take}
 use Rattle.std.proofs.lemmas.Map.Keys.{IsDistinct-from_sorted}
 use Rattle.prefixes.specs.Payload.{Payload, IsPayload, vrp_cmp}
-use Rattle.vrps.specs.Instance.{Instance, NumberedSet, versions, versions_from, with_serial}
+use Rattle.vrps.specs.Instance.{Instance, IsInstance, NumberedSet, versions, versions_from, with_serial}
 use Rattle.vrps.specs.Serial.{serial_at}
 use Rattle.vrps.specs.VrpSet.{VrpSet, IsVrpSet, empty, has, listing, set_of, without}
 use Rattle.vrps.proofs.Listed.{part_is_set}
 use Rattle.vrps.proofs.SetLaws.{all_of_members, has-empty, has-union, has-without, listing_ascends, same_set, set_of-listing}
 use Rattle.rtr_pdu.specs.Payloads.{AreBytes}
 use Rattle.rtr_pdu.specs.Unit.{IsUnitOf}
+use Rattle.rtr_pdu.specs.Version.{version_number}
 use Rattle.rtr_pdu.specs.declared.unit.Unit.{Unit}
-use Rattle.rtr_pdu.specs.declared.unit.Unit.TheVariants.{SerialQuery, ResetQuery, CacheResponse, Prefix, EndOfData}
+use Rattle.rtr_pdu.specs.declared.unit.Unit.TheVariants.{SerialQuery, ResetQuery, CacheResponse, Prefix}
 use Rattle.rtr_pdu.proofs.ReadLaws.{AreBytes-take}
-use Rattle.rtr_pdu.specs.declared.version.Version.TheVariants.{V1}
-use Rattle.rtr_ends.specs.Answer.{and_on, and_end, answer, announcements, withdrawals, report, response as response_of, sent, serial_answer, step_answer, whole_answer}
+use Rattle.rtr_pdu.specs.declared.version.Version.{Version}
+use Rattle.rtr_pdu.specs.declared.version.Version.TheVariants.{V0, V1}
+use Rattle.rtr_ends.specs.Answer.{and_on, and_end, answer, announcements, end_of_data, withdrawals, report, response as response_of, sent, serial_answer, session_in, step_answer, whole_answer}
 use Rattle.rtr_ends.specs.Commit.{Commits}
 use Rattle.rtr_ends.specs.Connection.{IsLater}
 use Rattle.rtr_ends.proofs.CommitLaws.{change_commits}
@@ -29,7 +31,7 @@ use Rattle.rtr_world.specs.World.{timing}
 use Rattle.rtr_world.proofs.AnswerLaws.{Plain, plain-append, plain_records, change_leads, whole_leads}
 use Rattle.rtr_world.proofs.Invariant.{FromCache, WasCache, Leads, NoneWithdrawn, WithdrawsFirst, QuestionFits, IsOwn, Replies, nothing_yet, no_data, not_kept, other_session, response}
 use Rattle.rtr_world.proofs.UnitStreams.{all-append, all_bytes}
-use Rattle.rtr_world.proofs.Versions.{Stands, TableAt, Present, kept_at, has_sets, of_present, find_session}
+use Rattle.rtr_world.proofs.Versions.{HeldAt, Stands, Present, kept_at, has_sets, of_present, find_session}
 use Rattle.rtr_world.proofs.LinkedSides.{Seen}
 use Rattle.prefixes.proofs.Basics.{eq_of, eq_true}
 
@@ -37,65 +39,89 @@ not_both : (b : Bool) → b ≡ true → b ≡ false → ⊥
 not_both b h k = let e : true ≡ false = sym h ∙ k in cc
 
 -- units that are no notify, and that can be sent
-pub record IsAnswered (units : List Unit) : Type 0 where
+pub record IsAnswered (pv : Version) (units : List Unit) : Type 0 where
   pub plain : Plain units
-  pub fit : AllByRecursion (IsUnitOf V1) units
+  pub fit : AllByRecursion (IsUnitOf pv) units
 
-answered-append : (us vs : List Unit) → IsAnswered us → IsAnswered vs → IsAnswered (us ++ vs)
-answered-append us vs h k = record { plain = plain-append us vs h.plain k.plain; fit = all-append (IsUnitOf V1) us vs h.fit k.fit }
+answered-append : (pv : Version) (us vs : List Unit) → IsAnswered pv us → IsAnswered pv vs → IsAnswered pv (us ++ vs)
+answered-append pv us vs h k = record { plain = plain-append us vs h.plain k.plain; fit = all-append (IsUnitOf pv) us vs h.fit k.fit }
 
-fit_records : (announce : Bool) (vs : List Payload) → All IsPayload vs → AllByRecursion (IsUnitOf V1) (map (λ v. Prefix announce v) vs)
-fit_records announce [] h = tt
-fit_records announce (v ∷ vs) h = ((All-head IsPayload v vs h, refl), fit_records announce vs (All-tail IsPayload v vs h))
+fit_records : (pv : Version) (announce : Bool) (vs : List Payload) → All IsPayload vs → AllByRecursion (IsUnitOf pv) (map (λ v. Prefix announce v) vs)
+fit_records pv announce [] h = tt
+fit_records pv announce (v ∷ vs) h = ((All-head IsPayload v vs h, refl), fit_records pv announce vs (All-tail IsPayload v vs h))
 
-answered_records : (announce : Bool) (s : VrpSet) → IsVrpSet s → IsAnswered (map (λ v. Prefix announce v) (listing s))
-answered_records announce s h = record { plain = plain_records announce (listing s); fit = fit_records announce (listing s) h.payloads }
+answered_records : (pv : Version) (announce : Bool) (s : VrpSet) → IsVrpSet s → IsAnswered pv (map (λ v. Prefix announce v) (listing s))
+answered_records pv announce s h = record { plain = plain_records announce (listing s); fit = fit_records pv announce (listing s) h.payloads }
 
 pub serial_low : (start position : ℕ) → serial_at start position < 2 ^ 32
 serial_low start position = omega arith
 
-answered_end : (session serial : ℕ) → session < 2 ^ 16 → serial < 2 ^ 32 → IsAnswered (EndOfData session serial timing.refresh timing.retry timing.expire ∷ [])
-answered_end session serial low number = record { plain = tt; fit = (((low, number, omega arith, omega arith, omega arith), refl), tt) }
+-- the end of an answer
+abbrev last_of : Version → ℕ → ℕ → List Unit
+last_of pv session serial = end_of_data pv session serial timing ∷ []
 
-answered_response : (session serial : ℕ) (set : VrpSet) (records : List Unit) → session < 2 ^ 16 → serial < 2 ^ 32 → IsAnswered records → IsAnswered (response_of V1 session timing (record { serial = serial; set = set }) records)
-answered_response session serial set records low number h =
-    let k = answered-append records (EndOfData session serial timing.refresh timing.retry timing.expire ∷ []) h (answered_end session serial low number) in
+answered_end : (pv : Version) (session serial : ℕ) → session < 2 ^ 16 → serial < 2 ^ 32 → IsAnswered pv (last_of pv session serial)
+answered_end V0 session serial low number = record { plain = tt; fit = (((low, number), refl), tt) }
+answered_end V1 session serial low number = record { plain = tt; fit = (((low, number, omega arith, omega arith, omega arith), refl), tt) }
+
+answered_response : (pv : Version) (session serial : ℕ) (set : VrpSet) (records : List Unit) → session < 2 ^ 16 → serial < 2 ^ 32 → IsAnswered pv records → IsAnswered pv (response_of pv session timing (record { serial = serial; set = set }) records)
+answered_response pv session serial set records low number h =
+    let k = answered-append pv records (last_of pv session serial) h (answered_end pv session serial low number) in
     record { plain = k.plain; fit = ((low, refl), k.fit) }
 
+record IsLast (session serial : ℕ) (units : List Unit) : Type 0 where
+  ends : EndsWith session serial units
+  withdraws : withdrawn_in units ≡ []
+  announces : announced_in units ≡ []
+  none : NoneWithdrawn units
+  first : WithdrawsFirst units
+
+is_last : (pv : Version) (session serial : ℕ) → IsLast session serial (last_of pv session serial)
+is_last V0 session serial = record { ends = (refl, refl); withdraws = refl; announces = refl; none = tt; first = tt }
+is_last V1 session serial = record { ends = (refl, refl); withdraws = refl; announces = refl; none = tt; first = tt }
+
 -- reports
-pub answered_report : (code : ℕ) (copy : List ℕ) → code < 2 ^ 16 → AreBytes copy → IsAnswered (report code copy ∷ [])
-answered_report code copy low each =
+pub answered_report : (pv : Version) (code : ℕ) (copy : List ℕ) → code < 2 ^ 16 → AreBytes copy → IsAnswered pv (report code copy ∷ [])
+answered_report pv code copy low each =
     let size = length-take 4080 copy in
     record { plain = tt; fit = (((low, short (length (take 4080 copy)) size, IsUtf8-nil, AreBytes-take 4080 copy each), refl), tt) }
   where
     short : (n : ℕ) → n ≡ min 4080 (length copy) → n + 0 ≤ 4080
     short n e = let m = min-le_left 4080 (length copy) in omega (arith, e, m)
 
-reset_bytes : AreBytes (sent V1 ResetQuery)
-reset_bytes = all_bytes (sent V1 ResetQuery) (omega arith, (omega arith, (omega arith, (omega arith, (omega arith, (omega arith, (omega arith, (omega arith, tt))))))))
+low_version : (pv : Version) → version_number pv < 256
+low_version V0 = omega arith
+low_version V1 = omega arith
 
-serial_bytes : (session serial : ℕ) → AreBytes (sent V1 (SerialQuery session serial))
-serial_bytes session serial =
-    all_bytes (sent V1 (SerialQuery session serial)) (omega arith, (omega arith, (omega arith, (omega arith, (omega arith, (omega arith, (omega arith, (omega arith, (omega arith, (omega arith, (omega arith, (omega arith, tt))))))))))))
+reset_bytes : (pv : Version) → AreBytes (sent pv ResetQuery)
+reset_bytes pv = all_bytes (sent pv ResetQuery) (low_version pv, (omega arith, (omega arith, (omega arith, (omega arith, (omega arith, (omega arith, (omega arith, tt))))))))
+
+serial_bytes : (pv : Version) (session serial : ℕ) → AreBytes (sent pv (SerialQuery session serial))
+serial_bytes pv session serial =
+    all_bytes (sent pv (SerialQuery session serial)) (low_version pv, (omega arith, (omega arith, (omega arith, (omega arith, (omega arith, (omega arith, (omega arith, (omega arith, (omega arith, (omega arith, (omega arith, tt))))))))))))
 
 -- an answer that leads on, with what is asked of its units
-pub record Answers (all : List Instance) (home : Seen) (q : Question) (base : VrpSet) (units : List Unit) : Type 0 where
-  pub replies : Replies all home q base units
-  pub from : FromCache all home q units
-  pub answered : IsAnswered units
+pub record Answers (all : List Instance) (pv : Version) (home : Seen) (q : Question) (base : VrpSet) (units : List Unit) : Type 0 where
+  pub replies : Replies all pv home q base units
+  pub from : FromCache all pv home q units
+  pub answered : IsAnswered pv units
 
-module _ (all : List Instance) (i : Instance) (p : Present all i) (home : Seen) (same : home.session ≡ i.session) (made : length home.sets ≤ length i.sets) where
-  low : i.session < 2 ^ 16
-  low = p.is.session
+pub session_low : (pv : Version) (i : Instance) → IsInstance i → session_in pv i < 2 ^ 16
+session_low V0 i is = is.session0
+session_low V1 i is = is.session
+
+module _ (all : List Instance) (i : Instance) (p : Present all i) (pv : Version) (home : Seen) (same : home.session ≡ session_in pv i) (made : length home.sets ≤ length i.sets) where
+  low : session_in pv i < 2 ^ 16
+  low = session_low pv i p.is
 
   sets_fit : (x : VrpSet) (older : List VrpSet) → i.sets ≡ x ∷ older → IsVrpSet x
   sets_fit x older e = (subst (AllByRecursion IsVrpSet) e p.is.sets).0
 
   -- the newest version
-  newest : (x : VrpSet) (older : List VrpSet) → i.sets ≡ x ∷ older → Stands all home.session (serial_at i.start (length older)) x
+  newest : (x : VrpSet) (older : List VrpSet) → i.sets ≡ x ∷ older → Stands all pv home.session (serial_at i.start (length older)) x
   newest x older e = record {
     i = i;
-    found = subst (λ s. find_session s all ≡ Some i) (sym same) p.found;
+    found = subst (λ s. find_session pv s all ≡ Some i) (sym same) (p.found pv);
     newer = [];
     older = older;
     sets = e;
@@ -112,44 +138,44 @@ module _ (all : List Instance) (i : Instance) (p : Present all i) (home : Seen) 
   is_now later = record {
     since = later;
     latest = i;
-    found = subst (λ s. find_session s all ≡ Some i) (sym later.session) p.found;
+    found = subst (λ s. find_session V1 s all ≡ Some i) (sym later.session) (p.found V1);
     until = record { session = refl; session0 = refl; start = refl; more = []; sets = refl };
   }
 
-  pub from_now : (q : Question) (keep : ℕ) → home.keep ≡ keep → IsLater home.made i → FromCache all home q (answer V1 i keep timing (query q)).units
-  from_now q keep kept later = record { cache = i; was = is_now later; are = ap (λ k. (answer V1 i k timing (query q)).units) (sym kept) }
+  pub from_now : (q : Question) (keep : ℕ) → home.keep ≡ keep → IsLater home.made i → FromCache all pv home q (answer pv i keep timing (query q)).units
+  from_now q keep kept later = record { cache = i; was = is_now later; are = ap (λ k. (answer pv i k timing (query q)).units) (sym kept) }
 
   -- a response with these records
   abbrev tail_of : List Unit → ℕ → ℕ → List Unit
-  tail_of records session serial = records ++ EndOfData session serial timing.refresh timing.retry timing.expire ∷ []
+  tail_of records session serial = records ++ last_of pv session serial
 
   pub record Ends (base x : VrpSet) (session serial : ℕ) (records : List Unit) : Type 0 where
     pub ends : EndsWith session serial (tail_of records session serial)
     pub commits : Commits base (withdrawn_in (tail_of records session serial)) (announced_in (tail_of records session serial)) x
     pub order : WithdrawsFirst (tail_of records session serial)
 
-  responds : (q : Question) (base x : VrpSet) (older : List VrpSet) (records : List Unit) → IsOwn home.session q → i.sets ≡ x ∷ older → IsAnswered records
+  responds : (q : Question) (base x : VrpSet) (older : List VrpSet) (records : List Unit) → IsOwn home.session q → i.sets ≡ x ∷ older → IsAnswered pv records
       → ((session : ℕ) → Leads base (nothing_yet q home.session) (tail_of records session (serial_at i.start (length older))) session (serial_at i.start (length older)) x)
-      → Ends base x i.session (serial_at i.start (length older)) records → FromCache all home q (response_of V1 i.session timing (record { serial = serial_at i.start (length older); set = x }) records)
-      → Answers all home q base (response_of V1 i.session timing (record { serial = serial_at i.start (length older); set = x }) records)
+      → Ends base x (session_in pv i) (serial_at i.start (length older)) records → FromCache all pv home q (response_of pv (session_in pv i) timing (record { serial = serial_at i.start (length older); set = x }) records)
+      → Answers all pv home q base (response_of pv (session_in pv i) timing (record { serial = serial_at i.start (length older); set = x }) records)
   unfolding newest
   responds q base x older records own e h leads ends from =
       let serial : ℕ = serial_at i.start (length older) in
-      let tail : List Unit = tail_of records i.session (serial_at i.start (length older)) in
+      let tail : List Unit = tail_of records (session_in pv i) (serial_at i.start (length older)) in
       record {
         replies = response tail (ap (λ s. CacheResponse s ∷ tail) (sym same)) own (record {
           serial = serial_at i.start (length older);
           set = x;
           stands = newest x older e;
-          leads = subst (λ s. Leads base (nothing_yet q home.session) tail s (serial_at i.start (length older)) x) (sym same) (leads i.session);
+          leads = subst (λ s. Leads base (nothing_yet q home.session) tail s (serial_at i.start (length older)) x) (sym same) (leads (session_in pv i));
           since = since x older e;
-          from = subst (λ s. FromCache all home q (CacheResponse s ∷ tail)) (sym same) from;
+          from = subst (λ s. FromCache all pv home q (CacheResponse s ∷ tail)) (sym same) from;
           ends = subst (λ s. EndsWith s (serial_at i.start (length older)) tail) (sym same) ends.ends;
           commits = ends.commits;
           order = (ends.order, inl refl);
         });
         from = from;
-        answered = answered_response i.session (serial_at i.start (length older)) x records low (serial_low i.start (length older)) h;
+        answered = answered_response pv (session_in pv i) (serial_at i.start (length older)) x records low (serial_low i.start (length older)) h;
       }
 
   -- the records of a change
@@ -185,9 +211,6 @@ module _ (all : List Instance) (i : Instance) (p : Present all i) (home : Seen) 
   withdraws_order [] tail h = h
   withdraws_order (v ∷ vs) tail h = withdraws_order vs tail h
 
-  abbrev last_of : ℕ → ℕ → List Unit
-  last_of session serial = EndOfData session serial timing.refresh timing.retry timing.expire ∷ []
-
   whole_commits : (x : VrpSet) → Commits empty [] (listing x) x
   unfolding IsDistinct
   whole_commits x = record {
@@ -200,82 +223,83 @@ module _ (all : List Instance) (i : Instance) (p : Present all i) (home : Seen) 
 
   whole_ends : (x : VrpSet) (session serial : ℕ) → Ends empty x session serial (announcements x)
   whole_ends x session serial = record {
-    ends = ends_after session serial true (listing x) (last_of session serial) (refl, refl);
-    commits = subst₂ (λ w a. Commits empty w a x) (sym (none_withdrawn (listing x) (last_of session serial))) (sym (announced_then (listing x) (last_of session serial) ∙ append-nil (listing x))) (whole_commits x);
-    order = announces_order (listing x) (last_of session serial) tt tt;
+    ends = ends_after session serial true (listing x) (last_of pv session serial) (is_last pv session serial).ends;
+    commits = subst₂ (λ w a. Commits empty w a x) (sym (none_withdrawn (listing x) (last_of pv session serial) ∙ (is_last pv session serial).withdraws)) (sym (announced_then (listing x) (last_of pv session serial) ∙ ap (λ y. listing x ++ y) (is_last pv session serial).announces ∙ append-nil (listing x))) (whole_commits x);
+    order = announces_order (listing x) (last_of pv session serial) (is_last pv session serial).none (is_last pv session serial).first;
   }
 
   change_ends : (base x : VrpSet) (session serial : ℕ) → Ends base x session serial (withdrawals (without base x) ++ announcements (without x base))
   change_ends base x session serial =
       let gone : List Payload = listing (without base x) in
       let come : List Payload = listing (without x base) in
-      let end : List Unit = last_of session serial in
-      let rest : List Unit = announcements (without x base) ++ last_of session serial in
-      let split : withdrawals (without base x) ++ rest ≡ (withdrawals (without base x) ++ announcements (without x base)) ++ end = sym (append_assoc (withdrawals (without base x)) (announcements (without x base)) (last_of session serial)) in
-      let w : withdrawn_in (withdrawals (without base x) ++ rest) ≡ gone = withdrawn_first gone rest ∙ ap (λ y. gone ++ y) (none_withdrawn come end) ∙ append-nil gone in
-      let a : announced_in (withdrawals (without base x) ++ rest) ≡ come = none_announced gone rest ∙ announced_then come end ∙ append-nil come in
+      let end : List Unit = last_of pv session serial in
+      let last = is_last pv session serial in
+      let rest : List Unit = announcements (without x base) ++ last_of pv session serial in
+      let split : withdrawals (without base x) ++ rest ≡ (withdrawals (without base x) ++ announcements (without x base)) ++ end = sym (append_assoc (withdrawals (without base x)) (announcements (without x base)) (last_of pv session serial)) in
+      let w : withdrawn_in (withdrawals (without base x) ++ rest) ≡ gone = withdrawn_first gone rest ∙ ap (λ y. gone ++ y) (none_withdrawn come end ∙ last.withdraws) ∙ append-nil gone in
+      let a : announced_in (withdrawals (without base x) ++ rest) ≡ come = none_announced gone rest ∙ announced_then come end ∙ ap (λ y. come ++ y) last.announces ∙ append-nil come in
       record {
-        ends = subst (λ y. EndsWith session serial y) split (ends_after session serial false gone rest (ends_after session serial true come end (refl, refl)));
+        ends = subst (λ y. EndsWith session serial y) split (ends_after session serial false gone rest (ends_after session serial true come end last.ends));
         commits = subst (λ y. Commits base (withdrawn_in y) (announced_in y) x) split (subst₂ (λ y z. Commits base y z x) (sym w) (sym a) (change_commits base x));
-        order = subst (λ y. WithdrawsFirst y) split (withdraws_order gone rest (announces_order come end tt tt));
+        order = subst (λ y. WithdrawsFirst y) split (withdraws_order gone rest (announces_order come end last.none last.first));
       }
 
-  reset_answers : (sets : List VrpSet) → i.sets ≡ sets → FromCache all home AskReset (whole_answer V1 i.session timing (versions_from i.start sets)) → Answers all home AskReset empty (whole_answer V1 i.session timing (versions_from i.start sets))
-  reset_answers [] e from = record { replies = no_data (sent V1 ResetQuery) refl refl; from = from; answered = answered_report 2 (sent V1 ResetQuery) (omega arith) reset_bytes }
+  reset_answers : (sets : List VrpSet) → i.sets ≡ sets → FromCache all pv home AskReset (whole_answer pv (session_in pv i) timing (versions_from i.start sets)) → Answers all pv home AskReset empty (whole_answer pv (session_in pv i) timing (versions_from i.start sets))
+  reset_answers [] e from = record { replies = no_data (sent pv ResetQuery) refl refl; from = from; answered = answered_report pv 2 (sent pv ResetQuery) (omega arith) (reset_bytes pv) }
   reset_answers (x ∷ older) e from =
-      responds AskReset empty x older (announcements x) tt e (answered_records true x (sets_fit x older e))
-      (λ session. whole_leads x (nothing_yet AskReset home.session) session (serial_at i.start (length older)) timing.refresh timing.retry timing.expire (sets_fit x older e).within_limit refl refl)
-      (whole_ends x i.session (serial_at i.start (length older))) from
+      responds AskReset empty x older (announcements x) tt e (answered_records pv true x (sets_fit x older e))
+      (λ session. whole_leads x (nothing_yet AskReset home.session) pv session (serial_at i.start (length older)) timing (sets_fit x older e).within_limit refl refl)
+      (whole_ends x (session_in pv i) (serial_at i.start (length older))) from
 
   abbrev answer_to : VrpSet → List VrpSet → Option NumberedSet → List Unit
-  answer_to x older o = step_answer V1 i.session timing (record { serial = serial_at i.start (length older); set = x }) o
+  answer_to x older o = step_answer pv (session_in pv i) timing (record { serial = serial_at i.start (length older); set = x }) o
 
   step_answers : (one serial : ℕ) (table x : VrpSet) (older : List VrpSet) (o : Option NumberedSet) → one ≡ home.session → i.sets ≡ x ∷ older → IsVrpSet table → (o ≡ None) ⊎ (o ≡ Some (record { serial = serial; set = table }))
-      → FromCache all home (AskSerial one serial) (answer_to x older o) → Answers all home (AskSerial one serial) table (answer_to x older o)
+      → FromCache all pv home (AskSerial one serial) (answer_to x older o) → Answers all pv home (AskSerial one serial) table (answer_to x older o)
   step_answers one serial table x older o own e fits (inl f) from =
-      subst (λ v. Answers all home (AskSerial one serial) table (answer_to x older v)) (sym f)
-      (record { replies = not_kept serial (ap (λ s. AskSerial s serial) own) refl; from = subst (λ v. FromCache all home (AskSerial one serial) (answer_to x older v)) f from; answered = record { plain = tt; fit = ((tt, refl), tt) } })
+      subst (λ v. Answers all pv home (AskSerial one serial) table (answer_to x older v)) (sym f)
+      (record { replies = not_kept serial (ap (λ s. AskSerial s serial) own) refl; from = subst (λ v. FromCache all pv home (AskSerial one serial) (answer_to x older v)) f from; answered = record { plain = tt; fit = ((tt, refl), tt) } })
   step_answers one serial table x older o own e fits (inr f) from =
-      subst (λ v. Answers all home (AskSerial one serial) table (answer_to x older v)) (sym f)
+      subst (λ v. Answers all pv home (AskSerial one serial) table (answer_to x older v)) (sym f)
       (responds (AskSerial one serial) table x older (withdrawals (without table x) ++ announcements (without x table)) own e
-      (answered-append (withdrawals (without table x)) (announcements (without x table)) (answered_records false (without table x) (part_is_set table x fits)) (answered_records true (without x table) (part_is_set x table (sets_fit x older e))))
-      (λ session. change_leads table x (nothing_yet (AskSerial one serial) home.session) session (serial_at i.start (length older)) timing.refresh timing.retry timing.expire (sets_fit x older e).within_limit refl refl)
-      (change_ends table x i.session (serial_at i.start (length older))) (subst (λ v. FromCache all home (AskSerial one serial) (answer_to x older v)) f from))
+      (answered-append pv (withdrawals (without table x)) (announcements (without x table)) (answered_records pv false (without table x) (part_is_set table x fits)) (answered_records pv true (without x table) (part_is_set x table (sets_fit x older e))))
+      (λ session. change_leads table x (nothing_yet (AskSerial one serial) home.session) pv session (serial_at i.start (length older)) timing (sets_fit x older e).within_limit refl refl)
+      (change_ends table x (session_in pv i) (serial_at i.start (length older))) (subst (λ v. FromCache all pv home (AskSerial one serial) (answer_to x older v)) f from))
 
   -- a set of the instance can be published
   one_fits : (newer : List VrpSet) (set : VrpSet) (older : List VrpSet) → AllByRecursion IsVrpSet (newer ++ set ∷ older) → IsVrpSet set
   one_fits [] set older h = h.0
   one_fits (x ∷ newer) set older h = one_fits newer set older h.1
 
-  table_fits : (one serial : ℕ) (table : VrpSet) (a : Stands all one serial table) → one ≡ i.session → IsVrpSet table
+  table_fits : (one serial : ℕ) (table : VrpSet) (a : Stands all pv one serial table) → one ≡ session_in pv i → IsVrpSet table
   table_fits one serial table a e =
-      let found = of_present all i p one serial table a e in
+      let found = of_present all i p pv one serial table a e in
       one_fits a.newer table a.older (subst (AllByRecursion IsVrpSet) (ap (λ x. x.sets) (sym found) ∙ a.sets) p.is.sets)
 
-  serial_answers : (keep one serial : ℕ) (table : VrpSet) (sets : List VrpSet) → one ≡ i.session → Stands all one serial table → i.sets ≡ sets → FromCache all home (AskSerial one serial) (serial_answer V1 i.session keep timing serial (versions_from i.start sets))
-      → Answers all home (AskSerial one serial) table (serial_answer V1 i.session keep timing serial (versions_from i.start sets))
-  serial_answers keep one serial table [] own a e from = absurd (has_sets all i p one serial table a own e)
+  serial_answers : (keep one serial : ℕ) (table : VrpSet) (sets : List VrpSet) → one ≡ session_in pv i → Stands all pv one serial table → i.sets ≡ sets → FromCache all pv home (AskSerial one serial) (serial_answer pv (session_in pv i) keep timing serial (versions_from i.start sets))
+      → Answers all pv home (AskSerial one serial) table (serial_answer pv (session_in pv i) keep timing serial (versions_from i.start sets))
+  serial_answers keep one serial table [] own a e from = absurd (has_sets all i p pv one serial table a own e)
   serial_answers keep one serial table (x ∷ older) own a e from =
       step_answers one serial table x older (with_serial serial (take (suc keep) (versions_from i.start (x ∷ older)))) (own ∙ sym same) e (table_fits one serial table a own)
-      (subst (λ l. (with_serial serial (take (suc keep) (versions_from i.start l)) ≡ None) ⊎ (with_serial serial (take (suc keep) (versions_from i.start l)) ≡ Some (record { serial = serial; set = table }))) e (kept_at all i p (suc keep) one serial table a own))
+      (subst (λ l. (with_serial serial (take (suc keep) (versions_from i.start l)) ≡ None) ⊎ (with_serial serial (take (suc keep) (versions_from i.start l)) ≡ Some (record { serial = serial; set = table }))) e (kept_at all i p (suc keep) pv one serial table a own))
       from
 
   -- The answer to a question that fits what is committed
-  pub answer_answers : (keep : ℕ) (q : Question) (version : Option Committed) (table : VrpSet) → QuestionFits home.session q version → TableAt all version table → FromCache all home q (answer V1 i keep timing (query q)).units → Answers all home q (base_of q table) (answer V1 i keep timing (query q)).units
+  pub answer_answers : (keep : ℕ) (q : Question) (version : Option Committed) (table : VrpSet) → QuestionFits home.session q version → HeldAt all pv version table → FromCache all pv home q (answer pv i keep timing (query q)).units → Answers all pv home q (base_of q table) (answer pv i keep timing (query q)).units
   answer_answers keep AskReset version table f t from = reset_answers i.sets refl from
   answer_answers keep (AskSerial one serial) None table f t from = absurd f
-  answer_answers keep (AskSerial one serial) (Some version) table f t from = by_session (one == i.session) refl from
+  answer_answers keep (AskSerial one serial) (Some version) table f t from = by_session (one == session_in pv i) refl from
     where
-      stands : Stands all one serial table
-      stands = subst₂ (λ a b. Stands all a b table) (sym f.0) (sym f.1) t
+      stands : Stands all pv one serial table
+      stands = subst₂ (λ a b. Stands all pv a b table) (sym f.0) (sym f.1) t
 
       units_by : Bool → List Unit
-      units_by b = (if b then and_on (serial_answer V1 i.session keep timing serial (versions i)) else and_end (report 0 (sent V1 (SerialQuery one serial)) ∷ [])).units
+      units_by b = (if b then and_on (serial_answer pv (session_in pv i) keep timing serial (versions i)) else and_end (report 0 (sent pv (SerialQuery one serial)) ∷ [])).units
 
-      by_session : (b : Bool) → (one == i.session) ≡ b → FromCache all home (AskSerial one serial) (units_by b) → Answers all home (AskSerial one serial) table (units_by b)
-      by_session true e from = serial_answers keep one serial table i.sets (eq_of one i.session e) stands refl from
+      by_session : (b : Bool) → (one == session_in pv i) ≡ b → FromCache all pv home (AskSerial one serial) (units_by b) → Answers all pv home (AskSerial one serial) table (units_by b)
+      by_session true e from = serial_answers keep one serial table i.sets (eq_of one (session_in pv i) e) stands refl from
       by_session false e from = record {
-        replies = other_session one serial (sent V1 (SerialQuery one serial)) refl (λ x. not_both (one == i.session) (eq_true one i.session (x ∙ same)) e) refl;
+        replies = other_session one serial (sent pv (SerialQuery one serial)) refl (λ x. not_both (one == session_in pv i) (eq_true one (session_in pv i) (x ∙ same)) e) refl;
         from = from;
-        answered = answered_report 0 (sent V1 (SerialQuery one serial)) (omega arith) (serial_bytes one serial);
+        answered = answered_report pv 0 (sent pv (SerialQuery one serial)) (omega arith) (serial_bytes pv one serial);
       }

@@ -6,13 +6,13 @@ use Rattle.std.proofs.lemmas.List.{length-append}
 use Rattle.vrps.specs.Instance.{Instance, NumberedSet, versions_from, with_serial}
 use Rattle.vrps.specs.Serial.{serial_at}
 use Rattle.vrps.specs.VrpSet.{VrpSet}
-use Rattle.rtr_pdu.specs.declared.version.Version.TheVariants.{V1}
+use Rattle.rtr_pdu.specs.declared.version.Version.{Version}
 use Rattle.rtr_pdu.specs.Judging.{judge}
 use Rattle.rtr_pdu.specs.Unit.{IsUnitOf}
 use Rattle.rtr_pdu.specs.declared.unit.Unit.{Unit}
 use Rattle.rtr_pdu.specs.declared.unit.Unit.TheVariants.{SerialQuery, ResetQuery, CacheReset, ErrorReport}
 use Rattle.rtr_pdu.proofs.NextLaws.{judge_part, judge_sent, some_sent}
-use Rattle.rtr_ends.specs.Answer.{Reply, and_end, and_on, answer, report, sent, sent_all, serial_answer, step_answer, whole_answer}
+use Rattle.rtr_ends.specs.Answer.{Reply, and_end, and_on, answer, report, sent, sent_all, serial_answer, session_in, step_answer, whole_answer}
 use Rattle.rtr_ends.specs.Cache.{Conn, Taking, conn_byte, conn_stops, conn_takes, finds_memory, is_none, conn_judged, version_at, with_moment}
 use Rattle.rtr_ends.specs.Connection.{Read, Wanting, takes_memory}
 use Rattle.rtr_ends.specs.Transcript.{AskReset, AskSerial, Question, query}
@@ -28,93 +28,93 @@ pub other_report : (one other : ℕ) (copy copied : List ℕ) → (one ≡ other
 other_report one other copy copied differs e = let same : report one copy ≡ report other copied = cc in differs (ap code_of same)
 
 -- The connection goes on after an answer, save after Error Report 0.
-pub goes_or_other : (i : Instance) (keep : ℕ) (q : Question) → ((answer V1 i keep timing (query q)).goes_on ≡ true) ⊎ ((copy : List ℕ) × ((answer V1 i keep timing (query q)).units ≡ report 0 copy ∷ []))
-goes_or_other i keep AskReset = inl refl
-goes_or_other i keep (AskSerial session serial) = by_session (session == i.session)
+pub goes_or_other : (pv : Version) (i : Instance) (keep : ℕ) (q : Question) → ((answer pv i keep timing (query q)).goes_on ≡ true) ⊎ ((copy : List ℕ) × ((answer pv i keep timing (query q)).units ≡ report 0 copy ∷ []))
+goes_or_other pv i keep AskReset = inl refl
+goes_or_other pv i keep (AskSerial session serial) = by_session (session == session_in pv i)
   where
     reply : Bool → Reply
-    reply b = if b then and_on (serial_answer V1 i.session keep timing serial (versions_from i.start i.sets)) else and_end (report 0 (sent V1 (SerialQuery session serial)) ∷ [])
+    reply b = if b then and_on (serial_answer pv (session_in pv i) keep timing serial (versions_from i.start i.sets)) else and_end (report 0 (sent pv (SerialQuery session serial)) ∷ [])
 
     by_session : (b : Bool) → ((reply b).goes_on ≡ true) ⊎ ((copy : List ℕ) × ((reply b).units ≡ report 0 copy ∷ []))
     by_session true = inl refl
-    by_session false = inr (sent V1 (SerialQuery session serial), refl)
+    by_session false = inr (sent pv (SerialQuery session serial), refl)
 
 -- Error Report 1 is no answer.
-pub no_wanting : (i : Instance) (keep : ℕ) (q : Question) → (answer V1 i keep timing (query q)).units ≡ report 1 [] ∷ [] → ⊥
-no_wanting i keep AskReset = by_sets i.sets
+pub no_wanting : (pv : Version) (i : Instance) (keep : ℕ) (q : Question) → (answer pv i keep timing (query q)).units ≡ report 1 [] ∷ [] → ⊥
+no_wanting pv i keep AskReset = by_sets i.sets
   where
-    by_sets : (sets : List VrpSet) → whole_answer V1 i.session timing (versions_from i.start sets) ≡ report 1 [] ∷ [] → ⊥
-    by_sets [] e = other_report 2 1 (sent V1 ResetQuery) [] (λ k. absurd (omega (arith, k))) e
-    by_sets (x ∷ older) e = let k : whole_answer V1 i.session timing (versions_from i.start (x ∷ older)) ≡ report 1 [] ∷ [] = e in cc
-no_wanting i keep (AskSerial session serial) = by_session (session == i.session)
+    by_sets : (sets : List VrpSet) → whole_answer pv (session_in pv i) timing (versions_from i.start sets) ≡ report 1 [] ∷ [] → ⊥
+    by_sets [] e = other_report 2 1 (sent pv ResetQuery) [] (λ k. absurd (omega (arith, k))) e
+    by_sets (x ∷ older) e = let k : whole_answer pv (session_in pv i) timing (versions_from i.start (x ∷ older)) ≡ report 1 [] ∷ [] = e in cc
+no_wanting pv i keep (AskSerial session serial) = by_session (session == session_in pv i)
   where
-    by_step : (now : NumberedSet) (o : Option NumberedSet) → step_answer V1 i.session timing now o ≡ report 1 [] ∷ [] → ⊥
+    by_step : (now : NumberedSet) (o : Option NumberedSet) → step_answer pv (session_in pv i) timing now o ≡ report 1 [] ∷ [] → ⊥
     by_step now None e = let k : CacheReset ∷ [] ≡ report 1 [] ∷ [] = e in cc
-    by_step now (Some before) e = let k : step_answer V1 i.session timing now (Some before) ≡ report 1 [] ∷ [] = e in cc
+    by_step now (Some before) e = let k : step_answer pv (session_in pv i) timing now (Some before) ≡ report 1 [] ∷ [] = e in cc
 
-    by_sets : (sets : List VrpSet) → serial_answer V1 i.session keep timing serial (versions_from i.start sets) ≡ report 1 [] ∷ [] → ⊥
-    by_sets [] e = other_report 2 1 (sent V1 (SerialQuery i.session serial)) [] (λ k. absurd (omega (arith, k))) e
+    by_sets : (sets : List VrpSet) → serial_answer pv (session_in pv i) keep timing serial (versions_from i.start sets) ≡ report 1 [] ∷ [] → ⊥
+    by_sets [] e = other_report 2 1 (sent pv (SerialQuery (session_in pv i) serial)) [] (λ k. absurd (omega (arith, k))) e
     by_sets (x ∷ older) e =
         let now : NumberedSet = record { serial = serial_at i.start (length older); set = x } in
         by_step (record { serial = serial_at i.start (length older); set = x }) (with_serial serial (record { serial = serial_at i.start (length older); set = x } ∷ take keep (versions_from i.start older))) e
 
-    by_session : (b : Bool) → (if b then and_on (serial_answer V1 i.session keep timing serial (versions_from i.start i.sets)) else and_end (report 0 (sent V1 (SerialQuery session serial)) ∷ [])).units ≡ report 1 [] ∷ [] → ⊥
+    by_session : (b : Bool) → (if b then and_on (serial_answer pv (session_in pv i) keep timing serial (versions_from i.start i.sets)) else and_end (report 0 (sent pv (SerialQuery session serial)) ∷ [])).units ≡ report 1 [] ∷ [] → ⊥
     by_session true e = by_sets i.sets e
-    by_session false e = other_report 0 1 (sent V1 (SerialQuery session serial)) [] (λ k. absurd (omega (arith, k))) e
+    by_session false e = other_report 0 1 (sent pv (SerialQuery session serial)) [] (λ k. absurd (omega (arith, k))) e
 
-module _ (keep : ℕ) (i : Instance) (u : Unit) (fits : IsUnitOf V1 u) (wanting : Option ℕ) where
+module _ (keep : ℕ) (i : Instance) (pv : Version) (u : Unit) (fits : IsUnitOf pv u) (wanting : Option ℕ) where
   -- what is due once the unit is read, and whether the connection has ended then: its answer, or Error Report 1 in its place
   abbrev pub IsDue : Bool → List Unit → Type 0
-  IsDue ended units = ((units ≡ (answer V1 i keep timing u).units) × (ended ≡ not (answer V1 i keep timing u).goes_on)) ⊎ ((units ≡ report 1 [] ∷ []) × (wanting ≡ None → ⊥))
+  IsDue ended units = ((units ≡ (answer pv i keep timing u).units) × (ended ≡ not (answer pv i keep timing u).goes_on)) ⊎ ((units ≡ report 1 [] ∷ []) × (wanting ≡ None → ⊥))
 
   pub record IsRead (o : Conn) : Type 0 where
     pub units : List Unit
-    pub due : o.state.due ≡ sent_all V1 units
+    pub due : o.state.due ≡ sent_all pv units
     pub reply : IsDue o.state.ended units
     pub held : o.held ≡ []
-    pub spoken : MaySpeak V1 o.state.version
+    pub spoken : MaySpeak pv o.state.version
 
   -- some of it is to come
   record Comes (rest : List ℕ) (m : Taking) : Type 0 where
     next : ℕ
     more : List ℕ
     rest_is : rest ≡ next ∷ more
-    whole : m.conn.held ++ rest ≡ sent V1 u
+    whole : m.conn.held ++ rest ≡ sent pv u
     due : m.conn.state.due ≡ []
     on : m.conn.state.ended ≡ false
     same : m.wanting ≡ wanting
-    spoken : MaySpeak V1 m.conn.state.version
+    spoken : MaySpeak pv m.conn.state.version
 
   abbrev Reads : List ℕ → Taking → Type 0
   Reads rest m = Comes rest m ⊎ ((rest ≡ []) × IsRead m.conn)
 
-  byte_whole : (m : Taking) (bytes : List ℕ) → m.wanting ≡ wanting → IsRead (with_moment keep timing bytes m.conn (Some (if takes_memory V1 i u && not (finds_memory m.wanting) then Wanting V1 i u bytes else Read V1 i u bytes)))
-  byte_whole m bytes same = by_memory (takes_memory V1 i u && not (finds_memory m.wanting)) refl
+  byte_whole : (m : Taking) (bytes : List ℕ) → m.wanting ≡ wanting → IsRead (with_moment keep timing bytes m.conn (Some (if takes_memory pv i u && not (finds_memory m.wanting) then Wanting pv i u bytes else Read pv i u bytes)))
+  byte_whole m bytes same = by_memory (takes_memory pv i u && not (finds_memory m.wanting)) refl
     where
-      lacks : (takes_memory V1 i u && not (finds_memory m.wanting)) ≡ true → wanting ≡ None → ⊥
+      lacks : (takes_memory pv i u && not (finds_memory m.wanting)) ≡ true → wanting ≡ None → ⊥
       lacks e none =
-          let parts = and_parts (takes_memory V1 i u) (not (finds_memory m.wanting)) e in
+          let parts = and_parts (takes_memory pv i u) (not (finds_memory m.wanting)) e in
           let finds : false ≡ true = ap (λ x. not (finds_memory x)) (sym (same ∙ none)) ∙ parts.1 in cc
 
-      by_memory : (b : Bool) → (takes_memory V1 i u && not (finds_memory m.wanting)) ≡ b → IsRead (with_moment keep timing bytes m.conn (Some (if b then Wanting V1 i u bytes else Read V1 i u bytes)))
+      by_memory : (b : Bool) → (takes_memory pv i u && not (finds_memory m.wanting)) ≡ b → IsRead (with_moment keep timing bytes m.conn (Some (if b then Wanting pv i u bytes else Read pv i u bytes)))
       by_memory true e = record { units = report 1 [] ∷ []; due = refl; reply = inr (refl, lacks e); held = refl; spoken = refl }
-      by_memory false e = record { units = (answer V1 i keep timing u).units; due = refl; reply = inl (refl, refl); held = refl; spoken = refl }
+      by_memory false e = record { units = (answer pv i keep timing u).units; due = refl; reply = inl (refl, refl); held = refl; spoken = refl }
 
-  byte_comes : (rest : List ℕ) (m : Taking) (b : ℕ) → m.conn.held ++ b ∷ rest ≡ sent V1 u → m.conn.state.due ≡ [] → m.conn.state.ended ≡ false → m.wanting ≡ wanting → MaySpeak V1 m.conn.state.version → Reads rest (conn_byte keep timing i m b)
+  byte_comes : (rest : List ℕ) (m : Taking) (b : ℕ) → m.conn.held ++ b ∷ rest ≡ sent pv u → m.conn.state.due ≡ [] → m.conn.state.ended ≡ false → m.wanting ≡ wanting → MaySpeak pv m.conn.state.version → Reads rest (conn_byte keep timing i m b)
   unfolding conn_byte
   byte_comes rest m b whole due on same spoken =
-      let version : version_at m.conn (b ∷ []) ≡ V1 =
-      part_version V1 m.conn.state.version u (m.conn.held ++ b ∷ []) rest spoken (append_assoc m.conn.held (b ∷ []) rest ∙ whole) (omega (arith, length-append m.conn.held (b ∷ []))) in
+      let version : version_at m.conn (b ∷ []) ≡ pv =
+      part_version pv m.conn.state.version u (m.conn.held ++ b ∷ []) rest spoken (append_assoc m.conn.held (b ∷ []) rest ∙ whole) (omega (arith, length-append m.conn.held (b ∷ []))) in
       subst (λ v. Reads rest (conn_judged keep timing i m v (m.conn.held ++ b ∷ []) (judge v false (m.conn.held ++ b ∷ [])))) (sym version) (by_rest rest whole)
     where
-      by_rest : (rest : List ℕ) → m.conn.held ++ b ∷ rest ≡ sent V1 u → Reads rest (conn_judged keep timing i m V1 (m.conn.held ++ b ∷ []) (judge V1 false (m.conn.held ++ b ∷ [])))
+      by_rest : (rest : List ℕ) → m.conn.held ++ b ∷ rest ≡ sent pv u → Reads rest (conn_judged keep timing i m pv (m.conn.held ++ b ∷ []) (judge pv false (m.conn.held ++ b ∷ [])))
       by_rest [] whole =
-          let is = ap (judge V1 false) whole ∙ judge_sent V1 false u fits.0 fits.1 in
-          subst (λ j. Reads [] (conn_judged keep timing i m V1 (m.conn.held ++ b ∷ []) j)) (sym is) (inr (refl, byte_whole m (m.conn.held ++ b ∷ []) same))
+          let is = ap (judge pv false) whole ∙ judge_sent pv false u fits.0 fits.1 in
+          subst (λ j. Reads [] (conn_judged keep timing i m pv (m.conn.held ++ b ∷ []) j)) (sym is) (inr (refl, byte_whole m (m.conn.held ++ b ∷ []) same))
       by_rest (c ∷ rest) whole =
-          let begun : (m.conn.held ++ b ∷ []) ++ c ∷ rest ≡ sent V1 u = append_assoc m.conn.held (b ∷ []) (c ∷ rest) ∙ whole in
-          let is = judge_part V1 false u (m.conn.held ++ b ∷ []) rest c fits.0 fits.1 begun in
-          subst (λ j. Reads (c ∷ rest) (conn_judged keep timing i m V1 (m.conn.held ++ b ∷ []) j)) (sym is)
+          let begun : (m.conn.held ++ b ∷ []) ++ c ∷ rest ≡ sent pv u = append_assoc m.conn.held (b ∷ []) (c ∷ rest) ∙ whole in
+          let is = judge_part pv false u (m.conn.held ++ b ∷ []) rest c fits.0 fits.1 begun in
+          subst (λ j. Reads (c ∷ rest) (conn_judged keep timing i m pv (m.conn.held ++ b ∷ []) j)) (sym is)
           (inl (record { next = c; more = rest; rest_is = refl; whole = begun; due = due; on = on; same = same; spoken = spoken }))
 
   reads_byte : (b : ℕ) (rest : List ℕ) (m : Taking) → conn_stops m.conn ≡ false → Reads (b ∷ rest) m → Reads rest (conn_byte keep timing i m b)
@@ -129,11 +129,11 @@ module _ (keep : ℕ) (i : Instance) (u : Unit) (fits : IsUnitOf V1 u) (wanting 
       let some = ap length c.rest_is in
       absurd (let e : true ≡ false = sym (stops (omega (arith, some))) ∙ on in cc)
 
-  start : (bytes : List ℕ) (o : Conn) → bytes ≡ sent V1 u → o.held ≡ [] → MaySpeak V1 o.state.version → o.state.due ≡ [] → o.state.ended ≡ false → Reads bytes (record { conn = o; moments = []; wanting = wanting })
-  start [] o e held spoken due on = absurd (some_sent V1 u (sym e))
+  start : (bytes : List ℕ) (o : Conn) → bytes ≡ sent pv u → o.held ≡ [] → MaySpeak pv o.state.version → o.state.due ≡ [] → o.state.ended ≡ false → Reads bytes (record { conn = o; moments = []; wanting = wanting })
+  start [] o e held spoken due on = absurd (some_sent pv u (sym e))
   start (b ∷ bytes) o e held spoken due on = inl (record { next = b; more = bytes; rest_is = refl; whole = ap (λ x. x ++ b ∷ bytes) held ∙ e; due = due; on = on; same = refl; spoken = spoken })
 
-  pub is_read : (bytes : List ℕ) (o : Conn) → bytes ≡ sent V1 u → o.held ≡ [] → MaySpeak V1 o.state.version → o.state.due ≡ [] → o.state.ended ≡ false
+  pub is_read : (bytes : List ℕ) (o : Conn) → bytes ≡ sent pv u → o.held ≡ [] → MaySpeak pv o.state.version → o.state.due ≡ [] → o.state.ended ≡ false
       → ((conn_takes keep timing i wanting bytes o).rest ≡ []) × IsRead (conn_takes keep timing i wanting bytes o).machine.conn
   unfolding conn_takes
   is_read bytes o e held spoken due on =

@@ -2,13 +2,12 @@
 use Rattle.std.specs.Prelude.{◌≡◌, ◌⊎◌, ℕ, true, false, List, [], ◌∷◌, Option, Some, None, IsSome, refl}
 use Rattle.std.proofs.Common.{sym, ap, ◌∙◌, subst, subst₂, arith, inl, inr}
 use Rattle.std.specs.List.{AllByRecursion}
-use Rattle.rtr_pdu.specs.declared.version.Version.TheVariants.{V1}
-use Rattle.rtr_ends.specs.Answer.{sent}
+use Rattle.rtr_ends.specs.Answer.{sent, session_in}
 use Rattle.rtr_ends.specs.Cache.{new_conn}
 use Rattle.rtr_ends.specs.LinkRules.{Router}
 use Rattle.rtr_ends.specs.Router.{clocked, close, connects_at}
 use Rattle.rtr_ends.specs.RouterLink.{Idle, Asked}
-use Rattle.rtr_ends.specs.Transcript.{AskReset, Committed, Question, choose, is_serial, query}
+use Rattle.rtr_ends.specs.Transcript.{AskReset, Committed, Question, choose, is_serial, of_version, query}
 use Rattle.rtr_ends.proofs.TableLaws.{false_true}
 use Rattle.rtr_world.specs.CatchUp.{EachCatchesUp, IdleAfter, IdleNext, IdleSoon, Rests, RestsNext, RestsSo, RestsSoon, RoundsEnd, round}
 use Rattle.rtr_world.specs.History.{Entry, Leads, Made}
@@ -50,13 +49,19 @@ module _ (w : World) (p : Present (instances w) w.present) where
       by_end (asks_all serial b) = inr (b.link, rests_next h n b)
 
   -- a connection that is just made
-  asks_new : (s : Side) (q : Question) → choose (close (clocked s.router.now s.router)).version (close (clocked s.router.now s.router)).mark ≡ q → (close (clocked s.router.now s.router)).held ≡ []
-      → QuestionFits w.present.session q (close (clocked s.router.now s.router)).version → TableAt (instances w) (close (clocked s.router.now s.router)).version (close (clocked s.router.now s.router)).table
-      → Asks w p (seen_at w.keep w.present) q (settle (instances w) (connects w s))
+  abbrev closed_of : Side → Router
+  closed_of s = close (clocked s.router.now s.router)
+
+  abbrev seen_new : Side → Seen
+  seen_new s = seen_at w.keep (closed_of s).speaks w.present
+
+  asks_new : (s : Side) (q : Question) → choose (of_version (closed_of s).speaks (closed_of s).version) (closed_of s).mark ≡ q → (closed_of s).held ≡ []
+      → QuestionFits (session_in (closed_of s).speaks w.present) q (of_version (closed_of s).speaks (closed_of s).version) → TableAt (instances w) (closed_of s).version (closed_of s).table
+      → Asks w p (seen_new s) q (settle (instances w) (connects w s))
   unfolding connects connects_at
   asks_new s q e held fits table =
       let same = settle_open (instances w) (connects w s) (new_conn w.present) refl (λ e. absurd (let k : false ≡ true = e in cc)) refl in
-      subst (λ x. Asks w p (seen_at w.keep w.present) q x) (sym same) (record {
+      subst (λ x. Asks w p (seen_new s) q x) (sym same) (record {
         knows = record {
           session = refl;
           made = omega arith;
@@ -74,29 +79,29 @@ module _ (w : World) (p : Present (instances w) w.present) where
         up = refl;
         down = refl;
         link = ap (λ x. Asked x) e;
-        out = ap (λ x. sent V1 (query x)) e;
+        out = ap (λ x. sent (closed_of s).speaks (query x)) e;
         router_held = held;
       })
 
   -- A Serial Query is of a session that is held.
-  holds_some : (now : ℕ) (r : Router) (version : Option Committed) → r.version ≡ version → is_serial (Some (choose (close (clocked now r)).version (close (clocked now r)).mark)) ≡ true → IsSome version
+  holds_some : (now : ℕ) (r : Router) (version : Option Committed) → r.version ≡ version → is_serial (Some (choose (of_version (close (clocked now r)).speaks (close (clocked now r)).version) (close (clocked now r)).mark)) ≡ true → IsSome version
   holds_some now r (Some version) is asks = refl
-  holds_some now r None is asks = false_true (ap (λ v. is_serial (Some (choose v (close (clocked now r)).mark))) (sym (clocked_none now r is)) ∙ asks)
+  holds_some now r None is asks = false_true (ap (λ v. is_serial (Some (choose (of_version (close (clocked now r)).speaks v) (close (clocked now r)).mark))) (sym (clocked_none now r is)) ∙ asks)
 
-  connects_asks : (s : Side) → Good w.keep w.past w.present s → (q : Question) × (Asks w p (seen_at w.keep w.present) q (settle (instances w) (connects w s)) × (is_serial (Some q) ≡ true → IsSome s.router.version))
+  connects_asks : (s : Side) → Good w.keep w.past w.present s → (q : Question) × (Asks w p (seen_new s) q (settle (instances w) (connects w s)) × (is_serial (Some q) ≡ true → IsSome s.router.version))
   connects_asks s g =
       let told = clocked_good (instances w) w.present g.seen s.conn s.up s.down s.router.now s.router g.router in
       let shut = close_shut (instances w) w.present g.seen s.conn s.up s.down (clocked s.router.now s.router) told in
       let r : Router = close (clocked s.router.now s.router) in
-      let q : Question = choose r.version r.mark in
-      (q, (asks_new s q refl shut.held (first_fits w.present.session r.version r.mark shut.unmarked) shut.table, holds_some s.router.now s.router s.router.version refl))
+      let q : Question = choose (of_version r.speaks r.version) r.mark in
+      (q, (asks_new s q refl shut.held (first_fits (session_in r.speaks w.present) (of_version r.speaks r.version) r.mark shut.unmarked) shut.table, holds_some s.router.now s.router s.router.version refl))
 
   -- A router that was emptied asks for all.
-  emptied_asks : (s : Side) → Emptied s.router → Asks w p (seen_at w.keep w.present) AskReset (settle (instances w) (connects w s))
+  emptied_asks : (s : Side) → Emptied s.router → Asks w p (seen_new s) AskReset (settle (instances w) (connects w s))
   emptied_asks s e =
       let k = clocked_emptied s.router.now s.router e in
       let r : Router = close (clocked s.router.now s.router) in
-      asks_new s AskReset (ap (λ v. choose v r.mark) k.version) k.held (subst (λ v. Mine w.present.session v) (sym k.version) tt) (subst₂ (λ v t. TableAt (instances w) v t) (sym k.version) (sym k.table) refl)
+      asks_new s AskReset (ap (λ v. choose (of_version r.speaks v) r.mark) k.version) k.held (subst (λ v. Mine (session_in r.speaks w.present) (of_version r.speaks v)) (sym k.version) tt) (subst₂ (λ v t. TableAt (instances w) v t) (sym k.version) (sym k.table) refl)
 
   -- where no memory was wanting
   idle_next : (h : Seen) (s : Side) → Asks w p h AskReset s → IdleNext w s
@@ -118,18 +123,18 @@ module _ (w : World) (p : Present (instances w) w.present) where
       by_end (idles is quiet) = inl is
       by_end (asks_all serial b) = inr (inl (b.link, idle_next h n b))
       by_end (closes is (inl lacking)) = absurd (lacking refl refl)
-      by_end (closes is (inr e)) = inr (inr (some e.0, is, e.1.version, idle_next (seen_at w.keep w.present) (settle (instances w) (connects w n)) (emptied_asks n e.1)))
+      by_end (closes is (inr e)) = inr (inr (some e.0, is, e.1.version, idle_next (seen_new n) (settle (instances w) (connects w n)) (emptied_asks n e.1)))
 
   each_rests : (sides : List Side) → AllByRecursion (Good w.keep w.past w.present) sides → AllByRecursion (λ s. RestsSoon w (settle (instances w) (connects w s))) sides
   each_rests [] g = tt
-  each_rests (s ∷ sides) g = (let a = connects_asks s g.0 in rests_soon (seen_at w.keep w.present) a.0 (settle (instances w) (connects w s)) a.1.0, each_rests sides g.1)
+  each_rests (s ∷ sides) g = (let a = connects_asks s g.0 in rests_soon (seen_new s) a.0 (settle (instances w) (connects w s)) a.1.0, each_rests sides g.1)
 
   each_idle : (sides : List Side) → AllByRecursion (Good w.keep w.past w.present) sides → AllByRecursion (λ s. IdleSoon w s.router.version (settle (instances w) (connects w s))) sides
   each_idle [] g = tt
-  each_idle (s ∷ sides) g = (let a = connects_asks s g.0 in idle_soon (seen_at w.keep w.present) a.0 s.router.version (settle (instances w) (connects w s)) a.1.1 a.1.0, each_idle sides g.1)
+  each_idle (s ∷ sides) g = (let a = connects_asks s g.0 in idle_soon (seen_new s) a.0 s.router.version (settle (instances w) (connects w s)) a.1.1 a.1.0, each_idle sides g.1)
 
 good_world : (made : Made) (history : List Entry) (w : World) → Leads made history w → GoodWorld w
-good_world made history w leads = history_good (new_world made.routers made.session made.start made.keep) history w leads.1 (new_good made leads.0) (all_new SideTells new_side_tells made.routers)
+good_world made history w leads = history_good (new_world made.routers made.session made.session0 made.start made.keep) history w leads.1 (new_good made leads.0) (all_new SideTells new_side_tells made.routers)
 
 pub rounds_end : RoundsEnd
 rounds_end made history w leads = let g = good_world made history w leads in each_rests w g.present w.sides g.sides

@@ -76,7 +76,7 @@ module _ (r : ℕ) where
   move_fresh : (event : Event) (outcome : Outcome) (w : World) → IsMoveOf r event → GoodWorld w → FreshAt w → FreshAt (after event outcome w)
   move_fresh (On one event) outcome w is g h = subst (λ x. FreshAt (after (On x event) outcome w)) (sym is.0) (after_fresh event outcome w is.1 g h)
   move_fresh (Publish set) outcome w is g h = absurd is
-  move_fresh (Restart session start) outcome w is g h = absurd is
+  move_fresh (Restart session session0 start) outcome w is g h = absurd is
 
   moves_fresh : (old : World) (moves : List Entry) (w : World) → LeadsFrom old moves w → AreMoves r moves → GoodWorld old → AllTell old → FreshAt old → FreshAt w
   moves_fresh old [] w leads are g t h = subst FreshAt (sym leads) h
@@ -95,11 +95,11 @@ module _ (r : ℕ) where
 is_fresh : (i : Instance) (home : Option Instance) (r : Router) (l : Link) → r.link ≡ l → FreshLink i home r → IsFresh i home r l
 is_fresh i home r Closed is h = tt
 is_fresh i home r (Ended end) is h = tt
-is_fresh i home r Idle is h = let k : Current i Idle r.version r.table r.now = subst (λ x. Current i x r.version r.table r.now) is h.1 in (h.0 (ap is_reading is), k.0)
+is_fresh i home r Idle is h = let k : Current r.spoken i Idle r.version r.table r.now = subst (λ x. Current r.spoken i x r.version r.table r.now) is h.1 in let o = h.0 (ap is_reading is) in (o.0, o.1, k.0)
 is_fresh i home r (Asked q) is h = h.0 (ap is_reading is)
 is_fresh i home r (Answering a) is h = h.0 (ap is_reading is)
 
 pub idle_is_current : IdleIsCurrent
 idle_is_current made before moves r wanting w s leads are e =
-    let fresh = history_fresh r (new_world made.routers made.session made.start made.keep) before moves wanting w leads.1 are (new_good made leads.0) (all_new SideTells new_side_tells made.routers) in
+    let fresh = history_fresh r (new_world made.routers made.session made.session0 made.start made.keep) before moves wanting w leads.1 are (new_good made leads.0) (all_new SideTells new_side_tells made.routers) in
     is_fresh w.present s.home s.router s.router.link refl (of_side (Fresh w.present) r w.sides s fresh e)

@@ -4,13 +4,13 @@ use Rattle.std.proofs.Common.{sym, ap, ◌∙◌, subst}
 use Rattle.std.proofs.Math.ListN.{drop_of_length-le}
 use Rattle.std.proofs.lemmas.List.{take_all}
 use Rattle.vrps.specs.VrpSet.{VrpSet}
-use Rattle.rtr_pdu.specs.declared.version.Version.TheVariants.{V1}
-use Rattle.rtr_ends.specs.Answer.{sent}
+use Rattle.rtr_pdu.specs.declared.version.Version.{Version}
+use Rattle.rtr_ends.specs.Answer.{sent, session_in}
 use Rattle.rtr_ends.specs.Cache.{Conn}
 use Rattle.rtr_ends.specs.Connection.{IsLater}
 use Rattle.rtr_ends.specs.Router.{router_pulled}
 use Rattle.rtr_ends.specs.RouterLink.{Link, Asked, is_reading}
-use Rattle.rtr_ends.specs.Transcript.{Committed, Question, query}
+use Rattle.rtr_ends.specs.Transcript.{Committed, Question, of_version, query}
 use Rattle.rtr_world.specs.CatchUp.{sent_up}
 use Rattle.rtr_world.specs.World.{Side, World, instances, router_sends, settle}
 use Rattle.rtr_world.proofs.CatchUpSettling.{settle_open}
@@ -21,49 +21,49 @@ use Rattle.rtr_world.proofs.Versions.{Present, TableAt}
 
 module _ (w : World) (p : Present (instances w) w.present) (h : Seen) where
   -- What is known of the connection and of the question: it fits what is committed.
-  pub record Knows (q : Question) (version : Option Committed) (table : VrpSet) : Type 0 where
-    pub session : h.session ≡ w.present.session
+  pub record Knows (pv : Version) (q : Question) (version : Option Committed) (table : VrpSet) : Type 0 where
+    pub session : h.session ≡ session_in pv w.present
     pub made : length h.sets ≤ length w.present.sets
     pub later : IsLater h.made w.present
     pub keeps : h.keep ≡ w.keep
-    pub fits : QuestionFits h.session q version
+    pub fits : QuestionFits h.session q (of_version pv version)
     pub table_at : TableAt (instances w) version table
 
   -- The question is still to be pulled,
   pub record Asks (q : Question) (s : Side) : Type 0 where
-    pub knows : Knows q s.router.version s.router.table
+    pub knows : Knows s.router.spoken q s.router.version s.router.table
     pub conn : Conn
     pub conn_is : s.conn ≡ Some conn
     pub held : conn.held ≡ []
-    pub spoken : MaySpeak V1 conn.state.version
+    pub spoken : MaySpeak s.router.spoken conn.state.version
     pub due : conn.state.due ≡ []
     pub on : conn.state.ended ≡ false
     pub up : s.up ≡ []
     pub down : s.down ≡ []
     pub link : s.router.link ≡ Asked q
-    pub out : s.router.out ≡ sent V1 (query q)
+    pub out : s.router.out ≡ sent s.router.spoken (query q)
     pub router_held : s.router.held ≡ []
 
   -- is on the wire,
   pub record Sent (q : Question) (s : Side) : Type 0 where
-    pub knows : Knows q s.router.version s.router.table
+    pub knows : Knows s.router.spoken q s.router.version s.router.table
     pub conn : Conn
     pub conn_is : s.conn ≡ Some conn
     pub held : conn.held ≡ []
-    pub spoken : MaySpeak V1 conn.state.version
+    pub spoken : MaySpeak s.router.spoken conn.state.version
     pub due : conn.state.due ≡ []
     pub on : conn.state.ended ≡ false
-    pub up : s.up ≡ sent V1 (query q)
+    pub up : s.up ≡ sent s.router.spoken (query q)
     pub down : s.down ≡ []
     pub link : s.router.link ≡ Asked q
     pub out : s.router.out ≡ []
     pub router_held : s.router.held ≡ []
 
-  pub record Quiet (conn : Option Conn) : Type 0 where
+  pub record Quiet (pv : Version) (conn : Option Conn) : Type 0 where
     pub o : Conn
     pub is : conn ≡ Some o
     pub held : o.held ≡ []
-    pub spoken : MaySpeak V1 o.state.version
+    pub spoken : MaySpeak pv o.state.version
     pub due : o.state.due ≡ []
     pub on : o.state.ended ≡ false
 

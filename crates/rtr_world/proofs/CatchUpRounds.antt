@@ -6,15 +6,16 @@ use Rattle.std.proofs.Math.ListN.{drop_of_length-le}
 use Rattle.std.proofs.Math.Nat.{le-min}
 use Rattle.std.proofs.lemmas.List.{take_all}
 use Rattle.vrps.specs.VrpSet.{VrpSet}
-use Rattle.rtr_pdu.specs.declared.version.Version.TheVariants.{V1}
+use Rattle.rtr_pdu.specs.declared.version.Version.{Version}
 use Rattle.rtr_pdu.specs.Unit.{IsUnitOf}
 use Rattle.rtr_pdu.specs.declared.unit.Unit.{Unit}
 use Rattle.rtr_pdu.proofs.NextLaws.{sent_most, some_sent}
-use Rattle.rtr_ends.specs.Answer.{answer, report, sent, sent_all}
+use Rattle.rtr_ends.specs.Answer.{answer, report, sent, sent_all, session_in}
 use Rattle.rtr_ends.specs.Cache.{Conn, conn_pulled, conn_takes}
+use Rattle.rtr_ends.specs.Connection.{in_version}
 use Rattle.rtr_ends.specs.Router.{clocked, receives}
 use Rattle.rtr_ends.specs.RouterLink.{Closed, Idle, Asked, is_reading}
-use Rattle.rtr_ends.specs.Transcript.{AskReset, Committed, Question, base_of, is_serial, query}
+use Rattle.rtr_ends.specs.Transcript.{AskReset, Committed, Question, base_of, is_serial, of_version, query}
 use Rattle.rtr_world.specs.CatchUp.{IsAll, IsQuiet, read_up, round, sent_down, sent_up}
 use Rattle.rtr_world.specs.History.{conn_due}
 use Rattle.rtr_world.specs.World.{Side, World, instances, timing, cache_gets, cache_sends, gets_at, router_gets, sends_from, settle}
@@ -25,8 +26,8 @@ use Rattle.rtr_world.proofs.CatchUpSettling.{Emptied, settle_closes, settle_empt
 use Rattle.rtr_world.proofs.Invariant.{Mine, Replies, no_memory}
 use Rattle.rtr_world.proofs.UnitsAtRouters.{query_unit}
 use Rattle.rtr_world.proofs.LinkedSides.{Seen}
-use Rattle.rtr_world.proofs.UnitStreams.{MaySpeak, Stream, all_bytes}
-use Rattle.rtr_world.proofs.Versions.{Present, TableAt}
+use Rattle.rtr_world.proofs.UnitStreams.{MaySpeak, Stream, all_bytes, all_sent, bytes_of_version}
+use Rattle.rtr_world.proofs.Versions.{Present, TableAt, held_at}
 use Rattle.rtr_world.proofs.CatchUpQuestions.{Asks, Knows, Quiet, Sent, reading, sends_all}
 use Rattle.rtr_world.proofs.CatchUpSizes.{answer_bytes, one_unit}
 
@@ -41,22 +42,22 @@ module _ (w : World) (p : Present (instances w) w.present) (h : Seen) where
     Shows Stays units = (Stays ⊎ Lacking) ⊎ ((copy : List ℕ) × (units ≡ report 0 copy ∷ []))
 
     -- a whole reply to the question
-    record Reply (q : Question) (table : VrpSet) (units : List Unit) : Type 0 where
-      replies : Replies (instances w) h q (base_of q table) units
-      fit : AllByRecursion (IsUnitOf V1) units
+    record Reply (pv : Version) (q : Question) (table : VrpSet) (units : List Unit) : Type 0 where
+      replies : Replies (instances w) pv h q (base_of q table) units
+      fit : AllByRecursion (IsUnitOf pv) units
       memory : units ≡ report 1 [] ∷ [] → Lacking
-      few : length (sent_all V1 units) ≤ 2 ^ 37
+      few : length (sent_all pv units) ≤ 2 ^ 37
 
     -- It is still to be pulled,
     record Got (q : Question) (s : Side) : Type 0 where
-      knows : Knows w p h q s.router.version s.router.table
+      knows : Knows w p h s.router.spoken q s.router.version s.router.table
       units : List Unit
-      reply : Reply q s.router.table units
+      reply : Reply s.router.spoken q s.router.table units
       conn : Conn
       conn_is : s.conn ≡ Some conn
       held : conn.held ≡ []
-      spoken : MaySpeak V1 conn.state.version
-      due : conn.state.due ≡ sent_all V1 units
+      spoken : MaySpeak s.router.spoken conn.state.version
+      due : conn.state.due ≡ sent_all s.router.spoken units
       shown : Shows (conn.state.ended ≡ false) units
       up : s.up ≡ []
       down : s.down ≡ []
@@ -66,50 +67,50 @@ module _ (w : World) (p : Present (instances w) w.present) (h : Seen) where
 
     -- or is on the wire.
     record Given (q : Question) (s : Side) : Type 0 where
-      knows : Knows w p h q s.router.version s.router.table
+      knows : Knows w p h s.router.spoken q s.router.version s.router.table
       units : List Unit
-      reply : Reply q s.router.table units
-      conn : (s.conn ≡ None) ⊎ Quiet w p h s.conn
-      shown : Shows (Quiet w p h s.conn) units
+      reply : Reply s.router.spoken q s.router.table units
+      conn : (s.conn ≡ None) ⊎ Quiet w p h s.router.spoken s.conn
+      shown : Shows (Quiet w p h s.router.spoken s.conn) units
       up : s.up ≡ []
-      down : s.down ≡ sent_all V1 units
+      down : s.down ≡ sent_all s.router.spoken units
       link : s.router.link ≡ Asked q
       out : s.router.out ≡ []
       router_held : s.router.held ≡ []
 
     -- what is due is a whole reply
-    is_reply : (q : Question) (version : Option Committed) (table : VrpSet) (unit : IsUnitOf V1 (query q)) (ended : Bool) (units : List Unit) → Knows w p h q version table → IsDue w.keep w.present (query q) unit at_cache ended units
-        → Reply q table units × Shows (ended ≡ false) units
-    is_reply q version table unit ended units k (inl e) =
-        let a = answer_answers (instances w) w.present p h k.session k.made w.keep q version table k.fits k.table_at (from_now (instances w) w.present p h k.session k.made q w.keep k.keeps k.later) in (
+    is_reply : (pv : Version) (q : Question) (version : Option Committed) (table : VrpSet) (unit : IsUnitOf pv (query q)) (ended : Bool) (units : List Unit) → Knows w p h pv q version table → IsDue w.keep w.present pv (query q) unit at_cache ended units
+        → Reply pv q table units × Shows (ended ≡ false) units
+    is_reply pv q version table unit ended units k (inl e) =
+        let a = answer_answers (instances w) w.present p pv h k.session k.made w.keep q (of_version pv version) table k.fits (held_at (instances w) pv version table k.table_at) (from_now (instances w) w.present p pv h k.session k.made q w.keep k.keeps k.later) in (
           record {
-            replies = subst (λ x. Replies (instances w) h q (base_of q table) x) (sym e.0) a.replies;
-            fit = subst (AllByRecursion (IsUnitOf V1)) (sym e.0) a.answered.fit;
-            memory = λ one. absurd (no_wanting w.present w.keep q (sym e.0 ∙ one));
-            few = subst (λ x. length (sent_all V1 x) ≤ 2 ^ 37) (sym e.0) (answer_bytes w.present w.keep q p.is.sets a.answered.fit);
+            replies = subst (λ x. Replies (instances w) pv h q (base_of q table) x) (sym e.0) a.replies;
+            fit = subst (AllByRecursion (IsUnitOf pv)) (sym e.0) a.answered.fit;
+            memory = λ one. absurd (no_wanting pv w.present w.keep q (sym e.0 ∙ one));
+            few = subst (λ x. length (sent_all pv x) ≤ 2 ^ 37) (sym e.0) (answer_bytes pv w.present w.keep q p.is.sets a.answered.fit);
           },
-          by_answer (goes_or_other w.present w.keep q),
+          by_answer (goes_or_other pv w.present w.keep q),
         )
       where
-        by_answer : ((answer V1 w.present w.keep timing (query q)).goes_on ≡ true) ⊎ ((copy : List ℕ) × ((answer V1 w.present w.keep timing (query q)).units ≡ report 0 copy ∷ [])) → Shows (ended ≡ false) units
+        by_answer : ((answer pv w.present w.keep timing (query q)).goes_on ≡ true) ⊎ ((copy : List ℕ) × ((answer pv w.present w.keep timing (query q)).units ≡ report 0 copy ∷ [])) → Shows (ended ≡ false) units
         by_answer (inl on) = inl (inl (e.1 ∙ ap not on))
         by_answer (inr other) = inr (other.0, e.0 ∙ other.1)
-    is_reply q version table unit ended units k (inr e) = (
+    is_reply pv q version table unit ended units k (inr e) = (
       record {
         replies = no_memory e.0;
-        fit = subst (AllByRecursion (IsUnitOf V1)) (sym e.0) (answered_report 1 [] (omega arith) (all_bytes [] tt)).fit;
+        fit = subst (AllByRecursion (IsUnitOf pv)) (sym e.0) (answered_report pv 1 [] (omega arith) (all_bytes [] tt)).fit;
         memory = λ one none other. e.1 none;
-        few = one_unit units (report 1 []) e.0 (subst (AllByRecursion (IsUnitOf V1)) (sym e.0) (answered_report 1 [] (omega arith) (all_bytes [] tt)).fit);
+        few = one_unit pv units (report 1 []) e.0 (subst (AllByRecursion (IsUnitOf pv)) (sym e.0) (answered_report pv 1 [] (omega arith) (all_bytes [] tt)).fit);
       },
       inl (inr (λ none other. e.1 none)),
     )
 
-    some_bytes : (q : Question) (table : VrpSet) (units : List Unit) → Reply q table units → sent_all V1 units ≡ [] → ⊥
-    some_bytes q table [] r e = no_reply (instances w) h q Lacking ⊤ (base_of q table) r.replies
-    some_bytes q table (u ∷ units) r e = by_bytes (sent V1 u) refl e
+    some_bytes : (pv : Version) (q : Question) (table : VrpSet) (units : List Unit) → Reply pv q table units → sent_all pv units ≡ [] → ⊥
+    some_bytes pv q table [] r e = no_reply (instances w) h pv q Lacking ⊤ pv (base_of q table) r.replies
+    some_bytes pv q table (u ∷ units) r e = by_bytes (sent pv u) refl e
       where
-        by_bytes : (bytes : List ℕ) → sent V1 u ≡ bytes → bytes ++ sent_all V1 units ≡ [] → ⊥
-        by_bytes [] is e = some_sent V1 u is
+        by_bytes : (bytes : List ℕ) → sent pv u ≡ bytes → bytes ++ sent_all pv units ≡ [] → ⊥
+        by_bytes [] is e = some_sent pv u is
         by_bytes (b ∷ bytes) is e = cc
 
     -- the cache reads
@@ -117,10 +118,10 @@ module _ (w : World) (p : Present (instances w) w.present) (h : Seen) where
     unfolding cache_gets
     gets_all q most s all a =
         let k = a.knows in
-        let unit = query_unit (instances w) h.session q s.router.version s.router.table k.fits k.table_at in
-        let read = is_read w.keep w.present (query q) unit at_cache (take most s.up) a.conn (take_all most s.up all ∙ a.up) a.held a.spoken a.due a.on in
+        let unit = query_unit (instances w) s.router.spoken h.session q (of_version s.router.spoken s.router.version) s.router.table k.fits (held_at (instances w) s.router.spoken s.router.version s.router.table k.table_at) in
+        let read = is_read w.keep w.present s.router.spoken (query q) unit at_cache (take most s.up) a.conn (take_all most s.up all ∙ a.up) a.held a.spoken a.due a.on in
         let o : Conn = (conn_takes w.keep timing w.present at_cache (take most s.up) a.conn).machine.conn in
-        let reply = is_reply q s.router.version s.router.table unit (conn_takes w.keep timing w.present at_cache (take most s.up) a.conn).machine.conn.state.ended read.1.units k read.1.reply in
+        let reply = is_reply s.router.spoken q s.router.version s.router.table unit (conn_takes w.keep timing w.present at_cache (take most s.up) a.conn).machine.conn.state.ended read.1.units k read.1.reply in
         let got : Got q (gets_at w most at_cache s (Some a.conn)) =
         record {
           knows = k;
@@ -140,7 +141,7 @@ module _ (w : World) (p : Present (instances w) w.present) (h : Seen) where
         } in
         let same : settle (instances w) (gets_at w most at_cache s (Some a.conn)) ≡ gets_at w most at_cache s (Some a.conn) =
         settle_open (instances w) (gets_at w most at_cache s (Some a.conn)) (conn_takes w.keep timing w.present at_cache (take most s.up) a.conn).machine.conn refl
-        (λ ended none. some_bytes q s.router.table read.1.units reply.0 (sym read.1.due ∙ none)) (reading w p h q s.router.link a.link) in
+        (λ ended none. some_bytes s.router.spoken q s.router.table read.1.units reply.0 (sym read.1.due ∙ none)) (reading w p h q s.router.link a.link) in
         subst (λ c. Got q (settle (instances w) (gets_at w most at_cache s c))) (sym a.conn_is) (subst (λ x. Got q x) (sym same) got)
 
     -- the cache sends
@@ -157,24 +158,24 @@ module _ (w : World) (p : Present (instances w) w.present) (h : Seen) where
         few : length a.conn.state.due ≤ most
         few = subst (λ c. length (conn_due c) ≤ most) a.conn_is all
 
-        down : n.down ≡ sent_all V1 a.units
+        down : n.down ≡ sent_all s.router.spoken a.units
         down = ap (λ x. x ++ take most a.conn.state.due) a.down ∙ take_all most a.conn.state.due few ∙ a.due
 
         none_due : o.state.due ≡ []
         none_due = drop_of_length-le a.conn.state.due (le-min few (omega arith))
 
-        shut_shows : o.state.ended ≡ true → Shows (a.conn.state.ended ≡ false) a.units → Shows (Quiet w p h None) a.units
+        shut_shows : o.state.ended ≡ true → Shows (a.conn.state.ended ≡ false) a.units → Shows (Quiet w p h s.router.spoken None) a.units
         shut_shows ended (inl (inl on)) = absurd (let k : true ≡ false = sym ended ∙ on in cc)
         shut_shows ended (inl (inr l)) = inl (inr l)
         shut_shows ended (inr r) = inr r
 
         by_bytes : (bytes : List ℕ) → a.conn.state.due ≡ bytes → Given q (settle (instances w) n)
-        by_bytes [] e = absurd (some_bytes q s.router.table a.units a.reply (sym a.due ∙ e))
+        by_bytes [] e = absurd (some_bytes s.router.spoken q s.router.table a.units a.reply (sym a.due ∙ e))
         by_bytes (b ∷ bytes) e =
             elim (settle_full (instances w) n o b bytes refl none_due (down ∙ sym a.due ∙ e) (reading w p h q s.router.link a.link)) [
               | inl shut ↦ subst (λ x. Given q x) (sym shut.1)
                   (record { knows = a.knows; units = a.units; reply = a.reply; conn = inl refl; shown = shut_shows shut.0 a.shown; up = a.up; down = down; link = a.link; out = a.out; router_held = a.router_held })
-              | inr same ↦ (let c : Quiet w p h n.conn = record { o = o; is = refl; held = a.held; spoken = a.spoken; due = none_due; on = same.0 } in
+              | inr same ↦ (let c : Quiet w p h s.router.spoken n.conn = record { o = o; is = refl; held = a.held; spoken = a.spoken; due = none_due; on = same.0 } in
                   subst (λ x. Given q x) (sym same.1)
                   (record { knows = a.knows; units = a.units; reply = a.reply; conn = inr c; shown = inl (inl c); up = a.up; down = down; link = a.link; out = a.out; router_held = a.router_held }))
             ]
@@ -185,8 +186,8 @@ module _ (w : World) (p : Present (instances w) w.present) (h : Seen) where
       closes : s.router.link ≡ Closed → Lacking ⊎ ((is_serial (Some q) ≡ true) × Emptied s.router) → Ends q s
       asks_all : is_serial (Some q) ≡ true → Asks w p h AskReset s → Ends q s
 
-    knows_again : (q : Question) (version version' : Option Committed) (table table' : VrpSet) → Mine h.session version' → TableAt (instances w) version' table' → Knows w p h q version table → Knows w p h AskReset version' table'
-    knows_again q version version' table table' mine t k = record { session = k.session; made = k.made; later = k.later; keeps = k.keeps; fits = mine; table_at = t }
+    knows_again : (pv pv' : Version) (q : Question) (version version' : Option Committed) (table table' : VrpSet) → Mine h.session (of_version pv' version') → TableAt (instances w) version' table' → pv' ≡ pv → Knows w p h pv q version table → Knows w p h pv' AskReset version' table'
+    knows_again pv pv' q version version' table table' mine t same k = record { session = k.session ∙ ap (λ v. session_in v w.present) (sym same); made = k.made; later = k.later; keeps = k.keeps; fits = mine; table_at = t }
 
     has_memory : (wanting : Option ℕ) → at_router ≡ wanting → (wanting ≡ None) ⊎ Lacking
     has_memory None e = inl refl
@@ -195,33 +196,33 @@ module _ (w : World) (p : Present (instances w) w.present) (h : Seen) where
     -- the router reads
     takes_all : (q : Question) (most : ℕ) (s : Side) → length s.down ≤ most → Given q s → Ends q (settle (instances w) (router_gets w most at_router s))
     unfolding router_gets
-    takes_all q most s all a = by_read (reply_read (instances w) h q Lacking Stays s.router.now at_router (take most s.down) s.router (has_memory at_router refl) phase)
+    takes_all q most s all a = by_read (reply_read (instances w) h s.router.spoken q Lacking Stays s.router.now at_router (take most s.down) s.router (has_memory at_router refl) phase)
       where
         n : Side
         n = router_gets w most at_router s
 
         Stays : Type 0
-        Stays = Quiet w p h s.conn ⊎ Lacking
+        Stays = Quiet w p h s.router.spoken s.conn ⊎ Lacking
 
-        bytes : take most s.down ≡ sent_all V1 a.units
+        bytes : take most s.down ≡ sent_all s.router.spoken a.units
         bytes = take_all most s.down all ∙ a.down
 
-        stream : Stream s.router.held (take most s.down) a.units
-        stream = record { whole = (λ j. a.router_held j ++ bytes j); partial = inl a.router_held; fit = a.reply.fit }
+        stream : Stream s.router.held (take most s.down) (in_version s.router.spoken a.units)
+        stream = record { whole = (λ j. a.router_held j ++ bytes j) ∙ sym (bytes_of_version s.router.spoken a.units); partial = inl a.router_held; fit = all_sent s.router.spoken a.units a.reply.fit }
 
-        phase : Phase (instances w) h q Lacking Stays (take most s.down) (clocked s.router.now s.router)
-        phase = clocked_waits (instances w) h Lacking Stays q s.router.now (take most s.down) s.router a.units a.link a.out a.knows.fits a.knows.table_at stream a.reply.replies a.reply.memory a.shown
+        phase : Phase (instances w) h s.router.spoken q Lacking Stays (take most s.down) (clocked s.router.now s.router)
+        phase = clocked_waits (instances w) h s.router.spoken Lacking Stays q s.router.now (take most s.down) s.router a.units a.link a.out a.knows.fits a.knows.table_at stream a.reply.replies a.reply.memory a.shown refl
 
         none_down : (receives s.router.now at_router (take most s.down) s.router).rest ≡ [] → n.down ≡ []
         none_down none = (λ j. none j ++ drop_of_length-le s.down all j)
 
-        settled : (c : Quiet w p h s.conn) → is_reading n.router.link ≡ true → settle (instances w) n ≡ n
+        settled : (c : Quiet w p h s.router.spoken s.conn) → is_reading n.router.link ≡ true → settle (instances w) n ≡ n
         settled c live = settle_open (instances w) n c.o c.is (λ e. absurd (let k : true ≡ false = sym e ∙ c.on in cc)) live
 
-        by_read : WasRead (instances w) h q Lacking Stays (receives s.router.now at_router (take most s.down) s.router).rest (receives s.router.now at_router (take most s.down) s.router).machine.router → Ends q (settle (instances w) n)
+        by_read : WasRead (instances w) h s.router.spoken q Lacking Stays (receives s.router.now at_router (take most s.down) s.router).rest (receives s.router.now at_router (take most s.down) s.router).machine.router → Ends q (settle (instances w) n)
         by_read (is_idle is out none on) = by_conn on
           where
-            quiet : Quiet w p h s.conn → Ends q (settle (instances w) n)
+            quiet : Quiet w p h s.router.spoken s.conn → Ends q (settle (instances w) n)
             quiet c =
                 subst (λ x. Ends q x) (sym (settled c (ap is_reading is)))
                 (idles is (record { is_open = ap is_some c.is; out = out; up = a.up; due = ap conn_due c.is ∙ c.due; down = none_down none }))
@@ -231,16 +232,16 @@ module _ (w : World) (p : Present (instances w) w.present) (h : Seen) where
             by_conn (inr l) = elim (a.conn) [ inl shut ↦ closes (settle_none (instances w) n shut (none_down none) (ap is_reading is)) (inl l) | inr c ↦ quiet c ]
         by_read (has_ended end is none (inl l)) = closes (settle_closes (instances w) n end is none) (inl l)
         by_read (has_ended end is none (inr e)) = closes (settle_closes (instances w) n end is none) (inr (e.0, settle_empties (instances w) n end is none e.1 e.2))
-        by_read (asks_again serial is out held mine table none on) = by_conn on
+        by_read (asks_again serial is out held mine table none on same) = by_conn on
           where
-            asks : Quiet w p h s.conn → Ends q (settle (instances w) n)
+            asks : Quiet w p h s.router.spoken s.conn → Ends q (settle (instances w) n)
             asks c =
                 asks_all serial (subst (λ x. Asks w p h AskReset x) (sym (settled c (ap is_reading is))) (record {
-                  knows = knows_again q s.router.version n.router.version s.router.table n.router.table mine table a.knows;
+                  knows = knows_again s.router.spoken n.router.spoken q s.router.version n.router.version s.router.table n.router.table mine table same a.knows;
                   conn = c.o;
                   conn_is = c.is;
                   held = c.held;
-                  spoken = c.spoken;
+                  spoken = subst (λ v. MaySpeak v c.o.state.version) (sym same) c.spoken;
                   due = c.due;
                   on = c.on;
                   up = a.up;
@@ -262,16 +263,16 @@ module _ (w : World) (p : Present (instances w) w.present) (h : Seen) where
     asks_few : (q : Question) (most : ℕ) (s : Side) → IsAll most → Asks w p h q s → length s.router.out ≤ most
     asks_few q most s enough a =
         let k = a.knows in
-        let unit = query_unit (instances w) h.session q s.router.version s.router.table k.fits k.table_at in
-        let few = sent_most V1 (query q) unit.0 unit.1 in
+        let unit = query_unit (instances w) s.router.spoken h.session q (of_version s.router.spoken s.router.version) s.router.table k.fits (held_at (instances w) s.router.spoken s.router.version s.router.table k.table_at) in
+        let few = sent_most s.router.spoken (query q) unit.0 unit.1 in
         let size = ap length a.out in
         omega (arith, enough, few, size)
 
     sent_few : (q : Question) (most : ℕ) (s : Side) → IsAll most → Sent w p h q s → length s.up ≤ most
     sent_few q most s enough a =
         let k = a.knows in
-        let unit = query_unit (instances w) h.session q s.router.version s.router.table k.fits k.table_at in
-        let few = sent_most V1 (query q) unit.0 unit.1 in
+        let unit = query_unit (instances w) s.router.spoken h.session q (of_version s.router.spoken s.router.version) s.router.table k.fits (held_at (instances w) s.router.spoken s.router.version s.router.table k.table_at) in
+        let few = sent_most s.router.spoken (query q) unit.0 unit.1 in
         let size = ap length a.up in
         omega (arith, enough, few, size)
 

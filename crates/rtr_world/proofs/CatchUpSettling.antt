@@ -154,7 +154,20 @@ settle_empties all s end is none version table =
     settle_ended all (λ x. Emptied x.router) (λ x conn up down k. k) (told_emptied all) s end is none
     (λ a e. told_ended all end a (subst (λ r. EndedEmpty end r) (sym e) (record { link = is; version = version; table = table })))
 
--- A router that holds no session holds none when it connects.
+-- A router whose table has expired holds no session,
+pub expired_none : (l : Link) (k : Router) → (expired l k).version ≡ None
+expired_none Closed k = refl
+expired_none Idle k = refl
+expired_none (Asked AskReset) k = refl
+expired_none (Asked (AskSerial session serial)) k = refl
+expired_none (Answering a) k = by_question (is_serial (Some a.question))
+  where
+    by_question : (b : Bool) → (if b then record (emptied k) { link = Ended ends.Expired; out = [] } else emptied k).version ≡ None
+    by_question true = refl
+    by_question false = refl
+expired_none (Ended end) k = refl
+
+-- and one that holds none holds none when it connects.
 pub clocked_none : (now : ℕ) (r : Router) → r.version ≡ None → (close (clocked now r)).version ≡ None
 unfolding clocked
 clocked_none now r none = by_closed (is_closed c.link)
@@ -165,20 +178,8 @@ clocked_none now r none = by_closed (is_closed c.link)
     c : Router
     c = clocked now r
 
-    by_link : (l : Link) → (expired l k).version ≡ None
-    by_link Closed = refl
-    by_link Idle = refl
-    by_link (Asked AskReset) = refl
-    by_link (Asked (AskSerial session serial)) = refl
-    by_link (Answering a) = by_question (is_serial (Some a.question))
-      where
-        by_question : (b : Bool) → (if b then record (emptied k) { link = Ended ends.Expired; out = [] } else emptied k).version ≡ None
-        by_question true = refl
-        by_question false = refl
-    by_link (Ended end) = refl
-
     by_clock : (b : Bool) → (if b then expired k.link k else k).version ≡ None
-    by_clock true = by_link k.link
+    by_clock true = expired_none k.link k
     by_clock false = none
 
     by_closed : (b : Bool) → (if b then c else record c { link = Closed; agreed = false; session = None; held = []; out = []; due = Some (sum_of c.now (retry_of c.version)) }).version ≡ None

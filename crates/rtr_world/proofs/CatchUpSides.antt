@@ -1,52 +1,74 @@
 -- A router that connected holds the newest version where its link is idle: its own moves keep that.
 use Rattle.std.specs.Prelude.{◌≡◌, ℕ, ◌≤◌, Bool, true, false, not, ◌&&◌, nat_lt, List, [], ◌∷◌, ◌++◌, length, take, drop, Option, Some, None, if◌then◌else◌, refl}
-use Rattle.std.proofs.Common.{sym, ◌∙◌, subst, subst₂}
+use Rattle.std.proofs.Common.{sym, ap, ◌∙◌, subst, subst₂}
 use Rattle.std.proofs.lemmas.Bool.{and_parts}
 use Rattle.std.proofs.lemmas.List.{take-append-drop}
 use Rattle.vrps.specs.Instance.{Instance}
-use Rattle.vrps.specs.VrpSet.{VrpSet, empty}
-use Rattle.rtr_pdu.specs.declared.version.Version.TheVariants.{V1}
-use Rattle.rtr_pdu.specs.Judging.{judge}
-use Rattle.rtr_ends.specs.declared.link.End.TheVariants as ends
+use Rattle.vrps.specs.VrpSet.{VrpSet}
+use Rattle.rtr_pdu.specs.Judging.{Judgement, Begins, Whole, Faulty, judge}
+use Rattle.rtr_pdu.specs.declared.unit.Unit.TheVariants.{SerialNotify}
+use Rattle.rtr_pdu.specs.declared.version.Version.{Version}
+use Rattle.rtr_ends.specs.Answer.{session_in}
 use Rattle.rtr_ends.specs.Cache.{Conn, is_none, finds_memory}
 use Rattle.rtr_ends.specs.Feeding.{feed}
 use Rattle.rtr_ends.specs.LinkRules.{Router, emptied, may_lack}
-use Rattle.rtr_ends.specs.Router.{Receiving, clocked, connects_at, expired, lacks, reads, receives, router_byte, router_pulled, router_stops, with_bytes}
+use Rattle.rtr_ends.specs.Router.{Receiving, clocked, close, connects_at, expired, lacks, reads, receives, router_byte, router_pulled, router_stops, with_bytes}
 use Rattle.rtr_ends.specs.RouterLink.{Link, Closed, Idle, Asked, Answering, Ended, is_closed, is_reading}
-use Rattle.rtr_ends.specs.Transcript.{AskReset, AskSerial, Committed, is_over, is_serial, later, At}
+use Rattle.rtr_ends.specs.Transcript.{Committed, is_over, later, retry_of, sum_of, At}
+use Rattle.rtr_ends.proofs.ConsumedUnits.{unit_held}
 use Rattle.rtr_ends.proofs.FeedingLaws.{feed_keeps}
 use Rattle.rtr_ends.proofs.TableLaws.{false_true}
 use Rattle.rtr_world.specs.CatchUp.{IsMove}
 use Rattle.rtr_world.specs.History.{conn_due}
 use Rattle.rtr_world.specs.OneAnswer.{without_notifies}
-use Rattle.rtr_world.specs.World.{Side, World, instances, SideEvent, RouterRestart, Connect, RouterSends, CacheGets, CacheSends, RouterGets, Cut, NotifyRouter, Ask, Tick, connects, router_sends, cache_sends, cache_gets, router_gets, cut, side_step, side_part, side_refused, settle, tell_closed}
+use Rattle.rtr_world.specs.World.{Side, World, instances, SideEvent, RouterRestart, Speak, Connect, RouterSends, CacheGets, CacheSends, RouterGets, Cut, NotifyRouter, Ask, Tick, connects, router_sends, cache_sends, cache_gets, router_gets, cut, side_step, side_part, side_refused, settle, tell_closed}
 use Rattle.rtr_world.proofs.AnswersRead.{told_closes}
-use Rattle.rtr_world.proofs.CatchUpUnits.{Current, IsCurrent, unit_current}
+use Rattle.rtr_world.proofs.CatchUpSettling.{expired_none}
+use Rattle.rtr_world.proofs.CatchUpUnits.{Current, IsCurrent, on_notice, unit_current}
 use Rattle.rtr_world.proofs.Folding.{gets_keep, sends_keep, settle_keeps}
-use Rattle.rtr_world.proofs.Invariant.{Flow, Good, GoodRouter, Shape}
+use Rattle.rtr_world.proofs.Invariant.{Flow, Good, GoodRouter, Live, Shape}
 use Rattle.rtr_world.proofs.LinkedSides.{Seen, IsSeen}
 use Rattle.rtr_world.proofs.SideSteps.{byte_good, clocked_good, live_of}
-use Rattle.rtr_world.proofs.UnitStreams.{ByteCase, partly, wholly, byte_case}
-use Rattle.rtr_world.proofs.Versions.{Present, TableAt}
+use Rattle.rtr_world.proofs.UnitStreams.{ByteCase, partly, notified, wholly, byte_case}
+use Rattle.rtr_world.proofs.Versions.{Present, TableAt, some_is}
 use Rattle.prefixes.proofs.Basics.{true_of_not}
 
--- A link that lives was made at this instance; an idle one holds its newest version.
+-- A link that lives is of the version that the router speaks, and was made at this instance; an idle one holds its newest version.
 abbrev pub FreshLink : Instance → Option Instance → Router → Type 0
-FreshLink i home r = (is_reading r.link ≡ true → home ≡ Some i) × IsCurrent i r
+FreshLink i home r = (is_reading r.link ≡ true → (r.spoken ≡ r.speaks) × (home ≡ Some i)) × IsCurrent r.spoken i r
 
 abbrev pub Fresh : Instance → Side → Type 0
 Fresh i s = FreshLink i s.home s.router
 
-closed_fresh : (i : Instance) (home : Option Instance) (l : Link) (version : Option Committed) (table : VrpSet) (now : ℕ) → is_closed l ≡ true → (is_reading l ≡ true → home ≡ Some i) × Current i l version table now
-closed_fresh i home Closed version table now e = ((λ live. false_true live), tt)
-closed_fresh i home (Ended end) version table now e = false_true e
-closed_fresh i home Idle version table now e = false_true e
-closed_fresh i home (Asked q) version table now e = false_true e
-closed_fresh i home (Answering a) version table now e = false_true e
+-- a link that does not live
+no_current : (pv : Version) (i : Instance) (l : Link) (version : Option Committed) (table : VrpSet) (now : ℕ) → is_reading l ≡ false → Current pv i l version table now
+no_current pv i Closed version table now e = tt
+no_current pv i (Ended end) version table now e = tt
+no_current pv i Idle version table now e = false_true (sym e)
+no_current pv i (Asked q) version table now e = false_true (sym e)
+no_current pv i (Answering a) version table now e = false_true (sym e)
+
+dead_fresh : (i : Instance) (home : Option Instance) (r : Router) → is_reading r.link ≡ false → FreshLink i home r
+dead_fresh i home r e = ((λ live. false_true (sym e ∙ live)), no_current r.spoken i r.link r.version r.table r.now e)
+
+closed_reads : (l : Link) → is_closed l ≡ true → is_reading l ≡ false
+closed_reads Closed e = refl
+closed_reads (Ended end) e = false_true e
+closed_reads Idle e = false_true e
+closed_reads (Asked q) e = false_true e
+closed_reads (Answering a) e = false_true e
+
+-- What is held on a link that lives is not over.
+lasting : (pv : Version) (i : Instance) (l : Link) (version : Option Committed) (table : VrpSet) (now : ℕ) → is_reading l ≡ true → Current pv i l version table now → is_over version now ≡ false
+lasting pv i Closed version table now live c = false_true live
+lasting pv i (Ended end) version table now live c = false_true live
+lasting pv i Idle version table now live c = c.1
+lasting pv i (Asked q) version table now live c = c
+lasting pv i (Answering a) version table now live c = c
 
 -- the clean-up
 told_fresh : (i : Instance) (all : List Instance) (s : Side) → Fresh i s → Fresh i (tell_closed all s)
-told_fresh i all s h = let k : Side = tell_closed all s in closed_fresh i k.home k.router.link k.router.version k.router.table k.router.now (told_closes all s)
+told_fresh i all s h = let k : Side = tell_closed all s in dead_fresh i k.home k.router (closed_reads k.router.link (told_closes all s))
 
 pub settle_fresh : (i : Instance) (all : List Instance) (s : Side) → Fresh i s → Fresh i (settle all s)
 settle_fresh i all s h = settle_keeps (λ x. Fresh i x) (λ x conn up down k. k) all (told_fresh i all) s h
@@ -66,76 +88,133 @@ clocked_fresh i home r h = by_clock (is_over r.version (later r.now r.now)) refl
     k : Router
     k = record r { now = later r.now r.now }
 
-    current : IsCurrent i k
-    current = subst (λ x. Current i r.link r.version r.table x) (sym (same_moment r.now)) h.1
+    current : IsCurrent r.spoken i k
+    current = subst (λ x. Current r.spoken i r.link r.version r.table x) (sym (same_moment r.now)) h.1
 
-    not_idle : is_over r.version (later r.now r.now) ≡ true → r.link ≡ Idle → ⊥
-    not_idle over is =
-        let held = subst (λ x. Current i x r.version r.table (later r.now r.now)) is current in
-        let e : true ≡ false = sym over ∙ held.1 in cc
+    not_over : is_over r.version (later r.now r.now) ≡ true → is_reading r.link ≡ true → ⊥
+    not_over over live = let e : true ≡ false = sym over ∙ lasting r.spoken i r.link r.version r.table (later r.now r.now) live current in cc
 
-    as_link : (l : Link) → r.link ≡ l → Current i l None empty (later r.now r.now) → FreshLink i home (emptied k)
-    as_link l is c = (h.0, subst (λ x. Current i x None empty (later r.now r.now)) (sym is) c)
+    live_over : (l : Link) → r.link ≡ l → is_reading l ≡ true → is_over r.version (later r.now r.now) ≡ true → ⊥
+    live_over l is live over = not_over over (ap is_reading is ∙ live)
 
     expires : (l : Link) → r.link ≡ l → is_over r.version (later r.now r.now) ≡ true → FreshLink i home (expired l k)
-    expires Closed is over = as_link Closed is tt
-    expires (Ended end) is over = as_link (Ended end) is tt
-    expires Idle is over = absurd (not_idle over is)
-    expires (Asked AskReset) is over = as_link (Asked AskReset) is tt
-    expires (Asked (AskSerial session serial)) is over = ((λ live. false_true live), tt)
-    expires (Answering a) is over = by_question (is_serial (Some a.question))
-      where
-        by_question : (b : Bool) → FreshLink i home (if b then record (emptied k) { link = Ended ends.Expired; out = [] } else emptied k)
-        by_question true = ((λ live. false_true live), tt)
-        by_question false = as_link (Answering a) is tt
+    expires Closed is over = dead_fresh i home (emptied k) (ap is_reading is)
+    expires (Ended end) is over = dead_fresh i home (emptied k) (ap is_reading is)
+    expires Idle is over = absurd (live_over Idle is refl over)
+    expires (Asked q) is over = absurd (live_over (Asked q) is refl over)
+    expires (Answering a) is over = absurd (live_over (Answering a) is refl over)
 
     by_clock : (b : Bool) → is_over r.version (later r.now r.now) ≡ b → FreshLink i home (if b then expired k.link k else k)
     by_clock true over = expires r.link refl over
     by_clock false over = (h.0, current)
 
+-- What is held after the clock is not over.
+clocked_lasts : (now : ℕ) (r : Router) → is_over (close (clocked now r)).version (close (clocked now r)).now ≡ false
+unfolding clocked
+clocked_lasts now r = by_closed (is_closed c.link)
+  where
+    k : Router
+    k = record r { now = later r.now now }
+
+    c : Router
+    c = clocked now r
+
+    none_over : (v : Option Committed) (now : ℕ) → v ≡ None → is_over v now ≡ false
+    none_over v now e = ap (λ x. is_over x now) e
+
+    by_clock : (b : Bool) → is_over r.version (later r.now now) ≡ b → is_over (if b then expired k.link k else k).version (if b then expired k.link k else k).now ≡ false
+    by_clock true e = none_over (expired k.link k).version (expired k.link k).now (expired_none k.link k)
+    by_clock false e = e
+
+    shut : Router
+    shut = record c { link = Closed; agreed = false; session = None; held = []; out = []; due = Some (sum_of c.now (retry_of c.version)) }
+
+    by_closed : (b : Bool) → is_over (if b then c else shut).version (if b then c else shut).now ≡ false
+    by_closed true = by_clock (is_over r.version (later r.now now)) refl
+    by_closed false = by_clock (is_over r.version (later r.now now)) refl
+
+-- No byte changes the version of the next connection.
+bytes_speak : (memory : Bool) (bytes : List ℕ) (r : Router) (j : Judgement) → (with_bytes memory bytes r j).router.speaks ≡ r.speaks
+bytes_speak memory bytes r Begins = refl
+bytes_speak memory bytes r (Faulty fault) = refl
+bytes_speak memory bytes r (Whole u) = by_memory (may_lack r.link u r && not memory)
+  where
+    hand : Router
+    hand = record r { held = [] }
+
+    by_memory : (b : Bool) → (if b then lacks u hand else reads u hand).router.speaks ≡ r.speaks
+    by_memory true = refl
+    by_memory false = (unit_held r.link u hand).1
+
+byte_speaks : (m : Receiving) (b : ℕ) → (router_byte m b).router.speaks ≡ m.router.speaks
+unfolding router_byte
+byte_speaks m b = bytes_speak (finds_memory m.wanting) (m.router.held ++ b ∷ []) m.router (judge m.router.spoken (not m.router.agreed) (m.router.held ++ b ∷ []))
+
 -- what is known of a connection that was made at the instance as it is
-record Made (i : Instance) (h : Seen) : Type 0 where
+record Made (i : Instance) (pv : Version) (h : Seen) : Type 0 where
   pub made : h.made ≡ i
-  pub session : h.session ≡ i.session
+  pub session : h.session ≡ session_in pv i
   pub sets : length i.sets ≤ length h.sets
 
-seen_made : (keep : ℕ) (i : Instance) (home : Option Instance) (seen : Option Seen) (h : Seen) → home ≡ Some i → seen ≡ Some h → IsSeen keep home seen → Made i h
-seen_made keep i home seen h he se is =
+seen_made : (keep : ℕ) (i : Instance) (pv : Version) (home : Option Instance) (seen : Option Seen) (h : Seen) → h.version ≡ pv → home ≡ Some i → seen ≡ Some h → IsSeen keep home seen → Made i pv h
+seen_made keep i pv home seen h of he se is =
     let k : IsSeen keep (Some i) (Some h) = subst₂ (λ a b. IsSeen keep a b) he se is in
-    record { made = k.0; session = k.2; sets = k.3 }
+    record { made = k.0; session = k.2 ∙ ap (λ v. session_in v i) of; sets = k.3 }
 
 module _ (all : List Instance) (i : Instance) (p : Present all i) (keep : ℕ) (home : Option Instance) (seen : Option Seen) (is_seen : IsSeen keep home seen) (conn : Option Conn) (up : List ℕ) where
-  byte_current : (down : List ℕ) (r : Router) (b : ℕ) (memory : Bool) (h : Seen) (m : Made i h) (f : Flow all i h r conn up (b ∷ down)) → is_reading r.link ≡ true → TableAt all r.version r.table → IsCurrent i r
-      → ByteCase (not r.agreed) r.held b (down ++ (conn_due conn ++ f.lost)) f.coming → IsCurrent i (with_bytes memory (r.held ++ b ∷ []) r (judge V1 (not r.agreed) (r.held ++ b ∷ []))).router
-  byte_current down r b memory h m f live table c (partly e s) = subst (λ j. IsCurrent i (with_bytes memory (r.held ++ b ∷ []) r j).router) (sym e) c
-  byte_current down r b memory h m f live table c (wholly u more is e fit s) =
-      subst (λ j. IsCurrent i (with_bytes memory (r.held ++ b ∷ []) r j).router) (sym e) (by_memory (may_lack r.link u r && not memory))
+  byte_current : (down : List ℕ) (r : Router) (b : ℕ) (memory : Bool) (h : Seen) (m : Made i r.spoken h) (f : Flow all i h r conn up (b ∷ down)) → is_reading r.link ≡ true → TableAt all r.version r.table → IsCurrent r.spoken i r
+      → ByteCase r.spoken r.agreed r.held b (down ++ (conn_due conn ++ f.lost)) f.early f.coming → IsCurrent r.spoken i (with_bytes memory (r.held ++ b ∷ []) r (judge r.spoken (not r.agreed) (r.held ++ b ∷ []))).router
+  byte_current down r b memory h m f live table c (partly e s) = subst (λ j. IsCurrent r.spoken i (with_bytes memory (r.held ++ b ∷ []) r j).router) (sym e) c
+  byte_current down r b memory h m f live table c (notified session serial rest is e s) =
+      subst (λ j. IsCurrent r.spoken i (with_bytes memory (r.held ++ b ∷ []) r j).router) (sym e) (by_memory (may_lack r.link (SerialNotify session serial) r && not memory))
     where
       k : Router
       k = record r { held = [] }
 
-      shape : Shape all h r.link r.agreed r.version r.table f.wanted (without_notifies (u ∷ more))
-      shape = subst (λ x. Shape all h r.link r.agreed r.version r.table f.wanted (without_notifies x)) is f.shape
-
-      by_memory : (w : Bool) → IsCurrent i (if w then lacks u k else reads u k).router
+      by_memory : (w : Bool) → IsCurrent r.spoken i (if w then lacks (SerialNotify session serial) k else reads (SerialNotify session serial) k).router
       by_memory true = tt
-      by_memory false = unit_current all i p h m.made m.session m.sets k r.link u more f.wanted refl live table shape c
+      by_memory false = on_notice all i p r.spoken h m.made m.session m.sets k r.link session serial refl live c
+  byte_current down r b memory h m f live table c (wholly none u more is e fit s) =
+      subst (λ j. IsCurrent r.spoken i (with_bytes memory (r.held ++ b ∷ []) r j).router) (sym e) (by_memory (may_lack r.link u r && not memory))
+    where
+      k : Router
+      k = record r { held = [] }
+
+      shape : Shape all r.spoken h r.link r.agreed r.version r.table f.wanted (without_notifies (u ∷ more))
+      shape = subst (λ x. Shape all r.spoken h r.link r.agreed r.version r.table f.wanted (without_notifies x)) is f.shape
+
+      by_memory : (w : Bool) → IsCurrent r.spoken i (if w then lacks u k else reads u k).router
+      by_memory true = tt
+      by_memory false = unit_current all i p r.spoken h m.made m.session m.sets k r.link u more f.wanted refl refl live table shape c
 
   abbrev Stays : List ℕ → Receiving → Type 0
   Stays down m = GoodRouter all i seen conn up down m.router × FreshLink i home m.router
 
-  stays_byte : (tail : List ℕ) (b : ℕ) (rest : List ℕ) (m : Receiving) → router_stops m.router ≡ false → Stays (b ∷ rest ++ tail) m → Stays (rest ++ tail) (router_byte m b)
+  -- A link that lives on is of the same version.
+  same_spoken : (down down' : List ℕ) (r n : Router) → Live all i seen r conn up down → Live all i seen n conn up down' → n.spoken ≡ r.spoken
+  same_spoken down down' r n l k = sym k.2.version ∙ ap (λ x. x.version) (some_is k.0 l.0 (sym k.1 ∙ l.1)) ∙ l.2.version
+
+  stays_fresh : (down down' : List ℕ) (r n : Router) → Live all i seen r conn up down → GoodRouter all i seen conn up down' n → n.speaks ≡ r.speaks → (r.spoken ≡ r.speaks) × (home ≡ Some i) → IsCurrent r.spoken i n → FreshLink i home n
+  stays_fresh down down' r n l g same fresh c = by_link (is_reading n.link) refl
+    where
+      by_link : (live : Bool) → is_reading n.link ≡ live → FreshLink i home n
+      by_link false e = dead_fresh i home n e
+      by_link true e =
+          let of : n.spoken ≡ r.spoken = same_spoken down down' r n l (live_of n.link all i seen n conn up down' g.link e) in
+          ((λ live. (of ∙ fresh.0 ∙ sym same, fresh.1)), subst (λ v. IsCurrent v i n) (sym of) c)
+
+  read_current : (down : List ℕ) (m : Receiving) (b : ℕ) → Live all i seen m.router conn up (b ∷ down) → is_reading m.router.link ≡ true → Stays (b ∷ down) m → IsCurrent m.router.spoken i (router_byte m b).router
   unfolding router_byte
+  read_current down m b l live s =
+      byte_current down m.router b (finds_memory m.wanting) l.0 (seen_made keep i m.router.spoken home seen l.0 l.2.version (s.1.0 live).1 l.1 is_seen) l.2 live s.0.table s.1.1
+      (byte_case m.router.spoken m.router.agreed m.router.held b (down ++ (conn_due conn ++ l.2.lost)) l.2.early l.2.coming l.2.are_early l.2.downward)
+
+  stays_byte : (tail : List ℕ) (b : ℕ) (rest : List ℕ) (m : Receiving) → router_stops m.router ≡ false → Stays (b ∷ rest ++ tail) m → Stays (rest ++ tail) (router_byte m b)
   stays_byte tail b rest m on s =
       let parts = and_parts (is_reading m.router.link) (is_none m.router.out) (true_of_not (is_reading m.router.link && is_none m.router.out) on) in
-      let l = live_of m.router.link all i seen m.router conn up (b ∷ rest ++ tail) s.0.link parts.0 in (
-        byte_good all i seen conn up (rest ++ tail) m b on s.0,
-        (
-          (λ live. s.1.0 parts.0),
-          byte_current (rest ++ tail) m.router b (finds_memory m.wanting) l.0 (seen_made keep i home seen l.0 (s.1.0 parts.0) l.1 is_seen) l.2 parts.0 s.0.table s.1.1
-              (byte_case (not m.router.agreed) m.router.held b ((rest ++ tail) ++ (conn_due conn ++ l.2.lost)) l.2.coming l.2.downward),
-        ),
-      )
+      let l = live_of m.router.link all i seen m.router conn up (b ∷ rest ++ tail) s.0.link parts.0 in
+      let good = byte_good all i seen conn up (rest ++ tail) m b on s.0 in
+      (good, stays_fresh (b ∷ rest ++ tail) (rest ++ tail) m.router (router_byte m b).router l good (byte_speaks m b) (s.1.0 parts.0) (read_current (rest ++ tail) m b l parts.0 s))
 
   -- it is handed a piece
   stays_fed : (tail : List ℕ) (m : Receiving) (piece : List ℕ) → Stays (piece ++ tail) m
@@ -160,7 +239,7 @@ module _ (w : World) (p : Present (instances w) w.present) where
 
   pub connects_fresh : (s : Side) → FreshS (connects w s)
   unfolding connects connects_at
-  connects_fresh s = ((λ live. refl), tt)
+  connects_fresh s = ((λ live. (refl, refl)), clocked_lasts s.router.now s.router)
 
   sends_fresh : (most : ℕ) (s : Side) → FreshS s → FreshS (router_sends most s)
   unfolding router_sends router_pulled
@@ -187,6 +266,7 @@ module _ (w : World) (p : Present (instances w) w.present) where
   step_fresh (RouterGets most) wanting s is g h = router_gets_fresh most wanting s g h
   step_fresh (Cut left) wanting s is g h = cut_fresh left s h
   step_fresh RouterRestart wanting s is g h = absurd is
+  step_fresh (Speak version) wanting s is g h = absurd is
   step_fresh NotifyRouter wanting s is g h = absurd is
   step_fresh Ask wanting s is g h = absurd is
   step_fresh (Tick now) wanting s is g h = absurd is
@@ -199,6 +279,7 @@ module _ (w : World) (p : Present (instances w) w.present) where
   part_fresh (RouterGets most) bytes wanting s is g h = router_gets_fresh bytes wanting s g h
   part_fresh (Cut left) bytes wanting s is g h = h
   part_fresh RouterRestart bytes wanting s is g h = absurd is
+  part_fresh (Speak version) bytes wanting s is g h = absurd is
   part_fresh NotifyRouter bytes wanting s is g h = absurd is
   part_fresh Ask bytes wanting s is g h = absurd is
   part_fresh (Tick now) bytes wanting s is g h = absurd is

@@ -7,21 +7,21 @@ use Rattle.vrps.specs.Instance.{Instance, NumberedSet, versions_from, with_seria
 use Rattle.vrps.specs.Serial.{serial_at}
 use Rattle.vrps.specs.VrpSet.{VrpSet, IsVrpSet, listing, without}
 use Rattle.vrps.proofs.Listed.{part_is_set, size_of_listing}
-use Rattle.rtr_pdu.specs.declared.version.Version.TheVariants.{V1}
+use Rattle.rtr_pdu.specs.declared.version.Version.{Version}
 use Rattle.rtr_pdu.specs.Unit.{IsUnitOf}
 use Rattle.rtr_pdu.specs.declared.unit.Unit.{Unit}
-use Rattle.rtr_pdu.specs.declared.unit.Unit.TheVariants.{EndOfData, Prefix, SerialQuery}
+use Rattle.rtr_pdu.specs.declared.unit.Unit.TheVariants.{Prefix, SerialQuery}
 use Rattle.rtr_pdu.proofs.NextLaws.{sent_most}
-use Rattle.rtr_ends.specs.Answer.{and_end, and_on, announcements, answer, report, response, sent, sent_all, serial_answer, step_answer, whole_answer, withdrawals}
+use Rattle.rtr_ends.specs.Answer.{and_end, and_on, announcements, answer, end_of_data, report, response, sent, sent_all, serial_answer, session_in, step_answer, whole_answer, withdrawals}
 use Rattle.rtr_ends.specs.Transcript.{AskReset, AskSerial, Question, query}
 use Rattle.rtr_world.specs.World.{timing}
 
-bytes_of : (units : List Unit) → AllByRecursion (IsUnitOf V1) units → length (sent_all V1 units) ≤ length units * 4096
-bytes_of [] fit = omega arith
-bytes_of (u ∷ units) fit =
-    let rest = bytes_of units fit.1 in
-    let first = sent_most V1 u fit.0.0 fit.0.1 in
-    let both = length-append (sent V1 u) (sent_all V1 units) in
+bytes_of : (pv : Version) (units : List Unit) → AllByRecursion (IsUnitOf pv) units → length (sent_all pv units) ≤ length units * 4096
+bytes_of pv [] fit = omega arith
+bytes_of pv (u ∷ units) fit =
+    let rest = bytes_of pv units fit.1 in
+    let first = sent_most pv u fit.0.0 fit.0.1 in
+    let both = length-append (sent pv u) (sent_all pv units) in
     omega (arith, rest, first, both)
 
 records_few : (announce : Bool) (s : VrpSet) → IsVrpSet s → length (map (λ v. Prefix announce v) (listing s)) ≤ 16777215
@@ -31,28 +31,28 @@ records_few announce s is =
     let few = is.within_limit in
     omega (arith, same, size, few)
 
-response_few : (session : ℕ) (now : NumberedSet) (records : List Unit) → length records ≤ 33554430 → length (response V1 session timing now records) ≤ 33554432
-response_few session now records few =
-    let all = length-append records (EndOfData session now.serial timing.refresh timing.retry timing.expire ∷ []) in
+response_few : (pv : Version) (session : ℕ) (now : NumberedSet) (records : List Unit) → length records ≤ 33554430 → length (response pv session timing now records) ≤ 33554432
+response_few pv session now records few =
+    let all = length-append records (end_of_data pv session now.serial timing ∷ []) in
     omega (arith, all, few)
 
-whole_few : (session start : ℕ) (sets : List VrpSet) → AllByRecursion IsVrpSet sets → length (whole_answer V1 session timing (versions_from start sets)) ≤ 33554432
-whole_few session start [] is = omega arith
-whole_few session start (x ∷ older) is =
+whole_few : (pv : Version) (session start : ℕ) (sets : List VrpSet) → AllByRecursion IsVrpSet sets → length (whole_answer pv session timing (versions_from start sets)) ≤ 33554432
+whole_few pv session start [] is = omega arith
+whole_few pv session start (x ∷ older) is =
     let few = records_few true x is.0 in
-    response_few session (record { serial = serial_at start (length older); set = x }) (announcements x) (omega (arith, few))
+    response_few pv session (record { serial = serial_at start (length older); set = x }) (announcements x) (omega (arith, few))
 
 abbrev IsFound : Option NumberedSet → Type 0
 IsFound None = ⊤
 IsFound (Some v) = IsVrpSet v.set
 
-step_few : (session : ℕ) (now : NumberedSet) (o : Option NumberedSet) → IsVrpSet now.set → IsFound o → length (step_answer V1 session timing now o) ≤ 33554432
-step_few session now None is found = omega arith
-step_few session now (Some before) is found =
+step_few : (pv : Version) (session : ℕ) (now : NumberedSet) (o : Option NumberedSet) → IsVrpSet now.set → IsFound o → length (step_answer pv session timing now o) ≤ 33554432
+step_few pv session now None is found = omega arith
+step_few pv session now (Some before) is found =
     let gone = records_few false (without before.set now.set) (part_is_set before.set now.set found) in
     let come = records_few true (without now.set before.set) (part_is_set now.set before.set is) in
     let all = length-append (withdrawals (without before.set now.set)) (announcements (without now.set before.set)) in
-    response_few session now (withdrawals (without before.set now.set) ++ announcements (without now.set before.set)) (omega (arith, gone, come, all))
+    response_few pv session now (withdrawals (without before.set now.set) ++ announcements (without now.set before.set)) (omega (arith, gone, come, all))
 
 found_is : (serial start kept : ℕ) (sets : List VrpSet) → AllByRecursion IsVrpSet sets → IsFound (with_serial serial (take kept (versions_from start sets)))
 found_is serial start zero [] is = tt
@@ -64,28 +64,28 @@ found_is serial start (suc kept) (x ∷ older) is = by_serial (serial_at start (
     by_serial true later = is.0
     by_serial false later = later
 
-serial_few : (session start keep serial : ℕ) (sets : List VrpSet) → AllByRecursion IsVrpSet sets → length (serial_answer V1 session keep timing serial (versions_from start sets)) ≤ 33554432
-serial_few session start keep serial [] is = omega arith
-serial_few session start keep serial (x ∷ older) is =
-    step_few session (record { serial = serial_at start (length older); set = x }) (with_serial serial (take (suc keep) (versions_from start (x ∷ older)))) is.0 (found_is serial start (suc keep) (x ∷ older) is)
+serial_few : (pv : Version) (session start keep serial : ℕ) (sets : List VrpSet) → AllByRecursion IsVrpSet sets → length (serial_answer pv session keep timing serial (versions_from start sets)) ≤ 33554432
+serial_few pv session start keep serial [] is = omega arith
+serial_few pv session start keep serial (x ∷ older) is =
+    step_few pv session (record { serial = serial_at start (length older); set = x }) (with_serial serial (take (suc keep) (versions_from start (x ∷ older)))) is.0 (found_is serial start (suc keep) (x ∷ older) is)
 
-answer_few : (i : Instance) (keep : ℕ) (q : Question) → AllByRecursion IsVrpSet i.sets → length (answer V1 i keep timing (query q)).units ≤ 33554432
-answer_few i keep AskReset is = whole_few i.session i.start i.sets is
-answer_few i keep (AskSerial session serial) is = by_session (session == i.session)
+answer_few : (pv : Version) (i : Instance) (keep : ℕ) (q : Question) → AllByRecursion IsVrpSet i.sets → length (answer pv i keep timing (query q)).units ≤ 33554432
+answer_few pv i keep AskReset is = whole_few pv (session_in pv i) i.start i.sets is
+answer_few pv i keep (AskSerial session serial) is = by_session (session == session_in pv i)
   where
-    by_session : (b : Bool) → length (if b then and_on (serial_answer V1 i.session keep timing serial (versions_from i.start i.sets)) else and_end (report 0 (sent V1 (SerialQuery session serial)) ∷ [])).units ≤ 33554432
-    by_session true = serial_few i.session i.start keep serial i.sets is
+    by_session : (b : Bool) → length (if b then and_on (serial_answer pv (session_in pv i) keep timing serial (versions_from i.start i.sets)) else and_end (report 0 (sent pv (SerialQuery session serial)) ∷ [])).units ≤ 33554432
+    by_session true = serial_few pv (session_in pv i) i.start keep serial i.sets is
     by_session false = omega arith
 
 -- at most 2^25 units of at most 2^12 bytes
-pub answer_bytes : (i : Instance) (keep : ℕ) (q : Question) → AllByRecursion IsVrpSet i.sets → AllByRecursion (IsUnitOf V1) (answer V1 i keep timing (query q)).units → length (sent_all V1 (answer V1 i keep timing (query q)).units) ≤ 2 ^ 37
-answer_bytes i keep q is fit =
-    let few = answer_few i keep q is in
-    let bytes = bytes_of (answer V1 i keep timing (query q)).units fit in
+pub answer_bytes : (pv : Version) (i : Instance) (keep : ℕ) (q : Question) → AllByRecursion IsVrpSet i.sets → AllByRecursion (IsUnitOf pv) (answer pv i keep timing (query q)).units → length (sent_all pv (answer pv i keep timing (query q)).units) ≤ 2 ^ 37
+answer_bytes pv i keep q is fit =
+    let few = answer_few pv i keep q is in
+    let bytes = bytes_of pv (answer pv i keep timing (query q)).units fit in
     omega (arith, few, bytes)
 
-pub one_unit : (units : List Unit) (u : Unit) → units ≡ u ∷ [] → AllByRecursion (IsUnitOf V1) units → length (sent_all V1 units) ≤ 2 ^ 37
-one_unit units u e fit =
+pub one_unit : (pv : Version) (units : List Unit) (u : Unit) → units ≡ u ∷ [] → AllByRecursion (IsUnitOf pv) units → length (sent_all pv units) ≤ 2 ^ 37
+one_unit pv units u e fit =
     let one = ap length e in
-    let bytes = bytes_of units fit in
+    let bytes = bytes_of pv units fit in
     omega (arith, one, bytes)

@@ -5,16 +5,18 @@ use Rattle.std.proofs.lemmas.List.{append-nil}
 use Rattle.vrps.specs.Instance.{NumberedSet, versions, versions_from}
 use Rattle.vrps.specs.Stores.{newest}
 use Rattle.vrps.specs.VrpSet.{VrpSet}
+use Rattle.rtr_pdu.specs.declared.version.Version.{Version}
+use Rattle.rtr_ends.specs.Answer.{session_in}
 use Rattle.rtr_ends.specs.RouterLink.{name_of, told_link}
 use Rattle.rtr_ends.specs.RouterLink.{Link, Closed, Idle, Asked, Answering, Ended}
-use Rattle.rtr_ends.specs.Transcript.{AskReset, Committed}
+use Rattle.rtr_ends.specs.Transcript.{AskReset, Committed, of_version}
 use Rattle.rtr_ends.specs.declared.link.Link.TheVariants as links
 use Rattle.rtr_world.specs.CatchUp.{AreMoves, HoldsNewest, IdleAfter, IdleSoon, IsFresh, IsMoveOf, IsQuiet, Rests, RestsNext, RestsSo, RestsSoon, round, stepped}
 use Rattle.rtr_world.specs.CaughtUp.{AllWent, By, Caught, CatchesUp, ComesToRest, Concluded, GoesRound, HoldsThen, IdleOrDropped, IsCutOff, IsIdle, KeepOpen, KeepsOpen, Lacks, Reconnected, Rounded, StaysOpen, all_bytes, connecting, connections}
 use Rattle.rtr_world.specs.Events.{AnswersOutcome, outcome_fault}
 use Rattle.rtr_world.specs.History.{Done, Entry, Made, Leads, after, side_at}
 use Rattle.rtr_world.specs.Reached.{LeadsTo}
-use Rattle.rtr_world.specs.World.{World, Side, RouterRestart, Connect, RouterSends, CacheGets, CacheSends, RouterGets, Cut, NotifyRouter, Ask, Tick, Event, Publish, Restart, On, connects, instances, settle}
+use Rattle.rtr_world.specs.World.{World, Side, RouterRestart, Speak, Connect, RouterSends, CacheGets, CacheSends, RouterGets, Cut, NotifyRouter, Ask, Tick, Event, Publish, Restart, On, connects, instances, settle}
 use Rattle.rtr_world.specs.declared.event.CatchFault.{CatchFault}
 use Rattle.rtr_world.specs.declared.event.CatchFault.TheVariants as faults
 use Rattle.rtr_world.specs.declared.event.WorldFault.{WorldFault}
@@ -34,6 +36,7 @@ connects_not : (r : ℕ) (event : Event) → IsMoveOf r event → KeepsOpen even
 connects_not r (On one Connect) is keeps = absurd keeps
 connects_not r (On one (Cut left)) is keeps = refl
 connects_not r (On one RouterRestart) is keeps = refl
+connects_not r (On one (Speak version)) is keeps = refl
 connects_not r (On one (RouterSends most)) is keeps = refl
 connects_not r (On one (CacheGets most)) is keeps = refl
 connects_not r (On one (CacheSends most)) is keeps = refl
@@ -42,7 +45,7 @@ connects_not r (On one NotifyRouter) is keeps = refl
 connects_not r (On one Ask) is keeps = refl
 connects_not r (On one (Tick now)) is keeps = refl
 connects_not r (Publish set) is keeps = refl
-connects_not r (Restart session start) is keeps = refl
+connects_not r (Restart session session0 start) is keeps = refl
 
 none_connect : (r : ℕ) (entries : List Entry) → AreMoves r entries → KeepOpen entries → connections entries ≡ 0
 none_connect r [] moves keep = refl
@@ -296,20 +299,20 @@ none_told some none e h = e ∙ ap not h
 pub some_told : (some none : Bool) → some ≡ not none → none ≡ false → some ≡ true
 some_told some none e h = e ∙ ap not h
 
-pub found_name : (r : ℕ) (w : World) (s : Side) → side_at r w.sides ≡ Some s → {A : Type 0} (f : A → ℕ × ℕ) (told : Option A) → option_map f told ≡ option_and_then (λ (s : Side). name_of s.router.version) (side_at r w.sides) → option_map f told ≡ name_of s.router.version
+pub found_name : (r : ℕ) (w : World) (s : Side) → side_at r w.sides ≡ Some s → {A : Type 0} (f : A → Version × ℕ × ℕ) (told : Option A) → option_map f told ≡ option_and_then (λ (s : Side). name_of s.router.version) (side_at r w.sides) → option_map f told ≡ name_of s.router.version
 found_name r w s found f told e = e ∙ ap (λ o. option_and_then (λ (s : Side). name_of s.router.version) o) found
 
-pub not_named : {A : Type 0} (f : A → ℕ × ℕ) (version : Option Committed) (told : Option A) → option_map f told ≡ name_of version → is_some told ≡ false → version ≡ None
+pub not_named : {A : Type 0} (f : A → Version × ℕ × ℕ) (version : Option Committed) (told : Option A) → option_map f told ≡ name_of version → is_some told ≡ false → version ≡ None
 not_named f None told e h = refl
 not_named f (Some version) None e h = absurd (let k : None ≡ Some _ = e in cc)
 not_named f (Some version) (Some name) e h = absurd (let k : true ≡ false = h in cc)
 
-pub is_named : {A : Type 0} (f : A → ℕ × ℕ) (version : Option Committed) (told : Option A) → option_map f told ≡ name_of version → is_some told ≡ false → IsSome version → ⊥
+pub is_named : {A : Type 0} (f : A → Version × ℕ × ℕ) (version : Option Committed) (told : Option A) → option_map f told ≡ name_of version → is_some told ≡ false → IsSome version → ⊥
 is_named f None told e h some = let k : false ≡ true = some in cc
 is_named f (Some version) None e h some = let k : None ≡ Some _ = e in cc
 is_named f (Some version) (Some name) e h some = let k : true ≡ false = h in cc
 
-pub is_held : {A : Type 0} (f : A → ℕ × ℕ) (version : Option Committed) (told : Option A) → option_map f told ≡ name_of version → is_some told ≡ true → version ≡ None → ⊥
+pub is_held : {A : Type 0} (f : A → Version × ℕ × ℕ) (version : Option Committed) (told : Option A) → option_map f told ≡ name_of version → is_some told ≡ true → version ≡ None → ⊥
 is_held f version None e h none = let k : false ≡ true = h in cc
 is_held f version (Some name) e h none = let k : Some _ ≡ None = e ∙ ap name_of none in cc
 
@@ -322,16 +325,17 @@ told_idle (Answering a) h = absurd (let k : links.Answering ≡ links.Idle = h i
 told_idle (Ended end) h = absurd (let k : links.Ended end ≡ links.Idle = h in cc)
 
 pub idle_holds : (made : Made) (history : List Entry) (v : code.World) (r : ℕ) (l : LeadsTo made history v) → StaysOpen r history → (s : Side) → side_at r l.world.sides ≡ Some s → s.router.link ≡ Idle
-    → HoldsNewest l.world.present.session (versions l.world.present) s.router.version s.router.table
+    → (s.router.spoken ≡ s.router.speaks) × HoldsNewest s.router.spoken (session_in s.router.spoken l.world.present) (versions l.world.present) s.router.version s.router.table
 idle_holds made history v r l o s found idle =
     let fresh = idle_is_current made o.before o.later r o.wanting l.world s (subst (λ h. Leads made h l.world) o.are l.leads) o.moves found in
-    (subst (IsFresh l.world.present s.home s.router) idle fresh).1
+    let k = subst (IsFresh l.world.present s.home s.router) idle fresh in
+    (k.0, k.2)
 
-holds_now : (session : ℕ) (vs : List NumberedSet) (version : Option Committed) (table : VrpSet) (now : NumberedSet) → newest vs ≡ Some now → HoldsNewest session vs version table → (name_of version ≡ Some (session, now.serial)) × (table ≡ now.set)
-holds_now session [] version table now is h = absurd (let k : ◌≡◌ {A = Option NumberedSet} None (Some now) = is in cc)
-holds_now session (v ∷ older) None table now is h = absurd h
-holds_now session (v ∷ older) (Some version) table now is h =
-    ((λ i. Some (h.0 i, (h.1 ∙ ap (λ (x : NumberedSet). x.serial) (inside is)) i)), h.2 ∙ ap (λ (x : NumberedSet). x.set) (inside is))
+holds_now : (pv : Version) (session : ℕ) (vs : List NumberedSet) (version : Option Committed) (table : VrpSet) (now : NumberedSet) → newest vs ≡ Some now → HoldsNewest pv session vs version table → (name_of version ≡ Some (pv, session, now.serial)) × (table ≡ now.set)
+holds_now pv session [] version table now is h = absurd (let k : ◌≡◌ {A = Option NumberedSet} None (Some now) = is in cc)
+holds_now pv session (v ∷ older) None table now is h = absurd h
+holds_now pv session (v ∷ older) (Some version) table now is h =
+    ((λ i. Some (h.0 i, h.1 i, (h.2 ∙ ap (λ (x : NumberedSet). x.serial) (inside is)) i)), h.3 ∙ ap (λ (x : NumberedSet). x.set) (inside is))
   where
     inside : {a b : NumberedSet} → Some a ≡ Some b → a ≡ b
     inside h = cc
@@ -347,25 +351,28 @@ quiet_idle s rests idle = subst (RestsSo s) idle rests
 module _ (made : Made) (history : List Entry) (v : code.World) (r : ℕ) (l : LeadsTo made history v) (o : StaysOpen r history) (s : Side) (found : side_at r l.world.sides ≡ Some s) (rests : Rests s) where
   pub is_current_now : s.router.link ≡ Idle → (now : NumberedSet) → newest (versions l.world.present) ≡ Some now → Concluded made history r s (Ok tt) v
   is_current_now idle now is =
-      let held = holds_now l.world.present.session (versions l.world.present) s.router.version s.router.table now is (idle_holds made history v r l o s found idle) in
+      let k = idle_holds made history v r l o s found idle in
+      let held = holds_now s.router.spoken (session_in s.router.spoken l.world.present) (versions l.world.present) s.router.version s.router.table now is k.1 in
+      let name : name_of s.router.version ≡ Some (s.router.speaks, session_in s.router.speaks l.world.present, now.serial) = held.0 ∙ ap (λ v. Some (v, session_in v l.world.present, now.serial)) k.0 in
       record {
         more = [];
         moves = tt;
         none = refl;
         leads = record { world = l.world; leads = subst (λ h. Leads made h l.world) (sym (append-nil history)) l.leads; shows = l.shows };
-        holds = (record { side = s; found = found; idle = idle; quiet = quiet_idle s rests idle; now = now; newest_is = is; name = held.0; table = held.1 }, refl);
+        holds = (record { side = s; found = found; idle = idle; quiet = quiet_idle s rests idle; now = now; newest_is = is; spoken = k.0; name = name; table = held.1 }, refl);
       }
 
   pub has_nothing : s.router.link ≡ Idle → newest (versions l.world.present) ≡ None → Concluded made history r s (Err faults.NoData) v
   has_nothing idle is =
       let none = none_newest l.world.present.start l.world.present.sets is in
-      let held = subst (λ sets. HoldsNewest l.world.present.session (versions_from l.world.present.start sets) s.router.version s.router.table) none (idle_holds made history v r l o s found idle) in
+      let k = idle_holds made history v r l o s found idle in
+      let held = subst (λ sets. HoldsNewest s.router.spoken (session_in s.router.spoken l.world.present) (versions_from l.world.present.start sets) s.router.version s.router.table) none k.1 in
       record {
         more = [];
         moves = tt;
         none = refl;
         leads = record { world = l.world; leads = subst (λ h. Leads made h l.world) (sym (append-nil history)) l.leads; shows = l.shows };
-        holds = (record { side = s; found = found; idle = idle; quiet = quiet_idle s rests idle; none = none; version = held.0 }, refl);
+        holds = (record { side = s; found = found; idle = idle; quiet = quiet_idle s rests idle; none = none; spoken = k.0; version = subst (λ v. of_version v s.router.version ≡ None) k.0 held.0 }, refl);
       }
 
   pub cut_at_last : ¬ (told_link s.router.link ≡ links.Idle) → (step : Result ⊤ WorldFault) (new : code.World) → Stepped made history l.world r (Cut 0) step new → Concluded made history r s (Err faults.Memory) new

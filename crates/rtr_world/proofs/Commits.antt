@@ -4,16 +4,17 @@ use Rattle.std.proofs.Common.{sym, ap, ◌∙◌, subst, arith, append_assoc}
 use Rattle.std.proofs.lemmas.Bool.{and_parts}
 use Rattle.vrps.specs.Instance.{Instance}
 use Rattle.vrps.specs.VrpSet.{VrpSet}
-use Rattle.rtr_pdu.specs.declared.version.Version.TheVariants.{V1}
+use Rattle.rtr_pdu.specs.declared.version.Version.{Version}
 use Rattle.rtr_pdu.specs.Judging.{judge}
 use Rattle.rtr_pdu.specs.declared.unit.Unit.{Unit}
-use Rattle.rtr_pdu.specs.declared.unit.Unit.TheVariants.{EndOfData, EndOfData0}
+use Rattle.rtr_pdu.specs.declared.unit.Unit.TheVariants.{SerialNotify, EndOfData, EndOfData0}
+use Rattle.rtr_ends.specs.Answer.{session_in}
 use Rattle.rtr_ends.specs.Cache.{Conn, is_none, finds_memory}
 use Rattle.rtr_ends.specs.Feeding.{feed}
 use Rattle.rtr_ends.specs.LinkRules.{Router, on_unit, may_lack}
 use Rattle.rtr_ends.specs.Router.{Noted, Receiving, asked_by, reads, lacks, with_bytes, router_stops, router_byte}
 use Rattle.rtr_ends.specs.RouterLink.{Link, Closed, Idle, Asked, Answering, Ended, is_reading}
-use Rattle.rtr_ends.specs.Transcript.{Committed, Item, Reads, kept, is_commit}
+use Rattle.rtr_ends.specs.Transcript.{Committed, Item, Reads, kept, is_commit, of_version}
 use Rattle.rtr_ends.proofs.FeedingLaws.{feed_keeps}
 use Rattle.rtr_ends.proofs.KeptUnits.{Tells, live_unit}
 use Rattle.rtr_ends.proofs.KeptLaws.{byte_tells, none_is}
@@ -25,8 +26,8 @@ use Rattle.rtr_world.proofs.Invariant.{Flow, GoodLink, GoodRouter, IfOpen, Live,
 use Rattle.rtr_world.proofs.Places.{Found, Ordered, ordered_more, place_at, stands_found, young_enough}
 use Rattle.rtr_world.proofs.UnitsAtRouters.{right_response}
 use Rattle.rtr_world.proofs.SideSteps.{live_of, byte_good}
-use Rattle.rtr_world.proofs.UnitStreams.{ByteCase, partly, wholly, byte_case}
-use Rattle.rtr_world.proofs.UnitCases.{Brings, goes_on, ends_other, ends_memory, commits, unit_brings, is_end}
+use Rattle.rtr_world.proofs.UnitStreams.{ByteCase, partly, notified, wholly, byte_case, early_open}
+use Rattle.rtr_world.proofs.UnitCases.{Brings, goes_on, ends_other, ends_memory, commits, early_brings, unit_brings, is_end}
 use Rattle.rtr_world.proofs.Versions.{Stands, find_session, same_instance, some_is}
 use Rattle.rtr_world.proofs.LinkedSides.{Seen, IsSeen}
 use Rattle.prefixes.proofs.Basics.{eq_self, true_of_not}
@@ -66,22 +67,22 @@ unit_places all l out u items b e = asked l out ∙ one_place (is_commit (Reads 
 -- What reading adds to the places: nothing, or that of a version that stands no earlier than what was seen
 pub data Adds (past : List Instance) (i : Instance) (h : Seen) (n : Noted) (items : List Item) : Type 0 where
   nothing : places_of (i ∷ past) n.items items ≡ [] → Adds past i h n items
-  one : (version : Committed) (table : VrpSet) (stands : Stands (i ∷ past) version.session version.serial table) (f : Found (i ∷ past) version.session version.serial (length stands.older))
-      → n.router.link ≡ Idle → version.session ≡ h.session → length h.sets ≤ length stands.older + 1
+  one : (version : Committed) (table : VrpSet) (stands : Stands (i ∷ past) version.version version.session version.serial table) (f : Found (i ∷ past) version.version version.session version.serial (length stands.older))
+      → n.router.link ≡ Idle → version.version ≡ h.version → version.session ≡ h.session → length h.sets ≤ length stands.older + 1
       → places_of (i ∷ past) n.items items ≡ Some (place_at f.rank (length stands.older)) ∷ [] → Adds past i h n items
 
-unit_adds : (past : List Instance) (i : Instance) (h : Seen) (r : Router) (u : Unit) (items : List Item) → Tells (on_unit r.link u r) (asked_by (on_unit r.link u r).link (on_unit r.link u r).out ++ Reads u ∷ items)
+unit_adds : (past : List Instance) (i : Instance) (h : Seen) (r : Router) (u : Unit) (items : List Item) → h.version ≡ r.spoken → Tells (on_unit r.link u r) (asked_by (on_unit r.link u r).link (on_unit r.link u r).out ++ Reads u ∷ items)
     → Brings (i ∷ past) h r r.link u (on_unit r.link u r) → Adds past i h (reads u r) items
-unit_adds past i h r u items t (goes_on on none c) = nothing (unit_places (i ∷ past) (on_unit r.link u r).link (on_unit r.link u r).out u items false (no_commit u items none))
-unit_adds past i h r u items t (ends_other session serial is other e none) = nothing (unit_places (i ∷ past) (on_unit r.link u r).link (on_unit r.link u r).out u items false (no_commit u items none))
-unit_adds past i h r u items t (ends_memory e none) = nothing (unit_places (i ∷ past) (on_unit r.link u r).link (on_unit r.link u r).out u items false (no_commit u items none))
-unit_adds past i h r u items t (commits version table e v own stands since) = by_commit (is_commit (Reads u ∷ items)) refl
+unit_adds past i h r u items of t (goes_on on none c) = nothing (unit_places (i ∷ past) (on_unit r.link u r).link (on_unit r.link u r).out u items false (no_commit u items none))
+unit_adds past i h r u items of t (ends_other session serial is other e none) = nothing (unit_places (i ∷ past) (on_unit r.link u r).link (on_unit r.link u r).out u items false (no_commit u items none))
+unit_adds past i h r u items of t (ends_memory e none) = nothing (unit_places (i ∷ past) (on_unit r.link u r).link (on_unit r.link u r).out u items false (no_commit u items none))
+unit_adds past i h r u items of t (commits version table e v spoken own stands since) = by_commit (is_commit (Reads u ∷ items)) refl
   where
     k : Router
     k = on_unit r.link u r
 
-    f : Found (i ∷ past) version.session version.serial (length stands.older)
-    f = stands_found (i ∷ past) version.session version.serial table stands
+    f : Found (i ∷ past) version.version version.session version.serial (length stands.older)
+    f = stands_found (i ∷ past) version.version version.session version.serial table stands
 
     told : Tells k (Reads u ∷ items)
     told = subst (λ l. Tells k (asked_by l k.out ++ Reads u ∷ items)) e t
@@ -91,7 +92,7 @@ unit_adds past i h r u items t (commits version table e v own stands since) = by
 
     by_commit : (b : Bool) → is_commit (Reads u ∷ items) ≡ b → Adds past i h (reads u r) items
     by_commit false c = nothing (unit_places (i ∷ past) k.link k.out u items false c)
-    by_commit true c = one version table stands f e own since (unit_places (i ∷ past) k.link k.out u items true c ∙ ap (λ x. x ∷ []) place)
+    by_commit true c = one version table stands f e (spoken ∙ sym of) own since (unit_places (i ∷ past) k.link k.out u items true c ∙ ap (λ x. x ∷ []) place)
 
 -- what a later version is seen as
 seen_more : (keep : ℕ) (home : Option Instance) (h : Seen) (set : VrpSet) (older : List VrpSet) → length h.sets ≤ length older + 1 → IsSeen keep home (Some h) → IsSeen keep home (Some (record h { sets = set ∷ older }))
@@ -103,43 +104,63 @@ module _ (keep : ℕ) (past : List Instance) (i : Instance) (home : Option Insta
   all = i ∷ past
 
   -- an idle router whose version stands later
-  raised_open : (h : Seen) (out : List ℕ) (wanted : List Unit) (lost : List ℕ) (o : Option Conn) (session serial : ℕ) (set : VrpSet) (a : Stands (i ∷ past) session serial set) → session ≡ h.session
-      → IfOpen o (Open i h out up wanted lost) → IfOpen o (Open i (record h { sets = set ∷ a.older }) out up wanted lost)
-  raised_open h out wanted lost None session serial set a own op = tt
-  raised_open h out wanted lost (Some o) session serial set a own op =
-      let here : find_session i.session (i ∷ past) ≡ Some i = ap (λ b. if b then Some i else find_session i.session past) (eq_self i.session) in
-      let same : a.i ≡ i = same_instance a.i i (find_session session (i ∷ past)) a.found (subst (λ s. find_session s (i ∷ past) ≡ Some i) (sym (own ∙ op.session)) here) in
+  raised_open : (spoken : Version) (h : Seen) (out : List ℕ) (wanted coming : List Unit) (agreed : Bool) (lost : List ℕ) (o : Option Conn) (pv : Version) (session serial : ℕ) (set : VrpSet) (a : Stands (i ∷ past) pv session serial set) → pv ≡ spoken → session ≡ h.session
+      → IfOpen o (Open i spoken h out up wanted coming agreed lost) → IfOpen o (Open i spoken (record h { sets = set ∷ a.older }) out up wanted coming agreed lost)
+  raised_open spoken h out wanted coming agreed lost None pv session serial set a of own op = tt
+  raised_open spoken h out wanted coming agreed lost (Some o) pv session serial set a of own op =
+      let here : find_session pv (session_in pv i) (i ∷ past) ≡ Some i = ap (λ b. if b then Some i else find_session pv (session_in pv i) past) (eq_self (session_in pv i)) in
+      let is : session ≡ session_in pv i = own ∙ op.session ∙ ap (λ v. session_in v i) (sym of) in
+      let same : a.i ≡ i = same_instance a.i i (find_session pv session (i ∷ past)) a.found (subst (λ s. find_session pv s (i ∷ past) ≡ Some i) (sym is) here) in
       let k = young_enough i a.newer set a.older (ap (λ x. x.sets) (sym same) ∙ a.sets) in
-      record { upward = op.upward; spoken = op.spoken; whole = op.whole; session = op.session; made = omega (arith, k); later = op.later }
+      record { upward = op.upward; spoken = op.spoken; unheard = op.unheard; whole = op.whole; session = op.session; made = omega (arith, k); later = op.later }
 
-  raised : (down : List ℕ) (r : Router) (h : Seen) (session serial : ℕ) (set : VrpSet) (a : Stands (i ∷ past) session serial set) → session ≡ h.session → r.link ≡ Idle
+  raised : (down : List ℕ) (r : Router) (h : Seen) (pv : Version) (session serial : ℕ) (set : VrpSet) (a : Stands (i ∷ past) pv session serial set) → pv ≡ h.version → session ≡ h.session → r.link ≡ Idle
       → GoodRouter (i ∷ past) i (Some h) conn up down r → GoodRouter (i ∷ past) i (Some (record h { sets = set ∷ a.older })) conn up down r
-  raised down r h session serial set a own is g =
+  raised down r h pv session serial set a of own is g =
       let l : Live (i ∷ past) i (Some h) r conn up down = subst (λ x. GoodLink (i ∷ past) i (Some h) x r conn up down) is g.link in
       let f : Flow (i ∷ past) i h r conn up down = subst (λ x. Flow (i ∷ past) i x r conn up down) (sym (some_is h l.0 l.1)) l.2 in
-      let sh : Shape (i ∷ past) h Idle r.agreed r.version r.table f.wanted (without_notifies f.coming) = subst (λ x. Shape (i ∷ past) h x r.agreed r.version r.table f.wanted (without_notifies f.coming)) is f.shape in
+      let sh : Shape (i ∷ past) r.spoken h Idle r.agreed r.version r.table f.wanted (without_notifies f.coming) = subst (λ x. Shape (i ∷ past) r.spoken h x r.agreed r.version r.table f.wanted (without_notifies f.coming)) is f.shape in
       let live : Live (i ∷ past) i (Some (record h { sets = set ∷ a.older })) r conn up down = (
         record h { sets = set ∷ a.older },
         refl,
         record {
+          version = f.version;
+          early = f.early;
           coming = f.coming;
           lost = f.lost;
           wanted = f.wanted;
           downward = f.downward;
-          open_at = raised_open h r.out f.wanted f.lost conn session serial set a own f.open_at;
+          open_at = raised_open r.spoken h r.out f.wanted f.coming r.agreed f.lost conn pv session serial set a (of ∙ f.version) own f.open_at;
+          are_early = f.are_early;
+          early_notifies = f.early_notifies;
           notifies = f.notifies;
           own = f.own;
           mine = f.mine;
-          shape = subst (λ x. Shape (i ∷ past) (record h { sets = set ∷ a.older }) x r.agreed r.version r.table f.wanted (without_notifies f.coming)) (sym is) sh;
+          shape = subst (λ x. Shape (i ∷ past) r.spoken (record h { sets = set ∷ a.older }) x r.agreed r.version r.table f.wanted (without_notifies f.coming)) (sym is) sh;
         },
       ) in
       record { table = g.table; unmarked = g.unmarked; link = subst (λ x. GoodLink (i ∷ past) i (Some (record h { sets = set ∷ a.older })) x r conn up down) (sym is) live }
 
   -- a byte is read
   byte_read : (seen : Option Seen) (down : List ℕ) (r : Router) (b : ℕ) (memory : Bool) (items : List Item) (h : Seen) (f : Flow (i ∷ past) i h r conn up (b ∷ down)) → is_reading r.link ≡ true → r.out ≡ [] → Tells r items
-      → ByteCase (not r.agreed) r.held b (down ++ (conn_due conn ++ f.lost)) f.coming → Adds past i h (with_bytes memory (r.held ++ b ∷ []) r (judge V1 (not r.agreed) (r.held ++ b ∷ []))) items
+      → ByteCase r.spoken r.agreed r.held b (down ++ (conn_due conn ++ f.lost)) f.early f.coming → Adds past i h (with_bytes memory (r.held ++ b ∷ []) r (judge r.spoken (not r.agreed) (r.held ++ b ∷ []))) items
   byte_read seen down r b memory items h f live none t (partly e s) = subst (λ j. Adds past i h (with_bytes memory (r.held ++ b ∷ []) r j) items) (sym e) (nothing refl)
-  byte_read seen down r b memory items h f live none t (wholly u more is e fit s) =
+  byte_read seen down r b memory items h f live none t (notified session serial rest is e s) =
+      subst (λ j. Adds past i h (with_bytes memory (r.held ++ b ∷ []) r j) items) (sym e) (by_memory (may_lack r.link (SerialNotify session serial) r && not memory))
+    where
+      k : Router
+      k = record r { held = [] }
+
+      open_yet : r.agreed ≡ false
+      open_yet = early_open r.agreed session serial rest (λ a. sym is ∙ f.are_early.1 a)
+
+      by_memory : (w : Bool) → Adds past i h (if w then lacks (SerialNotify session serial) k else reads (SerialNotify session serial) k) items
+      by_memory true = nothing refl
+      by_memory false =
+          unit_adds past i h k (SerialNotify session serial) items f.version
+          (live_unit k r.link (SerialNotify session serial) items live refl (record { kept_is = t.kept_is; due_is = t.due_is; now_is = t.now_is; spoken_is = t.spoken_is; none = none }) t.link)
+          (early_brings (i ∷ past) h k session serial live open_yet)
+  byte_read seen down r b memory items h f live none t (wholly alone u more is e fit s) =
       subst (λ j. Adds past i h (with_bytes memory (r.held ++ b ∷ []) r j) items) (sym e) (by_memory (may_lack r.link u r && not memory))
     where
       k : Router
@@ -147,12 +168,12 @@ module _ (keep : ℕ) (past : List Instance) (i : Instance) (home : Option Insta
 
       brings : Brings (i ∷ past) h k r.link u (on_unit r.link u k)
       brings =
-          unit_brings (i ∷ past) h k r.link u more f.wanted refl live f.own f.mine (λ q. right_response (i ∷ past) i seen conn up down h.session q r.version) (subst (λ x. NotifiesOf h.session x) is f.notifies)
-          (subst (λ x. Shape (i ∷ past) h r.link r.agreed r.version r.table f.wanted (without_notifies x)) is f.shape)
+          unit_brings (i ∷ past) h k r.link u more f.wanted refl live f.own f.mine (λ q. right_response (i ∷ past) i seen conn up down h.session q (of_version r.spoken r.version)) (subst (λ x. NotifiesOf h.session x) is f.notifies)
+          (subst (λ x. Shape (i ∷ past) r.spoken h r.link r.agreed r.version r.table f.wanted (without_notifies x)) is f.shape)
 
       by_memory : (w : Bool) → Adds past i h (if w then lacks u k else reads u k) items
       by_memory true = nothing refl
-      by_memory false = unit_adds past i h k u items (live_unit k r.link u items live refl (record { kept_is = t.kept_is; due_is = t.due_is; now_is = t.now_is; none = none }) t.link) brings
+      by_memory false = unit_adds past i h k u items f.version (live_unit k r.link u items live refl (record { kept_is = t.kept_is; due_is = t.due_is; now_is = t.now_is; spoken_is = t.spoken_is; none = none }) t.link) brings
 
   -- what holds between two bytes
   pub record Goes (items : List Item) (places : List (Option VersionPlace)) (down : List ℕ) (m : Receiving) : Type 0 where
@@ -171,14 +192,14 @@ module _ (keep : ℕ) (past : List Instance) (i : Instance) (home : Option Insta
     is_seen = s;
     order = subst (λ x. Ordered past i (x ++ places) seen) (sym (places-append (i ∷ past) n.items m.items items ∙ ap (λ x. x ++ places_of (i ∷ past) m.items items) none)) o;
   }
-  adds_goes items places down m n wanting seen h e (one version table stands f is own since more) g t s o = record {
+  adds_goes items places down m n wanting seen h e (one version table stands f is of own since more) g t s o = record {
     seen = Some (record h { sets = table ∷ stands.older });
-    good = raised down n.router h version.session version.serial table stands own is (subst (λ x. GoodRouter (i ∷ past) i x conn up down n.router) e g);
+    good = raised down n.router h version.version version.session version.serial table stands of own is (subst (λ x. GoodRouter (i ∷ past) i x conn up down n.router) e g);
     tells = t;
     is_seen = seen_more keep home h table stands.older since (subst (λ x. IsSeen keep home x) e s);
     order = subst (λ x. Ordered past i (x ++ places) (Some (record h { sets = table ∷ stands.older })))
         (sym (places-append (i ∷ past) n.items m.items items ∙ ap (λ x. x ++ places_of (i ∷ past) m.items items) more))
-        (ordered_more past i h (places_of (i ∷ past) m.items items ++ places) version.session version.serial table stands f own since (subst (λ x. Ordered past i (places_of (i ∷ past) m.items items ++ places) x) e o));
+        (ordered_more past i h (places_of (i ∷ past) m.items items ++ places) version.version version.session version.serial table stands f of own since (subst (λ x. Ordered past i (places_of (i ∷ past) m.items items ++ places) x) e o));
   }
 
   goes_byte : (items : List Item) (places : List (Option VersionPlace)) (tail : List ℕ) (b : ℕ) (rest : List ℕ) (m : Receiving) → router_stops m.router ≡ false → Goes items places (b ∷ rest ++ tail) m → Goes items places (rest ++ tail) (router_byte m b)
@@ -186,10 +207,10 @@ module _ (keep : ℕ) (past : List Instance) (i : Instance) (home : Option Insta
   goes_byte items places tail b rest m on g =
       let parts = and_parts (is_reading m.router.link) (is_none m.router.out) (true_of_not (is_reading m.router.link && is_none m.router.out) on) in
       let l = live_of m.router.link (i ∷ past) i g.seen m.router conn up (b ∷ rest ++ tail) g.good.link parts.0 in
-      let n : Noted = with_bytes (finds_memory m.wanting) (m.router.held ++ b ∷ []) m.router (judge V1 (not m.router.agreed) (m.router.held ++ b ∷ [])) in
+      let n : Noted = with_bytes (finds_memory m.wanting) (m.router.held ++ b ∷ []) m.router (judge m.router.spoken (not m.router.agreed) (m.router.held ++ b ∷ [])) in
       adds_goes items places (rest ++ tail) m n (router_byte m b).wanting g.seen l.0 l.1
       (byte_read g.seen (rest ++ tail) m.router b (finds_memory m.wanting) (m.items ++ items) l.0 l.2 parts.0 (none_is m.router.out parts.1) g.tells
-      (byte_case (not m.router.agreed) m.router.held b ((rest ++ tail) ++ (conn_due conn ++ l.2.lost)) l.2.coming l.2.downward))
+      (byte_case m.router.spoken m.router.agreed m.router.held b ((rest ++ tail) ++ (conn_due conn ++ l.2.lost)) l.2.early l.2.coming l.2.are_early l.2.downward))
       (byte_good (i ∷ past) i g.seen conn up (rest ++ tail) m b on g.good) (byte_tells m b items on g.tells) g.is_seen g.order
 
   -- it is handed a piece

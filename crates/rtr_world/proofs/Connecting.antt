@@ -9,6 +9,7 @@ use Rattle.vrps.specs.Steps.{HoldsSteps, Steps}
 use Rattle.vrps.specs.Stores.{newest}
 use Rattle.vrps.specs.VrpSet.{VrpSet}
 use Rattle.vrps.specs.declared.serial.Serial.{Serial}
+use Rattle.rtr_pdu.specs.declared.version.Version.TheVariants.{V1}
 use Rattle.rtr_ends.specs.Cache.{Conn, new_conn}
 use Rattle.rtr_ends.specs.CacheState.{Opens, ShowsCache}
 use Rattle.rtr_ends.specs.LinkRules.{Router, ask}
@@ -46,7 +47,7 @@ since_now i serial is = record {
 made_now : (w : World) (serial : Serial) → serial.0 ≡ serial_at w.present.start (length w.present.sets - 1) → MadeAt w.present (Some w.present) (Some serial)
 made_now w serial is = subst (λ b. MadeWhere b w.present w.present (Some serial)) (sym (eq_self w.present.session)) (since_now w.present serial is)
 
-used_now : (w : World) → is_used (instances w) w.present.session ≡ true
+used_now : (w : World) → is_used V1 (instances w) w.present.session ≡ true
 used_now w = ap (λ b. is_some (if b then Some w.present else find (λ i. i.session == w.present.session) w.past)) (eq_self w.present.session)
 
 no_number : (c : Option Number) (n : ℕ) → c ≡ None → Has c n → ⊥
@@ -94,7 +95,7 @@ module _ (w : World) (at : ℕ → Option Conn) (s : Side) (between later : Cach
           shows = record {
             serves = opens_so.1;
             side = record {
-              router = subst (λ r. IsShown (let closed : Router = close r in ask closed) new.router) (clocked_same s.router) router;
+              router = subst (λ r. IsShown (let closed : Router = close r in ask (record closed { spoken = closed.speaks })) new.router) (clocked_same s.router) router;
               conn = subst (λ c. ConnIs now c (Some (new_conn w.present))) (sym conn_is) (put_here conn.0 (Some (new_conn w.present)) m.now);
               up = up;
               down = down;

@@ -18,6 +18,6 @@ kept_lawful = record {
 pub lawful_ends : LawfulEnds
 lawful_ends made history w leads = each w.sides (history_keeps SideLawful kept_lawful made history w leads)
   where
-    each : (sides : List Side) → AllByRecursion SideLawful sides → AllByRecursion (λ s. AllByRecursion (λ (e : Ending). IsLawfulEnd e.end e.question e.home) s.endings) sides
+    each : (sides : List Side) → AllByRecursion SideLawful sides → AllByRecursion (λ s. AllByRecursion (λ (e : Ending). IsLawfulEnd e.end e.question e.version e.home) s.endings) sides
     each [] h = tt
     each (s ∷ sides) h = (h.0.endings, each sides h.1)

@@ -7,7 +7,7 @@ use Rattle.rtr_ends.specs.RouterLink.{Link, Closed, Idle, Asked, Answering, Ende
 use Rattle.rtr_ends.specs.Transcript.{Item}
 use Rattle.rtr_world.specs.Claims.{EndsKept, NoneDropped, OneMore}
 use Rattle.rtr_world.specs.History.{Done, SessionUsed, TooManyVersions, NoSuchRouter, Memory}
-use Rattle.rtr_world.specs.World.{Ending, Side, World, instances, SideEvent, RouterRestart, Connect, RouterSends, CacheGets, CacheSends, RouterGets, Cut, NotifyRouter, Ask, Tick, Publish, Restart, On, cache_gets, cache_gone, cache_sends, connects, cut, ending_of, goes_through, is_ended, is_refused, noted, on_side, router_gets, router_restarts, router_sends, settle, settled, side_refused, side_step, tell_closed}
+use Rattle.rtr_world.specs.World.{Ending, Side, World, instances, SideEvent, RouterRestart, Speak, Connect, RouterSends, CacheGets, CacheSends, RouterGets, Cut, NotifyRouter, Ask, Tick, Publish, Restart, On, cache_gets, cache_gone, cache_sends, connects, cut, ending_of, goes_through, is_ended, is_refused, noted, on_side, router_gets, router_restarts, speaks, router_sends, settle, settled, side_refused, side_step, tell_closed}
 use Rattle.rtr_world.proofs.Endings.{closed_so}
 use Rattle.rtr_world.proofs.Folding.{Blind, gets_keep, notifies_keep, sends_keep, settle_keeps}
 
@@ -54,8 +54,9 @@ module _ (old : List Ending) where
 
 -- One event at a router
 step_after : (w : World) (event : SideEvent) (wanting : Option ℕ) (s : Side) → After s.endings (side_step w event wanting s)
-unfolding side_step connects router_restarts router_sends cache_sends cache_gets router_gets cut
+unfolding side_step speaks connects router_restarts router_sends cache_sends cache_gets router_gets cut
 step_after w RouterRestart wanting s = inl refl
+step_after w (Speak version) wanting s = inl refl
 step_after w Connect wanting s = noted_more (instances w) (connects_at s.router.now s.router) s
 step_after w (RouterSends most) wanting s = inl refl
 step_after w (CacheGets most) wanting s = gets_keep (After s.endings) (blind_after s.endings) w most wanting s s.conn (inl refl)
@@ -73,6 +74,7 @@ refused_after w (CacheGets most) bytes wanting s = step_after w (CacheGets bytes
 refused_after w (CacheSends most) bytes wanting s = step_after w (CacheSends bytes) wanting s
 refused_after w (RouterGets most) bytes wanting s = step_after w (RouterGets bytes) wanting s
 refused_after w RouterRestart bytes wanting s = inl refl
+refused_after w (Speak version) bytes wanting s = inl refl
 refused_after w Connect bytes wanting s = inl refl
 refused_after w (Cut left) bytes wanting s = inl refl
 refused_after w NotifyRouter bytes wanting s = inl refl
@@ -104,10 +106,10 @@ module _ (all : List Instance) where
 pub ends_kept : EndsKept
 unfolding goes_through settled is_refused
 ends_kept w (Publish set) (Done wanting) = all_same (settle (instances (goes_through (Publish set) wanting w))) (stays (instances (goes_through (Publish set) wanting w))) w.sides
-ends_kept w (Restart session start) (Done wanting) = gone (instances (goes_through (Restart session start) wanting w)) w.sides
+ends_kept w (Restart session session0 start) (Done wanting) = gone (instances (goes_through (Restart session session0 start) wanting w)) w.sides
 ends_kept w (On r event) (Done wanting) = one_side (instances w) r (side_step w event wanting) (step_after w event wanting) w.sides
 ends_kept w (Publish set) (Memory bytes wanting) = unchanged w.sides
-ends_kept w (Restart session start) (Memory bytes wanting) = unchanged w.sides
+ends_kept w (Restart session session0 start) (Memory bytes wanting) = unchanged w.sides
 ends_kept w (On r event) (Memory bytes wanting) = one_side (instances w) r (side_refused w event bytes wanting) (refused_after w event bytes wanting) w.sides
 ends_kept w event SessionUsed = unchanged w.sides
 ends_kept w event TooManyVersions = unchanged w.sides

@@ -7,8 +7,8 @@ use Rattle.rtr_ends.specs.declared.link.End.{End}
 use Rattle.rtr_ends.specs.Cache.{Conn}
 use Rattle.rtr_ends.specs.Router.{Noted, connects_at, ticks_at, asks, receives, of_received, router_pulled}
 use Rattle.rtr_ends.specs.RouterLink.{Link, Ended}
-use Rattle.rtr_ends.specs.Transcript.{outstanding}
-use Rattle.rtr_world.specs.World.{Side, World, instances, SideEvent, RouterRestart, Connect, RouterSends, CacheGets, CacheSends, RouterGets, Cut, NotifyRouter, Ask, Tick, is_ended, ending_of, noted, connects, router_restarts, router_sends, sends_from, cache_sends, gets_at, cache_gets, router_gets, cut, notifies_at, side_refused, side_step}
+use Rattle.rtr_ends.specs.Transcript.{outstanding, spoken}
+use Rattle.rtr_world.specs.World.{Side, World, instances, SideEvent, RouterRestart, Speak, Connect, RouterSends, CacheGets, CacheSends, RouterGets, Cut, NotifyRouter, Ask, Tick, is_ended, ending_of, noted, connects, router_restarts, speaks, router_sends, sends_from, cache_sends, gets_at, cache_gets, router_gets, cut, notifies_at, side_refused, side_step}
 use Rattle.rtr_world.specs.Claims.{EndsNoted, NotesEnd, NotesEnds, NotesRefused}
 use Rattle.rtr_world.proofs.Rests.{Rests, history_rests}
 
@@ -16,29 +16,30 @@ no_end : {A : Type 0} (l : Link) (end : End) → is_ended l ≡ false → l ≡ 
 no_end l end on e = absurd (let x : true ≡ false = ap is_ended (sym e) ∙ on in cc)
 
 of_noted : (all : List Instance) (n : Noted) (s : Side) → is_ended s.router.link ≡ false → (end : End) → n.router.link ≡ Ended end →
-    (noted all n s).endings ≡ record { end = end; question = outstanding (drop 1 (n.items ++ s.items)); home = s.home } ∷ s.endings
+    (noted all n s).endings ≡ record { end = end; question = outstanding (drop 1 (n.items ++ s.items)); version = spoken (n.items ++ s.items); home = s.home } ∷ s.endings
 of_noted all n s on end e = λ i. ending_of (on i) (e i) s.home (n.items ++ s.items) ++ s.endings
 
 notes : (w : World) (s : Side) → is_ended s.router.link ≡ false → (event : SideEvent) (wanting : Option ℕ) → NotesEnd w event wanting s
-unfolding side_step connects connects_at router_restarts router_sends router_pulled cache_sends cache_gets cut router_gets
+unfolding side_step speaks connects connects_at router_restarts router_sends router_pulled cache_sends cache_gets cut router_gets
 notes w s on RouterRestart wanting end e = absurd (let x : false ≡ true = ap is_ended e in cc)
+notes w s on (Speak version) wanting end e = no_end s.router.link end on e
 notes w s on Connect wanting end e = absurd (let x : false ≡ true = ap is_ended e in cc)
 notes w s on (RouterSends most) wanting end e = no_end s.router.link end on e
 notes w s on (CacheGets most) wanting end e = by s.conn e
   where
-    by : (o : Option Conn) → (gets_at w most wanting s o).router.link ≡ Ended end → (gets_at w most wanting s o).endings ≡ record { end = end; question = outstanding (drop 1 (gets_at w most wanting s o).items); home = s.home } ∷ s.endings
+    by : (o : Option Conn) → (gets_at w most wanting s o).router.link ≡ Ended end → (gets_at w most wanting s o).endings ≡ record { end = end; question = outstanding (drop 1 (gets_at w most wanting s o).items); version = spoken (gets_at w most wanting s o).items; home = s.home } ∷ s.endings
     by None h = no_end s.router.link end on h
     by (Some o) h = no_end s.router.link end on h
 notes w s on (CacheSends most) wanting end e = by s.conn e
   where
-    by : (o : Option Conn) → (sends_from w.keep most s o).router.link ≡ Ended end → (sends_from w.keep most s o).endings ≡ record { end = end; question = outstanding (drop 1 (sends_from w.keep most s o).items); home = s.home } ∷ s.endings
+    by : (o : Option Conn) → (sends_from w.keep most s o).router.link ≡ Ended end → (sends_from w.keep most s o).endings ≡ record { end = end; question = outstanding (drop 1 (sends_from w.keep most s o).items); version = spoken (sends_from w.keep most s o).items; home = s.home } ∷ s.endings
     by None h = no_end s.router.link end on h
     by (Some o) h = no_end s.router.link end on h
 notes w s on (RouterGets most) wanting end e = of_noted (instances w) (of_received (receives s.router.now wanting (take most s.down) s.router)) s on end e
 notes w s on (Cut left) wanting end e = no_end s.router.link end on e
 notes w s on NotifyRouter wanting end e = by s.conn e
   where
-    by : (o : Option Conn) → (notifies_at w s o).router.link ≡ Ended end → (notifies_at w s o).endings ≡ record { end = end; question = outstanding (drop 1 (notifies_at w s o).items); home = s.home } ∷ s.endings
+    by : (o : Option Conn) → (notifies_at w s o).router.link ≡ Ended end → (notifies_at w s o).endings ≡ record { end = end; question = outstanding (drop 1 (notifies_at w s o).items); version = spoken (notifies_at w s o).items; home = s.home } ∷ s.endings
     by None h = no_end s.router.link end on h
     by (Some o) h = no_end s.router.link end on h
 notes w s on Ask wanting end e = of_noted (instances w) (asks s.router) s on end e
@@ -52,6 +53,7 @@ notes_part w s on (CacheGets most) bytes wanting end e = notes w s on (CacheGets
 notes_part w s on (CacheSends most) bytes wanting end e = notes w s on (CacheSends bytes) wanting end e
 notes_part w s on (RouterGets most) bytes wanting end e = notes w s on (RouterGets bytes) wanting end e
 notes_part w s on RouterRestart bytes wanting end e = no_end s.router.link end on e
+notes_part w s on (Speak version) bytes wanting end e = no_end s.router.link end on e
 notes_part w s on Connect bytes wanting end e = no_end s.router.link end on e
 notes_part w s on (Cut left) bytes wanting end e = no_end s.router.link end on e
 notes_part w s on NotifyRouter bytes wanting end e = no_end s.router.link end on e

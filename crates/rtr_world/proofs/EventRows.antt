@@ -9,10 +9,10 @@ use Rattle.vrps.specs.VrpSet.{VrpSet, empty, set_of}
 use Rattle.vrps.proofs.SetLaws.{listing-set_of}
 use Rattle.rtr_pdu.specs.Judging.{judge}
 use Rattle.rtr_pdu.specs.Stream.{as_read}
-use Rattle.rtr_pdu.specs.declared.unit.Unit.TheVariants.{SerialNotify, SerialQuery}
+use Rattle.rtr_pdu.specs.declared.unit.Unit.TheVariants.{SerialNotify, SerialQuery, ResetQuery}
 use Rattle.rtr_ends.specs.declared.link.End.TheVariants as ends
 use Rattle.rtr_pdu.specs.declared.version.Version.{Version}
-use Rattle.rtr_pdu.specs.declared.version.Version.TheVariants.{V1}
+use Rattle.rtr_pdu.specs.declared.version.Version.TheVariants.{V0, V1}
 use Rattle.rtr_ends.specs.Answer.{report, sent, sent_all}
 use Rattle.rtr_ends.specs.Cache.{Conn, new_conn, conn_takes, conn_byte, conn_pulled, conn_notified}
 use Rattle.rtr_ends.specs.LinkRules.{Router, new_router, on_unit}
@@ -22,7 +22,7 @@ use Rattle.rtr_ends.specs.Timing.{default_intervals}
 use Rattle.rtr_ends.specs.Transcript.{At, Opened, Asks, Reads, Refused, Restarts, Shut, Item, AskReset, AskSerial, Committed}
 use Rattle.rtr_ends.proofs.WholeAnswerRows.{v, v_ascends, cache, with_all_of, reset_bytes, response_bytes, v_bytes, end_bytes}
 use Rattle.rtr_world.specs.History.{Done, Memory, after, refusal, may_refuse, moved, MayEnd, has_connection, is_near, room_for, room_since}
-use Rattle.rtr_world.specs.World.{Side, World, Publish, Restart, On, RouterRestart, Connect, RouterSends, CacheGets, CacheSends, RouterGets, Cut, NotifyRouter, Ask, Tick, new_side, connects, router_sends, cache_gets, cache_sends, router_gets, router_restarts, cut, side_step, side_refused, settle, goes_through, settled, is_refused}
+use Rattle.rtr_world.specs.World.{Side, World, Publish, Restart, On, RouterRestart, Speak, Connect, RouterSends, CacheGets, CacheSends, RouterGets, Cut, NotifyRouter, Ask, Tick, new_side, connects, router_sends, cache_gets, cache_sends, router_gets, router_restarts, speaks, cut, side_step, side_refused, settle, goes_through, settled, is_refused}
 
 abbrev just_v : VrpSet
 just_v = set_of (v ∷ [])
@@ -38,7 +38,7 @@ abbrev asking : Router
 asking = record new_router { link = Asked AskReset }
 
 abbrev opened : List Item
-opened = Asks AskReset ∷ Opened ∷ At 0 ∷ []
+opened = Asks AskReset ∷ Opened V1 ∷ At 0 ∷ []
 
 abbrev open_side : Router → Conn → List ℕ → List ℕ → List Item → Side
 open_side r o up down items = record { router = r; conn = Some o; up = up; down = down; home = Some with_v; items = items; endings = []; places = [] }
@@ -67,7 +67,7 @@ notifies_once = refl
 
 -- an idle router asks, and one that has asked does not
 abbrev version_5 : Committed
-version_5 = record { session = 0x1234; serial = 5; moment = 0; intervals = default_intervals }
+version_5 = record { version = V1; session = 0x1234; serial = 5; moment = 0; intervals = default_intervals }
 
 abbrev idle : Router
 idle = record new_router { table = just_v; version = Some version_5; due = Some 3600; link = Idle; agreed = true; session = Some 0x1234 }
@@ -101,7 +101,7 @@ expires = refl
 -- An expiry while a Serial Query is outstanding ends the link. That is noted, and the router is told in the same event.
 expires_asked : after (On 0 (Tick 7201)) (Done None) (world (open_side asked_again (new_conn with_v) [] [] (Asks (AskSerial 0x1234 5) ∷ []) ∷ []))
     ≡ world (record (closed_side (record new_router { due = Some 7801; now = 7201 }) (Shut ∷ At 7201 ∷ At 7201 ∷ Asks (AskSerial 0x1234 5) ∷ [])) {
-      endings = record { end = ends.Expired; question = Some (AskSerial 0x1234 5); home = Some with_v } ∷ [];
+      endings = record { end = ends.Expired; question = Some (AskSerial 0x1234 5); version = V1; home = Some with_v } ∷ [];
     } ∷ [])
 unfolding goes_through settled settle side_step ticks_at clocked closed_at
 expires_asked = refl
@@ -124,7 +124,7 @@ last_byte = refl
 
 is_corrupt : after (On 0 (RouterGets 99)) (Done None) (world (record (open_side other (new_conn with_v) [] corrupt (Asks (AskSerial 0x2222 5) ∷ [])) { conn = None } ∷ []))
     ≡ world (record (closed_side (record new_router { due = Some 600 }) (Shut ∷ At 0 ∷ Reads (report 0 (sent V1 (SerialQuery 0x2222 5))) ∷ At 0 ∷ Asks (AskSerial 0x2222 5) ∷ [])) {
-      endings = record { end = ends.Told 0; question = Some (AskSerial 0x2222 5); home = Some with_v } ∷ [];
+      endings = record { end = ends.Told 0; question = Some (AskSerial 0x2222 5); version = V1; home = Some with_v } ∷ [];
     } ∷ [])
 unfolding goes_through settled settle side_step router_gets receives clocked router_byte on_unit judge as_read closed_at is_utf8 chars
 is_corrupt = refl
@@ -169,6 +169,20 @@ restarts_router : after (On 0 RouterRestart) (Done None) (world (open_side (reco
 unfolding goes_through settled settle side_step router_restarts
 restarts_router = refl
 
+-- A router is told to speak version 0: it does so from its next connection on, which asks for all.
+speaks_0 : after (On 0 (Speak V0)) (Done None) (world (closed_side closed [] ∷ [])) ≡ world (closed_side (record closed { speaks = V0 }) [] ∷ [])
+unfolding goes_through settled settle side_step speaks
+speaks_0 = refl
+
+connects_in_0 : after (On 0 Connect) (Done None) (world (closed_side (record closed { speaks = V0 }) [] ∷ []))
+    ≡ world (open_side (record closed { speaks = V0; spoken = V0; link = Asked AskReset; out = sent V0 ResetQuery }) (new_conn with_v) [] [] (Asks AskReset ∷ Opened V0 ∷ At 0 ∷ []) ∷ [])
+unfolding goes_through settled settle side_step connects connects_at clocked
+connects_in_0 = refl
+
+speaks_later : after (On 0 (Speak V0)) (Done None) (world (open_side asking notified [] (7 ∷ []) opened ∷ [])) ≡ world (open_side (record asking { speaks = V0 }) notified [] (7 ∷ []) opened ∷ [])
+unfolding goes_through settled settle side_step speaks
+speaks_later = refl
+
 -- Refused for want of memory: what came before has moved, the connection is cut with nothing to arrive, and the router is told.
 cut_by_want : after (On 0 (CacheGets 8)) (Memory 3 None) (world (open_side (record asking { out = 9 ∷ [] }) (new_conn with_v) reset_bytes (7 ∷ []) opened ∷ []))
     ≡ world (closed_side (record new_router { due = Some 600 }) (Shut ∷ At 0 ∷ Refused ∷ opened) ∷ [])
@@ -187,13 +201,13 @@ nothing_published = refl
 abbrev connected : World
 connected = world (open_side asking (new_conn with_v) reset_bytes [] opened ∷ new_side ∷ [])
 
-refuses : (may_refuse connected (Publish just_v) ≡ true) × (may_refuse connected (Restart 1 1) ≡ true) × (may_refuse connected (On 1 RouterRestart) ≡ true) × (may_refuse connected (On 1 Connect) ≡ true)
+refuses : (may_refuse connected (Publish just_v) ≡ true) × (may_refuse connected (Restart 1 1 1) ≡ true) × (may_refuse connected (On 1 RouterRestart) ≡ true) × (may_refuse connected (On 1 Connect) ≡ true)
     × (may_refuse connected (On 0 (RouterSends 0)) ≡ true) × (may_refuse connected (On 0 (CacheGets 0)) ≡ true) × (may_refuse connected (On 0 (CacheSends 0)) ≡ true) × (may_refuse connected (On 0 (RouterGets 0)) ≡ true)
 refuses = (refl, refl, refl, refl, refl, refl, refl, refl)
 
-never_refuses : (may_refuse connected (On 0 (Cut 0)) ≡ false) × (may_refuse connected (On 0 NotifyRouter) ≡ false) × (may_refuse connected (On 0 Ask) ≡ false) × (may_refuse connected (On 0 (Tick 0)) ≡ false)
+never_refuses : (may_refuse connected (On 0 (Cut 0)) ≡ false) × (may_refuse connected (On 0 NotifyRouter) ≡ false) × (may_refuse connected (On 0 (Speak V0)) ≡ false) × (may_refuse connected (On 0 Ask) ≡ false) × (may_refuse connected (On 0 (Tick 0)) ≡ false)
     × (may_refuse connected (On 1 (RouterSends 9)) ≡ false) × (may_refuse connected (On 1 (CacheGets 9)) ≡ false) × (may_refuse connected (On 1 (CacheSends 9)) ≡ false) × (may_refuse connected (On 1 (RouterGets 9)) ≡ false)
-never_refuses = (refl, refl, refl, refl, refl, refl, refl, refl)
+never_refuses = (refl, refl, refl, refl, refl, refl, refl, refl, refl)
 
 -- a router whose link is closed has a connection while one is open at the cache, and one that was not told yet has one too
 still_connected : (has_connection (record new_side { conn = Some (new_conn with_v) }) ≡ true) × (has_connection (cut_side []) ≡ true) × (has_connection new_side ≡ false)
@@ -212,7 +226,7 @@ never_came : MayEnd (refusal connected (On 0 (CacheGets 7))) connected (On 0 (Ca
 unfolding refusal conn_takes conn_byte judge as_read
 never_came h = absurd (let e : false ≡ true = h in cc)
 
-no_unit : MayEnd (refusal connected (Restart 1 1)) connected (Restart 1 1) (Done (Some 0)) → ⊥
+no_unit : MayEnd (refusal connected (Restart 1 1 1)) connected (Restart 1 1 1) (Done (Some 0)) → ⊥
 unfolding refusal
 no_unit h = h
 

@@ -4,18 +4,19 @@ use Rattle.std.proofs.Common.{sym, ap, ◌∙◌, subst, arith, append_assoc, in
 use Rattle.std.proofs.lemmas.List.{append-nil, take-append-drop, take_min}
 use Rattle.vrps.specs.Instance.{Instance}
 use Rattle.rtr_pdu.specs.declared.unit.Unit.{Unit}
-use Rattle.rtr_pdu.specs.declared.version.Version.TheVariants.{V1}
-use Rattle.rtr_ends.specs.Answer.{sent}
-use Rattle.rtr_ends.specs.Cache.{Conn, conn_pulled, conn_takes, pulled_count}
-use Rattle.rtr_ends.specs.LinkRules.{Router}
+use Rattle.rtr_pdu.specs.declared.version.Version.{Version}
+use Rattle.rtr_ends.specs.Answer.{sent, session_in}
+use Rattle.rtr_ends.specs.Cache.{Conn, new_conn, conn_pulled, conn_takes, pulled_count}
+use Rattle.rtr_ends.specs.Connection.{Sent, in_version}
+use Rattle.rtr_ends.specs.LinkRules.{Router, ask}
 use Rattle.rtr_ends.specs.Router.{close, clocked, asks_if, connects_at, closed_at, ticks_at, asks, receives, router_pulled}
 use Rattle.rtr_ends.specs.RouterLink.{Link, Closed, Idle, Asked, Answering, Ended, is_closed, is_reading, is_due, is_idle}
-use Rattle.rtr_ends.specs.Transcript.{choose, At, Item, Question, query}
+use Rattle.rtr_ends.specs.Transcript.{choose, of_version, At, Item, query}
 use Rattle.rtr_ends.proofs.KeptLaws.{clocked_tells}
 use Rattle.rtr_world.specs.OneAnswer.{IsOfNow}
 use Rattle.rtr_world.specs.VersionPlaces.{VersionPlace}
 use Rattle.rtr_world.specs.History.{conn_due}
-use Rattle.rtr_world.specs.World.{Side, World, instances, timing, SideEvent, RouterRestart, Connect, RouterSends, CacheGets, CacheSends, RouterGets, Cut, NotifyRouter, Ask, Tick, noted, places_of, connects, router_restarts, router_sends, sends_from, cache_sends, gets_at, cache_gets, router_gets, cut, notifies_at, side_step, side_part, side_refused, tell_closed, close_ended, settle_conn, settle_link, settle_rest, settle_wire, settle}
+use Rattle.rtr_world.specs.World.{Side, World, instances, timing, SideEvent, RouterRestart, Speak, Connect, RouterSends, CacheGets, CacheSends, RouterGets, Cut, NotifyRouter, Ask, Tick, noted, places_of, connects, router_restarts, speaks, router_sends, sends_from, cache_sends, gets_at, cache_gets, router_gets, cut, notifies_at, side_step, side_part, side_refused, tell_closed, close_ended, settle_conn, settle_link, settle_rest, settle_wire, settle}
 use Rattle.rtr_world.proofs.CacheMoves as cache
 use Rattle.rtr_world.proofs.Commits.{goes_fed}
 use Rattle.rtr_world.proofs.Invariant.{OwnSession, IfOpen, Open, GoodLink, GoodRouter, Good}
@@ -23,19 +24,19 @@ use Rattle.rtr_world.proofs.Places.{Ordered, ordered_connects, ordered_none}
 use Rattle.rtr_world.proofs.UnitsAtRouters.{first_fits, query_unit}
 use Rattle.rtr_ends.proofs.ByteLists.{drop_none}
 use Rattle.rtr_ends.proofs.KeptLaws.{not_due}
-use Rattle.rtr_world.proofs.SideSteps.{live_map, clocked_good, close_shut, asks_good}
-use Rattle.rtr_world.proofs.UnitStreams.{Stream}
+use Rattle.rtr_world.proofs.SideSteps.{live_map, clocked_good, Shut, close_shut, asks_good}
+use Rattle.rtr_world.proofs.UnitStreams.{Stream, behind_early}
 use Rattle.rtr_world.proofs.KeptTables.{SideTells}
-use Rattle.rtr_world.proofs.Versions.{Present}
+use Rattle.rtr_world.proofs.Versions.{Present, held_at}
 use Rattle.rtr_world.proofs.LinkedSides.{Seen, IsSeen, seen_at}
 
 -- what is sent, and what is left of it
-sent_first : (most : ℕ) (held up out : List ℕ) (units : List Unit) → Stream held (up ++ out) units → Stream held ((up ++ take most out) ++ drop most out) units
+sent_first : (most : ℕ) (held up out : List ℕ) (units : List Sent) → Stream held (up ++ out) units → Stream held ((up ++ take most out) ++ drop most out) units
 sent_first most held up out units s = subst (λ x. Stream held x units) (ap (λ x. up ++ x) (sym (take-append-drop most out)) ∙ sym (append_assoc up (take most out) (drop most out))) s
 
-open_sent : (i : Instance) (h : Seen) (most : ℕ) (out up : List ℕ) (wanted : List Unit) (lost : List ℕ) (conn : Option Conn) → IfOpen conn (Open i h out up wanted lost) → IfOpen conn (Open i h (drop most out) (up ++ take most out) wanted lost)
-open_sent i h most out up wanted lost None op = tt
-open_sent i h most out up wanted lost (Some o) op = record { upward = sent_first most o.held up out wanted op.upward; spoken = op.spoken; whole = op.whole; session = op.session; made = op.made; later = op.later }
+open_sent : (i : Instance) (pv : Version) (h : Seen) (most : ℕ) (out up : List ℕ) (wanted coming : List Unit) (agreed : Bool) (lost : List ℕ) (conn : Option Conn) → IfOpen conn (Open i pv h out up wanted coming agreed lost) → IfOpen conn (Open i pv h (drop most out) (up ++ take most out) wanted coming agreed lost)
+open_sent i pv h most out up wanted coming agreed lost None op = tt
+open_sent i pv h most out up wanted coming agreed lost (Some o) op = record { upward = sent_first most o.held up out (in_version pv wanted) op.upward; spoken = op.spoken; unheard = op.unheard; whole = op.whole; session = op.session; made = op.made; later = op.later }
 
 module _ (w : World) (p : Present (instances w) w.present) where
   abbrev GoodS : Side → Type 0
@@ -54,11 +55,15 @@ module _ (w : World) (p : Present (instances w) w.present) where
         l.0,
         l.1,
         record {
+          version = l.2.version;
+          early = l.2.early;
           coming = l.2.coming;
           lost = l.2.lost;
           wanted = l.2.wanted;
           downward = l.2.downward;
-          open_at = open_sent w.present l.0 most s.router.out s.up l.2.wanted l.2.lost s.conn l.2.open_at;
+          open_at = open_sent w.present s.router.spoken l.0 most s.router.out s.up l.2.wanted l.2.coming s.router.agreed l.2.lost s.conn l.2.open_at;
+          are_early = l.2.are_early;
+          early_notifies = l.2.early_notifies;
           notifies = l.2.notifies;
           own = l.2.own;
           mine = l.2.mine;
@@ -81,7 +86,7 @@ module _ (w : World) (p : Present (instances w) w.present) where
       unmarked = g.router.unmarked;
       link = live_map s.router.link (instances w) (instances w) w.present w.present g.seen g.seen s.router s.router s.conn (Some (conn_pulled w.keep timing most o)) s.up s.up s.down (s.down ++ take most o.state.due) (λ x. x) (λ x. x) refl refl g.router.link (λ l.
           let f = l.2 in
-          let op : Open w.present l.0 s.router.out s.up f.wanted f.lost o = subst (λ x. IfOpen x (Open w.present l.0 s.router.out s.up f.wanted f.lost)) e f.open_at in
+          let op : Open w.present s.router.spoken l.0 s.router.out s.up f.wanted f.coming s.router.agreed f.lost o = subst (λ x. IfOpen x (Open w.present s.router.spoken l.0 s.router.out s.up f.wanted f.coming s.router.agreed f.lost)) e f.open_at in
           let due : List ℕ = o.state.due in
           let split : o.state.due ≡ take most o.state.due ++ drop (pulled_count most o) o.state.due =
           sym (take-append-drop (pulled_count most o) o.state.due) ∙ ap (λ x. x ++ drop (pulled_count most o) o.state.due) (take_min most o.state.due) in
@@ -92,11 +97,15 @@ module _ (w : World) (p : Present (instances w) w.present) where
             l.0,
             l.1,
             record {
+              version = f.version;
+              early = f.early;
               coming = f.coming;
               lost = f.lost;
               wanted = f.wanted;
-              downward = subst (λ x. Stream s.router.held x f.coming) bytes f.downward;
-              open_at = record { upward = op.upward; spoken = op.spoken; whole = op.whole; session = op.session; made = op.made; later = op.later };
+              downward = subst (λ x. Stream s.router.held x (behind_early s.router.spoken f.early f.coming)) bytes f.downward;
+              open_at = record { upward = op.upward; spoken = op.spoken; unheard = op.unheard; whole = op.whole; session = op.session; made = op.made; later = op.later };
+              are_early = f.are_early;
+              early_notifies = f.early_notifies;
               notifies = f.notifies;
               own = f.own;
               mine = f.mine;
@@ -129,7 +138,7 @@ module _ (w : World) (p : Present (instances w) w.present) where
   cache_gets_good most wanting s g = gets_good most wanting s s.conn refl g
 
   pub gets_now : (most : ℕ) (wanting : Option ℕ) (s : Side) (o : Option Conn) → s.conn ≡ o → is_reading s.router.link ≡ true → GoodS s
-      → (conn_due (gets_at w most wanting s o).conn ≡ conn_due o) ⊎ IsOfNow w.present w.keep wanting s.router.link (conn_due (gets_at w most wanting s o).conn)
+      → (conn_due (gets_at w most wanting s o).conn ≡ conn_due o) ⊎ IsOfNow s.router.spoken w.present w.keep wanting s.router.link (conn_due (gets_at w most wanting s o).conn)
   unfolding conn_takes
   gets_now most wanting s None e live g = inl (ap conn_due e)
   gets_now most wanting s (Some o) e live g =
@@ -163,11 +172,15 @@ module _ (w : World) (p : Present (instances w) w.present) where
             l.0,
             l.1,
             record {
+              version = f.version;
+              early = f.early;
               coming = f.coming;
               lost = drop left s.down ++ (conn_due s.conn ++ f.lost);
               wanted = f.wanted;
-              downward = subst (λ x. Stream s.router.held x f.coming) bytes f.downward;
+              downward = subst (λ x. Stream s.router.held x (behind_early s.router.spoken f.early f.coming)) bytes f.downward;
               open_at = tt;
+              are_early = f.are_early;
+              early_notifies = f.early_notifies;
               notifies = f.notifies;
               own = f.own;
               mine = f.mine;
@@ -178,53 +191,93 @@ module _ (w : World) (p : Present (instances w) w.present) where
   }
 
   -- a connection is made
+  fresh_session : (session : ℕ) (o : Option ℕ) → o ≡ None → OwnSession session o
+  fresh_session session None e = tt
+  fresh_session session (Some x) e = absurd (let h : ◌≡◌ {A = Option ℕ} (Some x) None = e in cc)
+
+  linked : (seen : Option Seen) (conn : Option Conn) (up down : List ℕ) (c : Router) → Shut (instances w) w.present seen conn up down c
+      → GoodRouter (instances w) w.present (Some (seen_at w.keep c.speaks w.present)) (Some (new_conn w.present)) [] [] (ask (record c { spoken = c.speaks }))
+  linked seen conn up down c shut =
+      let fits = first_fits (session_in c.speaks w.present) (of_version c.speaks c.version) c.mark shut.unmarked in
+      record {
+        table = shut.table;
+        unmarked = shut.unmarked;
+        link = (
+          seen_at w.keep c.speaks w.present,
+          refl,
+          record {
+            version = refl;
+            early = [];
+            coming = [];
+            lost = [];
+            wanted = query (choose (of_version c.speaks c.version) c.mark) ∷ [];
+            downward = record { whole = append-nil c.held ∙ shut.held; partial = inl shut.held; fit = tt };
+            open_at = record {
+              upward = record {
+                whole = sym (append-nil (sent c.speaks (query (choose (of_version c.speaks c.version) c.mark))));
+                partial = inl refl;
+                fit = (query_unit (instances w) c.speaks (session_in c.speaks w.present) (choose (of_version c.speaks c.version) c.mark) (of_version c.speaks c.version) c.table fits (held_at (instances w) c.speaks c.version c.table shut.table), tt);
+              };
+              spoken = tt;
+              unheard = (refl, shut.agreed);
+              whole = refl;
+              session = refl;
+              made = omega arith;
+              later = record { session = refl; session0 = refl; start = refl; more = []; sets = refl };
+            };
+            are_early = (refl, λ e. refl);
+            early_notifies = tt;
+            notifies = tt;
+            own = fresh_session (session_in c.speaks w.present) c.session shut.session;
+            mine = λ e. absurd (let h : false ≡ true = sym shut.agreed ∙ e in cc);
+            shape = (fits, inl (refl, refl));
+          },
+        );
+      }
+
   connects_good : (s : Side) → GoodS s → GoodS (connects w s)
   unfolding connects connects_at
   connects_good s g =
       let told = clocked_good (instances w) w.present g.seen s.conn s.up s.down s.router.now s.router g.router in
       let shut = close_shut (instances w) w.present g.seen s.conn s.up s.down (clocked s.router.now s.router) told in
-      let r : Router = close (clocked s.router.now s.router) in
-      let q : Question = choose (close (clocked s.router.now s.router)).version (close (clocked s.router.now s.router)).mark in
-      let fits = first_fits w.present.session (close (clocked s.router.now s.router)).version (close (clocked s.router.now s.router)).mark shut.unmarked in
       record {
-        seen = Some (seen_at w.keep w.present);
+        seen = Some (seen_at w.keep (close (clocked s.router.now s.router)).speaks w.present);
         is_seen = (refl, refl, refl, omega arith);
-        order = ordered_connects w.keep w.past w.present s.places g.seen g.order;
-        router = record {
-          table = shut.table;
-          unmarked = shut.unmarked;
-          link = (
-            seen_at w.keep w.present,
-            refl,
-            record {
-              coming = [];
-              lost = [];
-              wanted = query (choose (close (clocked s.router.now s.router)).version (close (clocked s.router.now s.router)).mark) ∷ [];
-              downward = record { whole = append-nil (close (clocked s.router.now s.router)).held ∙ shut.held; partial = inl shut.held; fit = tt };
-              open_at = record {
-                upward = record {
-                  whole = sym (append-nil (sent V1 (query (choose (close (clocked s.router.now s.router)).version (close (clocked s.router.now s.router)).mark))));
-                  partial = inl refl;
-                  fit = (query_unit (instances w) w.present.session (choose (close (clocked s.router.now s.router)).version (close (clocked s.router.now s.router)).mark) (close (clocked s.router.now s.router)).version (close (clocked s.router.now s.router)).table fits shut.table, tt);
-                };
-                spoken = tt;
-                whole = refl;
-                session = refl;
-                made = omega arith;
-                later = record { session = refl; session0 = refl; start = refl; more = []; sets = refl };
-              };
-              notifies = tt;
-              own = own (close (clocked s.router.now s.router)).session shut.session;
-              mine = λ e. absurd (let h : false ≡ true = sym shut.agreed ∙ e in cc);
-              shape = (fits, inl (refl, refl));
-            },
-          );
-        };
+        order = ordered_connects w.keep (close (clocked s.router.now s.router)).speaks w.past w.present s.places g.seen g.order;
+        router = linked g.seen s.conn s.up s.down (close (clocked s.router.now s.router)) shut;
       }
-    where
-      own : (o : Option ℕ) → o ≡ None → OwnSession w.present.session o
-      own None e = tt
-      own (Some x) e = absurd (let h : ◌≡◌ {A = Option ℕ} (Some x) None = e in cc)
+
+  -- The version of the next connection changes nothing of this one.
+  speaks_good : (version : Version) (s : Side) → GoodS s → GoodS (speaks version s)
+  unfolding speaks
+  speaks_good version s g = record {
+    seen = g.seen;
+    is_seen = g.is_seen;
+    order = g.order;
+    router = record {
+      table = g.router.table;
+      unmarked = g.router.unmarked;
+      link = live_map s.router.link (instances w) (instances w) w.present w.present g.seen g.seen s.router (record s.router { speaks = version }) s.conn s.conn s.up s.up s.down s.down (λ e. e) (λ e. e) refl refl g.router.link (λ l. (
+        l.0,
+        l.1,
+        record {
+          version = l.2.version;
+          early = l.2.early;
+          coming = l.2.coming;
+          lost = l.2.lost;
+          wanted = l.2.wanted;
+          downward = l.2.downward;
+          open_at = l.2.open_at;
+          are_early = l.2.are_early;
+          early_notifies = l.2.early_notifies;
+          notifies = l.2.notifies;
+          own = l.2.own;
+          mine = l.2.mine;
+          shape = l.2.shape;
+        },
+      ));
+    };
+  }
 
   asks_so : (s : Side) (g : GoodS s) → GoodRouter (instances w) w.present g.seen s.conn s.up s.down (asks s.router).router
   unfolding asks
@@ -256,6 +309,7 @@ module _ (w : World) (p : Present (instances w) w.present) where
   pub step_good : (event : SideEvent) (wanting : Option ℕ) (s : Side) → GoodS s → SideTells s → GoodS (side_step w event wanting s)
   unfolding side_step router_restarts asks ticks_at
   step_good RouterRestart wanting s g t = record { seen = None; is_seen = tt; order = ordered_none w.past w.present s.places g.seen g.order; router = record { table = refl; unmarked = refl; link = (refl, refl, refl, refl) } }
+  step_good (Speak version) wanting s g t = speaks_good version s g
   step_good Connect wanting s g t = connects_good s g
   step_good (RouterSends most) wanting s g t = router_sends_good most s g
   step_good (CacheGets most) wanting s g t = cache_gets_good most wanting s g
@@ -275,6 +329,7 @@ module _ (w : World) (p : Present (instances w) w.present) where
   part_good (CacheSends most) bytes wanting s g t = cache_sends_good bytes s g
   part_good (RouterGets most) bytes wanting s g t = router_gets_good bytes wanting s g t
   part_good RouterRestart bytes wanting s g t = g
+  part_good (Speak version) bytes wanting s g t = g
   part_good Connect bytes wanting s g t = g
   part_good (Cut left) bytes wanting s g t = g
   part_good NotifyRouter bytes wanting s g t = g
@@ -349,11 +404,15 @@ module _ (w : World) (p : Present (instances w) w.present) where
             l.0,
             l.1,
             record {
+              version = f.version;
+              early = f.early;
               coming = f.coming;
               lost = f.lost;
               wanted = f.wanted;
-              downward = subst (λ x. Stream s.router.held x f.coming) bytes f.downward;
+              downward = subst (λ x. Stream s.router.held x (behind_early s.router.spoken f.early f.coming)) bytes f.downward;
               open_at = tt;
+              are_early = f.are_early;
+              early_notifies = f.early_notifies;
               notifies = f.notifies;
               own = f.own;
               mine = f.mine;

@@ -3,6 +3,7 @@ use Rattle.std.specs.Prelude.{◌≡◌, ℕ, List, ◌∷◌, Option, None, Res
 use Rattle.std.proofs.Common.{sym, subst}
 use Rattle.std.specs.declared.alloc.AllocError.{AllocError}
 use Rattle.vrps.specs.Steps.{Steps}
+use Rattle.rtr_pdu.specs.declared.version.Version.{Version}
 use Rattle.rtr_ends.specs.Cache.{Conn}
 use Rattle.rtr_ends.specs.Router.{Noted}
 use Rattle.rtr_ends.specs.RouterShown.{IsShown}
@@ -32,6 +33,10 @@ module _ (w : World) (at : ℕ → Option Conn) where
   -- a call on the router alone
   pub noted_shows : (s : Side) (v : values.Side) (n : Noted) (router : routers.Router) → ShowsSide w at s v → IsShown n.router router → AloneAt w at (noted (instances w) n s) v (record v { router = router })
   noted_shows s v n router h shown = record { shows = record { router = shown; conn = h.conn; up = h.up; down = h.down; made = h.made; made_to = h.made_to }; conn = refl }
+
+  -- what the router is to speak
+  pub speaks_shown : (s : Side) (v : values.Side) (version : Version) (router : routers.Router) → ShowsSide w at s v → IsShown (record s.router { speaks = version }) router → AloneAt w at (record s { router = record s.router { speaks = version } }) v (record v { router = router })
+  speaks_shown s v version router h shown = record { shows = record { router = shown; conn = h.conn; up = h.up; down = h.down; made = h.made; made_to = h.made_to }; conn = refl }
 
   -- an item of the transcript is nothing that is shown
   refused_shows : (s : Side) (cache : Cache Steps) (old : values.Side) (v : values.Side) (items : List Item) → Moves w at old.conn s cache v → Moves w at old.conn (record s { items = items }) cache v

@@ -16,8 +16,8 @@ Known w s = Good w.keep w.past w.present s × SideTells s
 
 pub history_known : (made : Made) (history : List Entry) (w : World) → Leads made history w → AllByRecursion (Known w) w.sides
 history_known made history w leads =
-    let told = history_tells (new_world made.routers made.session made.start made.keep) history w leads.1 (all_new SideTells new_side_tells made.routers) in
-    let good = history_good (new_world made.routers made.session made.start made.keep) history w leads.1 (new_good made leads.0) (all_new SideTells new_side_tells made.routers) in
+    let told = history_tells (new_world made.routers made.session made.session0 made.start made.keep) history w leads.1 (all_new SideTells new_side_tells made.routers) in
+    let good = history_good (new_world made.routers made.session made.session0 made.start made.keep) history w leads.1 (new_good made leads.0) (all_new SideTells new_side_tells made.routers) in
     all_both (Good w.keep w.past w.present) SideTells w.sides good.sides told
 
 -- what each event keeps
@@ -38,7 +38,7 @@ module _ (P : Side → Type 0) (k : Kept P) where
   through : (event : Event) (wanting : Option ℕ) (w : World) → GoodWorld w → AllTell w → AllP w → AllP (goes_through event wanting w)
   unfolding goes_through
   through (Publish set) wanting w g t h = h
-  through (Restart session start) wanting w g t h = all_map P P cache_gone w.sides k.gone h
+  through (Restart session session0 start) wanting w g t h = all_map P P cache_gone w.sides k.gone h
   through (On r event) wanting w g t h = all_on_side (λ s. Known w s × P s) P r (side_step w event wanting) w.sides (λ s x. x.1) (λ s x. k.step w event wanting s x.0 x.1) (known w g t h)
 
   settle_all : (w : World) → AllP w → AllP (settled w)
@@ -48,7 +48,7 @@ module _ (P : Side → Type 0) (k : Kept P) where
   refused_all : (event : Event) (bytes : ℕ) (wanting : Option ℕ) (w : World) → GoodWorld w → AllTell w → AllP w → AllP (is_refused event bytes wanting w)
   unfolding is_refused settled
   refused_all (Publish set) bytes wanting w g t h = h
-  refused_all (Restart session start) bytes wanting w g t h = h
+  refused_all (Restart session session0 start) bytes wanting w g t h = h
   refused_all (On r event) bytes wanting w g t h =
       all_map (λ s. P (settle (instances w) s)) P (settle (instances w)) (on_side r (side_refused w event bytes wanting) w.sides) (λ s x. x)
       (all_on_side (λ s. Known w s × P s) (λ s. P (settle (instances w) s)) r (side_refused w event bytes wanting) w.sides (λ s x. k.settles (instances w) s x.1) (λ s x. k.refused w event bytes wanting s x.0 x.1) (known w g t h))
@@ -68,4 +68,4 @@ module _ (P : Side → Type 0) (k : Kept P) where
 
   pub history_keeps : (made : Made) (history : List Entry) (w : World) → Leads made history w → AllByRecursion P w.sides
   history_keeps made history w leads =
-      from_old (new_world made.routers made.session made.start made.keep) history w leads.1 (new_good made leads.0) (all_new SideTells new_side_tells made.routers) (all_new P k.new made.routers)
+      from_old (new_world made.routers made.session made.session0 made.start made.keep) history w leads.1 (new_good made leads.0) (all_new SideTells new_side_tells made.routers) (all_new P k.new made.routers)

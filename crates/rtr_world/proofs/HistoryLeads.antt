@@ -13,7 +13,7 @@ one_from old (entry ∷ history) w v h k =
     one_from k.0 history w v (subst (λ x. LeadsFrom x history w) same h.2) k.2
 
 pub one_world : OneWorld
-one_world made history w v h k = one_from (new_world made.routers made.session made.start made.keep) history w v h.1 k.1
+one_world made history w v h k = one_from (new_world made.routers made.session made.session0 made.start made.keep) history w v h.1 k.1
 
 -- an outcome that an event may have
 abbrev outcome_of : Option Outcome → Outcome
@@ -38,7 +38,7 @@ each_from old (event ∷ events) fits =
 
 pub each_leads : EachLeads
 each_leads made events is fits =
-    let k = each_from (new_world made.routers made.session made.start made.keep) events fits in (k.0, k.1, k.2, (is, k.3))
+    let k = each_from (new_world made.routers made.session made.session0 made.start made.keep) events fits in (k.0, k.1, k.2, (is, k.3))
 
 pub refuses_rightly : RefusesRightly
 unfolding refusal

@@ -4,20 +4,22 @@ use Rattle.prefixes.specs.Payload.{Payload}
 use Rattle.vrps.specs.Instance.{Instance}
 use Rattle.vrps.specs.VrpSet.{VrpSet}
 use Rattle.rtr_pdu.specs.declared.unit.Unit.{Unit}
-use Rattle.rtr_pdu.specs.declared.unit.Unit.TheVariants.{CacheResponse, Prefix, EndOfData, CacheReset}
+use Rattle.rtr_pdu.specs.Version.{header_version}
+use Rattle.rtr_pdu.specs.declared.unit.Unit.TheVariants.{CacheResponse, Prefix, EndOfData, EndOfData0, CacheReset}
+use Rattle.rtr_pdu.specs.declared.version.Version.{Version}
 use Rattle.rtr_pdu.specs.declared.version.Version.TheVariants.{V1}
-use Rattle.rtr_ends.specs.Answer.{answer, report}
+use Rattle.rtr_ends.specs.Answer.{answer, report, session_in}
 use Rattle.rtr_ends.specs.Cache.{Conn}
 use Rattle.rtr_ends.specs.Commit.{Commits}
-use Rattle.rtr_ends.specs.Connection.{IsLater, takes_memory}
+use Rattle.rtr_ends.specs.Connection.{IsLater, in_version, takes_memory}
 use Rattle.rtr_ends.specs.LinkRules.{Router, Staged, Stays, Wrong, Over, stage}
 use Rattle.rtr_ends.specs.RouterLink.{Link, Closed, Idle, Asked, Answering, Ended}
-use Rattle.rtr_ends.specs.Transcript.{Begun, Committed, Question, AskReset, AskSerial, query, base_of, led_to}
+use Rattle.rtr_ends.specs.Transcript.{Begun, Committed, Question, AskReset, AskSerial, query, base_of, led_to, of_version}
 use Rattle.rtr_world.specs.History.{conn_due}
-use Rattle.rtr_world.specs.OneAnswer.{EndsWith, NotifiesOf, announced_in, withdrawn_in, without_notifies}
+use Rattle.rtr_world.specs.OneAnswer.{AreEarly, EndsWith, NotifiesOf, announced_in, withdrawn_in, without_notifies}
 use Rattle.rtr_world.specs.World.{Side, timing}
 use Rattle.rtr_world.proofs.Places.{Ordered}
-use Rattle.rtr_world.proofs.UnitStreams.{MaySpeak, Stream}
+use Rattle.rtr_world.proofs.UnitStreams.{MaySpeak, Stream, behind_early}
 use Rattle.rtr_world.proofs.Versions.{Stands, TableAt, find_session}
 use Rattle.rtr_world.proofs.LinkedSides.{Seen, IsSeen}
 
@@ -31,6 +33,8 @@ abbrev pub Leads : VrpSet → Begun → List Unit → ℕ → ℕ → VrpSet →
 Leads base a [] session serial set = ⊥
 Leads base a (Prefix announce v ∷ units) session serial set = after_stage (stage base a announce v) (λ b. Leads base b units session serial set)
 Leads base a (EndOfData one number refresh retry expire ∷ units) session serial set =
+    (units ≡ []) × (one ≡ session) × (number ≡ serial) × (led_to base a.withdrawn a.announced ≡ set)
+Leads base a (EndOfData0 one number ∷ units) session serial set =
     (units ≡ []) × (one ≡ session) × (number ≡ serial) × (led_to base a.withdrawn a.announced ≡ set)
 Leads base a (unit ∷ units) session serial set = ⊥
 
@@ -79,32 +83,32 @@ InOrder a rest = WithdrawsFirst rest × ((a.announced ≡ []) ⊎ NoneWithdrawn 
 pub record WasCache (all : List Instance) (home : Seen) (cache : Instance) : Type 0 where
   pub since : IsLater home.made cache
   pub latest : Instance
-  pub found : find_session home.made.session all ≡ Some latest
+  pub found : find_session V1 home.made.session all ≡ Some latest
   pub until : IsLater cache latest
 
 -- These units are its answer then.
-pub record FromCache (all : List Instance) (home : Seen) (q : Question) (units : List Unit) : Type 0 where
+pub record FromCache (all : List Instance) (pv : Version) (home : Seen) (q : Question) (units : List Unit) : Type 0 where
   pub cache : Instance
   pub was : WasCache all home cache
-  pub are : units ≡ (answer V1 cache home.keep timing (query q)).units
+  pub are : units ≡ (answer pv cache home.keep timing (query q)).units
 
 -- Its answer then takes memory.
-pub record Lacked (all : List Instance) (home : Seen) (q : Question) : Type 0 where
+pub record Lacked (all : List Instance) (pv : Version) (home : Seen) (q : Question) : Type 0 where
   pub cache : Instance
   pub was : WasCache all home cache
-  pub takes : takes_memory V1 cache (query q) ≡ true
+  pub takes : takes_memory pv cache (query q) ≡ true
 
-abbrev pub OneReply : List Instance → Seen → Question → List Unit → Type 0
-OneReply all home q units = FromCache all home q units ⊎ (Lacked all home q × (units ≡ report 1 [] ∷ []))
+abbrev pub OneReply : List Instance → Version → Seen → Question → List Unit → Type 0
+OneReply all pv home q units = FromCache all pv home q units ⊎ (Lacked all pv home q × (units ≡ report 1 [] ∷ []))
 
 -- The rest of an answer is to a version that was current when the connection was made, or later.
-pub record OfAnswer (all : List Instance) (home : Seen) (base : VrpSet) (a : Begun) (rest : List Unit) : Type 0 where
+pub record OfAnswer (all : List Instance) (pv : Version) (home : Seen) (base : VrpSet) (a : Begun) (rest : List Unit) : Type 0 where
   pub serial : ℕ
   pub set : VrpSet
-  pub stands : Stands all home.session serial set
+  pub stands : Stands all pv home.session serial set
   pub leads : Leads base a rest home.session serial set
   pub since : length home.sets ≤ length stands.older + 1
-  pub from : FromCache all home a.question (read_of a ++ rest)
+  pub from : FromCache all pv home a.question (read_of a ++ rest)
   pub ends : EndsWith home.session serial (read_of a ++ rest)
   pub commits : Commits base (withdrawn_in (read_of a ++ rest)) (announced_in (read_of a ++ rest)) set
   pub order : InOrder a rest
@@ -113,49 +117,59 @@ abbrev pub nothing_yet : Question → ℕ → Begun
 nothing_yet question session = record { question = question; session = session; withdrawn = []; announced = [] }
 
 -- One whole answer to the question
-pub data Replies (all : List Instance) (home : Seen) (q : Question) (base : VrpSet) (rest : List Unit) : Type 0 where
-  no_data : (copy : List ℕ) → q ≡ AskReset → rest ≡ report 2 copy ∷ [] → Replies all home q base rest
-  not_kept : (serial : ℕ) → q ≡ AskSerial home.session serial → rest ≡ CacheReset ∷ [] → Replies all home q base rest
-  other_session : (session serial : ℕ) (copy : List ℕ) → q ≡ AskSerial session serial → (session ≡ home.session → ⊥) → rest ≡ report 0 copy ∷ [] → Replies all home q base rest
-  no_memory : rest ≡ report 1 [] ∷ [] → Replies all home q base rest
-  response : (tail : List Unit) → rest ≡ CacheResponse home.session ∷ tail → IsOwn home.session q → OfAnswer all home base (nothing_yet q home.session) tail → Replies all home q base rest
+pub data Replies (all : List Instance) (pv : Version) (home : Seen) (q : Question) (base : VrpSet) (rest : List Unit) : Type 0 where
+  no_data : (copy : List ℕ) → q ≡ AskReset → rest ≡ report 2 copy ∷ [] → Replies all pv home q base rest
+  not_kept : (serial : ℕ) → q ≡ AskSerial home.session serial → rest ≡ CacheReset ∷ [] → Replies all pv home q base rest
+  other_session : (session serial : ℕ) (copy : List ℕ) → q ≡ AskSerial session serial → (session ≡ home.session → ⊥) → rest ≡ report 0 copy ∷ [] → Replies all pv home q base rest
+  no_memory : rest ≡ report 1 [] ∷ [] → Replies all pv home q base rest
+  response : (tail : List Unit) → rest ≡ CacheResponse home.session ∷ tail → IsOwn home.session q → OfAnswer all pv home base (nothing_yet q home.session) tail → Replies all pv home q base rest
 
 -- The question is on its way and nothing is answered, or the cache has read it and the whole answer is to come.
-abbrev pub Waits : List Instance → Seen → Question → VrpSet → List Unit → List Unit → Type 0
-Waits all home q base wanted rest = ((wanted ≡ query q ∷ []) × (rest ≡ [])) ⊎ ((wanted ≡ []) × Replies all home q base rest × OneReply all home q rest)
+abbrev pub Waits : List Instance → Version → Seen → Question → VrpSet → List Unit → List Unit → Type 0
+Waits all pv home q base wanted rest = ((wanted ≡ query q ∷ []) × (rest ≡ [])) ⊎ ((wanted ≡ []) × Replies all pv home q base rest × OneReply all pv home q rest)
 
-abbrev pub Shape : List Instance → Seen → Link → Bool → Option Committed → VrpSet → List Unit → List Unit → Type 0
-Shape all home Closed agreed version table wanted rest = ⊤
-Shape all home (Ended end) agreed version table wanted rest = ⊤
-Shape all home Idle agreed version table wanted rest = (wanted ≡ []) × (rest ≡ []) × (agreed ≡ true)
-Shape all home (Asked q) agreed version table wanted rest = QuestionFits home.session q version × Waits all home q (base_of q table) wanted rest
-Shape all home (Answering a) agreed version table wanted rest =
-    (wanted ≡ []) × (agreed ≡ true) × (a.session ≡ home.session) × QuestionFits home.session a.question version
-    × OfAnswer all home (base_of a.question table) a rest
+abbrev pub Shape : List Instance → Version → Seen → Link → Bool → Option Committed → VrpSet → List Unit → List Unit → Type 0
+Shape all pv home Closed agreed version table wanted rest = ⊤
+Shape all pv home (Ended end) agreed version table wanted rest = ⊤
+Shape all pv home Idle agreed version table wanted rest = (wanted ≡ []) × (rest ≡ []) × (agreed ≡ true)
+Shape all pv home (Asked q) agreed version table wanted rest = QuestionFits home.session q (of_version pv version) × Waits all pv home q (base_of q table) wanted rest
+Shape all pv home (Answering a) agreed version table wanted rest =
+    (wanted ≡ []) × (agreed ≡ true) × (a.session ≡ home.session) × QuestionFits home.session a.question (of_version pv version)
+    × OfAnswer all pv home (base_of a.question table) a rest
 
 abbrev pub IfOpen : Option Conn → (Conn → Type 0) → Type 0
 IfOpen None P = ⊤
 IfOpen (Some o) P = P o
 
+-- where no header has come whole, nothing has been sent but notifies of version 1
+abbrev pub Unheard : Option Version → List Unit → Bool → Type 0
+Unheard None coming agreed = (coming ≡ []) × (agreed ≡ false)
+Unheard (Some version) coming agreed = ⊤
+
 -- Open at the cache: what the router asked and the cache has not read whole are these units.
-pub record Open (i : Instance) (home : Seen) (out up : List ℕ) (wanted : List Unit) (lost : List ℕ) (o : Conn) : Type 0 where
-  pub upward : Stream o.held (up ++ out) wanted
-  pub spoken : MaySpeak V1 o.state.version
+pub record Open (i : Instance) (pv : Version) (home : Seen) (out up : List ℕ) (wanted coming : List Unit) (agreed : Bool) (lost : List ℕ) (o : Conn) : Type 0 where
+  pub upward : Stream o.held (up ++ out) (in_version pv wanted)
+  pub spoken : MaySpeak pv o.state.version
+  pub unheard : Unheard (header_version o.state.version o.held) coming agreed
   pub whole : lost ≡ []
-  pub session : home.session ≡ i.session
+  pub session : home.session ≡ session_in pv i
   pub made : length home.sets ≤ length i.sets
   pub later : IsLater home.made i
 
 pub record Flow (all : List Instance) (i : Instance) (home : Seen) (r : Router) (conn : Option Conn) (up down : List ℕ) : Type 0 where
+  pub version : home.version ≡ r.spoken
+  pub early : List Unit
   pub coming : List Unit
   pub lost : List ℕ
   pub wanted : List Unit
-  pub downward : Stream r.held (down ++ (conn_due conn ++ lost)) coming
-  pub open_at : IfOpen conn (Open i home r.out up wanted lost)
+  pub downward : Stream r.held (down ++ (conn_due conn ++ lost)) (behind_early r.spoken early coming)
+  pub open_at : IfOpen conn (Open i r.spoken home r.out up wanted coming r.agreed lost)
+  pub are_early : AreEarly r.agreed early
+  pub early_notifies : NotifiesOf home.made.session early
   pub notifies : NotifiesOf home.session coming
   pub own : OwnSession home.session r.session
-  pub mine : r.agreed ≡ true → Mine home.session r.version
-  pub shape : Shape all home r.link r.agreed r.version r.table wanted (without_notifies coming)
+  pub mine : r.agreed ≡ true → Mine home.session (of_version r.spoken r.version)
+  pub shape : Shape all r.spoken home r.link r.agreed r.version r.table wanted (without_notifies coming)
 
 abbrev pub Live : List Instance → Instance → Option Seen → Router → Option Conn → List ℕ → List ℕ → Type 0
 Live all i home r conn up down = (h : Seen) × (home ≡ Some h) × Flow all i h r conn up down

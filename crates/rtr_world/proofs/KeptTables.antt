@@ -4,13 +4,13 @@ use Rattle.std.proofs.Common.{sym, ap, subst}
 use Rattle.std.specs.List.{AllByRecursion}
 use Rattle.vrps.specs.Instance.{Instance}
 use Rattle.rtr_ends.specs.Cache.{Conn}
-use Rattle.rtr_ends.specs.Router.{RouterCall, Connects, Receives, Pulls, Closes, AsksNow, Ticks, called, closed_at}
+use Rattle.rtr_ends.specs.Router.{RouterCall, Connects, Receives, Pulls, Closes, AsksNow, Ticks, Speaks, called, closed_at}
 use Rattle.rtr_ends.specs.RouterLaws.{IsKept}
 use Rattle.rtr_ends.specs.RouterLink.{Link, Closed, Idle, Asked, Answering, Ended, is_closed}
 use Rattle.rtr_ends.specs.Transcript.{Item, Refused}
 use Rattle.rtr_ends.proofs.KeptUnits.{Tells}
 use Rattle.rtr_ends.proofs.KeptLaws.{called_tells, is_kept, new_tells, refused_closed, refused_closes}
-use Rattle.rtr_world.specs.World.{Side, World, instances, SideEvent, RouterRestart, Connect, RouterSends, CacheGets, CacheSends, RouterGets, Cut, NotifyRouter, Ask, Tick, Event, Publish, Restart, On, noted, connects, router_restarts, router_sends, cache_sends, cache_gets, router_gets, cut, side_step, side_part, side_refused, tell_closed, settle_conn, settle_link, settle_rest, settle_wire, settle, cache_gone, goes_through, settled, is_refused, on_side, new_side, new_world}
+use Rattle.rtr_world.specs.World.{Side, World, instances, SideEvent, RouterRestart, Speak, Connect, RouterSends, CacheGets, CacheSends, RouterGets, Cut, NotifyRouter, Ask, Tick, Event, Publish, Restart, On, noted, connects, router_restarts, speaks, router_sends, cache_sends, cache_gets, router_gets, cut, side_step, side_part, side_refused, tell_closed, settle_conn, settle_link, settle_rest, settle_wire, settle, cache_gone, goes_through, settled, is_refused, on_side, new_side, new_world}
 use Rattle.rtr_world.specs.History.{Outcome, Done, SessionUsed, TooManyVersions, NoSuchRouter, Memory, after, Entry, LeadsFrom}
 use Rattle.rtr_world.specs.Claims.{Tables}
 use Rattle.rtr_world.proofs.Folding.{Blind, gets_keep, leads_keep, notifies_keep, rest_keeps, sends_keep, settle_keeps, wire_keeps}
@@ -47,8 +47,9 @@ unfolding cut
 cut_tells left s h = record { tells = h.tells }
 
 step_tells : (w : World) (event : SideEvent) (wanting : Option ℕ) (s : Side) → SideTells s → SideTells (side_step w event wanting s)
-unfolding side_step connects router_restarts
-step_tells w RouterRestart wanting s h = record { tells = record { kept_is = refl; due_is = refl; now_is = refl; link = (refl, refl, refl) } }
+unfolding side_step connects router_restarts speaks
+step_tells w RouterRestart wanting s h = record { tells = record { kept_is = refl; due_is = refl; now_is = refl; spoken_is = refl; link = (refl, refl, refl) } }
+step_tells w (Speak version) wanting s h = record { tells = called_tells (Speaks version) s.router s.items h.tells }
 step_tells w Connect wanting s h = record { tells = called_tells (Connects s.router.now) s.router s.items h.tells }
 step_tells w (RouterSends most) wanting s h = sends_tells most s h
 step_tells w (CacheGets most) wanting s h = cache_gets_tells w most wanting s h
@@ -144,6 +145,7 @@ part_tells w (CacheGets most) bytes wanting s h = cache_gets_tells w bytes wanti
 part_tells w (CacheSends most) bytes wanting s h = cache_sends_tells w bytes s h
 part_tells w (RouterGets most) bytes wanting s h = router_gets_tells w bytes wanting s h
 part_tells w RouterRestart bytes wanting s h = h
+part_tells w (Speak version) bytes wanting s h = h
 part_tells w Connect bytes wanting s h = h
 part_tells w (Cut left) bytes wanting s h = h
 part_tells w NotifyRouter bytes wanting s h = h
@@ -174,13 +176,13 @@ settled_tells w h = all_map SideTells SideTells (settle (instances w)) w.sides (
 through_tells : (event : Event) (wanting : Option ℕ) (w : World) → AllTell w → AllTell (goes_through event wanting w)
 unfolding goes_through
 through_tells (Publish set) wanting w h = h
-through_tells (Restart session start) wanting w h = all_map SideTells SideTells cache_gone w.sides (λ s t. record { tells = t.tells }) h
+through_tells (Restart session session0 start) wanting w h = all_map SideTells SideTells cache_gone w.sides (λ s t. record { tells = t.tells }) h
 through_tells (On r event) wanting w h = all_on_side SideTells SideTells r (side_step w event wanting) w.sides (λ s t. t) (step_tells w event wanting) h
 
 refused_tells : (event : Event) (bytes : ℕ) (wanting : Option ℕ) (w : World) → AllTell w → AllTell (is_refused event bytes wanting w)
 unfolding is_refused settled
 refused_tells (Publish set) bytes wanting w h = h
-refused_tells (Restart session start) bytes wanting w h = h
+refused_tells (Restart session session0 start) bytes wanting w h = h
 refused_tells (On r event) bytes wanting w h =
     let part = all_on_side SideTells Either r (side_refused w event bytes wanting) w.sides (λ s t. whole t) (refused_loose w event bytes wanting) h in
     all_map Either SideTells (settle (instances w)) (on_side r (side_refused w event bytes wanting) w.sides) (either_settles (instances w)) part
@@ -201,7 +203,7 @@ new_side_tells = record { tells = new_tells }
 -- Each router holds what its transcript keeps.
 pub tables : Tables
 tables made history w leads =
-    kept w.sides (history_tells (new_world made.routers made.session made.start made.keep) history w leads.1 (all_new SideTells new_side_tells made.routers))
+    kept w.sides (history_tells (new_world made.routers made.session made.session0 made.start made.keep) history w leads.1 (all_new SideTells new_side_tells made.routers))
   where
     kept : (sides : List Side) → AllByRecursion SideTells sides → AllByRecursion (λ s. IsKept s.router s.items) sides
     kept [] h = tt

@@ -19,6 +19,7 @@ pub mod CaughtUpLaws
 pub mod Commits
 pub mod Connecting
 pub mod CutOff
+pub mod EarlyNotifies
 pub mod EndLaws
 pub mod Endings
 pub mod EndsKept

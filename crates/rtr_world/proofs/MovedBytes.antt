@@ -8,7 +8,6 @@ use Rattle.std.proofs.lemmas.List.Folds.{list_any-append}
 use Rattle.std.specs.List.{list_any}
 use Rattle.std.specs.declared.alloc.AllocError.{AllocError}
 use Rattle.vrps.specs.Steps.{HoldsSteps, Steps}
-use Rattle.rtr_pdu.specs.declared.version.Version.TheVariants.{V1}
 use Rattle.rtr_pdu.specs.Judging.{Judgement, judge}
 use Rattle.rtr_ends.specs.Cache.{Conn, Taking, conn_byte, conn_pulled, conn_stops, conn_takes, counted, finds_memory}
 use Rattle.rtr_ends.specs.CacheState.{GivesBytes, ShowsCache, TakesPiece, conn_consumed, due_at, is_wanted_at}
@@ -50,7 +49,7 @@ record Alike (f g : FedPiece Receiving) : Type 0 where
 
 -- what the next byte brings, and what becomes of it
 abbrev came : Router → ℕ → Judgement
-came r b = judge V1 (not r.agreed) (r.held ++ b ∷ [])
+came r b = judge r.spoken (not r.agreed) (r.held ++ b ∷ [])
 
 abbrev brings : Router → Option ℕ → ℕ → Noted
 brings r wanting b = with_bytes (finds_memory wanting) (r.held ++ b ∷ []) r (came r b)

@@ -1,16 +1,16 @@
 -- What is on its way to a router is at most one answer, after every list of events.
-use Rattle.std.specs.Prelude.{◌≡◌, ℕ, true, false, List, [], ◌∷◌, ◌++◌, Option, Some, None, refl}
+use Rattle.std.specs.Prelude.{◌≡◌, ◌⊎◌, ℕ, Bool, true, false, List, [], ◌∷◌, ◌++◌, Option, Some, None, refl}
 use Rattle.std.proofs.Common.{sym, ap, ◌∙◌, subst, inl, inr}
 use Rattle.std.specs.List.{AllByRecursion}
 use Rattle.vrps.specs.Instance.{Instance}
 use Rattle.vrps.specs.VrpSet.{VrpSet}
 use Rattle.rtr_pdu.specs.declared.unit.Unit.{Unit}
-use Rattle.rtr_pdu.specs.declared.version.Version.TheVariants.{V1}
-use Rattle.rtr_ends.specs.Answer.{answer}
+use Rattle.rtr_pdu.specs.declared.version.Version.{Version}
+use Rattle.rtr_ends.specs.Answer.{answer, session_in}
 use Rattle.rtr_ends.specs.Cache.{Conn}
 use Rattle.rtr_ends.specs.RouterLaws.{LinkTells}
 use Rattle.rtr_ends.specs.RouterLink.{Link, Closed, Idle, Asked, Answering, Ended, is_closed, is_reading}
-use Rattle.rtr_ends.specs.Transcript.{AskReset, AskSerial, Begun, Committed, Question, base_of, query}
+use Rattle.rtr_ends.specs.Transcript.{AskReset, AskSerial, Begun, Committed, Question, base_of, of_version, query, under_way}
 use Rattle.rtr_ends.proofs.TableLaws.{false_true}
 use Rattle.rtr_world.specs.Claims.{OneAnswerAlways}
 use Rattle.rtr_world.specs.OneAnswer.{Between, ComesOn, Fits, IfResponse, IsAnswer, IsReply, IsWholeAnswer, LeadsToPublished, NotifiesOf, OneAnswer, WasSo, answered, without_notifies}
@@ -21,24 +21,24 @@ use Rattle.rtr_world.proofs.Invariant.{FromCache, Flow, Good, GoodLink, IfOpen, 
 use Rattle.rtr_world.proofs.Rests.{Rests, history_rests}
 use Rattle.rtr_world.proofs.LinkedSides.{IsSeen, Seen}
 use Rattle.rtr_world.proofs.SideSteps.{live_of}
-use Rattle.rtr_world.proofs.UnitStreams.{part_of}
+use Rattle.rtr_world.proofs.UnitStreams.{behind_early, part_of}
 use Rattle.rtr_world.proofs.KeptTables.{SideTells}
 use Rattle.rtr_world.proofs.Versions.{named_at}
 
 -- the instance of the connection
 record Home (keep : ℕ) (home : Option Instance) (h : Seen) : Type 0 where
   is : home ≡ Some h.made
-  session : h.session ≡ h.made.session
+  session : h.session ≡ session_in h.version h.made
   keeps : h.keep ≡ keep
 
 home_of : (keep : ℕ) (home : Option Instance) (h : Seen) → IsSeen keep home (Some h) → Home keep home h
 home_of keep None h s = absurd s
-home_of keep (Some home) h s = record { is = ap Some (sym s.0); session = s.2 ∙ ap (λ x. x.session) (sym s.0); keeps = s.1 }
+home_of keep (Some home) h s = record { is = ap Some (sym s.0); session = s.2 ∙ ap (λ x. session_in h.version x) (sym s.0); keeps = s.1 }
 
 -- a cut alone takes bytes away
-whole_of : (i : Instance) (h : Seen) (out up : List ℕ) (wanted : List Unit) (lost : List ℕ) (o : Option Conn) → IfOpen o (Open i h out up wanted lost) → (o ≡ None → ⊥) → lost ≡ []
-whole_of i h out up wanted lost None op some = absurd (some refl)
-whole_of i h out up wanted lost (Some o) op some = op.whole
+whole_of : (i : Instance) (pv : Version) (h : Seen) (out up : List ℕ) (wanted coming : List Unit) (agreed : Bool) (lost : List ℕ) (o : Option Conn) → IfOpen o (Open i pv h out up wanted coming agreed lost) → (o ≡ None → ⊥) → lost ≡ []
+whole_of i pv h out up wanted coming agreed lost None op some = absurd (some refl)
+whole_of i pv h out up wanted coming agreed lost (Some o) op some = op.whole
 
 -- a question is of what is committed
 fits_of : (session : ℕ) (q : Question) (version : Option Committed) → QuestionFits session q version → Fits q version
@@ -46,52 +46,54 @@ fits_of session AskReset version f = tt
 fits_of session (AskSerial one serial) None f = f
 fits_of session (AskSerial one serial) (Some version) f = f
 
-module _ (w : World) (h : Seen) (keeps : h.keep ≡ w.keep) where
+module _ (w : World) (pv : Version) (h : Seen) (keeps : h.keep ≡ w.keep) where
   was_so : (cache : Instance) → WasCache (instances w) h cache → WasSo w h.made cache
   was_so cache was = record { since = was.since; latest = was.latest; found = was.found; until = was.until }
 
-  answer_of : (q : Question) (units : List Unit) → FromCache (instances w) h q units → IsAnswer w h.made q units
+  answer_of : (q : Question) (units : List Unit) → FromCache (instances w) pv h q units → IsAnswer w pv h.made q units
   answer_of q units f = record {
     cache = f.cache;
     was = was_so f.cache f.was;
-    are = f.are ∙ ap (λ k. (answer V1 f.cache k timing (query q)).units) keeps;
+    are = f.are ∙ ap (λ k. (answer pv f.cache k timing (query q)).units) keeps;
   }
 
-  reply_of : (q : Question) (units : List Unit) → OneReply (instances w) h q units → IsReply w h.made q units
+  reply_of : (q : Question) (units : List Unit) → OneReply (instances w) pv h q units → IsReply w pv h.made q units
   reply_of q units (inl f) = inl (answer_of q units f)
   reply_of q units (inr e) = inr (record { cache = e.0.cache; was = was_so e.0.cache e.0.was; takes = e.0.takes; are = e.1 })
 
-  leads_of : (base : VrpSet) (a : Begun) (rest : List Unit) → a.session ≡ h.session → OfAnswer (instances w) h base a rest → IfResponse (instances w) base (read_of a ++ rest)
+  leads_of : (base : VrpSet) (a : Begun) (rest : List Unit) → a.session ≡ h.session → OfAnswer (instances w) pv h base a rest → IfResponse (instances w) pv base (read_of a ++ rest)
   leads_of base a rest e o =
-      subst (λ s. LeadsToPublished (instances w) base s ((records_of false a.withdrawn ++ records_of true a.announced) ++ rest)) (sym e)
-      (record { serial = o.serial; ends = o.ends; set = o.set; commits = o.commits; published = named_at (instances w) h.session o.serial o.set o.stands })
+      subst (λ s. LeadsToPublished (instances w) pv base s ((records_of false a.withdrawn ++ records_of true a.announced) ++ rest)) (sym e)
+      (record { serial = o.serial; ends = o.ends; set = o.set; commits = o.commits; published = named_at (instances w) pv h.session o.serial o.set o.stands })
 
-  response_of : (q : Question) (base : VrpSet) (rest : List Unit) → Replies (instances w) h q base rest → IfResponse (instances w) base rest
-  response_of q base rest (no_data copy qe e) = subst (λ x. IfResponse (instances w) base x) (sym e) tt
-  response_of q base rest (not_kept serial qe e) = subst (λ x. IfResponse (instances w) base x) (sym e) tt
-  response_of q base rest (other_session session serial copy qe other e) = subst (λ x. IfResponse (instances w) base x) (sym e) tt
-  response_of q base rest (no_memory e) = subst (λ x. IfResponse (instances w) base x) (sym e) tt
+  response_of : (q : Question) (base : VrpSet) (rest : List Unit) → Replies (instances w) pv h q base rest → IfResponse (instances w) pv base rest
+  response_of q base rest (no_data copy qe e) = subst (λ x. IfResponse (instances w) pv base x) (sym e) tt
+  response_of q base rest (not_kept serial qe e) = subst (λ x. IfResponse (instances w) pv base x) (sym e) tt
+  response_of q base rest (other_session session serial copy qe other e) = subst (λ x. IfResponse (instances w) pv base x) (sym e) tt
+  response_of q base rest (no_memory e) = subst (λ x. IfResponse (instances w) pv base x) (sym e) tt
   response_of q base rest (response tail e own o) =
-      subst (λ x. IfResponse (instances w) base x) (sym e) (leads_of base (record { question = q; session = h.session; withdrawn = []; announced = [] }) tail refl o)
+      subst (λ x. IfResponse (instances w) pv base x) (sym e) (leads_of base (record { question = q; session = h.session; withdrawn = []; announced = [] }) tail refl o)
 
-  comes_on : (s : Side) (l : Link) (wanted rest : List Unit) → s.router.link ≡ l → SideTells s → SideReads s → Shape (instances w) h l s.router.agreed s.router.version s.router.table wanted rest → ComesOn w h.made s l rest
-  comes_on s Closed wanted rest is t k sh = tt
-  comes_on s (Ended end) wanted rest is t k sh = tt
-  comes_on s Idle wanted rest is t k sh = sh.1
-  comes_on s (Asked q) wanted rest is t k sh = (
-    fits_of h.session q s.router.version sh.0,
-    elim (sh.1) [
-      | inl x ↦ inl x.1
-      | inr x ↦ inr (reply_of q rest x.2, response_of q (base_of q s.router.table) rest x.1)
-    ],
-  )
-  comes_on s (Answering a) wanted rest is t k sh =
+  comes_on : (s : Side) (l : Link) (wanted rest : List Unit) → s.router.spoken ≡ pv → s.router.link ≡ l → SideTells s → SideReads s → Shape (instances w) pv h l s.router.agreed s.router.version s.router.table wanted rest → ComesOn w h.made s l rest
+  comes_on s Closed wanted rest of is t k sh = tt
+  comes_on s (Ended end) wanted rest of is t k sh = tt
+  comes_on s Idle wanted rest of is t k sh = sh.1
+  comes_on s (Asked q) wanted rest of is t k sh =
+      subst (λ v. Fits q (of_version v s.router.version) × ((rest ≡ []) ⊎ IsWholeAnswer w v h.made q s.router.table rest)) (sym of) (
+        fits_of h.session q (of_version pv s.router.version) sh.0,
+        elim (sh.1) [
+          | inl x ↦ inl x.1
+          | inr x ↦ inr (reply_of q rest x.2, response_of q (base_of q s.router.table) rest x.1)
+        ],
+      )
+  comes_on s (Answering a) wanted rest of is t k sh =
       let told : LinkTells (Answering a) s.router.agreed s.router.session s.router.table s.items = subst (λ x. LinkTells x s.router.agreed s.router.session s.router.table s.items) is t.tells.link in
       let read : answered s.items ≡ read_of a = subst (λ x. ReadsSo x s.items) is k.reads_so in
-      let o : OfAnswer (instances w) h (base_of a.question s.router.table) a rest = sh.4 in (
-        fits_of h.session a.question s.router.version sh.3,
+      let o : OfAnswer (instances w) pv h (base_of a.question s.router.table) a rest = sh.4 in
+      subst (λ v. Fits a.question (of_version v s.router.version) × (under_way s.items ≡ Some a) × IsWholeAnswer w v h.made a.question s.router.table (answered s.items ++ rest)) (sym of) (
+        fits_of h.session a.question (of_version pv s.router.version) sh.3,
         told.2,
-        subst (λ x. IsWholeAnswer w h.made a.question s.router.table (x ++ rest)) (sym read) (inl (answer_of a.question (read_of a ++ rest) o.from), leads_of (base_of a.question s.router.table) a rest sh.2 o),
+        subst (λ x. IsWholeAnswer w pv h.made a.question s.router.table (x ++ rest)) (sym read) (inl (answer_of a.question (read_of a ++ rest) o.from), leads_of (base_of a.question s.router.table) a rest sh.2 o),
       )
 
 live_answer : (w : World) (s : Side) → is_reading s.router.link ≡ true → Good w.keep w.past w.present s → SideTells s → SideReads s → OneAnswer w s
@@ -103,13 +105,16 @@ live_answer w s live g t k =
     record {
       home = h.made;
       home_is = home.is;
+      early = f.early;
       coming = f.coming;
       lost = f.lost;
       bytes = f.downward.whole;
-      part = part_of s.router.held f.coming f.downward.partial;
-      whole = whole_of w.present h s.router.out s.up f.wanted f.lost s.conn f.open_at;
-      notifies = subst (λ x. NotifiesOf x f.coming) home.session f.notifies;
-      rest = comes_on w h home.keeps s s.router.link f.wanted (without_notifies f.coming) refl t k f.shape;
+      part = part_of s.router.held (behind_early s.router.spoken f.early f.coming) f.downward.partial;
+      whole = whole_of w.present s.router.spoken h s.router.out s.up f.wanted f.coming s.router.agreed f.lost s.conn f.open_at;
+      are_early = f.are_early;
+      early_notifies = f.early_notifies;
+      notifies = subst (λ x. NotifiesOf x f.coming) (home.session ∙ ap (λ v. session_in v h.made) f.version) f.notifies;
+      rest = comes_on w s.router.spoken h home.keeps s s.router.link f.wanted (without_notifies f.coming) refl refl t k f.shape;
     }
 
 between : (w : World) (s : Side) → Good w.keep w.past w.present s → SideTells s → SideReads s → Rests s → Between w s s.router.link

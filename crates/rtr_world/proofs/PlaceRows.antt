@@ -31,7 +31,7 @@ abbrev world_of : Side → World
 world_of s = record { keep = 2; past = []; present = thrice; sides = s ∷ [] }
 
 abbrev version : ℕ → Committed
-version serial = record { session = 0x1234; serial = serial; moment = 0; intervals = default_intervals }
+version serial = record { version = V1; session = 0x1234; serial = serial; moment = 0; intervals = default_intervals }
 
 abbrev replied : Instance → Conn
 replied i = record { state = record { cache = i; version = Some V1; ended = false; due = []; notified = false }; held = [] }
@@ -40,7 +40,7 @@ abbrev place : ℕ → ℕ → Option VersionPlace
 place instance position = Some (record { instance = instance; position = position })
 
 abbrev asked_since : List Item
-asked_since = Asks (AskSerial 0x1234 5) ∷ Reads (EndOfData 0x1234 5 3600 600 7200) ∷ Reads (Prefix true v) ∷ Reads (CacheResponse 0x1234) ∷ At 0 ∷ Asks AskReset ∷ Opened ∷ At 0 ∷ []
+asked_since = Asks (AskSerial 0x1234 5) ∷ Reads (EndOfData 0x1234 5 3600 600 7200) ∷ Reads (Prefix true v) ∷ Reads (CacheResponse 0x1234) ∷ At 0 ∷ Asks AskReset ∷ Opened V1 ∷ At 0 ∷ []
 
 abbrev asked : Router
 asked = record new_router { table = just_v; version = Some (version 5); due = Some 3600; link = Asked (AskSerial 0x1234 5); agreed = true; session = Some 0x1234 }
@@ -69,7 +69,7 @@ abbrev later_world : Side → World
 later_world s = record { keep = 2; past = thrice ∷ []; present = anew; sides = s ∷ [] }
 
 abbrev asked_anew : List Item
-asked_anew = Asks AskReset ∷ Opened ∷ At 0 ∷ Restarts ∷ twice
+asked_anew = Asks AskReset ∷ Opened V1 ∷ At 0 ∷ Restarts ∷ twice
 
 abbrev new_answer : List ℕ
 new_answer = sent_all V1 (CacheResponse 0x2222 ∷ EndOfData 0x2222 9 3600 600 7200 ∷ [])

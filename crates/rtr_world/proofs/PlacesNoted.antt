@@ -7,21 +7,23 @@ use Rattle.vrps.specs.Instance.{Instance}
 use Rattle.vrps.specs.Store.{is_current}
 use Rattle.vrps.specs.VrpSet.{VrpSet}
 use Rattle.rtr_pdu.specs.declared.unit.Unit.TheVariants.{SerialNotify, SerialQuery, ResetQuery, CacheResponse, Prefix, EndOfData, EndOfData0, CacheReset, RouterKey, ErrorReport}
+use Rattle.rtr_pdu.specs.declared.version.Version.{Version}
+use Rattle.rtr_ends.specs.Answer.{session_in}
 use Rattle.rtr_ends.specs.Timing.{default_intervals}
 use Rattle.rtr_ends.specs.Router.{Noted, asks, closed_at, connects_at, of_received, receives, ticks_at}
 use Rattle.rtr_ends.specs.RouterLink.{is_closed}
-use Rattle.rtr_ends.specs.Transcript.{Begun, Committed, Item, At, Opened, Asks, Reads, Lacks, Breaks, Refused, Shut, Restarts, Kept, acts_once, at_end_of_data, base_of, bounded, differs, does_commit, emptied_if, has_agreed, is_commit, is_over, is_serial, is_wrong, kept, later, led_to, moment, nothing, outstanding, responded, session_of, under_way, waiting}
+use Rattle.rtr_ends.specs.Transcript.{Begun, Committed, Item, At, Opened, Asks, Reads, Lacks, Breaks, Refused, Shut, Restarts, Kept, acts_once, at_end_of_data, base_of, bounded, differs, does_commit, emptied_if, has_agreed, is_commit, is_over, is_serial, is_wrong, kept, later, led_to, moment, nothing, of_version, outstanding, responded, session_of, spoken, under_way, waiting}
 use Rattle.rtr_world.specs.Claims.{HasPlaces, IsLastPlace, PlacesNoted, commits_in}
-use Rattle.rtr_world.specs.History.{Outcome, Done, SessionUsed, TooManyVersions, NoSuchRouter, Memory, MayEnd, after, all_have_room, is_used, refusal, room_for, room_since}
+use Rattle.rtr_world.specs.History.{Outcome, Done, SessionUsed, TooManyVersions, NoSuchRouter, Memory, MayEnd, after, all_have_room, refusal, room_for, room_since}
 use Rattle.rtr_world.specs.VersionPlaces.{VersionPlace, version_place_of}
-use Rattle.rtr_world.specs.World.{Side, World, instances, SideEvent, RouterRestart, Connect, RouterSends, CacheGets, CacheSends, RouterGets, Cut, NotifyRouter, Ask, Tick, Event, Publish, Restart, On, cache_gets, cache_gone, cache_sends, connects, cut, goes_through, is_refused, new_world, noted, on_side, places_of, router_gets, router_restarts, router_sends, settle, settled, side_part, side_refused, side_step, tell_closed}
+use Rattle.rtr_world.specs.World.{Side, World, instances, SideEvent, RouterRestart, Speak, Connect, RouterSends, CacheGets, CacheSends, RouterGets, Cut, NotifyRouter, Ask, Tick, Event, Publish, Restart, On, cache_gets, cache_gone, cache_sends, connects, cut, goes_through, is_refused, new_world, noted, on_side, places_of, router_gets, router_restarts, router_sends, settle, settled, side_part, side_refused, side_step, speaks, tell_closed}
 use Rattle.rtr_world.proofs.Folding.{Blind, gets_keep, leads_keep, notifies_keep, sends_keep, settle_keeps}
 use Rattle.rtr_world.proofs.Invariant.{Good}
-use Rattle.rtr_world.proofs.Places.{place_at, rank_restarted, stands_found}
+use Rattle.rtr_world.proofs.Places.{place_at, rank_of, rank_restarted, stands_found}
 use Rattle.rtr_world.proofs.SideLaws.{all_both, all_map, all_new, all_on_side}
 use Rattle.rtr_world.proofs.KeptTables.{AllTell, SideTells, after_tells, new_side_tells}
-use Rattle.rtr_world.proofs.Versions.{Present, TableAt, find_session, stands_published, stands_restarted}
-use Rattle.rtr_world.proofs.WorldSteps.{GoodWorld, after_good, new_good, none_found, or_cases, published_so, restarted_so, room_after}
+use Rattle.rtr_world.proofs.Versions.{Present, TableAt, find_session, same_session_in, stands_published, stands_restarted}
+use Rattle.rtr_world.proofs.WorldSteps.{GoodWorld, after_good, begun, new_good, or_cases, published_so, room_after, unused_so}
 
 -- What is no commit leaves the version, or none.
 abbrev Leaves : Option Committed → Option Committed → Type 0
@@ -43,19 +45,19 @@ end_leaves (Some a) version k none = by_test (version.session == a.session) (act
 
 item_leaves : (item : Item) (items : List Item) → is_commit (item ∷ items) ≡ false → Leaves (kept items).version (kept (item ∷ items)).version
 item_leaves (Reads (EndOfData session serial refresh retry expire)) items none =
-    end_leaves (under_way items) (record { session = session; serial = serial; moment = moment items; intervals = bounded refresh retry expire }) (kept items) none
+    end_leaves (under_way items) (record { version = spoken items; session = session; serial = serial; moment = moment items; intervals = bounded refresh retry expire }) (kept items) none
 item_leaves (Reads (EndOfData0 session serial)) items none =
-    end_leaves (under_way items) (record { session = session; serial = serial; moment = moment items; intervals = default_intervals }) (kept items) none
-item_leaves (Reads (SerialNotify session serial)) items none = emptied_leaves (has_agreed items && differs (session_of (responded items) (kept items).version) session) (kept items)
+    end_leaves (under_way items) (record { version = spoken items; session = session; serial = serial; moment = moment items; intervals = default_intervals }) (kept items) none
+item_leaves (Reads (SerialNotify session serial)) items none = emptied_leaves (has_agreed items && differs (session_of (responded items) (of_version (spoken items) (kept items).version)) session) (kept items)
 item_leaves (Reads (SerialQuery session serial)) items none = inr refl
 item_leaves (Reads ResetQuery) items none = inr refl
-item_leaves (Reads (CacheResponse session)) items none = emptied_leaves (is_wrong (waiting items) (kept items).version session) (kept items)
+item_leaves (Reads (CacheResponse session)) items none = emptied_leaves (is_wrong (waiting items) (of_version (spoken items) (kept items).version) session) (kept items)
 item_leaves (Reads (Prefix announce v)) items none = inr refl
 item_leaves (Reads CacheReset) items none = inr refl
 item_leaves (Reads (RouterKey key)) items none = inr refl
 item_leaves (Reads (ErrorReport r)) items none = emptied_leaves (r.code == 0 && is_serial (outstanding items)) (kept items)
 item_leaves (At now) items none = emptied_leaves (is_over (kept items).version (later (moment items) now)) (kept items)
-item_leaves Opened items none = inr refl
+item_leaves (Opened version) items none = inr refl
 item_leaves (Asks question) items none = inr refl
 item_leaves (Lacks unit) items none = inr refl
 item_leaves (Breaks fault) items none = inr refl
@@ -116,8 +118,9 @@ module _ (all : List Instance) where
 
 -- One event at a router
 step_places : (w : World) (event : SideEvent) (wanting : Option ℕ) (s : Side) → SidePlaces (instances w) s → SidePlaces (instances w) (side_step w event wanting s)
-unfolding side_step connects router_restarts router_sends cache_sends cache_gets router_gets cut
+unfolding side_step connects router_restarts speaks router_sends cache_sends cache_gets router_gets cut
 step_places w RouterRestart wanting s h = one_more (instances w) Restarts s.items s.places h
+step_places w (Speak version) wanting s h = h
 step_places w Connect wanting s h = noted_places (instances w) (connects_at s.router.now s.router) s h
 step_places w (RouterSends most) wanting s h = h
 step_places w (CacheGets most) wanting s h = gets_keep (SidePlaces (instances w)) (blind_places (instances w)) w most wanting s s.conn h
@@ -135,6 +138,7 @@ part_places w (CacheGets most) bytes wanting s h = gets_keep (SidePlaces (instan
 part_places w (CacheSends most) bytes wanting s h = sends_keep (SidePlaces (instances w)) (blind_places (instances w)) w.keep bytes s s.conn h
 part_places w (RouterGets most) bytes wanting s h = noted_places (instances w) (of_received (receives s.router.now wanting (take bytes s.down) s.router)) s h
 part_places w RouterRestart bytes wanting s h = h
+part_places w (Speak version) bytes wanting s h = h
 part_places w Connect bytes wanting s h = h
 part_places w (Cut left) bytes wanting s h = h
 part_places w NotifyRouter bytes wanting s h = h
@@ -154,19 +158,21 @@ place_published : (past : List Instance) (i : Instance) (y : VrpSet) → Present
     → version_place_of (i ∷ past) version ≡ version_place_of (record i { sets = y ∷ i.sets } ∷ past) version
 place_published past i y p None table room t = refl
 place_published past i y p (Some version) table room t =
-    let s = stands_published past i y version.session version.serial table t (room_after 0 past i y p version table t room) in
-    let f = stands_found (i ∷ past) version.session version.serial table t in
-    let g = stands_found (record i { sets = y ∷ i.sets } ∷ past) version.session version.serial table s.0 in
-    let ranks : f.rank ≡ g.rank = same_rank f.rank g.rank (sym f.is ∙ g.is) in
+    let s = stands_published past i y version.version version.session version.serial table t (room_after 0 past i y p version table t room) in
+    let f = stands_found (i ∷ past) version.version version.session version.serial table t in
+    let g = stands_found (record i { sets = y ∷ i.sets } ∷ past) version.version version.session version.serial table s.0 in
+    let still : rank_of version.version version.session (i ∷ past) ≡ rank_of version.version version.session (record i { sets = y ∷ i.sets } ∷ past) =
+    ap (λ n. if n == version.session then Some (length past) else rank_of version.version version.session past) (sym (same_session_in version.version i (y ∷ i.sets))) in
+    let ranks : f.rank ≡ g.rank = same_rank f.rank g.rank (sym f.is ∙ still ∙ g.is) in
     f.named ∙ (λ j. Some (place_at (ranks j) (length (sym s.1 j)))) ∙ sym g.named
 
-place_restarted : (all : List Instance) (i : Instance) → find_session i.session all ≡ None → (version : Option Committed) (table : VrpSet) → TableAt all version table → version_place_of all version ≡ version_place_of (i ∷ all) version
+place_restarted : (all : List Instance) (i : Instance) → ((pv : Version) → find_session pv (session_in pv i) all ≡ None) → (version : Option Committed) (table : VrpSet) → TableAt all version table → version_place_of all version ≡ version_place_of (i ∷ all) version
 place_restarted all i new None table t = refl
 place_restarted all i new (Some version) table t =
-    let s = stands_restarted all i version.session version.serial table new t in
-    let f = stands_found all version.session version.serial table t in
-    let g = stands_found (i ∷ all) version.session version.serial table s.0 in
-    let ranks : f.rank ≡ g.rank = same_rank f.rank g.rank (sym (rank_restarted i all version.session f.rank new f.is) ∙ g.is) in
+    let s = stands_restarted all i version.version version.session version.serial table (new version.version) t in
+    let f = stands_found all version.version version.session version.serial table t in
+    let g = stands_found (i ∷ all) version.version version.session version.serial table s.0 in
+    let ranks : f.rank ≡ g.rank = same_rank f.rank g.rank (sym (rank_restarted i all version.version version.session f.rank (new version.version) f.is) ∙ g.is) in
     f.named ∙ (λ j. Some (place_at (ranks j) (length (sym s.1 j)))) ∙ sym g.named
 
 last_moved : (all more : List Instance) (version : Option Committed) (places : List (Option VersionPlace)) → version_place_of all version ≡ version_place_of more version → IsLastPlace all version places → IsLastPlace more version places
@@ -193,7 +199,7 @@ published_places keep past i y p (s ∷ sides) room g t h =
       published_places keep past i y p sides parts.1 g.1 t.1 h.1,
     )
 
-restarted_places : (keep : ℕ) (past : List Instance) (old i : Instance) → find_session i.session (old ∷ past) ≡ None → (sides : List Side) → AllByRecursion (λ s. Good keep past old s × (SideTells s × SidePlaces (old ∷ past) s)) sides
+restarted_places : (keep : ℕ) (past : List Instance) (old i : Instance) → ((pv : Version) → find_session pv (session_in pv i) (old ∷ past) ≡ None) → (sides : List Side) → AllByRecursion (λ s. Good keep past old s × (SideTells s × SidePlaces (old ∷ past) s)) sides
     → AllByRecursion (SidePlaces (i ∷ old ∷ past)) (map cache_gone sides)
 restarted_places keep past old i new sides h =
     all_map (λ s. Good keep past old s × (SideTells s × SidePlaces (old ∷ past) s)) (SidePlaces (i ∷ old ∷ past)) cache_gone sides
@@ -214,9 +220,8 @@ through_places (Publish set) wanting w may g t h = by_current (is_current w.pres
     by_current false e =
         subst (λ b. AllByRecursion (SidePlaces ((if b then i else record i { sets = set ∷ i.sets }) ∷ w.past)) w.sides) (sym e)
         (published_places w.keep w.past i set g.present w.sides (or_cases (is_current i.sets set) (all_have_room i w.sides) free e) g.sides t h)
-through_places (Restart session start) wanting w may g t h =
-    let unused = restarted_so (is_used (instances w) session) w (Restart session start) wanting may in
-    restarted_places w.keep w.past w.present (record { session = session; session0 = session; start = start; sets = [] }) (none_found (find_session session (instances w)) unused) w.sides
+through_places (Restart session session0 start) wanting w may g t h =
+    restarted_places w.keep w.past w.present (begun session session0 start) (unused_so session session0 start wanting w may) w.sides
     (all_both (Good w.keep w.past w.present) (λ s. SideTells s × SidePlaces (instances w) s) w.sides g.sides (all_both SideTells (SidePlaces (instances w)) w.sides t h))
 through_places (On r event) wanting w may g t h =
     all_on_side (SidePlaces (instances w)) (SidePlaces (instances w)) r (side_step w event wanting) w.sides (λ s x. x) (step_places w event wanting) h
@@ -228,7 +233,7 @@ settled_places w h = all_map (SidePlaces (instances w)) (SidePlaces (instances w
 refused_all : (event : Event) (bytes : ℕ) (wanting : Option ℕ) (w : World) → AllPlaces w → AllPlaces (is_refused event bytes wanting w)
 unfolding is_refused
 refused_all (Publish set) bytes wanting w h = h
-refused_all (Restart session start) bytes wanting w h = h
+refused_all (Restart session session0 start) bytes wanting w h = h
 refused_all (On r event) bytes wanting w h =
     settled_places (record w { sides = on_side r (side_refused w event bytes wanting) w.sides })
     (all_on_side (SidePlaces (instances w)) (SidePlaces (instances w)) r (side_refused w event bytes wanting) w.sides (λ s x. x) (refused_places w event bytes wanting) h)
@@ -244,8 +249,8 @@ pub places_noted : PlacesNoted
 places_noted made history w leads =
     (leads_keep (λ x. GoodWorld x × AllTell x × AllPlaces x)
     (λ event outcome x fits may h. (after_good event outcome x fits may h.0 h.1, after_tells event outcome x h.1, after_places event outcome x may h.0 h.1 h.2))
-    (new_world made.routers made.session made.start made.keep) history w leads.1 (
+    (new_world made.routers made.session made.session0 made.start made.keep) history w leads.1 (
       new_good made leads.0,
       all_new SideTells new_side_tells made.routers,
-      all_new (λ s. HasPlaces (record { session = made.session; session0 = made.session; start = made.start; sets = [] } ∷ []) s.items s.places) (record { count = refl; last = tt }) made.routers,
+      all_new (λ s. HasPlaces (begun made.session made.session0 made.start ∷ []) s.items s.places) (record { count = refl; last = tt }) made.routers,
     )).2

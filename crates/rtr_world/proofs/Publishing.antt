@@ -11,6 +11,8 @@ use Rattle.vrps.specs.VrpSet.{VrpSet, IsVrpSet}
 use Rattle.vrps.specs.declared.serial.Serial.{Serial}
 use Rattle.vrps.specs.declared.store.Published.{Published}
 use Rattle.vrps.specs.declared.store.Published.TheVariants.{New, Unchanged}
+use Rattle.rtr_pdu.specs.declared.version.Version.{Version}
+use Rattle.rtr_pdu.specs.declared.version.Version.TheVariants.{V0, V1}
 use Rattle.rtr_ends.specs.Cache.{Conn}
 use Rattle.rtr_ends.specs.CacheState.{ShowsCache}
 use Rattle.rtr_world.specs.History.{Done, Memory, TooManyVersions, MayEnd, Reached, after, all_have_room, is_near, is_used, refusal, room_for, room_since, side_at}
@@ -133,12 +135,13 @@ some_either : (b : Bool) (x y : Instance) (o : Option Instance) → is_some (if 
 some_either true x y o = refl
 some_either false x y o = refl
 
-used_still : (w : World) (set : VrpSet) (session : ℕ) → is_used (instances w) session ≡ is_used (instances (with_set w set)) session
-used_still w set session = some_either (w.present.session == session) w.present (record w.present { sets = set ∷ w.present.sets }) (find (λ i. i.session == session) w.past)
+used_still : (w : World) (set : VrpSet) (pv : Version) (session : ℕ) → is_used pv (instances w) session ≡ is_used pv (instances (with_set w set)) session
+used_still w set V0 session = some_either (w.present.session0 == session) w.present (record w.present { sets = set ∷ w.present.sets }) (find (λ i. i.session0 == session) w.past)
+used_still w set V1 session = some_either (w.present.session == session) w.present (record w.present { sets = set ∷ w.present.sets }) (find (λ i. i.session == session) w.past)
 
 made_to_still : (w : World) (set : VrpSet) (home : Option Instance) → MadeTo (instances w) home → MadeTo (instances (with_set w set)) home
 made_to_still w set None h = tt
-made_to_still w set (Some home) h = sym (used_still w set home.session) ∙ h
+made_to_still w set (Some home) h = sym (used_still w set V1 home.session) ∙ h
 
 one_more_shown : (w : World) (set : VrpSet) (at : ℕ → Option Conn) (a : Option Side) (q : Option values.Side) → ((s : Side) → a ≡ Some s → room_since w.present s.home ≡ true) → ShowsAt w at a q → ShowsAt (with_set w set) at a q
 one_more_shown w set at None None room h = tt
@@ -188,7 +191,7 @@ publishes_new w v n set result published was h fits other room same went told =
     }
   where
     again : ShowsRest w n → ShowsRest (with_set w set) n
-    again r = record { keep = r.keep; used = λ session. r.used session ∙ used_still w set session; session = r.session; start = r.start }
+    again r = record { keep = r.keep; used = λ session session0. r.used session session0 ∙ (λ j. used_still w set V1 session j || used_still w set V0 session0 j); sessions = record { v1 = r.sessions.v1; v0 = r.sessions.v0 }; start = r.start }
 
     by_answer : (p : Published) → Publishes (λ i cache. ShowsCache HoldsSteps (record (state_of w h.at) { cache = i }) cache) (Ok p) set w.present n.cache → ShowsCache HoldsSteps (state_of (with_set w set) h.at) n.cache
     by_answer (New serial) t = subst (λ i. ShowsCache HoldsSteps (record (state_of w h.at) { cache = i }) n.cache) (added w.present set other) t.0

@@ -209,7 +209,7 @@ settled_rests w g = all_map (Good w.keep w.past w.present) Rests (settle (instan
 refused_rests : (event : Event) (bytes : ℕ) (wanting : Option ℕ) (w : World) → GoodWorld w → AllTell w → AllByRecursion Rests w.sides → AllByRecursion Rests (is_refused event bytes wanting w).sides
 unfolding is_refused
 refused_rests (Publish set) bytes wanting w g t h = h
-refused_rests (Restart session start) bytes wanting w g t h = h
+refused_rests (Restart session session0 start) bytes wanting w g t h = h
 refused_rests (On r event) bytes wanting w g t h = settled_rests (record w { sides = on_side r (side_refused w event bytes wanting) w.sides }) (part_so r event bytes wanting w g t)
 
 after_rests : (event : Event) (outcome : Outcome) (w : World) → IsEvent event → MayEnd (refusal w event) w event outcome → GoodWorld w → AllTell w → AllByRecursion Rests w.sides → AllByRecursion Rests (after event outcome w).sides
@@ -226,7 +226,7 @@ from_old old history w leads g t h =
 
 pub history_rests : (made : Made) (history : List Entry) (w : World) → Leads made history w → AllByRecursion Rests w.sides
 history_rests made history w leads =
-    from_old (new_world made.routers made.session made.start made.keep) history w leads.1 (new_good made leads.0) (all_new SideTells new_side_tells made.routers)
+    from_old (new_world made.routers made.session made.session0 made.start made.keep) history w leads.1 (new_good made leads.0) (all_new SideTells new_side_tells made.routers)
     (all_new Rests (record { conn_on = tt; link_on = refl; none_down = λ c. refl; none_open = λ c none. refl; told = λ n d. record { closed = refl; home = refl; up = refl } }) made.routers)
 
 -- The clean-up after an event leaves nothing to be done.

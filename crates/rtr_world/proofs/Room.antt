@@ -9,6 +9,7 @@ use Rattle.std.proofs.lemmas.List.{length-append}
 use Rattle.vrps.specs.Instance.{Instance, versions}
 use Rattle.vrps.specs.Serial.{serial_at}
 use Rattle.vrps.specs.declared.serial.Serial.{Serial}
+use Rattle.rtr_ends.specs.Answer.{session_in}
 use Rattle.rtr_ends.specs.Transcript.{Committed}
 use Rattle.rtr_world.specs.History.{Reached, all_have_room, is_near, room_for, room_since, side_at}
 use Rattle.rtr_world.specs.VersionPlaces.{position_of}
@@ -60,26 +61,26 @@ no_serial (Some s) h = absurd (let k : ◌≡◌ {A = Option ℕ} (Some s.0) Non
 
 -- of the version that a router holds
 pub room_held : (w : World) (s : Side) (held : Option Serial) (next : ℕ) (answer : Bool) → Tests held next answer → Present (instances w) w.present → TableAt (instances w) s.router.version s.router.table
-    → next ≡ serial_at w.present.start (length w.present.sets) → option_map (λ x. x.0) held ≡ held_of w.present.session s.router.version → answer ≡ room_for w.present s.router.version
+    → next ≡ serial_at w.present.start (length w.present.sets) → option_map (λ x. x.0) held ≡ held_of w.present s.router.version → answer ≡ room_for w.present s.router.version
 room_held w s held next answer tests p table after is = by_version s.router.version table is
   where
     i : Instance
     i = w.present
 
-    by_session : (version : Committed) → Stands (instances w) version.session version.serial s.router.table → (b : Bool) → (w.present.session == version.session) ≡ b
+    by_session : (version : Committed) → Stands (instances w) version.version version.session version.serial s.router.table → (b : Bool) → (session_in version.version w.present == version.session) ≡ b
         → option_map (λ x. x.0) held ≡ (if b then Some version.serial else None) → answer ≡ (if b then is_near w.present (position_of version.serial (versions w.present)) else true)
     by_session version t false e h = tests_none held next answer tests (no_serial held h) w.present.start (length w.present.sets) after
     by_session version t true e h =
-        let mine : version.session ≡ w.present.session = sym (eq_of w.present.session version.session e) in
-        let same : t.i ≡ w.present = of_present (instances w) w.present p version.session version.serial s.router.table t mine in
-        let place : position_of version.serial (versions w.present) ≡ Some (length t.older) = ap (λ x. position_of version.serial (versions x)) (sym same) ∙ position_at (instances w) version.session version.serial s.router.table t in
+        let mine : version.session ≡ session_in version.version w.present = sym (eq_of (session_in version.version w.present) version.session e) in
+        let same : t.i ≡ w.present = of_present (instances w) w.present p version.version version.session version.serial s.router.table t mine in
+        let place : position_of version.serial (versions w.present) ≡ Some (length t.older) = ap (λ x. position_of version.serial (versions x)) (sym same) ∙ position_at (instances w) version.version version.session version.serial s.router.table t in
         let sets : length w.present.sets ≡ length t.newer + length (s.router.table ∷ t.older) = ap (λ (x : Instance). length x.sets) (sym same) ∙ ap length t.sets ∙ length-append t.newer (s.router.table ∷ t.older) in
         tests_some held next answer tests version.serial w.present.start (length t.older) (length w.present.sets) h (t.serial_is ∙ ap (λ (x : Instance). serial_at x.start (length t.older)) same) after (omega (arith, sets)) (omega (arith, sets, t.young))
         ∙ ap (is_near w.present) (sym place)
 
-    by_version : (version : Option Committed) → TableAt (instances w) version s.router.table → option_map (λ x. x.0) held ≡ held_of w.present.session version → answer ≡ room_for w.present version
+    by_version : (version : Option Committed) → TableAt (instances w) version s.router.table → option_map (λ x. x.0) held ≡ held_of w.present version → answer ≡ room_for w.present version
     by_version None t h = tests_none held next answer tests (no_serial held h) w.present.start (length w.present.sets) after
-    by_version (Some version) t h = by_session version t (w.present.session == version.session) refl h
+    by_version (Some version) t h = by_session version t (session_in version.version w.present == version.session) refl h
 
 -- of the one that was current when the connection was made
 pub room_made : (i : Instance) (home : Option Instance) (made : Option Serial) (next : ℕ) (answer : Bool) → Tests made next answer → MadeAt i home made → next ≡ serial_at i.start (length i.sets) → answer ≡ room_since i home

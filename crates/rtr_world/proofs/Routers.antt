@@ -22,13 +22,13 @@ new_length (suc routers) = ap suc (new_length routers)
 through_length : (event : Event) (wanting : Option ℕ) (w : World) → length (settled (goes_through event wanting w)).sides ≡ length w.sides
 unfolding settled goes_through
 through_length (Publish set) wanting w = map_length _ w.sides
-through_length (Restart session start) wanting w = map_length _ _ ∙ map_length _ w.sides
+through_length (Restart session session0 start) wanting w = map_length _ _ ∙ map_length _ w.sides
 through_length (On r event) wanting w = map_length _ _ ∙ on_length r _ w.sides
 
 refused_length : (event : Event) (bytes : ℕ) (wanting : Option ℕ) (w : World) → length (is_refused event bytes wanting w).sides ≡ length w.sides
 unfolding is_refused settled
 refused_length (Publish set) bytes wanting w = refl
-refused_length (Restart session start) bytes wanting w = refl
+refused_length (Restart session session0 start) bytes wanting w = refl
 refused_length (On r event) bytes wanting w = map_length _ _ ∙ on_length r _ w.sides
 
 after_length : (event : Event) (outcome : Outcome) (w : World) → length (after event outcome w).sides ≡ length w.sides

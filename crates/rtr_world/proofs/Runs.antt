@@ -3,16 +3,15 @@ use Rattle.std.specs.Prelude.{◌≡◌, ℕ, Bool, true, false, not, ◌&&◌, 
 use Rattle.std.proofs.Common.{◌∙◌, sym, ap}
 use Rattle.std.specs.List.{AllByRecursion}
 use Rattle.vrps.specs.Instance.{Instance}
-use Rattle.rtr_pdu.specs.declared.version.Version.TheVariants.{V1}
 use Rattle.rtr_pdu.specs.Judging.{Judgement, Begins, Whole, Faulty, judge}
 use Rattle.rtr_ends.specs.Cache.{finds_memory}
 use Rattle.rtr_ends.specs.LinkRules.{Router, on_unit, may_lack}
-use Rattle.rtr_ends.specs.Router.{RouterCall, Connects, Receives, Pulls, Closes, AsksNow, Ticks, called, asked_by, reads, lacks, with_bytes, router_stops, router_byte, clocked, asks, asks_if, connects_at, closed_at, ticks_at, receives}
+use Rattle.rtr_ends.specs.Router.{RouterCall, Connects, Receives, Pulls, Closes, AsksNow, Ticks, Speaks, called, asked_by, reads, lacks, with_bytes, router_stops, router_byte, clocked, asks, asks_if, connects_at, closed_at, ticks_at, receives}
 use Rattle.rtr_ends.specs.RouterLink.{Link, Closed, Idle, Asked, Answering, Ended, is_closed, is_due, is_idle}
 use Rattle.rtr_ends.specs.Transcript.{Item, At, Opened, Asks, Reads, Lacks, Breaks, Shut, Refused, Restarts}
 use Rattle.rtr_ends.proofs.FeedingLaws.{feed_keeps}
 use Rattle.rtr_world.specs.Claims.{IsRun, RoutersRun, since_restart}
-use Rattle.rtr_world.specs.World.{Side, World, instances, SideEvent, RouterRestart, Connect, RouterSends, CacheGets, CacheSends, RouterGets, Cut, NotifyRouter, Ask, Tick, noted, connects, router_restarts, router_sends, cache_sends, cache_gets, router_gets, cut, side_step, side_part, side_refused, tell_closed}
+use Rattle.rtr_world.specs.World.{Side, World, instances, SideEvent, RouterRestart, Speak, Connect, RouterSends, CacheGets, CacheSends, RouterGets, Cut, NotifyRouter, Ask, Tick, noted, connects, router_restarts, speaks, router_sends, cache_sends, cache_gets, router_gets, cut, side_step, side_part, side_refused, tell_closed}
 use Rattle.rtr_world.proofs.Folding.{Blind, sends_keep, gets_keep, notifies_keep, settle_keeps}
 use Rattle.rtr_world.proofs.Histories.{Kept, history_keeps}
 
@@ -38,7 +37,7 @@ since_call (x ∷ xs) items h = by_item x h.0 ∙ ap (λ l. x ∷ l) (since_call
     by_item Refused h = absurd h
     by_item Restarts h = absurd h
     by_item (At now) h = refl
-    by_item Opened h = refl
+    by_item (Opened version) h = refl
     by_item (Asks question) h = refl
     by_item (Reads unit) h = refl
     by_item (Lacks unit) h = refl
@@ -70,8 +69,8 @@ receives_of_call : (now : ℕ) (wanting : Option ℕ) (piece : List ℕ) (r : Ro
 unfolding receives router_byte
 receives_of_call now wanting piece r =
     feed_keeps (λ m. router_stops m.router) router_byte (λ rest m. AreOfCall m.items)
-    (λ b rest m on h. both_of_call (with_bytes (finds_memory m.wanting) (m.router.held ++ b ∷ []) m.router (judge V1 (not m.router.agreed) (m.router.held ++ b ∷ []))).items m.items
-    (read_of_call (finds_memory m.wanting) (m.router.held ++ b ∷ []) m.router (judge V1 (not m.router.agreed) (m.router.held ++ b ∷ []))) h)
+    (λ b rest m on h. both_of_call (with_bytes (finds_memory m.wanting) (m.router.held ++ b ∷ []) m.router (judge m.router.spoken (not m.router.agreed) (m.router.held ++ b ∷ []))).items m.items
+    (read_of_call (finds_memory m.wanting) (m.router.held ++ b ∷ []) m.router (judge m.router.spoken (not m.router.agreed) (m.router.held ++ b ∷ []))) h)
     (record { router = clocked now r; items = At now ∷ []; wanting = wanting }) piece (tt, tt)
 
 asks_of_call : (b : Bool) (r : Router) → AreOfCall (asks_if b r).items
@@ -85,6 +84,7 @@ call_of_call (Receives now wanting piece) r = receives_of_call now wanting piece
 call_of_call (Pulls most) r = tt
 call_of_call (Closes now) r = (tt, (tt, tt))
 call_of_call AsksNow r = asks_of_call (is_idle r.link) r
+call_of_call (Speaks version) r = tt
 call_of_call (Ticks now) r =
     let told : Router = clocked now r in
     both_of_call (asks_if (is_due told.link told.due told.now) told).items (At now ∷ []) (asks_of_call (is_due told.link told.due told.now) told) (tt, tt)
@@ -105,8 +105,9 @@ blind_runs : Blind SideRuns
 blind_runs s conn up down h = h
 
 step_runs : (w : World) (event : SideEvent) (wanting : Option ℕ) (s : Side) → SideRuns s → SideRuns (side_step w event wanting s)
-unfolding side_step connects router_restarts router_sends router_gets cache_sends cache_gets cut
+unfolding side_step connects router_restarts speaks router_sends router_gets cache_sends cache_gets cut
 step_runs w RouterRestart wanting s h = record { calls = []; router_is = refl; items_are = refl }
+step_runs w (Speak version) wanting s h = one_more (Speaks version) s.router s.items h
 step_runs w Connect wanting s h = one_more (Connects s.router.now) s.router s.items h
 step_runs w (RouterSends most) wanting s h = one_more (Pulls most) s.router s.items h
 step_runs w (CacheGets most) wanting s h = gets_keep SideRuns blind_runs w most wanting s s.conn h
@@ -124,6 +125,7 @@ part_runs w (CacheGets most) bytes wanting s h = gets_keep SideRuns blind_runs w
 part_runs w (CacheSends most) bytes wanting s h = sends_keep SideRuns blind_runs w.keep bytes s s.conn h
 part_runs w (RouterGets most) bytes wanting s h = one_more (Receives s.router.now wanting (take bytes s.down)) s.router s.items h
 part_runs w RouterRestart bytes wanting s h = h
+part_runs w (Speak version) bytes wanting s h = h
 part_runs w Connect bytes wanting s h = h
 part_runs w (Cut left) bytes wanting s h = h
 part_runs w NotifyRouter bytes wanting s h = h

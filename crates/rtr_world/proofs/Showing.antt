@@ -7,12 +7,16 @@ use Rattle.std.proofs.lemmas.List.Folds.{list_any-append}
 use Rattle.std.specs.List.{AllByRecursion, list_any}
 use Rattle.vrps.specs.Instance.{Instance}
 use Rattle.vrps.specs.Steps.{Steps}
+use Rattle.rtr_pdu.specs.declared.version.Version.{Version}
+use Rattle.rtr_pdu.specs.declared.version.Version.TheVariants.{V0, V1}
+use Rattle.rtr_ends.specs.Answer.{session_in}
 use Rattle.rtr_ends.specs.Cache.{Conn}
 use Rattle.rtr_ends.specs.declared.cache.Cache.{Cache}
 use Rattle.rtr_ends.specs.declared.cache.Conn.{Conn as Number}
+use Rattle.rtr_ends.specs.declared.sessions.Sessions.{Sessions}
 use Rattle.rtr_world.specs.History.{Entry, Leads, LeadsFrom, Made, Reached, WorldStep, after, is_used, side_at}
 use Rattle.rtr_world.specs.Reached.{AreOwn, HasAt, LeadsTo, Lost, LostAt, SettledAll, ShowsAt, ShowsParts, StepsOnce as StepsSo, StepsTo}
-use Rattle.rtr_world.specs.SideShown.{ConnIs, Goes, Has, IsNewSide, Moves, ShowsSide}
+use Rattle.rtr_world.specs.SideShown.{ConnIs, Goes, Has, HasSessions, IsNewSide, Moves, ShowsSide}
 use Rattle.rtr_world.specs.World.{World, Side, Event, instances, new_side, new_sides, on_side, settle}
 use Rattle.rtr_world.specs.declared.event.WorldFault.{WorldFault}
 use Rattle.rtr_world.specs.declared.side.Side as values
@@ -196,19 +200,32 @@ settles_each all [] = refl
 settles_each all (s ∷ sides) = first_behind all (length sides) s sides ∙ ap (λ x. settle all s ∷ x) (settles_each all sides)
 
 -- the sessions that were used
-any_or : (b : Bool) (all : List Instance) (i : Instance) (session : ℕ) → (b || is_used all session) ≡ is_some (if b then Some i else find (λ j. j.session == session) all)
-any_or true all i session = refl
-any_or false all i session = refl
+abbrev pub uses : ℕ → ℕ → Sessions → Bool
+uses session session0 y = y.v1 == session || y.v0 == session0
 
-or_swap : (a b : Bool) → (a || (b || false)) ≡ (b || a)
-or_swap true true = refl
-or_swap true false = refl
-or_swap false true = refl
-or_swap false false = refl
+abbrev pub are_used : List Instance → ℕ → ℕ → Bool
+are_used all session session0 = is_used V1 all session || is_used V0 all session0
 
-pub used_more : (items : List ℕ) (all : List Instance) (i : Instance) (session : ℕ) → list_any (λ y. y == session) items ≡ is_used all session → list_any (λ y. y == session) (items ++ i.session ∷ []) ≡ is_used (i ∷ all) session
-used_more items all i session h =
-    list_any-append (λ y. y == session) items (i.session ∷ []) ∙ ap (λ b. b || (i.session == session || false)) h ∙ or_swap (is_used all session) (i.session == session) ∙ any_or (i.session == session) all i session
+any_or : (pv : Version) (b : Bool) (all : List Instance) (i : Instance) (session : ℕ) → (b || is_used pv all session) ≡ is_some (if b then Some i else find (λ j. session_in pv j == session) all)
+any_or pv true all i session = refl
+any_or pv false all i session = refl
+
+or_pairs : (a b x y : Bool) → ((a || b) || ((x || y) || false)) ≡ ((x || a) || (y || b))
+or_pairs true b true y = refl
+or_pairs true b false y = refl
+or_pairs false true true y = refl
+or_pairs false true false true = refl
+or_pairs false true false false = refl
+or_pairs false false true y = refl
+or_pairs false false false true = refl
+or_pairs false false false false = refl
+
+pub used_more : (items : List Sessions) (all : List Instance) (i : Instance) (p : Sessions) (session session0 : ℕ) → HasSessions i p → list_any (uses session session0) items ≡ are_used all session session0
+    → list_any (uses session session0) (items ++ p ∷ []) ≡ are_used (i ∷ all) session session0
+used_more items all i p session session0 has h =
+    list_any-append (uses session session0) items (p ∷ []) ∙ (λ j. h j || (((has.v1 j == session) || (has.v0 j == session0)) || false))
+    ∙ or_pairs (is_used V1 all session) (is_used V0 all session0) (i.session == session) (i.session0 == session0)
+    ∙ (λ j. any_or V1 (i.session == session) all i session j || any_or V0 (i.session0 == session0) all i session0 j)
 
 -- One side more has lost its connection.
 pub record LostFirst (olds news : List values.Side) (k : ℕ) : Type 0 where

@@ -1,28 +1,29 @@
 -- What happens at one router, its connection and its wires keeps the invariant.
 use Rattle.std.specs.Prelude.{◌≡◌, ℕ, Bool, true, false, not, ◌&&◌, List, [], ◌∷◌, ◌++◌, Option, Some, None, if◌then◌else◌, refl}
-use Rattle.std.proofs.Common.{sym, ap, ◌∙◌, subst, inl}
+use Rattle.std.proofs.Common.{sym, ap, ◌∙◌, subst, subst₂, inl}
 use Rattle.std.proofs.lemmas.Bool.{and_parts}
 use Rattle.vrps.specs.Instance.{Instance}
 use Rattle.vrps.specs.VrpSet.{empty}
-use Rattle.rtr_pdu.specs.declared.version.Version.TheVariants.{V1}
+use Rattle.rtr_pdu.specs.Version.{header_version}
+use Rattle.rtr_pdu.specs.declared.version.Version.{Version}
 use Rattle.rtr_pdu.specs.Judging.{judge}
 use Rattle.rtr_pdu.specs.declared.unit.Unit.{Unit}
 use Rattle.rtr_pdu.specs.declared.unit.Unit.TheVariants.{SerialNotify}
 use Rattle.rtr_ends.specs.declared.link.End.TheVariants as ends
-use Rattle.rtr_ends.specs.Answer.{sent_all}
+use Rattle.rtr_ends.specs.Connection.{bytes_sent, in_version}
 use Rattle.rtr_ends.specs.Cache.{Conn, is_none, finds_memory}
 use Rattle.rtr_ends.specs.LinkRules.{Router, emptied, on_unit, may_lack}
 use Rattle.rtr_ends.specs.Router.{Receiving, lacks, reads, with_bytes, router_stops, router_byte, expired, clocked, close, asks_if}
 use Rattle.rtr_ends.specs.RouterLink.{Link, Closed, Idle, Asked, Answering, Ended, is_reading, is_closed, is_idle}
-use Rattle.rtr_ends.specs.Transcript.{choose, Question, AskReset, AskSerial, query, is_serial, is_over, later, sum_of, retry_of}
+use Rattle.rtr_ends.specs.Transcript.{choose, Question, AskReset, AskSerial, query, is_serial, is_over, later, of_version, sum_of, retry_of}
 use Rattle.rtr_ends.proofs.KeptLaws.{none_is, same_base}
 use Rattle.rtr_ends.proofs.TableLaws.{false_true}
 use Rattle.rtr_world.specs.History.{conn_due}
 use Rattle.rtr_world.specs.OneAnswer.{NotifiesOf, without_notifies}
-use Rattle.rtr_world.proofs.Invariant.{OfAnswer, Shape, QuestionFits, IfOpen, Open, Flow, Live, GoodLink, GoodRouter}
-use Rattle.rtr_world.proofs.UnitsAtRouters.{Reads, on_notify, on_other, live_link, question_fits, query_unit, open_asking}
-use Rattle.rtr_world.proofs.UnitStreams.{Stream, ByteCase, partly, wholly, byte_case}
-use Rattle.rtr_world.proofs.Versions.{TableAt}
+use Rattle.rtr_world.proofs.Invariant.{OfAnswer, Shape, QuestionFits, IfOpen, Open, Unheard, Flow, Live, GoodLink, GoodRouter}
+use Rattle.rtr_world.proofs.UnitsAtRouters.{Reads, on_early, on_notify, on_other, live_link, question_fits, query_unit, open_asking}
+use Rattle.rtr_world.proofs.UnitStreams.{Stream, ByteCase, partly, notified, wholly, byte_case, early_open}
+use Rattle.rtr_world.proofs.Versions.{TableAt, held_at}
 use Rattle.rtr_world.proofs.LinkedSides.{Seen}
 use Rattle.prefixes.proofs.Basics.{true_of_not}
 
@@ -71,17 +72,42 @@ fits_nothing session (AskSerial one serial) h = false_true (sym h)
 module _ (all : List Instance) (i : Instance) (home : Option Seen) (conn : Option Conn) (up : List ℕ) where
   -- the router reads a unit
   unit_read : (down : List ℕ) (r : Router) (more : List Unit) (u : Unit) → HeadCase u more → (d : Reads all i home conn up down r more) → is_reading r.link ≡ true → NotifiesOf d.h.session (u ∷ more)
-      → Shape all d.h r.link r.agreed r.version r.table d.wanted (without_notifies (u ∷ more)) → GoodRouter all i home conn up down (on_unit r.link u r)
+      → Shape all r.spoken d.h r.link r.agreed r.version r.table d.wanted (without_notifies (u ∷ more)) → GoodRouter all i home conn up down (on_unit r.link u r)
   unit_read down r more u (a_notify session serial e) d live notes shape =
       let n : (session ≡ d.h.session) × NotifiesOf d.h.session more = subst (λ x. NotifiesOf d.h.session (x ∷ more)) e notes in
-      let s : Shape all d.h r.link r.agreed r.version r.table d.wanted (without_notifies more) = subst (λ x. Shape all d.h r.link r.agreed r.version r.table d.wanted (without_notifies (x ∷ more))) e shape in
+      let s : Shape all r.spoken d.h r.link r.agreed r.version r.table d.wanted (without_notifies more) = subst (λ x. Shape all r.spoken d.h r.link r.agreed r.version r.table d.wanted (without_notifies (x ∷ more))) e shape in
       subst (λ x. GoodRouter all i home conn up down (on_unit r.link x r)) (sym e) (on_notify all i home conn up down r more r.link session serial d refl live n.0 s)
   unit_read down r more u (another e) d live notes shape =
-      on_other all i home conn up down r more r.link u d live (subst (λ x. Shape all d.h r.link r.agreed r.version r.table d.wanted x) e shape)
+      on_other all i home conn up down r more r.link u d live (subst (λ x. Shape all r.spoken d.h r.link r.agreed r.version r.table d.wanted x) e shape)
+
+  -- What was to come is more than notifies before agreement: the cache has read a header.
+  heard : (h : Seen) (pv : Version) (out : List ℕ) (wanted : List Unit) (u : Unit) (more : List Unit) (agreed now : Bool) (lost : List ℕ) (o : Option Conn) → IfOpen o (Open i pv h out up wanted (u ∷ more) agreed lost) → IfOpen o (Open i pv h out up wanted more now lost)
+  heard h pv out wanted u more agreed now lost None op = tt
+  heard h pv out wanted u more agreed now lost (Some o) op = record {
+    upward = op.upward;
+    spoken = op.spoken;
+    unheard = by_header (header_version o.state.version o.held) op.unheard;
+    whole = op.whole;
+    session = op.session;
+    made = op.made;
+    later = op.later;
+  }
+    where
+      by_header : (known : Option Version) → Unheard known (u ∷ more) agreed → Unheard known more now
+      by_header None n = absurd (let e : u ∷ more ≡ [] = n.0 in cc)
+      by_header (Some version) n = tt
+
+  -- A notify takes no memory.
+  notify_frees : (l : Link) (session serial : ℕ) (r : Router) → may_lack l (SerialNotify session serial) r ≡ false
+  notify_frees (Answering a) session serial r = refl
+  notify_frees Closed session serial r = refl
+  notify_frees Idle session serial r = refl
+  notify_frees (Asked q) session serial r = refl
+  notify_frees (Ended end) session serial r = refl
 
   -- it reads a byte
   byte_read : (down : List ℕ) (r : Router) (b : ℕ) (memory : Bool) (h : Seen) (f : Flow all i h r conn up (b ∷ down)) → home ≡ Some h → is_reading r.link ≡ true → r.out ≡ [] → TableAt all r.version r.table → r.mark ≡ false
-      → ByteCase (not r.agreed) r.held b (down ++ (conn_due conn ++ f.lost)) f.coming → GoodRouter all i home conn up down (with_bytes memory (r.held ++ b ∷ []) r (judge V1 (not r.agreed) (r.held ++ b ∷ []))).router
+      → ByteCase r.spoken r.agreed r.held b (down ++ (conn_due conn ++ f.lost)) f.early f.coming → GoodRouter all i home conn up down (with_bytes memory (r.held ++ b ∷ []) r (judge r.spoken (not r.agreed) (r.held ++ b ∷ []))).router
   byte_read down r b memory h f eh live none table mark (partly e s) =
       let k : Router = record r { held = r.held ++ b ∷ [] } in
       subst (λ j. GoodRouter all i home conn up down (with_bytes memory (r.held ++ b ∷ []) r j).router) (sym e) (record {
@@ -91,11 +117,15 @@ module _ (all : List Instance) (i : Instance) (home : Option Seen) (conn : Optio
           h,
           eh,
           record {
+            version = f.version;
+            early = f.early;
             coming = f.coming;
             lost = f.lost;
             wanted = f.wanted;
             downward = s;
             open_at = f.open_at;
+            are_early = f.are_early;
+            early_notifies = f.early_notifies;
             notifies = f.notifies;
             own = f.own;
             mine = f.mine;
@@ -103,7 +133,34 @@ module _ (all : List Instance) (i : Instance) (home : Option Seen) (conn : Optio
           },
         );
       })
-  byte_read down r b memory h f eh live none table mark (wholly u more is e fit s) =
+  byte_read down r b memory h f eh live none table mark (notified session serial rest is e s) =
+      subst (λ j. GoodRouter all i home conn up down (with_bytes memory (r.held ++ b ∷ []) r j).router) (sym e)
+      (subst (λ w. GoodRouter all i home conn up down (if w && not memory then lacks (SerialNotify session serial) k else reads (SerialNotify session serial) k).router) (sym (notify_frees r.link session serial r))
+      (on_early all i home conn up down k r.link session serial h left eh refl live open_yet table mark))
+    where
+      k : Router
+      k = record r { held = [] }
+
+      open_yet : r.agreed ≡ false
+      open_yet = early_open r.agreed session serial rest (λ a. sym is ∙ f.are_early.1 a)
+
+      left : Flow all i h k conn up down
+      left = record {
+        version = f.version;
+        early = rest;
+        coming = f.coming;
+        lost = f.lost;
+        wanted = f.wanted;
+        downward = s;
+        open_at = f.open_at;
+        are_early = (subst (λ x. without_notifies x ≡ []) is f.are_early.0, λ a. false_true (sym open_yet ∙ a));
+        early_notifies = (subst (λ x. NotifiesOf h.made.session x) is f.early_notifies).1;
+        notifies = f.notifies;
+        own = f.own;
+        mine = f.mine;
+        shape = f.shape;
+      }
+  byte_read down r b memory h f eh live none table mark (wholly alone u more is e fit s) =
       subst (λ j. GoodRouter all i home conn up down (with_bytes memory (r.held ++ b ∷ []) r j).router) (sym e) (by_memory (may_lack r.link u r && not memory))
     where
       k : Router
@@ -116,10 +173,11 @@ module _ (all : List Instance) (i : Instance) (home : Option Seen) (conn : Optio
       d = record {
         h = h;
         is_home = eh;
+        version = f.version;
         lost = f.lost;
         wanted = f.wanted;
         downward = s;
-        open_at = subst (λ x. IfOpen conn (Open i h x up f.wanted f.lost)) none f.open_at;
+        open_at = λ agreed. heard h r.spoken [] f.wanted u more r.agreed agreed f.lost conn (subst₂ (λ x y. IfOpen conn (Open i r.spoken h x up f.wanted y r.agreed f.lost)) none is f.open_at);
         notifies = notifies_rest h.session u more notes;
         own = f.own;
         mine = f.mine;
@@ -131,7 +189,7 @@ module _ (all : List Instance) (i : Instance) (home : Option Seen) (conn : Optio
 
       by_memory : (w : Bool) → GoodRouter all i home conn up down (if w then lacks u k else reads u k).router
       by_memory true = record { table = table; unmarked = mark; link = none }
-      by_memory false = unit_read down k more u (head_case u more) d live notes (subst (λ x. Shape all h r.link r.agreed r.version r.table f.wanted (without_notifies x)) is f.shape)
+      by_memory false = unit_read down k more u (head_case u more) d live notes (subst (λ x. Shape all r.spoken h r.link r.agreed r.version r.table f.wanted (without_notifies x)) is f.shape)
 
   pub byte_good : (down : List ℕ) (m : Receiving) (b : ℕ) → router_stops m.router ≡ false → GoodRouter all i home conn up (b ∷ down) m.router → GoodRouter all i home conn up down (router_byte m b).router
   unfolding router_byte
@@ -139,23 +197,27 @@ module _ (all : List Instance) (i : Instance) (home : Option Seen) (conn : Optio
       let parts = and_parts (is_reading m.router.link) (is_none m.router.out) (true_of_not (is_reading m.router.link && is_none m.router.out) goes_on) in
       let l = live_of m.router.link all i home m.router conn up (b ∷ down) g.link parts.0 in
       byte_read down m.router b (finds_memory m.wanting) l.0 l.2 l.1 parts.0 (none_is m.router.out parts.1) g.table g.unmarked
-      (byte_case (not m.router.agreed) m.router.held b (down ++ (conn_due conn ++ l.2.lost)) l.2.coming l.2.downward)
+      (byte_case m.router.spoken m.router.agreed m.router.held b (down ++ (conn_due conn ++ l.2.lost)) l.2.early l.2.coming l.2.are_early l.2.downward)
 
   module _ (down : List ℕ) where
     abbrev GoodR : Router → Type 0
     GoodR r = GoodRouter all i home conn up down r
 
     -- the clock
-    emptied_live : (r : Router) → ((h : Seen) (wanted rest : List Unit) → Shape all h r.link r.agreed r.version r.table wanted rest → Shape all h r.link r.agreed None empty wanted rest) → Live all i home r conn up down → Live all i home (emptied r) conn up down
+    emptied_live : (r : Router) → ((h : Seen) (wanted rest : List Unit) → Shape all r.spoken h r.link r.agreed r.version r.table wanted rest → Shape all r.spoken h r.link r.agreed None empty wanted rest) → Live all i home r conn up down → Live all i home (emptied r) conn up down
     emptied_live r k l = (
       l.0,
       l.1,
       record {
+        version = l.2.version;
+        early = l.2.early;
         coming = l.2.coming;
         lost = l.2.lost;
         wanted = l.2.wanted;
         downward = l.2.downward;
         open_at = l.2.open_at;
+        are_early = l.2.are_early;
+        early_notifies = l.2.early_notifies;
         notifies = l.2.notifies;
         own = l.2.own;
         mine = λ e. tt;
@@ -166,10 +228,10 @@ module _ (all : List Instance) (i : Instance) (home : Option Seen) (conn : Optio
     emptied_good : (r : Router) (l : Link) → r.link ≡ l → GoodLink all i home l (emptied r) conn up down → GoodR (emptied r)
     emptied_good r l is g = record { table = refl; unmarked = refl; link = subst (λ x. GoodLink all i home x (emptied r) conn up down) (sym is) g }
 
-    shape_as : (r : Router) (l : Link) → r.link ≡ l → ((h : Seen) (wanted rest : List Unit) → Shape all h l r.agreed r.version r.table wanted rest → Shape all h l r.agreed None empty wanted rest)
-        → (h : Seen) (wanted rest : List Unit) → Shape all h r.link r.agreed r.version r.table wanted rest → Shape all h r.link r.agreed None empty wanted rest
+    shape_as : (r : Router) (l : Link) → r.link ≡ l → ((h : Seen) (wanted rest : List Unit) → Shape all r.spoken h l r.agreed r.version r.table wanted rest → Shape all r.spoken h l r.agreed None empty wanted rest)
+        → (h : Seen) (wanted rest : List Unit) → Shape all r.spoken h r.link r.agreed r.version r.table wanted rest → Shape all r.spoken h r.link r.agreed None empty wanted rest
     shape_as r l is k h wanted rest s =
-        subst (λ x. Shape all h x r.agreed None empty wanted rest) (sym is) (k h wanted rest (subst (λ x. Shape all h x r.agreed r.version r.table wanted rest) is s))
+        subst (λ x. Shape all r.spoken h x r.agreed None empty wanted rest) (sym is) (k h wanted rest (subst (λ x. Shape all r.spoken h x r.agreed r.version r.table wanted rest) is s))
 
     expired_good : (l : Link) (r : Router) → r.link ≡ l → GoodLink all i home l r conn up down → GoodR (expired l r)
     expired_good Closed r is g = emptied_good r Closed is g
@@ -183,7 +245,7 @@ module _ (all : List Instance) (i : Instance) (home : Option Seen) (conn : Optio
         by_question true e = record { table = refl; unmarked = refl; link = refl }
         by_question false e =
             emptied_good r (Answering a) is (emptied_live r (shape_as r (Answering a) is (λ h w t s.
-            (s.0, s.1, s.2, fits_nothing h.session a.question e, subst (λ base. OfAnswer all h base a t) (sym (same_base a.question r.table e)) s.4))) g)
+            (s.0, s.1, s.2, fits_nothing h.session a.question e, subst (λ base. OfAnswer all r.spoken h base a t) (sym (same_base a.question r.table e)) s.4))) g)
 
     told_good : (now : ℕ) (r : Router) → GoodR r → GoodR (record r { now = now })
     told_good now r g = record {
@@ -193,11 +255,15 @@ module _ (all : List Instance) (i : Instance) (home : Option Seen) (conn : Optio
         l.0,
         l.1,
         record {
+          version = l.2.version;
+          early = l.2.early;
           coming = l.2.coming;
           lost = l.2.lost;
           wanted = l.2.wanted;
           downward = l.2.downward;
           open_at = l.2.open_at;
+          are_early = l.2.are_early;
+          early_notifies = l.2.early_notifies;
           notifies = l.2.notifies;
           own = l.2.own;
           mine = l.2.mine;
@@ -248,12 +314,12 @@ module _ (all : List Instance) (i : Instance) (home : Option Seen) (conn : Optio
         by_link (Answering a) is h = open_link (ap is_closed is)
 
     -- an idle link asks
-    open_quiet : (h : Seen) (out : List ℕ) (wanted : List Unit) (lost : List ℕ) (o : Option Conn) → wanted ≡ [] → IfOpen o (Open i h out up wanted lost) → IfOpen o (Open i h [] up wanted lost)
-    open_quiet h out wanted lost None e op = tt
-    open_quiet h out wanted lost (Some o) e op =
-        let none : o.held ++ (up ++ out) ≡ [] = op.upward.whole ∙ ap (λ x. sent_all V1 x) e in
+    open_quiet : (h : Seen) (pv : Version) (out : List ℕ) (wanted coming : List Unit) (agreed : Bool) (lost : List ℕ) (o : Option Conn) → wanted ≡ [] → IfOpen o (Open i pv h out up wanted coming agreed lost) → IfOpen o (Open i pv h [] up wanted coming agreed lost)
+    open_quiet h pv out wanted coming agreed lost None e op = tt
+    open_quiet h pv out wanted coming agreed lost (Some o) e op =
+        let none : o.held ++ (up ++ out) ≡ [] = op.upward.whole ∙ ap (λ x. bytes_sent (in_version pv x)) e in
         let empty_out : out ≡ [] = nothing_right up out (nothing_right o.held (up ++ out) none) in
-        record { upward = subst (λ x. Stream o.held (up ++ x) wanted) empty_out op.upward; spoken = op.spoken; whole = op.whole; session = op.session; made = op.made; later = op.later }
+        record { upward = subst (λ x. Stream o.held (up ++ x) (in_version pv wanted)) empty_out op.upward; spoken = op.spoken; unheard = op.unheard; whole = op.whole; session = op.session; made = op.made; later = op.later }
 
     pub asks_good : (l : Link) (r : Router) (b : Bool) → r.link ≡ l → (is_idle l ≡ false → b ≡ false) → GoodR r → GoodLink all i home l r conn up down → GoodR (asks_if b r).router
     asks_good l r false is idle g k = g
@@ -262,8 +328,8 @@ module _ (all : List Instance) (i : Instance) (home : Option Seen) (conn : Optio
     asks_good (Asked q) r true is idle g k = false_true (sym (idle refl))
     asks_good (Answering a) r true is idle g k = false_true (sym (idle refl))
     asks_good Idle r true is idle g k =
-        let s = subst (λ x. Shape all k.0 x r.agreed r.version r.table k.2.wanted (without_notifies k.2.coming)) is k.2.shape in
-        let fits = question_fits k.0.session r.version r.mark g.unmarked (k.2.mine s.2) in
+        let s = subst (λ x. Shape all r.spoken k.0 x r.agreed r.version r.table k.2.wanted (without_notifies k.2.coming)) is k.2.shape in
+        let fits = question_fits k.0.session (of_version r.spoken r.version) r.mark g.unmarked (k.2.mine s.2) in
         record {
           table = g.table;
           unmarked = g.unmarked;
@@ -271,12 +337,17 @@ module _ (all : List Instance) (i : Instance) (home : Option Seen) (conn : Optio
             k.0,
             k.1,
             record {
+              version = k.2.version;
+              early = k.2.early;
               coming = k.2.coming;
               lost = k.2.lost;
-              wanted = query (choose r.version r.mark) ∷ [];
+              wanted = query (choose (of_version r.spoken r.version) r.mark) ∷ [];
               downward = k.2.downward;
-              open_at = open_asking all i home conn up down k.0 k.2.wanted k.2.lost (choose r.version r.mark) conn s.0 (query_unit all k.0.session (choose r.version r.mark) r.version r.table fits g.table)
-                  (open_quiet k.0 r.out k.2.wanted k.2.lost conn s.0 k.2.open_at);
+              open_at = open_asking all i home conn up down r.spoken k.0 k.2.wanted k.2.coming r.agreed k.2.lost (choose (of_version r.spoken r.version) r.mark) conn s.0
+                  (query_unit all r.spoken k.0.session (choose (of_version r.spoken r.version) r.mark) (of_version r.spoken r.version) r.table fits (held_at all r.spoken r.version r.table g.table))
+                  (open_quiet k.0 r.spoken r.out k.2.wanted k.2.coming r.agreed k.2.lost conn s.0 k.2.open_at);
+              are_early = k.2.are_early;
+              early_notifies = k.2.early_notifies;
               notifies = k.2.notifies;
               own = k.2.own;
               mine = k.2.mine;

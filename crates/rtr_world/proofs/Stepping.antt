@@ -10,7 +10,7 @@ use Rattle.rtr_ends.specs.RouterLink.{Link, Closed, Idle, Asked, Answering, Ende
 use Rattle.rtr_world.specs.History.{Done, Memory, NoSuchRouter, MayEnd, IsWanted, Reached, after, may_refuse_at, most_of, moved_at, refusal, side_at, wants_at}
 use Rattle.rtr_world.specs.Reached.{ShowsParts, ShowsRest, ShowsWorld, StepsOnce}
 use Rattle.rtr_world.specs.SideShown.{Happens, MayFail, Moves}
-use Rattle.rtr_world.specs.World.{World, Side, SideEvent, RouterRestart, Connect, RouterSends, CacheGets, CacheSends, RouterGets, Cut, NotifyRouter, Ask, Tick, On, goes_through, instances, is_refused, on_side, settle, settled, side_refused, side_step}
+use Rattle.rtr_world.specs.World.{World, Side, SideEvent, RouterRestart, Speak, Connect, RouterSends, CacheGets, CacheSends, RouterGets, Cut, NotifyRouter, Ask, Tick, On, goes_through, instances, is_refused, on_side, settle, settled, side_refused, side_step}
 use Rattle.rtr_world.specs.declared.event.WorldFault.{WorldFault}
 use Rattle.rtr_world.specs.declared.event.WorldFault.TheVariants as faults
 use Rattle.rtr_world.specs.declared.side.Side as values
@@ -26,8 +26,8 @@ use Rattle.prefixes.proofs.Basics.{lt_true}
 pub same_rest : (w : World) (sides : List Side) (v n : code.World) → ShowsRest w v → n ≡ record v { cache = n.cache; sides = n.sides } → ShowsRest (record w { sides = sides }) n
 same_rest w sides v n h same = record {
   keep = ap (λ x. x.keep) same ∙ h.keep;
-  used = λ session. ap (λ x. list_any (λ y. y == session) x.sessions.items) same ∙ h.used session;
-  session = ap (λ x. x.session) same ∙ h.session;
+  used = λ session session0. ap (λ x. list_any (λ y. y.v1 == session || y.v0 == session0) x.sessions.items) same ∙ h.used session session0;
+  sessions = record { v1 = ap (λ x. x.present.v1) same ∙ h.sessions.v1; v0 = ap (λ x. x.present.v0) same ∙ h.sessions.v0 };
   start = h.start ∙ sym (ap (λ x. x.start) same);
 }
 
@@ -81,6 +81,7 @@ may_fail w s Connect g h = refl
 may_fail w s (RouterSends most) g h = ap (λ b. not b || is_some s.conn) (links_out s (instances w) w.present g.seen s.router.link g.router.link h)
 may_fail w s (CacheSends most) g h = ap (λ b. not (is_closed s.router.link) || b) (open_conn s.conn h) ∙ or_true (not (is_closed s.router.link))
 may_fail w s RouterRestart g h = absurd h
+may_fail w s (Speak version) g h = absurd h
 may_fail w s (CacheGets most) g h = absurd h
 may_fail w s (RouterGets most) g h = absurd h
 may_fail w s (Cut left) g h = absurd h

@@ -1,5 +1,5 @@
 -- What a unit that comes to the router does to its link.
-use Rattle.std.specs.Prelude.{◌≡◌, ℕ, ◌+◌, ◌≤◌, ◌<◌, Bool, true, false, ◌&&◌, List, [], ◌∷◌, ◌++◌, length, Some, if◌then◌else◌, refl}
+use Rattle.std.specs.Prelude.{◌≡◌, ℕ, ◌+◌, ◌≤◌, ◌<◌, Bool, true, false, ◌&&◌, ◌==◌, List, [], ◌∷◌, ◌++◌, length, Some, if◌then◌else◌, refl}
 use Rattle.std.proofs.Common.{sym, ap, ◌∙◌, subst, subst₂, inl, inr}
 use Rattle.prefixes.specs.Payload.{Payload}
 use Rattle.vrps.specs.Instance.{Instance}
@@ -9,8 +9,9 @@ use Rattle.rtr_pdu.specs.declared.unit.Unit.TheVariants.{SerialNotify, CacheResp
 use Rattle.rtr_ends.specs.declared.link.End.TheVariants as ends
 use Rattle.rtr_ends.specs.Answer.{report}
 use Rattle.rtr_ends.specs.LinkRules.{Router, Staged, Stays, Wrong, Over, ask, fails, is_strange, is_news, stage, staged, commit, on_unit}
+use Rattle.rtr_ends.specs.Timing.{Intervals, default_intervals}
 use Rattle.rtr_ends.specs.RouterLink.{Link, Closed, Idle, Asked, Answering, Ended, is_reading}
-use Rattle.rtr_ends.specs.Transcript.{Begun, Committed, Question, AskReset, AskSerial, base_of, led_to, session_of, differs, is_wrong, bounded}
+use Rattle.rtr_ends.specs.Transcript.{Begun, Committed, Question, AskReset, AskSerial, base_of, led_to, session_of, differs, is_wrong, bounded, of_version}
 use Rattle.rtr_ends.proofs.TableLaws.{false_true}
 use Rattle.rtr_world.specs.OneAnswer.{NotifiesOf, without_notifies}
 use Rattle.rtr_world.specs.World.{is_ended}
@@ -43,16 +44,16 @@ pub data Brings (all : List Instance) (h : Seen) (r : Router) (l : Link) (u : Un
   goes_on : is_ended k.link ≡ false → is_end u ≡ false → Continues l u k.link → Brings all h r l u k
   ends_other : (session serial : ℕ) → l ≡ Asked (AskSerial session serial) → (session ≡ h.session → ⊥) → k.link ≡ Ended (ends.Told 0) → is_end u ≡ false → Brings all h r l u k
   ends_memory : k.link ≡ Ended (ends.Told 1) → is_end u ≡ false → Brings all h r l u k
-  commits : (version : Committed) (table : VrpSet) → k.link ≡ Idle → k.version ≡ Some version → version.session ≡ h.session
-      → (stands : Stands all version.session version.serial table) → length h.sets ≤ length stands.older + 1 → Brings all h r l u k
+  commits : (version : Committed) (table : VrpSet) → k.link ≡ Idle → k.version ≡ Some version → version.version ≡ r.spoken → version.session ≡ h.session
+      → (stands : Stands all version.version version.session version.serial table) → length h.sets ≤ length stands.older + 1 → Brings all h r l u k
 
 module _ (all : List Instance) (h : Seen) (r : Router) where
-  quiet : (one : ℕ) → OwnSession h.session r.session → (r.agreed ≡ true → Mine h.session r.version) → one ≡ h.session → is_strange r one ≡ false
+  quiet : (one : ℕ) → OwnSession h.session r.session → (r.agreed ≡ true → Mine h.session (of_version r.spoken r.version)) → one ≡ h.session → is_strange r one ≡ false
   quiet one own mine e = by_agreed r.agreed refl
     where
-      by_agreed : (b : Bool) → r.agreed ≡ b → (b && differs (session_of r.session r.version) one) ≡ false
+      by_agreed : (b : Bool) → r.agreed ≡ b → (b && differs (session_of r.session (of_version r.spoken r.version)) one) ≡ false
       by_agreed false a = refl
-      by_agreed true a = no_difference h.session one r.session r.version e own (mine a)
+      by_agreed true a = no_difference h.session one r.session (of_version r.spoken r.version) e own (mine a)
 
   -- a notify
   notified : (l : Link) (one serial : ℕ) → r.link ≡ l → is_reading l ≡ true → is_strange r one ≡ false → Brings all h r l (SerialNotify one serial) (on_unit l (SerialNotify one serial) r)
@@ -60,7 +61,7 @@ module _ (all : List Instance) (h : Seen) (r : Router) where
   notified Closed one serial is live q = false_true live
   notified (Ended end) one serial is live q = false_true live
   notified Idle one serial is live q =
-      subst (λ b. Brings all h r Idle (SerialNotify one serial) (if b then fails (SerialNotify one serial) r else if is_news r.version serial then ask r else r)) (sym q) (by_news (is_news r.version serial))
+      subst (λ b. Brings all h r Idle (SerialNotify one serial) (if b then fails (SerialNotify one serial) r else if is_news (of_version r.spoken r.version) serial then ask r else r)) (sym q) (by_news (is_news (of_version r.spoken r.version) serial))
     where
       by_news : (b : Bool) → Brings all h r Idle (SerialNotify one serial) (if b then ask r else r)
       by_news true = goes_on refl refl (leaves refl)
@@ -87,13 +88,13 @@ module _ (all : List Instance) (h : Seen) (r : Router) where
   unfolding on_unit
   memory_brings q = ends_memory refl refl
 
-  response_brings : (q : Question) → is_wrong (Some q) r.version h.session ≡ false → Brings all h r (Asked q) (CacheResponse h.session) (on_unit (Asked q) (CacheResponse h.session) r)
+  response_brings : (q : Question) → is_wrong (Some q) (of_version r.spoken r.version) h.session ≡ false → Brings all h r (Asked q) (CacheResponse h.session) (on_unit (Asked q) (CacheResponse h.session) r)
   unfolding on_unit
   response_brings q right =
       subst (λ b. Brings all h r (Asked q) (CacheResponse h.session) (if b then fails (CacheResponse h.session) r else record r { agreed = true; session = Some h.session; link = Answering (nothing_yet q h.session) })) (sym right)
       (goes_on refl refl (begins q h.session refl refl))
 
-  replied : (q : Question) (u : Unit) (rest : List Unit) (base : VrpSet) → ((IsOwn h.session q) → is_wrong (Some q) r.version h.session ≡ false) → Replies all h q base (u ∷ rest) → Brings all h r (Asked q) u (on_unit (Asked q) u r)
+  replied : (q : Question) (u : Unit) (rest : List Unit) (base : VrpSet) → ((IsOwn h.session q) → is_wrong (Some q) (of_version r.spoken r.version) h.session ≡ false) → Replies all r.spoken h q base (u ∷ rest) → Brings all h r (Asked q) u (on_unit (Asked q) u r)
   replied q u rest base right (no_data copy qe e) = subst₂ (λ a b. Brings all h r (Asked a) b (on_unit (Asked a) b r)) (sym qe) (sym (first_is u (report 2 copy) rest [] e)) (no_data_brings copy)
   replied q u rest base right (not_kept serial qe e) = subst₂ (λ a b. Brings all h r (Asked a) b (on_unit (Asked a) b r)) (sym qe) (sym (first_is u CacheReset rest [] e)) (reset_brings h.session serial)
   replied q u rest base right (other_session session serial copy qe other e) =
@@ -108,34 +109,47 @@ module _ (all : List Instance) (h : Seen) (r : Router) where
   record_brings a announce v rest base (Wrong code) Goes e order on = absurd on
   record_brings a announce v rest base Over Goes e order on = absurd on
 
-  ended_brings : (a : Begun) (one number refresh retry expire : ℕ) → one ≡ a.session → one ≡ h.session → (stands : Stands all one number (led_to (base_of a.question r.table) a.withdrawn a.announced))
-      → length h.sets ≤ length stands.older + 1 → Brings all h r (Answering a) (EndOfData one number refresh retry expire) (on_unit (Answering a) (EndOfData one number refresh retry expire) r)
-  unfolding on_unit
-  ended_brings a one number refresh retry expire same own stands since =
-      let version : Committed = record { session = one; serial = number; moment = r.now; intervals = bounded refresh retry expire } in
-      subst (λ b. Brings all h r (Answering a) (EndOfData one number refresh retry expire) (if b then commit a (record { session = one; serial = number; moment = r.now; intervals = bounded refresh retry expire }) r else fails (EndOfData one number refresh retry expire) r))
+  ended_brings : (a : Begun) (u : Unit) (one number : ℕ) (intervals : Intervals) → one ≡ a.session → one ≡ h.session → (stands : Stands all r.spoken one number (led_to (base_of a.question r.table) a.withdrawn a.announced))
+      → length h.sets ≤ length stands.older + 1
+      → Brings all h r (Answering a) u (if one == a.session then commit a (record { version = r.spoken; session = one; serial = number; moment = r.now; intervals = intervals }) r else fails u r)
+  ended_brings a u one number intervals same own stands since =
+      subst (λ b. Brings all h r (Answering a) u (if b then commit a (record { version = r.spoken; session = one; serial = number; moment = r.now; intervals = intervals }) r else fails u r))
       (sym (eq_true one a.session same))
-      (commits (record { session = one; serial = number; moment = r.now; intervals = bounded refresh retry expire }) (led_to (base_of a.question r.table) a.withdrawn a.announced) refl refl own stands since)
+      (commits (record { version = r.spoken; session = one; serial = number; moment = r.now; intervals = intervals }) (led_to (base_of a.question r.table) a.withdrawn a.announced) refl refl refl own stands since)
 
-  answered : (a : Begun) (u : Unit) (rest : List Unit) → a.session ≡ h.session → OfAnswer all h (base_of a.question r.table) a (u ∷ rest) → Brings all h r (Answering a) u (on_unit (Answering a) u r)
+  -- what an answer leads to stands under the name of its End of Data
+  stands_as : (one number session serial : ℕ) (led set : VrpSet) → one ≡ session → number ≡ serial → led ≡ set → (s : Stands all r.spoken session serial set) → (t : Stands all r.spoken one number led) × (t.older ≡ s.older)
+  stands_as one number session serial led set es en el s = (
+    record { i = s.i; found = ap (λ x. find_session r.spoken x all) es ∙ s.found; newer = s.newer; older = s.older; sets = s.sets ∙ ap (λ x. s.newer ++ x ∷ s.older) (sym el); serial_is = en ∙ s.serial_is; young = s.young; low = subst (λ x. x < 65536) (sym es) s.low },
+    refl,
+  )
+
+  answer_ends : (a : Begun) (u : Unit) (one number : ℕ) (intervals : Intervals) (rest : List Unit) (o : OfAnswer all r.spoken h (base_of a.question r.table) a (u ∷ rest)) → a.session ≡ h.session → one ≡ h.session → number ≡ o.serial → led_to (base_of a.question r.table) a.withdrawn a.announced ≡ o.set
+      → Brings all h r (Answering a) u (if one == a.session then commit a (record { version = r.spoken; session = one; serial = number; moment = r.now; intervals = intervals }) r else fails u r)
+  answer_ends a u one number intervals rest o se es en el =
+      let t = stands_as one number h.session o.serial (led_to (base_of a.question r.table) a.withdrawn a.announced) o.set es en el o.stands in
+      ended_brings a u one number intervals (es ∙ sym se) es t.0 (subst (λ x. length h.sets ≤ length x + 1) (sym t.1) o.since)
+
+  answered : (a : Begun) (u : Unit) (rest : List Unit) → a.session ≡ h.session → OfAnswer all r.spoken h (base_of a.question r.table) a (u ∷ rest) → Brings all h r (Answering a) u (on_unit (Answering a) u r)
   unfolding on_unit
   answered a (Prefix announce v) rest se o =
       record_brings a announce v rest (base_of a.question r.table) (stage (base_of a.question r.table) a announce v) (λ b. Leads (base_of a.question r.table) b rest h.session o.serial o.set) refl o.order o.leads
   answered a (EndOfData one number refresh retry expire) rest se o =
-      let leads = o.leads in
-      let s = o.stands in
-      ended_brings a one number refresh retry expire (leads.1 ∙ sym se) leads.1
-      (record { i = s.i; found = ap (λ x. find_session x all) leads.1 ∙ s.found; newer = s.newer; older = s.older; sets = s.sets ∙ ap (λ x. s.newer ++ x ∷ s.older) (sym leads.3); serial_is = leads.2 ∙ s.serial_is; young = s.young; low = subst (λ x. x < 65536) (sym leads.1) s.low })
-      o.since
+      let l = o.leads in answer_ends a (EndOfData one number refresh retry expire) one number (bounded refresh retry expire) rest o se l.1 l.2 l.3
+  answered a (EndOfData0 one number) rest se o = let l = o.leads in answer_ends a (EndOfData0 one number) one number default_intervals rest o se l.1 l.2 l.3
   answered a u rest se o = absurd o.leads
 
+  -- a notify that was sent before the cache had read a header
+  pub early_brings : (one serial : ℕ) → is_reading r.link ≡ true → r.agreed ≡ false → Brings all h r r.link (SerialNotify one serial) (on_unit r.link (SerialNotify one serial) r)
+  early_brings one serial live open_yet = notified r.link one serial refl live (ap (λ b. b && differs (session_of r.session (of_version r.spoken r.version)) one) open_yet)
+
   -- every unit
-  pub unit_brings : (l : Link) (u : Unit) (more wanted : List Unit) → r.link ≡ l → is_reading l ≡ true → OwnSession h.session r.session → (r.agreed ≡ true → Mine h.session r.version)
-      → ((q : Question) → QuestionFits h.session q r.version → IsOwn h.session q → is_wrong (Some q) r.version h.session ≡ false) → NotifiesOf h.session (u ∷ more)
-      → Shape all h l r.agreed r.version r.table wanted (without_notifies (u ∷ more)) → Brings all h r l u (on_unit l u r)
+  pub unit_brings : (l : Link) (u : Unit) (more wanted : List Unit) → r.link ≡ l → is_reading l ≡ true → OwnSession h.session r.session → (r.agreed ≡ true → Mine h.session (of_version r.spoken r.version))
+      → ((q : Question) → QuestionFits h.session q (of_version r.spoken r.version) → IsOwn h.session q → is_wrong (Some q) (of_version r.spoken r.version) h.session ≡ false) → NotifiesOf h.session (u ∷ more)
+      → Shape all r.spoken h l r.agreed r.version r.table wanted (without_notifies (u ∷ more)) → Brings all h r l u (on_unit l u r)
   unit_brings l u more wanted is live own mine right notes shape = by_head (head_case u more)
     where
-      others : (l : Link) → is_reading l ≡ true → Shape all h l r.agreed r.version r.table wanted (u ∷ without_notifies more) → Brings all h r l u (on_unit l u r)
+      others : (l : Link) → is_reading l ≡ true → Shape all r.spoken h l r.agreed r.version r.table wanted (u ∷ without_notifies more) → Brings all h r l u (on_unit l u r)
       others Closed live s = false_true live
       others (Ended end) live s = false_true live
       others Idle live s = absurd (no_unit u (without_notifies more) s.1)
@@ -150,4 +164,4 @@ module _ (all : List Instance) (h : Seen) (r : Router) where
       by_head (a_notify session serial e) =
           let n : (session ≡ h.session) × NotifiesOf h.session more = subst (λ x. NotifiesOf h.session (x ∷ more)) e notes in
           subst (λ x. Brings all h r l x (on_unit l x r)) (sym e) (notified l session serial is live (quiet session own mine n.0))
-      by_head (another e) = others l live (subst (λ x. Shape all h l r.agreed r.version r.table wanted x) e shape)
+      by_head (another e) = others l live (subst (λ x. Shape all r.spoken h l r.agreed r.version r.table wanted x) e shape)

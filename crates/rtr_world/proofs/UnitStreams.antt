@@ -1,6 +1,6 @@
 -- A stream of bytes that spells units, read byte by byte.
-use Rattle.std.specs.Prelude.{◌≡◌, ◌⊎◌, ℕ, ◌<◌, nat_lt, Bool, true, false, List, [], ◌∷◌, ◌++◌, length, Option, Some, None, if◌then◌else◌, ⊤, refl}
-use Rattle.std.proofs.Common.{sym, ap, ◌∙◌, subst, arith, append_assoc, inl, inr, zero, suc}
+use Rattle.std.specs.Prelude.{◌≡◌, ◌⊎◌, ℕ, ◌<◌, nat_lt, Bool, true, false, not, List, [], ◌∷◌, ◌++◌, length, Option, Some, None, if◌then◌else◌, ⊤, refl}
+use Rattle.std.proofs.Common.{sym, ap, ◌∙◌, subst, subst₂, arith, append_assoc, inl, inr, zero, suc}
 use Rattle.std.specs.List.{AllByRecursion}
 use Rattle.std.proofs.lemmas.Bool.Decides.{nat_tests}
 use Rattle.std.proofs.lemmas.List.{append-nil, append_cancel_left, length-append}
@@ -14,81 +14,153 @@ use Rattle.rtr_pdu.specs.declared.unit.Unit.TheVariants.{SerialNotify, SerialQue
 use Rattle.rtr_pdu.proofs.VersionLaws.{version_in-append}
 use Rattle.rtr_pdu.specs.Judging.{Begins, Whole, judge}
 use Rattle.rtr_pdu.specs.Payloads.{AreBytes}
-use Rattle.rtr_pdu.specs.Unit.{IsUnitOf, prefix_bytes, zeros}
+use Rattle.rtr_pdu.specs.Unit.{IsUnit, IsUnitOf, prefix_bytes, zeros}
 use Rattle.rtr_pdu.specs.declared.unit.Unit.{Unit}
 use Rattle.rtr_pdu.proofs.NextLaws.{judge_sent, judge_part, some_sent}
 use Rattle.rtr_ends.specs.Answer.{sent, sent_all}
-use Rattle.rtr_ends.specs.Cache.{spoken_in}
-use Rattle.rtr_world.specs.OneAnswer.{IsPart}
+use Rattle.rtr_ends.specs.Connection.{Sent, bytes_sent, in_version}
+use Rattle.rtr_world.specs.OneAnswer.{AreEarly, IsPart, without_notifies}
+use Rattle.rtr_world.proofs.EarlyNotifies.{judge_notify, judge_notify_part}
+
+-- the bytes of a unit in its version, and that it is one
+abbrev pub bytes_in : Sent → List ℕ
+bytes_in s = sent s.version s.unit
+
+abbrev pub IsSent : Sent → Type 0
+IsSent s = IsUnitOf s.version s.unit
 
 -- What is held is a proper beginning of the first of these units.
-pub record Begun (held : List ℕ) (units : List Unit) : Type 0 where
-  pub first : Unit
-  pub more : List Unit
+pub record Begun (held : List ℕ) (units : List Sent) : Type 0 where
+  pub first : Sent
+  pub more : List Sent
   pub is : units ≡ first ∷ more
   pub byte : ℕ
   pub rest : List ℕ
-  pub begins : held ++ byte ∷ rest ≡ sent V1 first
+  pub begins : held ++ byte ∷ rest ≡ bytes_in first
 
 -- What is held and what comes after it spells these units, and none of them is whole in what is held.
-pub record Stream (held after : List ℕ) (units : List Unit) : Type 0 where
-  pub whole : held ++ after ≡ sent_all V1 units
+pub record Stream (held after : List ℕ) (units : List Sent) : Type 0 where
+  pub whole : held ++ after ≡ bytes_sent units
   pub partial : (held ≡ []) ⊎ Begun held units
-  pub fit : AllByRecursion (IsUnitOf V1) units
+  pub fit : AllByRecursion IsSent units
+
+-- notifies of version 1 that were sent before the cache had read a header, and the units behind them
+abbrev pub behind_early : Version → List Unit → List Unit → List Sent
+behind_early version early coming = in_version V1 early ++ in_version version coming
 
 -- The next byte goes on with the first unit.
-record Next (held : List ℕ) (b : ℕ) (after : List ℕ) (units : List Unit) : Type 0 where
-  first : Unit
-  more : List Unit
+record Next (held : List ℕ) (b : ℕ) (after : List ℕ) (units : List Sent) : Type 0 where
+  first : Sent
+  more : List Sent
   is : units ≡ first ∷ more
   rest : List ℕ
-  begins : held ++ b ∷ rest ≡ sent V1 first
-  goes_on : after ≡ rest ++ sent_all V1 more
+  begins : held ++ b ∷ rest ≡ bytes_in first
+  goes_on : after ≡ rest ++ bytes_sent more
 
-next_fresh : (b : ℕ) (after : List ℕ) (u : Unit) (more : List Unit) (bytes : List ℕ) → sent V1 u ≡ bytes → b ∷ after ≡ bytes ++ sent_all V1 more → Next [] b after (u ∷ more)
-next_fresh b after u more [] e h = absurd (some_sent V1 u e)
+next_fresh : (b : ℕ) (after : List ℕ) (u : Sent) (more : List Sent) (bytes : List ℕ) → bytes_in u ≡ bytes → b ∷ after ≡ bytes ++ bytes_sent more → Next [] b after (u ∷ more)
+next_fresh b after u more [] e h = absurd (some_sent u.version u.unit e)
 next_fresh b after u more (c ∷ cs) e h =
     let same : b ≡ c = cc in
     record { first = u; more = more; is = refl; rest = cs; begins = ap (λ x. x ∷ cs) same ∙ sym e; goes_on = cc }
 
-next_start : (b : ℕ) (after : List ℕ) (units : List Unit) → b ∷ after ≡ sent_all V1 units → Next [] b after units
+next_start : (b : ℕ) (after : List ℕ) (units : List Sent) → b ∷ after ≡ bytes_sent units → Next [] b after units
 next_start b after [] h = absurd (let e : b ∷ after ≡ [] = h in cc)
-next_start b after (u ∷ more) h = next_fresh b after u more (sent V1 u) refl h
+next_start b after (u ∷ more) h = next_fresh b after u more (bytes_in u) refl h
 
-next_begun : (held : List ℕ) (b : ℕ) (after : List ℕ) (units : List Unit) → held ++ b ∷ after ≡ sent_all V1 units → Begun held units → Next held b after units
+next_begun : (held : List ℕ) (b : ℕ) (after : List ℕ) (units : List Sent) → held ++ b ∷ after ≡ bytes_sent units → Begun held units → Next held b after units
 next_begun held b after units h p =
-    let all : held ++ b ∷ after ≡ held ++ (p.byte ∷ (p.rest ++ sent_all V1 p.more)) =
-    h ∙ ap (λ x. sent_all V1 x) p.is ∙ ap (λ x. x ++ sent_all V1 p.more) (sym p.begins) ∙ append_assoc held (p.byte ∷ p.rest) (sent_all V1 p.more) in
-    let tails : b ∷ after ≡ p.byte ∷ (p.rest ++ sent_all V1 p.more) = append_cancel_left held (b ∷ after) (p.byte ∷ (p.rest ++ sent_all V1 p.more)) all in
+    let all : held ++ b ∷ after ≡ held ++ (p.byte ∷ (p.rest ++ bytes_sent p.more)) =
+    h ∙ ap (λ x. bytes_sent x) p.is ∙ ap (λ x. x ++ bytes_sent p.more) (sym p.begins) ∙ append_assoc held (p.byte ∷ p.rest) (bytes_sent p.more) in
+    let tails : b ∷ after ≡ p.byte ∷ (p.rest ++ bytes_sent p.more) = append_cancel_left held (b ∷ after) (p.byte ∷ (p.rest ++ bytes_sent p.more)) all in
     let same : b ≡ p.byte = cc in
     record { first = p.first; more = p.more; is = p.is; rest = p.rest; begins = ap (λ x. held ++ x ∷ p.rest) same ∙ p.begins; goes_on = cc }
 
-next : (held : List ℕ) (b : ℕ) (after : List ℕ) (units : List Unit) → held ++ b ∷ after ≡ sent_all V1 units → (held ≡ []) ⊎ Begun held units → Next held b after units
+next : (held : List ℕ) (b : ℕ) (after : List ℕ) (units : List Sent) → held ++ b ∷ after ≡ bytes_sent units → (held ≡ []) ⊎ Begun held units → Next held b after units
 next held b after units h (inl e) = subst (λ x. Next x b after units) (sym e) (next_start b after units (ap (λ x. x ++ b ∷ after) (sym e) ∙ h))
 next held b after units h (inr p) = next_begun held b after units h p
 
--- After the next byte no unit is whole, or the first one is.
-pub data ByteCase (any : Bool) (held : List ℕ) (b : ℕ) (after : List ℕ) (units : List Unit) : Type 0 where
-  partly : judge V1 any (held ++ b ∷ []) ≡ Begins → Stream (held ++ b ∷ []) after units → ByteCase any held b after units
-  wholly : (u : Unit) (more : List Unit) → units ≡ u ∷ more → judge V1 any (held ++ b ∷ []) ≡ Whole u → IsUnitOf V1 u → Stream [] after more → ByteCase any held b after units
+-- It is of the expected version, or a notify where none is agreed on.
+abbrev MayRead : Version → Bool → Sent → Type 0
+MayRead version any s = (s.version ≡ version) ⊎ ((any ≡ true) × ((session : ℕ) × (serial : ℕ) × (s.unit ≡ SerialNotify session serial)))
 
-case_of : (any : Bool) (held : List ℕ) (b : ℕ) (after : List ℕ) (units : List Unit) (u : Unit) (more : List Unit) (rest : List ℕ) → held ++ b ∷ after ≡ sent_all V1 units → AllByRecursion (IsUnitOf V1) units → units ≡ u ∷ more → held ++ b ∷ rest ≡ sent V1 u → after ≡ rest ++ sent_all V1 more → ByteCase any held b after units
-case_of any held b after units u more [] h fit is begins on =
-    let fits : AllByRecursion (IsUnitOf V1) (u ∷ more) = subst (AllByRecursion (IsUnitOf V1)) is fit in
-    wholly u more is (ap (judge V1 any) begins ∙ judge_sent V1 any u fits.0.0 fits.0.1) fits.0 (record { whole = on; partial = inl refl; fit = fits.1 })
-case_of any held b after units u more (c ∷ rest) h fit is begins on =
-    let fits : AllByRecursion (IsUnitOf V1) (u ∷ more) = subst (AllByRecursion (IsUnitOf V1)) is fit in
-    let begun : (held ++ b ∷ []) ++ c ∷ rest ≡ sent V1 u = append_assoc held (b ∷ []) (c ∷ rest) ∙ begins in
-    partly (judge_part V1 any u (held ++ b ∷ []) rest c fits.0.0 fits.0.1 begun) (record {
+sent_judged : (version : Version) (any : Bool) (s : Sent) → MayRead version any s → IsSent s → judge version any (bytes_in s) ≡ Whole s.unit
+sent_judged version any s (inl own) fit =
+    subst (λ v. judge v any (bytes_in s) ≡ Whole s.unit) own (judge_sent s.version any s.unit fit.0 fit.1)
+sent_judged version any s (inr early) fit =
+    let is : s.unit ≡ SerialNotify early.1.0 early.1.1 = early.1.2 in
+    subst₂ (λ a u. judge version a (sent s.version u) ≡ Whole u) (sym early.0) (sym is) (judge_notify version s.version early.1.0 early.1.1 (subst IsUnit is fit.0))
+
+part_judged : (version : Version) (any : Bool) (s : Sent) (part rest : List ℕ) (b : ℕ) → MayRead version any s → IsSent s → part ++ b ∷ rest ≡ bytes_in s → judge version any part ≡ Begins
+part_judged version any s part rest b (inl own) fit e =
+    subst (λ v. judge v any part ≡ Begins) own (judge_part s.version any s.unit part rest b fit.0 fit.1 e)
+part_judged version any s part rest b (inr early) fit e =
+    let is : s.unit ≡ SerialNotify early.1.0 early.1.1 = early.1.2 in
+    subst (λ a. judge version a part ≡ Begins) (sym early.0)
+    (judge_notify_part version s.version early.1.0 early.1.1 part rest b (subst IsUnit is fit.0) (e ∙ ap (λ u. sent s.version u) is))
+
+-- After the next byte no unit is whole, or the first one is.
+data SentCase (version : Version) (any : Bool) (held : List ℕ) (b : ℕ) (after : List ℕ) (units : List Sent) : Type 0 where
+  sent_partly : judge version any (held ++ b ∷ []) ≡ Begins → Stream (held ++ b ∷ []) after units → SentCase version any held b after units
+  sent_wholly : (u : Sent) (more : List Sent) → units ≡ u ∷ more → judge version any (held ++ b ∷ []) ≡ Whole u.unit → IsSent u → Stream [] after more → SentCase version any held b after units
+
+case_of : (version : Version) (any : Bool) (held : List ℕ) (b : ℕ) (after : List ℕ) (units : List Sent) (u : Sent) (more : List Sent) (rest : List ℕ) → MayRead version any u → held ++ b ∷ after ≡ bytes_sent units → AllByRecursion IsSent units → units ≡ u ∷ more → held ++ b ∷ rest ≡ bytes_in u
+    → after ≡ rest ++ bytes_sent more → SentCase version any held b after units
+case_of version any held b after units u more [] may h fit is begins on =
+    let fits : AllByRecursion IsSent (u ∷ more) = subst (AllByRecursion IsSent) is fit in
+    sent_wholly u more is (ap (judge version any) begins ∙ sent_judged version any u may fits.0) fits.0 (record { whole = on; partial = inl refl; fit = fits.1 })
+case_of version any held b after units u more (c ∷ rest) may h fit is begins on =
+    let fits : AllByRecursion IsSent (u ∷ more) = subst (AllByRecursion IsSent) is fit in
+    let begun : (held ++ b ∷ []) ++ c ∷ rest ≡ bytes_in u = append_assoc held (b ∷ []) (c ∷ rest) ∙ begins in
+    sent_partly (part_judged version any u (held ++ b ∷ []) rest c may fits.0 begun) (record {
       whole = append_assoc held (b ∷ []) after ∙ h;
       partial = inr (record { first = u; more = more; is = is; byte = c; rest = rest; begins = begun });
       fit = fit;
     })
 
-pub byte_case : (any : Bool) (held : List ℕ) (b : ℕ) (after : List ℕ) (units : List Unit) → Stream held (b ∷ after) units → ByteCase any held b after units
-byte_case any held b after units s =
+sent_case : (version : Version) (any : Bool) (held : List ℕ) (b : ℕ) (after : List ℕ) (units : List Sent) → ((u : Sent) (more : List Sent) → units ≡ u ∷ more → MayRead version any u) → Stream held (b ∷ after) units → SentCase version any held b after units
+sent_case version any held b after units may s =
     let n = next held b after units s.whole s.partial in
-    case_of any held b after units n.first n.more n.rest s.whole s.fit n.is n.begins n.goes_on
+    case_of version any held b after units n.first n.more n.rest (may n.first n.more n.is) s.whole s.fit n.is n.begins n.goes_on
+
+-- After the next byte no unit is whole; or a notify of version 1 is, where no version is agreed on; or the first unit of the expected
+-- version is.
+pub data ByteCase (version : Version) (agreed : Bool) (held : List ℕ) (b : ℕ) (after : List ℕ) (early coming : List Unit) : Type 0 where
+  partly : judge version (not agreed) (held ++ b ∷ []) ≡ Begins → Stream (held ++ b ∷ []) after (behind_early version early coming) → ByteCase version agreed held b after early coming
+  notified : (session serial : ℕ) (rest : List Unit) → early ≡ SerialNotify session serial ∷ rest → judge version (not agreed) (held ++ b ∷ []) ≡ Whole (SerialNotify session serial) → Stream [] after (behind_early version rest coming) → ByteCase version agreed held b after early coming
+  wholly : early ≡ [] → (u : Unit) (more : List Unit) → coming ≡ u ∷ more → judge version (not agreed) (held ++ b ∷ []) ≡ Whole u → IsUnitOf version u → Stream [] after (behind_early version [] more) → ByteCase version agreed held b after early coming
+
+first_of : (a b : Sent) (us vs : List Sent) → a ∷ us ≡ b ∷ vs → a ≡ b
+first_of a b us vs e = cc
+
+rest_of : (a b : Sent) (us vs : List Sent) → a ∷ us ≡ b ∷ vs → us ≡ vs
+rest_of a b us vs e = cc
+
+-- Notifies of another version come only where none is agreed on.
+pub early_open : (agreed : Bool) (session serial : ℕ) (early : List Unit) → (agreed ≡ true → SerialNotify session serial ∷ early ≡ []) → agreed ≡ false
+early_open false session serial early h = refl
+early_open true session serial early h = absurd (let e : SerialNotify session serial ∷ early ≡ [] = h refl in cc)
+
+pub byte_case : (version : Version) (agreed : Bool) (held : List ℕ) (b : ℕ) (after : List ℕ) (early coming : List Unit) → AreEarly agreed early → Stream held (b ∷ after) (behind_early version early coming) → ByteCase version agreed held b after early coming
+byte_case version agreed held b after [] [] none s = absurd (let n = next held b after [] s.whole s.partial in let e : [] ≡ n.first ∷ n.more = n.is in cc)
+byte_case version agreed held b after [] (u ∷ coming) none s =
+    by_case (sent_case version (not agreed) held b after (in_version version (u ∷ coming)) (λ v more e. inl (ap (λ x. x.version) (sym (first_of (record { version = version; unit = u }) v (in_version version coming) more e)))) s)
+  where
+    by_case : SentCase version (not agreed) held b after (in_version version (u ∷ coming)) → ByteCase version agreed held b after [] (u ∷ coming)
+    by_case (sent_partly e t) = partly e t
+    by_case (sent_wholly v more is e fit t) =
+        let first = first_of (record { version = version; unit = u }) v (in_version version coming) more is in
+        let rest = rest_of (record { version = version; unit = u }) v (in_version version coming) more is in
+        wholly refl u coming refl (e ∙ ap (λ x. Whole x.unit) (sym first)) (subst IsSent (sym first) fit) (subst (λ x. Stream [] after x) (sym rest) t)
+byte_case version agreed held b after (SerialNotify session serial ∷ early) coming none s =
+    by_case (sent_case version (not agreed) held b after (behind_early version (SerialNotify session serial ∷ early) coming) (λ v more e. inr (ap not (early_open agreed session serial early none.1), (session, serial, ap (λ x. x.unit) (sym (first_of (record { version = V1; unit = SerialNotify session serial }) v (behind_early version early coming) more e))))) s)
+  where
+    by_case : SentCase version (not agreed) held b after (behind_early version (SerialNotify session serial ∷ early) coming) → ByteCase version agreed held b after (SerialNotify session serial ∷ early) coming
+    by_case (sent_partly e t) = partly e t
+    by_case (sent_wholly v more is e fit t) =
+        let first = first_of (record { version = V1; unit = SerialNotify session serial }) v (behind_early version early coming) more is in
+        let rest = rest_of (record { version = V1; unit = SerialNotify session serial }) v (behind_early version early coming) more is in
+        notified session serial early refl (e ∙ ap (λ x. Whole x.unit) (sym first)) (subst (λ x. Stream [] after x) (sym rest) t)
+byte_case version agreed held b after (u ∷ early) coming none s = absurd (let e : u ∷ without_notifies early ≡ [] = none.0 in cc)
 
 -- Nothing is agreed on yet, or this version is.
 abbrev pub MaySpeak : Version → Option Version → Type 0
@@ -122,46 +194,81 @@ part_version version (Some one) u held rest speaks e some = speaks
 part_version version None u held rest speaks e some =
     sym (version_in-append None held rest some) ∙ ap (version_in None) (e ∙ sym (append-nil (sent version u))) ∙ first_sent version u []
 
--- So does the next byte of a stream,
-pub byte_version : (agreed : Option Version) (held : List ℕ) (b : ℕ) (after : List ℕ) (units : List Unit) → MaySpeak V1 agreed → Stream held (b ∷ after) units → version_in agreed (held ++ b ∷ []) ≡ V1
-byte_version agreed held b after units speaks s =
-    let n = next held b after units s.whole s.partial in
-    part_version V1 agreed n.first (held ++ b ∷ []) n.rest speaks (append_assoc held (b ∷ []) n.rest ∙ n.begins) (omega (arith, length-append held (b ∷ [])))
+of_first : (version : Version) (units : List Unit) (first : Sent) (more : List Sent) → in_version version units ≡ first ∷ more → first.version ≡ version
+of_first version [] first more e = absurd (let h : [] ≡ first ∷ more = e in cc)
+of_first version (u ∷ units) first more e = ap (λ x. x.version) (sym (first_of (record { version = version; unit = u }) first (in_version version units) more e))
 
--- and what is held of one.
-pub held_version : (agreed : Option Version) (held after : List ℕ) (units : List Unit) → MaySpeak V1 agreed → Stream held after units → spoken_in (header_version agreed held) ≡ V1
-held_version (Some one) held after units speaks s = speaks
-held_version None held after units speaks s = by_length (nat_lt (length held) 8) refl
+-- So does the next byte of a stream,
+pub byte_version : (version : Version) (agreed : Option Version) (held : List ℕ) (b : ℕ) (after : List ℕ) (units : List Unit) → MaySpeak version agreed → Stream held (b ∷ after) (in_version version units) → version_in agreed (held ++ b ∷ []) ≡ version
+byte_version version agreed held b after units speaks s =
+    let n = next held b after (in_version version units) s.whole s.partial in
+    let own : n.first.version ≡ version = of_first version units n.first n.more n.is in
+    part_version version agreed n.first.unit (held ++ b ∷ []) n.rest speaks (append_assoc held (b ∷ []) n.rest ∙ n.begins ∙ ap (λ v. sent v n.first.unit) own) (omega (arith, length-append held (b ∷ [])))
+
+-- and what is held of one, once a header has come whole.
+pub held_version : (version : Version) (agreed : Option Version) (held after : List ℕ) (units : List Unit) → MaySpeak version agreed → Stream held after (in_version version units) → MaySpeak version (header_version agreed held)
+held_version version (Some one) held after units speaks s = speaks
+held_version version None held after units speaks s = by_length (nat_lt (length held) 8) refl
   where
-    by_part : 0 < length held → (held ≡ []) ⊎ Begun held units → first_version held ≡ V1
+    by_part : 0 < length held → (held ≡ []) ⊎ Begun held (in_version version units) → first_version held ≡ version
     by_part some (inl e) = absurd (let none = ap length e in omega (arith, some, none))
-    by_part some (inr p) = part_version V1 None p.first held (p.byte ∷ p.rest) tt p.begins some
+    by_part some (inr p) =
+        part_version version None p.first.unit held (p.byte ∷ p.rest) tt (p.begins ∙ ap (λ v. sent v p.first.unit) (of_first version units p.first p.more p.is)) some
 
     not_below : nat_lt (length held) 8 ≡ false → 0 < length held
     not_below h = grind (arith, nat_tests)
 
-    by_length : (b : Bool) → nat_lt (length held) 8 ≡ b → spoken_in (if b then None else Some (first_version held)) ≡ V1
-    by_length true e = refl
+    by_length : (b : Bool) → nat_lt (length held) 8 ≡ b → MaySpeak version (if b then None else Some (first_version held))
+    by_length true e = tt
     by_length false e = by_part (not_below e) s.partial
 
 -- units that are sent afterwards
-begun-append : (held : List ℕ) (units more : List Unit) → (held ≡ []) ⊎ Begun held units → (held ≡ []) ⊎ Begun held (units ++ more)
+begun-append : (held : List ℕ) (units more : List Sent) → (held ≡ []) ⊎ Begun held units → (held ≡ []) ⊎ Begun held (units ++ more)
 begun-append held units more (inl e) = inl e
 begun-append held units more (inr p) = inr (record { first = p.first; more = p.more ++ more; is = ap (λ x. x ++ more) p.is; byte = p.byte; rest = p.rest; begins = p.begins })
 
-pub all-append : (P : Unit → Type 0) (xs ys : List Unit) → AllByRecursion P xs → AllByRecursion P ys → AllByRecursion P (xs ++ ys)
+pub all-append : {A : Type 0} (P : A → Type 0) (xs ys : List A) → AllByRecursion P xs → AllByRecursion P ys → AllByRecursion P (xs ++ ys)
 all-append P [] ys h k = k
 all-append P (x ∷ xs) ys h k = (h.0, all-append P xs ys h.1 k)
 
-pub stream-append : (held after : List ℕ) (units more : List Unit) → Stream held after units → AllByRecursion (IsUnitOf V1) more → Stream held (after ++ sent_all V1 more) (units ++ more)
-stream-append held after units more s fit = record {
-  whole = sym (append_assoc held after (sent_all V1 more)) ∙ ap (λ x. x ++ sent_all V1 more) s.whole ∙ sym (flat_map-append (sent V1) units more);
+pub all_sent : (version : Version) (units : List Unit) → AllByRecursion (IsUnitOf version) units → AllByRecursion IsSent (in_version version units)
+all_sent version [] h = tt
+all_sent version (u ∷ units) h = (h.0, all_sent version units h.1)
+
+-- the bytes of units of one version
+pub bytes_of_version : (version : Version) (units : List Unit) → bytes_sent (in_version version units) ≡ sent_all version units
+bytes_of_version version [] = refl
+bytes_of_version version (u ∷ units) = ap (λ x. sent version u ++ x) (bytes_of_version version units)
+
+pub in_version-append : (version : Version) (units more : List Unit) → in_version version (units ++ more) ≡ in_version version units ++ in_version version more
+in_version-append version [] more = refl
+in_version-append version (u ∷ units) more = ap (λ x. record { version = version; unit = u } ∷ x) (in_version-append version units more)
+
+stream_and : (held after : List ℕ) (units more : List Sent) → Stream held after units → AllByRecursion IsSent more → Stream held (after ++ bytes_sent more) (units ++ more)
+stream_and held after units more s fit = record {
+  whole = sym (append_assoc held after (bytes_sent more)) ∙ ap (λ x. x ++ bytes_sent more) s.whole ∙ sym (flat_map-append bytes_in units more);
   partial = begun-append held units more s.partial;
-  fit = all-append (IsUnitOf V1) units more s.fit fit;
+  fit = all-append IsSent units more s.fit fit;
 }
 
+-- of the version of those that come
+pub stream-append : (version : Version) (held after : List ℕ) (early coming more : List Unit) → Stream held after (behind_early version early coming) → AllByRecursion (IsUnitOf version) more
+    → Stream held (after ++ sent_all version more) (behind_early version early (coming ++ more))
+stream-append version held after early coming more s fit =
+    subst₂ (λ x y. Stream held (after ++ x) y) (bytes_of_version version more)
+    (append_assoc (in_version V1 early) (in_version version coming) (in_version version more) ∙ ap (λ x. in_version V1 early ++ x) (sym (in_version-append version coming more)))
+    (stream_and held after (behind_early version early coming) (in_version version more) s (all_sent version more fit))
+
+-- notifies of version 1, where no others have come
+pub stream-early : (version : Version) (held after : List ℕ) (early more : List Unit) → Stream held after (behind_early version early []) → AllByRecursion (IsUnitOf V1) more
+    → Stream held (after ++ sent_all V1 more) (behind_early version (early ++ more) [])
+stream-early version held after early more s fit =
+    subst₂ (λ x y. Stream held (after ++ x) y) (bytes_of_version V1 more)
+    (ap (λ x. x ++ in_version V1 more) (append-nil (in_version V1 early)) ∙ sym (in_version-append V1 early more) ∙ sym (append-nil (in_version V1 (early ++ more))))
+    (stream_and held after (behind_early version early []) (in_version V1 more) s (all_sent V1 more fit))
+
 -- what is held of the first unit
-pub part_of : (held : List ℕ) (units : List Unit) → (held ≡ []) ⊎ Begun held units → IsPart held units
+pub part_of : (held : List ℕ) (units : List Sent) → (held ≡ []) ⊎ Begun held units → IsPart held units
 part_of [] units h = tt
 part_of (b ∷ held) units (inl e) = absurd (let k : b ∷ held ≡ [] = e in cc)
 part_of (b ∷ held) units (inr p) = subst (λ x. IsPart (b ∷ held) x) (sym p.is) (p.byte, p.rest, p.begins)

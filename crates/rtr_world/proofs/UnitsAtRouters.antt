@@ -7,30 +7,32 @@ use Rattle.vrps.specs.Instance.{Instance}
 use Rattle.vrps.specs.VrpSet.{VrpSet, has, size}
 use Rattle.rtr_pdu.specs.Unit.{IsUnitOf}
 use Rattle.rtr_pdu.specs.declared.unit.Unit.{Unit}
-use Rattle.rtr_pdu.specs.declared.unit.Unit.TheVariants.{SerialNotify, CacheResponse, Prefix, EndOfData, CacheReset}
+use Rattle.rtr_pdu.specs.declared.unit.Unit.TheVariants.{SerialNotify, CacheResponse, Prefix, EndOfData, EndOfData0, CacheReset}
 use Rattle.rtr_ends.specs.declared.link.End.{End}
 use Rattle.rtr_ends.specs.declared.link.End.TheVariants as ends
-use Rattle.rtr_pdu.specs.declared.version.Version.TheVariants.{V1}
+use Rattle.rtr_pdu.specs.declared.version.Version.{Version}
+use Rattle.rtr_ends.specs.Connection.{in_version}
+use Rattle.rtr_ends.specs.Timing.{Intervals, default_intervals}
 use Rattle.rtr_ends.specs.Answer.{report, sent, sent_all}
 use Rattle.rtr_ends.specs.Cache.{Conn}
 use Rattle.rtr_ends.specs.Commit.{Commits}
 use Rattle.rtr_ends.specs.LinkRules.{Router, Staged, Stays, Wrong, Over, asking, ask, emptied, ended_by, fails, is_strange, is_news, stage, staged, commit, on_unit}
 use Rattle.rtr_ends.specs.RouterLink.{Link, Closed, Idle, Asked, Answering, Ended, is_reading}
-use Rattle.rtr_ends.specs.Transcript.{choose, Begun, Committed, Question, AskReset, AskSerial, query, is_among, led_to, base_of, session_of, differs, is_serial, is_wrong, bounded, sum_of, retry_of}
+use Rattle.rtr_ends.specs.Transcript.{choose, Begun, Committed, Question, AskReset, AskSerial, query, is_among, led_to, base_of, session_of, differs, is_serial, is_wrong, bounded, is_same, of_version, sum_of, retry_of}
 use Rattle.rtr_ends.proofs.TableLaws.{false_true}
 use Rattle.rtr_world.specs.History.{conn_due}
 use Rattle.rtr_world.specs.OneAnswer.{EndsWith, NotifiesOf, announced_in, withdrawn_in, without_notifies}
-use Rattle.rtr_world.proofs.Invariant.{after_stage, FromCache, InOrder, Leads, NoneWithdrawn, WithdrawsFirst, read_of, records_of, Mine, OwnSession, QuestionFits, IsOwn, OfAnswer, nothing_yet, Replies, no_data, not_kept, other_session, no_memory, response, Shape, IfOpen, Open, Live, GoodLink, GoodRouter}
-use Rattle.rtr_world.proofs.UnitStreams.{Stream, stream-append}
-use Rattle.rtr_world.proofs.Versions.{Stands, TableAt}
+use Rattle.rtr_world.proofs.Invariant.{after_stage, FromCache, InOrder, Leads, NoneWithdrawn, WithdrawsFirst, read_of, records_of, Mine, OwnSession, QuestionFits, IsOwn, OfAnswer, nothing_yet, Replies, no_data, not_kept, other_session, no_memory, response, Shape, IfOpen, Open, Flow, Live, GoodLink, GoodRouter}
+use Rattle.rtr_world.proofs.UnitStreams.{Stream, behind_early, stream-append}
+use Rattle.rtr_world.proofs.Versions.{HeldAt, Stands, TableAt, held_at}
 use Rattle.rtr_world.proofs.LinkedSides.{Seen}
 use Rattle.prefixes.proofs.Basics.{eq_true}
 
 -- a query fits its fields
-pub query_unit : (all : List Instance) (session : ℕ) (q : Question) (version : Option Committed) (table : VrpSet) → QuestionFits session q version → TableAt all version table → IsUnitOf V1 (query q)
-query_unit all session AskReset version table f t = (tt, refl)
-query_unit all session (AskSerial one serial) None table f t = absurd f
-query_unit all session (AskSerial one serial) (Some version) table f t =
+pub query_unit : (all : List Instance) (pv : Version) (session : ℕ) (q : Question) (version : Option Committed) (table : VrpSet) → QuestionFits session q version → HeldAt all pv version table → IsUnitOf pv (query q)
+query_unit all pv session AskReset version table f t = (tt, refl)
+query_unit all pv session (AskSerial one serial) None table f t = absurd f
+query_unit all pv session (AskSerial one serial) (Some version) table f t =
     ((subst (λ x. x < 65536) (sym f.0) t.low, (let n = t.serial_is in let e = f.1 in omega (arith, n, e))), refl)
 
 pub question_fits : (session : ℕ) (version : Option Committed) (mark : Bool) → mark ≡ false → Mine session version → QuestionFits session (choose version mark) version
@@ -115,9 +117,9 @@ stage_reads base a true v b rest e h = by_test (has base v || is_among v a.annou
         subst (λ x. (read_of x ≡ read_of a ++ Prefix true v ∷ []) × InOrder x rest) same (read_announced a v, (none_first rest h.0, inr h.0))
 
 -- the rest of an answer once a record is staged
-staged_answer : (all : List Instance) (home : Seen) (base : VrpSet) (a : Begun) (announce : Bool) (v : Payload) (b : Begun) (rest : List Unit) → stage base a announce v ≡ Stays b → (o : OfAnswer all home base a (Prefix announce v ∷ rest)) → Leads base b rest home.session o.serial o.set
-    → OfAnswer all home base b rest
-staged_answer all home base a announce v b rest e o leads =
+staged_answer : (all : List Instance) (pv : Version) (home : Seen) (base : VrpSet) (a : Begun) (announce : Bool) (v : Payload) (b : Begun) (rest : List Unit) → stage base a announce v ≡ Stays b → (o : OfAnswer all pv home base a (Prefix announce v ∷ rest)) → Leads base b rest home.session o.serial o.set
+    → OfAnswer all pv home base b rest
+staged_answer all pv home base a announce v b rest e o leads =
     let same = stage_keeps base a announce v b e in
     let read = stage_reads base a announce v b rest e o.order in
     let units : read_of a ++ (Prefix announce v ∷ rest) ≡ read_of b ++ rest = sym (append_assoc (read_of a) (Prefix announce v ∷ []) rest) ∙ ap (λ x. x ++ rest) (sym read.0) in
@@ -127,7 +129,7 @@ staged_answer all home base a announce v b rest e o leads =
       stands = o.stands;
       leads = leads;
       since = o.since;
-      from = subst₂ (λ q x. FromCache all home q x) (sym same.0) units o.from;
+      from = subst₂ (λ q x. FromCache all pv home q x) (sym same.0) units o.from;
       ends = subst (λ x. EndsWith home.session o.serial x) units o.ends;
       commits = subst (λ x. Commits base (withdrawn_in x) (announced_in x) o.set) units o.commits;
       order = read.1;
@@ -143,11 +145,12 @@ module _ (all : List Instance) (i : Instance) (home : Option Seen) (conn : Optio
     pub is_home : home ≡ Some h
     pub lost : List ℕ
     pub wanted : List Unit
-    pub downward : Stream [] (down ++ (conn_due conn ++ lost)) more
-    pub open_at : IfOpen conn (Open i h [] up wanted lost)
+    pub version : h.version ≡ r.spoken
+    pub downward : Stream [] (down ++ (conn_due conn ++ lost)) (behind_early r.spoken [] more)
+    pub open_at : (agreed : Bool) → IfOpen conn (Open i r.spoken h [] up wanted more agreed lost)
     pub notifies : NotifiesOf h.session more
     pub own : OwnSession h.session r.session
-    pub mine : r.agreed ≡ true → Mine h.session r.version
+    pub mine : r.agreed ≡ true → Mine h.session (of_version r.spoken r.version)
     pub none : r.out ≡ []
     pub held : r.held ≡ []
     pub table : TableAt all r.version r.table
@@ -162,7 +165,7 @@ module _ (all : List Instance) (i : Instance) (home : Option Seen) (conn : Optio
   live_link r (Answering a) is live h = subst (λ x. GoodLink all i home x r conn up down) (sym is) h
 
   -- a router in this link, of which all else is known
-  same_good : (r : Router) (more : List Unit) (l : Link) (d : Reads r more) → r.link ≡ l → is_reading l ≡ true → Shape all d.h l r.agreed r.version r.table d.wanted (without_notifies more) → GoodR r
+  same_good : (r : Router) (more : List Unit) (l : Link) (d : Reads r more) → r.link ≡ l → is_reading l ≡ true → Shape all r.spoken d.h l r.agreed r.version r.table d.wanted (without_notifies more) → GoodR r
   same_good r more l d is live shape = record {
     table = d.table;
     unmarked = d.unmarked;
@@ -170,35 +173,41 @@ module _ (all : List Instance) (i : Instance) (home : Option Seen) (conn : Optio
       d.h,
       d.is_home,
       record {
+        version = d.version;
+        early = [];
         coming = more;
         lost = d.lost;
         wanted = d.wanted;
-        downward = subst (λ x. Stream x (down ++ (conn_due conn ++ d.lost)) more) (sym d.held) d.downward;
-        open_at = subst (λ x. IfOpen conn (Open i d.h x up d.wanted d.lost)) (sym d.none) d.open_at;
+        downward = subst (λ x. Stream x (down ++ (conn_due conn ++ d.lost)) (behind_early r.spoken [] more)) (sym d.held) d.downward;
+        open_at = subst (λ x. IfOpen conn (Open i r.spoken d.h x up d.wanted more r.agreed d.lost)) (sym d.none) (d.open_at r.agreed);
+        are_early = (refl, λ e. refl);
+        early_notifies = tt;
         notifies = d.notifies;
         own = d.own;
         mine = d.mine;
-        shape = subst (λ x. Shape all d.h x r.agreed r.version r.table d.wanted (without_notifies more)) (sym is) shape;
+        shape = subst (λ x. Shape all r.spoken d.h x r.agreed r.version r.table d.wanted (without_notifies more)) (sym is) shape;
       },
     );
   }
 
   -- a question is put where none is on its way
-  pub open_asking : (h : Seen) (wanted : List Unit) (lost : List ℕ) (q : Question) (o : Option Conn) → wanted ≡ [] → IsUnitOf V1 (query q) → IfOpen o (Open i h [] up wanted lost) → IfOpen o (Open i h (sent V1 (query q)) up (query q ∷ []) lost)
-  open_asking h wanted lost q None e fit op = tt
-  open_asking h wanted lost q (Some o) e fit op =
-      let before : Stream o.held (up ++ []) [] = subst (λ x. Stream o.held (up ++ []) x) e op.upward in
-      let after : Stream o.held ((up ++ []) ++ sent_all V1 (query q ∷ [])) (query q ∷ []) = stream-append o.held (up ++ []) [] (query q ∷ []) before (fit, tt) in
+  pub open_asking : (pv : Version) (h : Seen) (wanted coming : List Unit) (agreed : Bool) (lost : List ℕ) (q : Question) (o : Option Conn) → wanted ≡ [] → IsUnitOf pv (query q) → IfOpen o (Open i pv h [] up wanted coming agreed lost)
+      → IfOpen o (Open i pv h (sent pv (query q)) up (query q ∷ []) coming agreed lost)
+  open_asking pv h wanted coming agreed lost q None e fit op = tt
+  open_asking pv h wanted coming agreed lost q (Some o) e fit op =
+      let before : Stream o.held (up ++ []) (behind_early pv [] []) = subst (λ x. Stream o.held (up ++ []) (in_version pv x)) e op.upward in
+      let after : Stream o.held ((up ++ []) ++ sent_all pv (query q ∷ [])) (behind_early pv [] (query q ∷ [])) = stream-append pv o.held (up ++ []) [] [] (query q ∷ []) before (fit, tt) in
       record {
-        upward = subst (λ x. Stream o.held x (query q ∷ [])) (ap (λ x. x ++ sent_all V1 (query q ∷ [])) (append-nil up) ∙ ap (λ x. up ++ x) (append-nil (sent V1 (query q)))) after;
+        upward = subst (λ x. Stream o.held x (in_version pv (query q ∷ []))) (ap (λ x. x ++ sent_all pv (query q ∷ [])) (append-nil up) ∙ ap (λ x. up ++ x) (append-nil (sent pv (query q)))) after;
         spoken = op.spoken;
+        unheard = op.unheard;
         whole = op.whole;
         session = op.session;
         made = op.made;
         later = op.later;
       }
 
-  asking_good : (r : Router) (more : List Unit) (q : Question) (d : Reads r more) → d.wanted ≡ [] → without_notifies more ≡ [] → QuestionFits d.h.session q r.version → GoodR (asking q r)
+  asking_good : (r : Router) (more : List Unit) (q : Question) (d : Reads r more) → d.wanted ≡ [] → without_notifies more ≡ [] → QuestionFits d.h.session q (of_version r.spoken r.version) → GoodR (asking q r)
   asking_good r more q d wanted rest fits = record {
     table = d.table;
     unmarked = d.unmarked;
@@ -206,11 +215,15 @@ module _ (all : List Instance) (i : Instance) (home : Option Seen) (conn : Optio
       d.h,
       d.is_home,
       record {
+        version = d.version;
+        early = [];
         coming = more;
         lost = d.lost;
         wanted = query q ∷ [];
-        downward = subst (λ x. Stream x (down ++ (conn_due conn ++ d.lost)) more) (sym d.held) d.downward;
-        open_at = open_asking d.h d.wanted d.lost q conn wanted (query_unit all d.h.session q r.version r.table fits d.table) d.open_at;
+        downward = subst (λ x. Stream x (down ++ (conn_due conn ++ d.lost)) (behind_early r.spoken [] more)) (sym d.held) d.downward;
+        open_at = open_asking r.spoken d.h d.wanted more r.agreed d.lost q conn wanted (query_unit all r.spoken d.h.session q (of_version r.spoken r.version) r.table fits (held_at all r.spoken r.version r.table d.table)) (d.open_at r.agreed);
+        are_early = (refl, λ e. refl);
+        early_notifies = tt;
         notifies = d.notifies;
         own = d.own;
         mine = d.mine;
@@ -224,37 +237,38 @@ module _ (all : List Instance) (i : Instance) (home : Option Seen) (conn : Optio
   ended_good r end is table unmarked none = record { table = table; unmarked = unmarked; link = subst (λ x. GoodLink all i home x r conn up down) (sym is) none }
 
   -- a notify comes
-  pub on_notify : (r : Router) (more : List Unit) (l : Link) (one serial : ℕ) (d : Reads r more) → r.link ≡ l → is_reading l ≡ true → one ≡ d.h.session → Shape all d.h l r.agreed r.version r.table d.wanted (without_notifies more) → GoodR (on_unit l (SerialNotify one serial) r)
+  pub on_notify : (r : Router) (more : List Unit) (l : Link) (one serial : ℕ) (d : Reads r more) → r.link ≡ l → is_reading l ≡ true → one ≡ d.h.session → Shape all r.spoken d.h l r.agreed r.version r.table d.wanted (without_notifies more) → GoodR (on_unit l (SerialNotify one serial) r)
   unfolding on_unit
   on_notify r more Closed one serial d is live own shape = false_true live
   on_notify r more (Ended end) one serial d is live own shape = false_true live
   on_notify r more Idle one serial d is live own shape =
-      let mine : Mine d.h.session r.version = d.mine shape.2 in
-      let quiet : is_strange r one ≡ false = λ j. shape.2 j && no_difference d.h.session one r.session r.version own d.own mine j in
-      subst (λ b. GoodR (if b then fails (SerialNotify one serial) r else if is_news r.version serial then ask r else r)) (sym quiet)
-      (by_news (is_news r.version serial) mine)
+      let mine : Mine d.h.session (of_version r.spoken r.version) = d.mine shape.2 in
+      let quiet : is_strange r one ≡ false = λ j. shape.2 j && no_difference d.h.session one r.session (of_version r.spoken r.version) own d.own mine j in
+      subst (λ b. GoodR (if b then fails (SerialNotify one serial) r else if is_news (of_version r.spoken r.version) serial then ask r else r)) (sym quiet)
+      (by_news (is_news (of_version r.spoken r.version) serial) mine)
     where
-      by_news : (b : Bool) → Mine d.h.session r.version → GoodR (if b then ask r else r)
-      by_news true mine = asking_good r more (choose r.version r.mark) d shape.0 shape.1 (question_fits d.h.session r.version r.mark d.unmarked mine)
+      by_news : (b : Bool) → Mine d.h.session (of_version r.spoken r.version) → GoodR (if b then ask r else r)
+      by_news true mine = asking_good r more (choose (of_version r.spoken r.version) r.mark) d shape.0 shape.1 (question_fits d.h.session (of_version r.spoken r.version) r.mark d.unmarked mine)
       by_news false mine = same_good r more Idle d is refl shape
   on_notify r more (Asked q) one serial d is live own shape =
       subst (λ b. GoodR (if b then fails (SerialNotify one serial) r else r)) (sym (quiet r.agreed refl)) (same_good r more (Asked q) d is refl shape)
     where
-      quiet : (b : Bool) → r.agreed ≡ b → (b && differs (session_of r.session r.version) one) ≡ false
+      quiet : (b : Bool) → r.agreed ≡ b → (b && differs (session_of r.session (of_version r.spoken r.version)) one) ≡ false
       quiet false e = refl
-      quiet true e = no_difference d.h.session one r.session r.version own d.own (d.mine e)
+      quiet true e = no_difference d.h.session one r.session (of_version r.spoken r.version) own d.own (d.mine e)
   on_notify r more (Answering a) one serial d is live own shape =
       subst (λ b. GoodR (if b then fails (SerialNotify one serial) r else r)) (sym (quiet r.agreed refl)) (same_good r more (Answering a) d is refl shape)
     where
-      quiet : (b : Bool) → r.agreed ≡ b → (b && differs (session_of r.session r.version) one) ≡ false
+      quiet : (b : Bool) → r.agreed ≡ b → (b && differs (session_of r.session (of_version r.spoken r.version)) one) ≡ false
       quiet false e = refl
-      quiet true e = no_difference d.h.session one r.session r.version own d.own (d.mine e)
+      quiet true e = no_difference d.h.session one r.session (of_version r.spoken r.version) own d.own (d.mine e)
 
   -- the first unit is no notify
-  agreed_reads : (r : Router) (more : List Unit) (d : Reads r more) → Mine d.h.session r.version → Reads (record r { agreed = true }) more
+  agreed_reads : (r : Router) (more : List Unit) (d : Reads r more) → Mine d.h.session (of_version r.spoken r.version) → Reads (record r { agreed = true }) more
   agreed_reads r more d m = record {
     h = d.h;
     is_home = d.is_home;
+    version = d.version;
     lost = d.lost;
     wanted = d.wanted;
     downward = d.downward;
@@ -280,7 +294,7 @@ module _ (all : List Instance) (i : Instance) (home : Option Seen) (conn : Optio
   right_response session (AskSerial one serial) (Some version) f own = same_session version.session session (sym f.0 ∙ own)
 
   -- an Error Report
-  data_good : (r : Router) (more : List Unit) (copy : List ℕ) (d : Reads r more) → d.wanted ≡ [] → without_notifies more ≡ [] → Mine d.h.session r.version → GoodR (on_unit (Asked AskReset) (report 2 copy) r)
+  data_good : (r : Router) (more : List Unit) (copy : List ℕ) (d : Reads r more) → d.wanted ≡ [] → without_notifies more ≡ [] → Mine d.h.session (of_version r.spoken r.version) → GoodR (on_unit (Asked AskReset) (report 2 copy) r)
   unfolding on_unit
   data_good r more copy d wanted rest m =
       let k : Router = record r { agreed = true; link = Idle; due = Some (sum_of r.now (retry_of r.version)); no_data = true } in
@@ -288,6 +302,7 @@ module _ (all : List Instance) (i : Instance) (home : Option Seen) (conn : Optio
       (record {
         h = d.h;
         is_home = d.is_home;
+        version = d.version;
         lost = d.lost;
         wanted = d.wanted;
         downward = d.downward;
@@ -313,40 +328,41 @@ module _ (all : List Instance) (i : Instance) (home : Option Seen) (conn : Optio
   unfolding on_unit
   one_good r q table unmarked none = ended_good (ended_by 1 (record r { agreed = true })) (ends.Told 1) refl table unmarked none
 
-  reset_good : (r : Router) (more : List Unit) (serial : ℕ) (d : Reads r more) → d.wanted ≡ [] → without_notifies more ≡ [] → Mine d.h.session r.version → GoodR (on_unit (Asked (AskSerial d.h.session serial)) CacheReset r)
+  reset_good : (r : Router) (more : List Unit) (serial : ℕ) (d : Reads r more) → d.wanted ≡ [] → without_notifies more ≡ [] → Mine d.h.session (of_version r.spoken r.version) → GoodR (on_unit (Asked (AskSerial d.h.session serial)) CacheReset r)
   unfolding on_unit agreed_reads
   reset_good r more serial d wanted rest m = asking_good (record r { agreed = true }) more AskReset (agreed_reads r more d m) wanted rest m
 
   -- a Cache Response
-  response_good : (r : Router) (more : List Unit) (q : Question) (d : Reads r more) → d.wanted ≡ [] → QuestionFits d.h.session q r.version → IsOwn d.h.session q → OfAnswer all d.h (base_of q r.table) (nothing_yet q d.h.session) (without_notifies more) → GoodR (on_unit (Asked q) (CacheResponse d.h.session) r)
+  response_good : (r : Router) (more : List Unit) (q : Question) (d : Reads r more) → d.wanted ≡ [] → QuestionFits d.h.session q (of_version r.spoken r.version) → IsOwn d.h.session q → OfAnswer all r.spoken d.h (base_of q r.table) (nothing_yet q d.h.session) (without_notifies more) → GoodR (on_unit (Asked q) (CacheResponse d.h.session) r)
   unfolding on_unit
   response_good r more q d wanted f own a =
       let session : ℕ = d.h.session in
       let k : Router = record r { agreed = true; session = Some d.h.session; link = Answering (nothing_yet q d.h.session) } in
-      subst (λ b. GoodR (if b then fails (CacheResponse d.h.session) r else record r { agreed = true; session = Some d.h.session; link = Answering (nothing_yet q d.h.session) })) (sym (right_response d.h.session q r.version f own))
+      subst (λ b. GoodR (if b then fails (CacheResponse d.h.session) r else record r { agreed = true; session = Some d.h.session; link = Answering (nothing_yet q d.h.session) })) (sym (right_response d.h.session q (of_version r.spoken r.version) f own))
       (same_good (record r { agreed = true; session = Some d.h.session; link = Answering (nothing_yet q d.h.session) }) more (Answering (nothing_yet q d.h.session))
       (record {
         h = d.h;
         is_home = d.is_home;
+        version = d.version;
         lost = d.lost;
         wanted = d.wanted;
         downward = d.downward;
         open_at = d.open_at;
         notifies = d.notifies;
         own = refl;
-        mine = λ e. fits_mine d.h.session q r.version f own;
+        mine = λ e. fits_mine d.h.session q (of_version r.spoken r.version) f own;
         none = d.none;
         held = d.held;
         table = d.table;
         unmarked = d.unmarked;
       }) refl refl (wanted, refl, refl, f, a))
 
-  replied : (r : Router) (more : List Unit) (q : Question) (u : Unit) (d : Reads r more) → d.wanted ≡ [] → QuestionFits d.h.session q r.version → Replies all d.h q (base_of q r.table) (u ∷ without_notifies more) → GoodR (on_unit (Asked q) u r)
+  replied : (r : Router) (more : List Unit) (q : Question) (u : Unit) (d : Reads r more) → d.wanted ≡ [] → QuestionFits d.h.session q (of_version r.spoken r.version) → Replies all r.spoken d.h q (base_of q r.table) (u ∷ without_notifies more) → GoodR (on_unit (Asked q) u r)
   replied r more q u d w f (no_data copy qe e) =
-      let m : Mine d.h.session r.version = subst (λ x. QuestionFits d.h.session x r.version) qe f in
+      let m : Mine d.h.session (of_version r.spoken r.version) = subst (λ x. QuestionFits d.h.session x (of_version r.spoken r.version)) qe f in
       subst₂ (λ a b. GoodR (on_unit (Asked a) b r)) (sym qe) (sym (first_is u (report 2 copy) (without_notifies more) [] e)) (data_good r more copy d w (rest_is u (report 2 copy) (without_notifies more) [] e) m)
   replied r more q u d w f (not_kept serial qe e) =
-      let m : Mine d.h.session r.version = fits_mine d.h.session (AskSerial d.h.session serial) r.version (subst (λ x. QuestionFits d.h.session x r.version) qe f) refl in
+      let m : Mine d.h.session (of_version r.spoken r.version) = fits_mine d.h.session (AskSerial d.h.session serial) (of_version r.spoken r.version) (subst (λ x. QuestionFits d.h.session x (of_version r.spoken r.version)) qe f) refl in
       subst₂ (λ a b. GoodR (on_unit (Asked a) b r)) (sym qe) (sym (first_is u CacheReset (without_notifies more) [] e)) (reset_good r more serial d w (rest_is u CacheReset (without_notifies more) [] e) m)
   replied r more q u d w f (other_session session serial copy qe differs e) =
       subst (λ b. GoodR (on_unit (Asked q) b r)) (sym (first_is u (report 0 copy) (without_notifies more) [] e)) (zero_good r q copy d.table d.unmarked d.none)
@@ -354,11 +370,11 @@ module _ (all : List Instance) (i : Instance) (home : Option Seen) (conn : Optio
       subst (λ b. GoodR (on_unit (Asked q) b r)) (sym (first_is u (report 1 []) (without_notifies more) [] e)) (one_good r q d.table d.unmarked d.none)
   replied r more q u d w f (response tail e own a) =
       subst (λ b. GoodR (on_unit (Asked q) b r)) (sym (first_is u (CacheResponse d.h.session) (without_notifies more) tail e))
-      (response_good r more q d w f own (subst (λ x. OfAnswer all d.h (base_of q r.table) (nothing_yet q d.h.session) x) (sym (rest_is u (CacheResponse d.h.session) (without_notifies more) tail e)) a))
+      (response_good r more q d w f own (subst (λ x. OfAnswer all r.spoken d.h (base_of q r.table) (nothing_yet q d.h.session) x) (sym (rest_is u (CacheResponse d.h.session) (without_notifies more) tail e)) a))
 
   -- a record comes
-  staged_good : (r : Router) (more : List Unit) (a : Begun) (announce : Bool) (v : Payload) (d : Reads r more) (o : OfAnswer all d.h (base_of a.question r.table) a (Prefix announce v ∷ without_notifies more)) (st : Staged) → stage (base_of a.question r.table) a announce v ≡ st → d.wanted ≡ [] → r.agreed ≡ true → a.session ≡ d.h.session
-      → QuestionFits d.h.session a.question r.version → after_stage st (λ b. Leads (base_of a.question r.table) b (without_notifies more) d.h.session o.serial o.set) → GoodR (staged (Prefix announce v) st r)
+  staged_good : (r : Router) (more : List Unit) (a : Begun) (announce : Bool) (v : Payload) (d : Reads r more) (o : OfAnswer all r.spoken d.h (base_of a.question r.table) a (Prefix announce v ∷ without_notifies more)) (st : Staged) → stage (base_of a.question r.table) a announce v ≡ st → d.wanted ≡ [] → r.agreed ≡ true → a.session ≡ d.h.session
+      → QuestionFits d.h.session a.question (of_version r.spoken r.version) → after_stage st (λ b. Leads (base_of a.question r.table) b (without_notifies more) d.h.session o.serial o.set) → GoodR (staged (Prefix announce v) st r)
   staged_good r more a announce v d o (Wrong code) e w ag se f l = absurd l
   staged_good r more a announce v d o Over e w ag se f l = absurd l
   staged_good r more a announce v d o (Stays b) e w ag se f l =
@@ -367,6 +383,7 @@ module _ (all : List Instance) (i : Instance) (home : Option Seen) (conn : Optio
       (record {
         h = d.h;
         is_home = d.is_home;
+        version = d.version;
         lost = d.lost;
         wanted = d.wanted;
         downward = d.downward;
@@ -382,46 +399,78 @@ module _ (all : List Instance) (i : Instance) (home : Option Seen) (conn : Optio
         w,
         ag,
         same.1 ∙ se,
-        subst (λ x. QuestionFits d.h.session x r.version) (sym same.0) f,
-        subst (λ x. OfAnswer all d.h (base_of x r.table) b (without_notifies more)) (sym same.0) (staged_answer all d.h (base_of a.question r.table) a announce v b (without_notifies more) e o l),
+        subst (λ x. QuestionFits d.h.session x (of_version r.spoken r.version)) (sym same.0) f,
+        subst (λ x. OfAnswer all r.spoken d.h (base_of x r.table) b (without_notifies more)) (sym same.0) (staged_answer all r.spoken d.h (base_of a.question r.table) a announce v b (without_notifies more) e o l),
       )
 
   -- the answer ends
-  committed_good : (r : Router) (more : List Unit) (a : Begun) (one number refresh retry expire : ℕ) (d : Reads r more) → d.wanted ≡ [] → without_notifies more ≡ [] → r.agreed ≡ true → a.session ≡ d.h.session → one ≡ d.h.session
-      → Stands all one number (led_to (base_of a.question r.table) a.withdrawn a.announced) → GoodR (on_unit (Answering a) (EndOfData one number refresh retry expire) r)
-  unfolding on_unit
-  committed_good r more a one number refresh retry expire d w e ag se oe stands =
-      let version : Committed = record { session = one; serial = number; moment = r.now; intervals = bounded refresh retry expire } in
-      subst (λ b. GoodR (if b then commit a (record { session = one; serial = number; moment = r.now; intervals = bounded refresh retry expire }) r else fails (EndOfData one number refresh retry expire) r)) (sym (eq_true one a.session (oe ∙ sym se)))
-      (same_good (commit a (record { session = one; serial = number; moment = r.now; intervals = bounded refresh retry expire }) r) more Idle
+  committed_mine : (pv : Version) (version : Committed) (session : ℕ) → version.session ≡ session → Mine session (of_version pv (Some version))
+  committed_mine pv version session e = by_same (is_same pv version.version)
+    where
+      by_same : (b : Bool) → Mine session (if b then Some version else None)
+      by_same true = e
+      by_same false = tt
+
+  ended_so : (r : Router) (more : List Unit) (a : Begun) (one number : ℕ) (intervals : Intervals) (d : Reads r more) → d.wanted ≡ [] → without_notifies more ≡ [] → r.agreed ≡ true → one ≡ d.h.session
+      → Stands all r.spoken one number (led_to (base_of a.question r.table) a.withdrawn a.announced) → GoodR (commit a (record { version = r.spoken; session = one; serial = number; moment = r.now; intervals = intervals }) r)
+  ended_so r more a one number intervals d w e ag oe stands =
+      let version : Committed = record { version = r.spoken; session = one; serial = number; moment = r.now; intervals = intervals } in
+      same_good (commit a (record { version = r.spoken; session = one; serial = number; moment = r.now; intervals = intervals }) r) more Idle
       (record {
         h = d.h;
         is_home = d.is_home;
+        version = d.version;
         lost = d.lost;
         wanted = d.wanted;
         downward = d.downward;
         open_at = d.open_at;
         notifies = d.notifies;
         own = d.own;
-        mine = λ x. oe;
+        mine = λ x. committed_mine r.spoken (record { version = r.spoken; session = one; serial = number; moment = r.now; intervals = intervals }) d.h.session oe;
         none = d.none;
         held = d.held;
         table = stands;
         unmarked = refl;
-      }) refl refl (w, e, ag))
+      }) refl refl (w, e, ag)
 
-  answering : (r : Router) (more : List Unit) (a : Begun) (u : Unit) (d : Reads r more) → d.wanted ≡ [] → r.agreed ≡ true → a.session ≡ d.h.session → QuestionFits d.h.session a.question r.version
-      → OfAnswer all d.h (base_of a.question r.table) a (u ∷ without_notifies more) → GoodR (on_unit (Answering a) u r)
+  committed_good : (r : Router) (more : List Unit) (a : Begun) (u : Unit) (one number : ℕ) (intervals : Intervals) (d : Reads r more) → d.wanted ≡ [] → without_notifies more ≡ [] → r.agreed ≡ true → a.session ≡ d.h.session → one ≡ d.h.session
+      → Stands all r.spoken one number (led_to (base_of a.question r.table) a.withdrawn a.announced)
+      → GoodR (if one == a.session then commit a (record { version = r.spoken; session = one; serial = number; moment = r.now; intervals = intervals }) r else fails u r)
+  committed_good r more a u one number intervals d w e ag se oe stands =
+      subst (λ b. GoodR (if b then commit a (record { version = r.spoken; session = one; serial = number; moment = r.now; intervals = intervals }) r else fails u r)) (sym (eq_true one a.session (oe ∙ sym se)))
+      (ended_so r more a one number intervals d w e ag oe stands)
+
+  answering : (r : Router) (more : List Unit) (a : Begun) (u : Unit) (d : Reads r more) → d.wanted ≡ [] → r.agreed ≡ true → a.session ≡ d.h.session → QuestionFits d.h.session a.question (of_version r.spoken r.version)
+      → OfAnswer all r.spoken d.h (base_of a.question r.table) a (u ∷ without_notifies more) → GoodR (on_unit (Answering a) u r)
   unfolding on_unit
   answering r more a (Prefix announce v) d w ag se f o = staged_good r more a announce v d o (stage (base_of a.question r.table) a announce v) refl w ag se f o.leads
   answering r more a (EndOfData one number refresh retry expire) d w ag se f o =
       let l = o.leads in
-      committed_good r more a one number refresh retry expire d w l.0 ag se l.1
-      (subst (λ x. Stands all one number x) (sym l.3) (subst₂ (λ x y. Stands all x y o.set) (sym l.1) (sym l.2) o.stands))
+      committed_good r more a (EndOfData one number refresh retry expire) one number (bounded refresh retry expire) d w l.0 ag se l.1
+      (subst (λ x. Stands all r.spoken one number x) (sym l.3) (subst₂ (λ x y. Stands all r.spoken x y o.set) (sym l.1) (sym l.2) o.stands))
+  answering r more a (EndOfData0 one number) d w ag se f o =
+      let l = o.leads in
+      committed_good r more a (EndOfData0 one number) one number default_intervals d w l.0 ag se l.1
+      (subst (λ x. Stands all r.spoken one number x) (sym l.3) (subst₂ (λ x y. Stands all r.spoken x y o.set) (sym l.1) (sym l.2) o.stands))
   answering r more a u d w ag se f o = absurd o.leads
 
+  -- a notify comes that was sent before the cache had read a header: the router has not agreed on a version, and does nothing
+  pub on_early : (r : Router) (l : Link) (one serial : ℕ) (h : Seen) (f : Flow all i h r conn up down) → home ≡ Some h → r.link ≡ l → is_reading l ≡ true → r.agreed ≡ false → TableAt all r.version r.table → r.mark ≡ false → GoodR (on_unit l (SerialNotify one serial) r)
+  unfolding on_unit
+  on_early r Closed one serial h f eh is live open_yet table mark = false_true live
+  on_early r (Ended end) one serial h f eh is live open_yet table mark = false_true live
+  on_early r Idle one serial h f eh is live open_yet table mark =
+      let s : Shape all r.spoken h Idle r.agreed r.version r.table f.wanted (without_notifies f.coming) = subst (λ x. Shape all r.spoken h x r.agreed r.version r.table f.wanted (without_notifies f.coming)) is f.shape in
+      false_true (sym open_yet ∙ s.2)
+  on_early r (Answering a) one serial h f eh is live open_yet table mark =
+      let s : Shape all r.spoken h (Answering a) r.agreed r.version r.table f.wanted (without_notifies f.coming) = subst (λ x. Shape all r.spoken h x r.agreed r.version r.table f.wanted (without_notifies f.coming)) is f.shape in
+      false_true (sym open_yet ∙ s.1)
+  on_early r (Asked q) one serial h f eh is live open_yet table mark =
+      subst (λ b. GoodR (if b then fails (SerialNotify one serial) r else r)) (ap (λ b. b && differs (session_of r.session (of_version r.spoken r.version)) one) (sym open_yet))
+      (record { table = table; unmarked = mark; link = live_link r (Asked q) is refl (h, eh, f) })
+
   -- a unit comes that is no notify
-  pub on_other : (r : Router) (more : List Unit) (l : Link) (u : Unit) (d : Reads r more) → is_reading l ≡ true → Shape all d.h l r.agreed r.version r.table d.wanted (u ∷ without_notifies more) → GoodR (on_unit l u r)
+  pub on_other : (r : Router) (more : List Unit) (l : Link) (u : Unit) (d : Reads r more) → is_reading l ≡ true → Shape all r.spoken d.h l r.agreed r.version r.table d.wanted (u ∷ without_notifies more) → GoodR (on_unit l u r)
   on_other r more Closed u d live shape = false_true live
   on_other r more (Ended end) u d live shape = false_true live
   on_other r more Idle u d live shape = absurd (no_unit u (without_notifies more) shape.1)

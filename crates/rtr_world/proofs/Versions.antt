@@ -1,5 +1,5 @@
 -- Versions at their places.
-use Rattle.std.specs.Prelude.{◌≡◌, ◌⊎◌, ℕ, ◌+◌, ◌<◌, ◌^◌, Bool, true, false, ◌==◌, nat_lt, List, [], ◌∷◌, ◌++◌, length, take, find, Option, Some, None, option_and_then, if◌then◌else◌, refl}
+use Rattle.std.specs.Prelude.{◌≡◌, ◌⊎◌, ℕ, ◌+◌, ◌<◌, ◌^◌, Bool, true, false, ◌==◌, nat_lt, List, [], ◌∷◌, ◌++◌, length, take, find, Option, Some, None, option_and_then, if◌then◌else◌, refl, ⊤}
 use Rattle.std.proofs.Common.{sym, ap, ◌∙◌, subst, arith, inl, inr}
 use Rattle.std.specs.Option.{option_map}
 use Rattle.std.proofs.lemmas.Bool.Decides.{nat_tests}
@@ -8,7 +8,10 @@ use Rattle.vrps.specs.Instance.{Instance, IsInstance, NumberedSet, versions, ver
 use Rattle.vrps.specs.Serial.{serial_at}
 use Rattle.vrps.specs.VrpSet.{VrpSet, empty}
 use Rattle.vrps.proofs.SetVersions.{names_itself, kept_is_itself}
-use Rattle.rtr_ends.specs.Transcript.{Committed}
+use Rattle.rtr_pdu.specs.declared.version.Version.{Version}
+use Rattle.rtr_pdu.specs.declared.version.Version.TheVariants.{V0, V1}
+use Rattle.rtr_ends.specs.Answer.{session_in}
+use Rattle.rtr_ends.specs.Transcript.{Committed, is_same, of_version}
 use Rattle.rtr_world.specs.VersionPlaces.{position_of}
 use Rattle.rtr_world.specs.Claims.{IsNamed}
 use Rattle.prefixes.proofs.Basics.{eq_self, eq_of}
@@ -16,9 +19,14 @@ use Rattle.prefixes.proofs.Basics.{eq_self, eq_of}
 pub lt_of : (a b : ℕ) → nat_lt a b ≡ true → a < b
 lt_of a b h = grind (arith, nat_tests)
 
--- the newest instance of a session
-abbrev pub find_session : ℕ → List Instance → Option Instance
-find_session session all = find (λ i. i.session == session) all
+-- the newest instance of a session in a version of the protocol
+abbrev pub find_session : Version → ℕ → List Instance → Option Instance
+find_session pv session all = find (λ i. session_in pv i == session) all
+
+-- What is published changes no session.
+pub same_session_in : (pv : Version) (i : Instance) (sets : List VrpSet) → session_in pv (record i { sets = sets }) ≡ session_in pv i
+same_session_in V0 i sets = refl
+same_session_in V1 i sets = refl
 
 pub some_is : {A : Type 0} (a b : A) → Some a ≡ Some b → a ≡ b
 some_is a b h = cc
@@ -26,10 +34,10 @@ some_is a b h = cc
 pub same_instance : (a b : Instance) (o : Option Instance) → o ≡ Some a → o ≡ Some b → a ≡ b
 same_instance a b o p q = some_is a b (sym p ∙ q)
 
--- This set was published under this session and serial, and fewer than 2^31 versions are newer.
-pub record Stands (all : List Instance) (session serial : ℕ) (set : VrpSet) : Type 0 where
+-- This set was published under this version of the protocol, session and serial, and fewer than 2^31 versions are newer.
+pub record Stands (all : List Instance) (pv : Version) (session serial : ℕ) (set : VrpSet) : Type 0 where
   pub i : Instance
-  pub found : find_session session all ≡ Some i
+  pub found : find_session pv session all ≡ Some i
   pub newer : List VrpSet
   pub older : List VrpSet
   pub sets : i.sets ≡ newer ++ set ∷ older
@@ -41,8 +49,8 @@ abbrev set_in : Option NumberedSet → Option VrpSet
 set_in o = option_map (λ v. v.set) o
 
 -- so it is named
-pub named_at : (all : List Instance) (session serial : ℕ) (set : VrpSet) → Stands all session serial set → named all session serial ≡ Some set
-named_at all session serial set a =
+pub named_at : (all : List Instance) (pv : Version) (session serial : ℕ) (set : VrpSet) → Stands all pv session serial set → named (session_in pv) all session serial ≡ Some set
+named_at all pv session serial set a =
     ap (option_and_then (λ i. set_in (with_serial serial (versions i)))) a.found
     ∙ (λ j. set_in (with_serial (a.serial_is j) (versions_from a.i.start (a.sets j))))
     ∙ ap set_in (names_itself a.i.start a.newer set a.older a.young)
@@ -50,25 +58,44 @@ named_at all session serial set a =
 -- the table is empty, or the version that is committed
 abbrev pub TableAt : List Instance → Option Committed → VrpSet → Type 0
 TableAt all None table = table ≡ empty
-TableAt all (Some version) table = Stands all version.session version.serial table
+TableAt all (Some version) table = Stands all version.version version.session version.serial table
+
+-- what is held of a version of the protocol stands
+abbrev pub HeldAt : List Instance → Version → Option Committed → VrpSet → Type 0
+HeldAt all pv None table = ⊤
+HeldAt all pv (Some version) table = Stands all pv version.session version.serial table
+
+pub held_at : (all : List Instance) (pv : Version) (version : Option Committed) (table : VrpSet) → TableAt all version table → HeldAt all pv (of_version pv version) table
+held_at all pv None table t = tt
+held_at all pv (Some version) table t = by_same (is_same pv version.version) refl
+  where
+    same_of : (a b : Version) → is_same a b ≡ true → a ≡ b
+    same_of V0 V0 e = refl
+    same_of V1 V1 e = refl
+    same_of V0 V1 e = absurd (let h : false ≡ true = e in cc)
+    same_of V1 V0 e = absurd (let h : false ≡ true = e in cc)
+
+    by_same : (b : Bool) → is_same pv version.version ≡ b → HeldAt all pv (if b then Some version else None) table
+    by_same true e = subst (λ v. Stands all v version.session version.serial table) (sym (same_of pv version.version e)) t
+    by_same false e = tt
 
 pub table_named : (all : List Instance) (version : Option Committed) (table : VrpSet) → TableAt all version table → IsNamed all version table
 table_named all None table h = h
-table_named all (Some version) table h = named_at all version.session version.serial table h
+table_named all (Some version) table h = named_at all version.version version.session version.serial table h
 
 -- The present instance is found by its session.
 pub record Present (all : List Instance) (i : Instance) : Type 0 where
-  pub found : find_session i.session all ≡ Some i
+  pub found : (pv : Version) → find_session pv (session_in pv i) all ≡ Some i
   pub is : IsInstance i
 
-pub of_present : (all : List Instance) (i : Instance) → Present all i → (session serial : ℕ) (set : VrpSet) (a : Stands all session serial set) → session ≡ i.session → a.i ≡ i
-of_present all i p session serial set a e = same_instance a.i i (find_session session all) a.found (subst (λ s. find_session s all ≡ Some i) (sym e) p.found)
+pub of_present : (all : List Instance) (i : Instance) → Present all i → (pv : Version) (session serial : ℕ) (set : VrpSet) (a : Stands all pv session serial set) → session ≡ session_in pv i → a.i ≡ i
+of_present all i p pv session serial set a e = same_instance a.i i (find_session pv session all) a.found (subst (λ s. find_session pv s all ≡ Some i) (sym e) (p.found pv))
 
 -- What the cache keeps under the serial of a version is it or nothing.
-pub kept_at : (all : List Instance) (i : Instance) (p : Present all i) (kept : ℕ) (session serial : ℕ) (set : VrpSet) → Stands all session serial set → session ≡ i.session
+pub kept_at : (all : List Instance) (i : Instance) (p : Present all i) (kept : ℕ) (pv : Version) (session serial : ℕ) (set : VrpSet) → Stands all pv session serial set → session ≡ session_in pv i
     → (with_serial serial (take kept (versions i)) ≡ None) ⊎ (with_serial serial (take kept (versions i)) ≡ Some (record { serial = serial; set = set }))
-kept_at all i p kept session serial set a e =
-    let same = of_present all i p session serial set a e in
+kept_at all i p kept pv session serial set a e =
+    let same = of_present all i p pv session serial set a e in
     let is : with_serial serial (take kept (versions i)) ≡ with_serial (serial_at a.i.start (length a.older)) (take kept (versions_from a.i.start (a.newer ++ set ∷ a.older))) =
     (λ j. with_serial (a.serial_is j) (take kept (versions (sym same j)))) ∙ (λ j. with_serial (serial_at a.i.start (length a.older)) (take kept (versions_from a.i.start (a.sets j)))) in
     elim (kept_is_itself a.i.start kept a.newer set a.older a.young) [
@@ -77,9 +104,9 @@ kept_at all i p kept session serial set a e =
     ]
 
 -- An instance with a version has one.
-pub has_sets : (all : List Instance) (i : Instance) (p : Present all i) (session serial : ℕ) (set : VrpSet) → Stands all session serial set → session ≡ i.session → i.sets ≡ [] → ⊥
-has_sets all i p session serial set a e none =
-    let same = of_present all i p session serial set a e in
+pub has_sets : (all : List Instance) (i : Instance) (p : Present all i) (pv : Version) (session serial : ℕ) (set : VrpSet) → Stands all pv session serial set → session ≡ session_in pv i → i.sets ≡ [] → ⊥
+has_sets all i p pv session serial set a e none =
+    let same = of_present all i p pv session serial set a e in
     no_sets a.newer (sym none ∙ ap (λ x. x.sets) (sym same) ∙ a.sets)
   where
     no_sets : (newer : List VrpSet) → [] ≡ newer ++ set ∷ a.older → ⊥
@@ -87,8 +114,8 @@ has_sets all i p session serial set a e none =
     no_sets (x ∷ newer) h = cc
 
 -- the place of a version
-pub position_at : (all : List Instance) (session serial : ℕ) (set : VrpSet) (a : Stands all session serial set) → position_of serial (versions a.i) ≡ Some (length a.older)
-position_at all session serial set a =
+pub position_at : (all : List Instance) (pv : Version) (session serial : ℕ) (set : VrpSet) (a : Stands all pv session serial set) → position_of serial (versions a.i) ≡ Some (length a.older)
+position_at all pv session serial set a =
     (λ j. position_of (a.serial_is j) (versions_from a.i.start (a.sets j))) ∙ found a.newer a.young
   where
     shorter : (older : List VrpSet) → length (versions_from a.i.start older) ≡ length older
@@ -110,21 +137,21 @@ position_at all session serial set a =
         ∙ found newer (omega (arith, few))
 
 -- A version that has room keeps its name and its place when another is published.
-pub stands_published : (past : List Instance) (i : Instance) (y : VrpSet) (session serial : ℕ) (set : VrpSet) (a : Stands (i ∷ past) session serial set) → (i.session ≡ session → length a.newer + 1 < 2 ^ 31)
-    → (s : Stands (record i { sets = y ∷ i.sets } ∷ past) session serial set) × (s.older ≡ a.older)
-stands_published past i y session serial set a room = by_session (i.session == session) refl a.found
+pub stands_published : (past : List Instance) (i : Instance) (y : VrpSet) (pv : Version) (session serial : ℕ) (set : VrpSet) (a : Stands (i ∷ past) pv session serial set) → (session_in pv i ≡ session → length a.newer + 1 < 2 ^ 31)
+    → (s : Stands (record i { sets = y ∷ i.sets } ∷ past) pv session serial set) × (s.older ≡ a.older)
+stands_published past i y pv session serial set a room = by_session (session_in pv i == session) refl a.found
   where
-    by_session : (b : Bool) → (i.session == session) ≡ b → (if b then Some i else find_session session past) ≡ Some a.i → (s : Stands (record i { sets = y ∷ i.sets } ∷ past) session serial set) × (s.older ≡ a.older)
+    by_session : (b : Bool) → (session_in pv i == session) ≡ b → (if b then Some i else find_session pv session past) ≡ Some a.i → (s : Stands (record i { sets = y ∷ i.sets } ∷ past) pv session serial set) × (s.older ≡ a.older)
     by_session true e f =
         let same : i ≡ a.i = some_is i a.i f in (
           record {
             i = record i { sets = y ∷ i.sets };
-            found = ap (λ b. if b then Some (record i { sets = y ∷ i.sets }) else find_session session past) e;
+            found = ap (λ b. if b then Some (record i { sets = y ∷ i.sets }) else find_session pv session past) (ap (λ n. n == session) (same_session_in pv i (y ∷ i.sets)) ∙ e);
             newer = y ∷ a.newer;
             older = a.older;
             sets = ap (λ x. y ∷ x.sets) same ∙ ap (λ x. y ∷ x) a.sets;
             serial_is = a.serial_is ∙ ap (λ x. serial_at x.start (length a.older)) (sym same);
-            young = (let few : length a.newer + 1 < 2 ^ 31 = room (eq_of i.session session e) in omega (arith, few));
+            young = (let few : length a.newer + 1 < 2 ^ 31 = room (eq_of (session_in pv i) session e) in omega (arith, few));
             low = a.low;
           },
           refl,
@@ -132,7 +159,7 @@ stands_published past i y session serial set a room = by_session (i.session == s
     by_session false e f = (
       record {
         i = a.i;
-        found = ap (λ b. if b then Some (record i { sets = y ∷ i.sets }) else find_session session past) e ∙ f;
+        found = ap (λ b. if b then Some (record i { sets = y ∷ i.sets }) else find_session pv session past) (ap (λ n. n == session) (same_session_in pv i (y ∷ i.sets)) ∙ e) ∙ f;
         newer = a.newer;
         older = a.older;
         sets = a.sets;
@@ -144,11 +171,11 @@ stands_published past i y session serial set a room = by_session (i.session == s
     )
 
 -- An instance of a new session hides none.
-pub stands_restarted : (all : List Instance) (i : Instance) (session serial : ℕ) (set : VrpSet) → find_session i.session all ≡ None → (a : Stands all session serial set) → (s : Stands (i ∷ all) session serial set) × (s.older ≡ a.older)
-stands_restarted all i session serial set new a = (
+pub stands_restarted : (all : List Instance) (i : Instance) (pv : Version) (session serial : ℕ) (set : VrpSet) → find_session pv (session_in pv i) all ≡ None → (a : Stands all pv session serial set) → (s : Stands (i ∷ all) pv session serial set) × (s.older ≡ a.older)
+stands_restarted all i pv session serial set new a = (
   record {
     i = a.i;
-    found = by_session (i.session == session) refl;
+    found = by_session (session_in pv i == session) refl;
     newer = a.newer;
     older = a.older;
     sets = a.sets;
@@ -162,6 +189,6 @@ stands_restarted all i session serial set new a = (
     none_some : (o : Option Instance) → o ≡ None → o ≡ Some a.i → ⊥
     none_some o p q = let h : ◌≡◌ {A = Option Instance} None (Some a.i) = sym p ∙ q in cc
 
-    by_session : (b : Bool) → (i.session == session) ≡ b → find_session session (i ∷ all) ≡ Some a.i
-    by_session true e = absurd (none_some (find_session session all) (subst (λ s. find_session s all ≡ None) (eq_of i.session session e) new) a.found)
-    by_session false e = ap (λ b. if b then Some i else find_session session all) e ∙ a.found
+    by_session : (b : Bool) → (session_in pv i == session) ≡ b → find_session pv session (i ∷ all) ≡ Some a.i
+    by_session true e = absurd (none_some (find_session pv session all) (subst (λ s. find_session pv s all ≡ None) (eq_of (session_in pv i) session e) new) a.found)
+    by_session false e = ap (λ b. if b then Some i else find_session pv session all) e ∙ a.found

@@ -3,7 +3,6 @@ use Rattle.std.specs.Prelude.{◌≡◌, ℕ, Bool, true, false, not, ◌&&◌, 
 use Rattle.std.proofs.Common.{sym, ap, ◌∙◌, subst}
 use Rattle.std.specs.List.{AllByRecursion}
 use Rattle.vrps.specs.Instance.{Instance}
-use Rattle.rtr_pdu.specs.declared.version.Version.TheVariants.{V1}
 use Rattle.rtr_pdu.specs.Judging.{Judgement, Begins, Whole, Faulty, judge}
 use Rattle.rtr_pdu.specs.Stream.{type_of}
 use Rattle.rtr_pdu.specs.declared.unit.Unit.{Unit}
@@ -16,11 +15,11 @@ use Rattle.rtr_ends.specs.Feeding.{feed}
 use Rattle.rtr_ends.specs.LinkRules.{Router, Staged, Stays, Wrong, Over, ask, commit, emptied, fails, is_news, is_strange, may_lack, on_unit, stage, staged, ended_by, told_off}
 use Rattle.rtr_ends.specs.Router.{Noted, Receiving, asks, asks_if, clocked, close, closed_at, connects_at, expired, lacks, of_received, reads, receives, router_byte, router_pulled, router_stops, ticks_at, with_bytes}
 use Rattle.rtr_ends.specs.RouterLink.{Link, Closed, Idle, Asked, Answering, Ended, is_closed, is_due, is_idle}
-use Rattle.rtr_ends.specs.Transcript.{At, Question, AskReset, AskSerial, base_of, Begun, Committed, bounded, is_over, is_serial, is_wrong, later, retry_of, sum_of}
+use Rattle.rtr_ends.specs.Transcript.{At, Question, AskReset, AskSerial, base_of, Begun, Committed, bounded, is_over, is_serial, is_wrong, of_version, later, retry_of, sum_of}
 use Rattle.rtr_ends.proofs.FeedingLaws.{feed_keeps}
 use Rattle.rtr_world.specs.Claims.{NamesNone, NoneByMemory, NotByMemory}
 use Rattle.rtr_world.specs.History.{Outcome, Done, SessionUsed, TooManyVersions, NoSuchRouter, Memory, Entry, LeadsFrom, after}
-use Rattle.rtr_world.specs.World.{Ending, Side, World, instances, SideEvent, RouterRestart, Connect, RouterSends, CacheGets, CacheSends, RouterGets, Cut, NotifyRouter, Ask, Tick, Event, Publish, Restart, On, cache_gets, cache_gone, cache_sends, connects, cut, ending_of, goes_through, is_ended, is_refused, new_world, noted, on_side, router_gets, router_restarts, router_sends, settle, settled, side_part, side_refused, side_step, tell_closed}
+use Rattle.rtr_world.specs.World.{Ending, Side, World, instances, SideEvent, RouterRestart, Speak, Connect, RouterSends, CacheGets, CacheSends, RouterGets, Cut, NotifyRouter, Ask, Tick, Event, Publish, Restart, On, cache_gets, cache_gone, cache_sends, connects, cut, ending_of, goes_through, is_ended, is_refused, new_world, noted, on_side, router_gets, router_restarts, speaks, router_sends, settle, settled, side_part, side_refused, side_step, tell_closed}
 use Rattle.rtr_world.proofs.Folding.{Blind, gets_keep, notifies_keep, sends_keep, settle_keeps}
 use Rattle.rtr_world.proofs.SideLaws.{all_map, all_new, all_on_side}
 
@@ -69,7 +68,7 @@ unit_free : (l : Link) (u : Unit) (r : Router) → Free r.link → Free (on_unit
 unfolding on_unit
 unit_free Closed u r h = h
 unit_free (Ended end) u r h = h
-unit_free Idle (SerialNotify session serial) r h = notified_free (is_strange r session) (is_news r.version serial) (SerialNotify session serial) r h
+unit_free Idle (SerialNotify session serial) r h = notified_free (is_strange r session) (is_news (of_version r.spoken r.version) serial) (SerialNotify session serial) r h
 unit_free Idle (ErrorReport e) r h = report_free (e.code == 2) e.code r h
 unit_free Idle (SerialQuery session serial) r h = tt
 unit_free Idle ResetQuery r h = tt
@@ -80,7 +79,7 @@ unit_free Idle (EndOfData0 session serial) r h = tt
 unit_free Idle CacheReset r h = tt
 unit_free Idle (RouterKey key) r h = tt
 unit_free (Asked question) (SerialNotify session serial) r h = strange_free (is_strange r session) (SerialNotify session serial) r h
-unit_free (Asked question) (CacheResponse session) r h = by_wrong (is_wrong (Some question) r.version session)
+unit_free (Asked question) (CacheResponse session) r h = by_wrong (is_wrong (Some question) (of_version r.spoken r.version) session)
   where
     by_wrong : (b : Bool) → Free (if b then fails (CacheResponse session) r else record r { agreed = true; session = Some session; link = Answering (record { question = question; session = session; withdrawn = []; announced = [] }) }).link
     by_wrong true = tt
@@ -98,9 +97,9 @@ unit_free (Answering a) (SerialNotify session serial) r h = strange_free (is_str
 unit_free (Answering a) (Prefix announce v) r h = staged_free (Prefix announce v) (stage (base_of a.question r.table) a announce v) r
 unit_free (Answering a) (RouterKey key) r h = h
 unit_free (Answering a) (EndOfData session serial refresh retry expire) r h =
-    ended_free a (EndOfData session serial refresh retry expire) (record { session = session; serial = serial; moment = r.now; intervals = bounded refresh retry expire }) r (session == a.session)
+    ended_free a (EndOfData session serial refresh retry expire) (record { version = r.spoken; session = session; serial = serial; moment = r.now; intervals = bounded refresh retry expire }) r (session == a.session)
 unit_free (Answering a) (EndOfData0 session serial) r h =
-    ended_free a (EndOfData0 session serial) (record { session = session; serial = serial; moment = r.now; intervals = default_intervals }) r (session == a.session)
+    ended_free a (EndOfData0 session serial) (record { version = r.spoken; session = session; serial = serial; moment = r.now; intervals = default_intervals }) r (session == a.session)
 unit_free (Answering a) (ErrorReport e) r h = told_free a.question e.code r
 unit_free (Answering a) (SerialQuery session serial) r h = tt
 unit_free (Answering a) ResetQuery r h = tt
@@ -117,7 +116,7 @@ byte_free bytes r (Whole u) h = by_memory (may_lack r.link u r)
     by_memory false = unit_free r.link u (record r { held = [] }) h
 byte_free bytes r (Faulty fault) h = by_type (type_of bytes == 10)
   where
-    by_type : (b : Bool) → NotByMemory (if b then ends.Malformed else ends.Reported (fault_code (agreed_version r.agreed V1) fault))
+    by_type : (b : Bool) → NotByMemory (if b then ends.Malformed else ends.Reported (fault_code (agreed_version r.agreed r.spoken) fault))
     by_type true = tt
     by_type false = tt
 
@@ -134,7 +133,7 @@ goes_byte : (b : ℕ) (rest : List ℕ) (m : Receiving) → router_stops m.route
 unfolding router_byte
 goes_byte b rest m on g =
     let bytes : List ℕ = m.router.held ++ b ∷ [] in
-    let j : Judgement = judge V1 (not m.router.agreed) (m.router.held ++ b ∷ []) in
+    let j : Judgement = judge m.router.spoken (not m.router.agreed) (m.router.held ++ b ∷ []) in
     record {
       free = subst (λ x. Free (with_bytes (finds_memory x) bytes m.router j).router.link) (sym g.none) (byte_free bytes m.router j g.free);
       none = ap (counted j) g.none ∙ none_counted j;
@@ -203,8 +202,9 @@ gets_spared w most wanting s none h =
     record { free = n.free; endings = n.endings }
 
 step_spared : (w : World) (r : ℕ) (event : SideEvent) (wanting : Option ℕ) (s : Side) → NamesNone (On r event) (Done wanting) → Spared s → Spared (side_step w event wanting s)
-unfolding side_step connects connects_at router_restarts router_sends router_pulled cache_sends cache_gets cut ticks_at asks
+unfolding side_step speaks connects connects_at router_restarts router_sends router_pulled cache_sends cache_gets cut ticks_at asks
 step_spared w r RouterRestart wanting s none h = record { free = tt; endings = h.endings }
+step_spared w r (Speak version) wanting s none h = record { free = h.free; endings = h.endings }
 step_spared w r Connect wanting s none h = let n = noted_spared (instances w) (connects_at s.router.now s.router) s tt h in record { free = n.free; endings = n.endings }
 step_spared w r (RouterSends most) wanting s none h = record { free = h.free; endings = h.endings }
 step_spared w r (CacheGets most) wanting s none h = gets_keep Spared blind_spared w most wanting s s.conn h
@@ -224,6 +224,7 @@ part_spared w r (CacheGets most) bytes wanting s none h = gets_keep Spared blind
 part_spared w r (CacheSends most) bytes wanting s none h = sends_keep Spared blind_spared w.keep bytes s s.conn h
 part_spared w r (RouterGets most) bytes wanting s none h = gets_spared w bytes wanting s none h
 part_spared w r RouterRestart bytes wanting s none h = h
+part_spared w r (Speak version) bytes wanting s none h = h
 part_spared w r Connect bytes wanting s none h = h
 part_spared w r (Cut left) bytes wanting s none h = h
 part_spared w r NotifyRouter bytes wanting s none h = h
@@ -255,13 +256,13 @@ settled_spared w h = all_map Spared Spared (settle (instances w)) w.sides (λ s 
 through_spared : (event : Event) (wanting : Option ℕ) (w : World) → NamesNone event (Done wanting) → AllSpared w → AllSpared (goes_through event wanting w)
 unfolding goes_through
 through_spared (Publish set) wanting w none h = h
-through_spared (Restart session start) wanting w none h = all_map Spared Spared cache_gone w.sides (λ s x. record { free = x.free; endings = x.endings }) h
+through_spared (Restart session session0 start) wanting w none h = all_map Spared Spared cache_gone w.sides (λ s x. record { free = x.free; endings = x.endings }) h
 through_spared (On r event) wanting w none h = all_on_side Spared Spared r (side_step w event wanting) w.sides (λ s x. x) (λ s x. step_spared w r event wanting s none x) h
 
 refused_all : (event : Event) (bytes : ℕ) (wanting : Option ℕ) (w : World) → NamesNone event (Memory bytes wanting) → AllSpared w → AllSpared (is_refused event bytes wanting w)
 unfolding is_refused
 refused_all (Publish set) bytes wanting w none h = h
-refused_all (Restart session start) bytes wanting w none h = h
+refused_all (Restart session session0 start) bytes wanting w none h = h
 refused_all (On r event) bytes wanting w none h =
     settled_spared (record w { sides = on_side r (side_refused w event bytes wanting) w.sides })
     (all_on_side Spared Spared r (side_refused w event bytes wanting) w.sides (λ s x. x) (λ s x. refused_spared w r event bytes wanting s none x) h)
@@ -279,7 +280,7 @@ from_old old (entry ∷ history) w leads none h = from_old leads.0 history w lea
 
 pub none_by_memory : NoneByMemory
 none_by_memory made history w leads none =
-    each w.sides (from_old (new_world made.routers made.session made.start made.keep) history w leads.1 none (all_new Spared (record { free = tt; endings = tt }) made.routers))
+    each w.sides (from_old (new_world made.routers made.session made.session0 made.start made.keep) history w leads.1 none (all_new Spared (record { free = tt; endings = tt }) made.routers))
   where
     each : (sides : List Side) → AllByRecursion Spared sides → AllByRecursion (λ (s : Side). AllByRecursion (λ (e : Ending). NotByMemory e.end) s.endings) sides
     each [] h = tt

@@ -7,8 +7,8 @@ use Rattle.vrps.proofs.SetLaws.{has-empty, listing-set_of, size-set_of}
 use Rattle.rtr_pdu.specs.Judging.{judge}
 use Rattle.rtr_pdu.specs.Stream.{as_read}
 use Rattle.rtr_pdu.specs.declared.unit.Unit.TheVariants.{CacheResponse, EndOfData, Prefix}
-use Rattle.rtr_pdu.specs.declared.version.Version.TheVariants.{V1}
-use Rattle.rtr_ends.specs.Answer.{sent_all}
+use Rattle.rtr_pdu.specs.declared.version.Version.TheVariants.{V0, V1}
+use Rattle.rtr_ends.specs.Answer.{sent_all, session_in}
 use Rattle.rtr_ends.specs.Cache.{Conn, new_conn, conn_takes, conn_byte, conn_pulled}
 use Rattle.rtr_ends.specs.Feeding.{FedPiece, feed}
 use Rattle.rtr_ends.specs.LinkRules.{Router, Staged, Stays, Wrong, Over, new_router, stage, staged, is_staged, on_unit}
@@ -26,9 +26,9 @@ use Rattle.rtr_world.specs.World.{Side, World, Publish, Restart, On, Connect, Ro
 abbrev just_v : VrpSet
 just_v = set_of (v ∷ [])
 
--- A world of one router, session 0x1234, first serial 5
+-- A world of one router, session 0x1234 in both versions of the protocol, first serial 5
 abbrev begun_world : World
-begun_world = new_world 1 0x1234 5 2
+begun_world = new_world 1 0x1234 0x1234 5 2
 
 abbrev world : Side → World
 world s = record { keep = 2; past = []; present = cache 5 (just_v ∷ []); sides = s ∷ [] }
@@ -51,7 +51,7 @@ open_side r o up down = record {
   up = up;
   down = down;
   home = Some with_v;
-  items = Asks AskReset ∷ Opened ∷ At 0 ∷ [];
+  items = Asks AskReset ∷ Opened V1 ∷ At 0 ∷ [];
   endings = [];
   places = [];
 }
@@ -134,7 +134,7 @@ first_51 =
 
 -- A side that read so far, and what is left on the wire
 abbrev read_side : Option Conn → List ℕ → Side
-read_side conn down = record (open_side third.router (replied []) [] down) { conn = conn; items = third.items ++ Asks AskReset ∷ Opened ∷ At 0 ∷ [] }
+read_side conn down = record (open_side third.router (replied []) [] down) { conn = conn; items = third.items ++ Asks AskReset ∷ Opened V1 ∷ At 0 ∷ [] }
 
 abbrev after_fed : List ℕ → FedPiece Receiving → World
 after_fed left f = settled (world (record (noted (with_v ∷ []) (of_received f) (open_side asking (replied []) [] answer_bytes)) { down = f.rest ++ left }))
@@ -148,7 +148,7 @@ abbrev told_router : Router
 told_router = record new_router { due = Some 600 }
 
 cut_off : after (On 0 (Cut 0)) (Done None) (world (read_side (Some (replied [])) (0x20 ∷ [])))
-    ≡ world (record new_side { router = told_router; items = Shut ∷ At 0 ∷ third.items ++ Asks AskReset ∷ Opened ∷ At 0 ∷ [] })
+    ≡ world (record new_side { router = told_router; items = Shut ∷ At 0 ∷ third.items ++ Asks AskReset ∷ Opened V1 ∷ At 0 ∷ [] })
 unfolding goes_through settled settle side_step cut closed_at clocked
 cut_off = refl
 
@@ -159,7 +159,7 @@ cut_behind = refl
 
 -- That byte commits the answer, and the router is told that the connection is closed: it holds {v} under session 0x1234 and serial 5.
 abbrev version_5 : Committed
-version_5 = record { session = 0x1234; serial = 5; moment = 0; intervals = default_intervals }
+version_5 = record { version = V1; session = 0x1234; serial = 5; moment = 0; intervals = default_intervals }
 
 abbrev holds_v : Router
 holds_v = record new_router { table = just_v; version = Some version_5; due = Some 600 }
@@ -171,7 +171,7 @@ abbrev end_of_v : Item
 end_of_v = Reads (EndOfData 0x1234 5 3600 600 7200)
 
 abbrev told_items : List Item
-told_items = third.items ++ Asks AskReset ∷ Opened ∷ At 0 ∷ []
+told_items = third.items ++ Asks AskReset ∷ Opened V1 ∷ At 0 ∷ []
 
 -- whether the record acts once, and the place that is noted then
 abbrev acts : Bool
@@ -211,7 +211,7 @@ later_world sets s = record { keep = 2; past = with_v ∷ []; present = later se
 abbrev left_side : Side
 left_side = record (open_side asking (replied []) [] answer_bytes) { conn = None }
 
-restarted : after (Restart 0x2222 9) (Done None) (world (open_side asking (replied []) [] answer_bytes)) ≡ later_world [] left_side
+restarted : after (Restart 0x2222 0x2222 9) (Done None) (world (open_side asking (replied []) [] answer_bytes)) ≡ later_world [] left_side
 unfolding goes_through settled settle
 restarted = refl
 
@@ -240,11 +240,11 @@ late_answer =
     ap after_late all_52
     ∙ (λ i. settled (later_world (just_w ∷ []) (noted_by (later (just_w ∷ []) ∷ with_v ∷ []) (acts_so i) (led_from_empty (v ∷ []) i) (end_of_v ∷ told_items))))
 
-still_named : named (later (just_w ∷ []) ∷ with_v ∷ []) 0x1234 5 ≡ Some just_v
+still_named : named (session_in V1) (later (just_w ∷ []) ∷ with_v ∷ []) 0x1234 5 ≡ Some just_v
 still_named = refl
 
 -- Refusals: a session that is used, a router that is not there
-session_used : refusal (world new_side) (Restart 0x1234 1) ≡ Some SessionUsed
+session_used : refusal (world new_side) (Restart 0x1234 0x1234 1) ≡ Some SessionUsed
 unfolding refusal
 session_used = refl
 
@@ -252,8 +252,41 @@ no_router : refusal (world new_side) (On 1 Connect) ≡ Some NoSuchRouter
 unfolding refusal
 no_router = refl
 
+-- Each session is one of its version: that of version 0 was used, or the number was used in the other version only.
+abbrev apart : World
+apart = new_world 1 0x1234 0x4321 5 2
+
+session0_used : refusal apart (Restart 0x2222 0x4321 9) ≡ Some SessionUsed
+unfolding refusal
+session0_used = refl
+
+session1_used : refusal apart (Restart 0x1234 0x2222 9) ≡ Some SessionUsed
+unfolding refusal
+session1_used = refl
+
+not_used : refusal apart (Restart 0x4321 0x1234 9) ≡ None
+unfolding refusal
+not_used = refl
+
+abbrev before : Instance
+before = record { session = 0x1234; session0 = 0x4321; start = 5; sets = just_v ∷ [] }
+
+abbrev crossed : Instance
+crossed = record { session = 0x4321; session0 = 0x1234; start = 5; sets = [] }
+
+crosses : after (Restart 0x4321 0x1234 5) (Done None) (record apart { present = before }) ≡ record apart { past = before ∷ []; present = crossed }
+unfolding goes_through settled settle
+crosses = refl
+
+-- What it published stays named under its sessions, each in its version.
+named_before : (named (session_in V1) (crossed ∷ before ∷ []) 0x1234 5 ≡ Some just_v) × (named (session_in V0) (crossed ∷ before ∷ []) 0x4321 5 ≡ Some just_v)
+named_before = (refl, refl)
+
+not_crossed : (named (session_in V1) (crossed ∷ before ∷ []) 0x4321 5 ≡ None) × (named (session_in V0) (crossed ∷ before ∷ []) 0x1234 5 ≡ None)
+not_crossed = (refl, refl)
+
 -- The session of an instance that ended stays used; what is published then is the first version of the new one, the empty set too.
-used_before : refusal (later_world [] left_side) (Restart 0x1234 1) ≡ Some SessionUsed
+used_before : refusal (later_world [] left_side) (Restart 0x1234 0x1234 1) ≡ Some SessionUsed
 unfolding refusal
 used_before = refl
 
@@ -261,7 +294,7 @@ publishes_nothing : after (Publish empty) (Done None) (later_world [] left_side)
 unfolding goes_through settled settle
 publishes_nothing = refl
 
-names_nothing : named (later (empty ∷ []) ∷ with_v ∷ []) 0x2222 9 ≡ Some empty
+names_nothing : named (session_in V1) (later (empty ∷ []) ∷ with_v ∷ []) 0x2222 9 ≡ Some empty
 names_nothing = refl
 
 -- Memory can be wanting at a Serial Query, when its last byte is there, and at no unit after it.

@@ -12,6 +12,9 @@ use Rattle.vrps.specs.Store.{is_current, published}
 use Rattle.vrps.specs.VrpSet.{VrpSet}
 use Rattle.vrps.proofs.SetVersions.{published_is_instance}
 use Rattle.rtr_pdu.specs.declared.unit.Unit.{Unit}
+use Rattle.rtr_pdu.specs.declared.version.Version.{Version}
+use Rattle.rtr_pdu.specs.declared.version.Version.TheVariants.{V0, V1}
+use Rattle.rtr_ends.specs.Answer.{session_in}
 use Rattle.rtr_ends.specs.Cache.{Conn}
 use Rattle.rtr_ends.specs.Connection.{IsLater}
 use Rattle.rtr_ends.specs.LinkRules.{Router}
@@ -26,12 +29,12 @@ use Rattle.rtr_world.specs.World.{Side, SideEvent, World, instances, Event, Publ
 use Rattle.rtr_world.proofs.EventSteps.{step_good, refused_good, settle_good}
 use Rattle.rtr_world.proofs.Folding.{leads_keep}
 use Rattle.rtr_world.proofs.Invariant.{WasCache, OfAnswer, OneReply, Replies, no_data, not_kept, other_session, no_memory, response, Shape, IfOpen, Open, Flow, Good}
-use Rattle.rtr_world.proofs.Places.{ordered_published, ordered_restarted}
+use Rattle.rtr_world.proofs.Places.{IfSeen, IsHome, ordered_published, ordered_restarted}
 use Rattle.rtr_world.proofs.SideLaws.{all_new, all_on_side, all_map, all_both}
 use Rattle.rtr_world.proofs.SideSteps.{live_map}
-use Rattle.rtr_world.proofs.UnitStreams.{Stream}
+use Rattle.rtr_world.proofs.UnitStreams.{Stream, behind_early}
 use Rattle.rtr_world.proofs.KeptTables.{AllTell, SideTells, after_tells, new_side_tells, tables}
-use Rattle.rtr_world.proofs.Versions.{Stands, TableAt, Present, table_named, position_at, of_present, stands_published, stands_restarted, find_session, lt_of, some_is}
+use Rattle.rtr_world.proofs.Versions.{Stands, TableAt, Present, table_named, position_at, of_present, stands_published, stands_restarted, find_session, lt_of, same_session_in, some_is}
 use Rattle.rtr_world.proofs.LinkedSides.{Seen, IsSeen}
 use Rattle.rtr_world.proofs.ActingOnce.{each_once}
 use Rattle.prefixes.proofs.Basics.{eq_self, eq_of, eq_true, lt_true}
@@ -41,43 +44,47 @@ pub record GoodWorld (w : World) : Type 0 where
   pub sides : AllByRecursion (Good w.keep w.past w.present) w.sides
 
 -- An answer that stays one makes a shape that stays.
-abbrev StaysAnswer : List Instance → List Instance → Seen → Type 0
-StaysAnswer all all' h =
-    ((base : VrpSet) (a : Begun) (rest : List Unit) → OfAnswer all h base a rest → OfAnswer all' h base a rest)
+abbrev StaysAnswer : List Instance → List Instance → Version → Seen → Type 0
+StaysAnswer all all' pv h =
+    ((base : VrpSet) (a : Begun) (rest : List Unit) → OfAnswer all pv h base a rest → OfAnswer all' pv h base a rest)
     × ((cache : Instance) → WasCache all h cache → WasCache all' h cache)
 
-replies_map : (all all' : List Instance) (h : Seen) (q : Question) (base : VrpSet) (rest : List Unit) → StaysAnswer all all' h → Replies all h q base rest → Replies all' h q base rest
-replies_map all all' h q base rest stays (no_data copy a b) = no_data copy a b
-replies_map all all' h q base rest stays (not_kept serial a b) = not_kept serial a b
-replies_map all all' h q base rest stays (other_session session serial copy a differs b) = other_session session serial copy a differs b
-replies_map all all' h q base rest stays (no_memory a) = no_memory a
-replies_map all all' h q base rest stays (response tail a b c) = response tail a b (stays.0 base _ tail c)
+replies_map : (all all' : List Instance) (pv : Version) (h : Seen) (q : Question) (base : VrpSet) (rest : List Unit) → StaysAnswer all all' pv h → Replies all pv h q base rest → Replies all' pv h q base rest
+replies_map all all' pv h q base rest stays (no_data copy a b) = no_data copy a b
+replies_map all all' pv h q base rest stays (not_kept serial a b) = not_kept serial a b
+replies_map all all' pv h q base rest stays (other_session session serial copy a differs b) = other_session session serial copy a differs b
+replies_map all all' pv h q base rest stays (no_memory a) = no_memory a
+replies_map all all' pv h q base rest stays (response tail a b c) = response tail a b (stays.0 base _ tail c)
 
-one_map : (all all' : List Instance) (h : Seen) (q : Question) (units : List Unit) → StaysAnswer all all' h → OneReply all h q units → OneReply all' h q units
-one_map all all' h q units stays (inl a) = inl (record { cache = a.cache; was = stays.1 a.cache a.was; are = a.are })
-one_map all all' h q units stays (inr a) = inr (record { cache = a.0.cache; was = stays.1 a.0.cache a.0.was; takes = a.0.takes }, a.1)
+one_map : (all all' : List Instance) (pv : Version) (h : Seen) (q : Question) (units : List Unit) → StaysAnswer all all' pv h → OneReply all pv h q units → OneReply all' pv h q units
+one_map all all' pv h q units stays (inl a) = inl (record { cache = a.cache; was = stays.1 a.cache a.was; are = a.are })
+one_map all all' pv h q units stays (inr a) = inr (record { cache = a.0.cache; was = stays.1 a.0.cache a.0.was; takes = a.0.takes }, a.1)
 
-shape_map : (l : Link) (all all' : List Instance) (h : Seen) (agreed : Bool) (version : Option Committed) (table : VrpSet) (wanted rest : List Unit) → StaysAnswer all all' h → Shape all h l agreed version table wanted rest → Shape all' h l agreed version table wanted rest
-shape_map Closed all all' h agreed version table wanted rest stays s = tt
-shape_map (Ended end) all all' h agreed version table wanted rest stays s = tt
-shape_map Idle all all' h agreed version table wanted rest stays s = s
-shape_map (Asked q) all all' h agreed version table wanted rest stays s =
-    (s.0, elim (s.1) [ inl w ↦ inl w | inr w ↦ inr (w.0, replies_map all all' h q (base_of q table) rest stays w.1, one_map all all' h q rest stays w.2) ])
-shape_map (Answering a) all all' h agreed version table wanted rest stays s = (s.0, s.1, s.2, s.3, stays.0 (base_of a.question table) a rest s.4)
+shape_map : (l : Link) (all all' : List Instance) (pv : Version) (h : Seen) (agreed : Bool) (version : Option Committed) (table : VrpSet) (wanted rest : List Unit) → StaysAnswer all all' pv h → Shape all pv h l agreed version table wanted rest → Shape all' pv h l agreed version table wanted rest
+shape_map Closed all all' pv h agreed version table wanted rest stays s = tt
+shape_map (Ended end) all all' pv h agreed version table wanted rest stays s = tt
+shape_map Idle all all' pv h agreed version table wanted rest stays s = s
+shape_map (Asked q) all all' pv h agreed version table wanted rest stays s =
+    (s.0, elim (s.1) [ inl w ↦ inl w | inr w ↦ inr (w.0, replies_map all all' pv h q (base_of q table) rest stays w.1, one_map all all' pv h q rest stays w.2) ])
+shape_map (Answering a) all all' pv h agreed version table wanted rest stays s = (s.0, s.1, s.2, s.3, stays.0 (base_of a.question table) a rest s.4)
 
 -- a flow whose answer and connection stay
 flow_map : (all all' : List Instance) (i i' : Instance) (h : Seen) (r : Router) (conn conn' : Option Conn) (up up' down : List ℕ) (f : Flow all i h r conn up down) (lost : List ℕ) → conn_due conn ++ f.lost ≡ conn_due conn' ++ lost
-    → IfOpen conn' (Open i' h r.out up' f.wanted lost) → StaysAnswer all all' h → Flow all' i' h r conn' up' down
+    → IfOpen conn' (Open i' r.spoken h r.out up' f.wanted f.coming r.agreed lost) → StaysAnswer all all' r.spoken h → Flow all' i' h r conn' up' down
 flow_map all all' i i' h r conn conn' up up' down f lost bytes opens stays = record {
+  version = f.version;
+  early = f.early;
   coming = f.coming;
   lost = lost;
   wanted = f.wanted;
-  downward = subst (λ x. Stream r.held (down ++ x) f.coming) bytes f.downward;
+  downward = subst (λ x. Stream r.held (down ++ x) (behind_early r.spoken f.early f.coming)) bytes f.downward;
   open_at = opens;
+  are_early = f.are_early;
+  early_notifies = f.early_notifies;
   notifies = f.notifies;
   own = f.own;
   mine = f.mine;
-  shape = shape_map r.link all all' h r.agreed r.version r.table f.wanted (without_notifies f.coming) stays f.shape;
+  shape = shape_map r.link all all' r.spoken h r.agreed r.version r.table f.wanted (without_notifies f.coming) stays f.shape;
 }
 
 -- A set is published
@@ -86,9 +93,9 @@ module _ (keep : ℕ) (past : List Instance) (i : Instance) (y : VrpSet) (p : Pr
   next = record i { sets = y ∷ i.sets }
 
   -- room after a version that stands
-  room_of : (session serial : ℕ) (set : VrpSet) (a : Stands (i ∷ past) session serial set) (least : ℕ) → least ≤ length a.older → (i.session ≡ session → nat_lt (length i.sets - least) (2 ^ 31) ≡ true) → i.session ≡ session → length a.newer + 1 < 2 ^ 31
-  room_of session serial set a least low test e =
-      let found = of_present (i ∷ past) i p session serial set a (sym e) in
+  room_of : (pv : Version) (session serial : ℕ) (set : VrpSet) (a : Stands (i ∷ past) pv session serial set) (least : ℕ) → least ≤ length a.older → (session_in pv i ≡ session → nat_lt (length i.sets - least) (2 ^ 31) ≡ true) → session_in pv i ≡ session → length a.newer + 1 < 2 ^ 31
+  room_of pv session serial set a least low test e =
+      let found = of_present (i ∷ past) i p pv session serial set a (sym e) in
       let few = lt_of (length i.sets - least) 2147483648 (test e) in
       let count : length i.sets ≡ length a.newer + (length a.older + 1) = ap (λ x. length x.sets) (sym found) ∙ ap length a.sets ∙ length-append a.newer (set ∷ a.older) ∙ more (length a.newer) (length a.older) in
       omega (arith, few, count, low)
@@ -96,24 +103,25 @@ module _ (keep : ℕ) (past : List Instance) (i : Instance) (y : VrpSet) (p : Pr
       more : (n m : ℕ) → n + suc m ≡ n + (m + 1)
       more n m = omega arith
 
-  pub room_after : (version : Committed) (table : VrpSet) (t : Stands (i ∷ past) version.session version.serial table) → room_for i (Some version) ≡ true → i.session ≡ version.session → length t.newer + 1 < 2 ^ 31
-  room_after version table t room = room_of version.session version.serial table t (length t.older) (omega arith) test
+  pub room_after : (version : Committed) (table : VrpSet) (t : Stands (i ∷ past) version.version version.session version.serial table) → room_for i (Some version) ≡ true → session_in version.version i ≡ version.session → length t.newer + 1 < 2 ^ 31
+  room_after version table t room = room_of version.version version.session version.serial table t (length t.older) (omega arith) test
     where
-      test : i.session ≡ version.session → nat_lt (length i.sets - length t.older) (2 ^ 31) ≡ true
+      test : session_in version.version i ≡ version.session → nat_lt (length i.sets - length t.older) (2 ^ 31) ≡ true
       test e =
-          let found = of_present (i ∷ past) i p version.session version.serial table t (sym e) in
-          let place : position_of version.serial (versions i) ≡ Some (length t.older) = ap (λ x. position_of version.serial (versions x)) (sym found) ∙ position_at (i ∷ past) version.session version.serial table t in
-          ap (is_near i) (sym place) ∙ sym (ap (λ b. if b then is_near i (position_of version.serial (versions i)) else true) (eq_true i.session version.session e)) ∙ room
+          let found = of_present (i ∷ past) i p version.version version.session version.serial table t (sym e) in
+          let place : position_of version.serial (versions i) ≡ Some (length t.older) = ap (λ x. position_of version.serial (versions x)) (sym found) ∙ position_at (i ∷ past) version.version version.session version.serial table t in
+          ap (is_near i) (sym place) ∙ sym (ap (λ b. if b then is_near i (position_of version.serial (versions i)) else true) (eq_true (session_in version.version i) version.session e)) ∙ room
 
   table_published : (version : Option Committed) (table : VrpSet) → room_for i version ≡ true → TableAt (i ∷ past) version table → TableAt (next ∷ past) version table
   table_published None table room t = t
-  table_published (Some version) table room t = (stands_published past i y version.session version.serial table t (room_after version table t room)).0
+  table_published (Some version) table room t = (stands_published past i y version.version version.session version.serial table t (room_after version table t room)).0
 
   -- room after what was seen
-  room_seen : (home : Option Instance) (h : Seen) → IsSeen keep home (Some h) → room_since i home ≡ true → i.session ≡ h.session → nat_lt (length i.sets - (length h.sets - 1)) (2 ^ 31) ≡ true
-  room_seen None h seen room e = absurd seen
-  room_seen (Some home) h seen room e =
-      let test : nat_lt (length i.sets - (length home.sets - 1)) (2 ^ 31) ≡ true = sym (ap (λ b. if b then is_near i (Some (length home.sets - 1)) else true) (eq_true i.session home.session (e ∙ seen.2))) ∙ room in
+  room_seen : (home : Option Instance) (h : Seen) (pv : Version) → IsSeen keep home (Some h) → h.version ≡ pv → IsHome i h → room_since i home ≡ true → session_in pv i ≡ h.session → nat_lt (length i.sets - (length h.sets - 1)) (2 ^ 31) ≡ true
+  room_seen None h pv seen of at_home room e = absurd seen
+  room_seen (Some home) h pv seen of at_home room e =
+      let same : i.session ≡ home.session = at_home (ap (λ v. session_in v i) of ∙ e) ∙ ap (λ x. x.session) seen.0 in
+      let test : nat_lt (length i.sets - (length home.sets - 1)) (2 ^ 31) ≡ true = sym (ap (λ b. if b then is_near i (Some (length home.sets - 1)) else true) (eq_true i.session home.session same)) ∙ room in
       let few = lt_of (length i.sets - (length home.sets - 1)) 2147483648 test in
       let more = seen.3 in
       lt_true (length i.sets - (length h.sets - 1)) 2147483648 (omega (arith, few, more))
@@ -121,32 +129,32 @@ module _ (keep : ℕ) (past : List Instance) (i : Instance) (y : VrpSet) (p : Pr
   was_published : (h : Seen) (cache : Instance) → WasCache (i ∷ past) h cache → WasCache (next ∷ past) h cache
   was_published h cache f = by_session (i.session == h.made.session) refl f.found
     where
-      by_session : (b : Bool) → (i.session == h.made.session) ≡ b → (if b then Some i else find_session h.made.session past) ≡ Some f.latest → WasCache (next ∷ past) h cache
+      by_session : (b : Bool) → (i.session == h.made.session) ≡ b → (if b then Some i else find_session V1 h.made.session past) ≡ Some f.latest → WasCache (next ∷ past) h cache
       by_session true e g =
           let same : i ≡ f.latest = some_is i f.latest g in
           let u : IsLater cache i = subst (λ x. IsLater cache x) (sym same) f.until in
           record {
             since = f.since;
             latest = next;
-            found = ap (λ b. if b then Some next else find_session h.made.session past) e;
+            found = ap (λ b. if b then Some next else find_session V1 h.made.session past) e;
             until = record { session = u.session; session0 = u.session0; start = u.start; more = y ∷ u.more; sets = ap (λ x. y ∷ x) u.sets };
           }
       by_session false e g = record {
         since = f.since;
         latest = f.latest;
-        found = ap (λ b. if b then Some next else find_session h.made.session past) e ∙ g;
+        found = ap (λ b. if b then Some next else find_session V1 h.made.session past) e ∙ g;
         until = f.until;
       }
 
-  answer_published : (h : Seen) → (i.session ≡ h.session → nat_lt (length i.sets - (length h.sets - 1)) (2 ^ 31) ≡ true) → (base : VrpSet) (a : Begun) (rest : List Unit) → OfAnswer (i ∷ past) h base a rest → OfAnswer (next ∷ past) h base a rest
-  answer_published h test base a rest o =
+  answer_published : (pv : Version) (h : Seen) → (session_in pv i ≡ h.session → nat_lt (length i.sets - (length h.sets - 1)) (2 ^ 31) ≡ true) → (base : VrpSet) (a : Begun) (rest : List Unit) → OfAnswer (i ∷ past) pv h base a rest → OfAnswer (next ∷ past) pv h base a rest
+  answer_published pv h test base a rest o =
       let low : length h.sets - 1 ≤ length o.stands.older = (let s = o.since in omega (arith, s)) in
-      let s = stands_published past i y h.session o.serial o.set o.stands (room_of h.session o.serial o.set o.stands (length h.sets - 1) low test) in
+      let s = stands_published past i y pv h.session o.serial o.set o.stands (room_of pv h.session o.serial o.set o.stands (length h.sets - 1) low test) in
       record { serial = o.serial; set = o.set; stands = s.0; leads = o.leads; since = subst (λ x. length h.sets ≤ length x + 1) (sym s.1) o.since; from = record { cache = o.from.cache; was = was_published h o.from.cache o.from.was; are = o.from.are }; ends = o.ends; commits = o.commits; order = o.order }
 
-  open_published : (h : Seen) (out up : List ℕ) (wanted : List Unit) (lost : List ℕ) (conn : Option Conn) → IfOpen conn (Open i h out up wanted lost) → IfOpen conn (Open next h out up wanted lost)
-  open_published h out up wanted lost None op = tt
-  open_published h out up wanted lost (Some o) op = record { upward = op.upward; spoken = op.spoken; whole = op.whole; session = op.session; made = (let m = op.made in omega (arith, m)); later = (let l = op.later in record { session = l.session; session0 = l.session0; start = l.start; more = y ∷ l.more; sets = ap (λ x. y ∷ x) l.sets }) }
+  open_published : (pv : Version) (h : Seen) (out up : List ℕ) (wanted coming : List Unit) (agreed : Bool) (lost : List ℕ) (conn : Option Conn) → IfOpen conn (Open i pv h out up wanted coming agreed lost) → IfOpen conn (Open next pv h out up wanted coming agreed lost)
+  open_published pv h out up wanted coming agreed lost None op = tt
+  open_published pv h out up wanted coming agreed lost (Some o) op = record { upward = op.upward; spoken = op.spoken; unheard = op.unheard; whole = op.whole; session = op.session ∙ sym (same_session_in pv i (y ∷ i.sets)); made = (let m = op.made in omega (arith, m)); later = (let l = op.later in record { session = l.session; session0 = l.session0; start = l.start; more = y ∷ l.more; sets = ap (λ x. y ∷ x) l.sets }) }
 
   side_published : (s : Side) → (room_for i s.router.version && room_since i s.home) ≡ true → Good keep past i s → Good keep past next s
   side_published s room g =
@@ -161,8 +169,8 @@ module _ (keep : ℕ) (past : List Instance) (i : Instance) (y : VrpSet) (p : Pr
           link = live_map s.router.link (i ∷ past) (next ∷ past) i next g.seen g.seen s.router s.router s.conn s.conn s.up s.up s.down s.down (λ x. x) (λ x. x) refl refl g.router.link (λ l. (
             l.0,
             l.1,
-            flow_map (i ∷ past) (next ∷ past) i next l.0 s.router s.conn s.conn s.up s.up s.down l.2 l.2.lost refl (open_published l.0 s.router.out s.up l.2.wanted l.2.lost s.conn l.2.open_at)
-                (answer_published l.0 (room_seen s.home l.0 (subst (λ x. IsSeen keep s.home x) l.1 g.is_seen) parts.1), was_published l.0),
+            flow_map (i ∷ past) (next ∷ past) i next l.0 s.router s.conn s.conn s.up s.up s.down l.2 l.2.lost refl (open_published s.router.spoken l.0 s.router.out s.up l.2.wanted l.2.coming s.router.agreed l.2.lost s.conn l.2.open_at)
+                (answer_published s.router.spoken l.0 (room_seen s.home l.0 s.router.spoken (subst (λ x. IsSeen keep s.home x) l.1 g.is_seen) l.2.version (subst (λ x. IfSeen x (IsHome i)) l.1 g.order.at_home) parts.1), was_published l.0),
           ));
         };
       }
@@ -173,24 +181,24 @@ module _ (keep : ℕ) (past : List Instance) (i : Instance) (y : VrpSet) (p : Pr
       let parts = and_parts (room_for i s.router.version && room_since i s.home) (all_have_room i sides) room in
       (side_published s parts.0 g.0, sides_published sides parts.1 g.1)
 
--- The cache restarts under a session that no instance has
-module _ (keep : ℕ) (past : List Instance) (old i : Instance) (new : find_session i.session (old ∷ past) ≡ None) where
+-- The cache restarts under sessions that no instance has
+module _ (keep : ℕ) (past : List Instance) (old i : Instance) (new : (pv : Version) → find_session pv (session_in pv i) (old ∷ past) ≡ None) where
   table_restarted : (version : Option Committed) (table : VrpSet) → TableAt (old ∷ past) version table → TableAt (i ∷ (old ∷ past)) version table
   table_restarted None table t = t
-  table_restarted (Some version) table t = (stands_restarted (old ∷ past) i version.session version.serial table new t).0
+  table_restarted (Some version) table t = (stands_restarted (old ∷ past) i version.version version.session version.serial table (new version.version) t).0
 
   was_restarted : (h : Seen) (cache : Instance) → WasCache (old ∷ past) h cache → WasCache (i ∷ (old ∷ past)) h cache
   was_restarted h cache f = record { since = f.since; latest = f.latest; found = by_session (i.session == h.made.session) refl; until = f.until }
     where
-      by_session : (b : Bool) → (i.session == h.made.session) ≡ b → find_session h.made.session (i ∷ (old ∷ past)) ≡ Some f.latest
+      by_session : (b : Bool) → (i.session == h.made.session) ≡ b → find_session V1 h.made.session (i ∷ (old ∷ past)) ≡ Some f.latest
       by_session true e =
-          let none : find_session h.made.session (old ∷ past) ≡ None = subst (λ s. find_session s (old ∷ past) ≡ None) (eq_of i.session h.made.session e) new in
+          let none : find_session V1 h.made.session (old ∷ past) ≡ None = subst (λ s. find_session V1 s (old ∷ past) ≡ None) (eq_of i.session h.made.session e) (new V1) in
           absurd (let k : ◌≡◌ {A = Option Instance} None (Some f.latest) = sym none ∙ f.found in cc)
-      by_session false e = ap (λ b. if b then Some i else find_session h.made.session (old ∷ past)) e ∙ f.found
+      by_session false e = ap (λ b. if b then Some i else find_session V1 h.made.session (old ∷ past)) e ∙ f.found
 
-  answer_restarted : (h : Seen) (base : VrpSet) (a : Begun) (rest : List Unit) → OfAnswer (old ∷ past) h base a rest → OfAnswer (i ∷ (old ∷ past)) h base a rest
-  answer_restarted h base a rest o =
-      let s = stands_restarted (old ∷ past) i h.session o.serial o.set new o.stands in
+  answer_restarted : (pv : Version) (h : Seen) (base : VrpSet) (a : Begun) (rest : List Unit) → OfAnswer (old ∷ past) pv h base a rest → OfAnswer (i ∷ (old ∷ past)) pv h base a rest
+  answer_restarted pv h base a rest o =
+      let s = stands_restarted (old ∷ past) i pv h.session o.serial o.set (new pv) o.stands in
       record { serial = o.serial; set = o.set; stands = s.0; leads = o.leads; since = subst (λ x. length h.sets ≤ length x + 1) (sym s.1) o.since; from = record { cache = o.from.cache; was = was_restarted h o.from.cache o.from.was; are = o.from.are }; ends = o.ends; commits = o.commits; order = o.order }
 
   side_restarted : (s : Side) → Good keep past old s → Good keep (old ∷ past) i (cache_gone s)
@@ -204,7 +212,7 @@ module _ (keep : ℕ) (past : List Instance) (old i : Instance) (new : find_sess
       link = live_map s.router.link (old ∷ past) (i ∷ (old ∷ past)) old i g.seen g.seen s.router s.router s.conn None s.up [] s.down s.down (λ x. x) (λ x. x) refl refl g.router.link (λ l. (
         l.0,
         l.1,
-        flow_map (old ∷ past) (i ∷ (old ∷ past)) old i l.0 s.router s.conn None s.up [] s.down l.2 (conn_due s.conn ++ l.2.lost) refl tt (answer_restarted l.0, was_restarted l.0),
+        flow_map (old ∷ past) (i ∷ (old ∷ past)) old i l.0 s.router s.conn None s.up [] s.down l.2 (conn_due s.conn ++ l.2.lost) refl tt (answer_restarted s.router.spoken l.0, was_restarted l.0),
       ));
     };
   }
@@ -223,13 +231,33 @@ pub published_so : (a : Bool) (w : World) (event : Event) (wanting : Option ℕ)
 published_so true w event wanting h = refl
 published_so false w event wanting h = absurd (let e : Done wanting ≡ TooManyVersions = h in cc)
 
-pub restarted_so : (a : Bool) (w : World) (event : Event) (wanting : Option ℕ) → MayEnd (if a then Some SessionUsed else None) w event (Done wanting) → a ≡ false
+restarted_so : (a : Bool) (w : World) (event : Event) (wanting : Option ℕ) → MayEnd (if a then Some SessionUsed else None) w event (Done wanting) → a ≡ false
 restarted_so true w event wanting h = absurd (let e : Done wanting ≡ SessionUsed = h in cc)
 restarted_so false w event wanting h = refl
 
-pub none_found : (o : Option Instance) → is_some o ≡ false → o ≡ None
+pub neither_so : (a b : Bool) → (a || b) ≡ false → (a ≡ false) × (b ≡ false)
+neither_so false false h = (refl, refl)
+neither_so true b h = absurd (let e : true ≡ false = h in cc)
+neither_so false true h = absurd (let e : true ≡ false = h in cc)
+
+none_found : (o : Option Instance) → is_some o ≡ false → o ≡ None
 none_found None h = refl
 none_found (Some i) h = absurd (let e : true ≡ false = h in cc)
+
+-- an instance that begins
+abbrev pub begun : ℕ → ℕ → ℕ → Instance
+begun session session0 start = record { session = session; session0 = session0; start = start; sets = [] }
+
+-- It goes through where no other has a session of it.
+pub unused_so : (session session0 start : ℕ) (wanting : Option ℕ) (w : World) → MayEnd (refusal w (Restart session session0 start)) w (Restart session session0 start) (Done wanting) → (pv : Version) → find_session pv (session_in pv (begun session session0 start)) (instances w) ≡ None
+unfolding refusal
+unused_so session session0 start wanting w may =
+    let unused = neither_so (is_used V1 (instances w) session) (is_used V0 (instances w) session0) (restarted_so (is_used V1 (instances w) session || is_used V0 (instances w) session0) w (Restart session session0 start) wanting may) in
+    by_version unused.0 unused.1
+  where
+    by_version : is_used V1 (instances w) session ≡ false → is_used V0 (instances w) session0 ≡ false → (pv : Version) → find_session pv (session_in pv (begun session session0 start)) (instances w) ≡ None
+    by_version one zero V0 = none_found (find_session V0 session0 (instances w)) zero
+    by_version one zero V1 = none_found (find_session V1 session (instances w)) one
 
 pub through_good : (event : Event) (wanting : Option ℕ) (w : World) → IsEvent event → MayEnd (refusal w event) w event (Done wanting) → GoodWorld w → AllTell w → GoodWorld (goes_through event wanting w)
 unfolding goes_through refusal
@@ -248,22 +276,19 @@ through_good (Publish set) wanting w fits may g t = by_current (is_current w.pre
         subst (λ b. GoodWorld (record w { present = if b then i else record i { sets = set ∷ i.sets } })) (sym e)
         (record {
           present = record {
-            found = ap (λ b. if b then Some (record i { sets = set ∷ i.sets }) else find_session i.session w.past) (eq_self i.session);
+            found = λ pv. ap (λ b. if b then Some (record i { sets = set ∷ i.sets }) else find_session pv (session_in pv (record i { sets = set ∷ i.sets })) w.past) (eq_self (session_in pv (record i { sets = set ∷ i.sets })));
             is = subst (λ b. IsInstance (if b then i else record i { sets = set ∷ i.sets })) e n;
           };
           sides = sides_published w.keep w.past i set g.present w.sides (or_cases (is_current i.sets set) (all_have_room i w.sides) free e) g.sides;
         })
-through_good (Restart session start) wanting w fits may g t =
-    let i : Instance = record { session = session; session0 = session; start = start; sets = [] } in
-    let unused = restarted_so (is_used (instances w) session) w (Restart session start) wanting may in
-    let new : find_session session (instances w) ≡ None = none_found (find_session session (instances w)) unused in
+through_good (Restart session session0 start) wanting w fits may g t =
+    let new = unused_so session session0 start wanting w may in
     record {
       present = record {
-        found = ap (λ b. if b then Some (record { session = session; session0 = session; start = start; sets = [] }) else find_session session (instances w)) (eq_self session);
-        is = record { session = fits.0; session0 = fits.0; start = fits.1; sets = tt; news = tt };
+        found = λ pv. ap (λ b. if b then Some (begun session session0 start) else find_session pv (session_in pv (begun session session0 start)) (instances w)) (eq_self (session_in pv (begun session session0 start)));
+        is = record { session = fits.0; session0 = fits.1; start = fits.2; sets = tt; news = tt };
       };
-      sides = all_map (Good w.keep w.past w.present) (Good w.keep (instances w) (record { session = session; session0 = session; start = start; sets = [] })) cache_gone w.sides
-          (side_restarted w.keep w.past w.present (record { session = session; session0 = session; start = start; sets = [] }) new) g.sides;
+      sides = all_map (Good w.keep w.past w.present) (Good w.keep (instances w) (begun session session0 start)) cache_gone w.sides (side_restarted w.keep w.past w.present (begun session session0 start) new) g.sides;
     }
 through_good (On r event) wanting w fits may g t =
     record {
@@ -283,7 +308,7 @@ part_so r event bytes wanting w g t = record {
 refused_so : (event : Event) (bytes : ℕ) (wanting : Option ℕ) (w : World) → GoodWorld w → AllTell w → GoodWorld (is_refused event bytes wanting w)
 unfolding is_refused
 refused_so (Publish set) bytes wanting w g t = g
-refused_so (Restart session start) bytes wanting w g t = g
+refused_so (Restart session session0 start) bytes wanting w g t = g
 refused_so (On r event) bytes wanting w g t = settled_good (record w { sides = on_side r (side_refused w event bytes wanting) w.sides }) (part_so r event bytes wanting w g t)
 
 pub after_good : (event : Event) (outcome : Outcome) (w : World) → IsEvent event → MayEnd (refusal w event) w event outcome → GoodWorld w → AllTell w → GoodWorld (after event outcome w)
@@ -297,21 +322,19 @@ pub history_good : (old : World) (history : List Entry) (w : World) → LeadsFro
 history_good old history w leads g t =
     (leads_keep (λ x. GoodWorld x × AllTell x) (λ event outcome x fits may h. (after_good event outcome x fits may h.0 h.1, after_tells event outcome x h.1)) old history w leads (g, t)).0
 
-pub new_good : (made : Made) → IsMade made → GoodWorld (new_world made.routers made.session made.start made.keep)
-new_good made is =
-    let i : Instance = record { session = made.session; session0 = made.session; start = made.start; sets = [] } in
-    record {
-      present = record {
-        found = ap (λ b. if b then Some (record { session = made.session; session0 = made.session; start = made.start; sets = [] }) else None) (eq_self made.session);
-        is = record { session = is.session; session0 = is.session; start = is.start; sets = tt; news = tt };
-      };
-      sides = all_new (Good made.keep [] (record { session = made.session; session0 = made.session; start = made.start; sets = [] })) (record { seen = None; is_seen = tt; order = record { never_back = tt; current = tt; at_seen = tt }; router = record { table = refl; unmarked = refl; link = (refl, refl, refl, refl) } }) made.routers;
-    }
+pub new_good : (made : Made) → IsMade made → GoodWorld (new_world made.routers made.session made.session0 made.start made.keep)
+new_good made is = record {
+  present = record {
+    found = λ pv. ap (λ b. if b then Some (begun made.session made.session0 made.start) else None) (eq_self (session_in pv (begun made.session made.session0 made.start)));
+    is = record { session = is.session; session0 = is.session0; start = is.start; sets = tt; news = tt };
+  };
+  sides = all_new (Good made.keep [] (begun made.session made.session0 made.start)) (record { seen = None; is_seen = tt; order = record { never_back = tt; current = tt; at_seen = tt; at_home = tt }; router = record { table = refl; unmarked = refl; link = (refl, refl, refl, refl) } }) made.routers;
+}
 
 -- The headline
 pub headline : Headline
 headline made history w leads =
-    named_all w.sides (history_good (new_world made.routers made.session made.start made.keep) history w leads.1 (new_good made leads.0) (all_new SideTells new_side_tells made.routers)).sides (tables made history w leads)
+    named_all w.sides (history_good (new_world made.routers made.session made.session0 made.start made.keep) history w leads.1 (new_good made leads.0) (all_new SideTells new_side_tells made.routers)).sides (tables made history w leads)
   where
     named_all : (sides : List Side) → AllByRecursion (Good w.keep w.past w.present) sides → AllByRecursion (λ s. IsKept s.router s.items) sides → AllByRecursion (λ s. IsNamed (instances w) (kept s.items).version s.router.table) sides
     named_all [] g k = tt
@@ -333,7 +356,7 @@ route_states made history w leads = each w.sides (headline made history w leads)
 -- No way back
 pub no_way_back : NoWayBack
 no_way_back made history w leads =
-    each w.sides (history_good (new_world made.routers made.session made.start made.keep) history w leads.1 (new_good made leads.0) (all_new SideTells new_side_tells made.routers)).sides
+    each w.sides (history_good (new_world made.routers made.session made.session0 made.start made.keep) history w leads.1 (new_good made leads.0) (all_new SideTells new_side_tells made.routers)).sides
   where
     each : (sides : List Side) → AllByRecursion (Good w.keep w.past w.present) sides → AllByRecursion (λ s. NeverBack s.places) sides
     each [] g = tt

@@ -3,9 +3,11 @@ use Rattle.std.specs.Prelude.{◌≡◌, ◌⊎◌, ℕ, ◌≤◌, ◌^◌, Lis
 use Rattle.std.specs.List.{AllByRecursion}
 use Rattle.vrps.specs.Instance.{Instance, NumberedSet, versions}
 use Rattle.vrps.specs.VrpSet.{VrpSet, empty}
+use Rattle.rtr_pdu.specs.declared.version.Version.{Version}
+use Rattle.rtr_ends.specs.Answer.{session_in}
 use Rattle.rtr_ends.specs.LinkRules.{Router}
 use Rattle.rtr_ends.specs.RouterLink.{Link, Closed, Idle, Asked, Ended}
-use Rattle.rtr_ends.specs.Transcript.{AskReset, Committed}
+use Rattle.rtr_ends.specs.Transcript.{AskReset, Committed, of_version}
 use Rattle.rtr_world.specs.Claims.{Always}
 use Rattle.rtr_world.specs.World.{Side, World, instances, SideEvent, Connect, RouterSends, CacheGets, CacheSends, RouterGets, Cut, Event, On, cache_gets, cache_sends, connects, router_gets, router_sends, settle}
 use Rattle.rtr_world.specs.History.{Done, Entry, Made, Leads, after, conn_due, side_at}
@@ -27,18 +29,21 @@ IsMoveOf r event = ⊥
 abbrev pub AreMoves : ℕ → List Entry → Type 0
 AreMoves r entries = AllByRecursion (λ e. IsMoveOf r e.event) entries
 
--- What is held is the newest of these versions of a session; where there is none, no session is held, and the table is empty.
-abbrev pub HoldsNewest : ℕ → List NumberedSet → Option Committed → VrpSet → Type 0
-HoldsNewest session [] version table = (version ≡ None) × (table ≡ empty)
-HoldsNewest session (now ∷ older) None table = ⊥
-HoldsNewest session (now ∷ older) (Some version) table = (version.session ≡ session) × (version.serial ≡ now.serial) × (table ≡ now.set)
+-- What is held is the newest of these published sets, of this version of the protocol and this session; where there is none, no session
+-- of this version is held, and where none is held at all the table is empty.
+abbrev pub HoldsNewest : Version → ℕ → List NumberedSet → Option Committed → VrpSet → Type 0
+HoldsNewest version session [] held table = (of_version version held ≡ None) × (held ≡ None → table ≡ empty)
+HoldsNewest version session (now ∷ older) None table = ⊥
+HoldsNewest version session (now ∷ older) (Some held) table =
+    (held.version ≡ version) × (held.session ≡ session) × (held.serial ≡ now.serial) × (table ≡ now.set)
 
--- The connection was made at this instance as it is; and where the link is idle, the router holds its newest version.
+-- The connection is of the version that the router speaks, and was made at this instance as it is; and where the link is idle, the router
+-- holds its newest version.
 abbrev pub IsFresh : Instance → Option Instance → Router → Link → Type 0
 IsFresh i home r Closed = ⊤
 IsFresh i home r (Ended end) = ⊤
-IsFresh i home r Idle = (home ≡ Some i) × HoldsNewest i.session (versions i) r.version r.table
-IsFresh i home r link = home ≡ Some i
+IsFresh i home r Idle = (r.spoken ≡ r.speaks) × (home ≡ Some i) × HoldsNewest r.spoken (session_in r.spoken i) (versions i) r.version r.table
+IsFresh i home r link = (r.spoken ≡ r.speaks) × (home ≡ Some i)
 
 -- So it is after a router connected and then nothing happened but moves of its own, whatever they were, and whatever memory was wanting.
 abbrev pub IdleIsCurrent : Type 0

@@ -3,8 +3,10 @@ use Rattle.std.specs.Prelude.{◌≡◌, ◌⊎◌, ℕ, ◌+◌, ◌-◌, ◌�
 use Rattle.std.specs.List.{AllByRecursion}
 use Rattle.vrps.specs.Instance.{NumberedSet, versions}
 use Rattle.vrps.specs.Stores.{newest}
+use Rattle.rtr_ends.specs.Answer.{session_in}
 use Rattle.rtr_ends.specs.RouterLink.{name_of}
 use Rattle.rtr_ends.specs.RouterLink.{Closed, Idle}
+use Rattle.rtr_ends.specs.Transcript.{of_version}
 use Rattle.rtr_world.specs.CatchUp.{AreMoves, IsQuiet, Rests, rounded}
 use Rattle.rtr_world.specs.History.{Outcome, Done, Entry, Made, side_at}
 use Rattle.rtr_world.specs.Reached.{LeadsTo}
@@ -116,7 +118,8 @@ IdleOrDropped old s = (s.router.link ≡ Idle) ⊎ (IsSome old.router.version ×
 abbrev pub IsIdle : Side → Side → Type 0
 IsIdle old s = s.router.link ≡ Idle
 
--- The router holds the present instance's newest version, on an open connection on which nothing is on its way.
+-- The router holds the present instance's newest version, on an open connection of the version that it speaks, on which nothing is on
+-- its way.
 pub record HoldsNow (r : ℕ) (w : World) : Type 0 where
   pub side : Side
   pub found : side_at r w.sides ≡ Some side
@@ -124,17 +127,19 @@ pub record HoldsNow (r : ℕ) (w : World) : Type 0 where
   pub quiet : IsQuiet side
   pub now : NumberedSet
   pub newest_is : newest (versions w.present) ≡ Some now
-  pub name : name_of side.router.version ≡ Some (w.present.session, now.serial)
+  pub spoken : side.router.spoken ≡ side.router.speaks
+  pub name : name_of side.router.version ≡ Some (side.router.speaks, session_in side.router.speaks w.present, now.serial)
   pub table : side.router.table ≡ now.set
 
--- Nothing is published, and the router holds no session, on such a connection.
+-- Nothing is published, and the router holds no session of the version that it speaks, on such a connection.
 pub record HoldsNothing (r : ℕ) (w : World) : Type 0 where
   pub side : Side
   pub found : side_at r w.sides ≡ Some side
   pub idle : side.router.link ≡ Idle
   pub quiet : IsQuiet side
   pub none : w.present.sets ≡ []
-  pub version : side.router.version ≡ None
+  pub spoken : side.router.spoken ≡ side.router.speaks
+  pub version : of_version side.router.speaks side.router.version ≡ None
 
 -- what became of it
 abbrev pub Caught : Result ⊤ CatchFault → ℕ → World → List Entry → Type 0

@@ -7,13 +7,15 @@ use Rattle.vrps.specs.Store.{is_current}
 use Rattle.vrps.specs.Origin.{HasState, state}
 use Rattle.vrps.specs.VrpSet.{VrpSet, empty}
 use Rattle.vrps.specs.declared.origin.OriginState.{OriginState}
+use Rattle.rtr_pdu.specs.declared.version.Version.{Version}
+use Rattle.rtr_ends.specs.Answer.{session_in}
 use Rattle.rtr_ends.specs.declared.link.End.{End}
 use Rattle.rtr_ends.specs.declared.link.End.TheVariants as ends
 use Rattle.rtr_ends.specs.LinkRules.{Router}
 use Rattle.rtr_ends.specs.Router.{RouterCall, played}
 use Rattle.rtr_ends.specs.RouterLaws.{IsKept}
 use Rattle.rtr_ends.specs.RouterLink.{Ended, is_reading}
-use Rattle.rtr_ends.specs.Transcript.{Begun, Item, Question, AskSerial, Committed, Refused, Restarts, base_of, is_commit, kept, outstanding, under_way}
+use Rattle.rtr_ends.specs.Transcript.{Begun, Item, Question, AskSerial, Committed, Refused, Restarts, base_of, is_commit, kept, outstanding, spoken, under_way}
 use Rattle.rtr_ends.specs.Commit.{Commits}
 use Rattle.rtr_world.specs.VersionPlaces.{NeverBack, VersionPlace, version_place_of}
 use Rattle.rtr_world.specs.World.{Side, World, Event, On, Publish, Ending, RouterGets, SideEvent, cache_gets, instances, settle, side_refused, side_step}
@@ -38,17 +40,17 @@ OneAnswerAlways = Always (λ w s. Between w s s.router.link)
 abbrev pub AnswersNow : Type 0
 AnswersNow = Always (λ w s.
     is_reading s.router.link ≡ true → (most : ℕ) (wanting : Option ℕ) →
-    (conn_due (cache_gets w most wanting s).conn ≡ conn_due s.conn) ⊎ IsOfNow w.present w.keep wanting s.router.link (conn_due (cache_gets w most wanting s).conn))
+    (conn_due (cache_gets w most wanting s).conn ≡ conn_due s.conn) ⊎ IsOfNow s.router.spoken w.present w.keep wanting s.router.link (conn_due (cache_gets w most wanting s).conn))
 
 -- The clean-up after an event leaves nothing to be done: once more, it changes nothing.
 abbrev pub Settles : Type 0
 Settles = Always (λ w s. settle (instances w) s ≡ s)
 
--- The headline: the table is empty where no session is held, else the set that was published under the session and the serial
--- of the version that was committed last, by the transcript.
+-- The headline: the table is empty where no session is held, else the set that was published under the version, the session and the
+-- serial of what was committed last, by the transcript.
 abbrev pub IsNamed : List Instance → Option Committed → VrpSet → Type 0
 IsNamed all None table = table ≡ empty
-IsNamed all (Some version) table = named all version.session version.serial ≡ Some table
+IsNamed all (Some held) table = named (session_in held.version) all held.session held.serial ≡ Some table
 
 abbrev pub Headline : Type 0
 Headline = Always (λ w s. IsNamed (instances w) (kept s.items).version s.router.table)
@@ -56,7 +58,7 @@ Headline = Always (λ w s. IsNamed (instances w) (kept s.items).version s.router
 -- What a router answers for a route is its state over that set, or over the empty one (RFC 6811 section 2).
 abbrev pub IsRouteJudged : List Instance → Option Committed → Route → OriginState → Type 0
 IsRouteJudged all None route answer = HasState empty route answer
-IsRouteJudged all (Some version) route answer = (set : VrpSet) × (named all version.session version.serial ≡ Some set) × HasState set route answer
+IsRouteJudged all (Some held) route answer = (set : VrpSet) × (named (session_in held.version) all held.session held.serial ≡ Some set) × HasState set route answer
 
 -- Each commit: from the table that was held, or from the empty one after a Reset Query, each announcement and each withdrawal of the
 -- answer acted, and acted once, and they led to the table that was held then.
@@ -106,34 +108,34 @@ PlacesNoted = Always (λ w s. HasPlaces (instances w) s.items s.places)
 
 -- A link ends by want of memory, by its expiry, by a report of code 1, or by one of code 0 to a Serial Query of another session than
 -- the cache's, and by nothing else.
-abbrev pub OfAnother : Option Question → Option Instance → Type 0
-OfAnother (Some (AskSerial session serial)) (Some home) = session ≡ home.session → ⊥
-OfAnother question home = ⊥
+abbrev pub OfAnother : Option Question → Version → Option Instance → Type 0
+OfAnother (Some (AskSerial session serial)) version (Some home) = session ≡ session_in version home → ⊥
+OfAnother question version home = ⊥
 
-abbrev pub IsLawfulEnd : End → Option Question → Option Instance → Type 0
-IsLawfulEnd ends.Memory question home = ⊤
-IsLawfulEnd ends.Expired question home = ⊤
-IsLawfulEnd (ends.Told (suc zero)) question home = ⊤
-IsLawfulEnd (ends.Told zero) question home = OfAnother question home
-IsLawfulEnd end question home = ⊥
+abbrev pub IsLawfulEnd : End → Option Question → Version → Option Instance → Type 0
+IsLawfulEnd ends.Memory question version home = ⊤
+IsLawfulEnd ends.Expired question version home = ⊤
+IsLawfulEnd (ends.Told (suc zero)) question version home = ⊤
+IsLawfulEnd (ends.Told zero) question version home = OfAnother question version home
+IsLawfulEnd end question version home = ⊥
 
 abbrev pub AreLawful : List Ending → Type 0
-AreLawful endings = AllByRecursion (λ (e : Ending). IsLawfulEnd e.end e.question e.home) endings
+AreLawful endings = AllByRecursion (λ (e : Ending). IsLawfulEnd e.end e.question e.version e.home) endings
 
 abbrev pub LawfulEnds : Type 0
 LawfulEnds = Always (λ w s. AreLawful s.endings)
 
--- A link that ends by an event is noted, with its question and the instance of its connection, before all ends that were noted.
+-- A link that ends by an event is noted, with its question and the version and the instance of its connection, before all ends that were noted.
 abbrev pub NotesEnd : World → SideEvent → Option ℕ → Side → Type 0
 NotesEnd w event wanting s =
     (end : End) → (side_step w event wanting s).router.link ≡ Ended end →
-    (side_step w event wanting s).endings ≡ record { end = end; question = outstanding (drop 1 (side_step w event wanting s).items); home = s.home } ∷ s.endings
+    (side_step w event wanting s).endings ≡ record { end = end; question = outstanding (drop 1 (side_step w event wanting s).items); version = spoken (side_step w event wanting s).items; home = s.home } ∷ s.endings
 
 -- So is one that ends by what came before the event is refused for want of memory; the refusal is the last item then.
 abbrev pub NotesRefused : World → SideEvent → ℕ → Option ℕ → Side → Type 0
 NotesRefused w event bytes wanting s =
     (end : End) → (side_refused w event bytes wanting s).router.link ≡ Ended end →
-    (side_refused w event bytes wanting s).endings ≡ record { end = end; question = outstanding (drop 2 (side_refused w event bytes wanting s).items); home = s.home } ∷ s.endings
+    (side_refused w event bytes wanting s).endings ≡ record { end = end; question = outstanding (drop 2 (side_refused w event bytes wanting s).items); version = spoken (side_refused w event bytes wanting s).items; home = s.home } ∷ s.endings
 
 pub record NotesEnds (w : World) (s : Side) : Type 0 where
   pub through : (event : SideEvent) (wanting : Option ℕ) → NotesEnd w event wanting s

@@ -24,6 +24,7 @@ catch_fault_number catch_faults.NoSuchRouter = 3
 
 abbrev pub side_event_of : SideEvent → model.SideEvent
 side_event_of side_events.RouterRestart = model.RouterRestart
+side_event_of (side_events.Speak version) = model.Speak version
 side_event_of side_events.Connect = model.Connect
 side_event_of (side_events.RouterSends most) = model.RouterSends most
 side_event_of (side_events.CacheGets most) = model.CacheGets most
@@ -36,7 +37,7 @@ side_event_of (side_events.Tick now) = model.Tick now
 
 abbrev pub event_of : Event → model.Event
 event_of (events.Publish set) = model.Publish set
-event_of (events.Restart session start) = model.Restart session start
+event_of (events.Restart session session0 start) = model.Restart session session0 start
 event_of (events.On router event) = model.On router (side_event_of event)
 
 -- the refusal that an outcome is

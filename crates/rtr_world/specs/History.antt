@@ -4,6 +4,9 @@ use Rattle.std.specs.List.{list_any}
 use Rattle.vrps.specs.Instance.{Instance, versions}
 use Rattle.vrps.specs.Store.{is_current}
 use Rattle.vrps.specs.VrpSet.{IsVrpSet}
+use Rattle.rtr_pdu.specs.declared.version.Version.{Version}
+use Rattle.rtr_pdu.specs.declared.version.Version.TheVariants.{V0, V1}
+use Rattle.rtr_ends.specs.Answer.{session_in}
 use Rattle.rtr_ends.specs.Cache.{Conn, conn_takes}
 use Rattle.rtr_ends.specs.Connection.{is_wanting}
 use Rattle.rtr_ends.specs.Router.{receives}
@@ -29,7 +32,7 @@ is_near i (Some position) = nat_lt (length i.sets - position) (2 ^ 31)
 
 abbrev pub room_for : Instance → Option Committed → Bool
 room_for i None = true
-room_for i (Some version) = if i.session == version.session then is_near i (position_of version.serial (versions i)) else true
+room_for i (Some held) = if session_in held.version i == held.session then is_near i (position_of held.serial (versions i)) else true
 
 -- and after the one that was current when a connection of this instance was made, or the first where there was none.
 abbrev pub room_since : Instance → Option Instance → Bool
@@ -40,13 +43,14 @@ abbrev pub all_have_room : Instance → List Side → Bool
 all_have_room i [] = true
 all_have_room i (s ∷ sides) = (room_for i s.router.version && room_since i s.home) && all_have_room i sides
 
-abbrev pub is_used : List Instance → ℕ → Bool
-is_used all session = is_some (find (λ i. i.session == session) all)
+-- An instance has this session in a version of the protocol.
+abbrev pub is_used : Version → List Instance → ℕ → Bool
+is_used version all session = is_some (find (λ i. session_in version i == session) all)
 
 -- the refusal for another cause than memory
 unfoldable pub refusal : World → Event → Option Outcome
 refusal w (Publish set) = if is_current w.present.sets set || all_have_room w.present w.sides then None else Some TooManyVersions
-refusal w (Restart session start) = if is_used (instances w) session then Some SessionUsed else None
+refusal w (Restart session session0 start) = if is_used V1 (instances w) session || is_used V0 (instances w) session0 then Some SessionUsed else None
 refusal w (On r event) = if nat_lt r (length w.sides) then None else Some NoSuchRouter
 
 abbrev pub side_at : ℕ → List Side → Option Side
@@ -71,7 +75,7 @@ may_refuse_at event (Some s) = false
 
 abbrev pub may_refuse : World → Event → Bool
 may_refuse w (Publish set) = true
-may_refuse w (Restart session start) = true
+may_refuse w (Restart session session0 start) = true
 may_refuse w (On r event) = may_refuse_at event (side_at r w.sides)
 
 -- the bytes that are due at the cache's side
@@ -134,7 +138,7 @@ after event outcome w = w
 -- the events that can be: what is published is a set within the limit, and a session and a serial have their bits
 abbrev pub IsEvent : Event → Type 0
 IsEvent (Publish set) = IsVrpSet set
-IsEvent (Restart session start) = (session < 2 ^ 16) × (start < 2 ^ 32)
+IsEvent (Restart session session0 start) = (session < 2 ^ 16) × (session0 < 2 ^ 16) × (start < 2 ^ 32)
 IsEvent (On r event) = ⊤
 
 -- One step of the world
@@ -154,15 +158,17 @@ LeadsFrom old (entry ∷ history) new = (next : World) × WorldStep old entry.ev
 pub record Made : Type 0 where
   pub routers : ℕ
   pub session : ℕ
+  pub session0 : ℕ
   pub start : ℕ
   pub keep : ℕ
 
 pub record IsMade (made : Made) : Type 0 where
   pub session : made.session < 2 ^ 16
+  pub session0 : made.session0 < 2 ^ 16
   pub start : made.start < 2 ^ 32
 
 abbrev pub Leads : Made → List Entry → World → Type 0
-Leads made history w = IsMade made × LeadsFrom (new_world made.routers made.session made.start made.keep) history w
+Leads made history w = IsMade made × LeadsFrom (new_world made.routers made.session made.session0 made.start made.keep) history w
 
 -- a world to which some history leads: only so do its serials name its versions
 pub record Reached (w : World) : Type 0 where

@@ -1,17 +1,18 @@
 -- What is on its way to a router is at most one answer (RFC 8210 sections 5 and 8).
-use Rattle.std.specs.Prelude.{◌≡◌, ◌⊎◌, ℕ, ◌==◌, true, false, List, [], ◌∷◌, ◌++◌, find, Option, Some, None, IsSome, ⊤}
+use Rattle.std.specs.Prelude.{◌≡◌, ◌⊎◌, ℕ, ◌==◌, Bool, true, false, List, [], ◌∷◌, ◌++◌, find, Option, Some, None, IsSome, ⊤}
 use Rattle.prefixes.specs.Payload.{Payload}
 use Rattle.vrps.specs.Instance.{Instance, named}
 use Rattle.vrps.specs.VrpSet.{VrpSet}
 use Rattle.rtr_pdu.specs.Code.{INTERNAL_ERROR}
 use Rattle.rtr_pdu.specs.declared.unit.Unit.{Unit}
-use Rattle.rtr_pdu.specs.declared.unit.Unit.TheVariants.{SerialNotify, CacheResponse, Prefix, EndOfData, RouterKey}
+use Rattle.rtr_pdu.specs.declared.unit.Unit.TheVariants.{SerialNotify, CacheResponse, Prefix, EndOfData, EndOfData0, RouterKey}
+use Rattle.rtr_pdu.specs.declared.version.Version.{Version}
 use Rattle.rtr_pdu.specs.declared.version.Version.TheVariants.{V1}
-use Rattle.rtr_ends.specs.Answer.{answer, report, sent, sent_all}
+use Rattle.rtr_ends.specs.Answer.{answer, report, sent, sent_all, session_in}
 use Rattle.rtr_ends.specs.Commit.{Commits}
-use Rattle.rtr_ends.specs.Connection.{IsLater, takes_memory}
+use Rattle.rtr_ends.specs.Connection.{IsLater, Sent, bytes_sent, in_version, takes_memory}
 use Rattle.rtr_ends.specs.RouterLink.{Link, Closed, Idle, Asked, Answering, Ended}
-use Rattle.rtr_ends.specs.Transcript.{Question, AskReset, AskSerial, query, Item, At, Reads, Committed, base_of, under_way}
+use Rattle.rtr_ends.specs.Transcript.{Question, AskReset, AskSerial, query, Item, At, Reads, Committed, base_of, of_version, under_way}
 use Rattle.rtr_world.specs.World.{Side, World, instances, timing}
 use Rattle.rtr_world.specs.History.{conn_due}
 
@@ -28,10 +29,10 @@ NotifiesOf one (SerialNotify session serial ∷ units) = (session ≡ one) × No
 NotifiesOf one (unit ∷ units) = NotifiesOf one units
 
 -- These bytes are a beginning of the first unit, and not all of it.
-abbrev pub IsPart : List ℕ → List Unit → Type 0
+abbrev pub IsPart : List ℕ → List Sent → Type 0
 IsPart [] units = ⊤
 IsPart (b ∷ held) [] = ⊥
-IsPart (b ∷ held) (unit ∷ units) = (next : ℕ) × (rest : List ℕ) × ((b ∷ held) ++ next ∷ rest ≡ sent V1 unit)
+IsPart (b ∷ held) (first ∷ units) = (next : ℕ) × (rest : List ℕ) × ((b ∷ held) ++ next ∷ rest ≡ sent first.version first.unit)
 
 -- the units of the answer that were read so far, the first one first
 abbrev pub answered : List Item → List Unit
@@ -51,20 +52,20 @@ pub record WasSo (w : World) (home cache : Instance) : Type 0 where
   pub until : IsLater cache latest
 
 -- These units are its answer then,
-pub record IsAnswer (w : World) (home : Instance) (question : Question) (units : List Unit) : Type 0 where
+pub record IsAnswer (w : World) (version : Version) (home : Instance) (question : Question) (units : List Unit) : Type 0 where
   pub cache : Instance
   pub was : WasSo w home cache
-  pub are : units ≡ (answer V1 cache w.keep timing (query question)).units
+  pub are : units ≡ (answer version cache w.keep timing (query question)).units
 
 -- or Error Report 1 in the place of one that may take memory.
-pub record IsWantingAnswer (w : World) (home : Instance) (question : Question) (units : List Unit) : Type 0 where
+pub record IsWantingAnswer (w : World) (version : Version) (home : Instance) (question : Question) (units : List Unit) : Type 0 where
   pub cache : Instance
   pub was : WasSo w home cache
-  pub takes : takes_memory V1 cache (query question) ≡ true
+  pub takes : takes_memory version cache (query question) ≡ true
   pub are : units ≡ report INTERNAL_ERROR [] ∷ []
 
-abbrev pub IsReply : World → Instance → Question → List Unit → Type 0
-IsReply w home question units = IsAnswer w home question units ⊎ IsWantingAnswer w home question units
+abbrev pub IsReply : World → Version → Instance → Question → List Unit → Type 0
+IsReply w version home question units = IsAnswer w version home question units ⊎ IsWantingAnswer w version home question units
 
 -- the records of an answer
 abbrev pub withdrawn_in : List Unit → List Payload
@@ -81,25 +82,26 @@ announced_in (unit ∷ units) = announced_in units
 abbrev pub EndsWith : ℕ → ℕ → List Unit → Type 0
 EndsWith session serial [] = ⊥
 EndsWith session serial (EndOfData one number refresh retry expire ∷ []) = (one ≡ session) × (number ≡ serial)
+EndsWith session serial (EndOfData0 one number ∷ []) = (one ≡ session) × (number ≡ serial)
 EndsWith session serial (unit ∷ units) = EndsWith session serial units
 
 -- The records of an answer lead from a base to the set that was published under the name of its End of Data.
-pub record LeadsToPublished (all : List Instance) (base : VrpSet) (session : ℕ) (units : List Unit) : Type 0 where
+pub record LeadsToPublished (all : List Instance) (version : Version) (base : VrpSet) (session : ℕ) (units : List Unit) : Type 0 where
   pub serial : ℕ
   pub ends : EndsWith session serial units
   pub set : VrpSet
   pub commits : Commits base (withdrawn_in units) (announced_in units) set
-  pub published : named all session serial ≡ Some set
+  pub published : named (session_in version) all session serial ≡ Some set
 
-abbrev pub IfResponse : List Instance → VrpSet → List Unit → Type 0
-IfResponse all base (CacheResponse session ∷ units) = LeadsToPublished all base session units
-IfResponse all base units = ⊤
+abbrev pub IfResponse : List Instance → Version → VrpSet → List Unit → Type 0
+IfResponse all version base (CacheResponse session ∷ units) = LeadsToPublished all version base session units
+IfResponse all version base units = ⊤
 
 -- One whole answer to this question, over this table
-abbrev pub IsWholeAnswer : World → Instance → Question → VrpSet → List Unit → Type 0
-IsWholeAnswer w home question table units = IsReply w home question units × IfResponse (instances w) (base_of question table) units
+abbrev pub IsWholeAnswer : World → Version → Instance → Question → VrpSet → List Unit → Type 0
+IsWholeAnswer w version home question table units = IsReply w version home question units × IfResponse (instances w) version (base_of question table) units
 
--- a question is of what is committed
+-- a question is of what is committed in its version
 abbrev pub Fits : Question → Option Committed → Type 0
 Fits AskReset version = ⊤
 Fits (AskSerial session serial) None = ⊥
@@ -109,21 +111,31 @@ Fits (AskSerial session serial) (Some version) = (session ≡ version.session) �
 -- question is outstanding; and the rest of one that has begun. What is staged is what was read of it.
 abbrev pub ComesOn : World → Instance → Side → Link → List Unit → Type 0
 ComesOn w home s Idle rest = rest ≡ []
-ComesOn w home s (Asked question) rest = Fits question s.router.version × ((rest ≡ []) ⊎ IsWholeAnswer w home question s.router.table rest)
+ComesOn w home s (Asked question) rest =
+    Fits question (of_version s.router.spoken s.router.version) × ((rest ≡ []) ⊎ IsWholeAnswer w s.router.spoken home question s.router.table rest)
 ComesOn w home s (Answering a) rest =
-    Fits a.question s.router.version × (under_way s.items ≡ Some a) × IsWholeAnswer w home a.question s.router.table (answered s.items ++ rest)
+    Fits a.question (of_version s.router.spoken s.router.version) × (under_way s.items ≡ Some a)
+    × IsWholeAnswer w s.router.spoken home a.question s.router.table (answered s.items ++ rest)
 ComesOn w home s link rest = ⊤
 
--- The bytes that are held, on the wire, still to be pulled, and lost by a cut or a restart are the units to come.
+-- these are notifies alone, and there are none once a version is agreed on
+abbrev pub AreEarly : Bool → List Unit → Type 0
+AreEarly agreed units = (without_notifies units ≡ []) × (agreed ≡ true → units ≡ [])
+
+-- The bytes that are held, on the wire, still to be pulled, and lost by a cut or a restart are the units to come, in the version of the
+-- connection. Notifies of version 1 may stand before them, which the cache sent before it had read a header.
 pub record OneAnswer (w : World) (s : Side) : Type 0 where
   pub home : Instance
   pub home_is : s.home ≡ Some home
+  pub early : List Unit
   pub coming : List Unit
   pub lost : List ℕ
-  pub bytes : s.router.held ++ (s.down ++ (conn_due s.conn ++ lost)) ≡ sent_all V1 coming
-  pub part : IsPart s.router.held coming
+  pub bytes : s.router.held ++ (s.down ++ (conn_due s.conn ++ lost)) ≡ bytes_sent (in_version V1 early ++ in_version s.router.spoken coming)
+  pub part : IsPart s.router.held (in_version V1 early ++ in_version s.router.spoken coming)
   pub whole : (s.conn ≡ None → ⊥) → lost ≡ []
-  pub notifies : NotifiesOf home.session coming
+  pub are_early : AreEarly s.router.agreed early
+  pub early_notifies : NotifiesOf (session_in V1 home) early
+  pub notifies : NotifiesOf (session_in s.router.spoken home) coming
   pub rest : ComesOn w home s s.router.link (without_notifies coming)
 
 -- Between events a closed link holds nothing, nothing is to be pulled from it, and nothing is on the wire to it; no link has ended;
@@ -135,8 +147,8 @@ Between w s link = OneAnswer w s
 
 -- What is due where a question was read just now: the answer of the cache as it is now, or, where memory is wanting at a unit, Error
 -- Report 1 in the place of one that may take memory.
-abbrev pub IsOfNow : Instance → ℕ → Option ℕ → Link → List ℕ → Type 0
-IsOfNow cache keep wanting (Asked question) due =
-    (due ≡ sent_all V1 (answer V1 cache keep timing (query question)).units)
-    ⊎ (IsSome wanting × (takes_memory V1 cache (query question) ≡ true) × (due ≡ sent_all V1 (report INTERNAL_ERROR [] ∷ [])))
-IsOfNow cache keep wanting link due = ⊥
+abbrev pub IsOfNow : Version → Instance → ℕ → Option ℕ → Link → List ℕ → Type 0
+IsOfNow version cache keep wanting (Asked question) due =
+    (due ≡ sent_all version (answer version cache keep timing (query question)).units)
+    ⊎ (IsSome wanting × (takes_memory version cache (query question) ≡ true) × (due ≡ sent_all version (report INTERNAL_ERROR [] ∷ [])))
+IsOfNow version cache keep wanting link due = ⊥

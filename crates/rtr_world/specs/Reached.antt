@@ -1,7 +1,8 @@
 -- What a world of the program shows, and what leads to it.
-use Rattle.std.specs.Prelude.{◌≡◌, ℕ, ◌==◌, List, [], ◌∷◌, ◌++◌, map, Option, Some, None, IsSome, Result, slice_get, ⊤}
+use Rattle.std.specs.Prelude.{◌≡◌, ℕ, ◌==◌, ◌||◌, List, [], ◌∷◌, ◌++◌, map, Option, Some, None, IsSome, Result, slice_get, ⊤}
 use Rattle.std.specs.List.{AllByRecursion, list_any}
 use Rattle.vrps.specs.Steps.{HoldsSteps, Steps as Log}
+use Rattle.rtr_pdu.specs.declared.version.Version.TheVariants.{V0, V1}
 use Rattle.rtr_ends.specs.Cache.{Conn}
 use Rattle.rtr_ends.specs.CacheState.{ShowsCache}
 use Rattle.rtr_ends.specs.declared.cache.Cache.{Cache}
@@ -9,7 +10,7 @@ use Rattle.rtr_world.specs.World as model
 use Rattle.rtr_world.specs.World.{World, Side, instances, settle}
 use Rattle.rtr_world.specs.History.{Outcome, Entry, IsEvent, Leads, Made, MayEnd, after, is_used, refusal, side_at}
 use Rattle.rtr_world.specs.Events.{AnswersOutcome, outcome_fault, refused}
-use Rattle.rtr_world.specs.SideShown.{Has, ShowsSide, state_of}
+use Rattle.rtr_world.specs.SideShown.{Has, HasSessions, ShowsSide, state_of}
 use Rattle.rtr_world.specs.declared.event.WorldFault.{WorldFault}
 use Rattle.rtr_world.specs.declared.side.Side as values
 use Rattle.rtr_world.specs.declared.world.World as code
@@ -42,8 +43,8 @@ pub record ShowsParts (w : World) (at : ℕ → Option Conn) (cache : Cache Log)
 -- what the calls on one side leave alone
 pub record ShowsRest (w : World) (v : code.World) : Type 0 where
   pub keep : v.keep ≡ w.keep
-  pub used : (session : ℕ) → list_any (λ y. y == session) v.sessions.items ≡ is_used (instances w) session
-  pub session : v.session ≡ w.present.session
+  pub used : (session session0 : ℕ) → list_any (λ y. y.v1 == session || y.v0 == session0) v.sessions.items ≡ (is_used V1 (instances w) session || is_used V0 (instances w) session0)
+  pub sessions : HasSessions w.present v.present
   pub start : w.present.start ≡ v.start
 
 -- The model's world is this value.

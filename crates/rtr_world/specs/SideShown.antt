@@ -6,6 +6,8 @@ use Rattle.vrps.specs.Serial.{serial_at}
 use Rattle.vrps.specs.Steps.{HoldsSteps, Steps}
 use Rattle.vrps.specs.declared.serial.Serial.{Serial}
 use Rattle.rtr_pdu.specs.Unit.{MAX_UNIT_LEN}
+use Rattle.rtr_pdu.specs.declared.version.Version.TheVariants.{V1}
+use Rattle.rtr_ends.specs.Answer.{session_in}
 use Rattle.rtr_ends.specs.Cache.{Conn}
 use Rattle.rtr_ends.specs.CacheState.{CacheState, ShowsCache}
 use Rattle.rtr_ends.specs.LinkRules.{new_router}
@@ -13,6 +15,7 @@ use Rattle.rtr_ends.specs.RouterShown.{IsShown}
 use Rattle.rtr_ends.specs.Transcript.{Committed}
 use Rattle.rtr_ends.specs.declared.cache.Cache.{Cache}
 use Rattle.rtr_ends.specs.declared.cache.Conn.{Conn as Number}
+use Rattle.rtr_ends.specs.declared.sessions.Sessions.{Sessions}
 use Rattle.rtr_world.specs.World.{World, Side, SideEvent, Connect, RouterSends, CacheSends, instances, timing, cut, settle, side_step, side_part, side_refused, sends_from}
 use Rattle.rtr_world.specs.History.{is_used, moved_at, most_of, wants_at}
 use Rattle.rtr_world.specs.declared.side.Side as values
@@ -38,7 +41,7 @@ MadeAt i (Some home) made = MadeWhere (i.session == home.session) i home made
 
 -- it was made to an instance of the cache
 abbrev pub MadeTo : List Instance → Option Instance → Type 0
-MadeTo all home = IfSome home (λ i. is_used all i.session ≡ true)
+MadeTo all home = IfSome home (λ i. is_used V1 all i.session ≡ true)
 
 -- the connection of a side, under its number at the cache
 abbrev pub ConnIs : (ℕ → Option Conn) → Option Number → Option Conn → Type 0
@@ -136,7 +139,12 @@ pub record IsNewSide (v : values.Side) : Type 0 where
   pub down : v.down ≡ []
   pub made : v.made ≡ None
 
--- the serial that a router holds of a session
-abbrev pub held_of : ℕ → Option Committed → Option ℕ
-held_of session None = None
-held_of session (Some version) = if session == version.session then Some version.serial else None
+-- these are the sessions of an instance
+pub record HasSessions (i : Instance) (s : Sessions) : Type 0 where
+  pub v1 : s.v1 ≡ i.session
+  pub v0 : s.v0 ≡ i.session0
+
+-- the serial that a router holds of this instance
+abbrev pub held_of : Instance → Option Committed → Option ℕ
+held_of i None = None
+held_of i (Some held) = if session_in held.version i == held.session then Some held.serial else None

@@ -2,6 +2,7 @@
 use Rattle.std.specs.Prelude.{◌≡◌, ◌⊎◌, ℕ, ◌<◌, ◌≤◌, ◌==◌, List, [], ◌∷◌, length, Option, Some, None, if◌then◌else◌, ⊤}
 use Rattle.std.specs.Option.{option_map}
 use Rattle.vrps.specs.Instance.{Instance, NumberedSet, versions}
+use Rattle.rtr_ends.specs.Answer.{session_in}
 use Rattle.rtr_ends.specs.Transcript.{Committed}
 
 -- how many instances came before, and how many versions of this one
@@ -15,16 +16,16 @@ position_of serial [] = None
 position_of serial (version ∷ older) = if version.serial == serial then Some (length older) else position_of serial older
 
 -- the place of what `named` names
-abbrev pub place_named : List Instance → ℕ → ℕ → Option VersionPlace
-place_named [] session serial = None
-place_named (i ∷ older) session serial =
-    if i.session == session
+abbrev pub place_named : (Instance → ℕ) → List Instance → ℕ → ℕ → Option VersionPlace
+place_named session_of [] session serial = None
+place_named session_of (i ∷ older) session serial =
+    if session_of i == session
     then option_map (λ position. record { instance = length older; position = position }) (position_of serial (versions i))
-    else place_named older session serial
+    else place_named session_of older session serial
 
 abbrev pub version_place_of : List Instance → Option Committed → Option VersionPlace
 version_place_of instances None = None
-version_place_of instances (Some version) = place_named instances version.session version.serial
+version_place_of instances (Some held) = place_named (session_in held.version) instances held.session held.serial
 
 -- both are places, and the first is the second or was published before it
 abbrev pub IsNotAfter : Option VersionPlace → Option VersionPlace → Type 0

@@ -3,6 +3,7 @@ use Rattle.std.specs.Prelude.{ℕ, zero, suc, Bool, true, false, List, [], ◌�
 use Rattle.vrps.specs.Instance.{Instance}
 use Rattle.vrps.specs.Store.{published}
 use Rattle.vrps.specs.VrpSet.{VrpSet}
+use Rattle.rtr_pdu.specs.declared.version.Version.{Version}
 use Rattle.rtr_ends.specs.declared.link.End.{End}
 use Rattle.rtr_ends.specs.Cache.{Conn, Taking, new_conn, conn_takes, conn_notified, conn_pulled}
 use Rattle.rtr_ends.specs.Feeding.{FedPiece}
@@ -10,13 +11,14 @@ use Rattle.rtr_ends.specs.LinkRules.{Router, new_router}
 use Rattle.rtr_ends.specs.Router.{Noted, Receiving, of_received, receives, router_pulled, connects_at, closed_at, ticks_at, asks}
 use Rattle.rtr_ends.specs.RouterLink.{Link, Closed, Ended, is_closed}
 use Rattle.rtr_ends.specs.Timing.{Intervals, default_intervals}
-use Rattle.rtr_ends.specs.Transcript.{Question, Item, Refused, Restarts, kept, is_commit, outstanding}
+use Rattle.rtr_ends.specs.Transcript.{Question, Item, Refused, Restarts, kept, is_commit, outstanding, spoken}
 use Rattle.rtr_world.specs.VersionPlaces.{VersionPlace, version_place_of}
 
--- how a link ended: which question was outstanding, and the instance of the connection
+-- how a link ended: which question was outstanding, and the version and the instance of the connection
 pub record Ending : Type 0 where
   pub end : End
   pub question : Option Question
+  pub version : Version
   pub home : Option Instance
 
 -- A router and its connection: the cache's side of it, none where it is closed there; the bytes on the way to the cache and to the
@@ -53,17 +55,18 @@ abbrev pub new_sides : ℕ → List Side
 new_sides zero = []
 new_sides (suc routers) = new_side ∷ new_sides routers
 
-abbrev pub new_world : ℕ → ℕ → ℕ → ℕ → World
-new_world routers session start keep = record {
+abbrev pub new_world : ℕ → ℕ → ℕ → ℕ → ℕ → World
+new_world routers session session0 start keep = record {
   keep = keep;
   past = [];
-  present = record { session = session; session0 = session; start = start; sets = [] };
+  present = record { session = session; session0 = session0; start = start; sets = [] };
   sides = new_sides routers;
 }
 
 -- What happens at one router, and what happens at all
 pub data SideEvent : Type 0 where
   RouterRestart : SideEvent
+  Speak : (version : Version) → SideEvent
   Connect : SideEvent
   RouterSends : (most : ℕ) → SideEvent
   CacheGets : (most : ℕ) → SideEvent
@@ -76,7 +79,7 @@ pub data SideEvent : Type 0 where
 
 pub data Event : Type 0 where
   Publish : (set : VrpSet) → Event
-  Restart : (session : ℕ) → (start : ℕ) → Event
+  Restart : (session : ℕ) → (session0 : ℕ) → (start : ℕ) → Event
   On : (router : ℕ) → SideEvent → Event
 
 -- What the transcript gains, with the end of a link, and the places of commits
@@ -87,7 +90,7 @@ is_ended link = false
 
 -- the last item is the one at which the link ended
 abbrev pub ending_of : Bool → Link → Option Instance → List Item → List Ending
-ending_of false (Ended end) home items = record { end = end; question = outstanding (drop 1 items); home = home } ∷ []
+ending_of false (Ended end) home items = record { end = end; question = outstanding (drop 1 items); version = spoken items; home = home } ∷ []
 ending_of ended link home items = []
 
 -- Each item is judged as a commit by what the transcript keeps of it and of those before it.
@@ -118,6 +121,10 @@ connects w s = record (noted (instances w) (connects_at s.router.now s.router) s
 
 unfoldable pub router_restarts : Side → Side
 router_restarts s = record s { router = new_router; conn = None; up = []; down = []; home = None; items = Restarts ∷ s.items }
+
+-- The next connection of the router is of this version.
+unfoldable pub speaks : Version → Side → Side
+speaks version s = record s { router = record s.router { speaks = version } }
 
 unfoldable pub router_sends : ℕ → Side → Side
 router_sends most s = record s { router = router_pulled most s.router; up = s.up ++ take most s.router.out }
@@ -154,6 +161,7 @@ notifies_at w s (Some o) = record s { conn = Some (conn_notified w.keep timing w
 -- An event that is not refused. At a unit of it an end may meet want of memory.
 unfoldable pub side_step : World → SideEvent → Option ℕ → Side → Side
 side_step w RouterRestart wanting s = router_restarts s
+side_step w (Speak version) wanting s = speaks version s
 side_step w Connect wanting s = connects w s
 side_step w (RouterSends most) wanting s = router_sends most s
 side_step w (CacheGets most) wanting s = cache_gets w most wanting s
@@ -227,9 +235,9 @@ on_side (suc r) f (s ∷ sides) = s ∷ on_side r f sides
 
 unfoldable pub goes_through : Event → Option ℕ → World → World
 goes_through (Publish set) wanting w = record w { present = published set w.present }
-goes_through (Restart session start) wanting w = record w {
+goes_through (Restart session session0 start) wanting w = record w {
   past = w.present ∷ w.past;
-  present = record { session = session; session0 = session; start = start; sets = [] };
+  present = record { session = session; session0 = session0; start = start; sets = [] };
   sides = map cache_gone w.sides;
 }
 goes_through (On r event) wanting w = record w { sides = on_side r (side_step w event wanting) w.sides }
@@ -240,5 +248,5 @@ settled w = record w { sides = map (settle (instances w)) w.sides }
 -- A Publish or a Restart that is refused changes nothing.
 unfoldable pub is_refused : Event → ℕ → Option ℕ → World → World
 is_refused (Publish set) bytes wanting w = w
-is_refused (Restart session start) bytes wanting w = w
+is_refused (Restart session session0 start) bytes wanting w = w
 is_refused (On r event) bytes wanting w = settled (record w { sides = on_side r (side_refused w event bytes wanting) w.sides })

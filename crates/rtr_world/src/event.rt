@@ -1,6 +1,7 @@
 //! What happens in a world, and why it is refused.
 ghost use Rattle.std.specs.Prelude.{◌≡◌};
 
+use rtr_pdu::Version;
 use std::alloc::AllocError;
 use vrps::VrpSet;
 
@@ -9,10 +10,18 @@ use vrps::VrpSet;
 pub enum Event {
     /// The cache publishes a set. A set that is current already adds no version.
     Publish(VrpSet),
-    /// The cache restarts: a new instance of this session, whose first version has the serial `start`. All connections end at the cache.
-    Restart { session: u16, start: u32 },
+    /// The cache restarts: a new instance of this session, and `session0` in version 0 of the protocol, whose first version has the serial
+    /// `start`. All connections end at the cache.
+    Restart {
+        session: u16,
+        session0: u16,
+        start: u32,
+    },
     /// Something happens at one router.
-    On { router: u16, event: SideEvent },
+    On {
+        router: u16,
+        event: SideEvent,
+    },
 }
 
 /// What happens at one router, its connection and the bytes on their way. Counts are of bytes.
@@ -20,6 +29,8 @@ pub enum Event {
 pub enum SideEvent {
     /// The router restarts: a new one stands in its place, and its connection is gone.
     RouterRestart,
+    /// The router speaks this version of the protocol from its next connection on.
+    Speak(Version),
     /// A connection is made. An older one is cut with nothing to arrive.
     Connect,
     /// The router puts at most so many bytes on the wire to the cache.
@@ -43,7 +54,7 @@ pub enum SideEvent {
 /// Why an event was refused. The numbers are fixed.
 #[derive(Clone, Copy, Debug, PartialEq, Eq)]
 pub enum WorldFault {
-    /// An instance of the cache has this session, or had it.
+    /// An instance of the cache has this session, or had it, in the same version of the protocol.
     SessionUsed = 1,
     /// The new version would stand 2^31 or more after one that a router holds, or that was current when its connection was made.
     TooManyVersions = 2,

@@ -25,7 +25,7 @@ pub fn routers_run()
 {}
 
 /// After every list of events each router's table is empty if it holds no session, and otherwise is exactly the set that was published
-/// under the session and the serial of the End of Data that it committed last, each announcement and each withdrawal having acted
+/// under the version, the session and the serial of the End of Data that it committed last, each announcement and each withdrawal having acted
 /// exactly once; and the answer for every route is RFC 6811's state over that set, or over the empty one.
 pub fn headline()
     ensures table { Headline }
@@ -65,8 +65,9 @@ pub fn one_answer()
 {}
 
 /// A router connects, and then nothing happens but moves of its own: bytes are sent and handed in, a connection is cut or made anew, and
-/// memory may be wanting at any of it. Where its link is idle then, it holds the newest version of the present instance; or nothing is
-/// published, it holds no session, and its table is empty.
+/// memory may be wanting at any of it. Where its link is idle then, it is of the version that the router speaks, and the router holds the
+/// newest version of the present instance; or nothing is published, it holds no session of that version of the protocol, and where it holds
+/// none at all, its table is empty.
 pub fn idle_is_current()
     ensures { IdleIsCurrent }
 {}

@@ -1,5 +1,6 @@
 //! One router of a world, its connection, and the bytes on their way.
 ghost use Rattle.std.specs.Prelude.{◌≡◌, ℕ, ◌+◌, ◌-◌, ◌≤◌, ◌^◌, ◌&&◌, ◌||◌, nat_lt, length, Option, IfSome, is_none, option_map};
+ghost use Rattle.vrps.specs.Instance.{Instance};
 ghost use Rattle.vrps.specs.Serial.{serial_at};
 ghost use Rattle.vrps.specs.Steps.{HoldsSteps};
 ghost use Rattle.rtr_ends.specs.CacheState.{ShowsCache};
@@ -9,12 +10,12 @@ ghost use Rattle.rtr_world.specs.History.{Reached, room_for, room_since, side_at
 ghost use Rattle.rtr_world.specs.Reached.{Lost};
 ghost use Rattle.rtr_ends.specs.Cache.{Conn as Conned};
 ghost use Rattle.rtr_world.specs.Events.{side_event_of};
-ghost use Rattle.rtr_world.specs.SideShown.{BeginsEvent, Goes, Happens, IsNewSide, Moves, ShowsBoth, ShowsSide, held_of, state_of};
+ghost use Rattle.rtr_world.specs.SideShown.{BeginsEvent, Goes, Happens, HasSessions, IsNewSide, Moves, ShowsBoth, ShowsSide, held_of, state_of};
 ghost use Rattle.rtr_world.specs.World as model;
 
 use crate::event::SideEvent;
 use crate::wire::Wire;
-use rtr_ends::{Cache, Conn, Router};
+use rtr_ends::{Cache, Conn, Router, Sessions};
 use std::alloc::{AllocError, Global};
 use vrps::{Serial, VersionLog};
 
@@ -63,21 +64,25 @@ impl Side {
         self.made = None;
     }
 
-    /// The serial that the router holds of this session.
-    fn held(&self, session: u16) -> Option<Serial>
-        ensures { (r : Routed) → IsShown r self.now.router → option_map (λ s. s.0) result ≡ held_of session r.version }
+    /// The serial that the router holds of the instance with these sessions.
+    fn held(&self, sessions: Sessions) -> Option<Serial>
+        ensures { (i : Instance) (r : Routed) → HasSessions i sessions → IsShown r self.now.router → option_map (λ s. s.0) result ≡ held_of i r.version }
     {
-        let (one, serial) = self.router.committed()?;
-        if session == one { Some(serial) } else { None }
+        let (version, session, serial) = self.router.committed()?;
+        if sessions.of(version) == session {
+            Some(serial)
+        } else {
+            None
+        }
     }
 
-    /// Whether a version of this serial would stand fewer than 2^31 after the one that the router holds of this session, and after the
-    /// one that was current when its connection was made.
-    pub fn has_room(&self, session: u16, next: Serial) -> bool
-        ensures { (w : model.World) (at : ℕ → Option Conned) (r : ℕ) (s : model.Side) → Reached w → side_at r w.sides ≡ Option.Some s → session ≡ w.present.session →
+    /// Whether a version of this serial would stand fewer than 2^31 after the one that the router holds of the instance with these
+    /// sessions, and after the one that was current when its connection was made.
+    pub fn has_room(&self, sessions: Sessions, next: Serial) -> bool
+        ensures { (w : model.World) (at : ℕ → Option Conned) (r : ℕ) (s : model.Side) → Reached w → side_at r w.sides ≡ Option.Some s → HasSessions w.present sessions →
             next.0 ≡ serial_at w.present.start (length w.present.sets) → ShowsSide w at s self.now → result ≡ (room_for w.present s.router.version && room_since w.present s.home) }
     {
-        is_near(self.held(session), next) && is_near(self.made, next)
+        is_near(self.held(sessions), next) && is_near(self.made, next)
     }
 
     /// A new router stands in this one's place.
@@ -134,6 +139,7 @@ impl Side {
     {
         match event {
             SideEvent::RouterRestart => self.restart(cache, alloc),
+            SideEvent::Speak(version) => self.router.speak(version),
             SideEvent::Connect => return self.connect(cache, start),
             SideEvent::RouterSends(most) => return self.router_sends(most),
             SideEvent::CacheGets(most) => self.cache_gets(cache, most),

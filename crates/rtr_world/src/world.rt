@@ -1,5 +1,5 @@
 //! The world.
-ghost use Rattle.std.specs.Prelude.{◌≡◌, ◌↔◌, ◌≤◌, ◌==◌, ℕ, List, [], map, length, Option, Result, IfOk, option_map, option_and_then};
+ghost use Rattle.std.specs.Prelude.{◌≡◌, ◌↔◌, ◌≤◌, ◌==◌, ◌||◌, ℕ, List, [], map, length, Option, Result, IfOk, option_map, option_and_then};
 ghost use Rattle.std.specs.List.{AllByRecursion, list_any};
 ghost use Rattle.vrps.specs.Origin.{state};
 ghost use Rattle.vrps.specs.Serial.{serial_at};
@@ -21,7 +21,8 @@ ghost use Rattle.rtr_world.specs.World as model;
 use crate::event::{CatchFault, Event, SideEvent, WorldFault};
 use crate::side::Side;
 use prefixes::Route;
-use rtr_ends::{Cache, Link, Timing};
+use rtr_ends::{Cache, Link, Sessions, Timing};
+use rtr_pdu::Version;
 use std::alloc::{AllocError, Global};
 use std::marker::Model;
 use vrps::{OriginState, Serial, VersionLog, VrpSet};
@@ -46,9 +47,9 @@ pub struct World {
     alloc: Global,
     keep: Keep,
     /// The sessions of all instances of the cache.
-    sessions: Vec<u16>,
-    /// The session of the present one.
-    session: u16,
+    sessions: Vec<Sessions>,
+    /// Those of the present one.
+    present: Sessions,
     /// The serial of its first version.
     start: u32,
     cache: Cache<VersionLog>,
@@ -56,30 +57,35 @@ pub struct World {
 }
 
 impl World {
-    /// A world of one cache, which keeps `keep` versions before the current one, and so many routers. Nothing is published, and no
-    /// router has a connection.
+    /// A world of one cache, with this session, and `session0` in version 0 of the protocol, which keeps `keep` versions before the current
+    /// one, and so many routers. Nothing is published, and no router has a connection.
     pub fn new(
         alloc: Global,
         routers: u16,
         session: u16,
+        session0: u16,
         start: u32,
         keep: u32,
     ) -> Result<World, AllocError>
         requires some { 1 ≤ keep }
         requires limit { keep ≤ 65536 }
-        ensures { IfOk result (λ world. LeadsTo (record { routers = routers; session = session; start = start; keep = keep }) [] world) }
+        ensures { IfOk result (λ world. LeadsTo (record { routers = routers; session = session; session0 = session0; start = start; keep = keep }) [] world) }
     {
         let store = VersionLog::new(alloc, session, start, keep)?;
+        let present = Sessions {
+            v0: session0,
+            v1: session,
+        };
         let mut sessions = Vec::new(alloc);
-        sessions.push(session)?;
+        sessions.push(present)?;
         let sides = new_sides(alloc, routers)?;
         Ok(World {
             alloc,
             keep: Keep(keep),
             sessions,
-            session,
+            present,
             start,
-            cache: Cache::new(alloc, store, Timing::default()),
+            cache: Cache::new_both(alloc, store, session0, Timing::default()),
             sides,
         })
     }
@@ -111,7 +117,7 @@ impl World {
     {
         let next = self.next();
         for side in &self.sides {
-            if !side.has_room(self.session, next) {
+            if !side.has_room(self.present, next) {
                 return false;
             }
         }
@@ -134,27 +140,33 @@ impl World {
         Ok(())
     }
 
-    /// Whether an instance of the cache has this session, or had it.
-    fn is_used(&self, session: u16) -> bool
-        ensures { result ≡ list_any (λ y. y == session) self.now.sessions.items }
+    /// Whether an instance of the cache has one of these sessions, or had it, in the same version of the protocol.
+    fn is_used(&self, session: u16, session0: u16) -> bool
+        ensures { result ≡ list_any (λ y. y.v1 == session || y.v0 == session0) self.now.sessions.items }
     {
-        self.sessions.contains(&session)
+        self.sessions
+            .iter()
+            .any(|used| used.v1 == session || used.v0 == session0)
     }
 
     /// A new instance of the cache begins.
-    fn restart(&mut self, session: u16, start: u32) -> Result<(), WorldFault>
-        ensures { (w : model.World) → Reached w → ShowsWorld w self.old → StepsOnce w (model.Restart session start) result self.new }
+    fn restart(&mut self, session: u16, session0: u16, start: u32) -> Result<(), WorldFault>
+        ensures { (w : model.World) → Reached w → ShowsWorld w self.old → StepsOnce w (model.Restart session session0 start) result self.new }
     {
-        if self.is_used(session) {
+        if self.is_used(session, session0) {
             return Err(WorldFault::SessionUsed);
         }
         let store = VersionLog::new(self.alloc, session, start, self.keep.0)?;
-        if self.sessions.push(session).is_err() {
+        let present = Sessions {
+            v0: session0,
+            v1: session,
+        };
+        if self.sessions.push(present).is_err() {
             return Err(WorldFault::Memory);
         }
-        self.session = session;
+        self.present = present;
         self.start = start;
-        self.cache = Cache::new(self.alloc, store, Timing::default());
+        self.cache = Cache::new_both(self.alloc, store, session0, Timing::default());
         lose_caches(&mut self.sides);
         settle_all(&mut self.cache, &mut self.sides);
         Ok(())
@@ -179,14 +191,18 @@ impl World {
     {
         match event {
             Event::Publish(set) => self.publish(set),
-            Event::Restart { session, start } => self.restart(*session, *start),
+            Event::Restart {
+                session,
+                session0,
+                start,
+            } => self.restart(*session, *session0, *start),
             Event::On { router, event } => self.on(*router, *event),
         }
     }
 
     /// Events in their order, one outcome for each. It answers how many were refused. After every list of events, each router's table is
-    /// empty if it holds no session, and otherwise is exactly the set that the cache published under the session and serial of the End
-    /// of Data that this router committed last, each announcement and each withdrawal having acted exactly once, and the router's
+    /// empty if it holds no session, and otherwise is exactly the set that the cache published under the version, session and serial of the
+    /// End of Data that this router committed last, each announcement and each withdrawal having acted exactly once, and the router's
     /// answer for every route is RFC 6811's state over that set. Besides, each router holds what its transcript keeps; at most one
     /// answer is on its way to it; it commits no version that was published before one that it committed; and its link ends by want of
     /// memory, by expiry, by a report of want of memory, or by one of another session, and by nothing else.
@@ -252,8 +268,8 @@ impl World {
 
     /// Catches a router up with the cache: what is open is cut with nothing to arrive, a connection is made, and all bytes are moved both
     /// ways until nothing moves. Where the cache told the router to drop what it held of another session, it connects once more. Ok: the
-    /// router holds the newest version of the present instance. NoData: nothing is published, and the router holds no session. After
-    /// both the last connection stays open, idle, with nothing on its way. NoSuchRouter: nothing is changed. Memory: it was wanting at
+    /// router holds the newest version of the present instance, in the version of the protocol that it speaks. NoData: nothing is published,
+    /// and the router holds no session of the version that it speaks. After both the last connection stays open, idle, with nothing on its way. NoSuchRouter: nothing is changed. Memory: it was wanting at
     /// one of these events, and the connection is cut.
     pub fn catch_up(&mut self, router: u16) -> Result<(), CatchFault>
         ensures caught { (made : Made) (history : List Entry) → LeadsTo made history self.old → CatchesUp made history router result self.new }
@@ -294,9 +310,9 @@ impl World {
         Some(side.router.table())
     }
 
-    /// The session and serial that a router committed last.
-    pub fn committed(&self, router: u16) -> Option<(u16, Serial)>
-        ensures { (w : model.World) → ShowsWorld w self.now → option_map (λ name. (name.0, name.1.0)) result ≡ option_and_then (λ s. name_of s.router.version) (side_at router w.sides) }
+    /// The version of the protocol, the session and the serial that a router committed last.
+    pub fn committed(&self, router: u16) -> Option<(Version, u16, Serial)>
+        ensures { (w : model.World) → ShowsWorld w self.now → option_map (λ name. (name.0, name.1, name.2.0)) result ≡ option_and_then (λ s. name_of s.router.version) (side_at router w.sides) }
     {
         let side = self.sides.get(usize::from(router))?;
         side.router.committed()

@@ -1,6 +1,6 @@
 use Rattle.std.proofs.Common.{Ok}
 use Rattle.rtr_world.specs.World as model
-use Rattle.rtr_world.proofs.Happening.{begins_as, noted_shows, of_case, passes}
+use Rattle.rtr_world.proofs.Happening.{begins_as, noted_shows, of_case, passes, speaks_shown}
 use Rattle.rtr_world.proofs.Moving.{alone}
 use Rattle.rtr_world.proofs.side.Side.begin.Goals as goal
 
@@ -19,6 +19,10 @@ returns-in-RouterGets c = λ w at s start h. of_case w at _ _ s _ (Ok tt) c.in-R
 pub returns-in-RouterRestart : goal.returns-in-RouterRestart
 unfolding model.side_step
 returns-in-RouterRestart c = λ w at s start h. of_case w at _ _ s _ (Ok tt) c.in-RouterRestart.is (passes w at _ s _ (c.restart.ensures w at s h))
+
+pub returns-in-Speak : goal.returns-in-Speak
+unfolding model.side_step model.speaks
+returns-in-Speak c = λ w at s start h. of_case w at _ _ s _ (Ok tt) c.in-Speak.is (passes w at _ s _ (alone w at s _ _ _ _ h (speaks_shown w at s _ _ _ h.side (c.speak.ensures.calls s.router h.side.router))))
 
 pub returns-in-Cut : goal.returns-in-Cut
 unfolding model.side_step

@@ -12,14 +12,14 @@ pub loop-side-preserved : goal.loop-side-preserved
 loop-side-preserved c = λ w reached h.
     let read = slice_get_read c.deref-side-items.result.now _ c.loop-side.side-index c.side-item.result refl c.loop-side-test.true c.side-item.is in
     let there = found_side w h.at _ _ c.side-item.result (ap (λ l. slice_get l c.loop-side.side-index) (sym c.deref-side-items.ensures.value) ∙ read) (h.parts.each c.loop-side.side-index) in
-    let room = c.has_room.ensures w h.at c.loop-side.side-index there.side reached there.is h.rest.session (c.next-next.ensures w reached h) there.shows in
+    let room = c.has_room.ensures w h.at c.loop-side.side-index there.side reached there.is h.rest.sessions (c.next-next.ensures w reached h) there.shows in
     one_more w c.loop-side.side-index there.side (c.loop-side.invariant w reached h) there.is (sym room ∙ c.if-not-has_room.false)
 
 pub returns-then-not-has_room : goal.returns-then-not-has_room
 returns-then-not-has_room c = λ w reached h.
     let read = slice_get_read c.deref-side-items.result.now _ c.loop-side.side-index c.side-item.result refl c.loop-side-test.true c.side-item.is in
     let there = found_side w h.at _ _ c.side-item.result (ap (λ l. slice_get l c.loop-side.side-index) (sym c.deref-side-items.ensures.value) ∙ read) (h.parts.each c.loop-side.side-index) in
-    let room = c.has_room.ensures w h.at c.loop-side.side-index there.side reached there.is h.rest.session (c.next-next.ensures w reached h) there.shows in
+    let room = c.has_room.ensures w h.at c.loop-side.side-index there.side reached there.is h.rest.sessions (c.next-next.ensures w reached h) there.shows in
     is_far w c.loop-side.side-index there.side there.is (sym room ∙ c.if-not-has_room.true)
 
 pub returns : goal.returns
