@@ -1,14 +1,15 @@
 -- A new router that is handed the answer of a cache with one version.
 use Rattle.std.specs.Prelude.{◌≡◌, ℕ, Bool, true, false, not, ◌&&◌, List, [], ◌∷◌, ◌++◌, map, Option, Some, Result, if◌then◌else◌, refl, ⊤}
-use Rattle.std.proofs.Common.{sym, ap, ◌∙◌, append_assoc, append-nil, arith}
+use Rattle.std.proofs.Common.{sym, ap, ◌∙◌, subst, append_assoc, append-nil, arith}
 use Rattle.std.specs.List.{AllByRecursion, All}
 use Rattle.std.proofs.lemmas.List.Elements.{All-head, All-tail}
 use Rattle.prefixes.specs.Payload.{IsPayload, Payload}
 use Rattle.vrps.specs.VrpSet.{SameMembers, VrpSet, listing}
 use Rattle.rtr_pdu.specs.Judging.{Judgement, Begins, Whole, Faulty, judge}
-use Rattle.rtr_pdu.specs.Stream.{NoBeginning, WrittenIsRead}
+use Rattle.rtr_pdu.specs.Stream.{AreRead, NoBeginning, WrittenIsRead}
 use Rattle.rtr_pdu.specs.Unit.{IsUnitOf}
 use Rattle.rtr_pdu.specs.declared.unit.Unit.TheVariants.{Prefix}
+use Rattle.rtr_pdu.specs.declared.version.Version.{Version}
 use Rattle.rtr_pdu.specs.declared.version.Version.TheVariants.{V1}
 use Rattle.rtr_ends.specs.Answer.{sent_all}
 use Rattle.rtr_ends.specs.Cache.{finds_memory}
@@ -17,10 +18,11 @@ use Rattle.rtr_ends.specs.FetchStream.{Fetches, IsFetchCall, calls_since}
 use Rattle.rtr_ends.specs.RouterLink.{name_of}
 use Rattle.rtr_ends.specs.Router as model
 use Rattle.rtr_ends.specs.LinkRules.{Router, may_lack, on_unit}
-use Rattle.rtr_ends.specs.Router.{RouterCall, Closes, Connects, AsksNow, Ticks, Pulls, Receives, Receiving, asked_by, called, closed_at, connects_at, played, receives, router_byte, router_pulled, router_stops, with_bytes}
+use Rattle.rtr_ends.specs.Router.{RouterCall, Closes, Connects, AsksNow, Ticks, Pulls, Speaks, Receives, Receiving, asked_by, called, closed_at, connects_at, played, receives, router_byte, router_pulled, router_stops, with_bytes}
 use Rattle.rtr_ends.specs.RouterLink.{Answering, Asked, Closed, Ended, Idle, Link}
+use Rattle.rtr_ends.specs.RouterLaws.{RouterSpeaks, connected_version}
 use Rattle.rtr_ends.specs.RouterShown.{CallsLead}
-use Rattle.rtr_ends.specs.Transcript.{Asks, At, Breaks, Item, Lacks, Opened, Reads, Refused, Restarts, Shut, kept}
+use Rattle.rtr_ends.specs.Transcript.{Asks, At, Breaks, Item, Lacks, Opened, Reads, Refused, Restarts, Shut, kept, spoken}
 use Rattle.rtr_ends.specs.declared.fetching.Fetched.{Fetched}
 use Rattle.rtr_ends.specs.declared.router.Router as code
 use Rattle.rtr_ends.specs.declared.streams.StreamFault.{StreamFault}
@@ -35,7 +37,7 @@ use Rattle.feed.proofs.Transcripts.{OneConnection, answer_units, holds, last}
 
 -- It makes no connection, and no new router.
 abbrev IsPlain : Item → Type 0
-IsPlain Opened = ⊥
+IsPlain (Opened version) = ⊥
 IsPlain Restarts = ⊥
 IsPlain item = ⊤
 
@@ -46,7 +48,7 @@ both_plain (x ∷ xs) ys h k = (h.0, both_plain xs ys h.1 k)
 goes_on : (xs items : List Item) → AllByRecursion IsPlain xs → OneConnection items → OneConnection (xs ++ items)
 goes_on [] items h one = one
 goes_on (At now ∷ xs) items h one = goes_on xs items h.1 one
-goes_on (Opened ∷ xs) items h one = absurd h.0
+goes_on (Opened version ∷ xs) items h one = absurd h.0
 goes_on (Asks question ∷ xs) items h one = goes_on xs items h.1 one
 goes_on (Reads u ∷ xs) items h one = goes_on xs items h.1 one
 goes_on (Lacks u ∷ xs) items h one = goes_on xs items h.1 one
@@ -81,7 +83,7 @@ plain_judged memory bytes r (Faulty fault) = (tt, tt)
 plain_byte : (m : Receiving) (b : ℕ) → AllByRecursion IsPlain m.items → AllByRecursion IsPlain (router_byte m b).items
 unfolding router_byte
 plain_byte m b h =
-    let j = judge V1 (not m.router.agreed) (m.router.held ++ b ∷ []) in
+    let j = judge m.router.spoken (not m.router.agreed) (m.router.held ++ b ∷ []) in
     both_plain (with_bytes (finds_memory m.wanting) (m.router.held ++ b ∷ []) m.router j).items m.items (plain_judged (finds_memory m.wanting) (m.router.held ++ b ∷ []) m.router j) h
 
 plain_call : (now : ℕ) (call : RouterCall) (r : Router) → IsFetchCall now call → AllByRecursion IsPlain (called call r).items
@@ -92,6 +94,7 @@ plain_call now (Connects at) r h = absurd h
 plain_call now (Closes at) r h = absurd h
 plain_call now AsksNow r h = absurd h
 plain_call now (Ticks at) r h = absurd h
+plain_call now (Speaks version) r h = absurd h
 
 connected : OneConnection (played (Connects 0 ∷ [])).items
 unfolding connects_at
@@ -112,10 +115,18 @@ is_call (Connects at) h = tt
 is_call (Closes at) h = tt
 is_call AsksNow h = tt
 is_call (Ticks at) h = tt
+is_call (Speaks version) h = tt
 
 are_calls : (turns : List RouterCall) → AllByRecursion (IsFetchCall 0) turns → AllByRecursion IsRouterCall (calls_since turns 0 [])
 are_calls [] h = (tt, tt)
 are_calls (call ∷ turns) h = (is_call call h.0, are_calls turns h.1)
+
+-- The router was told no version.
+connected_1 : (turns : List RouterCall) → AllByRecursion (IsFetchCall 0) turns → connected_version (calls_since turns 0 []) ≡ V1
+connected_1 [] h = refl
+connected_1 (Receives at wanting piece ∷ turns) h = connected_1 turns h.1
+connected_1 (Pulls most ∷ turns) h = connected_1 turns h.1
+connected_1 (call ∷ turns) h = absurd h.0
 
 -- ---- the answer
 
@@ -130,17 +141,18 @@ answer_is : (set : VrpSet) → answer_bytes set ≡ sent_all V1 (answer_units (l
 unfolding answer_bytes
 answer_is set = ap bytes_sent (append-nil (in_version V1 (answer_units (listing set)))) ∙ sent_in V1 (answer_units (listing set))
 
-module _ (apart : NoBeginning) (written : WrittenIsRead) (same : SameMembers) where
+module _ (apart : NoBeginning) (written : WrittenIsRead) (same : SameMembers) (speaks : RouterSpeaks) where
   -- What such a router has committed is the set.
-  pub fetched : (set : VrpSet) (wire left : List ℕ) (reads : ℕ) (had has : Option (List ℕ)) (result : Result Fetched StreamFault) (new : code.Router) (name : ℕ × ℕ) → All IsPayload (listing set) → wire ≡ answer_bytes set
+  pub fetched : (set : VrpSet) (wire left : List ℕ) (reads : ℕ) (had has : Option (List ℕ)) (result : Result Fetched StreamFault) (new : code.Router) (name : Version × ℕ × ℕ) → All IsPayload (listing set) → wire ≡ answer_bytes set
       → Fetches 0 [] (Some wire) (Some left) reads had has result new → ((calls : List RouterCall) → CallsLead calls new → Some name ≡ name_of (kept (played calls).items).version) → HasTable set new
   fetched set wire left reads had has result new name payloads wire_is (f, led) named =
       let calls : List RouterCall = Closes 0 ∷ calls_since f.turns 0 [] in
       let s = led.split (tt, are_calls f.turns f.each) in
+      let version : spoken (played calls).items ≡ V1 = (speaks calls).1 ∙ connected_1 f.turns f.each in
       let stream : s.split.front ++ (s.rest ++ (f.unread ++ left)) ≡ sent_all V1 (answer_units (listing set)) =
       sym (append_assoc s.split.front s.rest (f.unread ++ left)) ∙ ap (λ b. b ++ (f.unread ++ left)) (sym s.split.whole ∙ append-nil (came (calls_since f.turns 0 []))) ∙ sym (append_assoc (came (calls_since f.turns 0 [])) f.unread left)
       ∙ sym f.consumed ∙ wire_is ∙ answer_is set in
-      let first = read_are_first apart written true (answer_units (listing set)) (units_read_in (played calls).items) s.split.front (s.rest ++ (f.unread ++ left)) (all_units (listing set) payloads) s.split.read stream in
+      let first = read_are_first apart written true (answer_units (listing set)) (units_read_in (played calls).items) s.split.front (s.rest ++ (f.unread ++ left)) (all_units (listing set) payloads) (subst (λ v. AreRead v true (units_read_in (played calls).items) s.split.front) version s.split.read) stream in
       record {
         machine = (played calls).router;
         shown = led.leads;

@@ -6,10 +6,11 @@ use Rattle.std.specs.Ordering.{eq_by_cmp}
 use Rattle.prefixes.specs.Payload.{Payload, vrp_cmp}
 use Rattle.vrps.specs.VrpSet.{SameMembers, VrpSet, empty, listing}
 use Rattle.rtr_pdu.specs.declared.unit.Unit.{Unit}
+use Rattle.rtr_pdu.specs.declared.version.Version.{Version}
 use Rattle.rtr_pdu.specs.declared.unit.Unit.TheVariants.{CacheResponse, Prefix, EndOfData}
 use Rattle.rtr_ends.specs.Consumed.{units_read_in}
 use Rattle.rtr_ends.specs.RouterLink.{name_of}
-use Rattle.rtr_ends.specs.Transcript.{AskReset, AskSerial, Asks, At, Begun, Breaks, Committed, Item, Kept, Lacks, Opened, Question, Reads, Refused, Restarts, Shut, acts_once, at_end_of_data, base_of, begun, bounded, emptied_if, is_among, is_over, is_wrong, kept, later, led_to, moment, nothing, under_way, waiting, with_record}
+use Rattle.rtr_ends.specs.Transcript.{AskReset, AskSerial, Asks, At, Begun, Breaks, Committed, Item, Kept, Lacks, Opened, Question, Reads, Refused, Restarts, Shut, acts_once, at_end_of_data, base_of, begun, bounded, emptied_if, is_among, is_over, is_wrong, kept, later, led_to, moment, nothing, of_version, spoken, under_way, waiting, with_record}
 use Rattle.feed.proofs.Sets.{led_from_nothing}
 use Rattle.prefixes.proofs.Basics.{or_swap}
 
@@ -26,7 +27,7 @@ answer_units vs = CacheResponse 1 ∷ map announced vs ++ last ∷ []
 -- One connection was made, by a router that kept nothing.
 abbrev pub OneConnection : List Item → Type 0
 OneConnection [] = ⊥
-OneConnection (Opened ∷ items) = kept items ≡ nothing
+OneConnection (Opened version ∷ items) = kept items ≡ nothing
 OneConnection (Restarts ∷ items) = ⊥
 OneConnection (item ∷ items) = OneConnection items
 
@@ -103,9 +104,9 @@ module _ (vs : List Payload) where
 
   reads : (items : List Item) (u : Unit) → Steps items u (Reads u ∷ items)
   reads items u = record {
-    first = λ is gone. subst (λ x. (kept (Reads x ∷ items) ≡ nothing) × Begins [] (under_way (Reads x ∷ items))) (sym is) (emptied (is_wrong (waiting items) (kept items).version 1) (kept items) gone, begins_begun (waiting items));
+    first = λ is gone. subst (λ x. (kept (Reads x ∷ items) ≡ nothing) × Begins [] (under_way (Reads x ∷ items))) (sym is) (emptied (is_wrong (waiting items) (of_version (spoken items) (kept items).version) 1) (kept items) gone, begins_begun (waiting items));
     next = λ front v is gone h. subst (λ x. (kept (Reads x ∷ items) ≡ nothing) × Begins (front ++ v ∷ []) (under_way (Reads x ∷ items))) (sym is) (gone, begins_more front v (under_way items) h);
-    end = λ is gone h. subst (λ x. Ends vs (kept (Reads x ∷ items))) (sym is) (ends vs (under_way items) (record { session = 1; serial = 0; moment = moment items; intervals = bounded 3600 600 7200 }) (kept items) gone h);
+    end = λ is gone h. subst (λ x. Ends vs (kept (Reads x ∷ items))) (sym is) (ends vs (under_way items) (record { version = spoken items; session = 1; serial = 0; moment = moment items; intervals = bounded 3600 600 7200 }) (kept items) gone h);
   }
 
   lacks : (items : List Item) (u : Unit) → Steps items u (Lacks u ∷ items)
@@ -154,7 +155,7 @@ module _ (vs : List Payload) where
   came : (items : List Item) (more : List Unit) → OneConnection items → units_read_in items ++ more ≡ answer_units vs → Came items (units_read_in items)
   came [] more one e = absurd one
   came (At now ∷ items) more one e = ticks now items (units_read_in items) (came items more one e)
-  came (Opened ∷ items) more one e = none refl one refl
+  came (Opened version ∷ items) more one e = none refl one refl
   came (Asks question ∷ items) more one e = drops items (Asks question ∷ items) (units_read_in items) refl refl (came items more one e)
   came (Reads u ∷ items) more one e =
       let before = sym (append_assoc (units_read_in items) (u ∷ []) more) ∙ e in
@@ -167,12 +168,12 @@ module _ (vs : List Payload) where
   came (Shut ∷ items) more one e = drops items (Shut ∷ items) (units_read_in items) refl refl (came items more one e)
   came (Restarts ∷ items) more one e = absurd one
 
-not_nothing : {A : Type 0} (k : Kept) (name : ℕ × ℕ) → name_of k.version ≡ Some name → k ≡ nothing → A
+not_nothing : {A : Type 0} (k : Kept) (name : Version × ℕ × ℕ) → name_of k.version ≡ Some name → k ≡ nothing → A
 not_nothing k name e gone = absurd (let h : None ≡ Some name = sym (ap (λ (x : Kept). name_of x.version) gone) ∙ e in cc)
 
 -- A router that holds a version then holds the records of the answer.
 pub holds : SameMembers → (set : VrpSet) (items : List Item) (more : List Unit) → OneConnection items → units_read_in items ++ more ≡ answer_units (listing set)
-    → (name : ℕ × ℕ) → name_of (kept items).version ≡ Some name → (kept items).table ≡ set
+    → (name : Version × ℕ × ℕ) → name_of (kept items).version ≡ Some name → (kept items).table ≡ set
 holds same set items more one e name named = by_place (came (listing set) items more one e)
   where
     by_end : Ends (listing set) (kept items) → (kept items).table ≡ set

@@ -5,7 +5,7 @@ ghost use Rattle.vrps.specs.VrpSet.{VrpSet, IsVrpSet};
 ghost use Rattle.feed.specs.Feed.{answer_bytes};
 ghost use Rattle.feed.specs.Loopback.{StartsWithSet, HasTable};
 
-use rtr_ends::laws::history_splits;
+use rtr_ends::laws::{history_splits, router_speaks};
 use rtr_ends::{Cache, Router, Served, Timing, fetch_stream, serve_stream};
 use rtr_pdu::laws::{no_beginning, one_split, written_is_read};
 use rtr_pdu::{Counted, Unit, UnitBuffer, encode};
@@ -61,6 +61,7 @@ pub(crate) fn router_with(alloc: Global, wire: &[u8]) -> Result<Router, AllocErr
 {
     know_units();
     same_members();
+    router_speaks();
     let mut router = Router::new(alloc);
     let mut input = Counted::new(wire);
     let mut questions = Counted::new(Vec::new(alloc));
