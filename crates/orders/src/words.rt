@@ -1,6 +1,7 @@
 //! The words of the command line.
 use clap::error::ErrorKind;
 use clap::{Arg, ArgAction, ArgMatches, Command, Error};
+use rtr_pdu::Version;
 use std::alloc::{AllocError, Global};
 
 /// Why words give no order.
@@ -81,7 +82,7 @@ static FORMS: [Form; 10] = [
     Form {
         name: "fetch",
         options: &["port"],
-        extras: &[],
+        extras: &["rtr-version"],
         words: &[],
         lists: &[],
     },
@@ -181,9 +182,10 @@ pub enum Order<'a> {
         vrps: &'a str,
         connections: u32,
     },
-    /// What a router fetches from a cache on a port of this machine.
+    /// What a router that speaks this version of the protocol fetches from a cache on a port of this machine.
     Fetch {
         port: u16,
+        version: Version,
     },
     /// Both ends over a connection of this machine: what the router fetches from a cache of the list of the file `vrps`, and then the state of
     /// the route that PREFIX and ORIGIN name.
@@ -233,6 +235,15 @@ fn number_16_or(found: &ArgMatches<'_>, name: &str, number: u16) -> Result<u16, 
     match found.get_str(name) {
         None => Ok(number),
         Some(_) => number_16(found, name),
+    }
+}
+
+/// The version of the protocol under this name, or 1 where the option is left out.
+fn version(found: &ArgMatches<'_>, name: &str) -> Result<Version, WordsFault> {
+    match number_16_or(found, name, 1)? {
+        0 => Ok(Version::V0),
+        1 => Ok(Version::V1),
+        _ => Err(WordsFault::NoOrder),
     }
 }
 
@@ -307,6 +318,7 @@ fn serve_order<'a>(found: &ArgMatches<'a>) -> Result<Order<'a>, WordsFault> {
 fn fetch_order<'a>(found: &ArgMatches<'a>) -> Result<Order<'a>, WordsFault> {
     Ok(Order::Fetch {
         port: number_16(found, "port")?,
+        version: version(found, "rtr-version")?,
     })
 }
 

@@ -5,6 +5,7 @@ use crate::routing::word_of;
 use crate::runner::ProgramFault;
 use crate::scripts::{Beginning, Line, read_beginning, read_line};
 use prefixes::Route;
+use rtr_pdu::Version;
 use rtr_world::{CatchFault, World, WorldFault};
 use std::alloc::Global;
 use std::io::Write;
@@ -51,6 +52,7 @@ pub fn play<O: Write>(alloc: Global, script: &[u8], out: &mut O) -> Result<u8, P
         alloc,
         beginning.routers,
         beginning.session,
+        beginning.session0,
         beginning.start,
         beginning.keep,
     )?;
@@ -123,7 +125,7 @@ fn tell_refused<O: Write>(number: u64, fault: WorldFault, out: &mut O) -> Result
     Ok(())
 }
 
-/// Shows what a router has committed: its session, its serial, and the size of its table.
+/// Shows what a router has committed: `v0` where that is of version 0 of the protocol, its session, its serial, and the size of its table.
 fn show<O: Write>(
     world: &World,
     number: u64,
@@ -135,8 +137,12 @@ fn show<O: Write>(
     };
     match world.committed(router) {
         None => writeln!(out, "{router} empty")?,
-        Some((session, serial)) => {
-            writeln!(out, "{router} {session} {} {}", serial.0, table.len())?;
+        Some((version, session, serial)) => {
+            let mark = match version {
+                Version::V0 => "v0 ",
+                Version::V1 => "",
+            };
+            writeln!(out, "{router} {mark}{session} {} {}", serial.0, table.len())?;
         }
     }
     Ok(())

@@ -19,6 +19,7 @@ use payload_lists::{ListFault, read_list, write_list};
 use payloads::{PayloadFault, decode_manifest, decode_roa};
 use points::Repository;
 use rtr_ends::{Cache, Fetched, StreamFault};
+use rtr_pdu::Version;
 use std::alloc::{AllocError, Global};
 use std::io::{BufWriter, ErrorKind, Write};
 use std::net::Net;
@@ -166,7 +167,7 @@ fn run<R: Files + Net + AllocGlobal + Clone + Drop, O: Write, E: Write>(
             };
             serve(rt, port, name, vrps, connections, out)
         }
-        Order::Fetch { port } => fetch(rt, port, out),
+        Order::Fetch { port, version } => fetch(rt, port, version, out),
         Order::Loop {
             session,
             start,
@@ -402,12 +403,17 @@ fn serve<R: Files + Net + AllocGlobal, O: Write>(
     }
 }
 
-/// The command `fetch`: what a router fetches from a cache on a port of this machine.
-fn fetch<R: Net + AllocGlobal, O: Write>(rt: &R, port: u16, out: &mut O) -> Result<u8, ProgramFault>
+/// The command `fetch`: what a router that speaks this version of the protocol fetches from a cache on a port of this machine.
+fn fetch<R: Net + AllocGlobal, O: Write>(
+    rt: &R,
+    port: u16,
+    version: Version,
+    out: &mut O,
+) -> Result<u8, ProgramFault>
     ensures { IfOk result (λ s. s ≤ 1) }
 {
     let stream = dial(rt, port)?;
-    let (router, fetched) = fetch_all(rt.alloc(), stream)?;
+    let (router, fetched) = fetch_all(rt.alloc(), stream, version)?;
     tell_fetched(rt.alloc(), &router, fetched, out)
 }
 

@@ -5,18 +5,21 @@ use crate::routing::read_route;
 use crate::runner::ProgramFault;
 use orders::decimal;
 use prefixes::{Asn, IpPrefix, Route, Vrp};
+use rtr_pdu::Version;
 use rtr_world::{Event, SideEvent};
 use std::alloc::Global;
 use vrps::{SetFault, VrpSet};
 
-/// With what a world begins: how many routers it has, the session of the cache, the serial of its first version, and how many versions
-/// before the current one it keeps, from 1 to 65,536.
+/// With what a world begins: how many routers it has, the session of the cache, and that in version 0 of the protocol, the serial of its
+/// first version, and how many versions before the current one it keeps, from 1 to 65,536.
 #[derive(Clone, Copy)]
 pub struct Beginning {
     /// How many routers.
     pub routers: u16,
     /// The session of the cache.
     pub session: u16,
+    /// Its session in version 0 of the protocol.
+    pub session0: u16,
     /// The serial of its first version.
     pub start: u32,
     /// How many versions before the current one it keeps.
@@ -73,6 +76,24 @@ impl<'a> Words<'a> {
         u32::try_from(self.number()?).ok()
     }
 
+    /// A number of 16 bits, or this one where the line is over.
+    fn number_16_or(&mut self, number: u16) -> Option<u16> {
+        if self.is_over() {
+            Some(number)
+        } else {
+            self.number_16()
+        }
+    }
+
+    /// A version of the protocol.
+    fn version(&mut self) -> Option<Version> {
+        match self.number()? {
+            0 => Some(Version::V0),
+            1 => Some(Version::V1),
+            _ => None,
+        }
+    }
+
     fn route(&mut self) -> Option<Route> {
         let prefix = self.next()?;
         let origin = self.next()?;
@@ -84,7 +105,7 @@ impl<'a> Words<'a> {
     }
 }
 
-/// What the first line says: `world ROUTERS SESSION START KEEP`.
+/// What the first line says: `world ROUTERS SESSION START KEEP [SESSION0]`. Without the last word both sessions are the same.
 pub fn read_beginning(line: &str) -> Option<Beginning>
     ensures some { IfSome result (λ beginning. 1 ≤ beginning.keep) }
     ensures limit { IfSome result (λ beginning. beginning.keep ≤ 65536) }
@@ -97,12 +118,14 @@ pub fn read_beginning(line: &str) -> Option<Beginning>
     let session = words.number_16()?;
     let start = words.number_32()?;
     let keep = words.number_32()?;
+    let session0 = words.number_16_or(session)?;
     if keep < 1 || keep > 65536 || !words.is_over() {
         return None;
     }
     Some(Beginning {
         routers,
         session,
+        session0,
         start,
         keep,
     })
@@ -156,7 +179,12 @@ fn read_other(name: &str, words: &mut Words<'_>) -> Option<Line> {
     if name == "restart" {
         let session = words.number_16()?;
         let start = words.number_32()?;
-        return Some(Line::Event(Event::Restart { session, start }));
+        let session0 = words.number_16_or(session)?;
+        return Some(Line::Event(Event::Restart {
+            session,
+            session0,
+            start,
+        }));
     }
     let router = words.number_16()?;
     match name {
@@ -177,6 +205,7 @@ fn read_other(name: &str, words: &mut Words<'_>) -> Option<Line> {
 fn read_side_event(name: &str, words: &mut Words<'_>) -> Option<SideEvent> {
     match name {
         "router-restart" => Some(SideEvent::RouterRestart),
+        "speak" => Some(SideEvent::Speak(words.version()?)),
         "connect" => Some(SideEvent::Connect),
         "router-sends" => Some(SideEvent::RouterSends(words.number()?)),
         "cache-gets" => Some(SideEvent::CacheGets(words.number()?)),

@@ -4,7 +4,7 @@ ghost use Rattle.std.specs.Prelude.{◌≤◌, IfOk};
 use crate::runner::ProgramFault;
 use payload_lists::write_list;
 use rtr_ends::{Cache, Conn, Fetched, Link, Router, StreamFault, fetch_stream, serve_stream};
-use rtr_pdu::{Counted, MAX_UNIT_LEN};
+use rtr_pdu::{Counted, MAX_UNIT_LEN, Version};
 use std::alloc::Global;
 use std::io;
 use std::io::{Read, Write};
@@ -60,14 +60,16 @@ fn serve_one<T: Read + Write + OpenStream + Drop>(
     Ok(serve_stream(cache, &mut input, &mut output, MOST_READS).err())
 }
 
-/// What a new router fetches over a connection, and the router after that. Its moment is 0.
+/// What a new router that speaks this version of the protocol fetches over a connection, and the router after that. Its moment is 0.
 pub fn fetch_all<T: Read + Write + OpenStream + Drop>(
     alloc: Global,
     stream: T,
+    version: Version,
 ) -> Result<(Router, Fetched), ProgramFault> {
     let mut output = Counted::new(stream.try_clone()?);
     let mut input = Counted::new(stream);
     let mut router = Router::new(alloc);
+    router.speak(version);
     match fetch_stream(&mut router, &mut input, &mut output, 0, MOST_READS) {
         Ok(fetched) => Ok((router, fetched)),
         Err(StreamFault::Memory) => Err(ProgramFault::Memory),
@@ -155,11 +157,11 @@ fn reached(router: &Router) -> Fetched {
     }
 }
 
-/// Tells the name of the version that a router committed.
+/// Tells the session and the serial of the version that a router committed.
 pub fn tell_committed<O: Write>(router: &Router, out: &mut O) -> io::Result<()> {
     match router.committed() {
         None => Ok(()),
-        Some((session, serial)) => writeln!(out, "committed {session} {}", serial.0),
+        Some((_version, session, serial)) => writeln!(out, "committed {session} {}", serial.0),
     }
 }
 
