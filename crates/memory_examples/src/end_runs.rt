@@ -132,7 +132,7 @@ pub(crate) fn tell_router(rt: &HostRuntime, router: &Router) -> Result<(), Fail>
     let mut out = rt.stdout();
     let held = router.table().len();
     match router.committed() {
-        Some((session, serial)) => {
+        Some((_version, session, serial)) => {
             writeln!(out, "{:?} {held} {session} {}", router.link(), serial.0)?
         }
         None => writeln!(out, "{:?} {held}", router.link())?,
@@ -158,7 +158,7 @@ fn tell_answered(
     for _try in 0..2 {
         answered(router, answer);
         tell_router(rt, router)?;
-        if router.committed().is_some_and(|it| it.1.0 == serial) {
+        if router.committed().is_some_and(|it| it.2.0 == serial) {
             return Ok(());
         }
     }

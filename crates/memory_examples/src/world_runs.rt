@@ -39,7 +39,7 @@ fn tell_caught_up(rt: &HostRuntime, world: &mut World) -> Result<(), Fail> {
 
 #[test]
 fn catch_up(rt: HostRuntime) -> Result<(), Fail> {
-    let mut world = World::new(rt.alloc(), 1, 4660, 5, 2)?;
+    let mut world = World::new(rt.alloc(), 1, 4660, 4660, 5, 2)?;
     let _made = world.step(&Event::Publish(set_of(rt.alloc(), &[V])?));
     begin(rt.alloc())?;
     tell_caught_up(&rt, &mut world)
@@ -47,11 +47,12 @@ fn catch_up(rt: HostRuntime) -> Result<(), Fail> {
 
 #[test]
 fn catch_up_after_a_restart(rt: HostRuntime) -> Result<(), Fail> {
-    let mut world = World::new(rt.alloc(), 1, 4660, 5, 2)?;
+    let mut world = World::new(rt.alloc(), 1, 4660, 4660, 5, 2)?;
     let _made = world.step(&Event::Publish(set_of(rt.alloc(), &[V])?));
     let _ended = world.catch_up(0);
     let _begun = world.step(&Event::Restart {
         session: 8738,
+        session0: 8738,
         start: 9,
     });
     let _made = world.step(&Event::Publish(set_of(rt.alloc(), &[])?));
@@ -78,7 +79,7 @@ fn tell_stepped(rt: &HostRuntime, world: &mut World, event: &Event) -> Result<()
 #[test]
 fn step_by_step(rt: HostRuntime) -> Result<(), Fail> {
     let alloc = rt.alloc();
-    let mut world = World::new(alloc, 1, 4660, 5, 2)?;
+    let mut world = World::new(alloc, 1, 4660, 4660, 5, 2)?;
     let events = [
         Event::Publish(set_of(alloc, &[V])?),
         on(SideEvent::Connect),
@@ -96,6 +97,7 @@ fn step_by_step(rt: HostRuntime) -> Result<(), Fail> {
         on(SideEvent::RouterRestart),
         Event::Restart {
             session: 8738,
+            session0: 8738,
             start: 9,
         },
         Event::Publish(set_of(alloc, &[W])?),

@@ -9,6 +9,8 @@ mod router_cells;
 #[cfg(test)]
 mod routers;
 #[cfg(test)]
+mod routers_v0;
+#[cfg(test)]
 mod streams;
 #[cfg(test)]
 mod units;

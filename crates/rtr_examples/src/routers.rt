@@ -5,7 +5,7 @@ use crate::wire::{
 use prefixes::{IpPrefix, Route};
 use rtr_ends::laws::router_has_room;
 use rtr_ends::{AskFault, Cache, Conn, End, Link, Router};
-use rtr_pdu::error_code;
+use rtr_pdu::{Version, error_code};
 use std::alloc::Global;
 use std::process::Abort;
 use std::test::Fail;
@@ -32,7 +32,7 @@ pub(crate) fn expect_pulled<R: Abort>(rt: &R, router: &mut Router, unit: &str) {
 /// Checks what is committed: so many records, and this serial of session 4660.
 pub(crate) fn expect_held<R: Abort>(rt: &R, router: &Router, records: usize, serial: u32) {
     assert!(rt; router.table().len() == records);
-    assert!(rt; router.committed() == Some((4660, Serial(serial))));
+    assert!(rt; router.committed() == Some((Version::V1, 4660, Serial(serial))));
     router_has_room(router);
 }
 

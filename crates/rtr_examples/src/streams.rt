@@ -3,7 +3,7 @@ use crate::wire::{ANSWER, Bytes, RESET_QUERY, UNCHANGED, bytes};
 use rtr_ends::{
     Cache, End, Fetched, Link, Router, Served, StreamFault, fetch_stream, serve_stream,
 };
-use rtr_pdu::Counted;
+use rtr_pdu::{Counted, Version};
 use std::alloc::Global;
 use std::cell::RefCell;
 use std::io;
@@ -358,7 +358,7 @@ fn a_router_fetches(rt: HostRuntime) -> Result<(), Fail> {
     assert!(rt; router.committed().is_none());
     expect_fetched(&rt, &mut router, alloc, ANSWER, 3, Ok(Fetched::Committed));
     assert!(rt; router.table().len() == 1);
-    assert!(rt; router.committed() == Some((4660, Serial(5))));
+    assert!(rt; router.committed() == Some((Version::V1, 4660, Serial(5))));
     Ok(())
 }
 
@@ -391,6 +391,6 @@ fn a_fetch_that_fails_leaves_the_table(rt: HostRuntime) -> Result<(), Fail> {
     let fetched = fetch_stream(&mut router, &mut input, &mut narrow, 100, 9);
     assert!(rt; fetched == Err(StreamFault::WriteFailed));
     assert!(rt; narrow.device().taken.as_slice() == bytes("01 01 12").as_slice());
-    assert!(rt; router.committed() == Some((4660, Serial(5))));
+    assert!(rt; router.committed() == Some((Version::V1, 4660, Serial(5))));
     Ok(())
 }

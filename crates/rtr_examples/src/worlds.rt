@@ -1,5 +1,6 @@
 use crate::caches::{V, set_of};
 use prefixes::{IpPrefix, Route};
+use rtr_pdu::Version;
 use rtr_world::{CatchFault, Event, SideEvent, World, WorldFault};
 use std::process::Abort;
 use std::test::Fail;
@@ -14,16 +15,16 @@ fn route() -> Option<Route> {
     })
 }
 
-/// Checks what a router holds: so many records, and this version.
+/// Checks what a router holds: so many records, under this name.
 fn expect_held<R: Abort>(
     rt: &R,
     world: &World,
     router: u16,
     records: usize,
-    session: u16,
-    serial: u32,
+    name: (Version, u16, u32),
 ) {
-    assert!(rt; world.committed(router) == Some((session, Serial(serial))));
+    let (version, session, serial) = name;
+    assert!(rt; world.committed(router) == Some((version, session, Serial(serial))));
     match world.table(router) {
         None => assert!(rt; false),
         Some(table) => assert!(rt; table.len() == records),
@@ -33,7 +34,7 @@ fn expect_held<R: Abort>(
 #[test]
 fn an_answer_is_cut_and_the_router_catches_up(rt: HostRuntime) -> Result<(), Fail> {
     let alloc = rt.alloc();
-    let mut world = World::new(alloc, 1, 4660, 5, 2)?;
+    let mut world = World::new(alloc, 1, 4660, 4660, 5, 2)?;
     let mut events = Vec::new(alloc);
     events.push(Event::Publish(set_of(alloc, &[V])?))?;
     for event in [
@@ -49,7 +50,7 @@ fn an_answer_is_cut_and_the_router_catches_up(rt: HostRuntime) -> Result<(), Fai
     assert!(rt; world.run(events.as_slice()) == 0);
     assert!(rt; world.committed(0) == None);
     assert!(rt; world.catch_up(0) == Ok(()));
-    expect_held(&rt, &world, 0, 1, 4660, 5);
+    expect_held(&rt, &world, 0, 1, (Version::V1, 4660, 5));
     match route() {
         None => assert!(rt; false),
         Some(route) => assert!(rt; world.route_state(0, &route) == Some(OriginState::Valid)),
@@ -59,7 +60,7 @@ fn an_answer_is_cut_and_the_router_catches_up(rt: HostRuntime) -> Result<(), Fai
 
 #[test]
 fn events_are_refused(rt: HostRuntime) -> Result<(), Fail> {
-    let mut world = World::new(rt.alloc(), 1, 4660, 5, 2)?;
+    let mut world = World::new(rt.alloc(), 1, 4660, 1911, 5, 2)?;
     assert!(rt; world.catch_up(0) == Err(CatchFault::NoData));
     assert!(rt; world.catch_up(1) == Err(CatchFault::NoSuchRouter));
     assert!(rt; world.table(1).is_none());
@@ -70,10 +71,44 @@ fn events_are_refused(rt: HostRuntime) -> Result<(), Fail> {
     assert!(rt; world.step(&asks) == Err(WorldFault::NoSuchRouter));
     let restarts = Event::Restart {
         session: 4660,
+        session0: 1,
         start: 1,
     };
     assert!(rt; world.step(&restarts) == Err(WorldFault::SessionUsed));
     assert!(rt; WorldFault::SessionUsed.number() == 1);
     assert!(rt; CatchFault::NoSuchRouter.number() == 3);
+    Ok(())
+}
+
+#[test]
+fn a_router_of_version_0_catches_up(rt: HostRuntime) -> Result<(), Fail> {
+    let alloc = rt.alloc();
+    let mut world = World::new(alloc, 1, 4660, 1911, 5, 2)?;
+    assert!(rt; world.step(&Event::Publish(set_of(alloc, &[V])?)) == Ok(()));
+    assert!(rt; world.catch_up(0) == Ok(()));
+    expect_held(&rt, &world, 0, 1, (Version::V1, 4660, 5));
+    let speaks = Event::On {
+        router: 0,
+        event: SideEvent::Speak(Version::V0),
+    };
+    assert!(rt; world.step(&speaks) == Ok(()));
+    expect_held(&rt, &world, 0, 1, (Version::V1, 4660, 5));
+    assert!(rt; world.catch_up(0) == Ok(()));
+    expect_held(&rt, &world, 0, 1, (Version::V0, 1911, 5));
+    let restarts = Event::Restart {
+        session: 1911,
+        session0: 4660,
+        start: 9,
+    };
+    assert!(rt; world.step(&restarts) == Ok(()));
+    assert!(rt; world.step(&Event::Publish(set_of(alloc, &[])?)) == Ok(()));
+    assert!(rt; world.catch_up(0) == Ok(()));
+    expect_held(&rt, &world, 0, 0, (Version::V0, 4660, 9));
+    let used = Event::Restart {
+        session: 1912,
+        session0: 1911,
+        start: 1,
+    };
+    assert!(rt; world.step(&used) == Err(WorldFault::SessionUsed));
     Ok(())
 }
