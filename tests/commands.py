@@ -161,6 +161,11 @@ def version_0():
     for other in (
         "route --session0 1 --vrps v.json 192.0.2.0/24 1",
         "fetch --session0 1 --port 1",
+        "fetch --rtr-version 2 --port 1",
+        "fetch --rtr-version 01 --port 1",
+        "fetch --rtr-version --port 1",
+        "fetch --rtr-version 0 --rtr-version 0 --port 1",
+        "serve --rtr-version 0 --port 0 --session 4660 --start 5 --vrps v.json --connections 0",
         "loop --session0 1 --session 1 --start 1 --vrps v.json 192.0.2.0/24 1",
     ):
         expect(other, 2, "", BAD)
@@ -584,7 +589,7 @@ def notifies_and_ticks():
 
 def refused_events():
     on = ("router-restart {}", "connect {}", "router-sends {} 1", "cache-gets {} 1", "cache-sends {} 1", "router-gets {} 1", "cut {} 0", "notify {}")
-    on = (*on, "ask {}", "tick {} 1", "show {}", "route {} 192.0.2.0/24 64496")
+    on = (*on, "speak {} 0", "ask {}", "tick {} 1", "show {}", "route {} 192.0.2.0/24 64496")
     for routers in (0, 1, 3):
         events = "; ".join(it.format(routers) for it in on)
         plays(f"world {routers} 1 1 1; {events}", "".join(f"line {2 + it} refused 3\n" for it in range(len(on))))
@@ -597,6 +602,26 @@ def refused_events():
     plays(f"{WORLD}; router-sends 0 8; cache-gets 0 8; cache-sends 0 8; router-gets 0 8; cut 0 0; notify 0; ask 0; show 0", "0 empty\n")
 
 
+def both_versions():
+    """Routers of either version at one cache, whose sessions are 4660 in version 1 and 1911 in version 0 at first."""
+    began = f"world 1 4660 5 2 1911; publish {V}; catch-up 0; show 0; speak 0 0; catch-up 0; show 0"
+    shown = "0 caught-up\n0 4660 5 1\n0 caught-up\n0 v0 1911 5 1\n"
+    plays(f"{began}; restart 1911 9 4660; publish; catch-up 0; show 0; restart 1912 1 1911", f"{shown}0 caught-up\n0 v0 4660 9 0\nline 12 refused 1\n")
+    # a number is used in its version alone; without SESSION0 it is that of version 1, and is judged too
+    plays("world 0 1 5 2 2; restart 2 5 1; restart 3 5 3; restart 4 5 1; restart 2 5 9; restart 4 5 4; restart 4 5 5", "".join(f"line {it} refused 1\n" for it in (4, 5, 7)))
+    plays("world 0 1 5 2 2; restart 2 5", "line 2 refused 1\n")
+    # it holds from the next connection; the table of the other version stays until a commit, and is told by its own session
+    plays(f"{began}; publish {V} {W}; speak 0 1; show 0; ask 0; {TURN.format(0)}; show 0; connect 0; show 0; {TURN.format(0)}; show 0", f"{shown}0 v0 1911 5 1\n0 v0 1911 6 2\n0 v0 1911 6 2\n0 4660 6 2\n")
+    # a router that restarts speaks version 1; without a connection it can be told a version
+    plays(f"world 2 4660 5 2 1911; speak 1 0; publish {V}; catch-up 1; show 1; router-restart 1; catch-up 1; show 1; show 0", "1 caught-up\n1 v0 1911 5 1\n1 caught-up\n1 4660 5 1\n0 empty\n")
+    # nothing is published: a table of the other version may stay
+    plays(f"{began}; restart 7 7 8; speak 0 1; catch-up 0; show 0", f"{shown}0 no-data\n0 v0 1911 5 1\n")
+    plays(f"{began}; restart 7 7 8; catch-up 0; show 0", f"{shown}0 no-data\n0 empty\n")
+    # a notify before a header is of version 1, and does nothing; what was committed in version 0 expires after 7200 seconds
+    plays(f"world 1 4660 5 2 1911; speak 0 0; publish {V}; connect 0; notify 0; cache-sends 0 99; router-gets 0 99; {TURN.format(0)}; show 0", "0 v0 1911 5 1\n")
+    plays(f"{began}; tick 0 7200; show 0; tick 0 7201; show 0", f"{shown}0 v0 1911 5 1\n0 empty\n")
+
+
 def long_log():
     # a version 65,536 versions old is known, and then nothing came and nothing went; one that is older is answered by a Cache Reset
     for count, shown in ((65536, "0 4660 65536 1\n"), (65537, "0 4660 0 1\n")):
@@ -607,10 +632,10 @@ def long_log():
 
 def unreadable_beginnings():
     for line in (
-        *("", " ", "\t", "\r", "world", "world 1 1 1", "world 1 1 1 1 1", "worlds 1 1 1 1", "World 1 1 1 1", "publish", "\ufeffworld 1 1 1 1"),
+        *("", " ", "\t", "\r", "world", "world 1 1 1", "world 1 1 1 1 1 1", "worlds 1 1 1 1", "World 1 1 1 1", "publish", "\ufeffworld 1 1 1 1"),
         *("world  1 1 1 1", " world 1 1 1 1", "world 1 1 1 1 ", "world\t1 1 1 1", "world 1 1 1 1\r", "world 1 1 1 1\t"),
         *("world 65536 1 1 1", "world 1 65536 1 1", "world 1 1 4294967296 1", "world 1 1 1 0", "world 1 1 1 65537", "world 1 1 1 4294967297"),
-        *("world 01 1 1 1", "world +1 1 1 1", "world 1 -1 1 1", "world 1 1 0x1 1", "world 1 1 1 x"),
+        *("world 01 1 1 1", "world +1 1 1 1", "world 1 -1 1 1", "world 1 1 0x1 1", "world 1 1 1 x", "world 1 1 1 1 x", "world 1 1 1 1 01", "world 1 1 1 1 65536"),
     ):
         plays(f"{line}; show 0", "line 1 unreadable\n", 1)
     plays(b"", "line 1 unreadable\n", 1)
@@ -625,7 +650,8 @@ def unreadable_lines():
         *("connect +0", "connect 00", "connect 05", "connect -1", "connect x", "connect 65536", "Connect 0", "nothing 0", "world 1 4660 5 2"),
         *("router-sends 0", "router-sends 0 18446744073709551616", "router-sends 0 01", "cache-gets 0 +5", "cache-sends 0 x", "router-gets 0 1 1", "cut 0"),
         *("cut 0 -1", "tick 0", "tick 0 18446744073709551616", "notify", "ask 0 0", "router-restart", "show", "show 0 0", "show 65536"),
-        *("restart 1", "restart 65536 1", "restart 1 4294967296", "restart 1 1 1", "restart 01 1"),
+        *("restart 1", "restart 65536 1", "restart 1 4294967296", "restart 1 1 1 1", "restart 1 1 65536", "restart 1 1 x", "restart 01 1"),
+        *("speak", "speak 0", "speak 0 2", "speak 0 01", "speak 0 x", "speak 0 0 0", "speak 65536 0"),
         *("route 0", "route 0 192.0.2.0/24", "route 0 192.0.2.1/24 1", "route 0 192.0.2.0/33 1", "route 0 192.0.2.0/24 4294967296", "route 0 192.0.2.0/24 05"),
         *("route 0 192.0.2.0/24 NONE", "route 0 192.0.2.0/24 1 1", "route 0 192.0.2.0/24 "),
         *("publish ", f"publish  {V}", f"publish {V} ", f"publish {V}  {W}", "publish 192.0.2.0/24,24", f"publish {V},1", "publish 192.0.2.0/24,23,64496"),
@@ -660,7 +686,7 @@ if __name__ == "__main__":
         for part in (
             *(resets, refusals_of_bytes, each_unit, faults_of_units, version_0, words, roas, manifests, points, states_of_routes, order_of_refusals, lists, units),
             *(full_outputs, every_cut, cuts, catch_ups, restarts_of_the_cache, restarts_of_a_router, several_routers, questions, notifies_and_ticks),
-            *(refused_events, long_log, unreadable_beginnings, unreadable_lines, items_and_files),
+            *(refused_events, both_versions, long_log, unreadable_beginnings, unreadable_lines, items_and_files),
         ):
             part()
         os.chdir("/")

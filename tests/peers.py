@@ -75,12 +75,12 @@ class Ours:
     def serving(self, port, session, start, records):
         entries = [{"asn": asn, "maxLength": longest, "prefix": prefix} for prefix, longest, asn in records]
         name = write("list.json", json.dumps(entries))
-        words = ["serve", "--port", port, "--session", session, "--start", start, "--vrps", name, "--connections", 9]
+        words = ["serve", "--port", port, "--session", session, "--session0", session + 1, "--start", start, "--vrps", name, "--connections", 9]
         return running(self.program, *map(str, words))
 
-    def fetched(self, port):
-        """The records that a router of ours commits, or None."""
-        told = said(self.program, "fetch", "--port", str(port))
+    def fetched(self, port, version=1):
+        """The records that a router of ours commits which speaks this version, or None."""
+        told = said(self.program, "fetch", "--port", str(port), "--rtr-version", str(version))
         found = re.fullmatch(r"committed \d+ \d+\n(\[.*\])\n", told)
         return sorted((it["prefix"], it["maxLength"], it["asn"]) for it in json.loads(found[1])) if found else None
 
@@ -117,17 +117,40 @@ def rtrclient(port):
     return contextlib.nullcontext(view)
 
 
-def rtrdump(port):
-    """StayRTR's client: asks once and writes what it holds."""
+def rtrdump(version):
+    """StayRTR's client: asks once in this version of the protocol and writes what it holds."""
 
-    def view():
-        with contextlib.suppress(FileNotFoundError):
-            os.remove("rtrdump.json")
-        said("rtrdump", "-connect", f"127.0.0.1:{port}", "-rtr.version", "1", "-file", "rtrdump.json")
-        with contextlib.suppress(FileNotFoundError), open("rtrdump.json") as it:
-            return sorted((it["prefix"], it["maxLength"], it["asn"]) for it in json.load(it)["roas"])
+    def peer(port):
+        def view():
+            with contextlib.suppress(FileNotFoundError):
+                os.remove("rtrdump.json")
+            said("rtrdump", "-connect", f"127.0.0.1:{port}", "-rtr.version", str(version), "-file", "rtrdump.json")
+            with contextlib.suppress(FileNotFoundError), open("rtrdump.json") as it:
+                return sorted((it["prefix"], it["maxLength"], it["asn"]) for it in json.load(it)["roas"])
 
-    return contextlib.nullcontext(view)
+        return contextlib.nullcontext(view)
+
+    return peer
+
+
+GOBGP = """[global.config]
+    as = 64500
+    router-id = "127.0.0.1"
+    port = -1
+[[rpki-servers]]
+    [rpki-servers.config]
+        address = "127.0.0.1"
+        port = {port}
+"""
+
+
+@contextlib.contextmanager
+def gobgp(port):
+    """GoBGP speaks version 0 alone."""
+    name, api = write("gobgp.toml", GOBGP.format(port=port)), free_port()
+    with running("gobgpd", "-f", name, "--api-hosts", f"127.0.0.1:{api}", "--pprof-disable"):
+        tables = lambda: "".join(said("gobgp", "-p", str(api), "rpki", "table", "-a", it) for it in ("ipv4", "ipv6"))
+        yield lambda: records_in(r"(?m)^(\S+)/(\d+)\s+(\d+)\s+(\d+)\s", tables())
 
 
 BIRD = """log stderr all;
@@ -248,11 +271,11 @@ def exported(records):
     return json.dumps({"metadata": {"buildtime": "2026-01-01T00:00:00Z"}, "roas": roas})
 
 
-def stayrtr(ours):
-    """StayRTR as a cache: our router holds its list, and the new one where it changed."""
+def stayrtr(ours, version):
+    """StayRTR as a cache of this version: our router holds its list, and the new one where it changed."""
     port, name = free_port(), write("stayrtr.json", exported(FIRST))
-    words = ["-bind", f"127.0.0.1:{port}", "-cache", name, "-checktime=false", "-metrics.addr", "", "-refresh", "1"]
-    view = lambda: ours.fetched(port)
+    words = ["-bind", f"127.0.0.1:{port}", "-cache", name, "-checktime=false", "-metrics.addr", "", "-refresh", "1", "-protocol", str(version)]
+    view = lambda: ours.fetched(port, version)
     with running("stayrtr", *words):
         cells = [compared("stayrtr", view, FIRST, False)]
         write(name, exported(SECOND))
@@ -334,7 +357,9 @@ def rpki_client(ours):
 
 ROUTERS = {
     "rtrclient": ("rtr-tools", "rtrclient", rtrclient, False),
-    "rtrdump": ("stayrtr", "rtrdump", rtrdump, False),
+    "rtrdump": ("stayrtr", "rtrdump", rtrdump(1), False),
+    "rtrdump v0": ("stayrtr", "rtrdump", rtrdump(0), False),
+    "gobgp v0": ("gobgpd", "gobgpd", gobgp, False),
     "bird": ("bird2", "bird", bird, False),
     "frr": ("frr-rpki-rtrlib", "/usr/lib/frr/bgpd", frr, False),
     "openbgpd": ("openbgpd", "/usr/sbin/bgpd", openbgpd, True),
@@ -352,7 +377,8 @@ def main(program):
             else:
                 print(f"skipped: {package} is not installed")
         if shutil.which("stayrtr"):
-                rows.append(("stayrtr", "cache", *stayrtr(ours)))
+            rows.append(("stayrtr", "cache", *stayrtr(ours, 1)))
+            rows.append(("stayrtr v0", "cache", *stayrtr(ours, 0)))
         else:
             print("skipped: stayrtr is not installed")
         if shutil.which("fort"):

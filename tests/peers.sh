@@ -5,7 +5,7 @@ set -u
 top=$(cd "$(dirname "${BASH_SOURCE[0]}")/.." && pwd) || exit 1
 if [ "${1:-}" = --install ]; then
     { apt-get update && DEBIAN_FRONTEND=noninteractive apt-get install -y --no-install-recommends \
-        rtr-tools stayrtr bird2 frr frr-rpki-rtrlib openbgpd fort-validator rpki-client; } >/dev/null || exit 1
+        rtr-tools stayrtr gobgpd bird2 frr frr-rpki-rtrlib openbgpd fort-validator rpki-client; } >/dev/null || exit 1
 elif [ $# -gt 0 ]; then
     echo 'usage: tests/peers.sh [--install]' >&2
     exit 2

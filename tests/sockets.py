@@ -158,7 +158,7 @@ def serves():
         expect(f"serve --port {taken.getsockname()[1]} --session 4660 --start 5 --vrps bad --connections 0", 3, "", DEVICE)
 
 
-def fetched(reply, status, output, errors="", cut=0):
+def fetched(reply, status, output, errors="", cut=0, question=RESET, extra=""):
     """Fetches from a cache that reads a question and sends these bytes, those before the cut first, and then the end of the connection."""
     with socket.socket() as listener:
         listener.bind(("127.0.0.1", 0))
@@ -168,7 +168,7 @@ def fetched(reply, status, output, errors="", cut=0):
         def answer():
             peer, _address = listener.accept()
             with peer:
-                differs("the question, in one piece", peer.recv(1000), RESET)
+                differs("the question, in one piece", peer.recv(1000), question)
                 peer.setsockopt(socket.IPPROTO_TCP, socket.TCP_NODELAY, 1)
                 peer.sendall(reply[:cut])
                 time.sleep(0.005 if cut else 0)
@@ -179,7 +179,7 @@ def fetched(reply, status, output, errors="", cut=0):
 
         other = threading.Thread(target=answer)
         other.start()
-        expect(f"fetch --port {listener.getsockname()[1]}", status, output, errors)
+        expect(f"fetch --port {listener.getsockname()[1]}{extra}", status, output, errors)
         other.join(20)
 
 
@@ -197,6 +197,12 @@ def fetches():
         fetched(ANSWER[:end], 1, "closed\n")
     for units in ((1, 0, 2), (2, 0, 1), (0, 1, 1, 2), (1, 2, 0)):
         fetched(b"".join((BEGIN, ANNOUNCED, END)[it] for it in units), 1, "ended 1\n")
+    in_version_0 = {"question": bytes.fromhex("0002000000000008"), "extra": " --rtr-version 0"}
+    response, end = bytes.fromhex("0003077700000008"), bytes.fromhex("000707770000000c00000005")
+    for cut in range(0, 40):
+        fetched(response + b"\0" + ANNOUNCED[1:] + end, 0, f"committed 1911 5\n[{ENTRY}]\n", cut=cut, **in_version_0)
+    fetched(ANSWER, 1, "ended 1\n", **in_version_0)
+    fetched(ANSWER, 0, f"committed 4660 5\n[{ENTRY}]\n", extra=" --rtr-version 1")
     expect(f"fetch --port {free_port()}", 3, "", DEVICE)
     for words in ("fetch", "fetch --port", "fetch --port x", "fetch --port 65536", "fetch --port 1 --port 1", "fetch 1"):
         expect(words, 2, "", BAD)
@@ -205,11 +211,12 @@ def fetches():
 def both():
     """The program serves itself."""
     port = free_port()
-    words = f"serve --port {port} --session 4660 --start 5 --vrps many.json --connections 2"
+    words = f"serve --port {port} --session 4660 --session0 1911 --start 5 --vrps many.json --connections 3"
     with subprocess.Popen([program, *words.split(" ")], stdin=subprocess.DEVNULL, stdout=subprocess.PIPE) as ran:
         dial(port).close()
         expect(f"fetch --port {port}", 0, f"committed 4660 5\n{MANY}\n")
-        differs(words, (ran.communicate(timeout=60)[0].decode(), ran.returncode), ("served 2\n", 0))
+        expect(f"fetch --port {port} --rtr-version 0", 0, f"committed 1911 5\n{MANY}\n")
+        differs(words, (ran.communicate(timeout=60)[0].decode(), ran.returncode), ("served 3\n", 0))
 
 
 def loops():
