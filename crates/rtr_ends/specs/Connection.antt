@@ -122,7 +122,7 @@ abbrev pub takes_memory : Version → Instance → Unit → Bool
 takes_memory version i (SerialQuery session serial) = session == session_in version i && is_published i
 takes_memory version i u = false
 
--- A notify is of the version that was agreed on. Before that it is of version 1, or of that of a header that has come.
+-- A notify is of the version that was agreed on. Before that the machine tells its version (`speaks_in`): 1, or that of a header that has come.
 abbrev pub MayNotifyIn : Option Version → Version → Type 0
 MayNotifyIn None version = ⊤
 MayNotifyIn (Some agreed) version = version ≡ agreed

@@ -20,7 +20,7 @@ use vrps::{Published, Serial, VersionStore, VrpSet};
 #[derive(Clone, Copy, Debug, PartialEq, Eq)]
 pub struct Conn(usize);
 
-/// A cache (RFC 8210): it answers the queries of its routers from a store of versions. Each of its connections is a machine over
+/// A cache (RFC 6810, RFC 8210): it answers the queries of its routers from a store of versions. Each of its connections is a machine over
 /// bytes, and keeps a share of the current version ready. A call on a number that no connection has changes nothing.
 #[derive(Drop)]
 pub struct Cache<S> {

@@ -98,7 +98,7 @@ impl Machine {
         self.state = State::Asked(question);
     }
 
-    /// The units of the connection are of this version.
+    /// The version of the reader, where it knows one, is that of the connection.
     pub fn follow(&mut self, version: Option<Version>)
         ensures { (spoken : Protocol) → version ≡ Some spoken → self.new ≡ record self.old { spoken = spoken } }
     {
