@@ -3,7 +3,7 @@
 use Rattle.std.specs.Prelude.{◌≡◌, ℕ, ◌≤◌, Bool, true, false, List, [], ◌∷◌, ◌++◌, length, take, drop, Some, None, refl}
 use Rattle.std.proofs.Common.{Option, ap, arith}
 use Rattle.std.specs.Str.{chars, is_utf8}
-use Rattle.vrps.specs.Instance.{Instance}
+use Rattle.vrps.specs.Instance.{Instance, versions}
 use Rattle.vrps.specs.Store.{is_current}
 use Rattle.vrps.specs.VrpSet.{VrpSet, empty, set_of}
 use Rattle.vrps.proofs.SetLaws.{listing-set_of}
@@ -21,6 +21,10 @@ use Rattle.rtr_ends.specs.RouterLink.{Idle, Asked}
 use Rattle.rtr_ends.specs.Timing.{default_intervals}
 use Rattle.rtr_ends.specs.Transcript.{At, Opened, Asks, Reads, Refused, Restarts, Shut, Item, AskReset, AskSerial, Committed}
 use Rattle.rtr_ends.proofs.WholeAnswerRows.{v, v_ascends, cache, with_all_of, reset_bytes, response_bytes, v_bytes, end_bytes}
+use Rattle.rtr_world.specs.CatchUp.{HoldsNewest}
+use Rattle.rtr_world.specs.Claims.{OfAnother}
+use Rattle.rtr_world.specs.SideShown.{held_of}
+use Rattle.rtr_world.specs.VersionPlaces.{position_of, version_place_of}
 use Rattle.rtr_world.specs.History.{Done, Memory, after, refusal, may_refuse, moved, MayEnd, has_connection, is_near, room_for, room_since}
 use Rattle.rtr_world.specs.World.{Side, World, Publish, Restart, On, RouterRestart, Speak, Connect, RouterSends, CacheGets, CacheSends, RouterGets, Cut, NotifyRouter, Ask, Tick, new_side, connects, router_sends, cache_gets, cache_sends, router_gets, router_restarts, speaks, cut, side_step, side_refused, settle, goes_through, settled, is_refused}
 
@@ -259,6 +263,33 @@ counted_so : (sets : List VrpSet) → length sets ≡ 2147483648 → let i = cac
     × (room_since i (Some (record (cache 5 []) { session = 0x2222; session0 = 0x2222 })) ≡ true) × (room_since i None ≡ true)
     × (room_for i (Some (record version_5 { session = 0x2222 })) ≡ true) × (room_for i None ≡ true)
 counted_so sets count = rw count (refl, refl, refl, refl, refl, refl, refl, refl)
+
+-- What was committed counts under its session in its own version of the protocol: this cache is 0x4321 in version 0.
+abbrev of_both : List VrpSet → Instance
+of_both sets = record (cache 5 sets) { session0 = 0x4321 }
+
+counted_in_its_version : (sets : List VrpSet) →
+    (room_for (of_both sets) (Some (record version_5 { version = V0 })) ≡ true) × (room_for (of_both sets) (Some (record version_5 { session = 0x4321 })) ≡ true)
+    × (room_for (of_both sets) (Some (record version_5 { version = V0; session = 0x4321 })) ≡ is_near (of_both sets) (position_of 5 (versions (of_both sets))))
+counted_in_its_version sets = (refl, refl, refl)
+
+held_in_its_version : (sets : List VrpSet) → (held_of (of_both sets) (Some (record version_5 { version = V0; session = 0x4321 })) ≡ Some 5) × (held_of (of_both sets) (Some (record version_5 { version = V0 })) ≡ None)
+held_in_its_version sets = (refl, refl)
+
+-- So is its place, and the session of which a link is told that it is another.
+placed_in_its_version : (version_place_of (of_both (just_v ∷ []) ∷ []) (Some (record version_5 { version = V0; session = 0x4321 })) ≡ Some (record { instance = 0; position = 0 }))
+    × (version_place_of (of_both (just_v ∷ []) ∷ []) (Some (record version_5 { version = V0 })) ≡ None)
+placed_in_its_version = (refl, refl)
+
+another_in_version_0 : OfAnother (Some (AskSerial 0x1234 5)) V0 (Some (of_both []))
+another_in_version_0 = λ e. absurd (omega (arith, e))
+
+the_same_in_version_0 : OfAnother (Some (AskSerial 0x4321 5)) V0 (Some (of_both [])) → ⊥
+the_same_in_version_0 h = h refl
+
+-- A table of the other version may stay where nothing is published.
+held_of_the_other : (table : VrpSet) → HoldsNewest V0 0x4321 [] (Some version_5) table
+held_of_the_other table = (refl, λ e. absurd (let h : ◌≡◌ {A = Option Committed} (Some version_5) None = e in cc))
 
 never_too_many : (w : World) (set : VrpSet) → is_current w.present.sets set ≡ true → refusal w (Publish set) ≡ None
 unfolding refusal

@@ -107,7 +107,7 @@ abbrev pub PlacesNoted : Type 0
 PlacesNoted = Always (λ w s. HasPlaces (instances w) s.items s.places)
 
 -- A link ends by want of memory, by its expiry, by a report of code 1, or by one of code 0 to a Serial Query of another session than
--- the cache's, and by nothing else.
+-- the cache's in the version of the connection, and by nothing else.
 abbrev pub OfAnother : Option Question → Version → Option Instance → Type 0
 OfAnother (Some (AskSerial session serial)) version (Some home) = session ≡ session_in version home → ⊥
 OfAnother question version home = ⊥
