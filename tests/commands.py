@@ -610,6 +610,8 @@ def both_versions():
     # a number is used in its version alone; without SESSION0 it is that of version 1, and is judged too
     plays("world 0 1 5 2 2; restart 2 5 1; restart 3 5 3; restart 4 5 1; restart 2 5 9; restart 4 5 4; restart 4 5 5", "".join(f"line {it} refused 1\n" for it in (4, 5, 7)))
     plays("world 0 1 5 2 2; restart 2 5", "line 2 refused 1\n")
+    plays("world 0 7 1 1; restart 8 1 7", "line 2 refused 1\n")
+    plays(f"world 1 4660 5 2; publish {V}; speak 0 0; catch-up 0; show 0", "0 caught-up\n0 v0 4660 5 1\n")
     # it holds from the next connection; the table of the other version stays until a commit, and is told by its own session
     plays(f"{began}; publish {V} {W}; speak 0 1; show 0; ask 0; {TURN.format(0)}; show 0; connect 0; show 0; {TURN.format(0)}; show 0", f"{shown}0 v0 1911 5 1\n0 v0 1911 6 2\n0 v0 1911 6 2\n0 4660 6 2\n")
     # a router that restarts speaks version 1; without a connection it can be told a version

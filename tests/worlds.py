@@ -4,9 +4,9 @@
 usage: tests/worlds.py PROGRAM [--seed N] [--seconds N] [--events N]
 
 Scripts are made from the seed, one after the other, until the seconds are over (30 unless said otherwise). This program keeps what was
-published under which session and serial, and judges each printed line by that alone: a table is one of these sets, under its own name,
-and never an older one than before; routes are judged as RFC 6811 section 2 has it, over that set; who caught up holds the newest; an
-event is refused exactly where there is no such router or the session was used. It knows nothing of units and of wires. It exits with 1
+published under which sessions and serial, and judges each printed line by that alone: a table is one of these sets, under its own name,
+and never an older one than before; routes are judged as RFC 6811 section 2 has it, over that set; who caught up holds the newest, in the
+version of the protocol that it speaks; an event is refused exactly where there is no such router or a session was used. It knows nothing of units and of wires. It exits with 1
 at the first line that is wrong, and says the seed with which the script is made again."""
 import argparse
 import ipaddress
@@ -21,7 +21,7 @@ ORIGINS = [0, 1, 64496, 4294967295]
 
 # The shares of events and questions. Bytes move most of the time: each router has four such moves.
 MOVES = ["router-sends", "cache-gets", "cache-sends", "router-gets"]
-WEIGHTS = {"move": 60, "round": 14, "connect": 4, "ask": 5, "notify": 5, "publish": 4, "show": 6, "route": 3, "catch-up": 2, "cut": 3, "tick": 3, "restart": 0.4, "router-restart": 0.6}
+WEIGHTS = {"move": 60, "round": 14, "connect": 4, "ask": 5, "notify": 5, "publish": 4, "show": 6, "route": 3, "catch-up": 2, "cut": 3, "tick": 3, "speak": 2, "restart": 0.4, "router-restart": 0.6}
 
 # The events that name a router and no more, and change nothing that is kept here.
 ALONE = ["connect", "ask", "notify"]
@@ -39,10 +39,11 @@ def state(records, prefix, origin):
 
 
 class Router:
-    """What is known of a router: its moment, until when it must hold a version, and, while lines are judged, the place of the last it showed."""
+    """What is known of a router: its moment, the version of the protocol of its next connection, until when it must hold a set, and, while
+    lines are judged, the place of the last it showed."""
 
     def __init__(self):
-        self.now, self.held_until, self.shown = 0, -1, 0
+        self.now, self.speaks, self.held_until, self.shown = 0, 1, -1, 0
 
 
 class Driver:
@@ -52,9 +53,14 @@ class Driver:
         self.random, self.events = random.Random(seed), events
         self.routers = [Router() for _ in range(self.random.choice([1, 1, 2, 3, 5]))]
         self.session, self.start = self.random.randrange(65536), self.random.choice([0, 5, 2**31 - 2, 2**32 - 2, self.random.randrange(2**32)])
-        self.used, self.versions, self.newest, self.next = {self.session}, [], None, self.start
+        self.session0 = self.random.choice([self.session, self.random.randrange(65536)])
+        self.used, self.used0, self.versions, self.newest, self.next = {self.session}, {self.session0}, [], None, self.start
         keep = self.random.choice([1, 2, 3, 8, 65536])
-        self.lines, self.judges = [f"world {len(self.routers)} {self.session} {self.start} {keep}"], []
+        self.lines, self.judges = [f"world {len(self.routers)} {self.session} {self.start} {keep}{self.own(self.session, self.session0)}"], []
+
+    def own(self, session, session0):
+        """The word for a session of version 0, which may be left out where it is that of version 1."""
+        return "" if session0 == session and self.random.random() < 0.5 else f" {session0}"
 
     def add(self, line, judge=None):
         self.lines.append(line)
@@ -119,6 +125,12 @@ class Driver:
         if self.at_router(f"router-restart {router}", router):
             self.routers[router] = Router()
 
+    def speak(self):
+        """Another version of the protocol, or the same, from the next connection on."""
+        router, version = self.chosen(), self.random.choice([0, 1])
+        if self.at_router(f"speak {router} {version}", router):
+            self.routers[router].speaks = version
+
     def publish(self):
         records = set()
         for prefix in self.random.sample(PREFIXES, self.random.randrange(len(PREFIXES))):
@@ -127,18 +139,20 @@ class Driver:
                 records.add((prefix, min(longest, prefix.max_prefixlen), asn))
         items = [f"{prefix},{longest},{asn}" for prefix, longest, asn in records]
         self.add(" ".join(["publish", *items]))
-        if self.newest is not None and self.versions[self.newest][2] == records:
+        if self.newest is not None and self.versions[self.newest][3] == records:
             return  # what is published already makes no new version
-        self.versions.append((self.session, self.next, records))
+        self.versions.append((self.session, self.session0, self.next, records))
         self.newest, self.next = len(self.versions) - 1, (self.next + 1) % 2**32
 
     def restart(self):
         session = self.random.choice([*self.used, *(self.random.randrange(65536) for _ in range(4))])
-        start = self.random.randrange(2**32)
-        self.add(f"restart {session} {start}", self.refused(1) if session in self.used else None)
-        if session not in self.used:
-            self.session, self.next, self.newest = session, start, None
+        session0 = self.random.choice([session, *self.used0, *self.used, *(self.random.randrange(65536) for _ in range(8))])
+        start, is_used = self.random.randrange(2**32), session in self.used or session0 in self.used0
+        self.add(f"restart {session} {start}{self.own(session, session0)}", self.refused(1) if is_used else None)
+        if not is_used:
+            self.session, self.session0, self.next, self.newest = session, session0, start, None
             self.used.add(session)
+            self.used0.add(session0)
             # (a router that learns of the new session is emptied)
             for router in self.routers:
                 router.held_until = -1
@@ -151,12 +165,12 @@ class Driver:
             self.caught_up(router)
 
     def caught_up(self, at):
-        """A router catches up, and then shows the newest version, or none where none is published."""
+        """A router catches up, and then shows the newest set, or none where none is published, but for one of the other version."""
         told = f"{at} no-data" if self.newest is None else f"{at} caught-up"
         self.add(f"catch-up {at}", lambda text: text == told)
         self.routers[at].held_until = -1 if self.newest is None else self.routers[at].now + EXPIRE
-        first = len(self.versions) if self.newest is None else self.newest
-        self.add(f"show {at}", Shown(self.routers[at], at, self.versions, first, len(self.versions)))
+        first, speaks = self.newest or 0, self.routers[at].speaks
+        self.add(f"show {at}", Shown(self.routers[at], at, self.versions, first, len(self.versions), [1 - speaks if self.newest is None else speaks]))
 
     def show(self):
         self.shown(self.chosen(), None)
@@ -170,7 +184,7 @@ class Driver:
         if at == len(self.routers):
             self.add(f"show {at}", self.refused(3))
             return
-        judge = Shown(self.routers[at], at, self.versions, 0, len(self.versions))
+        judge = Shown(self.routers[at], at, self.versions, 0, len(self.versions), [0, 1])
         self.add(f"show {at}", judge)
         if route:
             prefix, origin = route
@@ -178,19 +192,20 @@ class Driver:
 
 
 class Shown:
-    """Judges a shown table: one of the sets published from one place to another, under its own name, and none that is older than what was
-    shown before."""
+    """Judges a shown table: one of the sets published from one place to another, under its own name in one of these versions of the
+    protocol, and none that is older than what was shown before."""
 
-    def __init__(self, router, at, versions, first, end):
-        self.router, self.at, self.versions, self.first, self.end = router, at, versions, first, end
+    def __init__(self, router, at, versions, first, end, spoken):
+        self.router, self.at, self.versions, self.first, self.end, self.spoken = router, at, versions, first, end, spoken
         self.must_hold, self.records = router.now <= router.held_until, set()
 
     def __call__(self, text):
         if text == f"{self.at} empty":
             return not self.must_hold
         for place in range(max(self.router.shown, self.first), self.end):
-            session, serial, records = self.versions[place]
-            if text == f"{self.at} {session} {serial} {len(records)}":
+            session, session0, serial, records = self.versions[place]
+            names = [f"v0 {session0}", f"{session}"]
+            if text in [f"{self.at} {names[it]} {serial} {len(records)}" for it in self.spoken]:
                 self.router.shown, self.records = place, records
                 return True
         return False
