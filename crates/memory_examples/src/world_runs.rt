@@ -7,7 +7,7 @@ use std::test::Fail;
 fn tell_held(rt: &HostRuntime, world: &World) -> Result<(), Fail> {
     let mut out = rt.stdout();
     match (world.committed(0), world.table(0)) {
-        (Some((session, serial)), Some(table)) => {
+        (Some((_version, session, serial)), Some(table)) => {
             writeln!(out, "{session} {} {}", serial.0, table.len())?
         }
         _ => writeln!(out, "empty")?,
