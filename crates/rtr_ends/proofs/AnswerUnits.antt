@@ -208,12 +208,12 @@ notice_fit : (version : Version) (session start : ℕ) (sets : List VrpSet) → 
 notice_fit version session start [] low = tt
 notice_fit version session start (set ∷ older) low = (((low, serial_low start (length older)), refl), tt)
 
-reply_fit : (keep : ℕ) (c : Connection) (m : ConnMoment) → MayCome c m → AreBytes (bytes_of m) → AllByRecursion (IsUnitOf (sent_by m)) (reply keep default_intervals c.version m).units
-reply_fit keep c (Read version cache unit bytes) h each = answer_fit version cache keep unit h.2 h.4.1.fits
-reply_fit keep c (Wanting version cache unit bytes) h each = ((report_fit 1 [] (omega arith) none_bytes, refl), tt)
-reply_fit keep c (Fault version fault bytes) h each = fault_fit version c.version fault bytes each
-reply_fit keep c (Notify version cache) h each = notice_fit version (session_in version cache) cache.start cache.sets (session_low version cache h.2)
-reply_fit keep c (Pull count) h each = tt
+reply_fit : (keep : ℕ) (c : Connection) (coming : List ℕ) (m : ConnMoment) → MayCome c coming m → AreBytes (bytes_of m) → AllByRecursion (IsUnitOf (sent_by m)) (reply keep default_intervals c.version m).units
+reply_fit keep c coming (Read version cache unit bytes) h each = answer_fit version cache keep unit h.2 h.4.1.fits
+reply_fit keep c coming (Wanting version cache unit bytes) h each = ((report_fit 1 [] (omega arith) none_bytes, refl), tt)
+reply_fit keep c coming (Fault version fault bytes) h each = fault_fit version c.version fault bytes each
+reply_fit keep c coming (Notify version cache held) h each = notice_fit version (session_in version cache) cache.start cache.sets (session_low version cache h.2)
+reply_fit keep c coming (Pull count) h each = tt
 
 pub behind : (front rest : List ℕ) → AreBytes (front ++ rest) → AreBytes rest
 behind [] rest h = h
@@ -223,7 +223,7 @@ pub version_on : (keep : ℕ) (c : Connection) (m : ConnMoment) → (conn_after 
 version_on keep c (Read version cache unit bytes) = refl
 version_on keep c (Wanting version cache unit bytes) = refl
 version_on keep c (Fault version fault bytes) = refl
-version_on keep c (Notify version cache) = refl
+version_on keep c (Notify version cache held) = refl
 version_on keep c (Pull count) = refl
 
 -- what can be sent in its version
@@ -245,5 +245,5 @@ replies_fit keep c (m ∷ later) bytes h each =
     let all : AreBytes (bytes_of m ++ h.1.0) = subst AreBytes h.1.1 each in
     let more : AllByRecursion CanBeSent (replies_from keep default_intervals (version_after c.version m) later) =
     subst (λ b. AllByRecursion CanBeSent (replies_from keep default_intervals b later)) (version_on keep c m) (replies_fit keep (conn_after keep default_intervals c m) later h.1.0 h.1.2 (behind (bytes_of m) h.1.0 all)) in
-    all_both CanBeSent (in_version (sent_by m) (reply keep default_intervals c.version m).units) _ (each_of (sent_by m) (reply keep default_intervals c.version m).units (reply_fit keep c m h.0 (bytes_front (bytes_of m ++ h.1.0) (bytes_of m) h.1.0 refl all)))
+    all_both CanBeSent (in_version (sent_by m) (reply keep default_intervals c.version m).units) _ (each_of (sent_by m) (reply keep default_intervals c.version m).units (reply_fit keep c bytes m h.0 (bytes_front (bytes_of m ++ h.1.0) (bytes_of m) h.1.0 refl all)))
     (going_fit (reply keep default_intervals c.version m).goes_on _ more)

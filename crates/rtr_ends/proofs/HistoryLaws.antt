@@ -67,8 +67,8 @@ sent_so_far keep t c (Fault version fault bytes' ∷ later) bytes h =
     sent_so_far keep t (conn_after keep t c m) later h.1.0 h.1.2
     ∙ with_reply (sent_by m) (reply keep t c.version m) (replies_from keep t (version_after c.version m) later)
     ∙ at_rest c.due c.ended (replies_from keep t c.version (m ∷ later)) h.0.1 h.0.0
-sent_so_far keep t c (Notify version cache ∷ later) bytes h =
-    let m = Notify version cache in
+sent_so_far keep t c (Notify version cache held ∷ later) bytes h =
+    let m = Notify version cache held in
     sent_so_far keep t (conn_after keep t c m) later h.1.0 h.1.2
     ∙ with_reply (sent_by m) (reply keep t c.version m) (replies_from keep t (version_after c.version m) later)
     ∙ at_rest c.due c.ended (replies_from keep t c.version (m ∷ later)) h.0.1 h.0.0
@@ -96,7 +96,7 @@ quiet keep t c (Pull count ∷ later) bytes e h =
 quiet keep t c (Read version cache unit bytes' ∷ later) bytes e h = absurd (not_both c.ended e h.0.0)
 quiet keep t c (Wanting version cache unit bytes' ∷ later) bytes e h = absurd (not_both c.ended e h.0.0)
 quiet keep t c (Fault version fault bytes' ∷ later) bytes e h = absurd (not_both c.ended e h.0.0)
-quiet keep t c (Notify version cache ∷ later) bytes e h = absurd (not_both c.ended e h.0.0)
+quiet keep t c (Notify version cache held ∷ later) bytes e h = absurd (not_both c.ended e h.0.0)
 
 abbrev HasSplit : Version → List ℕ → List Unit → Type 0
 HasSplit version bytes units = (rest : List ℕ) × (fault : Option UnitFault) × Splits version false bytes units rest fault
@@ -159,8 +159,8 @@ split_of keep t c (Fault version fault bytes' ∷ later) bytes h =
     let is : version ≡ version_in c.version bytes = from_first c.version version bytes' h.1.0 bytes h.0.4.0 (fault_some version bytes' fault h.0.4.1) h.1.1 in
     subst (λ v. HasSplit v bytes (units_of later)) is
     (with_fault version fault bytes' h.1.0 bytes later h.1.1 h.0.4.1 (quiet keep t (conn_after keep t c (Fault version fault bytes')) later h.1.0 refl h.1.2))
-split_of keep t c (Notify version cache ∷ later) bytes h =
-    subst (λ x. HasSplit (version_in c.version x) x (units_of later)) (sym h.1.1) (split_of keep t (conn_after keep t c (Notify version cache)) later h.1.0 h.1.2)
+split_of keep t c (Notify version cache held ∷ later) bytes h =
+    subst (λ x. HasSplit (version_in c.version x) x (units_of later)) (sym h.1.1) (split_of keep t (conn_after keep t c (Notify version cache held)) later h.1.0 h.1.2)
 
 pub history_splits : HistorySplits
 history_splits keep t i moments bytes h = split_of keep t (opened i) moments bytes h

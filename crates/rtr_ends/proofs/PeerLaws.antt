@@ -23,8 +23,8 @@ use Rattle.rtr_pdu.specs.declared.unit.Unit.TheVariants.{SerialNotify, SerialQue
 use Rattle.rtr_pdu.specs.declared.unit.UnitFault.{UnitFault}
 use Rattle.rtr_pdu.proofs.DeviceLaws.{partial_most}
 use Rattle.rtr_ends.specs.Answer.{Reply, and_end, and_on, answer, report, sent, sent_all, serial_answer, session_in, step_answer, whole_answer}
-use Rattle.rtr_ends.specs.Cache.{Conn, Taking, can_notify, conn_notified, conn_pulled, conn_stops, conn_takes, is_none, conn_judged, speaks_in, spoken_in, version_at}
-use Rattle.rtr_ends.specs.Connection.{Connection, Read, Wanting, Notify, conn_after, fault_report, is_published, is_wanting, notice, takes_memory}
+use Rattle.rtr_ends.specs.Cache.{Conn, Taking, can_notify, conn_notified, conn_pulled, conn_stops, conn_takes, is_none, conn_judged, speaks_in, version_at}
+use Rattle.rtr_ends.specs.Connection.{Connection, Read, Wanting, Notify, conn_after, fault_report, is_published, is_wanting, notice, spoken_in, takes_memory}
 use Rattle.rtr_ends.specs.Peer.{SendsReply, ReportsFault, HasBufferRoom, Knows, Pulls, Receives, ShowsPeer, held_by_peer, no_memory, read_reply}
 use Rattle.rtr_ends.specs.Sender.{PullsBytes, Sends, Speaks, Stays, due_of, newest_of, own_session, ready_in}
 use Rattle.rtr_ends.specs.Timing.{Intervals}
@@ -275,7 +275,7 @@ module _ (keep : ℕ) (t : Intervals) (i : Instance) (o : Conn) where
   notified_not : (p : Peer) → can_notify i o ≡ false → ShowsPeer t i o p → (false ≡ can_notify i o) × ShowsPeer t i (conn_notified keep t i o) p
   unfolding conn_notified
   notified_not p e shows =
-      (sym e, subst (λ c. ShowsPeer t i c p) (sym (ap (λ b. if b then record o { state = conn_after keep t o.state (Notify (speaks_in o) i) } else o) e)) shows)
+      (sym e, subst (λ c. ShowsPeer t i c p) (sym (ap (λ b. if b then record o { state = conn_after keep t o.state (Notify (speaks_in o) i o.held) } else o) e)) shows)
 
   pub notified_stops : (p : Peer) → conn_stops o ≡ true → ShowsPeer t i o p → (false ≡ can_notify i o) × ShowsPeer t i (conn_notified keep t i o) p
   notified_stops p stop shows = notified_not p (ap (λ b. is_published i && not b) stop ∙ and_false (is_published i)) shows
@@ -303,7 +303,7 @@ module _ (keep : ℕ) (t : Intervals) (i : Instance) (o : Conn) where
       let version : mid.sender.version ≡ speaks_in o = speaks.version_is ∙ ap (λ r. spoken_in (known_version r)) shows.reader in
       let named : session ≡ session_in (speaks_in o) i = own ∙ own_is t i mid.sender knows ∙ ap (λ v. session_in v i) version in (
         sym may,
-        subst (λ c. ShowsPeer t i c (record mid { sender = sender })) (sym (ap (λ b. if b then record o { state = conn_after keep t o.state (Notify (speaks_in o) i) } else o) may))
+        subst (λ c. ShowsPeer t i c (record mid { sender = sender })) (sym (ap (λ b. if b then record o { state = conn_after keep t o.state (Notify (speaks_in o) i o.held) } else o) may))
             (record {
               reader = reader ∙ shows.reader;
               ended = ended ∙ shows.ended ∙ (or_parts o.state.ended (not (is_none o.state.due)) runs).0;

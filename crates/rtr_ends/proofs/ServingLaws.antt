@@ -10,7 +10,7 @@ use Rattle.vrps.specs.Store.{is_current, published}
 use Rattle.vrps.specs.VrpSet.{VrpSet}
 use Rattle.vrps.proofs.SetVersions.{published_is_instance}
 use Rattle.rtr_pdu.specs.declared.version.Version.{Version}
-use Rattle.rtr_pdu.specs.Version.{header_version, version_in}
+use Rattle.rtr_pdu.specs.Version.{version_in}
 use Rattle.rtr_pdu.specs.Judging.{Judgement, Begins, Whole, Faulty, judge, unit_in}
 use Rattle.rtr_pdu.specs.Payloads.{AreBytes}
 use Rattle.rtr_pdu.specs.Stream.{as_read, IsPartial, IsShortest, Shows}
@@ -21,8 +21,8 @@ use Rattle.rtr_pdu.proofs.JudgingLaws.{judge_case, whole_exactly}
 use Rattle.rtr_pdu.proofs.JudgingLaws as judging
 use Rattle.rtr_pdu.proofs.NextLaws.{next_shortest, next_size}
 use Rattle.rtr_pdu.proofs.ReaderLaws.{partial_empty, reader_with}
-use Rattle.rtr_ends.specs.Cache.{Conn, Taking, is_none, conn_stops, conn_moment_of, with_moment, finds_memory, and_moment, conn_judged, conn_byte, conn_takes, can_notify, conn_notified, pulled_count, conn_pulled, ConnCall, Publishes, Takes, Gives, Notifies, Serving, serve, serving, IsConnCall, IsServed, ServesHistory, new_conn, speaks_in, spoken_in, version_at}
-use Rattle.rtr_ends.specs.Connection.{Connection, ConnMoment, Read, Wanting, Fault, Notify, Pull, bytes_of, IsLater, IsHistory, MayCome, MayHold, MayNotifyIn, conn_after, after_all, opened, pulled, is_published, takes_memory}
+use Rattle.rtr_ends.specs.Cache.{Conn, Taking, is_none, conn_stops, conn_moment_of, with_moment, finds_memory, and_moment, conn_judged, conn_byte, conn_takes, can_notify, conn_notified, pulled_count, conn_pulled, ConnCall, Publishes, Takes, Gives, Notifies, Serving, serve, serving, IsConnCall, IsServed, ServesHistory, new_conn, speaks_in, version_at}
+use Rattle.rtr_ends.specs.Connection.{Connection, ConnMoment, Read, Wanting, Fault, Notify, Pull, bytes_of, IsLater, IsHistory, HadCome, MayCome, MayHold, conn_after, after_all, opened, pulled, is_published, takes_memory}
 use Rattle.rtr_ends.specs.Feeding.{feed, run}
 use Rattle.rtr_ends.specs.Timing.{Intervals}
 use Rattle.rtr_ends.proofs.ByteLists.{none_bytes, more_bytes, bytes_front, front_of}
@@ -30,29 +30,46 @@ use Rattle.rtr_ends.proofs.FeedingLaws.{feed_takes}
 use Rattle.rtr_ends.proofs.HistoryLaws.{pulled_are_replies, read_plainly}
 use Rattle.rtr_ends.proofs.TableLaws.{false_true}
 
--- from one connection to another by moments, with the bytes of these
-abbrev Runs : ℕ → Intervals → Connection → List ConnMoment → List ℕ → Connection → Type 0
-Runs keep t c [] used new = (used ≡ []) × (new ≡ c)
-Runs keep t c (m ∷ later) used new = MayCome c m × ((rest : List ℕ) × (used ≡ bytes_of m ++ rest) × Runs keep t (conn_after keep t c m) later rest new)
+-- From one connection to another by moments, where these bytes came: those of the moments, and then the last ones
+abbrev Runs : ℕ → Intervals → Connection → List ConnMoment → List ℕ → Connection → List ℕ → Type 0
+Runs keep t c [] came new held = (came ≡ held) × (new ≡ c)
+Runs keep t c (m ∷ later) came new held = MayCome c came m × ((rest : List ℕ) × (came ≡ bytes_of m ++ rest) × Runs keep t (conn_after keep t c m) later rest new held)
+
+-- What may come may come where more bytes follow.
+come_longer : (c : Connection) (coming more : List ℕ) (m : ConnMoment) → MayCome c coming m → MayCome c (coming ++ more) m
+come_longer c coming more (Read version cache unit bytes) h = h
+come_longer c coming more (Wanting version cache unit bytes) h = h
+come_longer c coming more (Fault version fault bytes) h = h
+come_longer c coming more (Pull count) h = h
+come_longer c coming more (Notify version cache held) h = (h.0, h.1, h.2, h.3, (h.4.0, longer h.4.1, h.4.2))
+  where
+    longer : HadCome c coming held → HadCome c (coming ++ more) held
+    longer k = record { begins = k.begins; more = k.more; since = k.since; rest = k.rest ++ more; front = ap (λ x. x ++ more) k.front ∙ append_assoc held k.rest more }
 
 module _ (keep : ℕ) (t : Intervals) where
   -- one moment more
-  runs_more : (c : Connection) (moments : List ConnMoment) (used : List ℕ) (new : Connection) (m : ConnMoment) → Runs keep t c moments used new → MayCome new m → Runs keep t c (moments ++ m ∷ []) (used ++ bytes_of m) (conn_after keep t new m)
-  runs_more c [] used new m r h =
-      let may : MayCome c m = subst (λ x. MayCome x m) r.1 h in
-      (may, ([], ap (λ x. x ++ bytes_of m) r.0 ∙ sym (append-nil (bytes_of m)), (refl, ap (λ x. conn_after keep t x m) r.1)))
-  runs_more c (k ∷ later) used new m r h =
-      (r.0, (r.1.0 ++ bytes_of m, ap (λ x. x ++ bytes_of m) r.1.1 ∙ append_assoc (bytes_of k) r.1.0 (bytes_of m), runs_more (conn_after keep t c k) later r.1.0 new m r.1.2 h))
+  runs_more : (c : Connection) (moments : List ConnMoment) (came : List ℕ) (new : Connection) (held rest : List ℕ) (m : ConnMoment) → Runs keep t c moments came new held → MayCome new held m → held ≡ bytes_of m ++ rest
+      → Runs keep t c (moments ++ m ∷ []) came (conn_after keep t new m) rest
+  runs_more c [] came new held rest m r h e =
+      let may : MayCome c came m = subst (λ x. MayCome x came m) r.1 (subst (λ x. MayCome new x m) (sym r.0) h) in
+      (may, (rest, r.0 ∙ e, (refl, ap (λ x. conn_after keep t x m) r.1)))
+  runs_more c (k ∷ later) came new held rest m r h e =
+      (r.0, (r.1.0, r.1.1, runs_more (conn_after keep t c k) later r.1.0 new held rest m r.1.2 h e))
+
+  -- more bytes
+  runs_longer : (c : Connection) (moments : List ConnMoment) (came : List ℕ) (new : Connection) (held more : List ℕ) → Runs keep t c moments came new held → Runs keep t c moments (came ++ more) new (held ++ more)
+  runs_longer c [] came new held more r = (ap (λ x. x ++ more) r.0, r.1)
+  runs_longer c (m ∷ later) came new held more r =
+      (come_longer c came more m r.0, (r.1.0 ++ more, ap (λ x. x ++ more) r.1.1 ∙ append_assoc (bytes_of m) r.1.0 more, runs_longer (conn_after keep t c m) later r.1.0 new held more r.1.2))
 
   -- with what is held, it is a history
-  runs_history : (c : Connection) (moments : List ConnMoment) (used held : List ℕ) (new : Connection) → Runs keep t c moments used new → MayHold new held → IsHistory keep t c moments (used ++ held)
-  runs_history c [] used held new r h = subst (λ x. MayHold c (x ++ held)) (sym r.0) (subst (λ x. MayHold x held) r.1 h)
-  runs_history c (m ∷ later) used held new r h =
-      (r.0, (r.1.0 ++ held, ap (λ x. x ++ held) r.1.1 ∙ append_assoc (bytes_of m) r.1.0 held, runs_history (conn_after keep t c m) later r.1.0 held new r.1.2 h))
+  runs_history : (c : Connection) (moments : List ConnMoment) (came held : List ℕ) (new : Connection) → Runs keep t c moments came new held → MayHold new held → IsHistory keep t c moments came
+  runs_history c [] came held new r h = subst (λ x. MayHold c x) (sym r.0) (subst (λ x. MayHold x held) r.1 h)
+  runs_history c (m ∷ later) came held new r h = (r.0, (r.1.0, r.1.1, runs_history (conn_after keep t c m) later r.1.0 held new r.1.2 h))
 
-  runs_after : (c : Connection) (moments : List ConnMoment) (used : List ℕ) (new : Connection) → Runs keep t c moments used new → new ≡ after_all keep t c moments
-  runs_after c [] used new r = r.1
-  runs_after c (m ∷ later) used new r = runs_after (conn_after keep t c m) later r.1.0 new r.1.2
+  runs_after : (c : Connection) (moments : List ConnMoment) (came : List ℕ) (new : Connection) (held : List ℕ) → Runs keep t c moments came new held → new ≡ after_all keep t c moments
+  runs_after c [] came new held r = r.1
+  runs_after c (m ∷ later) came new held r = runs_after (conn_after keep t c m) later r.1.0 new held r.1.2
 
   -- what a moment pulls
   abbrev pulled_by : Connection → ConnMoment → List ℕ
@@ -64,20 +81,20 @@ module _ (keep : ℕ) (t : Intervals) where
   pulled_first c (Read version cache unit bytes) later = refl
   pulled_first c (Wanting version cache unit bytes) later = refl
   pulled_first c (Fault version fault bytes) later = refl
-  pulled_first c (Notify version cache) later = refl
+  pulled_first c (Notify version cache held) later = refl
 
-  pulled_more : (c : Connection) (moments : List ConnMoment) (used : List ℕ) (new : Connection) (m : ConnMoment) → Runs keep t c moments used new → pulled keep t c (moments ++ m ∷ []) ≡ pulled keep t c moments ++ pulled_by new m
-  pulled_more c [] used new m r = pulled_first c m [] ∙ append-nil (pulled_by c m) ∙ ap (λ x. pulled_by x m) (sym r.1)
-  pulled_more c (k ∷ later) used new m r =
-      pulled_first c k (later ++ m ∷ []) ∙ ap (λ x. pulled_by c k ++ x) (pulled_more (conn_after keep t c k) later r.1.0 new m r.1.2)
+  pulled_more : (c : Connection) (moments : List ConnMoment) (came : List ℕ) (new : Connection) (held : List ℕ) (m : ConnMoment) → Runs keep t c moments came new held → pulled keep t c (moments ++ m ∷ []) ≡ pulled keep t c moments ++ pulled_by new m
+  pulled_more c [] came new held m r = pulled_first c m [] ∙ append-nil (pulled_by c m) ∙ ap (λ x. pulled_by x m) (sym r.1)
+  pulled_more c (k ∷ later) came new held m r =
+      pulled_first c k (later ++ m ∷ []) ∙ ap (λ x. pulled_by c k ++ x) (pulled_more (conn_after keep t c k) later r.1.0 new held m r.1.2)
       ∙ sym (append_assoc (pulled_by c k) (pulled keep t (conn_after keep t c k) later) (pulled_by new m))
       ∙ ap (λ x. x ++ pulled_by new m) (sym (pulled_first c k later))
 
   -- A connection that was opened at an instance, after these moments, where these bytes came and were given
   pub record Goes (i : Instance) (o : Conn) (moments : List ConnMoment) (came given : List ℕ) : Type 0 where
-    pub used : List ℕ
-    pub runs : Runs keep t (opened i) moments used o.state
-    pub came_is : came ≡ used ++ o.held
+    pub runs : Runs keep t (opened i) moments came o.state o.held
+    pub more : List ℕ
+    pub since : o.held ≡ o.state.seen ++ more
     pub given_is : given ≡ pulled keep t (opened i) moments
     pub holds : MayHold o.state o.held
     pub bytes : AreBytes o.held
@@ -85,13 +102,13 @@ module _ (keep : ℕ) (t : Intervals) where
 
   served : (i : Instance) (s : Serving) → Goes i s.conn s.moments s.came s.given → IsServed keep t i s
   served i s g =
-      let history = runs_history (opened i) s.moments g.used s.conn.held s.conn.state g.runs g.holds in
-      let state = runs_after (opened i) s.moments g.used s.conn.state g.runs in
+      let history = runs_history (opened i) s.moments s.came s.conn.held s.conn.state g.runs g.holds in
+      let state = runs_after (opened i) s.moments s.came s.conn.state s.conn.held g.runs in
       record {
-        history = subst (λ x. IsHistory keep t (opened i) s.moments x) (sym g.came_is) history;
+        history = history;
         state = state;
         given = g.given_is;
-        replies = (λ j. g.given_is j ++ (state j).due) ∙ pulled_are_replies keep t i s.moments (g.used ++ s.conn.held) history;
+        replies = (λ j. g.given_is j ++ (state j).due) ∙ pulled_are_replies keep t i s.moments s.came history;
       }
 
   -- nothing is held behind a moment
@@ -111,14 +128,14 @@ module _ (keep : ℕ) (t : Intervals) where
 
   module _ (opened_at : Instance) where
     -- a moment that the last of these bytes brings
-    goes_moment : (o : Conn) (moments : List ConnMoment) (came given : List ℕ) (b : ℕ) (m : ConnMoment) → MayCome o.state m → bytes_of m ≡ o.held ++ b ∷ [] → pulled_by o.state m ≡ [] → IsInstance (conn_after keep t o.state m).cache
+    goes_moment : (o : Conn) (moments : List ConnMoment) (came given : List ℕ) (b : ℕ) (m : ConnMoment) → MayCome o.state (o.held ++ b ∷ []) m → bytes_of m ≡ o.held ++ b ∷ [] → pulled_by o.state m ≡ [] → (conn_after keep t o.state m).seen ≡ [] → IsInstance (conn_after keep t o.state m).cache
         → Goes opened_at o moments came given → Goes opened_at (record { state = conn_after keep t o.state m; held = [] }) (moments ++ m ∷ []) (came ++ b ∷ []) given
-    goes_moment o moments came given b m may bytes none cache g = record {
-      used = g.used ++ bytes_of m;
-      runs = runs_more (opened opened_at) moments g.used o.state m g.runs may;
-      came_is = ap (λ x. x ++ b ∷ []) g.came_is ∙ append_assoc g.used o.held (b ∷ []) ∙ ap (λ x. g.used ++ x) (sym bytes) ∙ sym (append-nil (g.used ++ bytes_of m));
+    goes_moment o moments came given b m may bytes none unseen cache g = record {
+      runs = runs_more (opened opened_at) moments (came ++ b ∷ []) o.state (o.held ++ b ∷ []) [] m (runs_longer (opened opened_at) moments came o.state o.held (b ∷ []) g.runs) may (sym bytes ∙ sym (append-nil (bytes_of m)));
+      more = [];
+      since = sym unseen ∙ sym (append-nil (conn_after keep t o.state m).seen);
       given_is = g.given_is ∙ sym (append-nil (pulled keep t (opened opened_at) moments)) ∙ ap (λ x. pulled keep t (opened opened_at) moments ++ x) (sym none)
-          ∙ sym (pulled_more (opened opened_at) moments g.used o.state m g.runs);
+          ∙ sym (pulled_more (opened opened_at) moments came o.state o.held m g.runs);
       holds = holds_none (conn_after keep t o.state m);
       bytes = none_bytes;
       cache = cache;
@@ -137,13 +154,13 @@ module _ (keep : ℕ) (t : Intervals) where
       abbrev next : Taking → ℕ → Judgement → Taking
       next m b j = conn_judged keep t i m (version_at m.conn (b ∷ [])) (m.conn.held ++ b ∷ []) j
 
-      stands_moment : (m : Taking) (b : ℕ) (came : List ℕ) (j : Judgement) (k : ConnMoment) → conn_moment_of i (finds_memory m.wanting) (version_at m.conn (b ∷ [])) (m.conn.held ++ b ∷ []) j ≡ Some k → MayCome m.conn.state k → bytes_of k ≡ m.conn.held ++ b ∷ [] → pulled_by m.conn.state k ≡ []
+      stands_moment : (m : Taking) (b : ℕ) (came : List ℕ) (j : Judgement) (k : ConnMoment) → conn_moment_of i (finds_memory m.wanting) (version_at m.conn (b ∷ [])) (m.conn.held ++ b ∷ []) j ≡ Some k → MayCome m.conn.state (m.conn.held ++ b ∷ []) k → bytes_of k ≡ m.conn.held ++ b ∷ [] → pulled_by m.conn.state k ≡ [] → (conn_after keep t m.conn.state k).seen ≡ []
           → IsInstance (conn_after keep t m.conn.state k).cache → IsLater (conn_after keep t m.conn.state k).cache i → Stands i before m came given → Stands i before (next m b j) (came ++ b ∷ []) given
-      stands_moment m b came j k brings may bytes none cache later s =
+      stands_moment m b came j k brings may bytes none unseen cache later s =
           subst (λ o. Stands i before (record { conn = with_moment keep t (m.conn.held ++ b ∷ []) m.conn o; moments = and_moment m.moments o; wanting = (next m b j).wanting }) (came ++ b ∷ []) given) (sym brings)
           (record {
             goes = subst (λ x. Goes opened_at (record { state = conn_after keep t m.conn.state k; held = [] }) x (came ++ b ∷ []) given) (append_assoc before m.moments (k ∷ []))
-                (goes_moment m.conn (before ++ m.moments) came given b k may bytes none cache s.goes);
+                (goes_moment m.conn (before ++ m.moments) came given b k may bytes none unseen cache s.goes);
             later = later;
           })
 
@@ -182,9 +199,9 @@ module _ (keep : ℕ) (t : Intervals) where
           begins : judge version false bytes ≡ Begins → IsPartial version bytes → Stands i before (next m b Begins) (came ++ b ∷ []) given
           begins j partial = record {
             goes = record {
-              used = s.goes.used;
-              runs = s.goes.runs;
-              came_is = ap (λ x. x ++ b ∷ []) s.goes.came_is ∙ append_assoc s.goes.used m.conn.held (b ∷ []);
+              runs = runs_longer (opened opened_at) (before ++ m.moments) came m.conn.state m.conn.held (b ∷ []) s.goes.runs;
+              more = s.goes.more ++ b ∷ [];
+              since = ap (λ x. x ++ b ∷ []) s.goes.since ∙ append_assoc m.conn.state.seen s.goes.more (b ∷ []);
               given_is = s.goes.given_is;
               holds = holds_open m.conn.state bytes tests.0 partial (inr (inl at_rest));
               bytes = each;
@@ -196,7 +213,7 @@ module _ (keep : ℕ) (t : Intervals) where
           shows : (fault : UnitFault) → Shows version bytes fault → Stands i before (next m b (Faulty fault)) (came ++ b ∷ []) given
           shows fault h =
               stands_moment m b came (Faulty fault) (Fault version fault bytes) refl
-              (tests.0, at_rest, s.goes.cache, same_later m.conn.state.cache, (refl, h, shortest)) refl refl s.goes.cache s.later s
+              (tests.0, at_rest, s.goes.cache, same_later m.conn.state.cache, (refl, h, shortest)) refl refl refl s.goes.cache s.later s
 
           reads : (u : Unit) → Reads version u bytes → Stands i before (next m b (Whole u)) (came ++ b ∷ []) given
           reads u h = by_memory (takes_memory version i u && not (finds_memory m.wanting)) refl
@@ -204,10 +221,10 @@ module _ (keep : ℕ) (t : Intervals) where
               by_memory : (w : Bool) → (takes_memory version i u && not (finds_memory m.wanting)) ≡ w → Stands i before (next m b (Whole u)) (came ++ b ∷ []) given
               by_memory true e =
                   stands_moment m b came (Whole u) (Wanting version i u bytes) (ap (λ x. Some (if x then Wanting version i u bytes else Read version i u bytes)) e)
-                  (tests.0, at_rest, is, s.later, (refl, h, (and_parts (takes_memory version i u) (not (finds_memory m.wanting)) e).0)) refl refl is (same_later i) s
+                  (tests.0, at_rest, is, s.later, (refl, h, (and_parts (takes_memory version i u) (not (finds_memory m.wanting)) e).0)) refl refl refl is (same_later i) s
               by_memory false e =
                   stands_moment m b came (Whole u) (Read version i u bytes) (ap (λ x. Some (if x then Wanting version i u bytes else Read version i u bytes)) e)
-                  (tests.0, at_rest, is, s.later, (refl, h)) refl refl is (same_later i) s
+                  (tests.0, at_rest, is, s.later, (refl, h)) refl refl refl is (same_later i) s
 
           so : (j : Judgement) → judge version false bytes ≡ j → Stands i before (next m b j) (came ++ b ∷ []) given → Stands i before (next m b (judge version false bytes)) (came ++ b ∷ []) given
           so j e h = subst (λ x. Stands i before (next m b x) (came ++ b ∷ []) given) (sym e) h
@@ -254,12 +271,12 @@ module _ (keep : ℕ) (t : Intervals) where
     unfolding conn_pulled
     pulled_goes most s g =
         let m : ConnMoment = Pull (pulled_count most s.conn) in
-        let may : MayCome s.conn.state (Pull (pulled_count most s.conn)) = min-le_right most (length s.conn.state.due) in
+        let may : MayCome s.conn.state s.conn.held (Pull (pulled_count most s.conn)) = min-le_right most (length s.conn.state.due) in
         record {
-          used = g.used ++ [];
-          runs = runs_more (opened opened_at) s.moments g.used s.conn.state (Pull (pulled_count most s.conn)) g.runs may;
-          came_is = g.came_is ∙ ap (λ x. x ++ s.conn.held) (sym (append-nil g.used));
-          given_is = (λ j. g.given_is j ++ sym (take_min most s.conn.state.due) j) ∙ sym (pulled_more (opened opened_at) s.moments g.used s.conn.state (Pull (pulled_count most s.conn)) g.runs);
+          runs = runs_more (opened opened_at) s.moments s.came s.conn.state s.conn.held s.conn.held (Pull (pulled_count most s.conn)) g.runs may refl;
+          more = g.more;
+          since = g.since;
+          given_is = (λ j. g.given_is j ++ sym (take_min most s.conn.state.due) j) ∙ sym (pulled_more (opened opened_at) s.moments s.came s.conn.state s.conn.held (Pull (pulled_count most s.conn)) g.runs);
           holds = still (pulled_count most s.conn) s.conn.state s.conn.held g.holds;
           bytes = g.bytes;
           cache = g.cache;
@@ -284,20 +301,15 @@ module _ (keep : ℕ) (t : Intervals) where
             by_end true h = h
             by_end false h = (h.0, rests count c held h.1)
 
-    -- It is notified in a version in which it may be.
-    may_notify : (agreed : Option Version) (held : List ℕ) → MayNotifyIn agreed (spoken_in (header_version agreed held))
-    may_notify None held = tt
-    may_notify (Some version) held = refl
-
     -- the router is notified, or cannot be
     notified_goes : (i : Instance) → IsInstance i → (s : Serving) → IsLater s.conn.state.cache i → Goes opened_at s.conn s.moments s.came s.given → (b : Bool) → can_notify i s.conn ≡ b
-        → Goes opened_at (if b then record s.conn { state = conn_after keep t s.conn.state (Notify (speaks_in s.conn) i) } else s.conn) (if b then s.moments ++ Notify (speaks_in s.conn) i ∷ [] else s.moments) s.came s.given
+        → Goes opened_at (if b then record s.conn { state = conn_after keep t s.conn.state (Notify (speaks_in s.conn) i s.conn.held) } else s.conn) (if b then s.moments ++ Notify (speaks_in s.conn) i s.conn.held ∷ [] else s.moments) s.came s.given
     notified_goes i is s later g false e = g
     notified_goes i is s later g true e = record {
-      used = g.used ++ [];
-      runs = runs_more (opened opened_at) s.moments g.used s.conn.state (Notify (speaks_in s.conn) i) g.runs (ended, due, is, later, (may_notify s.conn.state.version s.conn.held, parts.0));
-      came_is = g.came_is ∙ ap (λ x. x ++ s.conn.held) (sym (append-nil g.used));
-      given_is = g.given_is ∙ sym (append-nil (pulled keep t (opened opened_at) s.moments)) ∙ sym (pulled_more (opened opened_at) s.moments g.used s.conn.state (Notify (speaks_in s.conn) i) g.runs);
+      runs = runs_more (opened opened_at) s.moments s.came s.conn.state s.conn.held s.conn.held (Notify (speaks_in s.conn) i s.conn.held) g.runs (ended, due, is, later, (refl, had, parts.0)) refl;
+      more = [];
+      since = sym (append-nil s.conn.held);
+      given_is = g.given_is ∙ sym (append-nil (pulled keep t (opened opened_at) s.moments)) ∙ sym (pulled_more (opened opened_at) s.moments s.came s.conn.state s.conn.held (Notify (speaks_in s.conn) i s.conn.held) g.runs);
       holds = (holds_part s.conn.state s.conn.held ended g.holds, inr (inr refl));
       bytes = g.bytes;
       cache = is;
@@ -315,6 +327,9 @@ module _ (keep : ℕ) (t : Intervals) where
 
         ended : s.conn.state.ended ≡ false
         ended = tests.0
+
+        had : HadCome s.conn.state s.conn.held s.conn.held
+        had = record { begins = holds_part s.conn.state s.conn.held ended g.holds; more = g.more; since = g.since; rest = []; front = sym (append-nil s.conn.held) }
 
         none : (due : List ℕ) → not (is_none due) ≡ false → due ≡ []
         none [] h = refl
@@ -336,7 +351,7 @@ module _ (keep : ℕ) (t : Intervals) where
       pub later : IsLater s.conn.state.cache s.cache
       pub cache : IsInstance s.cache
 
-    later_by : (i : Instance) (s : Serving) (b : Bool) → IsLater s.conn.state.cache i → IsLater (if b then record s.conn { state = conn_after keep t s.conn.state (Notify (speaks_in s.conn) i) } else s.conn).state.cache i
+    later_by : (i : Instance) (s : Serving) (b : Bool) → IsLater s.conn.state.cache i → IsLater (if b then record s.conn { state = conn_after keep t s.conn.state (Notify (speaks_in s.conn) i s.conn.held) } else s.conn).state.cache i
     later_by i s true l = same_later i
     later_by i s false l = l
 
@@ -354,7 +369,7 @@ module _ (keep : ℕ) (t : Intervals) where
 
     new_served : IsInstance opened_at → Served (record { cache = opened_at; conn = new_conn opened_at; moments = []; came = []; given = [] })
     new_served is = record {
-      goes = record { used = []; runs = (refl, refl); came_is = refl; given_is = refl; holds = holds_none (opened opened_at); bytes = none_bytes; cache = is };
+      goes = record { runs = (refl, refl); more = []; since = refl; given_is = refl; holds = holds_none (opened opened_at); bytes = none_bytes; cache = is };
       later = same_later opened_at;
       cache = is;
     }

@@ -170,7 +170,7 @@ pub report_on_none : fault_report (Some V1) faults.Length (0x01 ∷ 0x0a ∷ 0 �
 report_on_none = refl
 
 -- a notify
-pub notified : replies 2 default_intervals (Notify V1 (cache 5 (just_v ∷ [])) ∷ []) ≡ 0x01 ∷ 0 ∷ 0x12 ∷ 0x34 ∷ 0 ∷ 0 ∷ 0 ∷ 0x0c ∷ 0 ∷ 0 ∷ 0 ∷ 0x05 ∷ []
+pub notified : replies 2 default_intervals (Notify V1 (cache 5 (just_v ∷ [])) [] ∷ []) ≡ 0x01 ∷ 0 ∷ 0x12 ∷ 0x34 ∷ 0 ∷ 0 ∷ 0 ∷ 0x0c ∷ 0 ∷ 0 ∷ 0 ∷ 0x05 ∷ []
 notified = refl
 
 -- want of memory

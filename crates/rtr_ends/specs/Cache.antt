@@ -6,10 +6,9 @@ use Rattle.vrps.specs.Store.{published}
 use Rattle.vrps.specs.VrpSet.{VrpSet, IsVrpSet}
 use Rattle.rtr_pdu.specs.Version.{header_version, version_in}
 use Rattle.rtr_pdu.specs.declared.version.Version.{Version}
-use Rattle.rtr_pdu.specs.declared.version.Version.TheVariants.{V1}
 use Rattle.rtr_pdu.specs.Judging.{Judgement, Begins, Whole, Faulty, judge}
 use Rattle.rtr_pdu.specs.Payloads.{AreBytes}
-use Rattle.rtr_ends.specs.Connection.{Connection, ConnMoment, Read, Wanting, Fault, Notify, Pull, IsHistory, opened, conn_after, after_all, is_published, pulled, replies, takes_memory}
+use Rattle.rtr_ends.specs.Connection.{Connection, ConnMoment, Read, Wanting, Fault, Notify, Pull, IsHistory, opened, conn_after, after_all, is_published, pulled, replies, spoken_in, takes_memory}
 use Rattle.rtr_ends.specs.Feeding.{FedPiece, feed, IsTaken}
 use Rattle.rtr_ends.specs.Timing.{Intervals}
 
@@ -83,16 +82,12 @@ conn_takes keep t i wanting piece o =
 abbrev pub can_notify : Instance → Conn → Bool
 can_notify i o = is_published i && not (conn_stops o)
 
--- The version of a notify, or of another unit that is sent without a query: that of a header that has come whole, else version 1
-abbrev pub spoken_in : Option Version → Version
-spoken_in None = V1
-spoken_in (Some version) = version
-
+-- The version in which is sent on it where nothing is asked
 abbrev pub speaks_in : Conn → Version
 speaks_in o = spoken_in (header_version o.state.version o.held)
 
 unfoldable pub conn_notified : ℕ → Intervals → Instance → Conn → Conn
-conn_notified keep t i o = if can_notify i o then record o { state = conn_after keep t o.state (Notify (speaks_in o) i) } else o
+conn_notified keep t i o = if can_notify i o then record o { state = conn_after keep t o.state (Notify (speaks_in o) i o.held) } else o
 
 -- At most so many of the bytes due are pulled.
 abbrev pub pulled_count : ℕ → Conn → ℕ
@@ -133,7 +128,7 @@ serve keep t (Gives most) s = record s {
 }
 serve keep t Notifies s = record s {
   conn = conn_notified keep t s.cache s.conn;
-  moments = if can_notify s.cache s.conn then s.moments ++ Notify (speaks_in s.conn) s.cache ∷ [] else s.moments;
+  moments = if can_notify s.cache s.conn then s.moments ++ Notify (speaks_in s.conn) s.cache s.conn.held ∷ [] else s.moments;
 }
 
 -- after these calls, the last first, on a connection that was opened at this instance

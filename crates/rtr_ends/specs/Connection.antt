@@ -7,7 +7,7 @@ use Rattle.rtr_pdu.specs.declared.version.Version.{Version}
 use Rattle.rtr_pdu.specs.declared.version.Version.TheVariants.{V1}
 use Rattle.rtr_pdu.specs.declared.kind.Kind.TheVariants as kinds
 use Rattle.rtr_pdu.specs.Code.{CORRUPT_DATA, INTERNAL_ERROR, UNSUPPORTED_VERSION, UNSUPPORTED_TYPE, UNEXPECTED_VERSION}
-use Rattle.rtr_pdu.specs.Version.{first_version, version_in}
+use Rattle.rtr_pdu.specs.Version.{first_version, header_version, version_in}
 use Rattle.rtr_pdu.specs.Stream.{IsPartial, IsShortest, Shows, Splits, is_kind}
 use Rattle.rtr_pdu.specs.Unit.{Reads}
 use Rattle.rtr_pdu.specs.declared.unit.Unit.{Unit}
@@ -18,13 +18,13 @@ use Rattle.rtr_ends.specs.Answer.{Reply, and_on, and_end, answer, report, sent, 
 use Rattle.rtr_ends.specs.Timing.{Intervals}
 
 -- What happens, as the cache is then: bytes were read as a unit of a version; so they were, and memory for its answer was wanting;
--- bytes show a fault where units of a version are expected; the router is notified in a version; or this many of the bytes due were
--- pulled.
+-- bytes show a fault where units of a version are expected; the router is notified in a version, when these bytes of a unit had
+-- come; or this many of the bytes due were pulled.
 pub data ConnMoment : Type 0 where
   Read : (version : Version) → (cache : Instance) → (unit : Unit) → (bytes : List ℕ) → ConnMoment
   Wanting : (version : Version) → (cache : Instance) → (unit : Unit) → (bytes : List ℕ) → ConnMoment
   Fault : (version : Version) → (fault : UnitFault) → (bytes : List ℕ) → ConnMoment
-  Notify : (version : Version) → (cache : Instance) → ConnMoment
+  Notify : (version : Version) → (cache : Instance) → (held : List ℕ) → ConnMoment
   Pull : (count : ℕ) → ConnMoment
 
 -- memory was wanting at it
@@ -37,7 +37,7 @@ abbrev pub bytes_of : ConnMoment → List ℕ
 bytes_of (Read version cache unit bytes) = bytes
 bytes_of (Wanting version cache unit bytes) = bytes
 bytes_of (Fault version fault bytes) = bytes
-bytes_of (Notify version cache) = []
+bytes_of (Notify version cache held) = []
 bytes_of (Pull count) = []
 
 -- the version in which is sent at it
@@ -45,7 +45,7 @@ abbrev pub sent_by : ConnMoment → Version
 sent_by (Read version cache unit bytes) = version
 sent_by (Wanting version cache unit bytes) = version
 sent_by (Fault version fault bytes) = version
-sent_by (Notify version cache) = version
+sent_by (Notify version cache held) = version
 sent_by (Pull count) = V1
 
 -- The version on which a connection of this version agreed, where it did
@@ -81,7 +81,7 @@ abbrev pub reply : ℕ → Intervals → Option Version → ConnMoment → Reply
 reply keep t agreed (Read version cache unit bytes) = answer version cache keep t unit
 reply keep t agreed (Wanting version cache unit bytes) = and_end (report INTERNAL_ERROR [] ∷ [])
 reply keep t agreed (Fault version fault bytes) = and_end (fault_report agreed fault bytes)
-reply keep t agreed (Notify version cache) = and_on (notice (session_in version cache) (versions cache))
+reply keep t agreed (Notify version cache held) = and_on (notice (session_in version cache) (versions cache))
 reply keep t agreed (Pull count) = and_on []
 
 -- The first header fixes the version of a connection (RFC 8210 section 7).
@@ -122,41 +122,58 @@ abbrev pub takes_memory : Version → Instance → Unit → Bool
 takes_memory version i (SerialQuery session serial) = session == session_in version i && is_published i
 takes_memory version i u = false
 
--- A notify is of the version that was agreed on. Before that the machine tells its version (`speaks_in`): 1, or that of a header that has come.
-abbrev pub MayNotifyIn : Option Version → Version → Type 0
-MayNotifyIn None version = ⊤
-MayNotifyIn (Some agreed) version = version ≡ agreed
-
--- A moment is what it says of its bytes and of the cache, where this version was agreed on, if any.
-abbrev pub IsConnMoment : Option Version → ConnMoment → Type 0
-IsConnMoment agreed (Read version cache unit bytes) = (version ≡ version_in agreed bytes) × Reads version unit bytes
-IsConnMoment agreed (Wanting version cache unit bytes) =
-    (version ≡ version_in agreed bytes) × Reads version unit bytes × IsTrue (takes_memory version cache unit)
-IsConnMoment agreed (Fault version fault bytes) =
-    (version ≡ version_in agreed bytes) × Shows version bytes fault × IsShortest version false bytes
-IsConnMoment agreed (Notify version cache) = MayNotifyIn agreed version × IsTrue (is_published cache)
-IsConnMoment agreed (Pull count) = ⊤
+-- The version of a notify, or of another unit that is sent without a query: that of a header that has come whole, else version 1
+abbrev pub spoken_in : Option Version → Version
+spoken_in None = V1
+spoken_in (Some version) = version
 
 -- A connection between two moments: the cache as it was last, the version of its first header, once a unit came, whether it has
--- ended, the bytes due, which were sent and not pulled yet, and whether what was sent last is a notify
+-- ended, the bytes due, which were sent and not pulled yet, whether what was sent last is a notify, and what had come then of a unit
 pub record Connection : Type 0 where
   pub cache : Instance
   pub version : Option Version
   pub ended : Bool
   pub due : List ℕ
   pub notified : Bool
+  pub seen : List ℕ
+
+-- What had come of a unit when the router was notified is the beginning of one and the front of what comes, and no less than had
+-- come when it was notified before.
+pub record HadCome (c : Connection) (coming held : List ℕ) : Type 0 where
+  pub begins : IsPartial (version_in c.version held) held
+  pub more : List ℕ
+  pub since : held ≡ c.seen ++ more
+  pub rest : List ℕ
+  pub front : coming ≡ held ++ rest
+
+-- A moment is what it says of its bytes and of the cache, on this connection, where these bytes are coming. A notify is of the version
+-- of the connection, or of that of a header that had come; before any header it is of version 1.
+abbrev pub IsConnMoment : Connection → List ℕ → ConnMoment → Type 0
+IsConnMoment c coming (Read version cache unit bytes) = (version ≡ version_in c.version bytes) × Reads version unit bytes
+IsConnMoment c coming (Wanting version cache unit bytes) =
+    (version ≡ version_in c.version bytes) × Reads version unit bytes × IsTrue (takes_memory version cache unit)
+IsConnMoment c coming (Fault version fault bytes) =
+    (version ≡ version_in c.version bytes) × Shows version bytes fault × IsShortest version false bytes
+IsConnMoment c coming (Notify version cache held) =
+    (version ≡ spoken_in (header_version c.version held)) × HadCome c coming held × IsTrue (is_published cache)
+IsConnMoment c coming (Pull count) = ⊤
 
 abbrev pub opened : Instance → Connection
-opened i = record { cache = i; version = None; ended = false; due = []; notified = false }
+opened i = record { cache = i; version = None; ended = false; due = []; notified = false; seen = [] }
 
 abbrev pub is_notice : ConnMoment → Bool
-is_notice (Notify version cache) = true
+is_notice (Notify version cache held) = true
 is_notice m = false
+
+-- what had come of a unit at it, where it is a notify
+abbrev pub seen_at : ConnMoment → List ℕ
+seen_at (Notify version cache held) = held
+seen_at m = []
 
 abbrev pub cache_after : Instance → ConnMoment → Instance
 cache_after i (Read version cache unit bytes) = cache
 cache_after i (Wanting version cache unit bytes) = cache
-cache_after i (Notify version cache) = cache
+cache_after i (Notify version cache held) = cache
 cache_after i m = i
 
 -- One cache is there, which publishes more and more.
@@ -168,10 +185,10 @@ pub record IsLater (earlier later : Instance) : Type 0 where
   pub sets : later.sets ≡ more ++ earlier.sets
 
 -- Bytes due can be pulled at any time. All else happens only where the connection goes on and nothing is due.
-abbrev pub MayCome : Connection → ConnMoment → Type 0
-MayCome c (Pull count) = count ≤ length c.due
-MayCome c m =
-    (c.ended ≡ false) × (c.due ≡ []) × IsInstance (cache_after c.cache m) × IsLater c.cache (cache_after c.cache m) × IsConnMoment c.version m
+abbrev pub MayCome : Connection → List ℕ → ConnMoment → Type 0
+MayCome c coming (Pull count) = count ≤ length c.due
+MayCome c coming m =
+    (c.ended ≡ false) × (c.due ≡ []) × IsInstance (cache_after c.cache m) × IsLater c.cache (cache_after c.cache m) × IsConnMoment c coming m
 
 abbrev pub conn_after : ℕ → Intervals → Connection → ConnMoment → Connection
 conn_after keep t c (Pull count) = record c { due = drop count c.due }
@@ -183,6 +200,7 @@ conn_after keep t c m =
       ended = not now.goes_on;
       due = sent_all (sent_by m) now.units;
       notified = is_notice m;
+      seen = seen_at m;
     }
 
 -- What may be left of the bytes that came: nothing where the connection has ended or an answer is due, else the beginning of a
@@ -196,7 +214,7 @@ MayHold c bytes =
 abbrev pub IsHistory : ℕ → Intervals → Connection → List ConnMoment → List ℕ → Type 0
 IsHistory keep t c [] bytes = MayHold c bytes
 IsHistory keep t c (m ∷ later) bytes =
-    MayCome c m × ((rest : List ℕ) × (bytes ≡ bytes_of m ++ rest) × IsHistory keep t (conn_after keep t c m) later rest)
+    MayCome c bytes m × ((rest : List ℕ) × (bytes ≡ bytes_of m ++ rest) × IsHistory keep t (conn_after keep t c m) later rest)
 
 -- the bytes that were pulled
 abbrev pub pulled : ℕ → Intervals → Connection → List ConnMoment → List ℕ

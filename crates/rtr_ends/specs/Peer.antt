@@ -10,8 +10,8 @@ use Rattle.rtr_pdu.specs.declared.unit.Unit.{Unit}
 use Rattle.rtr_pdu.specs.declared.unit.UnitFault.{UnitFault}
 use Rattle.rtr_pdu.specs.declared.version.Version.{Version}
 use Rattle.rtr_ends.specs.Answer.{Reply, and_on, and_end, answer, report, sent_all, serial_answer, session_in}
-use Rattle.rtr_ends.specs.Cache.{Conn, conn_pulled, conn_takes, spoken_in}
-use Rattle.rtr_ends.specs.Connection.{fault_report, is_wanting, takes_memory}
+use Rattle.rtr_ends.specs.Cache.{Conn, conn_pulled, conn_takes}
+use Rattle.rtr_ends.specs.Connection.{fault_report, is_wanting, spoken_in, takes_memory}
 use Rattle.rtr_ends.specs.Sender.{PullsBytes, KeepsRoom, Sends, StaysBut, due_of, newest_of, ready_in}
 use Rattle.rtr_ends.specs.Timing.{Intervals}
 use Rattle.rtr_ends.specs.declared.peer.Peer.{Peer}
