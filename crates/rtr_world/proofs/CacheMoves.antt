@@ -15,8 +15,8 @@ use Rattle.rtr_pdu.specs.Version.{first_version, header_version}
 use Rattle.rtr_pdu.specs.declared.unit.Unit.{Unit}
 use Rattle.rtr_pdu.specs.declared.unit.Unit.TheVariants.{SerialNotify}
 use Rattle.rtr_ends.specs.Answer.{answer, report, sent_all, session_in}
-use Rattle.rtr_ends.specs.Cache.{Conn, Taking, is_none, conn_stops, conn_moment_of, with_moment, counted, finds_memory, conn_byte, can_notify, conn_notified, spoken_in, speaks_in, version_at}
-use Rattle.rtr_ends.specs.Connection.{Connection, Read, Wanting, Notify, conn_after, notice, is_published, takes_memory, in_version}
+use Rattle.rtr_ends.specs.Cache.{Conn, Taking, is_none, conn_stops, conn_moment_of, with_moment, counted, finds_memory, conn_byte, can_notify, conn_notified, speaks_in, version_at}
+use Rattle.rtr_ends.specs.Connection.{Connection, Read, Wanting, Notify, conn_after, notice, is_published, spoken_in, takes_memory, in_version}
 use Rattle.rtr_ends.specs.Feeding.{FedPiece, feed}
 use Rattle.rtr_ends.specs.LinkRules.{Router}
 use Rattle.rtr_ends.specs.RouterLink.{Link, Closed, Idle, Asked, Answering, Ended, is_reading}
@@ -302,7 +302,7 @@ module _ (all : List Instance) (i : Instance) (p : Present all i) (keep : ℕ) (
 
   -- the connection, notified in this version
   abbrev told : Conn → Version → Conn
-  told o v = record o { state = conn_after keep timing o.state (Notify v i) }
+  told o v = record o { state = conn_after keep timing o.state (Notify v i o.held) }
 
   -- in the version of a header that has come,
   notified_live : (o : Conn) (up : List ℕ) → o.state.due ≡ [] → header_version o.state.version o.held ≡ Some r.spoken → Live all i home r (Some o) up down → Live all i home r (Some (told o r.spoken)) up down

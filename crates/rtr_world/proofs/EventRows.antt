@@ -59,7 +59,7 @@ first_sends = refl
 
 -- a notify is queued, and none while one is due
 abbrev notified : Conn
-notified = record { state = record { cache = with_v; version = None; ended = false; due = sent V1 (SerialNotify 0x1234 5); notified = true }; held = [] }
+notified = record { state = record { cache = with_v; version = None; ended = false; due = sent V1 (SerialNotify 0x1234 5); notified = true; seen = [] }; held = [] }
 
 notifies : after (On 0 NotifyRouter) (Done None) (world (open_side asking (new_conn with_v) [] [] opened ∷ [])) ≡ world (open_side asking notified [] [] opened ∷ [])
 unfolding goes_through settled settle side_step conn_notified
@@ -112,7 +112,7 @@ expires_asked = refl
 
 -- The cache began anew: the router is told so, is emptied, and is told that the connection is closed. Its end is noted.
 abbrev ended_conn : List ℕ → Conn
-ended_conn due = record { state = record { cache = with_v; version = Some V1; ended = true; due = due; notified = false }; held = [] }
+ended_conn due = record { state = record { cache = with_v; version = Some V1; ended = true; due = due; notified = false; seen = [] }; held = [] }
 
 abbrev other : Router
 other = record idle { version = Some (record version_5 { session = 0x2222 }); session = None; agreed = false; link = Asked (AskSerial 0x2222 5) }
@@ -245,7 +245,7 @@ abbrev later_world : Conn → List ℕ → World
 later_world o up = record { keep = 2; past = []; present = now_v; sides = record (open_side asking o up [] opened) { home = Some at_first } ∷ [] }
 
 abbrev told_now : Option Version → List ℕ → Bool → Conn
-told_now version due is_notice = record { state = record { cache = now_v; version = version; ended = false; due = due; notified = is_notice }; held = [] }
+told_now version due is_notice = record { state = record { cache = now_v; version = version; ended = false; due = due; notified = is_notice; seen = [] }; held = [] }
 
 notifies_of_now : after (On 0 NotifyRouter) (Done None) (later_world (new_conn at_first) []) ≡ later_world (told_now None (sent V1 (SerialNotify 0x1234 6)) true) []
 unfolding goes_through settled settle side_step conn_notified

@@ -34,7 +34,7 @@ abbrev version : ℕ → Committed
 version serial = record { version = V1; session = 0x1234; serial = serial; moment = 0; intervals = default_intervals }
 
 abbrev replied : Instance → Conn
-replied i = record { state = record { cache = i; version = Some V1; ended = false; due = []; notified = false }; held = [] }
+replied i = record { state = record { cache = i; version = Some V1; ended = false; due = []; notified = false; seen = [] }; held = [] }
 
 abbrev place : ℕ → ℕ → Option VersionPlace
 place instance position = Some (record { instance = instance; position = position })

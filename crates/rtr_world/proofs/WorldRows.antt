@@ -69,7 +69,7 @@ abbrev answer_bytes : List ℕ
 answer_bytes = response_bytes ++ v_bytes ++ end_bytes 5
 
 abbrev replied : List ℕ → Conn
-replied due = record { state = record { cache = with_v; version = Some V1; ended = false; due = due; notified = false }; held = [] }
+replied due = record { state = record { cache = with_v; version = Some V1; ended = false; due = due; notified = false; seen = [] }; held = [] }
 
 query_read : after (On 0 (CacheGets 8)) (Done None) (world (open_side asking (new_conn with_v) reset_bytes [])) ≡ world (open_side asking (replied answer_bytes) [] [])
 unfolding goes_through settled settle side_step cache_gets conn_takes conn_byte judge as_read
@@ -318,6 +318,6 @@ abbrev internal_error : List ℕ
 internal_error = 0x01 ∷ 0x0a ∷ 0x00 ∷ 0x01 ∷ 0 ∷ 0 ∷ 0 ∷ 0x10 ∷ 0 ∷ 0 ∷ 0 ∷ 0 ∷ 0 ∷ 0 ∷ 0 ∷ 0 ∷ []
 
 memory_wanted : after (On 0 (CacheGets 12)) (Done (Some 0)) (world query_side)
-    ≡ world (open_side asking (record { state = record { cache = with_v; version = Some V1; ended = true; due = internal_error; notified = false }; held = [] }) [] [])
+    ≡ world (open_side asking (record { state = record { cache = with_v; version = Some V1; ended = true; due = internal_error; notified = false; seen = [] }; held = [] }) [] [])
 unfolding goes_through settled settle side_step cache_gets conn_takes conn_byte judge as_read
 memory_wanted = refl
