@@ -51,7 +51,7 @@ abbrev IsOwn : Instance → ConnMoment → Type 0
 IsOwn i (Read version cache unit bytes) = cache ≡ i
 IsOwn i (Wanting version cache unit bytes) = cache ≡ i
 IsOwn i (Fault version fault bytes) = ⊤
-IsOwn i (Notify version cache) = ⊥
+IsOwn i (Notify version cache held) = ⊥
 IsOwn i (Pull count) = ⊤
 
 module _ {M : Type 0} (stops : M → Bool) (step : M → ℕ → M) (P : M → Type 0) (keeps : (m : M) (b : ℕ) → P m → P (step m b)) where
@@ -127,7 +127,7 @@ module _ (apart : NoBeginning) (written : WrittenIsRead) (keep : ℕ) (t : Inter
   ended_reads_none c (Read version cache unit came ∷ later) bytes ended h = absurd (not_both c.ended ended h.0.0)
   ended_reads_none c (Wanting version cache unit came ∷ later) bytes ended h = absurd (not_both c.ended ended h.0.0)
   ended_reads_none c (Fault version fault came ∷ later) bytes ended h = absurd (not_both c.ended ended h.0.0)
-  ended_reads_none c (Notify version cache ∷ later) bytes ended h = absurd (not_both c.ended ended h.0.0)
+  ended_reads_none c (Notify version cache held ∷ later) bytes ended h = absurd (not_both c.ended ended h.0.0)
 
   -- Without bytes nothing is replied.
   nothing_more : (agreed : Option Version) (c : Connection) (moments : List ConnMoment) → AllByRecursion (IsOwn i) moments → IsHistory keep t c moments [] → replies_from keep t agreed moments ≡ []
@@ -137,7 +137,7 @@ module _ (apart : NoBeginning) (written : WrittenIsRead) (keep : ℕ) (t : Inter
   nothing_more agreed c (Read version cache unit came ∷ later) own h = absurd (never_empty apart written version unit (subst (λ b. Reads version unit b) (front_none came h.1.0 h.1.1).0 h.0.4.1))
   nothing_more agreed c (Wanting version cache unit came ∷ later) own h = absurd (never_empty apart written version unit (subst (λ b. Reads version unit b) (front_none came h.1.0 h.1.1).0 h.0.4.1))
   nothing_more agreed c (Fault version fault came ∷ later) own h = absurd (shows_nothing version fault (subst (λ b. Shows version b fault) (front_none came h.1.0 h.1.1).0 h.0.4.1))
-  nothing_more agreed c (Notify version cache ∷ later) own h = absurd own.0
+  nothing_more agreed c (Notify version cache held ∷ later) own h = absurd own.0
 
   first_of : (u v : Unit) (us vs : List Unit) → u ∷ us ≡ v ∷ vs → u ≡ v
   first_of u v us vs e = cc
@@ -168,7 +168,7 @@ module _ (apart : NoBeginning) (written : WrittenIsRead) (keep : ℕ) (t : Inter
   one_reply c (Fault version fault came ∷ later) new own h units =
       let none : units_of later ≡ [] = ended_reads_none (conn_after keep t c (Fault version fault came)) later h.1.0 refl h.1.2 in
       absurd (let e : [] ≡ ResetQuery ∷ [] = sym none ∙ units in cc)
-  one_reply c (Notify version cache ∷ later) new own h units = absurd own.0
+  one_reply c (Notify version cache held ∷ later) new own h units = absurd own.0
 
 -- ---- the stream
 

@@ -93,7 +93,7 @@ module _ (i : Instance) where
   all_replied version c [] bytes tells h own = refl
   all_replied version c (Pull count ∷ later) bytes tells h own =
       all_replied version (conn_after 1 default_intervals c (Pull count)) later h.1.0 (subst (λ b. Tells version c b) h.1.1 tells) h.1.2 own.1
-  all_replied version c (Notify one cache ∷ later) bytes tells h own = absurd own.0
+  all_replied version c (Notify one cache held ∷ later) bytes tells h own = absurd own.0
   all_replied version c (Read one cache unit front ∷ later) bytes tells h own =
       let spoken : one ≡ version = told_front version one c front h.1.0 bytes tells h.1.1 (unit_some one unit front h.0.4.1) h.0.4.0 in
       with_later version (Read one cache unit front) c.version later spoken (all_replied version (conn_after 1 default_intervals c (Read one cache unit front)) later h.1.0 (λ some. spoken) h.1.2 own.1)
@@ -111,7 +111,7 @@ module _ (i : Instance) where
   pulls_alone c (Read version cache unit bytes' ∷ later) bytes e h own = absurd (not_both c.ended e h.0.0)
   pulls_alone c (Wanting version cache unit bytes' ∷ later) bytes e h own = absurd (not_both c.ended e h.0.0)
   pulls_alone c (Fault version fault bytes' ∷ later) bytes e h own = absurd (not_both c.ended e h.0.0)
-  pulls_alone c (Notify version cache ∷ later) bytes e h own = absurd own.0
+  pulls_alone c (Notify version cache held ∷ later) bytes e h own = absurd own.0
 
   abbrev SoundFrom : Connection → List ConnMoment → Type 0
   SoundFrom c moments = AllByRecursion (λ u. is_internal_error u ≡ false) (if c.ended then [] else replied c.version moments)
@@ -128,7 +128,7 @@ module _ (i : Instance) where
   none_wanting : (c : Connection) (moments : List ConnMoment) (bytes : List ℕ) → IsHistory 1 default_intervals c moments bytes → AllByRecursion (IsOwn i) moments → SoundFrom c moments → AllByRecursion (IsOf i) moments
   none_wanting c [] bytes h own sound = tt
   none_wanting c (Pull count ∷ later) bytes h own sound = (tt, none_wanting (conn_after 1 default_intervals c (Pull count)) later h.1.0 h.1.2 own.1 sound)
-  none_wanting c (Notify version cache ∷ later) bytes h own sound = absurd own.0
+  none_wanting c (Notify version cache held ∷ later) bytes h own sound = absurd own.0
   none_wanting c (Wanting version cache unit bytes' ∷ later) bytes h own sound =
       absurd (let now = subst (λ b. AllByRecursion (λ u. is_internal_error u ≡ false) (if b then [] else replied c.version (Wanting version cache unit bytes' ∷ later))) h.0.0 sound in not_both true refl now.0)
   none_wanting c (Read version cache unit bytes' ∷ later) bytes h own sound =

@@ -16,7 +16,7 @@ abbrev pub IsOf : Instance → ConnMoment → Type 0
 IsOf i (Read version cache unit bytes) = cache ≡ i
 IsOf i (Wanting version cache unit bytes) = ⊥
 IsOf i (Fault version fault bytes) = ⊤
-IsOf i (Notify version cache) = ⊥
+IsOf i (Notify version cache held) = ⊥
 IsOf i (Pull count) = ⊤
 
 abbrev pub at_input_end : Instance → List ConnMoment → Connection

@@ -26,7 +26,7 @@ abbrev pub IsOwn : Instance → ConnMoment → Type 0
 IsOwn i (Read version cache unit bytes) = cache ≡ i
 IsOwn i (Wanting version cache unit bytes) = cache ≡ i
 IsOwn i (Fault version fault bytes) = ⊤
-IsOwn i (Notify version cache) = ⊥
+IsOwn i (Notify version cache held) = ⊥
 IsOwn i (Pull count) = ⊤
 
 -- the connection after these calls
