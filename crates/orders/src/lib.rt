@@ -3,4 +3,4 @@
 
 mod words;
 
-pub use words::{Order, WordsFault, decimal, read_words};
+pub use words::{CacheName, Order, WordsFault, decimal, read_words};

@@ -138,6 +138,17 @@ fn command_line<'a>(alloc: Global) -> Result<Command<'a>, AllocError> {
     Ok(all)
 }
 
+/// What names the version that a cache has published: the session in version 1 of the protocol, that in version 0, and the serial.
+#[derive(Clone, Copy)]
+pub struct CacheName {
+    /// The session in version 1.
+    pub session: u16,
+    /// The session in version 0.
+    pub session0: u16,
+    /// The serial number.
+    pub serial: u32,
+}
+
 /// What the words ask for.
 #[derive(Drop)]
 pub enum Order<'a> {
@@ -158,11 +169,9 @@ pub enum Order<'a> {
     Units {
         file: &'a str,
     },
-    /// The answers of a cache to the bytes that HEX spells. Its session in version 0 of the protocol is `session0`.
+    /// The answers of a cache of this name to the bytes that HEX spells. It has published the list of the file `vrps`.
     Answer {
-        session: u16,
-        session0: u16,
-        serial: u32,
+        name: CacheName,
         vrps: &'a str,
         hex: &'a str,
     },
@@ -172,13 +181,11 @@ pub enum Order<'a> {
         prefix: &'a str,
         origin: &'a str,
     },
-    /// So many connections on a port of this machine, served one after the other by a cache whose one version, under the serial `start`, is
-    /// the list of the file `vrps`. Its session in version 0 of the protocol is `session0`.
+    /// So many connections on a port of this machine, served one after the other by a cache of this name, whose one version is the list of
+    /// the file `vrps`.
     Serve {
         port: u16,
-        session: u16,
-        session0: u16,
-        start: u32,
+        name: CacheName,
         vrps: &'a str,
         connections: u32,
     },
@@ -187,11 +194,10 @@ pub enum Order<'a> {
         port: u16,
         version: Version,
     },
-    /// Both ends over a connection of this machine: what the router fetches from a cache of the list of the file `vrps`, and then the state of
-    /// the route that PREFIX and ORIGIN name.
+    /// Both ends over a connection of this machine: what the router fetches from a cache of this name and of the list of the file `vrps`, and
+    /// then the state of the route that PREFIX and ORIGIN name.
     Loop {
-        session: u16,
-        start: u32,
+        name: CacheName,
         vrps: &'a str,
         prefix: &'a str,
         origin: &'a str,
@@ -253,6 +259,16 @@ fn number_32(found: &ArgMatches<'_>, name: &str) -> Result<u32, WordsFault> {
     u32::try_from(number).map_err(|_| WordsFault::NoOrder)
 }
 
+/// The name of a cache: its session, that in version 0 where it is given, and the number under `serial`.
+fn cache_name(found: &ArgMatches<'_>, serial: &str) -> Result<CacheName, WordsFault> {
+    let session = number_16(found, "session")?;
+    Ok(CacheName {
+        session,
+        session0: number_16_or(found, "session0", session)?,
+        serial: number_32(found, serial)?,
+    })
+}
+
 fn roa_order<'a>(found: &ArgMatches<'a>) -> Result<Order<'a>, WordsFault> {
     Ok(Order::Roa {
         file: value(found, "FILE")?,
@@ -285,11 +301,8 @@ fn units_order<'a>(found: &ArgMatches<'a>) -> Result<Order<'a>, WordsFault> {
 }
 
 fn answer_order<'a>(found: &ArgMatches<'a>) -> Result<Order<'a>, WordsFault> {
-    let session = number_16(found, "session")?;
     Ok(Order::Answer {
-        session,
-        session0: number_16_or(found, "session0", session)?,
-        serial: number_32(found, "serial")?,
+        name: cache_name(found, "serial")?,
         vrps: value(found, "vrps")?,
         hex: value(found, "HEX")?,
     })
@@ -304,12 +317,9 @@ fn route_order<'a>(found: &ArgMatches<'a>) -> Result<Order<'a>, WordsFault> {
 }
 
 fn serve_order<'a>(found: &ArgMatches<'a>) -> Result<Order<'a>, WordsFault> {
-    let session = number_16(found, "session")?;
     Ok(Order::Serve {
         port: number_16(found, "port")?,
-        session,
-        session0: number_16_or(found, "session0", session)?,
-        start: number_32(found, "start")?,
+        name: cache_name(found, "start")?,
         vrps: value(found, "vrps")?,
         connections: number_32(found, "connections")?,
     })
@@ -323,9 +333,13 @@ fn fetch_order<'a>(found: &ArgMatches<'a>) -> Result<Order<'a>, WordsFault> {
 }
 
 fn loop_order<'a>(found: &ArgMatches<'a>) -> Result<Order<'a>, WordsFault> {
+    let session = number_16(found, "session")?;
     Ok(Order::Loop {
-        session: number_16(found, "session")?,
-        start: number_32(found, "start")?,
+        name: CacheName {
+            session,
+            session0: session,
+            serial: number_32(found, "start")?,
+        },
         vrps: value(found, "vrps")?,
         prefix: value(found, "PREFIX")?,
         origin: value(found, "ORIGIN")?,
