@@ -14,7 +14,7 @@ use crate::streaming::{
 };
 use crate::units::{UnitsEnd, print_units};
 use der_lite::Moment;
-use orders::{Order, WordsFault, read_words};
+use orders::{CacheName, Order, WordsFault, read_words};
 use payload_lists::{ListFault, read_list, write_list};
 use payloads::{PayloadFault, decode_manifest, decode_roa};
 use points::Repository;
@@ -133,20 +133,7 @@ fn run<R: Files + Net + AllocGlobal + Clone + Drop, O: Write, E: Write>(
             payloads(rt, now, directories.as_slice(), out, err)
         }
         Order::Units { file } => units(rt, file, out),
-        Order::Answer {
-            session,
-            session0,
-            serial,
-            vrps,
-            hex,
-        } => {
-            let name = CacheName {
-                session,
-                session0,
-                serial,
-            };
-            answer(rt, name, vrps, hex, out)
-        }
+        Order::Answer { name, vrps, hex } => answer(rt, name, vrps, hex, out),
         Order::Route {
             vrps,
             prefix,
@@ -154,34 +141,17 @@ fn run<R: Files + Net + AllocGlobal + Clone + Drop, O: Write, E: Write>(
         } => route(rt, vrps, prefix, origin, out),
         Order::Serve {
             port,
-            session,
-            session0,
-            start,
+            name,
             vrps,
             connections,
-        } => {
-            let name = CacheName {
-                session,
-                session0,
-                serial: start,
-            };
-            serve(rt, port, name, vrps, connections, out)
-        }
+        } => serve(rt, port, name, vrps, connections, out),
         Order::Fetch { port, version } => fetch(rt, port, version, out),
         Order::Loop {
-            session,
-            start,
+            name,
             vrps,
             prefix,
             origin,
-        } => {
-            let name = CacheName {
-                session,
-                session0: session,
-                serial: start,
-            };
-            both_ends(rt, name, vrps, (prefix, origin), out)
-        }
+        } => both_ends(rt, name, vrps, (prefix, origin), out),
         Order::World { file } => world(rt, file, out),
     }
 }
@@ -315,19 +285,9 @@ fn tell_end<O: Write>(end: UnitsEnd, out: &mut O) -> Result<u8, ProgramFault>
     }
 }
 
-/// What names the version that a cache has published: the session in version 1 of the protocol, that in version 0, and the serial.
-#[derive(Clone, Copy)]
-struct CacheName {
-    session: u16,
-    session0: u16,
-    serial: u32,
-}
-
-impl CacheName {
-    /// A cache that has published this set alone.
-    fn cache(self, alloc: Global, set: VrpSet) -> Result<Cache<VersionLog>, AllocError> {
-        cache_with(alloc, self.session, self.session0, self.serial, set)
-    }
+/// A cache that has published this set alone, under this name.
+fn cache_of(alloc: Global, name: CacheName, set: VrpSet) -> Result<Cache<VersionLog>, AllocError> {
+    cache_with(alloc, name.session, name.session0, name.serial, set)
 }
 
 /// The command `answer`: the answers of a cache whose one version is the list of the file `vrps`, to the bytes that `hex` spells.
@@ -393,7 +353,7 @@ fn serve<R: Files + Net + AllocGlobal, O: Write>(
     let Some(set) = read_set(rt, vrps)? else {
         return refuse("list", out);
     };
-    let mut cache = name.cache(rt.alloc(), set)?;
+    let mut cache = cache_of(rt.alloc(), name, set)?;
     let first = serve_all(&listener, &mut cache, connections)?;
     writeln!(out, "served {connections}")?;
     match first {
@@ -435,7 +395,7 @@ fn both_ends<R: Files + Net + AllocGlobal, O: Write>(
     let Some(set) = read_set(rt, vrps)? else {
         return refuse("list", out);
     };
-    let mut cache = name.cache(rt.alloc(), set)?;
+    let mut cache = cache_of(rt.alloc(), name, set)?;
     let (router, fetched) = fetch_in_turns(rt.alloc(), &mut cache, near, far)?;
     if fetched != Fetched::Committed {
         return tell_fetched(rt.alloc(), &router, fetched, out);
