@@ -237,3 +237,12 @@ pub costs_joined : (groups lengths new_lengths last old new probes : ℕ) → Co
 costs_joined groups lengths new_lengths last old new probes one other =
     let a = one.counted in let b = other.counted in let c = one.fewer in let d = other.fewer in let e = one.few in let f = other.few in
     record { counted = omega (arith, a, b); fewer = omega (arith, c, d); few = omega (arith, e, f) }
+
+-- Where there is a group, the first search reads one.
+pub some_read : (groups places lengths before now : ℕ) → (before ≡ 0 → (places ≡ groups) × (0 < lengths)) → (0 < places → 0 < lengths → before < now) → before ≤ now → 0 < groups → 0 < now
+some_read groups places lengths zero now first reads counted have =
+    let was = first refl in
+    let all = was.0 in
+    let read = reads (omega (arith, all, have)) was.1 in
+    omega (arith, read)
+some_read groups places lengths (suc before) now first reads counted have = omega (arith, counted)

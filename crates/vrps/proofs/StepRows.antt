@@ -2,6 +2,10 @@
 use Rattle.std.proofs.Common.{◌≡◌, ℕ, List, [], ◌∷◌, Option, Some, None, refl}
 use Rattle.vrps.specs.Change.{between}
 use Rattle.vrps.specs.Steps.{kept_step}
+use Rattle.vrps.specs.Search.{digit_count}
+use Rattle.vrps.specs.SetFaults.{set_fault_number, path_fault_number}
+use Rattle.vrps.specs.declared.path.PathFault.TheVariants.{EmptySequence}
+use Rattle.vrps.specs.declared.set.SetFault.TheVariants.{TooMany, Memory}
 use Rattle.vrps.specs.VrpSet.{VrpSet}
 use Rattle.vrps.specs.declared.change.Change.{Change}
 
@@ -27,3 +31,9 @@ none_before_the_first a = refl
 
 none_published : KeptIs 8 [] 0 None
 none_published = refl
+
+digits : (digit_count 0 ≡ 0) × (digit_count 1 ≡ 1) × (digit_count 2 ≡ 2) × (digit_count 255 ≡ 8) × (digit_count 256 ≡ 9)
+digits = (refl, refl, refl, refl, refl)
+
+numbers : (set_fault_number TooMany ≡ 1) × (set_fault_number Memory ≡ 2) × (path_fault_number EmptySequence ≡ 1)
+numbers = (refl, refl, refl)

@@ -1,5 +1,5 @@
 //! The states of routes.
-ghost use Rattle.std.specs.Prelude.{◌≡◌, ◌+◌, ◌*◌, ◌≤◌, ◌++◌, reverse, IfOk, OnOk};
+ghost use Rattle.std.specs.Prelude.{◌≡◌, ◌+◌, ◌*◌, ◌≤◌, ◌<◌, ◌++◌, reverse, IfOk, OnOk};
 ghost use Rattle.std.specs.List.{list_any};
 ghost use Rattle.prefixes.specs.Payload.{block_of};
 ghost use Rattle.vrps.specs.Groups.{group_count};
@@ -75,10 +75,11 @@ impl OriginIndex {
     }
 
     /// The state of a route, and how many groups were read for it: no more than the route's length plus 1, times the binary digits of
-    /// the number of groups. It takes no memory.
+    /// the number of groups, and at least one where there is a group. It takes no memory.
     pub fn state_counted(&self, route: &Route) -> (OriginState, u32)
         ensures state { result.0 ≡ state self.now route.now }
         ensures probes { result.1 ≤ ((block_of route.now.prefix).len + 1) * digit_count (group_count self.now) }
+        ensures some { 0 < group_count self.now → 0 < result.1 }
     {
         let mut probes = 0;
         let mut rest = Rest {

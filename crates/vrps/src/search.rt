@@ -27,6 +27,7 @@ pub(crate) fn next_covering<'a>(
     requires probes { probes.old + rest.old.lengths * digit_count (length groups.now.starts.items) + length groups.now.starts.items < 2 ^ 32 }
     ensures next { IsNext groups.now.records.items groups.now.starts.items prefix.now rest.old.places rest.old.lengths rest.new.places rest.new.lengths (option_map (λ group. group.now) result) }
     ensures cost { CostsLengths (length groups.now.starts.items) rest.old.lengths rest.new.lengths probes.old probes.new }
+    ensures some { 0 < rest.old.places → 0 < rest.old.lengths → probes.old < probes.new }
 {
     while rest.lengths > 0 {
         rest.lengths -= 1;
@@ -63,6 +64,7 @@ fn last_up_to<'a>(groups: &'a Groups, places: usize, key: &Key, probes: &mut u32
     ensures found { IsUpTo groups.now.records.items groups.now.starts.items places (key_prefix key.now) result.places }
     ensures last { IsLastOf groups.now result.places result.last }
     ensures cost { CostsDigits places probes.old probes.new }
+    ensures some { 0 < places → probes.old < probes.new }
 {
     let mut low = 0;
     let mut high = places;

@@ -34,6 +34,7 @@ loop-low-preserved-then-is_up_to c =
       room = omega (arith, one, room, test);
       halves = subst (λ n. 2 ^ n * (high - (middle + 1)) ≤ c.args.places) (sym more) halves.0;
       few = subst (λ n. 2 ^ n ≤ 2 * c.args.places + 1) (sym more) halves.1;
+      some = λ none. omega (arith, one, counted, none);
     }
 
 pub loop-low-preserved : goal.loop-low-preserved
@@ -67,4 +68,5 @@ loop-low-preserved c =
       room = omega (arith, one, room, test);
       halves = subst (λ n. 2 ^ n * (middle - low) ≤ c.args.places) (sym more) halves.0;
       few = subst (λ n. 2 ^ n ≤ 2 * c.args.places + 1) (sym more) halves.1;
+      some = λ none. omega (arith, one, counted, none);
     }

@@ -17,6 +17,7 @@ invariant-loop-low l = record {
   room : l.probes + (l.high - l.low) ≤ l.fn.probes + l.places;
   halves : 2 ^ (l.probes - l.fn.probes) * (l.high - l.low) ≤ l.places;
   few : 2 ^ (l.probes - l.fn.probes) ≤ 2 * l.places + 1;
+  some : l.probes ≤ l.fn.probes → l.high ≡ l.low + l.places;
 }
 
 abbrev pub decreases-loop-low : goal.decreases-loop-low

@@ -97,4 +97,10 @@ loop-rest-preserved c =
       fewer = omega (arith, a, b);
       none = none_joined records starts g c.args.prefix.now _ _ _ (none_after records starts g c.args.prefix.now c.loop-rest.rest.places lengths (lengths - 1) found i.left is up) i.none;
       cost = one_length (length starts) c.args.rest.now.lengths lengths c.args.probes.now c.loop-rest.probes c.loop-rest.rest.places c.last_up_to-found.new.probes c.min-rest.result i.cost i.left.in_places c.last_up_to-found.ensures.cost (omega (arith, least, test));
+      some = λ have none.
+          let counted = i.cost.counted in
+          let more = c.last_up_to-found.ensures.cost.counted in
+          let first = (i.some have (omega (arith, more, none))).0 in
+          let read = c.last_up_to-found.ensures.some (omega (arith, have, first)) in
+          absurd (omega (arith, read, none, counted));
     }

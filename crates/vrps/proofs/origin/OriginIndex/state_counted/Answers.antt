@@ -4,7 +4,7 @@ use Rattle.prefixes.specs.Payload.{block_of}
 use Rattle.vrps.specs.Groups.{begin, group_count, prefixes_of}
 use Rattle.vrps.specs.Origin.{matches, state_among}
 use Rattle.vrps.specs.Search.{digit_count}
-use Rattle.vrps.proofs.Grouped.{costs_joined}
+use Rattle.vrps.proofs.Grouped.{costs_joined, some_read}
 use Rattle.vrps.proofs.JudgingRoutes.{at_most_128, few_groups, few_probes, judged_none, matched_part, none_more, now_covered}
 use Rattle.vrps.proofs.Listed.{listing_is}
 use Rattle.vrps.proofs.origin.OriginIndex.state_counted.Goals as goal
@@ -42,7 +42,8 @@ returns-then-is_matched-clause-probes c =
     let i = c.loop-group.invariant in
     let few = (costs_joined (length c.self.inside.groups.starts.items) ((block_of c.args.route.now.prefix).len + 1) c.loop-group.rest.lengths c.next_covering.new.rest.lengths 0 c.loop-group.probes c.next_covering.new.probes i.cost c.in-Some.ensures.cost).few in
     let same : length c.self.inside.groups.starts.items ≡ group_count c.args.self.now = g.counted ∙ ap (λ l. length (prefixes_of l)) (listing_is c.args.self.now records c.self.view_is c.self.invariant) in
-    subst (λ n. c.next_covering.new.probes ≤ ((block_of c.args.route.now.prefix).len + 1) * digit_count n) same (omega (arith, few))
+    let bound = subst (λ n. c.next_covering.new.probes ≤ ((block_of c.args.route.now.prefix).len + 1) * digit_count n) same (omega (arith, few)) in
+    omega (arith, bound)
 
 pub loop-group-preserved : goal.loop-group-preserved
 loop-group-preserved c =
@@ -56,6 +57,12 @@ loop-group-preserved c =
       judged = now_covered records starts g c.args.route.now c.loop-group.rest.places c.next_covering.new.rest.places c.in-Some.group.now i.left.in_places next.0;
       none = none_more records starts g c.args.route.now c.loop-group.rest.places c.next_covering.new.rest.places c.in-Some.group.now i.left.in_places next.0 i.none (sym c.is_matched.ensures ∙ c.if-is_matched.false);
       cost = costs_joined (length starts) ((block_of c.args.route.now.prefix).len + 1) c.loop-group.rest.lengths c.next_covering.new.rest.lengths 0 c.loop-group.probes c.next_covering.new.probes i.cost c.in-Some.ensures.cost;
+      some = λ none.
+          let counted = c.in-Some.ensures.cost.counted in
+          let first = i.some (omega (arith, counted, none)) in
+          let fewer = next.0.fewer in
+          let read = c.in-Some.ensures.some (omega (arith, fewer)) first.1 in
+          absurd (omega (arith, read, none));
     }
 
 pub returns-clause-state : goal.returns-clause-state
@@ -73,4 +80,19 @@ returns-clause-probes c =
     let i = c.loop-group.invariant in
     let few = (costs_joined (length c.self.inside.groups.starts.items) ((block_of c.args.route.now.prefix).len + 1) c.loop-group.rest.lengths c.next_covering.new.rest.lengths 0 c.loop-group.probes c.next_covering.new.probes i.cost c.in_default.ensures.cost).few in
     let same : length c.self.inside.groups.starts.items ≡ group_count c.args.self.now = g.counted ∙ ap (λ l. length (prefixes_of l)) (listing_is c.args.self.now records c.self.view_is c.self.invariant) in
-    subst (λ n. c.next_covering.new.probes ≤ ((block_of c.args.route.now.prefix).len + 1) * digit_count n) same (omega (arith, few))
+    let bound = subst (λ n. c.next_covering.new.probes ≤ ((block_of c.args.route.now.prefix).len + 1) * digit_count n) same (omega (arith, few)) in
+    omega (arith, bound)
+
+pub returns-then-is_matched-clause-some : goal.returns-then-is_matched-clause-some
+returns-then-is_matched-clause-some c have =
+    let g = c.self.inside.groups.sorted in
+    let i = c.loop-group.invariant in
+    let same : length c.self.inside.groups.starts.items ≡ group_count c.args.self.now = g.counted ∙ ap (λ l. length (prefixes_of l)) (listing_is c.args.self.now c.self.inside.groups.records.items c.self.view_is c.self.invariant) in
+    some_read (length c.self.inside.groups.starts.items) c.loop-group.rest.places c.loop-group.rest.lengths c.loop-group.probes c.next_covering.new.probes i.some c.in-Some.ensures.some c.in-Some.ensures.cost.counted (omega (arith, same, have))
+
+pub returns-clause-some : goal.returns-clause-some
+returns-clause-some c have =
+    let g = c.self.inside.groups.sorted in
+    let i = c.loop-group.invariant in
+    let same : length c.self.inside.groups.starts.items ≡ group_count c.args.self.now = g.counted ∙ ap (λ l. length (prefixes_of l)) (listing_is c.args.self.now c.self.inside.groups.records.items c.self.view_is c.self.invariant) in
+    some_read (length c.self.inside.groups.starts.items) c.loop-group.rest.places c.loop-group.rest.lengths c.loop-group.probes c.next_covering.new.probes i.some c.in_default.ensures.some c.in_default.ensures.cost.counted (omega (arith, same, have))

@@ -1,4 +1,4 @@
-use Rattle.std.proofs.Common.{length, ◌+◌}
+use Rattle.std.proofs.Common.{◌≡◌, ◌<◌, length, ◌+◌}
 use Rattle.prefixes.specs.Payload.{block_of}
 use Rattle.vrps.specs.Groups.{begin}
 use Rattle.vrps.specs.Search.{CostsLengths, IsLeft}
@@ -14,6 +14,7 @@ invariant-loop-group l =
       left : IsLeft records starts l.route.prefix l.rest.places l.rest.lengths;
       judged : Judged records l.route (begin records starts l.rest.places) l.state;
       none : NoneMatches records l.route (begin records starts l.rest.places);
+      some : l.probes ≡ 0 → (l.rest.places ≡ length starts) × (0 < l.rest.lengths);
       cost : CostsLengths (length starts) ((block_of l.route.prefix).len + 1) l.rest.lengths 0 l.probes;
     }
 
