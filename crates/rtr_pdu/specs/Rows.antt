@@ -1,5 +1,5 @@
 -- Units, faults and readings of single headers, worked out.
-use Rattle.std.specs.Prelude.{◌≡◌, ℕ, true, false, List, [], ◌∷◌, take, Some, None, refl}
+use Rattle.std.specs.Prelude.{◌≡◌, ℕ, Bool, true, false, List, [], ◌∷◌, take, Some, None, refl}
 use Rattle.prefixes.specs.Payload.{Payload}
 use Rattle.prefixes.specs.declared.prefix.IpPrefix.TheVariants.{V4, V6}
 use Rattle.rtr_pdu.specs.declared.version.Version.TheVariants.{V0, V1}
@@ -7,7 +7,10 @@ use Rattle.rtr_pdu.specs.declared.unit.Unit.TheVariants.{SerialNotify, SerialQue
 use Rattle.rtr_pdu.specs.declared.unit.UnitFault.TheVariants as faults
 use Rattle.rtr_pdu.specs.Unit.{fits, unit_bytes}
 use Rattle.rtr_pdu.specs.Stream.{as_read, end_fault, header_fault}
-use Rattle.rtr_pdu.specs.Version.{version_in}
+use Rattle.rtr_pdu.specs.Reader.{Reader, after_agreed}
+use Rattle.rtr_pdu.specs.Fault.{fault_number, read_fault_number}
+use Rattle.rtr_pdu.specs.declared.device.ReadFault.TheVariants as read_faults
+use Rattle.rtr_pdu.specs.Version.{header_version, version_in}
 
 -- a Serial Notify of session 0x1234 and serial number 5
 abbrev serial_notify : List ℕ
@@ -133,6 +136,31 @@ row_key_lengths : (header_fault V1 (0x01 ∷ 0x09 ∷ 0x00 ∷ 0x00 ∷ 0x00 ∷
     × (header_fault V1 (0x01 ∷ 0x09 ∷ 0x00 ∷ 0x00 ∷ 0x00 ∷ 0x00 ∷ 0x10 ∷ 0x00 ∷ []) ≡ None)
     × (header_fault V1 (0x01 ∷ 0x09 ∷ 0x00 ∷ 0x00 ∷ 0x00 ∷ 0x00 ∷ 0x10 ∷ 0x01 ∷ []) ≡ Some faults.TooLong)
 row_key_lengths = (refl, refl, refl)
+
+-- the version is judged before the type, and the type before the length
+row_order : (header_fault V1 (0x02 ∷ 0x05 ∷ 0x00 ∷ 0x00 ∷ 0xff ∷ 0xff ∷ 0xff ∷ 0xff ∷ []) ≡ Some faults.Version)
+    × (header_fault V1 (0x01 ∷ 0x05 ∷ 0x00 ∷ 0x00 ∷ 0xff ∷ 0xff ∷ 0xff ∷ 0xff ∷ []) ≡ Some faults.«Type»)
+row_order = (refl, refl)
+
+-- a reader at a router that holds these bytes, before agreement and after it
+abbrev router_with : Bool → Bool → List ℕ → Reader
+router_with any later held = record { version = Some V1; held = held; any = any; later = later; fault = None }
+
+-- A header that has come whole when agreement is told is still read as before; one that has not is read as after it.
+row_told_in_header : after_agreed (router_with true true (take 7 serial_notify)) ≡ router_with false false (take 7 serial_notify)
+row_told_in_header = refl
+
+row_told_behind_header : after_agreed (router_with true true (take 8 serial_notify)) ≡ router_with true false (take 8 serial_notify)
+row_told_behind_header = refl
+
+-- A version is told by a header that has come whole.
+row_told : (header_version None (take 7 (0x00 ∷ reset_query)) ≡ None) × (header_version None (take 8 (0x00 ∷ reset_query)) ≡ Some V0) × (header_version (Some V1) [] ≡ Some V1)
+row_told = (refl, refl, refl)
+
+-- the numbers of faults
+row_numbers : (fault_number faults.Version ≡ 1) × (fault_number faults.«Type» ≡ 2) × (fault_number faults.Length ≡ 3) × (fault_number faults.TooLong ≡ 4) × (fault_number faults.Record ≡ 5)
+    × (fault_number faults.ErrorReport ≡ 6) × (fault_number faults.Truncated ≡ 7) × (read_fault_number read_faults.ReadFailed ≡ 8)
+row_numbers = (refl, refl, refl, refl, refl, refl, refl, refl)
 
 -- seven bytes are no header yet
 row_begun : header_fault V1 (take 7 (0x00 ∷ reset_query)) ≡ None

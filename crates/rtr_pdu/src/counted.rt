@@ -35,7 +35,7 @@ impl<D> Counted<D> {
         }
     }
 
-    /// The device, to be looked at.
+    /// The device, lent to be looked at. A caller that reads or writes by what is lent, as a `&TcpStream` lets it, passes by the count.
     pub fn device(&self) -> &D
         ensures { result.now ≡ device_of self.now }
     {
