@@ -14,3 +14,4 @@ pub mod SplitLaws
 pub mod StreamLaws
 pub mod UnitLaws
 pub mod VersionLaws
+pub mod WritingLaws

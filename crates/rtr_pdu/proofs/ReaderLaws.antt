@@ -1,5 +1,5 @@
 -- What filling a buffer does.
-use Rattle.std.specs.Prelude.{◌≡◌, ◌⊎◌, ℕ, ◌-◌, ◌<◌, ◌≤◌, Bool, true, false, ◌==◌, nat_lt, List, [], ◌∷◌, ◌++◌, length, take, Option, Some, None, refl, MatchOption}
+use Rattle.std.specs.Prelude.{◌≡◌, ◌⊎◌, ℕ, ◌-◌, ◌<◌, ◌≤◌, Bool, true, false, ◌==◌, nat_lt, List, [], ◌∷◌, ◌++◌, length, take, Option, Some, None, is_some, refl, MatchOption}
 use Rattle.std.proofs.Common.{sym, ap, ◌∙◌, subst, arith, append_assoc, inl, inr}
 use Rattle.std.proofs.lemmas.List.{length-take, length-append, take-append-drop, drop_all, append-nil}
 use Rattle.std.proofs.lemmas.Bool.{cases_lt}
@@ -16,7 +16,8 @@ use Rattle.rtr_pdu.proofs.ModeLaws.{length-as_read, as_read-append, length_of-ap
 use Rattle.rtr_pdu.proofs.JudgeLaws.{chain, header_fault-append, short_none}
 use Rattle.rtr_pdu.proofs.SplitLaws.{shortest_8}
 use Rattle.rtr_pdu.specs.Reading.{filled, unfilled}
-use Rattle.rtr_pdu.specs.Reader.{fault_size, IsFaulty, Advances, ReaderStands}
+use Rattle.rtr_pdu.specs.declared.unit.Unit.{Unit}
+use Rattle.rtr_pdu.specs.Reader.{Reader, fault_size, version_with, IsFaulty, IsRead, Advances, ReaderStands, ReaderTakes}
 
 -- a fault of a header is one of four
 abbrev in_header : UnitFault → Bool
@@ -38,6 +39,31 @@ in_tests false true true true false fault h = absurd (let k : ◌≡◌ {A = Opt
 pub not_some : (o : Option UnitFault) → ((x : UnitFault) → o ≡ Some x → ⊥) → o ≡ None
 not_some None h = refl
 not_some (Some x) h = absurd (h x refl)
+
+-- a list of no length is empty
+no_items : (xs : List ℕ) → length xs ≡ 0 → xs ≡ []
+no_items [] h = refl
+no_items (x ∷ xs) h = absurd (omega (arith, h))
+
+-- so is one in which none was found
+pub none_found : (o : Option UnitFault) → is_some o ≡ false → o ≡ None
+none_found None h = refl
+none_found (Some x) h = absurd (let e : true ≡ false = h in cc)
+
+-- A Prefix at the front of a piece, where nothing is held
+pub takes_prefix : (r : Reader) (version : Version) (piece unit rest : List ℕ) (u : Unit) → r.fault ≡ None → length r.held ≡ 0 → version ≡ version_with r piece → piece ≡ unit ++ rest → IsRead version r.any unit u
+    → ReaderTakes (version_with r piece) r piece (next.Unit u) rest (record { version = Some version; held = r.held; any = r.later; later = r.later; fault = r.fault })
+takes_prefix r version piece unit rest u sound none is split read =
+    let empty = no_items r.held none in
+    record {
+      taken = unit;
+      piece_is = split;
+      gives = (
+        sound,
+        subst (λ v. IsRead v r.any (r.held ++ unit) u) is (subst (λ h. IsRead version r.any (h ++ unit) u) (sym empty) read),
+        λ i. record { version = Some (is i); held = empty i; any = r.later; later = r.later; fault = sound i },
+      );
+    }
 
 module _ (version : Version) where
   -- a fault of a header shows, with 8 bytes held

@@ -22,4 +22,4 @@ pub use unit::{
     ErrorReport, KEY_ROOM, MAX_UNIT_LEN, Next, REPORT_ROOM, RouterKey, Unit, UnitFault,
 };
 pub use version::Version;
-pub use writing::{UnitBuffer, encode, encode_as, encode_prefix};
+pub use writing::{MAX_PREFIX_LEN, UnitBuffer, encode, encode_as, encode_prefix, encode_prefix_at};

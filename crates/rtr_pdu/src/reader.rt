@@ -1,16 +1,18 @@
 //! Units from a stream that comes in pieces.
-ghost use Rattle.std.specs.Prelude.{◌≡◌, ◌≤◌, [], ◌++◌, length, Some, None, true, false};
+ghost use Rattle.std.specs.Prelude.{◌≡◌, ◌≤◌, [], ◌++◌, length, Some, None, true, false, IfSome, IfNone};
 ghost use Rattle.arrayvec.specs.ArrayVec.{array_vec_len};
 ghost use Rattle.rtr_pdu.specs.Stream.{as_read, header_fault, length_of, IsPartial};
 ghost use Rattle.rtr_pdu.specs.Reader.{Advances, FitsAnswer, ReaderTakes, IsReader, fresh, after_agreed, at_end, known_version, version_with, Reader};
 ghost use Rattle.rtr_pdu.specs.Version.{version_in};
 ghost use Rattle.rtr_pdu.specs.Reading.{filled, unfilled};
+ghost use Rattle.rtr_pdu.specs.declared.unit.Unit.TheVariants.{Prefix};
 
-use crate::reading::{judge, number_32, read};
+use crate::reading::{judge, number_32, read, read_prefix, whole_size};
 use crate::unit::{MAX_UNIT_LEN, Next, UnitFault};
 use crate::version::Version;
 use crate::writing::UnitBuffer;
 use arrayvec::ArrayVec;
+use prefixes::Vrp;
 use std::marker::Model;
 
 /// Moves bytes of the piece to the buffer until it has this size.
@@ -190,6 +192,31 @@ impl UnitReader {
                 Next::Fault(fault)
             }
         }
+    }
+
+    /// Takes a Prefix (RFC 8210 sections 5.6 and 5.7) as `next` does, where it stands whole at the front of the piece, and makes no `Unit` of
+    /// it: whether it is announced, and its payload. Else nothing is taken, and `next` tells what there is.
+    pub fn next_prefix(&mut self, piece: &mut &[u8]) -> Option<(bool, Vrp)>
+        ensures some { IfSome result (λ found. ReaderTakes (version_with self.old piece.old.now) self.old piece.old.now (Next.Unit (Prefix found.0 found.1)) piece.new.now self.new) }
+        ensures none { IfNone result ((self.new ≡ self.old) × (piece.new.now ≡ piece.old.now)) }
+        ensures reader { IsReader (version_with self.old piece.old.now) self.old }
+    {
+        if self.fault.is_some() || self.buffer.len() > 0 {
+            return None;
+        }
+        let bytes: &[u8] = *piece;
+        let version = self.version_with(bytes);
+        let Some(size) = whole_size(version, self.any, bytes) else {
+            return None;
+        };
+        let (unit, behind) = bytes.split_at(size);
+        let Some(found) = read_prefix(version, self.any, unit) else {
+            return None;
+        };
+        *piece = behind;
+        self.any = self.later;
+        self.version = Some(version);
+        Some(found)
     }
 
     /// The fault of the input if it ends here: the one that was found, or `Truncated` within a unit, or none.

@@ -1,5 +1,5 @@
 //! Units from bytes.
-ghost use Rattle.std.specs.Prelude.{◌≡◌, ◌==◌, ◌&&◌, true, not, nat_lt, Some, None, if◌then◌else◌, ◌+◌, ◌≤◌, length, IfOk, IfErr, IfSome, IfNone};
+ghost use Rattle.std.specs.Prelude.{◌≡◌, ◌==◌, ◌&&◌, true, not, nat_lt, Some, None, if◌then◌else◌, ◌+◌, ◌≤◌, length, take, IfOk, IfErr, IfSome, IfNone};
 ghost use Rattle.rtr_pdu.specs.Kind.{type_number, end_of_data_len, fixed_len, may_have, is_type};
 ghost use Rattle.rtr_pdu.specs.Judging.{end_of_data_in};
 ghost use Rattle.rtr_pdu.specs.Stream.{fault_of, header_fault, as_read, type_of, length_of, IsKind, IsRecord, IsReport};
@@ -228,4 +228,42 @@ pub fn read(version: Version, any: bool, bytes: &[u8]) -> Result<Unit, UnitFault
             None => Err(UnitFault::ErrorReport),
         },
     }
+}
+
+/// The Prefix that has come whole, behind a header without a fault: whether it is announced, and its payload. Nothing where it is another
+/// unit, or a fault.
+pub fn read_prefix(version: Version, any: bool, bytes: &[u8]) -> Option<(bool, Vrp)>
+    requires { IsBody version any bytes.now }
+    ensures { IfSome result (λ found. IsRead version any bytes.now (Unit.Prefix found.0 found.1)) }
+{
+    match kind_of(version, bytes) {
+        Kind::Ipv4Prefix => match v4_record(bytes) {
+            Some(vrp) => Some((bytes[8] % 2 == 1, vrp)),
+            None => None,
+        },
+        Kind::Ipv6Prefix => match v6_record(bytes) {
+            Some(vrp) => Some((bytes[8] % 2 == 1, vrp)),
+            None => None,
+        },
+        _ => None,
+    }
+}
+
+/// The size of the unit with which the bytes begin, where it has come whole, behind a header without a fault.
+pub fn whole_size(version: Version, any: bool, bytes: &[u8]) -> Option<usize>
+    ensures within { IfSome result (λ size. size ≤ length bytes.now) }
+    ensures body { IfSome result (λ size. IsBody version any (take size bytes.now)) }
+{
+    if bytes.len() < 8 {
+        return None;
+    }
+    let (header, _) = bytes.split_at(8);
+    if judge(version, any, header).is_some() {
+        return None;
+    }
+    let size = number_32(header, 4) as usize;
+    if bytes.len() < size {
+        return None;
+    }
+    Some(size)
 }

@@ -1,5 +1,5 @@
 //! Units as bytes.
-ghost use Rattle.std.specs.Prelude.{◌≡◌, ◌+◌, ◌≤◌, ◌∷◌, ◌++◌, length, true};
+ghost use Rattle.std.specs.Prelude.{◌≡◌, ◌+◌, ◌≤◌, List, ℕ, ◌∷◌, ◌++◌, drop, take, length, true};
 ghost use Rattle.arrayvec.specs.ArrayVec.{array_vec_len};
 ghost use Rattle.byteorder.specs.Endian.{big_bytes};
 ghost use Rattle.rtr_pdu.specs.Kind.{type_number};
@@ -74,35 +74,6 @@ fn flag_of(announce: bool) -> u8
     if announce { 1 } else { 0 }
 }
 
-fn put_record(buffer: &mut UnitBuffer, announce: bool, len: u8, max_len: u8, addr: &[u8], asn: u32)
-    requires { array_vec_len buffer.old + length addr.now + 8 ≤ MAX_UNIT_LEN }
-    ensures { buffer.new.items ≡ buffer.old.items ++ flag announce ∷ len ∷ max_len ∷ 0 ∷ addr.now ++ big_bytes 4 asn }
-{
-    put(buffer, &[flag_of(announce), len, max_len, 0]);
-    put(buffer, addr);
-    put_number(buffer, asn);
-}
-
-fn put_prefix(version: Version, announce: bool, vrp: &Vrp, buffer: &mut UnitBuffer)
-    ensures bytes { buffer.new.items ≡ unit_bytes version (Unit.Prefix announce vrp.now) }
-    ensures unit { IsUnit (Unit.Prefix announce vrp.now) }
-{
-    let max_len = vrp.max_len();
-    let asn = vrp.asn().0;
-    match vrp.prefix() {
-        IpPrefix::V4(p) => {
-            put_fixed(buffer, version, Kind::Ipv4Prefix, 0);
-            let addr = (p.addr() as u32).to_be_bytes();
-            put_record(buffer, announce, p.len(), max_len, &addr, asn);
-        }
-        IpPrefix::V6(p) => {
-            put_fixed(buffer, version, Kind::Ipv6Prefix, 0);
-            let addr = p.addr().to_be_bytes();
-            put_record(buffer, announce, p.len(), max_len, &addr, asn);
-        }
-    }
-}
-
 fn put_key(version: Version, key: &RouterKey, buffer: &mut UnitBuffer)
     ensures bytes { buffer.new.items ≡ unit_bytes version (Unit.RouterKey key.now) }
     ensures unit { IsUnit (Unit.RouterKey key.now) }
@@ -155,7 +126,7 @@ pub fn encode_as(version: Version, unit: &Unit, buffer: &mut UnitBuffer)
         Unit::CacheResponse { session } => {
             put_fixed(buffer, version, Kind::CacheResponse, *session);
         }
-        Unit::Prefix { announce, vrp } => put_prefix(version, *announce, vrp, buffer),
+        Unit::Prefix { announce, vrp } => encode_prefix(version, *announce, vrp, buffer),
         Unit::EndOfData {
             session,
             serial,
@@ -190,5 +161,73 @@ pub fn encode_prefix(version: Version, announce: bool, vrp: &Vrp, buffer: &mut U
     ensures bytes { buffer.new.items ≡ unit_bytes version (Unit.Prefix announce vrp.now) }
     ensures unit { IsUnit (Unit.Prefix announce vrp.now) }
 {
-    put_prefix(version, announce, vrp, buffer);
+    let mut unit = [0u8; MAX_PREFIX_LEN];
+    let size = encode_prefix_at(version, announce, vrp, &mut unit, 0);
+    buffer.clear();
+    put(buffer, &unit[..size]);
+}
+
+/// How many bytes the longest Prefix has, that of an IPv6 prefix (RFC 8210 section 5.7).
+pub const MAX_PREFIX_LEN: usize = 32;
+
+/// Writes bytes behind the first `at` of `out`, and answers where they end.
+fn put_at(out: &mut [u8], at: usize, bytes: &[u8]) -> usize
+    requires { at + length bytes.now ≤ length out.old }
+    ensures end { result ≡ at + length bytes.now }
+    ensures puts { (done rest : List ℕ) → out.old ≡ done ++ rest → length done ≡ at → out.new ≡ done ++ bytes.now ++ drop (length bytes.now) rest }
+{
+    let end = at + bytes.len();
+    out[at..end].copy_from_slice(bytes);
+    end
+}
+
+/// Writes the parts of a Prefix behind the first `at` bytes of `out`, and answers where they end.
+fn put_parts(
+    out: &mut [u8],
+    at: usize,
+    header: &[u8; 8],
+    lengths: &[u8; 4],
+    addr: &[u8],
+    asn: &[u8; 4],
+) -> usize
+    requires { at + 16 + length addr.now ≤ length out.old }
+    ensures end { result ≡ at + 16 + length addr.now }
+    ensures parts { out.new ≡ take at out.old ++ (header.now ++ lengths.now ++ addr.now ++ asn.now) ++ drop result out.old }
+{
+    let lengths_at = put_at(out, at, header);
+    let addr_at = put_at(out, lengths_at, lengths);
+    let asn_at = put_at(out, addr_at, addr);
+    put_at(out, asn_at, asn)
+}
+
+/// Writes a Prefix, as `encode_prefix` does, behind the first `at` bytes of `out`, whose other bytes stay, and answers where it ends.
+pub fn encode_prefix_at(
+    version: Version,
+    announce: bool,
+    vrp: &Vrp,
+    out: &mut [u8],
+    at: usize,
+) -> usize
+    requires { at + MAX_PREFIX_LEN ≤ length out.old }
+    ensures bytes { out.new ≡ take at out.old ++ unit_bytes version (Unit.Prefix announce vrp.now) ++ drop result out.old }
+    ensures end { result ≡ at + length (unit_bytes version (Unit.Prefix announce vrp.now)) }
+    ensures unit { IsUnit (Unit.Prefix announce vrp.now) }
+{
+    let number = version.number();
+    let max_len = vrp.max_len();
+    let asn = vrp.asn().0.to_be_bytes();
+    match vrp.prefix() {
+        IpPrefix::V4(p) => {
+            let addr = (p.addr() as u32).to_be_bytes();
+            let header = [number, 4, 0, 0, 0, 0, 0, 20];
+            let lengths = [flag_of(announce), p.len(), max_len, 0];
+            put_parts(out, at, &header, &lengths, &addr, &asn)
+        }
+        IpPrefix::V6(p) => {
+            let addr = p.addr().to_be_bytes();
+            let header = [number, 6, 0, 0, 0, 0, 0, 32];
+            let lengths = [flag_of(announce), p.len(), max_len, 0];
+            put_parts(out, at, &header, &lengths, &addr, &asn)
+        }
+    }
 }
