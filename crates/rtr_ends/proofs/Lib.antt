@@ -9,6 +9,7 @@ pub mod ConsumedLaws
 pub mod ConsumedUnits
 pub mod FeedingLaws
 pub mod FetchStreamLaws
+pub mod FillingLaws
 pub mod HistoryLaws
 pub mod KeptLaws
 pub mod KeptUnits

@@ -148,3 +148,31 @@ pub record GivesFrom (old : Sender) (out : List ℕ) (filled result : ℕ) (now 
   pub timing : new.timing ≡ old.timing
   pub ready : new.ready ≡ old.ready
   pub answer : new.answer ≡ old.answer
+
+-- The first of these units, so many, are written behind the bytes that are filled.
+pub record FillsWith (version : Version) (units : List Unit) (out : List ℕ) (filled count result : ℕ) (now : List ℕ) : Type 0 where
+  pub within : count ≤ length units
+  pub result_is : result ≡ filled + length (sent_all version (take count units))
+  pub low : result ≤ length out
+  pub now_is : now ≡ take filled out ++ sent_all version (take count units) ++ drop result out
+
+-- Records of an answer from its place on are written so, and it goes on behind them.
+pub record FillsFrom (version : Version) (old : AnswerCursor) (out : List ℕ) (filled result : ℕ) (now : List ℕ) (new : AnswerCursor) : Type 0 where
+  pub count : ℕ
+  pub fills : FillsWith version (drop old.place (units_in old.records)) out filled count result now
+  pub records : new.records ≡ old.records
+  pub place : new.place ≡ old.place + count
+
+abbrev pub FillsAnswer : Version → Option AnswerCursor → List ℕ → ℕ → ℕ → List ℕ → Option AnswerCursor → Type 0
+FillsAnswer version None out filled result now new = (result ≡ filled) × (now ≡ out) × (new ≡ None)
+FillsAnswer version (Some old) out filled result now new = (cursor : AnswerCursor) × (new ≡ Some cursor) × FillsFrom version old out filled result now cursor
+
+-- So are records of the answer under way, and the rest stays.
+pub record FillsOn (old : Sender) (out : List ℕ) (filled result : ℕ) (now : List ℕ) (new : Sender) : Type 0 where
+  pub version : new.version ≡ old.version
+  pub sessions : new.sessions ≡ old.sessions
+  pub timing : new.timing ≡ old.timing
+  pub ready : new.ready ≡ old.ready
+  pub buffer : new.buffer ≡ old.buffer
+  pub pulled : new.pulled ≡ old.pulled
+  pub answer : FillsAnswer old.version old.answer out filled result now new.answer

@@ -57,6 +57,42 @@ impl Machine {
         }
     }
 
+    /// A Prefix is read, as `read` does, and no `Unit` is made of it where it is staged.
+    pub fn read_prefix(&mut self, announce: bool, vrp: &Vrp) -> bool
+        ensures { ReadsOrLacks result (Unit.Prefix announce vrp.now) self.old self.new }
+    {
+        match self.state {
+            State::Answering {
+                question,
+                session: _,
+            } => match self.stage(question, announce, vrp) {
+                Ok(()) => false,
+                Err(SetFault::TooMany) => {
+                    self.state = State::Ended(End::TooMany);
+                    false
+                }
+                Err(SetFault::Memory) => {
+                    self.state = State::Ended(End::Memory);
+                    true
+                }
+            },
+            _ => self.read_apart(announce, vrp),
+        }
+    }
+
+    /// A Prefix is read where no answer has begun.
+    #[cold]
+    #[inline(never)]
+    fn read_apart(&mut self, announce: bool, vrp: &Vrp) -> bool
+        ensures { ReadsOrLacks result (Unit.Prefix announce vrp.now) self.old self.new }
+    {
+        let unit = Unit::Prefix {
+            announce,
+            vrp: *vrp,
+        };
+        self.read(&unit)
+    }
+
     /// A unit on an idle link.
     fn on_idle(&mut self, unit: &Unit)
         requires state { self.old.state ≡ states.Idle }
@@ -146,7 +182,7 @@ impl Machine {
                 }
                 Ok(())
             }
-            Unit::Prefix { announce, vrp } => self.stage(question, unit, *announce, vrp),
+            Unit::Prefix { announce, vrp } => self.stage(question, *announce, vrp),
             Unit::RouterKey(_) => Ok(()),
             Unit::EndOfData {
                 session: named,
@@ -204,26 +240,32 @@ impl Machine {
     }
 
     /// A record in an answer.
-    fn stage(
-        &mut self,
-        question: Question,
-        unit: &Unit,
-        announce: bool,
-        vrp: &Vrp,
-    ) -> Result<(), SetFault>
-        requires { fits self.old.spoken unit.now ≡ true }
-        ensures { (session : ℕ) → self.old.state ≡ states.Answering question session → unit.now ≡ Unit.Prefix announce vrp.now → UnitIsRead result unit.now self.old self.new }
+    fn stage(&mut self, question: Question, announce: bool, vrp: &Vrp) -> Result<(), SetFault>
+        ensures { (session : ℕ) → self.old.state ≡ states.Answering question session → UnitIsRead result (Unit.Prefix announce vrp.now) self.old self.new }
     {
         let in_base = self.is_in_base(question, vrp);
         match self.staging.take(in_base, announce, vrp) {
             Ok(Staged::Stays) => Ok(()),
             Ok(Staged::Wrong(code)) => {
-                self.reports(code, unit);
+                self.reports_prefix(code, announce, vrp);
                 self.mark = true;
                 Ok(())
             }
             Err(fault) => Err(fault),
         }
+    }
+
+    /// Ends the link with a report on a Prefix.
+    #[cold]
+    #[inline(never)]
+    fn reports_prefix(&mut self, code: u16, announce: bool, vrp: &Vrp)
+        ensures { self.new ≡ record self.old { state = states.Ended (ends.Reported code); out = sent self.old.spoken (report code (sent self.old.spoken (Unit.Prefix announce vrp.now))) } }
+    {
+        let unit = Unit::Prefix {
+            announce,
+            vrp: *vrp,
+        };
+        self.reports(code, &unit);
     }
 
     /// The end of an answer: what is staged becomes the table, under this name.

@@ -204,6 +204,23 @@ impl Router {
         ensures less { result ≡ true → length piece.new.now < length piece.old.now }
         ensures within { length piece.new.now ≤ length piece.old.now }
     {
+        if let Some(found) = self.reader.next_prefix(piece) {
+            self.machine.follow(self.reader.expected());
+            let _lacks = self.machine.read_prefix(found.0, &found.1);
+            self.agree();
+            return true;
+        }
+        self.step_unit(piece)
+    }
+
+    /// The same of any unit.
+    #[inline(never)]
+    fn step_unit(&mut self, piece: &mut &[u8]) -> bool
+        requires { (linked.is_reading (seen_link self.old.machine.state [] []) && is_none self.old.machine.out) ≡ true }
+        ensures takes { TakesOn result self.old piece.old.now self.new piece.new.now }
+        ensures less { result ≡ true → length piece.new.now < length piece.old.now }
+        ensures within { length piece.new.now ≤ length piece.old.now }
+    {
         match self.reader.next(piece) {
             Next::Unit(unit) => {
                 self.machine.follow(self.reader.expected());

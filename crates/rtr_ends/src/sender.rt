@@ -1,17 +1,22 @@
 //! What a connection at the cache has to send.
-ghost use Rattle.std.specs.Prelude.{◌≡◌, ℕ, ◌<◌, ◌≤◌, length, Bool, true, false, not, [], ◌∷◌, ◌++◌, ◌+◌, Some, None, option_map, slice_get};
+ghost use Rattle.std.specs.Prelude.{◌≡◌, ℕ, ◌<◌, ◌≤◌, length, Bool, true, false, not, [], ◌∷◌, ◌++◌, ◌+◌, Some, None, map, option_map, slice_get, drop, ◌^◌};
 ghost use Rattle.vrps.specs.Instance.{NumberedSet};
 ghost use Rattle.rtr_pdu.specs.Unit.{fits};
 ghost use Rattle.rtr_pdu.specs.declared.version.Version.TheVariants.{V1};
+ghost use Rattle.rtr_pdu.specs.declared.unit.Unit.TheVariants.{Prefix};
 ghost use Rattle.rtr_ends.specs.Answer.{announcements, end_of_data, response, sent, whole_answer, withdrawals};
 ghost use Rattle.rtr_ends.specs.Cache.{is_none};
-ghost use Rattle.rtr_ends.specs.Sender.{BeginsAnswer, PullsBytes, GivesFrom, Hands, KeepsRecords, KeepsRoom, Sends, Speaks, Stays, Writes, as_list, due_of, left, newest_of, own_session, ready_in, serial_in, units_in, numbered_of};
+ghost use Rattle.rtr_ends.specs.Sender.{BeginsAnswer, PullsBytes, FillsFrom, FillsOn, FillsWith, GivesFrom, Hands, KeepsRecords, KeepsRoom, Sends, Speaks, Stays, Writes, as_list, due_of, left, newest_of, own_session, ready_in, serial_in, units_in, numbered_of};
 
 use crate::reports::report_on;
 use crate::sessions::Sessions;
 use crate::timing::Timing;
 use arrayvec::ArrayVec;
-use rtr_pdu::{MAX_UNIT_LEN, Unit, UnitBuffer, Version, encode_as, encode_prefix, error_code};
+use prefixes::Vrp;
+use rtr_pdu::{
+    MAX_PREFIX_LEN, MAX_UNIT_LEN, Unit, UnitBuffer, Version, encode_as, encode_prefix,
+    encode_prefix_at, error_code,
+};
 use std::rc::Rc;
 use vrps::{Change, Serial, VrpSet};
 
@@ -52,6 +57,36 @@ fn write_announced(version: Version, set: &VrpSet, place: usize, buffer: &mut Un
     }
 }
 
+/// The records from a place on.
+fn from_place(records: &[Vrp], place: usize) -> &[Vrp]
+    ensures { result.now ≡ drop place records.now }
+{
+    let (_, rest) = records.split_at(place.min(records.len()));
+    rest
+}
+
+/// Writes records of this list behind the bytes of `out` that are filled, one after the other, as long as there is room for the longest.
+/// Answers how many bytes are filled then, and how many records were written.
+fn fill_with(
+    version: Version,
+    announce: bool,
+    records: &[Vrp],
+    out: &mut [u8],
+    filled: usize,
+) -> (usize, usize)
+    requires { filled ≤ length out.old }
+    ensures { FillsWith version (map (λ v. Prefix announce v) records.now) out.old filled result.1 result.0 out.new }
+{
+    let mut end = filled;
+    for (count, vrp) in records.iter().enumerate() {
+        if out.len() - end < MAX_PREFIX_LEN {
+            return (end, count);
+        }
+        end = encode_prefix_at(version, announce, vrp, out, end);
+    }
+    (end, records.len())
+}
+
 impl AnswerCursor {
     /// Writes the record at the place, and says whether there is one.
     fn write(&self, version: Version, buffer: &mut UnitBuffer) -> bool
@@ -72,6 +107,41 @@ impl AnswerCursor {
                 true
             }
         }
+    }
+
+    /// Writes records from the place on behind the bytes of `out` that are filled, as `fill_with` does.
+    fn fill_from(&self, version: Version, out: &mut [u8], filled: usize) -> (usize, usize)
+        requires { filled ≤ length out.old }
+        ensures fills { FillsWith version (drop self.now.place (units_in self.now.records)) out.old filled result.1 result.0 out.new }
+        ensures low { self.now.place + result.1 < 2 ^ 64 }
+    {
+        match &self.records {
+            Records::Whole(share) => {
+                let records = share.set.as_ref().as_slice();
+                let rest = from_place(records, self.place);
+                fill_with(version, true, rest, out, filled)
+            }
+            Records::Step(_, change) => {
+                let withdrawn = change.withdraw.as_slice();
+                if self.place < withdrawn.len() {
+                    let rest = from_place(withdrawn, self.place);
+                    return fill_with(version, false, rest, out, filled);
+                }
+                let announced = change.announce.as_slice();
+                let rest = from_place(announced, self.place - withdrawn.len());
+                fill_with(version, true, rest, out, filled)
+            }
+        }
+    }
+
+    /// The same, and the answer goes on behind these records. Answers how many bytes are filled then.
+    fn fill(&mut self, version: Version, out: &mut [u8], filled: usize) -> usize
+        requires { filled ≤ length out.old }
+        ensures { FillsFrom version self.old out.old filled result out.new self.new }
+    {
+        let (end, count) = self.fill_from(version, out, filled);
+        self.place += count;
+        end
     }
 
     /// The serial of the version to which it leads.
@@ -301,7 +371,19 @@ impl Sender {
         filled + count
     }
 
-    /// Fills `out` with bytes that are due, as far as there are any.
+    /// Writes whole records of the answer under way straight behind the bytes of `out` that are filled.
+    fn fill(&mut self, out: &mut [u8], filled: usize) -> usize
+        requires { filled ≤ length out.old }
+        ensures { FillsOn self.old out.old filled result out.new self.new }
+    {
+        match &mut self.answer {
+            None => filled,
+            Some(cursor) => cursor.fill(self.version, out, filled),
+        }
+    }
+
+    /// Fills `out` with bytes that are due, as far as there are any. Records are written straight into it; the buffer holds the unit of which
+    /// only a part has room at its end.
     pub fn pull(&mut self, out: &mut [u8]) -> usize
         ensures gives { PullsBytes (due_of self.old) out.old result out.new (due_of self.new) }
         ensures stays { Stays self.old self.new }
@@ -312,6 +394,7 @@ impl Sender {
             if filled == out.len() {
                 return filled;
             }
+            filled = self.fill(out, filled);
             let Some(cursor) = self.answer.take() else {
                 return filled;
             };

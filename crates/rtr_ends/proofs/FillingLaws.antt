@@ -1,0 +1,159 @@
+-- Records that are written straight into what goes out.
+use Rattle.std.specs.Prelude.{◌≡◌, ℕ, ◌+◌, ◌-◌, ◌<◌, ◌≤◌, List, [], ◌∷◌, ◌++◌, length, take, drop, map, get_or, Option, Some, None, refl}
+use Rattle.std.proofs.Common.{sym, ap, ◌∙◌, subst, arith, append_assoc}
+use Rattle.std.proofs.Math.Seq.{drop-append-add, take-add}
+use Rattle.std.proofs.lemmas.List.{append-nil, drop-append-le, drop-drop, flat_map_more, length-append, length-drop, length-take, take-append-drop, take-append-le, take_at, take_more}
+use Rattle.std.proofs.lemmas.List.Concat.{flat_map-append}
+use Rattle.rtr_pdu.specs.declared.version.Version.{Version}
+use Rattle.rtr_pdu.specs.declared.unit.Unit.{Unit}
+use Rattle.rtr_ends.specs.Answer.{end_of_data, sent, sent_all}
+use Rattle.rtr_ends.specs.Sender.{FillsAnswer, FillsFrom, FillsOn, FillsWith, Stays, due_of, left, left_in, newest_in, newest_of, own_session, ready_in, serial_in, session_by, units_in}
+use Rattle.rtr_ends.specs.declared.sender.AnswerCursor.{AnswerCursor}
+use Rattle.rtr_ends.specs.declared.sender.Sender.{Sender}
+use Rattle.rtr_ends.proofs.SenderLaws.{IsFilled}
+
+-- none yet
+pub none_written : (version : Version) (units : List Unit) (out : List ℕ) (filled : ℕ) → filled ≤ length out → FillsWith version units out filled 0 filled out
+none_written version units out filled low = record {
+  within = omega arith;
+  result_is = omega arith;
+  low = low;
+  now_is = sym (ap (λ x. x ++ drop filled out) (append-nil (take filled out)) ∙ take-append-drop filled out);
+}
+
+-- one more
+pub one_written : (version : Version) (units : List Unit) (given out now : List ℕ) (filled i end next : ℕ) (u : Unit) → filled ≤ length given → FillsWith version units given filled i end out → i < length units → get_or units i u ≡ u
+    → now ≡ take end out ++ sent version u ++ drop next out → next ≡ end + length (sent version u) → next ≤ length given → FillsWith version units given filled (i + 1) next now
+one_written version units given out now filled i end next u start f less is now_is next_is fits =
+    let front : List ℕ = take filled given ++ sent_all version (take i units) in
+    let size : length front ≡ end = omega (arith, length-append (take filled given) (sent_all version (take i units)), length-take filled given, start, f.result_is) in
+    let taken : take end out ≡ front = ap (take end) f.now_is ∙ take_at front (drop end given) end size in
+    let left : drop next out ≡ drop next given =
+    (λ j. drop (next_is j) (f.now_is j)) ∙ ap (λ n. drop (n + length (sent version u)) (front ++ drop end given)) (sym size) ∙ drop-append-add front (drop end given) (length (sent version u))
+    ∙ drop-drop (length (sent version u)) end given ∙ ap (λ n. drop n given) (sym next_is) in
+    let cut : take (i + 1) units ≡ take i units ++ u ∷ [] = take_more units i u less ∙ ap (λ x. take i units ++ x ∷ []) is in
+    let more : sent_all version (take (i + 1) units) ≡ sent_all version (take i units) ++ sent version u = ap (sent_all version) cut ∙ sym (flat_map_more (sent version) [] (take i units) u) in
+    record {
+      within = omega (arith, less);
+      result_is = omega (arith, next_is, f.result_is, ap length more, length-append (sent_all version (take i units)) (sent version u));
+      low = fits;
+      now_is = now_is ∙ (λ j. taken j ++ sent version u ++ left j)
+          ∙ ap (λ x. x ++ drop next given) (append_assoc (take filled given) (sent_all version (take i units)) (sent version u) ∙ ap (λ x. take filled given ++ x) (sym more));
+    }
+
+-- further units behind them change nothing
+pub of_longer : (version : Version) (units more : List Unit) (out : List ℕ) (filled count result : ℕ) (now : List ℕ) → FillsWith version units out filled count result now → FillsWith version (units ++ more) out filled count result now
+of_longer version units more out filled count result now f =
+    let same : take count (units ++ more) ≡ take count units = take-append-le count units more f.within in
+    record {
+      within = omega (arith, f.within, length-append units more);
+      result_is = f.result_is ∙ ap (λ x. filled + length (sent_all version x)) (sym same);
+      low = f.low;
+      now_is = f.now_is ∙ ap (λ x. take filled out ++ sent_all version x ++ drop result out) (sym same);
+    }
+
+module _ (start : Sender) (given : List ℕ) (s : Sender) (out : List ℕ) (filled result : ℕ) (now : List ℕ) (new : Sender) (f : IsFilled start given s out filled) (none : drop s.pulled s.buffer.items ≡ []) (g : FillsOn s out filled result now new) where
+  -- the buffer stays as it was
+  pub none_stays : drop new.pulled new.buffer.items ≡ []
+  none_stays = (λ i. drop (g.pulled i) (g.buffer i).items) ∙ none
+
+  room_stays : ready_in s ≤ 4096 → ready_in new ≤ 4096
+  unfolding ready_in
+  room_stays before = omega (arith, ap length none_stays)
+
+  due_is : due_of s ≡ sent_all s.version (left s)
+  unfolding due_of
+  due_is = ap (λ x. x ++ sent_all s.version (left s)) none
+
+  due_now : due_of new ≡ sent_all s.version (left new)
+  unfolding due_of
+  due_now = (λ i. none_stays i ++ sent_all (g.version i) (left new))
+
+  left_is : (a : Option AnswerCursor) → s.answer ≡ a → left s ≡ left_in s.version (own_session s) s.timing a
+  unfolding left
+  left_is a e = ap (left_in s.version (own_session s) s.timing) e
+
+  left_now : (a : Option AnswerCursor) → new.answer ≡ a → left new ≡ left_in s.version (own_session s) s.timing a
+  unfolding left
+  left_now a e = λ i. left_in (g.version i) (session_by (g.version i) (g.sessions i)) (g.timing i) (e i)
+
+  newest_is : (a b : Option AnswerCursor) → s.answer ≡ a → new.answer ≡ b → newest_in s.ready b ≡ newest_in s.ready a → newest_of new ≡ newest_of s
+  unfolding newest_of
+  newest_is a b was is same = (λ i. newest_in (g.ready i) (is i)) ∙ same ∙ ap (newest_in s.ready) (sym was)
+
+  -- bytes that were due first are written
+  written : (bytes : List ℕ) → due_of s ≡ bytes ++ due_of new → result ≡ filled + length bytes → result ≤ length out → now ≡ take filled out ++ bytes ++ drop result out → newest_of new ≡ newest_of s → IsFilled start given new now result
+  written bytes due_was result_is low now_is newest =
+      let size : length (take filled (due_of start)) ≡ filled = omega (arith, length-take filled (due_of start), f.within) in
+      let rest : drop filled (due_of start) ≡ bytes ++ due_of new = sym f.due ∙ due_was in
+      let first : take filled out ≡ take filled (due_of start) = ap (take filled) f.now ∙ take_at (take filled (due_of start)) (drop filled given) filled size in
+      let mid : bytes ≡ take (length bytes) (drop filled (due_of start)) = sym (ap (take (length bytes)) rest ∙ take_at bytes (due_of new) (length bytes) refl) in
+      let last : drop result out ≡ drop result given =
+      (λ i. drop (result_is i) (f.now i)) ∙ ap (λ n. drop (n + length bytes) (take filled (due_of start) ++ drop filled given)) (sym size)
+      ∙ drop-append-add (take filled (due_of start)) (drop filled given) (length bytes) ∙ drop-drop (length bytes) filled given ∙ ap (λ n. drop n given) (sym result_is) in
+      let whole : take filled (due_of start) ++ take (length bytes) (drop filled (due_of start)) ≡ take result (due_of start) = sym (take-add filled (length bytes) (due_of start)) ∙ ap (λ n. take n (due_of start)) (sym result_is) in
+      let is : now ≡ take result (due_of start) ++ drop result given = now_is ∙ (λ i. first i ++ mid i ++ last i) ∙ ap (λ x. x ++ drop result given) whole in
+      let sizes : length (due_of start) - filled ≡ length bytes + length (due_of new) = sym (length-drop filled (due_of start)) ∙ ap length rest ∙ length-append bytes (due_of new) in
+      let all : result ≤ length (due_of start) = omega (arith, sizes, result_is, f.within) in
+      record {
+        low = omega (arith, ap length is, length-append (take result (due_of start)) (drop result given), length-take result (due_of start), all);
+        within = all;
+        now = is;
+        due = sym (ap (drop (length bytes)) rest ∙ drop_front bytes (due_of new)) ∙ drop-drop (length bytes) filled (due_of start) ∙ ap (λ n. drop n (due_of start)) (sym result_is);
+        stays = record { version = g.version ∙ f.stays.version; sessions = g.sessions ∙ f.stays.sessions; timing = g.timing ∙ f.stays.timing; newest = newest ∙ f.stays.newest; room = λ before. room_stays (f.stays.room before) };
+      }
+    where
+      drop_front : (xs ys : List ℕ) → drop (length xs) (xs ++ ys) ≡ ys
+      drop_front [] ys = refl
+      drop_front (x ∷ xs) ys = drop_front xs ys
+
+  by_answer : (a b : Option AnswerCursor) → s.answer ≡ a → new.answer ≡ b → FillsAnswer s.version a out filled result now b → IsFilled start given new now result
+  by_answer None b was is h =
+      let due : due_of s ≡ due_of new = due_is ∙ ap (sent_all s.version) (left_is None was ∙ sym (left_now None (is ∙ h.2))) ∙ sym due_now in
+      written [] due (omega (arith, h.0)) (omega (arith, h.0, f.low))
+      (h.1 ∙ sym (ap (λ x. x ++ drop result out) (append-nil (take filled out)) ∙ ap (λ n. take n out ++ drop result out) (sym h.0) ∙ take-append-drop result out))
+      (newest_is None None was (is ∙ h.2) refl)
+  by_answer (Some old) b was is h =
+      let cursor : AnswerCursor = h.0 in
+      let goes : FillsFrom s.version old out filled result now cursor = h.2 in
+      let units : List Unit = drop old.place (units_in old.records) in
+      let end : List Unit = end_of_data s.version (own_session s) (serial_in old.records) s.timing ∷ [] in
+      let parted : units ++ end ≡ take goes.count units ++ (drop goes.count units ++ end) =
+      ap (λ x. x ++ end) (sym (take-append-drop goes.count units)) ∙ append_assoc (take goes.count units) (drop goes.count units) end in
+      let later : drop goes.count units ++ end ≡ left new =
+      ap (λ x. x ++ end) (drop-drop goes.count old.place (units_in old.records))
+      ∙ sym (left_now (Some cursor) (is ∙ h.1) ∙ (λ i. drop (goes.place i) (units_in (goes.records i)) ++ end_of_data s.version (own_session s) (serial_in (goes.records i)) s.timing ∷ [])) in
+      let due : due_of s ≡ sent_all s.version (take goes.count units) ++ due_of new =
+      due_is ∙ ap (sent_all s.version) (left_is (Some old) was ∙ parted) ∙ flat_map-append (sent s.version) (take goes.count units) (drop goes.count units ++ end)
+      ∙ ap (λ x. sent_all s.version (take goes.count units) ++ x) (ap (sent_all s.version) later ∙ sym due_now) in
+      written (sent_all s.version (take goes.count units)) due goes.fills.result_is goes.fills.low goes.fills.now_is
+      (newest_is (Some old) (Some cursor) was (is ∙ h.1) (same_newest s.ready cursor old goes.records))
+    where
+      same_newest : (ready : _) (x y : AnswerCursor) → x.records ≡ y.records → newest_in ready (Some x) ≡ newest_in ready (Some y)
+      same_newest None x y e = ap (λ r. newest_in None (Some (record { records = r; place = 0 }))) e
+      same_newest (Some share) x y e = refl
+
+  pub fills_more : IsFilled start given new now result
+  fills_more = by_answer s.answer new.answer refl refl g.answer
+
+  -- and no more units are left than were
+  fewer : (a b : Option AnswerCursor) → s.answer ≡ a → new.answer ≡ b → FillsAnswer s.version a out filled result now b → length (left new) ≤ length (left s)
+  fewer None b was is h = omega (arith, ap length (left_is None was), ap length (left_now None (is ∙ h.2)))
+  fewer (Some old) b was is h =
+      let cursor : AnswerCursor = h.0 in
+      let goes : FillsFrom s.version old out filled result now cursor = h.2 in
+      let end : List Unit = end_of_data s.version (own_session s) (serial_in old.records) s.timing ∷ [] in
+      let later : left new ≡ drop (old.place + goes.count) (units_in old.records) ++ end =
+      left_now (Some cursor) (is ∙ h.1) ∙ (λ i. drop (goes.place i) (units_in (goes.records i)) ++ end_of_data s.version (own_session s) (serial_in (goes.records i)) s.timing ∷ []) in
+      omega (
+        arith,
+        ap length (left_is (Some old) was),
+        ap length later,
+        length-append (drop old.place (units_in old.records)) end,
+        length-append (drop (old.place + goes.count) (units_in old.records)) end,
+        length-drop old.place (units_in old.records),
+        length-drop (old.place + goes.count) (units_in old.records),
+      )
+
+  pub none_more : length (left new) ≤ length (left s)
+  none_more = fewer s.answer new.answer refl refl g.answer
