@@ -1,7 +1,7 @@
 //! The answers of a cache, a unit a line.
 ghost use Rattle.rtr_pdu.specs.Unit.{fits};
-ghost use Rattle.std.specs.Prelude.{◌≡◌, true, ℕ, [], ◌++◌, List, string_bytes, IfOk, OnOk, IsErrOf, Ok};
-ghost use Rattle.hex.specs.Hex.{decode_of};
+ghost use Rattle.std.specs.Prelude.{◌≡◌, true, ℕ, [], ◌++◌, List, codes, string_bytes, IfOk, OnOk, IsErrOf, Ok};
+ghost use Rattle.hex.specs.Hex.{decode_of, encode_lower};
 ghost use Rattle.vrps.specs.Instance.{Instance};
 ghost use Rattle.rpkirtr.specs.Answered.{AnswersBytes, LeavesOff};
 ghost use Rattle.rpkirtr.specs.Lines.{cache_of, line_of};
@@ -9,8 +9,11 @@ ghost use Rattle.rpkirtr.specs.Serves.{HasExchanged, HasLines, HasServed, Serves
 
 use crate::hexadecimal::push_hex;
 use hex::FromHexError;
+use prefixes::Vrp;
 use rtr_ends::{Cache, Conn, Timing};
-use rtr_pdu::{MAX_UNIT_LEN, Next, Unit, UnitBuffer, UnitReader, Version, encode_as, error_code};
+use rtr_pdu::{
+    MAX_UNIT_LEN, Next, Unit, UnitBuffer, UnitReader, Version, encode_as, encode_prefix, error_code,
+};
 use std::alloc::{AllocError, Global};
 use vrps::{Serial, VersionLog, VrpSet};
 
@@ -117,6 +120,14 @@ fn is_internal_error(unit: &Unit) -> bool
     }
 }
 
+/// Appends the line of the unit in a buffer.
+fn push_bytes(lines: &mut String, buffer: &UnitBuffer) -> Result<(), AllocError>
+    ensures { OnOk result (string_bytes lines.new ≡ string_bytes lines.old ++ (encode_lower buffer.now.items ++ codes "\n")) }
+{
+    push_hex(lines, buffer.as_slice())?;
+    lines.push('\n')
+}
+
 /// Appends the line of a unit of this version.
 fn push_line(lines: &mut String, version: Version, unit: &Unit) -> Result<(), AllocError>
     requires { fits version unit.now ≡ true }
@@ -124,8 +135,21 @@ fn push_line(lines: &mut String, version: Version, unit: &Unit) -> Result<(), Al
 {
     let mut buffer = UnitBuffer::new();
     encode_as(version, unit, &mut buffer);
-    push_hex(lines, buffer.as_slice())?;
-    lines.push('\n')
+    push_bytes(lines, &buffer)
+}
+
+/// The same of a Prefix, whose bytes are written into this buffer.
+fn push_prefix(
+    lines: &mut String,
+    version: Version,
+    announce: bool,
+    vrp: &Vrp,
+    buffer: &mut UnitBuffer,
+) -> Result<(), AllocError>
+    ensures { OnOk result (string_bytes lines.new ≡ string_bytes lines.old ++ line_of version (Unit.Prefix announce vrp.now)) }
+{
+    encode_prefix(version, announce, vrp, buffer);
+    push_bytes(lines, buffer)
 }
 
 /// The lines of the units of this version with which the bytes begin. An Internal Error among them is want of memory at the cache.
@@ -133,15 +157,24 @@ fn unit_lines(alloc: Global, version: Version, bytes: &[u8]) -> Result<String, A
     ensures { IfOk result (λ lines. HasLines version bytes.now (string_bytes lines)) }
 {
     let mut lines = String::new(alloc);
+    let mut buffer = UnitBuffer::new();
     let mut reader = UnitReader::of_version(version);
     let mut rest = bytes;
-    while let Next::Unit(unit) = reader.next(&mut rest) {
-        if is_internal_error(&unit) {
-            return Err(AllocError);
+    loop {
+        if let Some(found) = reader.next_prefix(&mut rest) {
+            push_prefix(&mut lines, version, found.0, &found.1, &mut buffer)?;
+        } else {
+            match reader.next(&mut rest) {
+                Next::Unit(unit) => {
+                    if is_internal_error(&unit) {
+                        return Err(AllocError);
+                    }
+                    push_line(&mut lines, version, &unit)?;
+                }
+                _ => return Ok(lines),
+            }
         }
-        push_line(&mut lines, version, &unit)?;
     }
-    Ok(lines)
 }
 
 /// Where the beginning of a unit stands with which the bytes end. They are of the version that the first header tells.

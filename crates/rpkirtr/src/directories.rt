@@ -110,13 +110,20 @@ fn names_in<R: Files + AllocGlobal + Clone + Drop>(
     Ok(names)
 }
 
-/// Whether a path leads to a regular file. A link that leads to nothing does not.
+/// Whether a path leads to a regular file. A link that leads to nothing, to itself or through a file does not.
 fn is_regular<R: Files>(rt: &R, path: &str) -> io::Result<bool> {
     match fs::metadata(rt, path) {
         Ok(found) => Ok(found.is_file()),
-        Err(error) if error.kind() == ErrorKind::NotFound => Ok(false),
+        Err(error) if leads_nowhere(error.kind()) => Ok(false),
         Err(error) => Err(error),
     }
+}
+
+fn leads_nowhere(kind: ErrorKind) -> bool {
+    matches!(
+        kind,
+        ErrorKind::NotFound | ErrorKind::NotADirectory | ErrorKind::FilesystemLoop
+    )
 }
 
 /// The bytes of a regular file. What is none fails and is not opened.

@@ -3,18 +3,26 @@ ghost use Rattle.std.specs.Prelude.{◌≤◌, IfOk};
 
 use crate::runner::ProgramFault;
 use payload_lists::write_list;
-use rtr_ends::{Cache, Conn, Fetched, Link, Router, StreamFault, fetch_stream, serve_stream};
+use rtr_ends::{
+    Cache, Conn, Fetched, Link, Router, Served, StreamFault, fetch_stream, serve_stream,
+};
 use rtr_pdu::{Counted, MAX_UNIT_LEN, Version};
 use std::alloc::Global;
 use std::io;
-use std::io::{Read, Write};
+use std::io::{ErrorKind, Read, Write};
 use std::net::{
-    IpAddr, Ipv4Addr, Net, OpenListener, OpenStream, SocketAddr, TcpListener, TcpStream,
+    IpAddr, Ipv4Addr, Net, OpenListener, OpenStream, Shutdown, SocketAddr, TcpListener, TcpStream,
 };
+use std::time::Duration;
 use vrps::VersionLog;
 
 /// How often is read on a connection at most.
 const MOST_READS: u64 = 1_000_000;
+
+/// How often, and how long each time, is read on a connection that the cache has ended.
+const LAST_READS: u32 = 64;
+
+const LAST_WAIT: Duration = Duration::from_millis(250);
 
 fn loopback(port: u16) -> SocketAddr {
     SocketAddr::new(IpAddr::V4(Ipv4Addr::LOCALHOST), port)
@@ -30,6 +38,23 @@ pub fn dial<R: Net>(rt: &R, port: u16) -> io::Result<R::Stream> {
     TcpStream::connect(rt, loopback(port))
 }
 
+/// The next connection. One that its router gave up before it was taken is passed over, and a call that was interrupted is made again.
+fn accept<L: OpenListener>(listener: &L) -> io::Result<L::Stream> {
+    for _call in 0..MOST_READS {
+        match listener.accept() {
+            Ok((stream, _peer)) => return Ok(stream),
+            Err(error) if is_passing(error.kind()) => {}
+            Err(error) => return Err(error),
+        }
+    }
+    Err(io::Error::from(ErrorKind::ConnectionAborted))
+}
+
+/// Whether a fault at a listener says nothing of the connections that come after.
+fn is_passing(kind: ErrorKind) -> bool {
+    matches!(kind, ErrorKind::ConnectionAborted | ErrorKind::Interrupted)
+}
+
 /// Serves so many connections, one after the other. It answers how the first failed that did, and fails where none can be accepted.
 pub fn serve_all<L: OpenListener>(
     listener: &L,
@@ -41,23 +66,56 @@ where
 {
     let mut first = None;
     for _connection in 0..connections {
-        let (stream, _peer) = listener.accept()?;
-        let fault = serve_one(cache, stream)?;
+        let fault = serve_one(cache, accept(listener)?);
         first = first.or(fault);
     }
     Ok(first)
 }
 
-/// Serves one connection. It answers how it failed, if it did. The last piece of an answer is not held back until the ones before it
-/// are acknowledged.
+/// Serves one connection. It answers how it failed, if it did; a socket that could not be prepared is one that could not be read.
 fn serve_one<T: Read + Write + OpenStream + Drop>(
+    cache: &mut Cache<VersionLog>,
+    stream: T,
+) -> Option<StreamFault> {
+    match serve_prepared(cache, stream) {
+        Ok(fault) => fault,
+        Err(error) if error.kind() == ErrorKind::OutOfMemory => Some(StreamFault::Memory),
+        Err(_) => Some(StreamFault::ReadFailed),
+    }
+}
+
+/// Serves one connection whose last piece of an answer is not held back until the ones before it are acknowledged.
+fn serve_prepared<T: Read + Write + OpenStream + Drop>(
     cache: &mut Cache<VersionLog>,
     stream: T,
 ) -> io::Result<Option<StreamFault>> {
     stream.set_nodelay(true)?;
+    let mut left = stream.try_clone()?;
     let mut output = Counted::new(stream.try_clone()?);
     let mut input = Counted::new(stream);
-    Ok(serve_stream(cache, &mut input, &mut output, MOST_READS).err())
+    let served = serve_stream(cache, &mut input, &mut output, MOST_READS);
+    if let Ok(Served::CacheEnded) = served {
+        let_go(&mut left);
+    }
+    Ok(served.err())
+}
+
+/// Ends a connection at which the cache reads no more. Were the socket closed while bytes of the router are unread, the system would reset
+/// the connection, and the Error Report that was sent last could be lost on its way. So the end of the output is sent, and what still
+/// comes is read for some seconds at most.
+fn let_go<T: Read + OpenStream>(stream: &mut T) {
+    let mut room = [0u8; 32768];
+    if stream.shutdown(Shutdown::Write).is_err()
+        || stream.set_read_timeout(Some(LAST_WAIT)).is_err()
+    {
+        return;
+    }
+    for _read in 0..LAST_READS {
+        match stream.read(&mut room) {
+            Ok(0) | Err(_) => return,
+            Ok(_) => {}
+        }
+    }
 }
 
 /// What a new router that speaks this version of the protocol fetches over a connection, and the router after that. Its moment is 0.

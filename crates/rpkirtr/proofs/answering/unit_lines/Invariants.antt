@@ -5,8 +5,8 @@ use Rattle.rpkirtr.proofs.SplitLines.{Lined, Read}
 use Rattle.rpkirtr.proofs.answering.unit_lines.Given as goal
 
 -- the units so far have their lines, and the reader holds nothing
-abbrev pub invariant-loop-unit : goal.invariant-loop-unit
-invariant-loop-unit l = (l.reader ≡ fresh (Some l.version) false) × Read l.version (Lined l.version (string_bytes l.lines)) l.bytes l.rest
+abbrev pub invariant-loop-found : goal.invariant-loop-found
+invariant-loop-found l = (l.reader ≡ fresh (Some l.version) false) × Read l.version (Lined l.version (string_bytes l.lines)) l.bytes l.rest
 
-abbrev pub decreases-loop-unit : goal.decreases-loop-unit
-decreases-loop-unit l = length l.rest
+abbrev pub decreases-loop-found : goal.decreases-loop-found
+decreases-loop-found l = length l.rest
