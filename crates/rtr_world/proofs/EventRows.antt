@@ -17,15 +17,17 @@ use Rattle.rtr_ends.specs.Answer.{report, sent, sent_all}
 use Rattle.rtr_ends.specs.Cache.{Conn, new_conn, conn_takes, conn_byte, conn_pulled, conn_notified}
 use Rattle.rtr_ends.specs.LinkRules.{Router, new_router, on_unit}
 use Rattle.rtr_ends.specs.Router.{router_byte, receives, clocked, connects_at, closed_at, ticks_at, asks, router_pulled}
-use Rattle.rtr_ends.specs.RouterLink.{Idle, Asked}
+use Rattle.rtr_ends.specs.RouterLink.{Idle, Asked, Answering}
 use Rattle.rtr_ends.specs.Timing.{default_intervals}
 use Rattle.rtr_ends.specs.Transcript.{At, Opened, Asks, Reads, Refused, Restarts, Shut, Item, AskReset, AskSerial, Committed}
 use Rattle.rtr_ends.proofs.WholeAnswerRows.{v, v_ascends, cache, with_all_of, reset_bytes, response_bytes, v_bytes, end_bytes}
 use Rattle.rtr_world.specs.CatchUp.{HoldsNewest}
 use Rattle.rtr_world.specs.Claims.{OfAnother}
 use Rattle.rtr_world.specs.SideShown.{held_of}
+use Rattle.rtr_world.specs.declared.event.WorldFault.TheVariants as faults
 use Rattle.rtr_world.specs.VersionPlaces.{position_of, version_place_of}
-use Rattle.rtr_world.specs.History.{Done, Memory, after, refusal, may_refuse, moved, MayEnd, has_connection, is_near, room_for, room_since}
+use Rattle.rtr_world.specs.Events.{outcome_fault}
+use Rattle.rtr_world.specs.History.{Done, SessionUsed, TooManyVersions, NoSuchRouter, Memory, after, refusal, may_refuse, moved, MayEnd, has_connection, is_near, room_for, room_since}
 use Rattle.rtr_world.specs.World.{Side, World, Publish, Restart, On, RouterRestart, Speak, Connect, RouterSends, CacheGets, CacheSends, RouterGets, Cut, NotifyRouter, Ask, Tick, new_side, connects, router_sends, cache_gets, cache_sends, router_gets, router_restarts, speaks, cut, side_step, side_refused, settle, goes_through, settled, is_refused}
 
 abbrev just_v : VrpSet
@@ -294,3 +296,70 @@ held_of_the_other table = (refl, λ e. absurd (let h : ◌≡◌ {A = Option Com
 never_too_many : (w : World) (set : VrpSet) → is_current w.present.sets set ≡ true → refusal w (Publish set) ≡ None
 unfolding refusal
 never_too_many w set current = rw current refl
+
+-- A router that spoke version 0 restarts, and speaks version 1.
+restarts_in_1 : after (On 0 RouterRestart) (Done None) (world (closed_side (record closed { speaks = V0; spoken = V0; version = Some (record version_5 { version = V0 }) }) [] ∷ [])) ≡ world (closed_side new_router (Restarts ∷ []) ∷ [])
+unfolding goes_through settled settle side_step router_restarts
+restarts_in_1 = refl
+
+-- A connection that could not be made: the old one is cut with nothing to arrive, and the router is told.
+connect_refused : after (On 0 Connect) (Memory 0 None) (world (open_side asking (new_conn with_v) (7 ∷ []) (1 ∷ 2 ∷ []) opened ∷ [])) ≡ world (closed_side (record new_router { due = Some 600 }) (Shut ∷ At 0 ∷ Refused ∷ opened) ∷ [])
+unfolding is_refused settled settle side_refused cut closed_at clocked
+connect_refused = refl
+
+-- What is refused at one router leaves the others.
+refused_at_second : after (On 1 Connect) (Memory 0 None) (world (open_side asking (new_conn with_v) [] (7 ∷ []) opened ∷ new_side ∷ [])) ≡ world (open_side asking (new_conn with_v) [] (7 ∷ []) opened ∷ record new_side { items = Refused ∷ [] } ∷ [])
+unfolding is_refused settled settle side_refused cut
+refused_at_second = refl
+
+-- Publishing changes nothing that a connection shows.
+publishes_to_open : after (Publish just_v) (Done None) (record (world (open_side asking (new_conn (cache 5 [])) (7 ∷ []) (1 ∷ 2 ∷ []) opened ∷ [])) { present = cache 5 [] }) ≡ world (open_side asking (new_conn (cache 5 [])) (7 ∷ []) (1 ∷ 2 ∷ []) opened ∷ [])
+unfolding goes_through settled settle
+publishes_to_open = refl
+
+-- No more is moved than the event says.
+no_more_than_said : (moved (world (open_side asking (new_conn with_v) [] (1 ∷ 3 ∷ 5 ∷ []) opened ∷ [])) (On 0 (RouterGets 1)) None ≡ 1)
+    × (moved (world (open_side (record asking { out = reset_bytes }) (new_conn with_v) [] [] opened ∷ [])) (On 0 (RouterSends 1)) None ≡ 1)
+    × (moved (world (open_side asking notified [] [] opened ∷ [])) (On 0 (CacheSends 1)) None ≡ 1)
+unfolding router_gets receives clocked router_byte judge as_read
+no_more_than_said = (refl, refl, refl)
+
+-- Memory may be wanting at a unit that comes to a router only where that comes whole and takes memory: an End of Data of the answer does, a
+-- Cache Response does not. The outcome tells no other unit, and no other event of the router's tells one.
+abbrev answering : Router
+answering = record new_router { link = Answering (record { question = AskReset; session = 0x1234; withdrawn = []; announced = [] }); agreed = true; session = Some 0x1234 }
+
+abbrev ends_come : World
+ends_come = world (open_side answering (new_conn with_v) [] (end_bytes 5) [] ∷ [])
+
+wants_at_an_end : MayEnd (refusal ends_come (On 0 (RouterGets 24))) ends_come (On 0 (RouterGets 24)) (Done (Some 0)) × MayEnd (refusal ends_come (On 0 (RouterGets 24))) ends_come (On 0 (RouterGets 24)) (Done None)
+unfolding refusal receives clocked router_byte judge as_read
+wants_at_an_end = (refl, tt)
+
+not_of_a_part : MayEnd (refusal ends_come (On 0 (RouterGets 23))) ends_come (On 0 (RouterGets 23)) (Done (Some 0)) → ⊥
+unfolding refusal receives clocked router_byte judge as_read
+not_of_a_part h = absurd (let e : false ≡ true = h in cc)
+
+not_of_a_second : MayEnd (refusal ends_come (On 0 (RouterGets 24))) ends_come (On 0 (RouterGets 24)) (Done (Some 1)) → ⊥
+unfolding refusal receives clocked router_byte judge as_read on_unit
+not_of_a_second h = absurd (let e : false ≡ true = h in cc)
+
+abbrev response_comes : World
+response_comes = world (open_side asking (new_conn with_v) [] (response_bytes ++ end_bytes 5) opened ∷ [])
+
+not_of_a_response : MayEnd (refusal response_comes (On 0 (RouterGets 32))) response_comes (On 0 (RouterGets 32)) (Done (Some 0)) → ⊥
+unfolding refusal receives clocked router_byte judge as_read on_unit
+not_of_a_response h = absurd (let e : false ≡ true = h in cc)
+
+but_behind_it : MayEnd (refusal response_comes (On 0 (RouterGets 32))) response_comes (On 0 (RouterGets 32)) (Done (Some 1))
+unfolding refusal receives clocked router_byte judge as_read on_unit
+but_behind_it = refl
+
+not_where_it_sends : MayEnd (refusal response_comes (On 0 (RouterSends 8))) response_comes (On 0 (RouterSends 8)) (Done (Some 0)) → ⊥
+unfolding refusal
+not_where_it_sends h = absurd (let e : false ≡ true = h in cc)
+
+-- Each refusal is told as its own.
+told_as : (bytes : ℕ) (wanting : Option ℕ) → (outcome_fault (Done wanting) ≡ None) × (outcome_fault SessionUsed ≡ Some faults.SessionUsed) × (outcome_fault TooManyVersions ≡ Some faults.TooManyVersions)
+    × (outcome_fault NoSuchRouter ≡ Some faults.NoSuchRouter) × (outcome_fault (Memory bytes wanting) ≡ Some faults.Memory)
+told_as bytes wanting = (refl, refl, refl, refl, refl)

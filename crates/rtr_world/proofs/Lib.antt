@@ -37,6 +37,7 @@ pub mod LinkedSides
 pub mod MovedBytes
 pub mod Moving
 pub mod OneAnswers
+pub mod OthersStay
 pub mod PlaceRows
 pub mod Places
 pub mod PlacesNoted

@@ -8,9 +8,9 @@ use Rattle.rtr_ends.specs.RouterLink.{name_of}
 use Rattle.rtr_ends.specs.RouterLink.{Closed, Idle}
 use Rattle.rtr_ends.specs.Transcript.{of_version}
 use Rattle.rtr_world.specs.CatchUp.{AreMoves, IsQuiet, Rests, rounded}
-use Rattle.rtr_world.specs.History.{Outcome, Done, Entry, Made, side_at}
+use Rattle.rtr_world.specs.History.{Outcome, Done, Memory, Entry, Made, after, side_at}
 use Rattle.rtr_world.specs.Reached.{LeadsTo}
-use Rattle.rtr_world.specs.World.{World, Side, Connect, Cut, Event, On}
+use Rattle.rtr_world.specs.World.{World, Side, SideEvent, Connect, Cut, Event, On}
 use Rattle.rtr_world.specs.declared.event.CatchFault.{CatchFault}
 use Rattle.rtr_world.specs.declared.event.CatchFault.TheVariants as faults
 use Rattle.rtr_world.specs.declared.event.WorldFault.{WorldFault}
@@ -67,6 +67,10 @@ pub record IsCutOff (r : ℕ) (w : World) : Type 0 where
   pub side : Side
   pub found : side_at r w.sides ≡ Some side
   pub off : IsOff side
+
+-- After an event that was refused for want of memory the connection of that event is cut, and nothing is to arrive.
+abbrev pub RefusedCuts : Type 0
+RefusedCuts = (r : ℕ) (event : SideEvent) (bytes : ℕ) (wanting : Option ℕ) (w : World) (s : Side) → side_at r w.sides ≡ Some s → IsCutOff r (after (On r event) (Memory bytes wanting) w)
 
 -- Memory was wanting at one of these, and the connection is cut.
 pub record Lacks (r : ℕ) (more : List Entry) (w : World) : Type 0 where

@@ -19,7 +19,7 @@ use Rattle.rtr_ends.specs.Transcript.{Begun, Item, Question, AskSerial, Committe
 use Rattle.rtr_ends.specs.Commit.{Commits}
 use Rattle.rtr_world.specs.VersionPlaces.{NeverBack, VersionPlace, version_place_of}
 use Rattle.rtr_world.specs.World.{Side, World, Event, On, Publish, Ending, RouterGets, SideEvent, cache_gets, instances, settle, side_refused, side_step}
-use Rattle.rtr_world.specs.History.{Outcome, Done, Memory, refusal, MayEnd, Made, IsMade, Entry, IsEvent, Leads, after, conn_due}
+use Rattle.rtr_world.specs.History.{Outcome, Done, Memory, refusal, MayEnd, Made, IsMade, Entry, IsEvent, Leads, after, conn_due, side_at}
 use Rattle.rtr_world.specs.OneAnswer.{Between, IsOfNow}
 
 -- a fact of each router of each world to which a history leads
@@ -171,6 +171,12 @@ abbrev pub NoneByMemory : Type 0
 NoneByMemory =
     (made : Made) (history : List Entry) (w : World) → Leads made history w → AllByRecursion (λ (e : Entry). NamesNone e.event e.outcome) history →
     AllByRecursion (λ (s : Side). AllByRecursion (λ (e : Ending). NotByMemory e.end) s.endings) w.sides
+
+-- What happens at one router, refused or not, leaves the others as they are.
+abbrev pub OthersStay : Type 0
+OthersStay =
+    (made : Made) (history : List Entry) (w : World) → Leads made history w → (r d : ℕ) (event : SideEvent) (outcome : Outcome) → ¬ (d ≡ r) →
+    side_at d (after (On r event) outcome w).sides ≡ side_at d w.sides
 
 -- A set that is current already is never refused; and where a refusal is due there is no other outcome, want of memory included.
 pub record Refuses (w : World) : Type 0 where

@@ -1,6 +1,8 @@
 use Rattle.rtr_world.proofs.Rests.{settles}
 use Rattle.rtr_world.proofs.HistoryLeads.{each_leads, one_world, refuses_rightly}
+use Rattle.rtr_world.proofs.CutOff.{after_refused}
+use Rattle.rtr_world.proofs.OthersStay.{others_stay}
 use Rattle.rtr_world.proofs.laws.steps.Goals as goal
 
 pub returns : goal.returns
-returns c = record { one = one_world; each = each_leads; settles = settles; refuses = refuses_rightly }
+returns c = record { one = one_world; each = each_leads; settles = settles; refuses = refuses_rightly; cuts = after_refused; others = others_stay }
