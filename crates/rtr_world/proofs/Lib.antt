@@ -35,6 +35,7 @@ pub mod Invariant
 pub mod KeptTables
 pub mod LinkedSides
 pub mod MovedBytes
+pub mod MovesNoMore
 pub mod Moving
 pub mod OneAnswers
 pub mod OthersStay

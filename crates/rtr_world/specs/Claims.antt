@@ -1,5 +1,5 @@
 -- What holds after every list of events.
-use Rattle.std.specs.Prelude.{◌≡◌, ◌⊎◌, ℕ, Bool, true, false, List, [], ◌∷◌, drop, length, if◌then◌else◌, Option, Some, None, ⊤, zero, suc, map}
+use Rattle.std.specs.Prelude.{◌≡◌, ◌⊎◌, ℕ, ◌≤◌, Bool, true, false, List, [], ◌∷◌, drop, length, if◌then◌else◌, Option, Some, None, ⊤, zero, suc, map}
 use Rattle.std.specs.List.{AllByRecursion}
 use Rattle.prefixes.specs.declared.route.Route.{Route}
 use Rattle.vrps.specs.Instance.{Instance, named}
@@ -19,7 +19,7 @@ use Rattle.rtr_ends.specs.Transcript.{Begun, Item, Question, AskSerial, Committe
 use Rattle.rtr_ends.specs.Commit.{Commits}
 use Rattle.rtr_world.specs.VersionPlaces.{NeverBack, VersionPlace, version_place_of}
 use Rattle.rtr_world.specs.World.{Side, World, Event, On, Publish, Ending, RouterGets, SideEvent, cache_gets, instances, settle, side_refused, side_step}
-use Rattle.rtr_world.specs.History.{Outcome, Done, Memory, refusal, MayEnd, Made, IsMade, Entry, IsEvent, Leads, after, conn_due, side_at}
+use Rattle.rtr_world.specs.History.{Outcome, Done, Memory, refusal, MayEnd, Made, IsMade, Entry, IsEvent, Leads, after, conn_due, moved, most_of, side_at}
 use Rattle.rtr_world.specs.OneAnswer.{Between, IsOfNow}
 
 -- a fact of each router of each world to which a history leads
@@ -177,6 +177,16 @@ abbrev pub OthersStay : Type 0
 OthersStay =
     (made : Made) (history : List Entry) (w : World) → Leads made history w → (r d : ℕ) (event : SideEvent) (outcome : Outcome) → ¬ (d ≡ r) →
     side_at d (after (On r event) outcome w).sides ≡ side_at d w.sides
+
+-- Bytes: an event at a router moves no more than it says, and no more than with memory where that is wanting at a unit of it; and where it is refused for want
+-- of memory, so many at most have moved.
+pub record MovesAtMost (w : World) (r : ℕ) (event : SideEvent) (wanting : Option ℕ) : Type 0 where
+  pub said : moved w (On r event) wanting ≤ most_of event
+  pub fewer : moved w (On r event) wanting ≤ moved w (On r event) None
+  pub told : (bytes : ℕ) → MayEnd (refusal w (On r event)) w (On r event) (Memory bytes wanting) → (bytes ≤ most_of event) × (bytes ≤ moved w (On r event) None)
+
+abbrev pub MovesNoMore : Type 0
+MovesNoMore = (w : World) (r : ℕ) (event : SideEvent) (wanting : Option ℕ) → MovesAtMost w r event wanting
 
 -- A set that is current already is never refused; and where a refusal is due there is no other outcome, want of memory included.
 pub record Refuses (w : World) : Type 0 where

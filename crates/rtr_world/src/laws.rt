@@ -1,12 +1,12 @@
 //! Laws of the definitions. These functions do nothing: their contracts are the laws.
 ghost use Rattle.rtr_world.specs.CaughtUp.{RefusedCuts};
 ghost use Rattle.rtr_world.specs.CatchUp.{EachCatchesUp, IdleIsCurrent, RoundsAreSteps, RoundsEnd};
-ghost use Rattle.rtr_world.specs.Claims.{ActExactlyOnce, AnswersNow, EachLeads, EndsKept, EndsNoted, Headline, LawfulEnds, NoWayBack, NoneByMemory, OneAnswerAlways, OneWorld, OthersStay, PlacesNoted, RefusesRightly, RouteStates, RoutersRun, Settles, Tables};
+ghost use Rattle.rtr_world.specs.Claims.{ActExactlyOnce, AnswersNow, EachLeads, EndsKept, EndsNoted, Headline, LawfulEnds, MovesNoMore, NoWayBack, NoneByMemory, OneAnswerAlways, OneWorld, OthersStay, PlacesNoted, RefusesRightly, RouteStates, RoutersRun, Settles, Tables};
 
 /// A history of events with their outcomes leads to one world, and every list of events has outcomes with which it leads to one. The
 /// clean-up after each event leaves nothing to be done. A set that is current already is never refused, and where a refusal is due there is
 /// no other outcome. Where an event is refused for want of memory its connection is cut with nothing to arrive, and what happens at one
-/// router leaves the others.
+/// router leaves the others. An event moves no more bytes than it says, and no more than with memory.
 pub fn steps()
     ensures one { OneWorld }
     ensures each { EachLeads }
@@ -14,6 +14,7 @@ pub fn steps()
     ensures refuses { RefusesRightly }
     ensures cuts { RefusedCuts }
     ensures others { OthersStay }
+    ensures moves { MovesNoMore }
 {}
 
 /// After every list of events each router holds what its transcript keeps, asks again when the transcript says, and knows the
