@@ -1,6 +1,6 @@
 -- No end that was noted is dropped.
 use Rattle.std.specs.Prelude.{◌≡◌, ℕ, zero, suc, Bool, true, false, List, [], ◌∷◌, ◌++◌, map, take, Option, None, if◌then◌else◌, refl}
-use Rattle.std.proofs.Common.{sym, ap, subst, inl, inr}
+use Rattle.std.proofs.Common.{sym, ap, ◌∙◌, subst, inl, inr}
 use Rattle.vrps.specs.Instance.{Instance}
 use Rattle.rtr_ends.specs.Router.{Noted, asks, clocked, close, closed_at, connects_at, of_received, receives, ticks_at}
 use Rattle.rtr_ends.specs.RouterLink.{Link, Closed, Idle, Asked, Answering, Ended, is_closed}
@@ -31,6 +31,21 @@ no_ending false Idle home items on = refl
 no_ending false (Asked q) home items on = refl
 no_ending false (Answering a) home items on = refl
 
+-- The clean-up notes none, and drops none.
+told_endings : (all : List Instance) (s : Side) → (tell_closed all s).endings ≡ s.endings
+unfolding closed_at
+told_endings all s = by_link (is_closed s.router.link)
+  where
+    none : ending_of (is_ended s.router.link) (close (clocked s.router.now s.router)).link s.home ((closed_at s.router.now s.router).items ++ s.items) ++ s.endings ≡ s.endings
+    none = ap (λ x. x ++ s.endings) (no_ending (is_ended s.router.link) (close (clocked s.router.now s.router)).link s.home ((closed_at s.router.now s.router).items ++ s.items) (closed_so (clocked s.router.now s.router)))
+
+    by_link : (b : Bool) → (if b then record s { home = None } else record (noted all (closed_at s.router.now s.router) s) { home = None }).endings ≡ s.endings
+    by_link true = refl
+    by_link false = none
+
+pub settled_endings : (all : List Instance) (s : Side) → (settle all s).endings ≡ s.endings
+settled_endings all s = settle_keeps (λ (x : Side). x.endings ≡ s.endings) (λ x conn up down h. h) all (λ x h. told_endings all x ∙ h) s refl
+
 module _ (old : List Ending) where
   abbrev After : Side → Type 0
   After s = OneMore old s.endings
@@ -38,19 +53,8 @@ module _ (old : List Ending) where
   blind_after : Blind After
   blind_after s conn up down h = h
 
-  told_after : (all : List Instance) (s : Side) → After s → After (tell_closed all s)
-  unfolding closed_at
-  told_after all s h = by_link (is_closed s.router.link)
-    where
-      none : ending_of (is_ended s.router.link) (close (clocked s.router.now s.router)).link s.home ((closed_at s.router.now s.router).items ++ s.items) ++ s.endings ≡ s.endings
-      none = ap (λ x. x ++ s.endings) (no_ending (is_ended s.router.link) (close (clocked s.router.now s.router)).link s.home ((closed_at s.router.now s.router).items ++ s.items) (closed_so (clocked s.router.now s.router)))
-
-      by_link : (b : Bool) → After (if b then record s { home = None } else record (noted all (closed_at s.router.now s.router) s) { home = None })
-      by_link true = h
-      by_link false = subst (OneMore old) (sym none) h
-
   settle_after : (all : List Instance) (s : Side) → After s → After (settle all s)
-  settle_after all s h = settle_keeps After blind_after all (told_after all) s h
+  settle_after all s h = subst (OneMore old) (sym (settled_endings all s)) h
 
 -- One event at a router
 step_after : (w : World) (event : SideEvent) (wanting : Option ℕ) (s : Side) → After s.endings (side_step w event wanting s)

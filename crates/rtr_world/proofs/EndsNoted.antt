@@ -9,7 +9,8 @@ use Rattle.rtr_ends.specs.Router.{Noted, connects_at, ticks_at, asks, receives, 
 use Rattle.rtr_ends.specs.RouterLink.{Link, Ended}
 use Rattle.rtr_ends.specs.Transcript.{outstanding, spoken}
 use Rattle.rtr_world.specs.World.{Side, World, instances, SideEvent, RouterRestart, Speak, Connect, RouterSends, CacheGets, CacheSends, RouterGets, Cut, NotifyRouter, Ask, Tick, is_ended, ending_of, noted, connects, router_restarts, speaks, router_sends, sends_from, cache_sends, gets_at, cache_gets, router_gets, cut, notifies_at, side_refused, side_step}
-use Rattle.rtr_world.specs.Claims.{EndsNoted, NotesEnd, NotesEnds, NotesRefused}
+use Rattle.rtr_world.specs.Claims.{EndsNoted, NotesEnds}
+use Rattle.rtr_world.proofs.EndsKept.{settled_endings}
 use Rattle.rtr_world.proofs.Rests.{Rests, history_rests}
 
 no_end : {A : Type 0} (l : Link) (end : End) → is_ended l ≡ false → l ≡ Ended end → A
@@ -19,7 +20,12 @@ of_noted : (all : List Instance) (n : Noted) (s : Side) → is_ended s.router.li
     (noted all n s).endings ≡ record { end = end; question = outstanding (drop 1 (n.items ++ s.items)); version = spoken (n.items ++ s.items); home = s.home } ∷ s.endings
 of_noted all n s on end e = λ i. ending_of (on i) (e i) s.home (n.items ++ s.items) ++ s.endings
 
-notes : (w : World) (s : Side) → is_ended s.router.link ≡ false → (event : SideEvent) (wanting : Option ℕ) → NotesEnd w event wanting s
+abbrev Notes : World → SideEvent → Option ℕ → Side → Type 0
+Notes w event wanting s =
+    (end : End) → (side_step w event wanting s).router.link ≡ Ended end →
+    (side_step w event wanting s).endings ≡ record { end = end; question = outstanding (drop 1 (side_step w event wanting s).items); version = spoken (side_step w event wanting s).items; home = s.home } ∷ s.endings
+
+notes : (w : World) (s : Side) → is_ended s.router.link ≡ false → (event : SideEvent) (wanting : Option ℕ) → Notes w event wanting s
 unfolding side_step speaks connects connects_at router_restarts router_sends router_pulled cache_sends cache_gets cut router_gets
 notes w s on RouterRestart wanting end e = absurd (let x : false ≡ true = ap is_ended e in cc)
 notes w s on (Speak version) wanting end e = no_end s.router.link end on e
@@ -46,7 +52,12 @@ notes w s on Ask wanting end e = of_noted (instances w) (asks s.router) s on end
 notes w s on (Tick now) wanting end e = of_noted (instances w) (ticks_at now s.router) s on end e
 
 -- what moved before a refusal
-notes_part : (w : World) (s : Side) → is_ended s.router.link ≡ false → (event : SideEvent) (bytes : ℕ) (wanting : Option ℕ) → NotesRefused w event bytes wanting s
+abbrev PartNotes : World → SideEvent → ℕ → Option ℕ → Side → Type 0
+PartNotes w event bytes wanting s =
+    (end : End) → (side_refused w event bytes wanting s).router.link ≡ Ended end →
+    (side_refused w event bytes wanting s).endings ≡ record { end = end; question = outstanding (drop 2 (side_refused w event bytes wanting s).items); version = spoken (side_refused w event bytes wanting s).items; home = s.home } ∷ s.endings
+
+notes_part : (w : World) (s : Side) → is_ended s.router.link ≡ false → (event : SideEvent) (bytes : ℕ) (wanting : Option ℕ) → PartNotes w event bytes wanting s
 unfolding side_refused cut side_step
 notes_part w s on (RouterSends most) bytes wanting end e = notes w s on (RouterSends bytes) wanting end e
 notes_part w s on (CacheGets most) bytes wanting end e = notes w s on (CacheGets bytes) wanting end e
@@ -60,9 +71,16 @@ notes_part w s on NotifyRouter bytes wanting end e = no_end s.router.link end on
 notes_part w s on Ask bytes wanting end e = no_end s.router.link end on e
 notes_part w s on (Tick now) bytes wanting end e = no_end s.router.link end on e
 
+-- and still is after the clean-up
+all_note : (w : World) (s : Side) → is_ended s.router.link ≡ false → NotesEnds w s
+all_note w s on = record {
+  through = λ event wanting end e. let n = notes w s on event wanting end e in (n, settled_endings (instances w) (side_step w event wanting s) ∙ n);
+  refused = λ event bytes wanting end e. let n = notes_part w s on event bytes wanting end e in (n, settled_endings (instances w) (side_refused w event bytes wanting s) ∙ n);
+}
+
 pub ends_noted : EndsNoted
 ends_noted made history w leads = each w.sides (history_rests made history w leads)
   where
     each : (sides : List Side) → AllByRecursion Rests sides → AllByRecursion (NotesEnds w) sides
     each [] h = tt
-    each (s ∷ sides) h = (record { through = notes w s h.0.link_on; refused = notes_part w s h.0.link_on }, each sides h.1)
+    each (s ∷ sides) h = (all_note w s h.0.link_on, each sides h.1)

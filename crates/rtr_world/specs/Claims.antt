@@ -125,17 +125,21 @@ AreLawful endings = AllByRecursion (λ (e : Ending). IsLawfulEnd e.end e.questio
 abbrev pub LawfulEnds : Type 0
 LawfulEnds = Always (λ w s. AreLawful s.endings)
 
--- A link that ends by an event is noted, with its question and the version and the instance of its connection, before all ends that were noted.
+-- An end that is noted stands before all ends that were noted, and the clean-up after the event leaves it there.
+abbrev pub IsNoted : World → Ending → List Ending → Side → Type 0
+IsNoted w ending before s = (s.endings ≡ ending ∷ before) × ((settle (instances w) s).endings ≡ ending ∷ before)
+
+-- A link that ends by an event is noted, with its question and the version and the instance of its connection.
 abbrev pub NotesEnd : World → SideEvent → Option ℕ → Side → Type 0
 NotesEnd w event wanting s =
     (end : End) → (side_step w event wanting s).router.link ≡ Ended end →
-    (side_step w event wanting s).endings ≡ record { end = end; question = outstanding (drop 1 (side_step w event wanting s).items); version = spoken (side_step w event wanting s).items; home = s.home } ∷ s.endings
+    IsNoted w (record { end = end; question = outstanding (drop 1 (side_step w event wanting s).items); version = spoken (side_step w event wanting s).items; home = s.home }) s.endings (side_step w event wanting s)
 
 -- So is one that ends by what came before the event is refused for want of memory; the refusal is the last item then.
 abbrev pub NotesRefused : World → SideEvent → ℕ → Option ℕ → Side → Type 0
 NotesRefused w event bytes wanting s =
     (end : End) → (side_refused w event bytes wanting s).router.link ≡ Ended end →
-    (side_refused w event bytes wanting s).endings ≡ record { end = end; question = outstanding (drop 2 (side_refused w event bytes wanting s).items); version = spoken (side_refused w event bytes wanting s).items; home = s.home } ∷ s.endings
+    IsNoted w (record { end = end; question = outstanding (drop 2 (side_refused w event bytes wanting s).items); version = spoken (side_refused w event bytes wanting s).items; home = s.home }) s.endings (side_refused w event bytes wanting s)
 
 pub record NotesEnds (w : World) (s : Side) : Type 0 where
   pub through : (event : SideEvent) (wanting : Option ℕ) → NotesEnd w event wanting s
