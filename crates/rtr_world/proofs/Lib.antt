@@ -58,5 +58,6 @@ pub mod UnitStreams
 pub mod UnitsAtRouters
 pub mod Versions
 pub mod WantedEnds
+pub mod WireBytes
 pub mod WorldRows
 pub mod WorldSteps

@@ -1,19 +1,26 @@
 -- Each router of a world is one to which calls lead.
 use Rattle.std.specs.Prelude.{◌≡◌, ℕ, Bool, true, false, not, ◌&&◌, List, [], ◌∷◌, ◌++◌, take, Option, None, if◌then◌else◌, refl, ⊤}
-use Rattle.std.proofs.Common.{◌∙◌, sym, ap}
+use Rattle.std.proofs.Common.{◌∙◌, sym, ap, subst}
 use Rattle.std.specs.List.{AllByRecursion}
 use Rattle.vrps.specs.Instance.{Instance}
 use Rattle.rtr_pdu.specs.Judging.{Judgement, Begins, Whole, Faulty, judge}
-use Rattle.rtr_ends.specs.Cache.{finds_memory}
+use Rattle.rtr_ends.specs.Cache.{finds_memory, is_none}
+use Rattle.rtr_ends.specs.Consumed.{IsRouterCall}
 use Rattle.rtr_ends.specs.LinkRules.{Router, on_unit, may_lack}
-use Rattle.rtr_ends.specs.Router.{RouterCall, Connects, Receives, Pulls, Closes, AsksNow, Ticks, Speaks, called, asked_by, reads, lacks, with_bytes, router_stops, router_byte, clocked, asks, asks_if, connects_at, closed_at, ticks_at, receives}
-use Rattle.rtr_ends.specs.RouterLink.{Link, Closed, Idle, Asked, Answering, Ended, is_closed, is_due, is_idle}
-use Rattle.rtr_ends.specs.Transcript.{Item, At, Opened, Asks, Reads, Lacks, Breaks, Shut, Refused, Restarts}
-use Rattle.rtr_ends.proofs.FeedingLaws.{feed_keeps}
+use Rattle.rtr_ends.specs.Router.{Receiving, expired, RouterCall, Connects, Receives, Pulls, Closes, AsksNow, Ticks, Speaks, called, asked_by, reads, lacks, with_bytes, router_stops, router_byte, clocked, asks, asks_if, connects_at, closed_at, ticks_at, receives}
+use Rattle.rtr_ends.specs.RouterLink.{Link, Closed, Idle, Asked, Answering, Ended, is_closed, is_due, is_idle, is_reading}
+use Rattle.rtr_ends.specs.Transcript.{Item, At, Opened, Asks, Reads, Lacks, Breaks, Shut, Refused, Restarts, is_over, later}
+use Rattle.rtr_ends.proofs.ByteLists.{none_bytes}
+use Rattle.rtr_ends.proofs.FeedingLaws.{feed_keeps, stopped}
+use Rattle.rtr_ends.proofs.TableLaws.{false_true}
 use Rattle.rtr_world.specs.Claims.{IsRun, RoutersRun, since_restart}
+use Rattle.rtr_world.specs.History.{conn_due}
 use Rattle.rtr_world.specs.World.{Side, World, instances, SideEvent, RouterRestart, Speak, Connect, RouterSends, CacheGets, CacheSends, RouterGets, Cut, NotifyRouter, Ask, Tick, noted, connects, router_restarts, speaks, router_sends, cache_sends, cache_gets, router_gets, cut, side_step, side_part, side_refused, tell_closed}
 use Rattle.rtr_world.proofs.Folding.{Blind, sends_keep, gets_keep, notifies_keep, settle_keeps}
-use Rattle.rtr_world.proofs.Histories.{Kept, history_keeps}
+use Rattle.rtr_world.proofs.Histories.{Kept, Known, history_keeps}
+use Rattle.rtr_world.proofs.SideSteps.{live_of}
+use Rattle.rtr_world.proofs.UnitStreams.{all_bytes, behind_early}
+use Rattle.rtr_world.proofs.WireBytes.{low_front, low_stream, low_take}
 
 -- an item that a call adds
 abbrev IsOfCall : Item → Type 0
@@ -90,9 +97,10 @@ call_of_call (Ticks now) r =
     both_of_call (asks_if (is_due told.link told.due told.now) told).items (At now ∷ []) (asks_of_call (is_due told.link told.due told.now) told) (tt, tt)
 
 -- one call more
-one_more : (call : RouterCall) (r : Router) (items : List Item) → IsRun r items → IsRun (called call r).router ((called call r).items ++ items)
-one_more call r items h = record {
+one_more : (call : RouterCall) (r : Router) (items : List Item) → IsRouterCall call → IsRun r items → IsRun (called call r).router ((called call r).items ++ items)
+one_more call r items can_be h = record {
   calls = call ∷ h.calls;
+  can_be = (can_be, h.can_be);
   router_is = ap (λ x. (called call x).router) h.router_is;
   items_are = (λ i. (called call (h.router_is i)).items ++ h.items_are i) ∙ sym (since_call (called call r).items items (call_of_call call r));
 }
@@ -104,52 +112,90 @@ SideRuns s = IsRun s.router s.items
 blind_runs : Blind SideRuns
 blind_runs s conn up down h = h
 
-step_runs : (w : World) (event : SideEvent) (wanting : Option ℕ) (s : Side) → SideRuns s → SideRuns (side_step w event wanting s)
-unfolding side_step connects router_restarts speaks router_sends router_gets cache_sends cache_gets cut
-step_runs w RouterRestart wanting s h = record { calls = []; router_is = refl; items_are = refl }
-step_runs w (Speak version) wanting s h = one_more (Speaks version) s.router s.items h
-step_runs w Connect wanting s h = one_more (Connects s.router.now) s.router s.items h
-step_runs w (RouterSends most) wanting s h = one_more (Pulls most) s.router s.items h
-step_runs w (CacheGets most) wanting s h = gets_keep SideRuns blind_runs w most wanting s s.conn h
-step_runs w (CacheSends most) wanting s h = sends_keep SideRuns blind_runs w.keep most s s.conn h
-step_runs w (RouterGets most) wanting s h = one_more (Receives s.router.now wanting (take most s.down)) s.router s.items h
-step_runs w (Cut left) wanting s h = h
-step_runs w NotifyRouter wanting s h = notifies_keep SideRuns blind_runs w s s.conn h
-step_runs w Ask wanting s h = one_more AsksNow s.router s.items h
-step_runs w (Tick now) wanting s h = one_more (Ticks now) s.router s.items h
+-- What a link that does not live is handed changes nothing more than nothing would.
+expired_dead : (l : Link) (r : Router) → r.link ≡ l → is_reading l ≡ false → is_reading (expired l r).link ≡ false
+expired_dead Closed r is dead = ap is_reading is
+expired_dead (Ended end) r is dead = ap is_reading is
+expired_dead Idle r is dead = false_true (sym dead)
+expired_dead (Asked q) r is dead = false_true (sym dead)
+expired_dead (Answering a) r is dead = false_true (sym dead)
 
-part_runs : (w : World) (event : SideEvent) (bytes : ℕ) (wanting : Option ℕ) (s : Side) → SideRuns s → SideRuns (side_part w event bytes wanting s)
-unfolding router_sends router_gets cache_sends cache_gets
-part_runs w (RouterSends most) bytes wanting s h = one_more (Pulls bytes) s.router s.items h
-part_runs w (CacheGets most) bytes wanting s h = gets_keep SideRuns blind_runs w bytes wanting s s.conn h
-part_runs w (CacheSends most) bytes wanting s h = sends_keep SideRuns blind_runs w.keep bytes s s.conn h
-part_runs w (RouterGets most) bytes wanting s h = one_more (Receives s.router.now wanting (take bytes s.down)) s.router s.items h
-part_runs w RouterRestart bytes wanting s h = h
-part_runs w (Speak version) bytes wanting s h = h
-part_runs w Connect bytes wanting s h = h
-part_runs w (Cut left) bytes wanting s h = h
-part_runs w NotifyRouter bytes wanting s h = h
-part_runs w Ask bytes wanting s h = h
-part_runs w (Tick now) bytes wanting s h = h
+clocked_dead : (now : ℕ) (r : Router) → is_reading r.link ≡ false → is_reading (clocked now r).link ≡ false
+unfolding clocked
+clocked_dead now r dead = by_clock (is_over r.version (later r.now now))
+  where
+    told : Router
+    told = record r { now = later r.now now }
+
+    by_clock : (b : Bool) → is_reading (if b then expired told.link told else told).link ≡ false
+    by_clock true = expired_dead told.link told refl dead
+    by_clock false = dead
+
+takes_none : (now : ℕ) (wanting : Option ℕ) (piece : List ℕ) (r : Router) → is_reading r.link ≡ false → (receives now wanting piece r).machine ≡ (receives now wanting [] r).machine
+unfolding receives
+takes_none now wanting [] r dead = refl
+takes_none now wanting (b ∷ piece) r dead =
+    ap (λ f. f.machine) (stopped (λ (m : Receiving). router_stops m.router) router_byte (record { router = clocked now r; items = At now ∷ []; wanting = wanting }) b piece (ap (λ x. not (x && is_none (clocked now r).out)) (clocked_dead now r dead)))
+
+-- On one that lives they are bytes.
+gets_run : (w : World) (most : ℕ) (wanting : Option ℕ) (s : Side) → Known w s → SideRuns s → SideRuns (router_gets w most wanting s)
+unfolding router_gets
+gets_run w most wanting s known h = by_link (is_reading s.router.link) refl
+  where
+    by_link : (live : Bool) → is_reading s.router.link ≡ live → IsRun (receives s.router.now wanting (take most s.down) s.router).machine.router ((receives s.router.now wanting (take most s.down) s.router).machine.items ++ s.items)
+    by_link true live =
+        let l = live_of s.router.link (instances w) w.present known.0.seen s.router s.conn s.up s.down known.0.router.link live in
+        let low = low_stream s.router.held (s.down ++ (conn_due s.conn ++ l.2.lost)) (behind_early s.router.spoken l.2.early l.2.coming) l.2.downward in
+        one_more (Receives s.router.now wanting (take most s.down)) s.router s.items (all_bytes (take most s.down) (low_take most s.down (low_front s.down (conn_due s.conn ++ l.2.lost) low))) h
+    by_link false dead =
+        subst (λ (m : Receiving). IsRun m.router (m.items ++ s.items)) (sym (takes_none s.router.now wanting (take most s.down) s.router dead)) (one_more (Receives s.router.now wanting []) s.router s.items none_bytes h)
+
+step_runs : (w : World) (event : SideEvent) (wanting : Option ℕ) (s : Side) → Known w s → SideRuns s → SideRuns (side_step w event wanting s)
+unfolding side_step connects router_restarts speaks router_sends cache_sends cache_gets cut
+step_runs w RouterRestart wanting s known h = record { calls = []; can_be = tt; router_is = refl; items_are = refl }
+step_runs w (Speak version) wanting s known h = one_more (Speaks version) s.router s.items tt h
+step_runs w Connect wanting s known h = one_more (Connects s.router.now) s.router s.items tt h
+step_runs w (RouterSends most) wanting s known h = one_more (Pulls most) s.router s.items tt h
+step_runs w (CacheGets most) wanting s known h = gets_keep SideRuns blind_runs w most wanting s s.conn h
+step_runs w (CacheSends most) wanting s known h = sends_keep SideRuns blind_runs w.keep most s s.conn h
+step_runs w (RouterGets most) wanting s known h = gets_run w most wanting s known h
+step_runs w (Cut left) wanting s known h = h
+step_runs w NotifyRouter wanting s known h = notifies_keep SideRuns blind_runs w s s.conn h
+step_runs w Ask wanting s known h = one_more AsksNow s.router s.items tt h
+step_runs w (Tick now) wanting s known h = one_more (Ticks now) s.router s.items tt h
+
+part_runs : (w : World) (event : SideEvent) (bytes : ℕ) (wanting : Option ℕ) (s : Side) → Known w s → SideRuns s → SideRuns (side_part w event bytes wanting s)
+unfolding router_sends cache_sends cache_gets
+part_runs w (RouterSends most) bytes wanting s known h = one_more (Pulls bytes) s.router s.items tt h
+part_runs w (CacheGets most) bytes wanting s known h = gets_keep SideRuns blind_runs w bytes wanting s s.conn h
+part_runs w (CacheSends most) bytes wanting s known h = sends_keep SideRuns blind_runs w.keep bytes s s.conn h
+part_runs w (RouterGets most) bytes wanting s known h = gets_run w bytes wanting s known h
+part_runs w RouterRestart bytes wanting s known h = h
+part_runs w (Speak version) bytes wanting s known h = h
+part_runs w Connect bytes wanting s known h = h
+part_runs w (Cut left) bytes wanting s known h = h
+part_runs w NotifyRouter bytes wanting s known h = h
+part_runs w Ask bytes wanting s known h = h
+part_runs w (Tick now) bytes wanting s known h = h
 
 told_runs : (all : List Instance) (s : Side) → SideRuns s → SideRuns (tell_closed all s)
 told_runs all s h = by_link (is_closed s.router.link)
   where
     by_link : (b : Bool) → SideRuns (if b then record s { home = None } else record (noted all (closed_at s.router.now s.router) s) { home = None })
     by_link true = h
-    by_link false = one_more (Closes s.router.now) s.router s.items h
+    by_link false = one_more (Closes s.router.now) s.router s.items tt h
 
-refused_runs : (w : World) (event : SideEvent) (bytes : ℕ) (wanting : Option ℕ) (s : Side) → SideRuns s → SideRuns (side_refused w event bytes wanting s)
+refused_runs : (w : World) (event : SideEvent) (bytes : ℕ) (wanting : Option ℕ) (s : Side) → Known w s → SideRuns s → SideRuns (side_refused w event bytes wanting s)
 unfolding side_refused cut
-refused_runs w event bytes wanting s h = let p = part_runs w event bytes wanting s h in record { calls = p.calls; router_is = p.router_is; items_are = p.items_are }
+refused_runs w event bytes wanting s known h = let p = part_runs w event bytes wanting s known h in record { calls = p.calls; can_be = p.can_be; router_is = p.router_is; items_are = p.items_are }
 
 kept : Kept SideRuns
 kept = record {
-  new = record { calls = []; router_is = refl; items_are = refl };
+  new = record { calls = []; can_be = tt; router_is = refl; items_are = refl };
   gone = λ s h. h;
-  step = λ w event wanting s known h. step_runs w event wanting s h;
+  step = λ w event wanting s known h. step_runs w event wanting s known h;
   settles = λ all s h. settle_keeps SideRuns blind_runs all (told_runs all) s h;
-  refused = λ w event bytes wanting s known h. settle_keeps SideRuns blind_runs (instances w) (told_runs (instances w)) (side_refused w event bytes wanting s) (refused_runs w event bytes wanting s h);
+  refused = λ w event bytes wanting s known h. settle_keeps SideRuns blind_runs (instances w) (told_runs (instances w)) (side_refused w event bytes wanting s) (refused_runs w event bytes wanting s known h);
 }
 
 pub routers_run : RoutersRun

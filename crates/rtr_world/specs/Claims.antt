@@ -11,6 +11,7 @@ use Rattle.rtr_pdu.specs.declared.version.Version.{Version}
 use Rattle.rtr_ends.specs.Answer.{session_in}
 use Rattle.rtr_ends.specs.declared.link.End.{End}
 use Rattle.rtr_ends.specs.declared.link.End.TheVariants as ends
+use Rattle.rtr_ends.specs.Consumed.{IsRouterCall}
 use Rattle.rtr_ends.specs.LinkRules.{Router}
 use Rattle.rtr_ends.specs.Router.{RouterCall, played}
 use Rattle.rtr_ends.specs.RouterLaws.{IsKept}
@@ -207,9 +208,10 @@ since_restart (Restarts ∷ items) = []
 since_restart (Refused ∷ items) = since_restart items
 since_restart (item ∷ items) = item ∷ since_restart items
 
--- Calls lead to the router, and to its transcript since it was restarted, refused events aside.
+-- Calls that can be lead to the router, and to its transcript since it was restarted, refused events aside.
 pub record IsRun (r : Router) (items : List Item) : Type 0 where
   pub calls : List RouterCall
+  pub can_be : AllByRecursion IsRouterCall calls
   pub router_is : (played calls).router ≡ r
   pub items_are : (played calls).items ≡ since_restart items
 
