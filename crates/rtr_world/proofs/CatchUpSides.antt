@@ -146,7 +146,7 @@ bytes_speak memory bytes r (Whole u) = by_memory (may_lack r.link u r && not mem
     by_memory true = refl
     by_memory false = (unit_held r.link u hand).1
 
-byte_speaks : (m : Receiving) (b : ℕ) → (router_byte m b).router.speaks ≡ m.router.speaks
+pub byte_speaks : (m : Receiving) (b : ℕ) → (router_byte m b).router.speaks ≡ m.router.speaks
 unfolding router_byte
 byte_speaks m b = bytes_speak (finds_memory m.wanting) (m.router.held ++ b ∷ []) m.router (judge m.router.spoken (not m.router.agreed) (m.router.held ++ b ∷ []))
 

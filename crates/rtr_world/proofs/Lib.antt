@@ -53,6 +53,7 @@ pub mod Showing
 pub mod SideLaws
 pub mod SideSteps
 pub mod Stepping
+pub mod ToldVersions
 pub mod UnitCases
 pub mod UnitStreams
 pub mod UnitsAtRouters

@@ -1,5 +1,5 @@
 -- What holds after every list of events.
-use Rattle.std.specs.Prelude.{◌≡◌, ◌⊎◌, ℕ, ◌≤◌, Bool, true, false, List, [], ◌∷◌, drop, length, if◌then◌else◌, Option, Some, None, ⊤, zero, suc, map}
+use Rattle.std.specs.Prelude.{◌≡◌, ◌⊎◌, ℕ, ◌≤◌, ◌==◌, Bool, true, false, List, [], ◌∷◌, drop, length, if◌then◌else◌, Option, Some, None, ⊤, zero, suc, map}
 use Rattle.std.specs.List.{AllByRecursion}
 use Rattle.prefixes.specs.declared.route.Route.{Route}
 use Rattle.vrps.specs.Instance.{Instance, named}
@@ -8,6 +8,7 @@ use Rattle.vrps.specs.Origin.{HasState, state}
 use Rattle.vrps.specs.VrpSet.{VrpSet, empty}
 use Rattle.vrps.specs.declared.origin.OriginState.{OriginState}
 use Rattle.rtr_pdu.specs.declared.version.Version.{Version}
+use Rattle.rtr_pdu.specs.declared.version.Version.TheVariants.{V1}
 use Rattle.rtr_ends.specs.Answer.{session_in}
 use Rattle.rtr_ends.specs.declared.link.End.{End}
 use Rattle.rtr_ends.specs.declared.link.End.TheVariants as ends
@@ -19,7 +20,7 @@ use Rattle.rtr_ends.specs.RouterLink.{Ended, is_reading}
 use Rattle.rtr_ends.specs.Transcript.{Begun, Item, Question, AskSerial, Committed, Refused, Restarts, base_of, is_commit, kept, outstanding, spoken, under_way}
 use Rattle.rtr_ends.specs.Commit.{Commits}
 use Rattle.rtr_world.specs.VersionPlaces.{NeverBack, VersionPlace, version_place_of}
-use Rattle.rtr_world.specs.World.{Side, World, Event, On, Publish, Ending, RouterGets, SideEvent, cache_gets, instances, settle, side_refused, side_step}
+use Rattle.rtr_world.specs.World.{Side, World, Event, On, Publish, Ending, RouterGets, RouterRestart, Speak, SideEvent, cache_gets, instances, settle, side_refused, side_step}
 use Rattle.rtr_world.specs.History.{Outcome, Done, Memory, refusal, MayEnd, Made, IsMade, Entry, IsEvent, Leads, after, conn_due, moved, most_of, side_at}
 use Rattle.rtr_world.specs.OneAnswer.{Between, IsOfNow}
 
@@ -217,6 +218,24 @@ pub record IsRun (r : Router) (items : List Item) : Type 0 where
 
 abbrev pub RoutersRun : Type 0
 RoutersRun = Always (λ w s. IsRun s.router s.items)
+
+-- The version that a router is told: by a Speak that goes through; and version 1 again where it restarts.
+abbrev pub told_by : ℕ → Event → Outcome → Version → Version
+told_by r (On d (Speak new)) (Done wanting) version = if d == r then new else version
+told_by r (On d RouterRestart) (Done wanting) version = if d == r then V1 else version
+told_by r event outcome version = version
+
+abbrev pub told_since : ℕ → Version → List Entry → Version
+told_since r version [] = version
+told_since r version (entry ∷ history) = told_since r (told_by r entry.event entry.outcome version) history
+
+-- The version that a router was told last since it last restarted, 1 where it was told none
+abbrev pub told : ℕ → List Entry → Version
+told r history = told_since r V1 history
+
+-- A router speaks what it was told.
+abbrev pub EachSpeaks : Type 0
+EachSpeaks = (made : Made) (history : List Entry) (w : World) → Leads made history w → (r : ℕ) (s : Side) → side_at r w.sides ≡ Some s → s.router.speaks ≡ told r history
 
 -- The steps: a history leads to one world, and every list of events has outcomes with which it leads somewhere.
 abbrev pub OneWorld : Type 0

@@ -1,7 +1,7 @@
 //! Laws of the definitions. These functions do nothing: their contracts are the laws.
 ghost use Rattle.rtr_world.specs.CaughtUp.{RefusedCuts};
 ghost use Rattle.rtr_world.specs.CatchUp.{EachCatchesUp, IdleIsCurrent, RoundsAreSteps, RoundsEnd};
-ghost use Rattle.rtr_world.specs.Claims.{ActExactlyOnce, AnswersNow, EachLeads, EndsKept, EndsNoted, Headline, LawfulEnds, MovesNoMore, NoWayBack, NoneByMemory, OneAnswerAlways, OneWorld, OthersStay, PlacesNoted, RefusesRightly, RouteStates, RoutersRun, Settles, Tables};
+ghost use Rattle.rtr_world.specs.Claims.{ActExactlyOnce, AnswersNow, EachLeads, EachSpeaks, EndsKept, EndsNoted, Headline, LawfulEnds, MovesNoMore, NoWayBack, NoneByMemory, OneAnswerAlways, OneWorld, OthersStay, PlacesNoted, RefusesRightly, RouteStates, RoutersRun, Settles, Tables};
 
 /// A history of events with their outcomes leads to one world, and every list of events has outcomes with which it leads to one. The
 /// clean-up after each event leaves nothing to be done. A set that is current already is never refused, and where a refusal is due there is
@@ -23,10 +23,12 @@ pub fn tables()
     ensures { Tables }
 {}
 
-/// Each router of a world is one to which calls lead, and its transcript since it was last restarted is that of these calls, refused
-/// events aside. So what is promised of routers under any calls is promised of those of a world.
+/// Each router of a world is one to which calls that can be lead, and its transcript since it was last restarted is that of these calls,
+/// refused events aside. So what is promised of routers under any calls is promised of those of a world. A router speaks the version that
+/// it was told last by a Speak that went through, since it last restarted; and version 1 where it was told none.
 pub fn routers_run()
-    ensures { RoutersRun }
+    ensures run { RoutersRun }
+    ensures speak { EachSpeaks }
 {}
 
 /// After every list of events each router's table is empty if it holds no session, and otherwise is exactly the set that was published
