@@ -17,6 +17,7 @@ pub mod CatchUpSteps
 pub mod CatchUpUnits
 pub mod CaughtUpLaws
 pub mod Commits
+pub mod ConnRuns
 pub mod Connecting
 pub mod CutOff
 pub mod EarlyNotifies

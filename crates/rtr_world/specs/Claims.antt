@@ -1,8 +1,8 @@
 -- What holds after every list of events.
-use Rattle.std.specs.Prelude.{◌≡◌, ◌⊎◌, ℕ, ◌≤◌, ◌==◌, Bool, true, false, List, [], ◌∷◌, drop, length, if◌then◌else◌, Option, Some, None, ⊤, zero, suc, map}
+use Rattle.std.specs.Prelude.{◌≡◌, ◌⊎◌, ℕ, ◌≤◌, ◌==◌, Bool, true, false, List, [], ◌∷◌, drop, length, if◌then◌else◌, Option, Some, None, IfSome, ⊤, zero, suc, map}
 use Rattle.std.specs.List.{AllByRecursion}
 use Rattle.prefixes.specs.declared.route.Route.{Route}
-use Rattle.vrps.specs.Instance.{Instance, named}
+use Rattle.vrps.specs.Instance.{Instance, IsInstance, named}
 use Rattle.vrps.specs.Store.{is_current}
 use Rattle.vrps.specs.Origin.{HasState, state}
 use Rattle.vrps.specs.VrpSet.{VrpSet, empty}
@@ -12,6 +12,7 @@ use Rattle.rtr_pdu.specs.declared.version.Version.TheVariants.{V1}
 use Rattle.rtr_ends.specs.Answer.{session_in}
 use Rattle.rtr_ends.specs.declared.link.End.{End}
 use Rattle.rtr_ends.specs.declared.link.End.TheVariants as ends
+use Rattle.rtr_ends.specs.Cache.{Conn, ConnCall, IsConnCall, serving}
 use Rattle.rtr_ends.specs.Consumed.{IsRouterCall}
 use Rattle.rtr_ends.specs.LinkRules.{Router}
 use Rattle.rtr_ends.specs.Router.{RouterCall, played}
@@ -20,7 +21,7 @@ use Rattle.rtr_ends.specs.RouterLink.{Ended, is_reading}
 use Rattle.rtr_ends.specs.Transcript.{Begun, Item, Question, AskSerial, Committed, Refused, Restarts, base_of, is_commit, kept, outstanding, spoken, under_way}
 use Rattle.rtr_ends.specs.Commit.{Commits}
 use Rattle.rtr_world.specs.VersionPlaces.{NeverBack, VersionPlace, version_place_of}
-use Rattle.rtr_world.specs.World.{Side, World, Event, On, Publish, Ending, RouterGets, RouterRestart, Speak, SideEvent, cache_gets, instances, settle, side_refused, side_step}
+use Rattle.rtr_world.specs.World.{Side, World, Event, On, Publish, Ending, RouterGets, RouterRestart, Speak, SideEvent, cache_gets, instances, settle, side_refused, side_step, timing}
 use Rattle.rtr_world.specs.History.{Outcome, Done, Memory, refusal, MayEnd, Made, IsMade, Entry, IsEvent, Leads, after, conn_due, moved, most_of, side_at}
 use Rattle.rtr_world.specs.OneAnswer.{Between, IsOfNow}
 
@@ -218,6 +219,20 @@ pub record IsRun (r : Router) (items : List Item) : Type 0 where
 
 abbrev pub RoutersRun : Type 0
 RoutersRun = Always (λ w s. IsRun s.router s.items)
+
+-- Calls that can be lead to a connection since it was opened, and to the cache as it is now. Where the router knows of a connection, it was opened at the instance as it
+-- was then.
+pub record IsConnRun (keep : ℕ) (present : Instance) (home : Option Instance) (o : Conn) : Type 0 where
+  pub opened : Instance
+  pub can_open : IsInstance opened
+  pub home_is : IfSome home (λ i. i ≡ opened)
+  pub calls : List ConnCall
+  pub can_be : AllByRecursion IsConnCall calls
+  pub conn_is : (serving keep timing opened calls).conn ≡ o
+  pub cache_is : (serving keep timing opened calls).cache ≡ present
+
+abbrev pub ConnsRun : Type 0
+ConnsRun = Always (λ w s. IfSome s.conn (IsConnRun w.keep w.present s.home))
 
 -- The version that a router is told: by a Speak that goes through; and version 1 again where it restarts.
 abbrev pub told_by : ℕ → Event → Outcome → Version → Version

@@ -1,7 +1,7 @@
 //! Laws of the definitions. These functions do nothing: their contracts are the laws.
 ghost use Rattle.rtr_world.specs.CaughtUp.{RefusedCuts};
 ghost use Rattle.rtr_world.specs.CatchUp.{EachCatchesUp, IdleIsCurrent, RoundsAreSteps, RoundsEnd};
-ghost use Rattle.rtr_world.specs.Claims.{ActExactlyOnce, AnswersNow, EachLeads, EachSpeaks, EndsKept, EndsNoted, Headline, LawfulEnds, MovesNoMore, NoWayBack, NoneByMemory, OneAnswerAlways, OneWorld, OthersStay, PlacesNoted, RefusesRightly, RouteStates, RoutersRun, Settles, Tables};
+ghost use Rattle.rtr_world.specs.Claims.{ActExactlyOnce, AnswersNow, ConnsRun, EachLeads, EachSpeaks, EndsKept, EndsNoted, Headline, LawfulEnds, MovesNoMore, NoWayBack, NoneByMemory, OneAnswerAlways, OneWorld, OthersStay, PlacesNoted, RefusesRightly, RouteStates, RoutersRun, Settles, Tables};
 
 /// A history of events with their outcomes leads to one world, and every list of events has outcomes with which it leads to one. The
 /// clean-up after each event leaves nothing to be done. A set that is current already is never refused, and where a refusal is due there is
@@ -29,6 +29,13 @@ pub fn tables()
 pub fn routers_run()
     ensures run { RoutersRun }
     ensures speak { EachSpeaks }
+{}
+
+/// Each open connection of a world is one to which calls that can be lead since it was opened, of a cache that is now the present instance;
+/// where its router knows of a connection, it was opened at the instance as that was then. So what is promised of connections under any
+/// calls, such as that what was pulled is the beginning of its replies, is promised of those of a world.
+pub fn conns_run()
+    ensures { ConnsRun }
 {}
 
 /// After every list of events each router's table is empty if it holds no session, and otherwise is exactly the set that was published

@@ -1,6 +1,6 @@
 use Rattle.std.proofs.Common.{◌∙◌, ◌++◌, ◌∷◌, ap, false, refl, subst, true, []}
 use Rattle.std.specs.List.{list_any}
-use Rattle.std.specs.Prelude.{◌≡◌, ℕ, ◌==◌, Option, None, slice_get}
+use Rattle.std.specs.Prelude.{◌≡◌, ℕ, Option, None, slice_get}
 use Rattle.vrps.specs.Steps.{HoldsSteps}
 use Rattle.rtr_ends.specs.Cache.{Conn}
 use Rattle.rtr_ends.specs.CacheState.{ShowsCache, without_conns}

@@ -1,0 +1,5 @@
+use Rattle.rtr_world.proofs.ConnRuns.{conns_run}
+use Rattle.rtr_world.proofs.laws.conns_run.Goals as goal
+
+pub returns : goal.returns
+returns c = conns_run
