@@ -32,6 +32,7 @@ pub mod SpokenLaws
 pub mod StagingLaws
 pub mod TableLaws
 pub mod TakenLaws
+pub mod TimingRows
 pub mod TranscriptRows
 pub mod UnitByUnit
 pub mod VersionRows

@@ -1,5 +1,5 @@
 -- What a router does at each unit on each link, and at the clock, worked out.
-use Rattle.std.proofs.Common.{◌≡◌, ℕ, Bool, true, false, not, ◌||◌, ◌&&◌, ◌==◌, nat_lt, ◌+◌, List, [], ◌∷◌, ◌++◌, length, Some, None, if◌then◌else◌, refl, ap, ◌∙◌}
+use Rattle.std.proofs.Common.{◌≡◌, ℕ, Bool, true, false, not, ◌||◌, ◌&&◌, ◌==◌, nat_lt, ◌+◌, List, [], ◌∷◌, ◌++◌, length, Option, Some, None, if◌then◌else◌, refl, ap, ◌∙◌}
 use Rattle.std.proofs.Math.Bool.{and-false, or-true}
 use Rattle.std.specs.Str.{chars, is_utf8}
 use Rattle.prefixes.specs.Payload.{Payload}
@@ -9,38 +9,39 @@ use Rattle.rtr_pdu.specs.Judging.{judge}
 use Rattle.rtr_pdu.specs.Payloads.{Key, Report}
 use Rattle.rtr_pdu.specs.Stream.{as_read}
 use Rattle.rtr_pdu.specs.declared.unit.Unit.{Unit}
-use Rattle.rtr_pdu.specs.declared.unit.Unit.TheVariants.{SerialQuery, ResetQuery, CacheResponse, Prefix, EndOfData, CacheReset, RouterKey, ErrorReport}
+use Rattle.rtr_pdu.specs.declared.unit.Unit.TheVariants.{SerialQuery, ResetQuery, CacheResponse, Prefix, EndOfData, EndOfData0, CacheReset, RouterKey, ErrorReport}
 use Rattle.rtr_ends.specs.declared.link.End.TheVariants as ends
+use Rattle.rtr_pdu.specs.declared.version.Version.{Version}
 use Rattle.rtr_pdu.specs.declared.version.Version.TheVariants.{V1}
 use Rattle.rtr_ends.specs.Answer.{report, sent}
-use Rattle.rtr_ends.specs.LinkRules.{Router, Stays, Wrong, Over, emptied, ended_by, told_off, on_unit, stage}
+use Rattle.rtr_ends.specs.LinkRules.{Router, Stays, Wrong, Over, emptied, ended_by, is_news, told_off, on_unit, stage}
 use Rattle.rtr_ends.specs.Router.{router_byte, receives, clocked, connects_at, closed_at, ticks_at, called, Connects, Receives, Closes, Ticks}
 use Rattle.rtr_ends.specs.RouterLink.{Link, Closed, Idle, Asked, Answering, Ended}
 use Rattle.rtr_ends.specs.Transcript.{Begun, Committed, Question, AskReset, AskSerial, is_among, is_serial, led_to, base_of, sum_of, retry_of}
-use Rattle.rtr_ends.specs.Timing.{Intervals, intervals}
+use Rattle.rtr_ends.specs.Timing.{Intervals, default_intervals, intervals}
 use Rattle.rtr_ends.proofs.WholeAnswerRows.{v, w, v_ascends, reset_bytes, serial_bytes, response_bytes, v_bytes, end_bytes}
 use Rattle.rtr_ends.proofs.TableLaws.{led_from_empty}
 use Rattle.rtr_ends.proofs.RouterRows.{just_v, asked_all, answering, by_stage, v_read, committed_at, holds_v, notify_bytes, asks_since, since_v, changes, has_v, has_not_w}
 
 -- Units that do not belong where they come
 
--- A report with code 0 and a copy of the unit. The link ends, and what is held stays.
+-- A report with code 0 and a copy of the unit, in the version of the connection. The link ends, and what is held stays.
 abbrev Rejects : Link → Unit → Router → Type 0
 Rejects link u r = on_unit link u r ≡ record r { link = Ended (ends.Reported 0); out = sent r.spoken (report 0 (sent r.spoken u)) }
 
 idle_rejects : (r : Router) (announce : Bool) (x : Payload) (key : Key) (session serial refresh retry expire : ℕ)
     → Rejects Idle (CacheResponse session) r × Rejects Idle (Prefix announce x) r × Rejects Idle (RouterKey key) r
-    × Rejects Idle (EndOfData session serial refresh retry expire) r × Rejects Idle CacheReset r
+    × Rejects Idle (EndOfData session serial refresh retry expire) r × Rejects Idle (EndOfData0 session serial) r × Rejects Idle CacheReset r
     × Rejects Idle (SerialQuery session serial) r × Rejects Idle ResetQuery r
 unfolding on_unit
-idle_rejects r announce x key session serial refresh retry expire = (refl, refl, refl, refl, refl, refl, refl)
+idle_rejects r announce x key session serial refresh retry expire = (refl, refl, refl, refl, refl, refl, refl, refl)
 
 asked_rejects : (r : Router) (q : Question) (announce : Bool) (x : Payload) (key : Key) (session serial refresh retry expire : ℕ)
     → Rejects (Asked q) (Prefix announce x) r × Rejects (Asked q) (RouterKey key) r
-    × Rejects (Asked q) (EndOfData session serial refresh retry expire) r
+    × Rejects (Asked q) (EndOfData session serial refresh retry expire) r × Rejects (Asked q) (EndOfData0 session serial) r
     × Rejects (Asked q) (SerialQuery session serial) r × Rejects (Asked q) ResetQuery r
 unfolding on_unit
-asked_rejects r q announce x key session serial refresh retry expire = (refl, refl, refl, refl, refl)
+asked_rejects r q announce x key session serial refresh retry expire = (refl, refl, refl, refl, refl, refl)
 
 reset_after_reset : (r : Router) → Rejects (Asked AskReset) CacheReset r
 unfolding on_unit
@@ -119,6 +120,19 @@ wakes_empty = refl
 wakes_by_mark : (called (Receives 100 None (notify_bytes 0x1234 6)) (record holds_v { mark = true })).router ≡ record holds_v { mark = true; link = Asked AskReset; out = reset_bytes }
 unfolding receives router_byte clocked on_unit judge as_read
 wakes_by_mark = refl
+
+-- What a notify tells where a version of either protocol is committed: nothing new at its serial, at one before it, and at 2^31 after
+-- it and more; news from one after it on to 2^31 - 1 after it; and any serial is news where nothing is committed.
+abbrev holds_serial : Version → ℕ → Option Committed
+holds_serial version serial = Some (record { version = version; session = 0x1234; serial = serial; moment = 100; intervals = default_intervals })
+
+news : (version : Version) → (is_news (holds_serial version 5) 5 ≡ false) × (is_news (holds_serial version 5) 4 ≡ false) × (is_news (holds_serial version 5) 6 ≡ true)
+    × (is_news (holds_serial version 5) 2147483652 ≡ true) × (is_news (holds_serial version 5) 2147483653 ≡ false) × (is_news (holds_serial version 5) 2147483654 ≡ false)
+    × (is_news (holds_serial version 4294967295) 0 ≡ true) × (is_news (holds_serial version 0) 4294967295 ≡ false)
+news version = (refl, refl, refl, refl, refl, refl, refl, refl)
+
+news_at_first : (serial : ℕ) → is_news None serial ≡ true
+news_at_first serial = refl
 
 -- An older serial does not wake it, and serials go on from 2^32 - 1 with 0.
 older_serial : (called (Receives 100 None (notify_bytes 0x1234 4)) holds_v).router ≡ holds_v

@@ -1,5 +1,5 @@
 -- A router that speaks version 0, and one that changes its version, worked out.
-use Rattle.std.proofs.Common.{◌≡◌, ℕ, List, [], ◌∷◌, ◌++◌, Some, None, refl}
+use Rattle.std.proofs.Common.{◌≡◌, ℕ, true, List, [], ◌∷◌, ◌++◌, Some, None, refl}
 use Rattle.vrps.specs.VrpSet.{empty}
 use Rattle.rtr_pdu.specs.Judging.{judge}
 use Rattle.rtr_pdu.specs.Stream.{as_read}
@@ -9,7 +9,7 @@ use Rattle.rtr_ends.specs.declared.link.End.TheVariants as ends
 use Rattle.rtr_ends.specs.Answer.{report, sent}
 use Rattle.rtr_ends.specs.LinkRules.{Router, on_unit}
 use Rattle.rtr_ends.specs.Router.{router_byte, receives, clocked, connects_at, ticks_at, asks, called, played, Connects, Receives, AsksNow, Ticks, Speaks}
-use Rattle.rtr_ends.specs.RouterLink.{Asked, Ended}
+use Rattle.rtr_ends.specs.RouterLink.{Asked, Ended, Idle}
 use Rattle.rtr_ends.specs.Transcript.{At, Opened, Asks, Committed, AskReset, AskSerial}
 use Rattle.rtr_ends.specs.Timing.{intervals}
 use Rattle.rtr_ends.proofs.WholeAnswerRows.{reset_bytes, response_bytes}
@@ -63,6 +63,37 @@ asks_anew = refl
 expires_other : (called (Ticks 7301) (record closed_0 { speaks = V1; spoken = V1 })).router ≡ record closed_0 { speaks = V1; spoken = V1; now = 7301; table = empty; version = None }
 unfolding ticks_at clocked
 expires_other = refl
+
+-- An idle router of version 0, with serial 5 of that version committed: a notify makes it ask where the serial is one after to
+-- 2^31 - 1 after, and no other does.
+abbrev idle_in_0 : Router
+idle_in_0 = record closed_0 { link = Idle; agreed = true; session = Some 0x0777 }
+
+abbrev notified_in_0 : ℕ → Router
+notified_in_0 serial = (called (Receives 100 None (sent V0 (SerialNotify 0x0777 serial))) idle_in_0).router
+
+same_serial_in_0 : notified_in_0 5 ≡ idle_in_0
+unfolding receives router_byte clocked on_unit judge as_read
+same_serial_in_0 = refl
+
+older_serial_in_0 : notified_in_0 4 ≡ idle_in_0
+unfolding receives router_byte clocked on_unit judge as_read
+older_serial_in_0 = refl
+
+abbrev asked_in_0 : Router
+asked_in_0 = record idle_in_0 { link = Asked (AskSerial 0x0777 5); out = 0 ∷ 0x01 ∷ 0x07 ∷ 0x77 ∷ 0 ∷ 0 ∷ 0 ∷ 0x0c ∷ 0 ∷ 0 ∷ 0 ∷ 0x05 ∷ [] }
+
+next_serial_in_0 : notified_in_0 6 ≡ asked_in_0
+unfolding receives router_byte clocked on_unit judge as_read
+next_serial_in_0 = refl
+
+far_serial_in_0 : notified_in_0 2147483652 ≡ asked_in_0
+unfolding receives router_byte clocked on_unit judge as_read
+far_serial_in_0 = refl
+
+too_far_in_0 : notified_in_0 2147483653 ≡ idle_in_0
+unfolding receives router_byte clocked on_unit judge as_read
+too_far_in_0 = refl
 
 -- An idle router where what is committed is of the other version
 abbrev idle_0 : Router

@@ -6,12 +6,13 @@ use Rattle.prefixes.specs.declared.prefix.IpPrefix.TheVariants.{V4, V6}
 use Rattle.vrps.specs.Instance.{Instance, IsInstance}
 use Rattle.vrps.specs.VrpSet.{VrpSet, set_of, empty}
 use Rattle.vrps.proofs.SetLaws.{listing-set_of, listing-without-set_of}
+use Rattle.rtr_pdu.specs.declared.version.Version.{Version}
 use Rattle.rtr_pdu.specs.declared.version.Version.TheVariants.{V0, V1}
 use Rattle.rtr_pdu.specs.Unit.{Reads, zeros}
 use Rattle.rtr_pdu.specs.declared.unit.Unit.{Unit}
-use Rattle.rtr_pdu.specs.declared.unit.Unit.TheVariants.{SerialQuery, ResetQuery, CacheReset, Prefix}
+use Rattle.rtr_pdu.specs.declared.unit.Unit.TheVariants.{SerialQuery, ResetQuery, CacheReset, CacheResponse, Prefix}
 use Rattle.rtr_pdu.specs.declared.unit.UnitFault.TheVariants as faults
-use Rattle.rtr_ends.specs.Answer.{answer, response, sent, sent_all}
+use Rattle.rtr_ends.specs.Answer.{answer, end_of_data, response, sent, sent_all}
 use Rattle.rtr_ends.specs.Connection.{bytes_sent, in_version, Read, Wanting, Fault, Notify, Pull, IsHistory, IsLater, fault_report, opened, replies}
 use Rattle.rtr_ends.specs.Timing.{default_intervals}
 
@@ -99,6 +100,37 @@ no_change = ap (λ vs. sent_all V1 (with_changes 5 just_v vs vs)) (listing-witho
 -- Serials go on from 2^32 - 1 with 0.
 pub goes_round : sent_all V1 (answer V1 (cache 4294967295 (v_and_w ∷ just_v ∷ [])) 2 default_intervals (SerialQuery 0x1234 4294967295)).units ≡ response_bytes ++ w_bytes ++ end_bytes 0
 goes_round = λ i. sent_all V1 (with_changes 0 v_and_w (listing-without-set_of (v ∷ []) (v ∷ w ∷ []) v_ascends i) (listing-without-set_of (v ∷ w ∷ []) (v ∷ []) both_ascend i))
+
+-- 203.0.113.0/24 maximum 24 AS64498, and 2001:db8::/32 maximum 48 AS64499
+abbrev x : Payload
+x = record { prefix = V4 (record { addr = 0xcb007100; len = 24 }); max_len = 24; asn = 64498 }
+
+abbrev y : Payload
+y = record { prefix = V6 (record { addr = 0x20010db8000000000000000000000000; len = 32 }); max_len = 48; asn = 64499 }
+
+abbrev x_and_y : VrpSet
+x_and_y = set_of (x ∷ y ∷ [])
+
+x_and_y_ascend : IsStrictlySortedBy vrp_cmp (x ∷ y ∷ [])
+unfolding IsStrictlySortedBy
+x_and_y_ascend = ((refl, tt), (tt, tt))
+
+-- v and w were published, then x and y in their place: in each version v and w are withdrawn first, then x and y are announced, and
+-- both parts ascend.
+abbrev changed : Version → List Payload → List Payload → List Unit
+changed version withdrawn announced =
+    CacheResponse 0x1234 ∷ (map (λ r. Prefix false r) withdrawn ++ map (λ r. Prefix true r) announced) ++ end_of_data version 0x1234 6 default_intervals ∷ []
+
+all_change : (version : Version) → (answer version (cache 5 (x_and_y ∷ v_and_w ∷ [])) 2 default_intervals (SerialQuery 0x1234 5)).units
+    ≡ CacheResponse 0x1234 ∷ Prefix false v ∷ Prefix false w ∷ Prefix true x ∷ Prefix true y ∷ end_of_data version 0x1234 6 default_intervals ∷ []
+all_change V0 = λ i. changed V0 (listing-without-set_of (v ∷ w ∷ []) (x ∷ y ∷ []) both_ascend i) (listing-without-set_of (x ∷ y ∷ []) (v ∷ w ∷ []) x_and_y_ascend i)
+all_change V1 = λ i. changed V1 (listing-without-set_of (v ∷ w ∷ []) (x ∷ y ∷ []) both_ascend i) (listing-without-set_of (x ∷ y ∷ []) (v ∷ w ∷ []) x_and_y_ascend i)
+
+-- The same back again: as the list ascends, IPv4 before IPv6
+all_change_back : (version : Version) → (answer version (cache 5 (v_and_w ∷ x_and_y ∷ [])) 2 default_intervals (SerialQuery 0x1234 5)).units
+    ≡ CacheResponse 0x1234 ∷ Prefix false x ∷ Prefix false y ∷ Prefix true v ∷ Prefix true w ∷ end_of_data version 0x1234 6 default_intervals ∷ []
+all_change_back V0 = λ i. changed V0 (listing-without-set_of (x ∷ y ∷ []) (v ∷ w ∷ []) x_and_y_ascend i) (listing-without-set_of (v ∷ w ∷ []) (x ∷ y ∷ []) both_ascend i)
+all_change_back V1 = λ i. changed V1 (listing-without-set_of (x ∷ y ∷ []) (v ∷ w ∷ []) x_and_y_ascend i) (listing-without-set_of (v ∷ w ∷ []) (x ∷ y ∷ []) both_ascend i)
 
 -- A Reset Query was read while v was current; v and w are published before its answer was pulled to its end. The answer stays
 -- v's, and the next query is answered with the change.
