@@ -3,7 +3,35 @@ use Rattle.std.proofs.Common.{◌≡◌, ◌==◌, false, ne_eqb, ◌<◌, ◌+�
 use Rattle.std.proofs.lemmas.List.{length-map, length-take-le, take_more}
 use Rattle.std.specs.List.{join_with_byte}
 use Rattle.prefixes.specs.Payload.{Payload}
-use Rattle.payload_lists.specs.PayloadList.{entry_text}
+use Rattle.payload_lists.specs.PayloadList.{entry_text, list_text, whole_at}
+use Rattle.std.specs.Prelude.{codes, Float, None, Some}
+use Rattle.std.specs.Fmt.{digits}
+use Rattle.prefixes.specs.declared.prefix.IpPrefix.{IpPrefix}
+use Rattle.prefixes.specs.Text.{written_text}
+use Rattle.serde_json.specs.Data.{object, member, no_members, number, float, unsigned}
+use Rattle.payload_lists.specs.ListFaults.{list_fault_number}
+use Rattle.payload_lists.specs.declared.listing.ListFault.TheVariants.{NoList, Memory}
+
+row_empty : list_text [] ≡ codes "[]"
+row_empty = refl
+
+-- a compact entry, its keys in order, and two entries with a comma between them
+row_entry : (p : IpPrefix) → entry_text (record { prefix = p; max_len = 24; asn = 64496 }) ≡ codes "{\"asn\":64496,\"maxLength\":24,\"prefix\":\"" ++ (written_text p ++ codes "\"}")
+unfolding digits
+row_entry p = refl
+
+row_two : (v w : Payload) → list_text (v ∷ w ∷ []) ≡ 91 ∷ ((entry_text v ++ (44 ∷ entry_text w)) ++ (93 ∷ []))
+row_two v w = refl
+
+-- a number that is no whole one is none, as 24.0
+row_float : (x : Float) → whole_at (codes "asn") (object (member (codes "asn") (number (float x)) no_members)) ≡ None
+row_float x = refl
+
+row_whole : whole_at (codes "maxLength") (object (member (codes "maxLength") (number (unsigned 24)) no_members)) ≡ Some 24
+row_whole = refl
+
+row_numbers : (list_fault_number NoList ≡ 1) × (list_fault_number Memory ≡ 2)
+row_numbers = (refl, refl)
 
 -- what stands before a piece that follows these
 abbrev separator : ℕ → List (List ℕ) → List ℕ

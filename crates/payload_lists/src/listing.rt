@@ -1,5 +1,5 @@
 //! Payload lists, read from JSON.
-ghost use Rattle.std.specs.Prelude.{◌≡◌, ◌==◌, ◌<◌, ◌≤◌, ◌++◌, ◌∷◌, [], if◌then◌else◌, ℕ, List, string_bytes, OnOk, IfOk, IfSome, IfNone, IsErrOf, option_map};
+ghost use Rattle.std.specs.Prelude.{◌≡◌, ◌==◌, ◌<◌, ◌≤◌, ◌++◌, ◌∷◌, [], if◌then◌else◌, ℕ, List, string_bytes, OnOk, OnErr, Err, IfOk, IfSome, IfNone, IsErrOf, option_map};
 ghost use Rattle.serde_json.specs.View.{view, items_view};
 ghost use Rattle.std.specs.List.Sorted.{IsStrictlySortedBy};
 ghost use Rattle.prefixes.specs.Payload.{Payload, vrp_cmp};
@@ -118,6 +118,7 @@ fn records_of(alloc: Global, list: &[Value]) -> Result<Vec<Vrp>, ListFault>
 fn set_from(records: Vec<Vrp>) -> Result<VrpSet, ListFault>
     ensures ok { IfOk result (λ s. (s ≡ set_of records.items) × (size s ≤ 16777215)) }
     ensures no_list { IsErrOf result ListFault.NoList → 16777215 < size (set_of records.items) }
+    ensures only { OnErr result (result ≡ Err ListFault.NoList) }
 {
     match VrpSet::from_list(records) {
         Ok(set) => {
