@@ -5,6 +5,8 @@
 #[cfg(test)]
 mod caches;
 #[cfg(test)]
+mod counted;
+#[cfg(test)]
 mod router_cells;
 #[cfg(test)]
 mod routers;
