@@ -194,7 +194,7 @@ gets_so w most wanting s k h =
     record { reads_so = fed.reads_so }
 
 blind_reads : Blind SideReads
-blind_reads s conn up down h = record { reads_so = h.reads_so }
+blind_reads s conn up down read h = record { reads_so = h.reads_so }
 
 step_so : (w : World) (event : SideEvent) (wanting : Option ℕ) (s : Side) → Known w s → SideReads s → SideReads (side_step w event wanting s)
 unfolding side_step speaks connects connects_at router_restarts router_sends router_pulled cache_sends cache_gets cut ticks_at asks
@@ -221,7 +221,7 @@ module _ (all : List Instance) where
   unfolding closed_at
   told_closes s = by_link (is_closed s.router.link) refl
     where
-      by_link : (b : Bool) → is_closed s.router.link ≡ b → is_closed (if b then record s { home = None } else record (noted all (closed_at s.router.now s.router) s) { home = None }).router.link ≡ true
+      by_link : (b : Bool) → is_closed s.router.link ≡ b → is_closed (if b then record s { home = None; read_at = None } else record (noted all (closed_at s.router.now s.router) s) { home = None; read_at = None }).router.link ≡ true
       by_link true e = e
       by_link false e = closes (clocked s.router.now s.router)
 
@@ -238,7 +238,7 @@ module _ (all : List Instance) where
   told_still : (s : Side) → Still s → Still (tell_closed all s)
   told_still s q = by_link (is_closed s.router.link)
     where
-      by_link : (b : Bool) → Still (if b then record s { home = None } else record (noted all (closed_at s.router.now s.router) s) { home = None })
+      by_link : (b : Bool) → Still (if b then record s { home = None; read_at = None } else record (noted all (closed_at s.router.now s.router) s) { home = None; read_at = None })
       by_link true = q
       by_link false = q
 

@@ -1,10 +1,11 @@
 -- What the cache reads and sends keeps the invariant.
-use Rattle.std.specs.Prelude.{◌≡◌, ◌⊎◌, ℕ, ◌+◌, Bool, true, false, not, ◌&&◌, nat_lt, List, [], ◌∷◌, ◌++◌, length, Option, Some, None, IsSome, if◌then◌else◌, refl}
+use Rattle.std.specs.Prelude.{◌≡◌, ◌⊎◌, ℕ, ◌+◌, Bool, true, false, not, ◌&&◌, ◌||◌, nat_lt, List, [], ◌∷◌, ◌++◌, length, Option, Some, None, IsSome, if◌then◌else◌, refl}
 use Rattle.std.proofs.Common.{sym, ap, ◌∙◌, subst, arith, inl, inr}
-use Rattle.std.specs.List.{AllByRecursion}
+use Rattle.std.specs.List.{AllByRecursion, list_any}
 use Rattle.std.proofs.lemmas.Bool.{and_parts, or_parts}
 use Rattle.std.proofs.lemmas.Bool.Decides.{nat_tests}
 use Rattle.std.proofs.lemmas.List.{append-nil, length-append}
+use Rattle.std.proofs.lemmas.List.Folds.{list_any-append}
 use Rattle.vrps.specs.Instance.{Instance, versions, versions_from}
 use Rattle.vrps.specs.VrpSet.{VrpSet}
 use Rattle.rtr_pdu.specs.declared.version.Version.{Version}
@@ -15,16 +16,16 @@ use Rattle.rtr_pdu.specs.Version.{first_version, header_version}
 use Rattle.rtr_pdu.specs.declared.unit.Unit.{Unit}
 use Rattle.rtr_pdu.specs.declared.unit.Unit.TheVariants.{SerialNotify}
 use Rattle.rtr_ends.specs.Answer.{answer, report, sent_all, session_in}
-use Rattle.rtr_ends.specs.Cache.{Conn, Taking, is_none, conn_stops, conn_moment_of, with_moment, counted, finds_memory, conn_byte, can_notify, conn_notified, speaks_in, version_at}
-use Rattle.rtr_ends.specs.Connection.{Connection, Read, Wanting, Notify, conn_after, notice, is_published, spoken_in, takes_memory, in_version}
-use Rattle.rtr_ends.specs.Feeding.{FedPiece, feed}
+use Rattle.rtr_ends.specs.Cache.{Conn, Taking, and_moment, is_none, conn_stops, conn_moment_of, with_moment, counted, finds_memory, conn_byte, can_notify, conn_notified, speaks_in, version_at}
+use Rattle.rtr_ends.specs.Connection.{Connection, ConnMoment, Read, Wanting, Notify, conn_after, notice, is_published, spoken_in, takes_memory, in_version}
+use Rattle.rtr_ends.specs.Feeding.{feed}
 use Rattle.rtr_ends.specs.LinkRules.{Router}
 use Rattle.rtr_ends.specs.RouterLink.{Link, Closed, Idle, Asked, Answering, Ended, is_reading}
 use Rattle.rtr_ends.specs.Transcript.{Question, query, base_of, of_version}
 use Rattle.rtr_ends.proofs.TableLaws.{false_true}
 use Rattle.rtr_ends.proofs.FeedingLaws.{feed_keeps}
 use Rattle.rtr_world.specs.OneAnswer.{IsOfNow, NotifiesOf, without_notifies}
-use Rattle.rtr_world.specs.World.{timing}
+use Rattle.rtr_world.specs.World.{is_read, timing}
 use Rattle.rtr_world.proofs.AnswerLaws.{plain_stays, plain_notifies, without-append, notifies-append}
 use Rattle.rtr_world.proofs.CacheSteps.{from_now, is_now, IsAnswered, answered_report, answer_answers, serial_low, session_low}
 use Rattle.rtr_world.proofs.Invariant.{OneReply, QuestionFits, Replies, no_memory, Shape, Open, Unheard, Flow, Live, GoodLink, GoodRouter}
@@ -32,7 +33,7 @@ use Rattle.rtr_world.proofs.UnitsAtRouters.{live_link, no_unit}
 use Rattle.rtr_world.proofs.SideSteps.{live_of}
 use Rattle.rtr_world.proofs.UnitStreams.{MaySpeak, Stream, byte_version, held_version, ByteCase, partly, notified, wholly, behind_early, byte_case, stream-append, stream-early, all_bytes}
 use Rattle.rtr_world.proofs.Versions.{TableAt, Present, held_at}
-use Rattle.rtr_world.proofs.LinkedSides.{Seen}
+use Rattle.rtr_world.proofs.LinkedSides.{Seen, reads_now, seen_after}
 
 none_is : (out : List ℕ) → not (is_none out) ≡ false → out ≡ []
 none_is [] h = refl
@@ -76,6 +77,23 @@ unheard_more None held more coming agrees u = by_length (nat_lt (length (held ++
     by_length true e = subst (λ b. Unheard (if b then None else Some (first_version held)) coming agrees) (shorter (length held) (length more) (length (held ++ more)) (length-append held more) e) u
     by_length false e = tt
 
+-- nor does it look at what was seen
+dead_seen : (l : Link) (all : List Instance) (i : Instance) (home home' : Option Seen) (r : Router) (conn : Option Conn) (up down : List ℕ) → is_reading l ≡ false → GoodLink all i home l r conn up down → GoodLink all i home' l r conn up down
+dead_seen Closed all i home home' r conn up down dead g = g
+dead_seen (Ended end) all i home home' r conn up down dead g = g
+dead_seen Idle all i home home' r conn up down dead g = false_true (sym dead)
+dead_seen (Asked q) all i home home' r conn up down dead g = false_true (sym dead)
+dead_seen (Answering a) all i home home' r conn up down dead g = false_true (sym dead)
+
+-- a unit was read at this moment, if there is one
+abbrev moment_reads : Option ConnMoment → Bool
+moment_reads None = false
+moment_reads (Some m) = is_read m
+
+-- the moment that a byte brings
+abbrev brings : Instance → Taking → ℕ → Option ConnMoment
+brings i m b = conn_moment_of i (finds_memory m.wanting) (version_at m.conn (b ∷ [])) (m.conn.held ++ b ∷ []) (judge (version_at m.conn (b ∷ [])) false (m.conn.held ++ b ∷ []))
+
 module _ (all : List Instance) (i : Instance) (p : Present all i) (keep : ℕ) (home : Option Seen) (keeps : (h : Seen) → home ≡ Some h → h.keep ≡ keep) (r : Router) (down : List ℕ) where
   -- What the router waits for, once the cache has read its question whole
   record IsWhole (h : Seen) (l : Link) (u : Unit) (more rest : List Unit) : Type 0 where
@@ -98,13 +116,13 @@ module _ (all : List Instance) (i : Instance) (p : Present all i) (keep : ℕ) (
       ]
 
   -- The cache has read the question, and these units are the answer.
-  answered : (o : Conn) (up bs : List ℕ) (h : Seen) (f : Flow all i h r (Some o) up down) (q : Question) (units : List Unit) (st : Connection) → st.version ≡ Some r.spoken → home ≡ Some h → o.state.due ≡ [] → st.due ≡ sent_all r.spoken units → Stream [] (bs ++ r.out) [] → r.link ≡ Asked q
-      → without_notifies f.coming ≡ [] → QuestionFits h.session q (of_version r.spoken r.version) → IsAnswered r.spoken units → Replies all r.spoken h q (base_of q r.table) units → OneReply all r.spoken h q units → Live all i home r (Some (record { state = st; held = [] })) bs down
-  answered o up bs h f q units st spoken eh eo due up_stream link rest fits is replies one =
+  answered : (o : Conn) (up bs : List ℕ) (h : Seen) (f : Flow all i h r (Some o) up down) (q : Question) (units : List Unit) (st : Connection) → st.version ≡ Some r.spoken → o.state.due ≡ [] → st.due ≡ sent_all r.spoken units → Stream [] (bs ++ r.out) [] → r.link ≡ Asked q
+      → without_notifies f.coming ≡ [] → QuestionFits h.session q (of_version r.spoken r.version) → IsAnswered r.spoken units → Replies all r.spoken (record h { read = Some i }) q (base_of q r.table) units → OneReply all r.spoken (record h { read = Some i }) q units → Live all i (Some (record h { read = Some i })) r (Some (record { state = st; held = [] })) bs down
+  answered o up bs h f q units st spoken eo due up_stream link rest fits is replies one =
       let op : Open i r.spoken h r.out up f.wanted f.coming r.agreed f.lost o = f.open_at in
       let whole : without_notifies (f.coming ++ units) ≡ units = without-append f.coming units ∙ ap (λ x. x ++ without_notifies units) rest ∙ plain_stays units is.plain in (
-        h,
-        eh,
+        record h { read = Some i },
+        refl,
         record {
           version = f.version;
           early = f.early;
@@ -126,16 +144,21 @@ module _ (all : List Instance) (i : Instance) (p : Present all i) (keep : ℕ) (
           notifies = notifies-append h.session f.coming units f.notifies (plain_notifies h.session units is.plain);
           own = f.own;
           mine = f.mine;
-          shape = subst (λ x. Shape all r.spoken h x r.agreed r.version r.table [] (without_notifies (f.coming ++ units))) (sym link) (fits, inr (refl, subst (λ x. Replies all r.spoken h q (base_of q r.table) x) (sym whole) replies, subst (λ x. OneReply all r.spoken h q x) (sym whole) one));
+          shape = subst (λ x. Shape all r.spoken (record h { read = Some i }) x r.agreed r.version r.table [] (without_notifies (f.coming ++ units))) (sym link) (fits, inr (refl, subst (λ x. Replies all r.spoken (record h { read = Some i }) q (base_of q r.table) x) (sym whole) replies, subst (λ x. OneReply all r.spoken (record h { read = Some i }) q x) (sym whole) one));
         },
       )
 
   -- it reads a byte
+  -- what lives behind a byte that is judged so
+  abbrev LiveBy : Taking → List ℕ → Bool → List ℕ → Judgement → Type 0
+  LiveBy m bs memory bytes j =
+      Live all i (seen_after i (moment_reads (conn_moment_of i memory r.spoken bytes j)) home) r (Some (with_moment keep timing bytes m.conn (conn_moment_of i memory r.spoken bytes j))) bs down
+
   byte_live : (m : Taking) (b : ℕ) (bs : List ℕ) (h : Seen) (f : Flow all i h r (Some m.conn) (b ∷ bs) down) → home ≡ Some h → m.conn.state.due ≡ [] → is_reading r.link ≡ true → TableAt all r.version r.table
-      → ByteCase r.spoken true m.conn.held b (bs ++ r.out) [] f.wanted → (memory : Bool) → Live all i home r (Some (with_moment keep timing (m.conn.held ++ b ∷ []) m.conn (conn_moment_of i memory r.spoken (m.conn.held ++ b ∷ []) (judge r.spoken false (m.conn.held ++ b ∷ []))))) bs down
+      → ByteCase r.spoken true m.conn.held b (bs ++ r.out) [] f.wanted → (memory : Bool) → LiveBy m bs memory (m.conn.held ++ b ∷ []) (judge r.spoken false (m.conn.held ++ b ∷ []))
   byte_live m b bs h f eh eo live table (partly e s) memory =
       let op : Open i r.spoken h r.out (b ∷ bs) f.wanted f.coming r.agreed f.lost m.conn = f.open_at in
-      subst (λ j. Live all i home r (Some (with_moment keep timing (m.conn.held ++ b ∷ []) m.conn (conn_moment_of i memory r.spoken (m.conn.held ++ b ∷ []) j))) bs down) (sym e) (
+      subst (λ j. LiveBy m bs memory (m.conn.held ++ b ∷ []) j) (sym e) (
         h,
         eh,
         record {
@@ -164,7 +187,7 @@ module _ (all : List Instance) (i : Instance) (p : Present all i) (keep : ℕ) (
       )
   byte_live m b bs h f eh eo live table (notified session serial rest none e s) memory = absurd (no_unit (SerialNotify session serial) rest (sym none))
   byte_live m b bs h f eh eo live table (wholly none u more is e fit s) memory =
-      subst (λ j. Live all i home r (Some (with_moment keep timing bytes m.conn (conn_moment_of i memory r.spoken bytes j))) bs down) (sym e) (by_memory (takes_memory r.spoken i u && not memory) refl)
+      subst (λ j. LiveBy m bs memory bytes j) (sym e) (by_memory (takes_memory r.spoken i u && not memory) refl)
     where
       bytes : List ℕ
       bytes = m.conn.held ++ b ∷ []
@@ -178,53 +201,52 @@ module _ (all : List Instance) (i : Instance) (p : Present all i) (keep : ℕ) (
       up_stream : Stream [] (bs ++ r.out) []
       up_stream = subst (λ x. Stream [] (bs ++ r.out) (in_version r.spoken x)) w.no_more s
 
-      by_memory : (t : Bool) → (takes_memory r.spoken i u && not memory) ≡ t → Live all i home r (Some (record { state = conn_after keep timing m.conn.state (if t then Wanting r.spoken i u bytes else Read r.spoken i u bytes); held = [] })) bs down
+      k : Seen
+      k = record h { read = Some i }
+
+      seen : (o : Conn) → Live all i (Some k) r (Some o) bs down → Live all i (reads_now i home) r (Some o) bs down
+      seen o l = subst (λ x. Live all i x r (Some o) bs down) (sym (ap (reads_now i) eh)) l
+
+      by_memory : (t : Bool) → (takes_memory r.spoken i u && not memory) ≡ t
+          → Live all i (seen_after i (is_read (if t then Wanting r.spoken i u bytes else Read r.spoken i u bytes)) home) r (Some (record { state = conn_after keep timing m.conn.state (if t then Wanting r.spoken i u bytes else Read r.spoken i u bytes); held = [] })) bs down
       by_memory true wants =
-          answered m.conn (b ∷ bs) bs h f w.q (report 1 [] ∷ []) (conn_after keep timing m.conn.state (Wanting r.spoken i u bytes)) refl eh eo refl up_stream w.asks w.none w.fits
+          seen (record { state = conn_after keep timing m.conn.state (Wanting r.spoken i u bytes); held = [] })
+          (answered m.conn (b ∷ bs) bs h f w.q (report 1 [] ∷ []) (conn_after keep timing m.conn.state (Wanting r.spoken i u bytes)) refl eo refl up_stream w.asks w.none w.fits
           (answered_report r.spoken 1 [] (omega arith) (all_bytes [] tt)) (no_memory refl)
-          (inr (record { cache = i; was = is_now all i p r.spoken h op.session op.made op.later; takes = subst (λ x. takes_memory r.spoken i x ≡ true) w.is (and_parts (takes_memory r.spoken i u) (not memory) wants).0 }, refl))
+          (inr (record { cache = i; was = is_now all i p r.spoken k op.session op.made op.later refl; takes = subst (λ x. takes_memory r.spoken i x ≡ true) w.is (and_parts (takes_memory r.spoken i u) (not memory) wants).0 }, refl)))
       by_memory false wants =
-          let a = answer_answers all i p r.spoken h op.session op.made keep w.q (of_version r.spoken r.version) r.table w.fits (held_at all r.spoken r.version r.table table) (from_now all i p r.spoken h op.session op.made w.q keep (keeps h eh) op.later) in
-          answered m.conn (b ∷ bs) bs h f w.q (answer r.spoken i keep timing (query w.q)).units (conn_after keep timing m.conn.state (Read r.spoken i u bytes)) refl eh eo (ap (λ x. sent_all r.spoken (answer r.spoken i keep timing x).units) w.is) up_stream w.asks w.none w.fits a.answered a.replies (inl a.from)
+          let a = answer_answers all i p r.spoken k op.session op.made keep w.q (of_version r.spoken r.version) r.table w.fits (held_at all r.spoken r.version r.table table) (from_now all i p r.spoken k op.session op.made w.q keep (keeps h eh) op.later refl) in
+          seen (record { state = conn_after keep timing m.conn.state (Read r.spoken i u bytes); held = [] })
+          (answered m.conn (b ∷ bs) bs h f w.q (answer r.spoken i keep timing (query w.q)).units (conn_after keep timing m.conn.state (Read r.spoken i u bytes)) refl eo (ap (λ x. sent_all r.spoken (answer r.spoken i keep timing x).units) w.is) up_stream w.asks w.none w.fits a.answered a.replies (inl a.from))
 
   abbrev GoodC : Conn → List ℕ → Type 0
   GoodC o up = GoodRouter all i home (Some o) up down r
 
-  byte_good : (m : Taking) (b : ℕ) (bs : List ℕ) → conn_stops m.conn ≡ false → GoodC m.conn (b ∷ bs) → GoodC (conn_byte keep timing i m b).conn bs
+  byte_good : (m : Taking) (b : ℕ) (bs : List ℕ) → conn_stops m.conn ≡ false → GoodC m.conn (b ∷ bs) → GoodRouter all i (seen_after i (moment_reads (brings i m b)) home) (Some (conn_byte keep timing i m b).conn) bs down r
   unfolding conn_byte
   byte_good m b bs goes_on g = record { table = g.table; unmarked = g.unmarked; link = by_link (is_reading r.link) refl }
     where
       due : m.conn.state.due ≡ []
       due = none_is m.conn.state.due (or_parts m.conn.state.ended (not (is_none m.conn.state.due)) goes_on).1
 
-      -- the connection behind the byte, which is judged by this version
-      behind : Version → Conn
-      behind v = with_moment keep timing (m.conn.held ++ b ∷ []) m.conn (conn_moment_of i (finds_memory m.wanting) v (m.conn.held ++ b ∷ []) (judge v false (m.conn.held ++ b ∷ [])))
+      -- the moment that the byte brings and the connection behind it, where it is judged by this version
+      came : Version → Option ConnMoment
+      came v = conn_moment_of i (finds_memory m.wanting) v (m.conn.held ++ b ∷ []) (judge v false (m.conn.held ++ b ∷ []))
 
-      by_link : (live : Bool) → is_reading r.link ≡ live → GoodLink all i home r.link r (Some (behind (version_at m.conn (b ∷ [])))) bs down
-      by_link false dead = dead_link r.link all i home r (Some m.conn) (Some (behind (version_at m.conn (b ∷ [])))) (b ∷ bs) bs down down dead g.link
+      behind : Version → Conn
+      behind v = with_moment keep timing (m.conn.held ++ b ∷ []) m.conn (came v)
+
+      by_link : (live : Bool) → is_reading r.link ≡ live → GoodLink all i (seen_after i (moment_reads (came (version_at m.conn (b ∷ [])))) home) r.link r (Some (behind (version_at m.conn (b ∷ [])))) bs down
+      by_link false dead =
+          dead_seen r.link all i home (seen_after i (moment_reads (came (version_at m.conn (b ∷ [])))) home) r (Some (behind (version_at m.conn (b ∷ [])))) bs down dead
+          (dead_link r.link all i home r (Some m.conn) (Some (behind (version_at m.conn (b ∷ [])))) (b ∷ bs) bs down down dead g.link)
       by_link true live =
           let l = live_of r.link all i home r (Some m.conn) (b ∷ bs) down g.link live in
           let op : Open i r.spoken l.0 r.out (b ∷ bs) l.2.wanted l.2.coming r.agreed l.2.lost m.conn = l.2.open_at in
           let version : version_at m.conn (b ∷ []) ≡ r.spoken = byte_version r.spoken m.conn.state.version m.conn.held b (bs ++ r.out) l.2.wanted op.spoken op.upward in
-          subst (λ v. GoodLink all i home r.link r (Some (behind v)) bs down) (sym version)
-          (live_link all i home (Some (behind r.spoken)) bs down r r.link refl live
+          subst (λ v. GoodLink all i (seen_after i (moment_reads (came v)) home) r.link r (Some (behind v)) bs down) (sym version)
+          (live_link all i (seen_after i (moment_reads (came r.spoken)) home) (Some (behind r.spoken)) bs down r r.link refl live
           (byte_live m b bs l.0 l.2 l.1 due live g.table (byte_case r.spoken true m.conn.held b (bs ++ r.out) [] l.2.wanted (refl, λ e. refl) op.upward) (finds_memory m.wanting)))
-
-  abbrev by_stop : Taking → ℕ → List ℕ → Bool → FedPiece Taking
-  by_stop m b piece s = elim s [ true ↦ record { machine = m; rest = b ∷ piece } | false ↦ feed (λ (x : Taking). conn_stops x.conn) (conn_byte keep timing i) (conn_byte keep timing i m b) piece ]
-
-  fed_by : (tail : List ℕ) (m : Taking) (b : ℕ) (piece : List ℕ) (s : Bool) → conn_stops m.conn ≡ s → GoodC m.conn (b ∷ (piece ++ tail))
-      → (GoodC (conn_byte keep timing i m b).conn (piece ++ tail) → GoodC (feed (λ (x : Taking). conn_stops x.conn) (conn_byte keep timing i) (conn_byte keep timing i m b) piece).machine.conn ((feed (λ (x : Taking). conn_stops x.conn) (conn_byte keep timing i) (conn_byte keep timing i m b) piece).rest ++ tail))
-      → GoodC (by_stop m b piece s).machine.conn ((by_stop m b piece s).rest ++ tail)
-  fed_by tail m b piece true is g on = g
-  fed_by tail m b piece false is g on = on (byte_good m b (piece ++ tail) is g)
-
-  -- it is handed a piece
-  pub fed_good : (tail : List ℕ) (m : Taking) (piece : List ℕ) → GoodC m.conn (piece ++ tail)
-      → GoodC (feed (λ (x : Taking). conn_stops x.conn) (conn_byte keep timing i) m piece).machine.conn ((feed (λ (x : Taking). conn_stops x.conn) (conn_byte keep timing i) m piece).rest ++ tail)
-  fed_good tail m [] g = g
-  fed_good tail m (b ∷ piece) g = fed_by tail m b piece (conn_stops m.conn) refl g (fed_good tail (conn_byte keep timing i m b) piece)
 
   -- What is due then is what was, or the answer to the question as the cache is now.
   abbrev pub DueNow : List ℕ → Option ℕ → Conn → Type 0
@@ -281,11 +303,6 @@ module _ (all : List Instance) (i : Instance) (p : Present all i) (keep : ℕ) (
           by_memory true wants =
               let parts = and_parts (takes_memory r.spoken i u) (not memory) wants in inr (some_wants wanting m.wanting same parts.1, subst (λ x. takes_memory r.spoken i x ≡ true) w.is parts.0, refl)
           by_memory false wants = inl (ap (λ x. sent_all r.spoken (answer r.spoken i keep timing x).units) w.is)
-
-  pub fed_now : (old tail : List ℕ) (m : Taking) (piece : List ℕ) (wanting : Option ℕ) → is_reading r.link ≡ true → (wanting ≡ None → m.wanting ≡ None) → GoodC m.conn (piece ++ tail) → DueNow old wanting m.conn → DueNow old wanting (feed (λ (x : Taking). conn_stops x.conn) (conn_byte keep timing i) m piece).machine.conn
-  fed_now old tail m piece wanting live same g now =
-      (feed_keeps (λ (x : Taking). conn_stops x.conn) (conn_byte keep timing i) (λ rest x. (wanting ≡ None → x.wanting ≡ None) × GoodC x.conn (rest ++ tail) × DueNow old wanting x.conn)
-      (λ b rest x on k. (byte_counts wanting x b k.0, byte_good x b (rest ++ tail) on k.1, byte_now old wanting x b (rest ++ tail) on live k.0 k.1 k.2)) m piece (same, g, now)).2
 
   -- a notify
   notice_fit : (pv : Version) (sets : List VrpSet) → AllByRecursion (IsUnitOf pv) (notice (session_in pv i) (versions_from i.start sets))
@@ -400,3 +417,51 @@ module _ (all : List Instance) (i : Instance) (p : Present all i) (keep : ℕ) (
           let parts = and_parts (is_published i) (not (conn_stops o)) e in
           let stops = or_parts o.state.ended (not (is_none o.state.due)) (not_true (conn_stops o) parts.1) in
           record { table = g.table; unmarked = g.unmarked; link = by_link (is_reading r.link) refl (none_is o.state.due stops.1) }
+
+-- what was seen behind these moments
+read_once : (i : Instance) (home : Option Seen) → reads_now i (reads_now i home) ≡ reads_now i home
+read_once i None = refl
+read_once i (Some h) = refl
+
+seen_more : (i : Instance) (home : Option Seen) (moments : List ConnMoment) (came : Option ConnMoment) → seen_after i (moment_reads came) (seen_after i (list_any is_read moments) home) ≡ seen_after i (list_any is_read (and_moment moments came)) home
+seen_more i home moments None = refl
+seen_more i home moments (Some m) = by_reads (list_any is_read moments) (is_read m) ∙ ap (λ b. seen_after i b home) (sym (list_any-append is_read moments (m ∷ [])))
+  where
+    by_reads : (a b : Bool) → seen_after i b (seen_after i a home) ≡ seen_after i (a || (b || false)) home
+    by_reads true true = read_once i home
+    by_reads true false = refl
+    by_reads false true = refl
+    by_reads false false = refl
+
+module _ (all : List Instance) (i : Instance) (p : Present all i) (keep : ℕ) (home : Option Seen) (keeps : (h : Seen) → home ≡ Some h → h.keep ≡ keep) (r : Router) (down : List ℕ) where
+  abbrev pub seen_by : Taking → Option Seen
+  seen_by m = seen_after i (list_any is_read m.moments) home
+
+  keeps_now : (o : Option Seen) → home ≡ o → (h : Seen) → reads_now i o ≡ Some h → h.keep ≡ keep
+  keeps_now None e h is = absurd (let k : ◌≡◌ {A = Option Seen} None (Some h) = is in cc)
+  keeps_now (Some x) e h is = let same : record x { read = Some i } ≡ h = cc in ap (λ (y : Seen). y.keep) (sym same) ∙ keeps x e
+
+  keeps_by : (read : Bool) (h : Seen) → seen_after i read home ≡ Some h → h.keep ≡ keep
+  keeps_by true h e = keeps_now home refl h e
+  keeps_by false h e = keeps h e
+
+  abbrev GoodAt : Taking → List ℕ → Type 0
+  GoodAt m up = GoodRouter all i (seen_by m) (Some m.conn) up down r
+
+  goes_good : (m : Taking) (b : ℕ) (bs : List ℕ) → conn_stops m.conn ≡ false → GoodAt m (b ∷ bs) → GoodAt (conn_byte keep timing i m b) bs
+  unfolding conn_byte
+  goes_good m b bs goes_on g =
+      subst (λ x. GoodRouter all i x (Some (conn_byte keep timing i m b).conn) bs down r) (seen_more i home m.moments (brings i m b)) (byte_good all i p keep (seen_by m) (keeps_by (list_any is_read m.moments)) r down m b bs goes_on g)
+
+  -- it is handed a piece
+  pub fed_good : (tail : List ℕ) (m : Taking) (piece : List ℕ) → GoodAt m (piece ++ tail)
+      → GoodAt (feed (λ (x : Taking). conn_stops x.conn) (conn_byte keep timing i) m piece).machine ((feed (λ (x : Taking). conn_stops x.conn) (conn_byte keep timing i) m piece).rest ++ tail)
+  fed_good tail m piece g = feed_keeps (λ (x : Taking). conn_stops x.conn) (conn_byte keep timing i) (λ rest x. GoodAt x (rest ++ tail)) (λ b rest x on h. goes_good x b (rest ++ tail) on h) m piece g
+
+  abbrev DueBy : List ℕ → Option ℕ → Conn → Type 0
+  DueBy old wanting o = (o.state.due ≡ old) ⊎ IsOfNow r.spoken i keep wanting r.link o.state.due
+
+  pub fed_now : (old tail : List ℕ) (m : Taking) (piece : List ℕ) (wanting : Option ℕ) → is_reading r.link ≡ true → (wanting ≡ None → m.wanting ≡ None) → GoodAt m (piece ++ tail) → DueBy old wanting m.conn → DueBy old wanting (feed (λ (x : Taking). conn_stops x.conn) (conn_byte keep timing i) m piece).machine.conn
+  fed_now old tail m piece wanting live same g now =
+      (feed_keeps (λ (x : Taking). conn_stops x.conn) (conn_byte keep timing i) (λ rest x. (wanting ≡ None → x.wanting ≡ None) × GoodAt x (rest ++ tail) × DueBy old wanting x.conn)
+      (λ b rest x on k. (byte_counts all i p keep home keeps r down wanting x b k.0, goes_good x b (rest ++ tail) on k.1, byte_now all i p keep (seen_by x) (keeps_by (list_any is_read x.moments)) r down old wanting x b (rest ++ tail) on live k.0 k.1 k.2)) m piece (same, g, now)).2

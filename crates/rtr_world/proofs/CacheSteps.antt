@@ -134,16 +134,17 @@ module _ (all : List Instance) (i : Instance) (p : Present all i) (pv : Version)
   since x older e = let k : length i.sets ≡ suc (length older) = ap length e in omega (arith, k, made)
 
   -- as the cache is now
-  pub is_now : IsLater home.made i → WasCache all home i
-  is_now later = record {
+  pub is_now : IsLater home.made i → home.read ≡ Some i → WasCache all home i
+  is_now later read = record {
     since = later;
     latest = i;
     found = subst (λ s. find_session V1 s all ≡ Some i) (sym later.session) (p.found V1);
     until = record { session = refl; session0 = refl; start = refl; more = []; sets = refl };
+    read = read;
   }
 
-  pub from_now : (q : Question) (keep : ℕ) → home.keep ≡ keep → IsLater home.made i → FromCache all pv home q (answer pv i keep timing (query q)).units
-  from_now q keep kept later = record { cache = i; was = is_now later; are = ap (λ k. (answer pv i k timing (query q)).units) (sym kept) }
+  pub from_now : (q : Question) (keep : ℕ) → home.keep ≡ keep → IsLater home.made i → home.read ≡ Some i → FromCache all pv home q (answer pv i keep timing (query q)).units
+  from_now q keep kept later read = record { cache = i; was = is_now later read; are = ap (λ k. (answer pv i k timing (query q)).units) (sym kept) }
 
   -- a response with these records
   abbrev tail_of : List Unit → ℕ → ℕ → List Unit

@@ -48,12 +48,12 @@ module _ (w : World) (p : Present (instances w) w.present) where
       by_end (closes is why) = inl (subst (RestsSo n) (sym is) tt)
       by_end (asks_all serial b) = inr (b.link, rests_next h n b)
 
-  -- a connection that is just made
+  -- a connection that is just made, as it is seen where the cache reads on it
   abbrev closed_of : Side → Router
   closed_of s = close (clocked s.router.now s.router)
 
   abbrev seen_new : Side → Seen
-  seen_new s = seen_at w.keep (closed_of s).speaks w.present
+  seen_new s = record (seen_at w.keep (closed_of s).speaks w.present) { read = Some w.present }
 
   asks_new : (s : Side) (q : Question) → choose (of_version (closed_of s).speaks (closed_of s).version) (closed_of s).mark ≡ q → (closed_of s).held ≡ []
       → QuestionFits (session_in (closed_of s).speaks w.present) q (of_version (closed_of s).speaks (closed_of s).version) → TableAt (instances w) (closed_of s).version (closed_of s).table
@@ -66,6 +66,7 @@ module _ (w : World) (p : Present (instances w) w.present) where
           session = refl;
           made = omega arith;
           later = record { session = refl; session0 = refl; start = refl; more = []; sets = refl };
+          read = refl;
           keeps = refl;
           fits = fits;
           table_at = table;

@@ -25,6 +25,7 @@ module _ (w : World) (p : Present (instances w) w.present) (h : Seen) where
     pub session : h.session ≡ session_in pv w.present
     pub made : length h.sets ≤ length w.present.sets
     pub later : IsLater h.made w.present
+    pub read : h.read ≡ Some w.present
     pub keeps : h.keep ≡ w.keep
     pub fits : QuestionFits h.session q (of_version pv version)
     pub table_at : TableAt (instances w) version table

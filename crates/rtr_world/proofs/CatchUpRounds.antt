@@ -82,7 +82,7 @@ module _ (w : World) (p : Present (instances w) w.present) (h : Seen) where
     is_reply : (pv : Version) (q : Question) (version : Option Committed) (table : VrpSet) (unit : IsUnitOf pv (query q)) (ended : Bool) (units : List Unit) → Knows w p h pv q version table → IsDue w.keep w.present pv (query q) unit at_cache ended units
         → Reply pv q table units × Shows (ended ≡ false) units
     is_reply pv q version table unit ended units k (inl e) =
-        let a = answer_answers (instances w) w.present p pv h k.session k.made w.keep q (of_version pv version) table k.fits (held_at (instances w) pv version table k.table_at) (from_now (instances w) w.present p pv h k.session k.made q w.keep k.keeps k.later) in (
+        let a = answer_answers (instances w) w.present p pv h k.session k.made w.keep q (of_version pv version) table k.fits (held_at (instances w) pv version table k.table_at) (from_now (instances w) w.present p pv h k.session k.made q w.keep k.keeps k.later k.read) in (
           record {
             replies = subst (λ x. Replies (instances w) pv h q (base_of q table) x) (sym e.0) a.replies;
             fit = subst (AllByRecursion (IsUnitOf pv)) (sym e.0) a.answered.fit;
@@ -187,7 +187,7 @@ module _ (w : World) (p : Present (instances w) w.present) (h : Seen) where
       asks_all : is_serial (Some q) ≡ true → Asks w p h AskReset s → Ends q s
 
     knows_again : (pv pv' : Version) (q : Question) (version version' : Option Committed) (table table' : VrpSet) → Mine h.session (of_version pv' version') → TableAt (instances w) version' table' → pv' ≡ pv → Knows w p h pv q version table → Knows w p h pv' AskReset version' table'
-    knows_again pv pv' q version version' table table' mine t same k = record { session = k.session ∙ ap (λ v. session_in v w.present) (sym same); made = k.made; later = k.later; keeps = k.keeps; fits = mine; table_at = t }
+    knows_again pv pv' q version version' table table' mine t same k = record { session = k.session ∙ ap (λ v. session_in v w.present) (sym same); made = k.made; later = k.later; read = k.read; keeps = k.keeps; fits = mine; table_at = t }
 
     has_memory : (wanting : Option ℕ) → at_router ≡ wanting → (wanting ≡ None) ⊎ Lacking
     has_memory None e = inl refl

@@ -110,7 +110,7 @@ module _ (all : List Instance) (P : Side → Type 0) (blind : Blind P) (told : (
 -- it is closed,
 pub settle_closes : (all : List Instance) (s : Side) (end : End) → s.router.link ≡ Ended end → s.router.out ≡ [] → (settle all s).router.link ≡ Closed
 settle_closes all s end is none =
-    is_closed_link (settle all s).router.link (settle_ended all (λ x. is_closed x.router.link ≡ true) (λ x conn up down k. k) (λ x k. told_closes all x) s end is none (λ a e. told_closes all a))
+    is_closed_link (settle all s).router.link (settle_ended all (λ x. is_closed x.router.link ≡ true) (λ x conn up down read k. k) (λ x k. told_closes all x) s end is none (λ a e. told_closes all a))
 
 -- and if it was emptied, it stays so.
 pub record Emptied (r : Router) : Type 0 where
@@ -143,15 +143,15 @@ close_empty end r e =
 told_ended : (all : List Instance) (end : End) (s : Side) → EndedEmpty end s.router → Emptied (tell_closed all s).router
 unfolding closed_at
 told_ended all end s e =
-    subst (λ b. Emptied (if b then record s { home = None } else record (noted all (closed_at s.router.now s.router) s) { home = None }).router) (sym (ap is_closed e.link))
+    subst (λ b. Emptied (if b then record s { home = None; read_at = None } else record (noted all (closed_at s.router.now s.router) s) { home = None; read_at = None }).router) (sym (ap is_closed e.link))
     (close_empty end (clocked s.router.now s.router) (clocked_ended end s.router.now s.router e))
 
 told_emptied : (all : List Instance) (s : Side) → Emptied s.router → Emptied (tell_closed all s).router
-told_emptied all s e = subst (λ b. Emptied (if b then record s { home = None } else record (noted all (closed_at s.router.now s.router) s) { home = None }).router) (sym e.closed) e
+told_emptied all s e = subst (λ b. Emptied (if b then record s { home = None; read_at = None } else record (noted all (closed_at s.router.now s.router) s) { home = None; read_at = None }).router) (sym e.closed) e
 
 pub settle_empties : (all : List Instance) (s : Side) (end : End) → s.router.link ≡ Ended end → s.router.out ≡ [] → s.router.version ≡ None → s.router.table ≡ empty → Emptied (settle all s).router
 settle_empties all s end is none version table =
-    settle_ended all (λ x. Emptied x.router) (λ x conn up down k. k) (told_emptied all) s end is none
+    settle_ended all (λ x. Emptied x.router) (λ x conn up down read k. k) (told_emptied all) s end is none
     (λ a e. told_ended all end a (subst (λ r. EndedEmpty end r) (sym e) (record { link = is; version = version; table = table })))
 
 -- A router whose table has expired holds no session,

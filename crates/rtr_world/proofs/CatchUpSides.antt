@@ -71,7 +71,7 @@ told_fresh : (i : Instance) (all : List Instance) (s : Side) → Fresh i s → F
 told_fresh i all s h = let k : Side = tell_closed all s in dead_fresh i k.home k.router (closed_reads k.router.link (told_closes all s))
 
 pub settle_fresh : (i : Instance) (all : List Instance) (s : Side) → Fresh i s → Fresh i (settle all s)
-settle_fresh i all s h = settle_keeps (λ x. Fresh i x) (λ x conn up down k. k) all (told_fresh i all) s h
+settle_fresh i all s h = settle_keeps (λ x. Fresh i x) (λ x conn up down read k. k) all (told_fresh i all) s h
 
 -- the clock: no later moment is told
 same_moment : (now : ℕ) → later now now ≡ now
@@ -251,11 +251,11 @@ module _ (w : World) (p : Present (instances w) w.present) where
 
   cache_gets_fresh : (most : ℕ) (wanting : Option ℕ) (s : Side) → FreshS s → FreshS (cache_gets w most wanting s)
   unfolding cache_gets
-  cache_gets_fresh most wanting s h = gets_keep FreshS (λ x conn up down k. k) w most wanting s s.conn h
+  cache_gets_fresh most wanting s h = gets_keep FreshS (λ x conn up down read k. k) w most wanting s s.conn h
 
   cache_sends_fresh : (most : ℕ) (s : Side) → FreshS s → FreshS (cache_sends w most s)
   unfolding cache_sends
-  cache_sends_fresh most s h = sends_keep FreshS (λ x conn up down k. k) w.keep most s s.conn h
+  cache_sends_fresh most s h = sends_keep FreshS (λ x conn up down read k. k) w.keep most s s.conn h
 
   pub step_fresh : (event : SideEvent) (wanting : Option ℕ) (s : Side) → IsMove event → GoodS s → FreshS s → FreshS (side_step w event wanting s)
   unfolding side_step

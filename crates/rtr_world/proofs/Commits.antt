@@ -29,7 +29,7 @@ use Rattle.rtr_world.proofs.SideSteps.{live_of, byte_good}
 use Rattle.rtr_world.proofs.UnitStreams.{ByteCase, partly, notified, wholly, byte_case, early_open}
 use Rattle.rtr_world.proofs.UnitCases.{Brings, goes_on, ends_other, ends_memory, commits, early_brings, unit_brings, is_end}
 use Rattle.rtr_world.proofs.Versions.{Stands, find_session, same_instance, some_is}
-use Rattle.rtr_world.proofs.LinkedSides.{Seen, IsSeen}
+use Rattle.rtr_world.proofs.LinkedSides.{Seen, IsReadAt, IsSeen}
 use Rattle.prefixes.proofs.Basics.{eq_self, true_of_not}
 
 -- the places of items that come after others
@@ -99,7 +99,7 @@ seen_more : (keep : ℕ) (home : Option Instance) (h : Seen) (set : VrpSet) (old
 seen_more keep None h set older since s = s
 seen_more keep (Some home) h set older since s = let k = s.3 in (s.0, s.1, s.2, omega (arith, k, since))
 
-module _ (keep : ℕ) (past : List Instance) (i : Instance) (home : Option Instance) (conn : Option Conn) (up : List ℕ) where
+module _ (keep : ℕ) (past : List Instance) (i : Instance) (home read : Option Instance) (conn : Option Conn) (up : List ℕ) where
   abbrev all : List Instance
   all = i ∷ past
 
@@ -181,22 +181,25 @@ module _ (keep : ℕ) (past : List Instance) (i : Instance) (home : Option Insta
     pub good : GoodRouter (i ∷ past) i seen conn up down m.router
     pub tells : Tells m.router (m.items ++ items)
     pub is_seen : IsSeen keep home seen
+    pub is_read : IsReadAt read seen
     pub order : Ordered past i (places_of (i ∷ past) m.items items ++ places) seen
 
   adds_goes : (items : List Item) (places : List (Option VersionPlace)) (down : List ℕ) (m : Receiving) (n : Noted) (wanting : Option ℕ) (seen : Option Seen) (h : Seen) → seen ≡ Some h → Adds past i h n (m.items ++ items) → GoodRouter (i ∷ past) i seen conn up down n.router
-      → Tells n.router ((n.items ++ m.items) ++ items) → IsSeen keep home seen → Ordered past i (places_of (i ∷ past) m.items items ++ places) seen → Goes items places down (record { router = n.router; items = n.items ++ m.items; wanting = wanting })
-  adds_goes items places down m n wanting seen h e (nothing none) g t s o = record {
+      → Tells n.router ((n.items ++ m.items) ++ items) → IsSeen keep home seen → IsReadAt read seen → Ordered past i (places_of (i ∷ past) m.items items ++ places) seen → Goes items places down (record { router = n.router; items = n.items ++ m.items; wanting = wanting })
+  adds_goes items places down m n wanting seen h e (nothing none) g t s d o = record {
     seen = seen;
     good = g;
     tells = t;
     is_seen = s;
+    is_read = d;
     order = subst (λ x. Ordered past i (x ++ places) seen) (sym (places-append (i ∷ past) n.items m.items items ∙ ap (λ x. x ++ places_of (i ∷ past) m.items items) none)) o;
   }
-  adds_goes items places down m n wanting seen h e (one version table stands f is of own since more) g t s o = record {
+  adds_goes items places down m n wanting seen h e (one version table stands f is of own since more) g t s d o = record {
     seen = Some (record h { sets = table ∷ stands.older });
     good = raised down n.router h version.version version.session version.serial table stands of own is (subst (λ x. GoodRouter (i ∷ past) i x conn up down n.router) e g);
     tells = t;
     is_seen = seen_more keep home h table stands.older since (subst (λ x. IsSeen keep home x) e s);
+    is_read = subst (λ x. IsReadAt read x) e d;
     order = subst (λ x. Ordered past i (x ++ places) (Some (record h { sets = table ∷ stands.older })))
         (sym (places-append (i ∷ past) n.items m.items items ∙ ap (λ x. x ++ places_of (i ∷ past) m.items items) more))
         (ordered_more past i h (places_of (i ∷ past) m.items items ++ places) version.version version.session version.serial table stands f of own since (subst (λ x. Ordered past i (places_of (i ∷ past) m.items items ++ places) x) e o));
@@ -211,7 +214,7 @@ module _ (keep : ℕ) (past : List Instance) (i : Instance) (home : Option Insta
       adds_goes items places (rest ++ tail) m n (router_byte m b).wanting g.seen l.0 l.1
       (byte_read g.seen (rest ++ tail) m.router b (finds_memory m.wanting) (m.items ++ items) l.0 l.2 parts.0 (none_is m.router.out parts.1) g.tells
       (byte_case m.router.spoken m.router.agreed m.router.held b ((rest ++ tail) ++ (conn_due conn ++ l.2.lost)) l.2.early l.2.coming l.2.are_early l.2.downward))
-      (byte_good (i ∷ past) i g.seen conn up (rest ++ tail) m b on g.good) (byte_tells m b items on g.tells) g.is_seen g.order
+      (byte_good (i ∷ past) i g.seen conn up (rest ++ tail) m b on g.good) (byte_tells m b items on g.tells) g.is_seen g.is_read g.order
 
   -- it is handed a piece
   pub goes_fed : (items : List Item) (places : List (Option VersionPlace)) (tail : List ℕ) (m : Receiving) (piece : List ℕ) → Goes items places (piece ++ tail) m

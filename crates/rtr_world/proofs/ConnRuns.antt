@@ -164,7 +164,7 @@ module _ (keep : ℕ) (present : Instance) (all : List Instance) where
   told_runs : (s : Side) → SideRuns keep present s → SideRuns keep present (tell_closed all s)
   told_runs s h = by_link (is_closed s.router.link)
     where
-      by_link : (b : Bool) → SideRuns keep present (if b then record s { home = None } else record (noted all (closed_at s.router.now s.router) s) { home = None })
+      by_link : (b : Bool) → SideRuns keep present (if b then record s { home = None; read_at = None } else record (noted all (closed_at s.router.now s.router) s) { home = None; read_at = None })
       by_link true = unknown s.home s.up s.conn h
       by_link false = unknown s.home s.up s.conn h
 

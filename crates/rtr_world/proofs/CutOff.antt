@@ -20,7 +20,7 @@ module _ (all : List Instance) where
   told_silent : (s : Side) → Silent s → Silent (tell_closed all s)
   told_silent s h = by_link (is_closed s.router.link)
     where
-      by_link : (b : Bool) → Silent (if b then record s { home = None } else record (noted all (closed_at s.router.now s.router) s) { home = None })
+      by_link : (b : Bool) → Silent (if b then record s { home = None; read_at = None } else record (noted all (closed_at s.router.now s.router) s) { home = None; read_at = None })
       by_link true = record { conn = h.conn; down = h.down }
       by_link false = record { conn = h.conn; down = h.down }
 

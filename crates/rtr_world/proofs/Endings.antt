@@ -224,7 +224,7 @@ gets_lawful w most wanting s g t h =
     record { endings = n.endings }
 
 blind_lawful : Blind SideLawful
-blind_lawful s conn up down h = record { endings = h.endings }
+blind_lawful s conn up down read h = record { endings = h.endings }
 
 pub step_lawful : (w : World) (event : SideEvent) (wanting : Option ℕ) (s : Side) → Good w.keep w.past w.present s → SideTells s → SideLawful s → SideLawful (side_step w event wanting s)
 unfolding side_step speaks connects connects_at router_restarts router_sends cache_sends cache_gets cut ticks_at asks
@@ -269,7 +269,7 @@ module _ (all : List Instance) where
   unfolding closed_at
   told_lawful s h = by_link (is_closed s.router.link)
     where
-      by_link : (b : Bool) → SideLawful (if b then record s { home = None } else record (noted all (closed_at s.router.now s.router) s) { home = None })
+      by_link : (b : Bool) → SideLawful (if b then record s { home = None; read_at = None } else record (noted all (closed_at s.router.now s.router) s) { home = None; read_at = None })
       by_link true = record { endings = h.endings }
       by_link false =
           let n = noted_lawful all (closed_at s.router.now s.router) s (λ on. lawful_on (close (clocked s.router.now s.router)).link ((closed_at s.router.now s.router).items ++ s.items) s.home (closed_so (clocked s.router.now s.router))) h in

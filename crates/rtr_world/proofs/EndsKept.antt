@@ -39,19 +39,19 @@ told_endings all s = by_link (is_closed s.router.link)
     none : ending_of (is_ended s.router.link) (close (clocked s.router.now s.router)).link s.home ((closed_at s.router.now s.router).items ++ s.items) ++ s.endings ≡ s.endings
     none = ap (λ x. x ++ s.endings) (no_ending (is_ended s.router.link) (close (clocked s.router.now s.router)).link s.home ((closed_at s.router.now s.router).items ++ s.items) (closed_so (clocked s.router.now s.router)))
 
-    by_link : (b : Bool) → (if b then record s { home = None } else record (noted all (closed_at s.router.now s.router) s) { home = None }).endings ≡ s.endings
+    by_link : (b : Bool) → (if b then record s { home = None; read_at = None } else record (noted all (closed_at s.router.now s.router) s) { home = None; read_at = None }).endings ≡ s.endings
     by_link true = refl
     by_link false = none
 
 pub settled_endings : (all : List Instance) (s : Side) → (settle all s).endings ≡ s.endings
-settled_endings all s = settle_keeps (λ (x : Side). x.endings ≡ s.endings) (λ x conn up down h. h) all (λ x h. told_endings all x ∙ h) s refl
+settled_endings all s = settle_keeps (λ (x : Side). x.endings ≡ s.endings) (λ x conn up down read h. h) all (λ x h. told_endings all x ∙ h) s refl
 
 module _ (old : List Ending) where
   abbrev After : Side → Type 0
   After s = OneMore old s.endings
 
   blind_after : Blind After
-  blind_after s conn up down h = h
+  blind_after s conn up down read h = h
 
   settle_after : (all : List Instance) (s : Side) → After s → After (settle all s)
   settle_after all s h = subst (OneMore old) (sym (settled_endings all s)) h

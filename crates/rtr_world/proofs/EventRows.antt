@@ -47,7 +47,7 @@ abbrev opened : List Item
 opened = Asks AskReset ∷ Opened V1 ∷ At 0 ∷ []
 
 abbrev open_side : Router → Conn → List ℕ → List ℕ → List Item → Side
-open_side r o up down items = record { router = r; conn = Some o; up = up; down = down; home = Some with_v; items = items; endings = []; places = [] }
+open_side r o up down items = record { router = r; conn = Some o; up = up; down = down; home = Some with_v; read_at = None; items = items; endings = []; places = [] }
 
 second_connects : after (On 1 Connect) (Done None) (world (new_side ∷ new_side ∷ []))
     ≡ world (new_side ∷ open_side (record asking { out = reset_bytes }) (new_conn with_v) [] [] opened ∷ [])
@@ -170,7 +170,7 @@ unfolding goes_through settled settle side_step cache_sends conn_pulled
 sends_to_closed = refl
 
 -- A router restarts: nothing is left of its connection.
-restarts_router : after (On 0 RouterRestart) (Done None) (world (open_side (record asking { now = 9 }) notified (take 3 reset_bytes) (7 ∷ []) opened ∷ []))
+restarts_router : after (On 0 RouterRestart) (Done None) (world (record (open_side (record asking { now = 9 }) notified (take 3 reset_bytes) (7 ∷ []) opened) { read_at = Some with_v } ∷ []))
     ≡ world (closed_side new_router (Restarts ∷ opened) ∷ [])
 unfolding goes_through settled settle side_step router_restarts
 restarts_router = refl
@@ -190,7 +190,7 @@ unfolding goes_through settled settle side_step speaks
 speaks_later = refl
 
 -- Refused for want of memory: what came before has moved, the connection is cut with nothing to arrive, and the router is told.
-cut_by_want : after (On 0 (CacheGets 8)) (Memory 3 None) (world (open_side (record asking { out = 9 ∷ [] }) (new_conn with_v) reset_bytes (7 ∷ []) opened ∷ []))
+cut_by_want : after (On 0 (CacheGets 8)) (Memory 3 None) (world (record (open_side (record asking { out = 9 ∷ [] }) (new_conn with_v) reset_bytes (7 ∷ []) opened) { read_at = Some with_v } ∷ []))
     ≡ world (closed_side (record new_router { due = Some 600 }) (Shut ∷ At 0 ∷ Refused ∷ opened) ∷ [])
 unfolding is_refused settled settle side_refused cut cache_gets conn_takes conn_byte judge as_read closed_at clocked
 cut_by_want = refl
@@ -253,9 +253,21 @@ notifies_of_now : after (On 0 NotifyRouter) (Done None) (later_world (new_conn a
 unfolding goes_through settled settle side_step conn_notified
 notifies_of_now = refl
 
-answers_as_now : after (On 0 (CacheGets 8)) (Done None) (later_world (new_conn at_first) reset_bytes) ≡ later_world (told_now (Some V1) (response_bytes ++ v_bytes ++ end_bytes 6) false) []
+abbrev read_now : Conn → World
+read_now o = record { keep = 2; past = []; present = now_v; sides = record (open_side asking o [] [] opened) { home = Some at_first; read_at = Some now_v } ∷ [] }
+
+answers_as_now : after (On 0 (CacheGets 8)) (Done None) (later_world (new_conn at_first) reset_bytes) ≡ read_now (told_now (Some V1) (response_bytes ++ v_bytes ++ end_bytes 6) false)
 unfolding goes_through settled settle side_step cache_gets conn_takes conn_byte judge as_read
-answers_as_now = ap (λ vs. later_world (told_now (Some V1) (sent_all V1 (with_all_of 6 just_v vs)) false) []) (listing-set_of (v ∷ []) v_ascends)
+answers_as_now = ap (λ vs. read_now (told_now (Some V1) (sent_all V1 (with_all_of 6 just_v vs)) false)) (listing-set_of (v ∷ []) v_ascends)
+
+-- Where a unit has not come whole none was read; and on a new connection none was.
+reads_no_part : after (On 0 (CacheGets 7)) (Done None) (later_world (new_conn at_first) reset_bytes) ≡ later_world (record (new_conn at_first) { held = take 7 reset_bytes }) (drop 7 reset_bytes)
+unfolding goes_through settled settle side_step cache_gets conn_takes conn_byte judge as_read
+reads_no_part = refl
+
+connects_unread : (connects (world []) (record new_side { read_at = Some with_v })).read_at ≡ None
+unfolding connects
+connects_unread = refl
 
 -- Too many versions are counted from the one that a router committed under this session, and from the one that was current when its
 -- connection was made, or the first; an instance that ended does not count, nor is a set refused that is current already.

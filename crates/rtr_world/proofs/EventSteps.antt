@@ -2,12 +2,14 @@
 use Rattle.std.specs.Prelude.{◌≡◌, ◌⊎◌, ℕ, Bool, true, false, List, [], ◌∷◌, ◌++◌, take, drop, Option, Some, None, if◌then◌else◌, refl}
 use Rattle.std.proofs.Common.{sym, ap, ◌∙◌, subst, arith, append_assoc, inl}
 use Rattle.std.proofs.lemmas.List.{append-nil, take-append-drop, take_min}
+use Rattle.std.specs.List.{list_any}
 use Rattle.vrps.specs.Instance.{Instance}
 use Rattle.rtr_pdu.specs.declared.unit.Unit.{Unit}
 use Rattle.rtr_pdu.specs.declared.version.Version.{Version}
 use Rattle.rtr_ends.specs.Answer.{sent, session_in}
-use Rattle.rtr_ends.specs.Cache.{Conn, new_conn, conn_pulled, conn_takes, pulled_count}
+use Rattle.rtr_ends.specs.Cache.{Conn, Taking, new_conn, conn_byte, conn_pulled, conn_stops, conn_takes, pulled_count}
 use Rattle.rtr_ends.specs.Connection.{Sent, in_version}
+use Rattle.rtr_ends.specs.Feeding.{FedPiece, feed}
 use Rattle.rtr_ends.specs.LinkRules.{Router, ask}
 use Rattle.rtr_ends.specs.Router.{close, clocked, asks_if, connects_at, closed_at, ticks_at, asks, receives, router_pulled}
 use Rattle.rtr_ends.specs.RouterLink.{Link, Closed, Idle, Asked, Answering, Ended, is_closed, is_reading, is_due, is_idle}
@@ -16,11 +18,11 @@ use Rattle.rtr_ends.proofs.KeptLaws.{clocked_tells}
 use Rattle.rtr_world.specs.OneAnswer.{IsOfNow}
 use Rattle.rtr_world.specs.VersionPlaces.{VersionPlace}
 use Rattle.rtr_world.specs.History.{conn_due}
-use Rattle.rtr_world.specs.World.{Side, World, instances, timing, SideEvent, RouterRestart, Speak, Connect, RouterSends, CacheGets, CacheSends, RouterGets, Cut, NotifyRouter, Ask, Tick, noted, places_of, connects, router_restarts, speaks, router_sends, sends_from, cache_sends, gets_at, cache_gets, router_gets, cut, notifies_at, side_step, side_part, side_refused, tell_closed, close_ended, settle_conn, settle_link, settle_rest, settle_wire, settle}
+use Rattle.rtr_world.specs.World.{Side, World, instances, is_read, timing, SideEvent, RouterRestart, Speak, Connect, RouterSends, CacheGets, CacheSends, RouterGets, Cut, NotifyRouter, Ask, Tick, noted, places_of, connects, router_restarts, speaks, router_sends, sends_from, cache_sends, gets_at, cache_gets, router_gets, cut, notifies_at, side_step, side_part, side_refused, tell_closed, close_ended, settle_conn, settle_link, settle_rest, settle_wire, settle}
 use Rattle.rtr_world.proofs.CacheMoves as cache
 use Rattle.rtr_world.proofs.Commits.{goes_fed}
 use Rattle.rtr_world.proofs.Invariant.{OwnSession, IfOpen, Open, GoodLink, GoodRouter, Good}
-use Rattle.rtr_world.proofs.Places.{Ordered, ordered_connects, ordered_none}
+use Rattle.rtr_world.proofs.Places.{Ordered, ordered_connects, ordered_none, ordered_read}
 use Rattle.rtr_world.proofs.UnitsAtRouters.{first_fits, query_unit}
 use Rattle.rtr_ends.proofs.ByteLists.{drop_none}
 use Rattle.rtr_ends.proofs.KeptLaws.{not_due}
@@ -28,7 +30,7 @@ use Rattle.rtr_world.proofs.SideSteps.{live_map, clocked_good, Shut, close_shut,
 use Rattle.rtr_world.proofs.UnitStreams.{Stream, behind_early}
 use Rattle.rtr_world.proofs.KeptTables.{SideTells}
 use Rattle.rtr_world.proofs.Versions.{Present, held_at}
-use Rattle.rtr_world.proofs.LinkedSides.{Seen, IsSeen, seen_at}
+use Rattle.rtr_world.proofs.LinkedSides.{Seen, IsReadAt, IsSeen, seen_after, seen_at}
 
 -- what is sent, and what is left of it
 sent_first : (most : ℕ) (held up out : List ℕ) (units : List Sent) → Stream held (up ++ out) units → Stream held ((up ++ take most out) ++ drop most out) units
@@ -37,6 +39,18 @@ sent_first most held up out units s = subst (λ x. Stream held x units) (ap (λ 
 open_sent : (i : Instance) (pv : Version) (h : Seen) (most : ℕ) (out up : List ℕ) (wanted coming : List Unit) (agreed : Bool) (lost : List ℕ) (conn : Option Conn) → IfOpen conn (Open i pv h out up wanted coming agreed lost) → IfOpen conn (Open i pv h (drop most out) (up ++ take most out) wanted coming agreed lost)
 open_sent i pv h most out up wanted coming agreed lost None op = tt
 open_sent i pv h most out up wanted coming agreed lost (Some o) op = record { upward = sent_first most o.held up out (in_version pv wanted) op.upward; spoken = op.spoken; unheard = op.unheard; whole = op.whole; session = op.session; made = op.made; later = op.later }
+
+-- what was seen, where the cache read a unit or not
+seen_read : (i : Instance) (keep : ℕ) (home : Option Instance) (read : Bool) (seen : Option Seen) → IsSeen keep home seen → IsSeen keep home (seen_after i read seen)
+seen_read i keep home false seen s = s
+seen_read i keep home true None s = s
+seen_read i keep None true (Some h) s = s
+seen_read i keep (Some x) true (Some h) s = s
+
+read_seen : (i : Instance) (before : Option Instance) (read : Bool) (seen : Option Seen) → IsReadAt before seen → IsReadAt (if read then Some i else before) (seen_after i read seen)
+read_seen i before false seen s = s
+read_seen i before true None s = tt
+read_seen i before true (Some h) s = refl
 
 module _ (w : World) (p : Present (instances w) w.present) where
   abbrev GoodS : Side → Type 0
@@ -47,6 +61,7 @@ module _ (w : World) (p : Present (instances w) w.present) where
   router_sends_good most s g = record {
     seen = g.seen;
     is_seen = g.is_seen;
+    is_read = g.is_read;
     order = g.order;
     router = record {
       table = g.router.table;
@@ -80,6 +95,7 @@ module _ (w : World) (p : Present (instances w) w.present) where
   sends_good most s (Some o) e g = record {
     seen = g.seen;
     is_seen = g.is_seen;
+    is_read = g.is_read;
     order = g.order;
     router = record {
       table = g.router.table;
@@ -131,7 +147,15 @@ module _ (w : World) (p : Present (instances w) w.present) where
   gets_good most wanting s (Some o) e g =
       let start : GoodRouter (instances w) w.present g.seen (Some o) (take most s.up ++ drop most s.up) s.down s.router =
       subst (λ u. GoodRouter (instances w) w.present g.seen (Some o) u s.down s.router) (sym (take-append-drop most s.up)) (subst (λ x. GoodRouter (instances w) w.present g.seen x s.up s.down s.router) e g.router) in
-      record { seen = g.seen; is_seen = g.is_seen; order = g.order; router = cache.fed_good (instances w) w.present p w.keep g.seen (keeps_so s.home g.seen g.is_seen) s.router s.down (drop most s.up) (record { conn = o; moments = []; wanting = wanting }) (take most s.up) start }
+      let f : FedPiece Taking = feed (λ (m : Taking). conn_stops m.conn) (conn_byte w.keep timing w.present) (record { conn = o; moments = []; wanting = wanting }) (take most s.up) in
+      let read : Bool = list_any is_read f.machine.moments in
+      record {
+        seen = seen_after w.present read g.seen;
+        is_seen = seen_read w.present w.keep s.home read g.seen g.is_seen;
+        is_read = read_seen w.present s.read_at read g.seen g.is_read;
+        order = ordered_read w.past w.present s.places read g.seen g.order;
+        router = cache.fed_good (instances w) w.present p w.keep g.seen (keeps_so s.home g.seen g.is_seen) s.router s.down (drop most s.up) (record { conn = o; moments = []; wanting = wanting }) (take most s.up) start;
+      }
 
   cache_gets_good : (most : ℕ) (wanting : Option ℕ) (s : Side) → GoodS s → GoodS (cache_gets w most wanting s)
   unfolding cache_gets
@@ -151,15 +175,16 @@ module _ (w : World) (p : Present (instances w) w.present) where
   router_gets_good most wanting s g t =
       let start = subst (λ d. GoodRouter (instances w) w.present g.seen s.conn s.up d s.router) (sym (take-append-drop most s.down)) g.router in
       let told = clocked_good (instances w) w.present g.seen s.conn s.up (take most s.down ++ drop most s.down) s.router.now s.router start in
-      let fed = goes_fed w.keep w.past w.present s.home s.conn s.up s.items s.places (drop most s.down) (record { router = clocked s.router.now s.router; items = At s.router.now ∷ []; wanting = wanting }) (take most s.down)
-      (record { seen = g.seen; good = told; tells = clocked_tells s.router.now s.router s.items t.tells; is_seen = g.is_seen; order = g.order }) in
-      record { seen = fed.seen; router = fed.good; is_seen = fed.is_seen; order = fed.order }
+      let fed = goes_fed w.keep w.past w.present s.home s.read_at s.conn s.up s.items s.places (drop most s.down) (record { router = clocked s.router.now s.router; items = At s.router.now ∷ []; wanting = wanting }) (take most s.down)
+      (record { seen = g.seen; good = told; tells = clocked_tells s.router.now s.router s.items t.tells; is_seen = g.is_seen; is_read = g.is_read; order = g.order }) in
+      record { seen = fed.seen; router = fed.good; is_seen = fed.is_seen; is_read = fed.is_read; order = fed.order }
 
   cut_good : (left : ℕ) (s : Side) → GoodS s → GoodS (cut left s)
   unfolding cut
   cut_good left s g = record {
     seen = g.seen;
     is_seen = g.is_seen;
+    is_read = g.is_read;
     order = g.order;
     router = record {
       table = g.router.table;
@@ -243,6 +268,7 @@ module _ (w : World) (p : Present (instances w) w.present) where
       record {
         seen = Some (seen_at w.keep (close (clocked s.router.now s.router)).speaks w.present);
         is_seen = (refl, refl, refl, omega arith);
+        is_read = refl;
         order = ordered_connects w.keep (close (clocked s.router.now s.router)).speaks w.past w.present s.places g.seen g.order;
         router = linked g.seen s.conn s.up s.down (close (clocked s.router.now s.router)) shut;
       }
@@ -253,6 +279,7 @@ module _ (w : World) (p : Present (instances w) w.present) where
   speaks_good version s g = record {
     seen = g.seen;
     is_seen = g.is_seen;
+    is_read = g.is_read;
     order = g.order;
     router = record {
       table = g.router.table;
@@ -292,7 +319,7 @@ module _ (w : World) (p : Present (instances w) w.present) where
   notifies_good : (s : Side) (o : Option Conn) → s.conn ≡ o → GoodS s → GoodS (notifies_at w s o)
   notifies_good s None e g = g
   notifies_good s (Some o) e g =
-      record { seen = g.seen; is_seen = g.is_seen; order = g.order; router = cache.notified_good (instances w) w.present p w.keep g.seen (keeps_so s.home g.seen g.is_seen) s.router s.down o s.up (subst (λ x. GoodRouter (instances w) w.present g.seen x s.up s.down s.router) e g.router) }
+      record { seen = g.seen; is_seen = g.is_seen; is_read = g.is_read; order = g.order; router = cache.notified_good (instances w) w.present p w.keep g.seen (keeps_so s.home g.seen g.is_seen) s.router s.down o s.up (subst (λ x. GoodRouter (instances w) w.present g.seen x s.up s.down s.router) e g.router) }
 
   -- asking commits nothing
   asks_places : (b : Bool) (r : Router) (items : List Item) → places_of (instances w) (asks_if b r).items items ≡ []
@@ -308,7 +335,7 @@ module _ (w : World) (p : Present (instances w) w.present) where
 
   pub step_good : (event : SideEvent) (wanting : Option ℕ) (s : Side) → GoodS s → SideTells s → GoodS (side_step w event wanting s)
   unfolding side_step router_restarts asks ticks_at
-  step_good RouterRestart wanting s g t = record { seen = None; is_seen = tt; order = ordered_none w.past w.present s.places g.seen g.order; router = record { table = refl; unmarked = refl; link = (refl, refl, refl, refl) } }
+  step_good RouterRestart wanting s g t = record { seen = None; is_seen = tt; is_read = tt; order = ordered_none w.past w.present s.places g.seen g.order; router = record { table = refl; unmarked = refl; link = (refl, refl, refl, refl) } }
   step_good (Speak version) wanting s g t = speaks_good version s g
   step_good Connect wanting s g t = connects_good s g
   step_good (RouterSends most) wanting s g t = router_sends_good most s g
@@ -317,11 +344,11 @@ module _ (w : World) (p : Present (instances w) w.present) where
   step_good (RouterGets most) wanting s g t = router_gets_good most wanting s g t
   step_good (Cut left) wanting s g t = cut_good left s g
   step_good NotifyRouter wanting s g t = notifies_good s s.conn refl g
-  step_good Ask wanting s g t = record { seen = g.seen; is_seen = g.is_seen; order = no_places s g (places_of (instances w) (asks_if (is_idle s.router.link) s.router).items s.items) (asks_places (is_idle s.router.link) s.router s.items); router = asks_so s g }
+  step_good Ask wanting s g t = record { seen = g.seen; is_seen = g.is_seen; is_read = g.is_read; order = no_places s g (places_of (instances w) (asks_if (is_idle s.router.link) s.router).items s.items) (asks_places (is_idle s.router.link) s.router s.items); router = asks_so s g }
   step_good (Tick now) wanting s g t =
       let k : Router = clocked now s.router in
       let b : Bool = is_due k.link k.due k.now in
-      record { seen = g.seen; is_seen = g.is_seen; order = no_places s g (places_of (instances w) ((asks_if b k).items ++ At now ∷ []) s.items) (ticks_places now b k s.items); router = ticks_so now s g }
+      record { seen = g.seen; is_seen = g.is_seen; is_read = g.is_read; order = no_places s g (places_of (instances w) ((asks_if b k).items ++ At now ∷ []) s.items) (ticks_places now b k s.items); router = ticks_so now s g }
 
   part_good : (event : SideEvent) (bytes : ℕ) (wanting : Option ℕ) (s : Side) → GoodS s → SideTells s → GoodS (side_part w event bytes wanting s)
   part_good (RouterSends most) bytes wanting s g t = router_sends_good bytes s g
@@ -338,7 +365,7 @@ module _ (w : World) (p : Present (instances w) w.present) where
 
   pub refused_good : (event : SideEvent) (bytes : ℕ) (wanting : Option ℕ) (s : Side) → GoodS s → SideTells s → GoodS (side_refused w event bytes wanting s)
   unfolding side_refused
-  refused_good event bytes wanting s g t = let k = cut_good 0 (side_part w event bytes wanting s) (part_good event bytes wanting s g t) in record { seen = k.seen; router = k.router; is_seen = k.is_seen; order = k.order }
+  refused_good event bytes wanting s g t = let k = cut_good 0 (side_part w event bytes wanting s) (part_good event bytes wanting s g t) in record { seen = k.seen; router = k.router; is_seen = k.is_seen; is_read = k.is_read; order = k.order }
 
   -- After each event
 
@@ -359,8 +386,8 @@ module _ (w : World) (p : Present (instances w) w.present) where
           record { table = shut.table; unmarked = shut.unmarked; link = closed_link (close (clocked s.router.now s.router)) None conn up down shut.closed shut.held shut.agreed shut.session shut.out }
 
       by_bool : (b : Bool) → is_closed s.router.link ≡ b → GoodRouter (instances w) w.present None conn up down (if b then s.router else r) → GoodRouter (instances w) w.present None conn up down (tell_closed (instances w) s).router
-      by_bool true e h = subst (λ b. GoodRouter (instances w) w.present None conn up down (if b then record s { home = None } else record (noted (instances w) (closed_at s.router.now s.router) s) { home = None }).router) (sym e) h
-      by_bool false e h = subst (λ b. GoodRouter (instances w) w.present None conn up down (if b then record s { home = None } else record (noted (instances w) (closed_at s.router.now s.router) s) { home = None }).router) (sym e) h
+      by_bool true e h = subst (λ b. GoodRouter (instances w) w.present None conn up down (if b then record s { home = None; read_at = None } else record (noted (instances w) (closed_at s.router.now s.router) s) { home = None; read_at = None }).router) (sym e) h
+      by_bool false e h = subst (λ b. GoodRouter (instances w) w.present None conn up down (if b then record s { home = None; read_at = None } else record (noted (instances w) (closed_at s.router.now s.router) s) { home = None; read_at = None }).router) (sym e) h
 
       by_link : (l : Link) → s.router.link ≡ l → GoodLink (instances w) w.present g.seen l s.router s.conn s.up s.down → GoodRouter (instances w) w.present None conn up down (tell_closed (instances w) s).router
       by_link Closed is h = by_bool true (ap is_closed is) (record { table = g.router.table; unmarked = g.router.unmarked; link = closed_link s.router None conn up down is h.0 h.1 h.2 h.3 })
@@ -372,7 +399,7 @@ module _ (w : World) (p : Present (instances w) w.present) where
   home_told : (s : Side) → (tell_closed (instances w) s).home ≡ None
   home_told s = by_link (is_closed s.router.link)
     where
-      by_link : (b : Bool) → (if b then record s { home = None } else record (noted (instances w) (closed_at s.router.now s.router) s) { home = None }).home ≡ None
+      by_link : (b : Bool) → (if b then record s { home = None; read_at = None } else record (noted (instances w) (closed_at s.router.now s.router) s) { home = None; read_at = None }).home ≡ None
       by_link true = refl
       by_link false = refl
 
@@ -380,7 +407,7 @@ module _ (w : World) (p : Present (instances w) w.present) where
   unfolding closed_at
   places_told s = by_link (is_closed s.router.link)
     where
-      by_link : (b : Bool) → (if b then record s { home = None } else record (noted (instances w) (closed_at s.router.now s.router) s) { home = None }).places ≡ s.places
+      by_link : (b : Bool) → (if b then record s { home = None; read_at = None } else record (noted (instances w) (closed_at s.router.now s.router) s) { home = None; read_at = None }).places ≡ s.places
       by_link true = refl
       by_link false = refl
 
@@ -394,6 +421,7 @@ module _ (w : World) (p : Present (instances w) w.present) where
   ended_good s o true [] e de g = record {
     seen = g.seen;
     is_seen = g.is_seen;
+    is_read = g.is_read;
     order = g.order;
     router = record {
       table = g.router.table;
@@ -429,7 +457,7 @@ module _ (w : World) (p : Present (instances w) w.present) where
   conn_good s (Some o) e g = ended_good s o o.state.ended o.state.due e refl g
 
   link_good : (s : Side) (l : Link) (out : List ℕ) → GoodS s → GoodS (settle_link (instances w) s l out)
-  link_good s (Ended end) [] g = record { seen = None; is_seen = seen_told s; order = order_told s g; router = told_good s g (tell_closed (instances w) s).conn (tell_closed (instances w) s).up (tell_closed (instances w) s).down }
+  link_good s (Ended end) [] g = record { seen = None; is_seen = seen_told s; is_read = tt; order = order_told s g; router = told_good s g (tell_closed (instances w) s).conn (tell_closed (instances w) s).up (tell_closed (instances w) s).down }
   link_good s (Ended end) (b ∷ out) g = g
   link_good s Closed out g = g
   link_good s Idle out g = g
@@ -442,15 +470,15 @@ module _ (w : World) (p : Present (instances w) w.present) where
       record { table = g.router.table; unmarked = g.router.unmarked; link = closed_link s.router g.seen conn up down is h.0 h.1 h.2 h.3 }
 
   rest_good : (s : Side) (l : Link) (up : List ℕ) → s.router.link ≡ l → GoodS s → GoodS (settle_rest s l up)
-  rest_good s Closed [] is g = record { seen = g.seen; is_seen = g.is_seen; order = g.order; router = shut_of s is g None s.up [] }
-  rest_good s Closed (b ∷ up) is g = record { seen = g.seen; is_seen = g.is_seen; order = g.order; router = shut_of s is g s.conn s.up [] }
+  rest_good s Closed [] is g = record { seen = g.seen; is_seen = g.is_seen; is_read = g.is_read; order = g.order; router = shut_of s is g None s.up [] }
+  rest_good s Closed (b ∷ up) is g = record { seen = g.seen; is_seen = g.is_seen; is_read = g.is_read; order = g.order; router = shut_of s is g s.conn s.up [] }
   rest_good s (Ended end) up is g = g
   rest_good s Idle up is g = g
   rest_good s (Asked q) up is g = g
   rest_good s (Answering a) up is g = g
 
   wire_good : (s : Side) (o : Option Conn) (down : List ℕ) → GoodS s → GoodS (settle_wire (instances w) s o down)
-  wire_good s None [] g = record { seen = None; is_seen = seen_told s; order = order_told s g; router = told_good s g (tell_closed (instances w) s).conn [] (tell_closed (instances w) s).down }
+  wire_good s None [] g = record { seen = None; is_seen = seen_told s; is_read = tt; order = order_told s g; router = told_good s g (tell_closed (instances w) s).conn [] (tell_closed (instances w) s).down }
   wire_good s None (b ∷ down) g = g
   wire_good s (Some o) down g = g
 

@@ -14,26 +14,26 @@ leads_keep P keeps old [] w leads h = subst P (sym leads) h
 leads_keep P keeps old (entry ∷ history) w leads h =
     leads_keep P keeps leads.0 history w leads.2 (subst P (sym leads.1.2) (keeps entry.event entry.outcome old leads.1.0 leads.1.1 h))
 
--- The fact looks at no wire and at nothing of the cache's side.
+-- The fact looks at no wire and at nothing of the cache's side, nor at when that read.
 abbrev pub Blind : (Side → Type 0) → Type 0
-Blind P = (s : Side) (conn : Option Conn) (up down : List ℕ) → P s → P (record s { conn = conn; up = up; down = down })
+Blind P = (s : Side) (conn : Option Conn) (up down : List ℕ) (read : Option Instance) → P s → P (record s { conn = conn; up = up; down = down; read_at = read })
 
 module _ (P : Side → Type 0) (blind : Blind P) where
   pub sends_keep : (keep most : ℕ) (s : Side) (o : Option Conn) → P s → P (sends_from keep most s o)
   sends_keep keep most s None h = h
-  sends_keep keep most s (Some o) h = blind s _ _ _ h
+  sends_keep keep most s (Some o) h = blind s _ _ _ _ h
 
   pub gets_keep : (w : World) (most : ℕ) (wanting : Option ℕ) (s : Side) (o : Option Conn) → P s → P (gets_at w most wanting s o)
   gets_keep w most wanting s None h = h
-  gets_keep w most wanting s (Some o) h = blind s _ _ _ h
+  gets_keep w most wanting s (Some o) h = blind s _ _ _ _ h
 
   pub notifies_keep : (w : World) (s : Side) (o : Option Conn) → P s → P (notifies_at w s o)
   notifies_keep w s None h = h
-  notifies_keep w s (Some o) h = blind s _ _ _ h
+  notifies_keep w s (Some o) h = blind s _ _ _ _ h
 
   module _ (all : List Instance) (told : (s : Side) → P s → P (tell_closed all s)) where
     ended_keeps : (s : Side) (ended : Bool) (due : List ℕ) → P s → P (close_ended s ended due)
-    ended_keeps s true [] h = blind s _ _ _ h
+    ended_keeps s true [] h = blind s _ _ _ _ h
     ended_keeps s true (b ∷ due) h = h
     ended_keeps s false due h = h
 
@@ -50,15 +50,15 @@ module _ (P : Side → Type 0) (blind : Blind P) where
     link_keeps s (Answering a) out h = h
 
     pub rest_keeps : (s : Side) (l : Link) (up : List ℕ) → P s → P (settle_rest s l up)
-    rest_keeps s Closed [] h = blind s _ _ _ h
-    rest_keeps s Closed (b ∷ up) h = blind s _ _ _ h
+    rest_keeps s Closed [] h = blind s _ _ _ _ h
+    rest_keeps s Closed (b ∷ up) h = blind s _ _ _ _ h
     rest_keeps s (Ended end) up h = h
     rest_keeps s Idle up h = h
     rest_keeps s (Asked q) up h = h
     rest_keeps s (Answering a) up h = h
 
     pub wire_keeps : (s : Side) (o : Option Conn) (down : List ℕ) → P s → P (settle_wire all s o down)
-    wire_keeps s None [] h = blind (tell_closed all s) _ _ _ (told s h)
+    wire_keeps s None [] h = blind (tell_closed all s) _ _ _ _ (told s h)
     wire_keeps s None (b ∷ down) h = h
     wire_keeps s (Some o) down h = h
 

@@ -21,7 +21,7 @@ use Rattle.rtr_world.specs.World.{Side, timing}
 use Rattle.rtr_world.proofs.Places.{Ordered}
 use Rattle.rtr_world.proofs.UnitStreams.{MaySpeak, Stream, behind_early}
 use Rattle.rtr_world.proofs.Versions.{Stands, TableAt, find_session}
-use Rattle.rtr_world.proofs.LinkedSides.{Seen, IsSeen}
+use Rattle.rtr_world.proofs.LinkedSides.{Seen, IsReadAt, IsSeen}
 
 abbrev pub after_stage : Staged → (Begun → Type 0) → Type 0
 after_stage (Stays a) Goes = Goes a
@@ -79,12 +79,13 @@ WithdrawsFirst (unit ∷ units) = WithdrawsFirst units
 abbrev pub InOrder : Begun → List Unit → Type 0
 InOrder a rest = WithdrawsFirst rest × ((a.announced ≡ []) ⊎ NoneWithdrawn rest)
 
--- The connection's instance was like this at some time after the connection was made.
+-- The connection's instance was like this at some time after the connection was made, when the cache read a unit on it.
 pub record WasCache (all : List Instance) (home : Seen) (cache : Instance) : Type 0 where
   pub since : IsLater home.made cache
   pub latest : Instance
   pub found : find_session V1 home.made.session all ≡ Some latest
   pub until : IsLater cache latest
+  pub read : home.read ≡ Some cache
 
 -- These units are its answer then.
 pub record FromCache (all : List Instance) (pv : Version) (home : Seen) (q : Question) (units : List Unit) : Type 0 where
@@ -190,4 +191,5 @@ pub record Good (keep : ℕ) (past : List Instance) (i : Instance) (s : Side) : 
   pub seen : Option Seen
   pub router : GoodRouter (i ∷ past) i seen s.conn s.up s.down s.router
   pub is_seen : IsSeen keep s.home seen
+  pub is_read : IsReadAt s.read_at seen
   pub order : Ordered past i s.places seen

@@ -24,7 +24,7 @@ noted_tells : (all : List Instance) (call : RouterCall) (s : Side) → SideTells
 noted_tells all call s t = record { tells = called_tells call s.router s.items t.tells }
 
 blind_tells : Blind SideTells
-blind_tells s conn up down h = record { tells = h.tells }
+blind_tells s conn up down read h = record { tells = h.tells }
 
 sends_tells : (most : ℕ) (s : Side) → SideTells s → SideTells (router_sends most s)
 unfolding router_sends
@@ -71,7 +71,7 @@ module _ (all : List Instance) where
   closed_tells : (s : Side) → SideTells s → SideTells (tell_closed all s)
   closed_tells s h = by_link (is_closed s.router.link)
     where
-      by_link : (b : Bool) → SideTells (if b then record s { home = None } else record (noted all (closed_at s.router.now s.router) s) { home = None })
+      by_link : (b : Bool) → SideTells (if b then record s { home = None; read_at = None } else record (noted all (closed_at s.router.now s.router) s) { home = None; read_at = None })
       by_link true = record { tells = h.tells }
       by_link false = record { tells = called_tells (Closes s.router.now) s.router s.items h.tells }
 
@@ -90,12 +90,12 @@ module _ (all : List Instance) where
   -- then the router is told
   loose_open : (s : Side) → is_closed s.router.link ≡ false → Loose s → SideTells (tell_closed all s)
   loose_open s is h =
-      subst (λ b. SideTells (if b then record s { home = None } else record (noted all (closed_at s.router.now s.router) s) { home = None })) (sym is)
+      subst (λ b. SideTells (if b then record s { home = None; read_at = None } else record (noted all (closed_at s.router.now s.router) s) { home = None; read_at = None })) (sym is)
       (record { tells = subst (λ x. Tells (closed_at s.router.now s.router).router ((closed_at s.router.now s.router).items ++ x)) (sym h.items_are) (refused_closes s.router.now s.router h.before h.tells) })
 
   loose_told : (s : Side) (l : Link) → s.router.link ≡ l → Loose s → SideTells (tell_closed all s)
   loose_told s Closed is h =
-      subst (λ b. SideTells (if b then record s { home = None } else record (noted all (closed_at s.router.now s.router) s) { home = None })) (ap is_closed (sym is))
+      subst (λ b. SideTells (if b then record s { home = None; read_at = None } else record (noted all (closed_at s.router.now s.router) s) { home = None; read_at = None })) (ap is_closed (sym is))
       (record { tells = (loose_closed s is h).tells })
   loose_told s (Ended end) is h = loose_open s (ap is_closed is) h
   loose_told s Idle is h = loose_open s (ap is_closed is) h

@@ -196,7 +196,7 @@ unfolding clocked
 clocked_same r = ap (λ n. judged_by_clock (record r { now = n })) (later_same r.now)
 
 abbrev told_where : List Instance → Side → Bool → Side
-told_where all s b = if b then record s { home = None } else record (noted all (closed_at s.router.now s.router) s) { home = None }
+told_where all s b = if b then record s { home = None; read_at = None } else record (noted all (closed_at s.router.now s.router) s) { home = None; read_at = None }
 
 pub tells_closed : (w : World) (at : ℕ → Option Conn) (s : Side) (v : values.Side) → is_closed s.router.link ≡ true → ShowsSide w at s v → ShowsSide w at (tell_closed (instances w) s) (record v { made = None })
 tells_closed w at s v closed h = subst (λ b. ShowsSide w at (told_where (instances w) s b) (record v { made = None })) (sym closed)

@@ -19,7 +19,7 @@ use Rattle.rtr_world.proofs.AnswersRead.{ReadsSo, SideReads, kept_reads}
 use Rattle.rtr_world.proofs.Histories.{Known, history_keeps, history_known}
 use Rattle.rtr_world.proofs.Invariant.{FromCache, Flow, Good, GoodLink, IfOpen, OfAnswer, OneReply, Open, QuestionFits, Replies, Shape, WasCache, no_data, not_kept, other_session, no_memory, read_of, records_of, response}
 use Rattle.rtr_world.proofs.Rests.{Rests, history_rests}
-use Rattle.rtr_world.proofs.LinkedSides.{IsSeen, Seen}
+use Rattle.rtr_world.proofs.LinkedSides.{IsReadAt, IsSeen, Seen}
 use Rattle.rtr_world.proofs.SideSteps.{live_of}
 use Rattle.rtr_world.proofs.UnitStreams.{behind_early, part_of}
 use Rattle.rtr_world.proofs.KeptTables.{SideTells}
@@ -50,16 +50,17 @@ module _ (w : World) (pv : Version) (h : Seen) (keeps : h.keep ≡ w.keep) where
   was_so : (cache : Instance) → WasCache (instances w) h cache → WasSo w h.made cache
   was_so cache was = record { since = was.since; latest = was.latest; found = was.found; until = was.until }
 
-  answer_of : (q : Question) (units : List Unit) → FromCache (instances w) pv h q units → IsAnswer w pv h.made q units
+  answer_of : (q : Question) (units : List Unit) → FromCache (instances w) pv h q units → IsAnswer w pv h.made h.read q units
   answer_of q units f = record {
     cache = f.cache;
     was = was_so f.cache f.was;
+    read_so = f.was.read;
     are = f.are ∙ ap (λ k. (answer pv f.cache k timing (query q)).units) keeps;
   }
 
-  reply_of : (q : Question) (units : List Unit) → OneReply (instances w) pv h q units → IsReply w pv h.made q units
+  reply_of : (q : Question) (units : List Unit) → OneReply (instances w) pv h q units → IsReply w pv h.made h.read q units
   reply_of q units (inl f) = inl (answer_of q units f)
-  reply_of q units (inr e) = inr (record { cache = e.0.cache; was = was_so e.0.cache e.0.was; takes = e.0.takes; are = e.1 })
+  reply_of q units (inr e) = inr (record { cache = e.0.cache; was = was_so e.0.cache e.0.was; read_so = e.0.was.read; takes = e.0.takes; are = e.1 })
 
   leads_of : (base : VrpSet) (a : Begun) (rest : List Unit) → a.session ≡ h.session → OfAnswer (instances w) pv h base a rest → IfResponse (instances w) pv base (read_of a ++ rest)
   leads_of base a rest e o =
@@ -74,26 +75,26 @@ module _ (w : World) (pv : Version) (h : Seen) (keeps : h.keep ≡ w.keep) where
   response_of q base rest (response tail e own o) =
       subst (λ x. IfResponse (instances w) pv base x) (sym e) (leads_of base (record { question = q; session = h.session; withdrawn = []; announced = [] }) tail refl o)
 
-  comes_on : (s : Side) (l : Link) (wanted rest : List Unit) → s.router.spoken ≡ pv → s.router.link ≡ l → SideTells s → SideReads s → Shape (instances w) pv h l s.router.agreed s.router.version s.router.table wanted rest → ComesOn w h.made s l rest
-  comes_on s Closed wanted rest of is t k sh = tt
-  comes_on s (Ended end) wanted rest of is t k sh = tt
-  comes_on s Idle wanted rest of is t k sh = sh.1
-  comes_on s (Asked q) wanted rest of is t k sh =
-      subst (λ v. Fits q (of_version v s.router.version) × ((rest ≡ []) ⊎ IsWholeAnswer w v h.made q s.router.table rest)) (sym of) (
+  comes_on : (s : Side) (l : Link) (wanted rest : List Unit) → h.read ≡ s.read_at → s.router.spoken ≡ pv → s.router.link ≡ l → SideTells s → SideReads s → Shape (instances w) pv h l s.router.agreed s.router.version s.router.table wanted rest → ComesOn w h.made s l rest
+  comes_on s Closed wanted rest at of is t k sh = tt
+  comes_on s (Ended end) wanted rest at of is t k sh = tt
+  comes_on s Idle wanted rest at of is t k sh = sh.1
+  comes_on s (Asked q) wanted rest at of is t k sh =
+      subst (λ v. Fits q (of_version v s.router.version) × ((rest ≡ []) ⊎ IsWholeAnswer w v h.made s.read_at q s.router.table rest)) (sym of) (
         fits_of h.session q (of_version pv s.router.version) sh.0,
         elim (sh.1) [
           | inl x ↦ inl x.1
-          | inr x ↦ inr (reply_of q rest x.2, response_of q (base_of q s.router.table) rest x.1)
+          | inr x ↦ inr (subst (λ y. IsReply w pv h.made y q rest) at (reply_of q rest x.2), response_of q (base_of q s.router.table) rest x.1)
         ],
       )
-  comes_on s (Answering a) wanted rest of is t k sh =
+  comes_on s (Answering a) wanted rest at of is t k sh =
       let told : LinkTells (Answering a) s.router.agreed s.router.session s.router.table s.items = subst (λ x. LinkTells x s.router.agreed s.router.session s.router.table s.items) is t.tells.link in
       let read : answered s.items ≡ read_of a = subst (λ x. ReadsSo x s.items) is k.reads_so in
       let o : OfAnswer (instances w) pv h (base_of a.question s.router.table) a rest = sh.4 in
-      subst (λ v. Fits a.question (of_version v s.router.version) × (under_way s.items ≡ Some a) × IsWholeAnswer w v h.made a.question s.router.table (answered s.items ++ rest)) (sym of) (
+      subst (λ v. Fits a.question (of_version v s.router.version) × (under_way s.items ≡ Some a) × IsWholeAnswer w v h.made s.read_at a.question s.router.table (answered s.items ++ rest)) (sym of) (
         fits_of h.session a.question (of_version pv s.router.version) sh.3,
         told.2,
-        subst (λ x. IsWholeAnswer w pv h.made a.question s.router.table (x ++ rest)) (sym read) (inl (answer_of a.question (read_of a ++ rest) o.from), leads_of (base_of a.question s.router.table) a rest sh.2 o),
+        subst (λ x. IsWholeAnswer w pv h.made s.read_at a.question s.router.table (x ++ rest)) (sym read) (subst (λ y. IsReply w pv h.made y a.question (read_of a ++ rest)) at (inl (answer_of a.question (read_of a ++ rest) o.from)), leads_of (base_of a.question s.router.table) a rest sh.2 o),
       )
 
 live_answer : (w : World) (s : Side) → is_reading s.router.link ≡ true → Good w.keep w.past w.present s → SideTells s → SideReads s → OneAnswer w s
@@ -114,7 +115,7 @@ live_answer w s live g t k =
       are_early = f.are_early;
       early_notifies = f.early_notifies;
       notifies = subst (λ x. NotifiesOf x f.coming) (home.session ∙ ap (λ v. session_in v h.made) f.version) f.notifies;
-      rest = comes_on w s.router.spoken h home.keeps s s.router.link f.wanted (without_notifies f.coming) refl refl t k f.shape;
+      rest = comes_on w s.router.spoken h home.keeps s s.router.link f.wanted (without_notifies f.coming) (subst (λ x. IsReadAt s.read_at x) l.1 g.is_read) refl refl t k f.shape;
     }
 
 between : (w : World) (s : Side) → Good w.keep w.past w.present s → SideTells s → SideReads s → Rests s → Between w s s.router.link

@@ -46,7 +46,7 @@ abbrev asked : Router
 asked = record new_router { table = just_v; version = Some (version 5); due = Some 3600; link = Asked (AskSerial 0x1234 5); agreed = true; session = Some 0x1234 }
 
 abbrev waiting_side : List ℕ → Side
-waiting_side down = record { router = asked; conn = Some (replied thrice); up = []; down = down; home = Some thrice; items = asked_since; endings = []; places = place 0 0 ∷ [] }
+waiting_side down = record { router = asked; conn = Some (replied thrice); up = []; down = down; home = Some thrice; read_at = None; items = asked_since; endings = []; places = place 0 0 ∷ [] }
 
 abbrev no_change : List ℕ
 no_change = response_bytes ++ end_bytes 7
@@ -81,6 +81,7 @@ new_waiting down = record {
   up = [];
   down = down;
   home = Some anew;
+  read_at = None;
   items = asked_anew;
   endings = [];
   places = place 0 2 ∷ place 0 0 ∷ [];

@@ -9,7 +9,7 @@ use Rattle.rtr_pdu.specs.declared.version.Version.{Version}
 use Rattle.rtr_ends.specs.Answer.{session_in}
 use Rattle.rtr_world.specs.VersionPlaces.{VersionPlace, position_of, place_named, IsNotAfter, NeverBack}
 use Rattle.rtr_world.proofs.Versions.{Stands, position_at, find_session, same_session_in, some_is}
-use Rattle.rtr_world.proofs.LinkedSides.{Seen, seen_at}
+use Rattle.rtr_world.proofs.LinkedSides.{Seen, seen_after, seen_at}
 use Rattle.prefixes.proofs.Basics.{eq_self, eq_of}
 
 -- how many instances came before that of a session
@@ -162,6 +162,14 @@ ordered_more past i h places pv session serial set a f of own since o =
 -- no connection
 pub ordered_none : (past : List Instance) (i : Instance) (places : List (Option VersionPlace)) (seen : Option Seen) → Ordered past i places seen → Ordered past i places None
 ordered_none past i places seen o = record { never_back = o.never_back; current = o.current; at_seen = tt; at_home = tt }
+
+-- the cache reads a unit on it, or not
+pub ordered_read : (past : List Instance) (i : Instance) (places : List (Option VersionPlace)) (read : Bool) (seen : Option Seen) → Ordered past i places seen → Ordered past i places (seen_after i read seen)
+ordered_read past i places false seen o = o
+ordered_read past i places true None o = o
+ordered_read past i places true (Some h) o =
+    let b : Below (i ∷ past) places h = o.at_seen in
+    record { never_back = o.never_back; current = o.current; at_seen = record { rank = b.rank; is = b.is; below = b.below }; at_home = o.at_home }
 
 -- a new one
 pub ordered_connects : (keep : ℕ) (pv : Version) (past : List Instance) (i : Instance) (places : List (Option VersionPlace)) (seen : Option Seen) → Ordered past i places seen → Ordered past i places (Some (seen_at keep pv i))

@@ -104,12 +104,12 @@ module _ (all : List Instance) where
   noted_places n s h = more n.items s.items s.places h
 
   blind_places : Blind SidePlaces
-  blind_places s conn up down h = h
+  blind_places s conn up down read h = h
 
   told_places : (s : Side) → SidePlaces s → SidePlaces (tell_closed all s)
   told_places s h = by_link (is_closed s.router.link)
     where
-      by_link : (b : Bool) → SidePlaces (if b then record s { home = None } else record (noted all (closed_at s.router.now s.router) s) { home = None })
+      by_link : (b : Bool) → SidePlaces (if b then record s { home = None; read_at = None } else record (noted all (closed_at s.router.now s.router) s) { home = None; read_at = None })
       by_link true = h
       by_link false = noted_places (closed_at s.router.now s.router) s h
 

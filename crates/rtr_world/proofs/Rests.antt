@@ -25,6 +25,7 @@ GoesOn (Some o) = o.state.ended ≡ true → o.state.due ≡ [] → ⊥
 pub record IsTold (s : Side) : Type 0 where
   pub closed : is_closed s.router.link ≡ true
   pub home : s.home ≡ None
+  pub read : s.read_at ≡ None
   pub up : s.up ≡ []
 
 pub record Rests (s : Side) : Type 0 where
@@ -47,13 +48,14 @@ record Tells (s n : Side) : Type 0 where
   pub down : n.down ≡ s.down
   pub up : n.up ≡ s.up
   pub home : n.home ≡ None
+  pub read : n.read_at ≡ None
 
 tells : (all : List Instance) (s : Side) → Tells s (tell_closed all s)
 tells all s = by_link (is_closed s.router.link)
   where
-    by_link : (b : Bool) → Tells s (if b then record s { home = None } else record (noted all (closed_at s.router.now s.router) s) { home = None })
-    by_link true = record { conn = refl; down = refl; up = refl; home = refl }
-    by_link false = record { conn = refl; down = refl; up = refl; home = refl }
+    by_link : (b : Bool) → Tells s (if b then record s { home = None; read_at = None } else record (noted all (closed_at s.router.now s.router) s) { home = None; read_at = None })
+    by_link true = record { conn = refl; down = refl; up = refl; home = refl; read = refl }
+    by_link false = record { conn = refl; down = refl; up = refl; home = refl; read = refl }
 
 -- step by step: a connection at the cache that ended
 ended_on : (s : Side) (o : Conn) (ended : Bool) (due : List ℕ) → s.conn ≡ Some o → o.state.ended ≡ ended → o.state.due ≡ due → GoesOn (close_ended s ended due).conn
@@ -123,7 +125,7 @@ wire_rests all s None [] is e h =
       link_on = closed_goes_on (tell_closed all s).router.link (told_closes all s);
       none_down = λ c. t.down ∙ e;
       none_open = λ c none. t.conn ∙ is;
-      told = λ n d. record { closed = told_closes all s; home = t.home; up = refl };
+      told = λ n d. record { closed = told_closes all s; home = t.home; read = t.read; up = refl };
     }
 wire_rests all s None (b ∷ down) is e h = record {
   conn_on = h.conn_on;
@@ -178,8 +180,8 @@ rest_stays s (Answering a) up is e h = refl
 wire_stays : (all : List Instance) (s : Side) (o : Option Conn) (down : List ℕ) → s.conn ≡ o → s.down ≡ down → Rests s → settle_wire all s o down ≡ s
 wire_stays all s None [] is e h =
     let t = h.told is e in
-    ap (λ b. record (if b then record s { home = None } else record (noted all (closed_at s.router.now s.router) s) { home = None }) { up = [] }) t.closed
-    ∙ (λ i. record s { home = sym t.home i; up = sym t.up i })
+    ap (λ b. record (if b then record s { home = None; read_at = None } else record (noted all (closed_at s.router.now s.router) s) { home = None; read_at = None }) { up = [] }) t.closed
+    ∙ (λ i. record s { home = sym t.home i; read_at = sym t.read i; up = sym t.up i })
 wire_stays all s None (b ∷ down) is e h = refl
 wire_stays all s (Some o) down is e h = refl
 
@@ -227,7 +229,7 @@ from_old old history w leads g t h =
 pub history_rests : (made : Made) (history : List Entry) (w : World) → Leads made history w → AllByRecursion Rests w.sides
 history_rests made history w leads =
     from_old (new_world made.routers made.session made.session0 made.start made.keep) history w leads.1 (new_good made leads.0) (all_new SideTells new_side_tells made.routers)
-    (all_new Rests (record { conn_on = tt; link_on = refl; none_down = λ c. refl; none_open = λ c none. refl; told = λ n d. record { closed = refl; home = refl; up = refl } }) made.routers)
+    (all_new Rests (record { conn_on = tt; link_on = refl; none_down = λ c. refl; none_open = λ c none. refl; told = λ n d. record { closed = refl; home = refl; read = refl; up = refl } }) made.routers)
 
 -- The clean-up after an event leaves nothing to be done.
 pub settles : Settles

@@ -110,7 +110,7 @@ abbrev SideRuns : Side → Type 0
 SideRuns s = IsRun s.router s.items
 
 blind_runs : Blind SideRuns
-blind_runs s conn up down h = h
+blind_runs s conn up down read h = h
 
 -- What a link that does not live is handed changes nothing more than nothing would.
 expired_dead : (l : Link) (r : Router) → r.link ≡ l → is_reading l ≡ false → is_reading (expired l r).link ≡ false
@@ -181,7 +181,7 @@ part_runs w (Tick now) bytes wanting s known h = h
 told_runs : (all : List Instance) (s : Side) → SideRuns s → SideRuns (tell_closed all s)
 told_runs all s h = by_link (is_closed s.router.link)
   where
-    by_link : (b : Bool) → SideRuns (if b then record s { home = None } else record (noted all (closed_at s.router.now s.router) s) { home = None })
+    by_link : (b : Bool) → SideRuns (if b then record s { home = None; read_at = None } else record (noted all (closed_at s.router.now s.router) s) { home = None; read_at = None })
     by_link true = h
     by_link false = one_more (Closes s.router.now) s.router s.items tt h
 

@@ -64,13 +64,13 @@ abbrev Says : Version → Side → Type 0
 Says version s = s.router.speaks ≡ version
 
 blind_says : (version : Version) → Blind (Says version)
-blind_says version s conn up down h = h
+blind_says version s conn up down read h = h
 
 told_says : (version : Version) (all : List Instance) (s : Side) → Says version s → Says version (tell_closed all s)
 unfolding closed_at
 told_says version all s h = by_link (is_closed s.router.link)
   where
-    by_link : (b : Bool) → Says version (if b then record s { home = None } else record (noted all (closed_at s.router.now s.router) s) { home = None })
+    by_link : (b : Bool) → Says version (if b then record s { home = None; read_at = None } else record (noted all (closed_at s.router.now s.router) s) { home = None; read_at = None })
     by_link true = h
     by_link false = close_speaks (clocked s.router.now s.router) ∙ clocked_speaks s.router.now s.router ∙ h
 

@@ -191,7 +191,7 @@ noted_spared all n s free h = record { free = free; endings = by_link (is_ended 
     by_link false (Answering a) f = h.endings
 
 blind_spared : Blind Spared
-blind_spared s conn up down h = record { free = h.free; endings = h.endings }
+blind_spared s conn up down read h = record { free = h.free; endings = h.endings }
 
 gets_spared : (w : World) (most : ℕ) (wanting : Option ℕ) (s : Side) → wanting ≡ None → Spared s → Spared (router_gets w most wanting s)
 unfolding router_gets receives
@@ -240,7 +240,7 @@ told_spared : (all : List Instance) (s : Side) → Spared s → Spared (tell_clo
 unfolding closed_at
 told_spared all s h = by_link (is_closed s.router.link)
   where
-    by_link : (b : Bool) → Spared (if b then record s { home = None } else record (noted all (closed_at s.router.now s.router) s) { home = None })
+    by_link : (b : Bool) → Spared (if b then record s { home = None; read_at = None } else record (noted all (closed_at s.router.now s.router) s) { home = None; read_at = None })
     by_link true = record { free = h.free; endings = h.endings }
     by_link false =
         let n = noted_spared all (closed_at s.router.now s.router) s (close_free (clocked s.router.now s.router) (clocked_free s.router.now s.router h.free)) h in

@@ -51,6 +51,7 @@ open_side r o up down = record {
   up = up;
   down = down;
   home = Some with_v;
+  read_at = None;
   items = Asks AskReset ∷ Opened V1 ∷ At 0 ∷ [];
   endings = [];
   places = [];
@@ -71,9 +72,9 @@ answer_bytes = response_bytes ++ v_bytes ++ end_bytes 5
 abbrev replied : List ℕ → Conn
 replied due = record { state = record { cache = with_v; version = Some V1; ended = false; due = due; notified = false; seen = [] }; held = [] }
 
-query_read : after (On 0 (CacheGets 8)) (Done None) (world (open_side asking (new_conn with_v) reset_bytes [])) ≡ world (open_side asking (replied answer_bytes) [] [])
+query_read : after (On 0 (CacheGets 8)) (Done None) (world (open_side asking (new_conn with_v) reset_bytes [])) ≡ world (record (open_side asking (replied answer_bytes) [] []) { read_at = Some with_v })
 unfolding goes_through settled settle side_step cache_gets conn_takes conn_byte judge as_read
-query_read = ap (λ vs. world (open_side asking (replied (sent_all V1 (with_all_of 5 just_v vs))) [] [])) (listing-set_of (v ∷ []) v_ascends)
+query_read = ap (λ vs. world (record (open_side asking (replied (sent_all V1 (with_all_of 5 just_v vs))) [] []) { read_at = Some with_v })) (listing-set_of (v ∷ []) v_ascends)
 
 answer_sent : after (On 0 (CacheSends 52)) (Done None) (world (open_side asking (replied answer_bytes) [] [])) ≡ world (open_side asking (replied []) [] answer_bytes)
 unfolding goes_through settled settle side_step cache_sends conn_pulled
@@ -318,6 +319,6 @@ abbrev internal_error : List ℕ
 internal_error = 0x01 ∷ 0x0a ∷ 0x00 ∷ 0x01 ∷ 0 ∷ 0 ∷ 0 ∷ 0x10 ∷ 0 ∷ 0 ∷ 0 ∷ 0 ∷ 0 ∷ 0 ∷ 0 ∷ 0 ∷ []
 
 memory_wanted : after (On 0 (CacheGets 12)) (Done (Some 0)) (world query_side)
-    ≡ world (open_side asking (record { state = record { cache = with_v; version = Some V1; ended = true; due = internal_error; notified = false; seen = [] }; held = [] }) [] [])
+    ≡ world (record (open_side asking (record { state = record { cache = with_v; version = Some V1; ended = true; due = internal_error; notified = false; seen = [] }; held = [] }) [] []) { read_at = Some with_v })
 unfolding goes_through settled settle side_step cache_gets conn_takes conn_byte judge as_read
 memory_wanted = refl

@@ -138,12 +138,14 @@ module _ (keep : ℕ) (past : List Instance) (i : Instance) (y : VrpSet) (p : Pr
             latest = next;
             found = ap (λ b. if b then Some next else find_session V1 h.made.session past) e;
             until = record { session = u.session; session0 = u.session0; start = u.start; more = y ∷ u.more; sets = ap (λ x. y ∷ x) u.sets };
+            read = f.read;
           }
       by_session false e g = record {
         since = f.since;
         latest = f.latest;
         found = ap (λ b. if b then Some next else find_session V1 h.made.session past) e ∙ g;
         until = f.until;
+        read = f.read;
       }
 
   answer_published : (pv : Version) (h : Seen) → (session_in pv i ≡ h.session → nat_lt (length i.sets - (length h.sets - 1)) (2 ^ 31) ≡ true) → (base : VrpSet) (a : Begun) (rest : List Unit) → OfAnswer (i ∷ past) pv h base a rest → OfAnswer (next ∷ past) pv h base a rest
@@ -162,6 +164,7 @@ module _ (keep : ℕ) (past : List Instance) (i : Instance) (y : VrpSet) (p : Pr
       record {
         seen = g.seen;
         is_seen = g.is_seen;
+        is_read = g.is_read;
         order = ordered_published past i y s.places g.seen g.order;
         router = record {
           table = table_published s.router.version s.router.table parts.0 g.router.table;
@@ -188,7 +191,7 @@ module _ (keep : ℕ) (past : List Instance) (old i : Instance) (new : (pv : Ver
   table_restarted (Some version) table t = (stands_restarted (old ∷ past) i version.version version.session version.serial table (new version.version) t).0
 
   was_restarted : (h : Seen) (cache : Instance) → WasCache (old ∷ past) h cache → WasCache (i ∷ (old ∷ past)) h cache
-  was_restarted h cache f = record { since = f.since; latest = f.latest; found = by_session (i.session == h.made.session) refl; until = f.until }
+  was_restarted h cache f = record { since = f.since; latest = f.latest; found = by_session (i.session == h.made.session) refl; until = f.until; read = f.read }
     where
       by_session : (b : Bool) → (i.session == h.made.session) ≡ b → find_session V1 h.made.session (i ∷ (old ∷ past)) ≡ Some f.latest
       by_session true e =
@@ -205,6 +208,7 @@ module _ (keep : ℕ) (past : List Instance) (old i : Instance) (new : (pv : Ver
   side_restarted s g = record {
     seen = g.seen;
     is_seen = g.is_seen;
+    is_read = g.is_read;
     order = ordered_restarted past old i s.places g.seen new g.order;
     router = record {
       table = table_restarted s.router.version s.router.table g.router.table;
@@ -328,7 +332,7 @@ new_good made is = record {
     found = λ pv. ap (λ b. if b then Some (begun made.session made.session0 made.start) else None) (eq_self (session_in pv (begun made.session made.session0 made.start)));
     is = record { session = is.session; session0 = is.session0; start = is.start; sets = tt; news = tt };
   };
-  sides = all_new (Good made.keep [] (begun made.session made.session0 made.start)) (record { seen = None; is_seen = tt; order = record { never_back = tt; current = tt; at_seen = tt; at_home = tt }; router = record { table = refl; unmarked = refl; link = (refl, refl, refl, refl) } }) made.routers;
+  sides = all_new (Good made.keep [] (begun made.session made.session0 made.start)) (record { seen = None; is_seen = tt; is_read = tt; order = record { never_back = tt; current = tt; at_seen = tt; at_home = tt }; router = record { table = refl; unmarked = refl; link = (refl, refl, refl, refl) } }) made.routers;
 }
 
 -- The headline

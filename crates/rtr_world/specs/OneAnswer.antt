@@ -51,21 +51,23 @@ pub record WasSo (w : World) (home cache : Instance) : Type 0 where
   pub found : find (λ i. i.session == home.session) (instances w) ≡ Some latest
   pub until : IsLater cache latest
 
--- These units are its answer then,
-pub record IsAnswer (w : World) (version : Version) (home : Instance) (question : Question) (units : List Unit) : Type 0 where
+-- These units are its answer, as it was when the question was read,
+pub record IsAnswer (w : World) (version : Version) (home : Instance) (read : Option Instance) (question : Question) (units : List Unit) : Type 0 where
   pub cache : Instance
   pub was : WasSo w home cache
+  pub read_so : read ≡ Some cache
   pub are : units ≡ (answer version cache w.keep timing (query question)).units
 
 -- or Error Report 1 in the place of one that may take memory.
-pub record IsWantingAnswer (w : World) (version : Version) (home : Instance) (question : Question) (units : List Unit) : Type 0 where
+pub record IsWantingAnswer (w : World) (version : Version) (home : Instance) (read : Option Instance) (question : Question) (units : List Unit) : Type 0 where
   pub cache : Instance
   pub was : WasSo w home cache
+  pub read_so : read ≡ Some cache
   pub takes : takes_memory version cache (query question) ≡ true
   pub are : units ≡ report INTERNAL_ERROR [] ∷ []
 
-abbrev pub IsReply : World → Version → Instance → Question → List Unit → Type 0
-IsReply w version home question units = IsAnswer w version home question units ⊎ IsWantingAnswer w version home question units
+abbrev pub IsReply : World → Version → Instance → Option Instance → Question → List Unit → Type 0
+IsReply w version home read question units = IsAnswer w version home read question units ⊎ IsWantingAnswer w version home read question units
 
 -- the records of an answer
 abbrev pub withdrawn_in : List Unit → List Payload
@@ -98,8 +100,8 @@ IfResponse all version base (CacheResponse session ∷ units) = LeadsToPublished
 IfResponse all version base units = ⊤
 
 -- One whole answer to this question, over this table
-abbrev pub IsWholeAnswer : World → Version → Instance → Question → VrpSet → List Unit → Type 0
-IsWholeAnswer w version home question table units = IsReply w version home question units × IfResponse (instances w) version (base_of question table) units
+abbrev pub IsWholeAnswer : World → Version → Instance → Option Instance → Question → VrpSet → List Unit → Type 0
+IsWholeAnswer w version home read question table units = IsReply w version home read question units × IfResponse (instances w) version (base_of question table) units
 
 -- a question is of what is committed in its version
 abbrev pub Fits : Question → Option Committed → Type 0
@@ -112,10 +114,10 @@ Fits (AskSerial session serial) (Some version) = (session ≡ version.session) �
 abbrev pub ComesOn : World → Instance → Side → Link → List Unit → Type 0
 ComesOn w home s Idle rest = rest ≡ []
 ComesOn w home s (Asked question) rest =
-    Fits question (of_version s.router.spoken s.router.version) × ((rest ≡ []) ⊎ IsWholeAnswer w s.router.spoken home question s.router.table rest)
+    Fits question (of_version s.router.spoken s.router.version) × ((rest ≡ []) ⊎ IsWholeAnswer w s.router.spoken home s.read_at question s.router.table rest)
 ComesOn w home s (Answering a) rest =
     Fits a.question (of_version s.router.spoken s.router.version) × (under_way s.items ≡ Some a)
-    × IsWholeAnswer w s.router.spoken home a.question s.router.table (answered s.items ++ rest)
+    × IsWholeAnswer w s.router.spoken home s.read_at a.question s.router.table (answered s.items ++ rest)
 ComesOn w home s link rest = ⊤
 
 -- these are notifies alone, and there are none once a version is agreed on

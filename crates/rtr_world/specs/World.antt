@@ -1,11 +1,13 @@
 -- One cache, its routers, and for each connection two wires of bytes (RFC 8210 sections 5 to 8).
 use Rattle.std.specs.Prelude.{ℕ, zero, suc, Bool, true, false, List, [], ◌∷◌, ◌++◌, map, take, drop, Option, Some, None, if◌then◌else◌}
+use Rattle.std.specs.List.{list_any}
 use Rattle.vrps.specs.Instance.{Instance}
 use Rattle.vrps.specs.Store.{published}
 use Rattle.vrps.specs.VrpSet.{VrpSet}
 use Rattle.rtr_pdu.specs.declared.version.Version.{Version}
 use Rattle.rtr_ends.specs.declared.link.End.{End}
 use Rattle.rtr_ends.specs.Cache.{Conn, Taking, new_conn, conn_takes, conn_notified, conn_pulled}
+use Rattle.rtr_ends.specs.Connection.{ConnMoment, Read, Wanting}
 use Rattle.rtr_ends.specs.Feeding.{FedPiece}
 use Rattle.rtr_ends.specs.LinkRules.{Router, new_router}
 use Rattle.rtr_ends.specs.Router.{Noted, Receiving, of_received, receives, router_pulled, connects_at, closed_at, ticks_at, asks}
@@ -23,14 +25,15 @@ pub record Ending : Type 0 where
 
 -- A router and its connection: the cache's side of it, none where it is closed there; the bytes on the way to the cache and to the
 -- router; and the instance as it was when the connection was made, none when the router was told that it is closed.
--- What stands behind, the last first, no event looks at: the transcript, the ends of links, and the places of the versions that
--- were committed, as they were then.
+-- What stands behind no event looks at: the cache as it was when it last read a unit on the connection, none before it did; and, the last
+-- first, the transcript, the ends of links, and the places of the versions that were committed, as they were then.
 pub record Side : Type 0 where
   pub router : Router
   pub conn : Option Conn
   pub up : List ℕ
   pub down : List ℕ
   pub home : Option Instance
+  pub read_at : Option Instance
   pub items : List Item
   pub endings : List Ending
   pub places : List (Option VersionPlace)
@@ -49,7 +52,7 @@ abbrev pub timing : Intervals
 timing = default_intervals
 
 abbrev pub new_side : Side
-new_side = record { router = new_router; conn = None; up = []; down = []; home = None; items = []; endings = []; places = [] }
+new_side = record { router = new_router; conn = None; up = []; down = []; home = None; read_at = None; items = []; endings = []; places = [] }
 
 abbrev pub new_sides : ℕ → List Side
 new_sides zero = []
@@ -117,10 +120,11 @@ connects w s = record (noted (instances w) (connects_at s.router.now s.router) s
   up = [];
   down = [];
   home = Some w.present;
+  read_at = None;
 }
 
 unfoldable pub router_restarts : Side → Side
-router_restarts s = record s { router = new_router; conn = None; up = []; down = []; home = None; items = Restarts ∷ s.items }
+router_restarts s = record s { router = new_router; conn = None; up = []; down = []; home = None; read_at = None; items = Restarts ∷ s.items }
 
 -- The next connection of the router is of this version.
 unfoldable pub speaks : Version → Side → Side
@@ -136,11 +140,20 @@ sends_from keep most s (Some o) = record s { conn = Some (conn_pulled keep timin
 unfoldable pub cache_sends : World → ℕ → Side → Side
 cache_sends w most s = sends_from w.keep most s s.conn
 
+-- A unit was read at one of these moments.
+abbrev pub is_read : ConnMoment → Bool
+is_read (Read version cache unit bytes) = true
+is_read (Wanting version cache unit bytes) = true
+is_read m = false
+
+abbrev pub read_by : Instance → List ConnMoment → Option Instance → Option Instance
+read_by present moments before = if list_any is_read moments then Some present else before
+
 abbrev pub gets_at : World → ℕ → Option ℕ → Side → Option Conn → Side
 gets_at w most wanting s None = s
 gets_at w most wanting s (Some o) =
     let f : FedPiece Taking = conn_takes w.keep timing w.present wanting (take most s.up) o in
-    record s { conn = Some f.machine.conn; up = f.rest ++ drop most s.up }
+    record s { conn = Some f.machine.conn; up = f.rest ++ drop most s.up; read_at = read_by w.present f.machine.moments s.read_at }
 
 unfoldable pub cache_gets : World → ℕ → Option ℕ → Side → Side
 cache_gets w most wanting s = gets_at w most wanting s s.conn
@@ -188,7 +201,7 @@ side_refused w event bytes wanting s =
 
 -- the router is told `closed`
 abbrev pub tell_closed : List Instance → Side → Side
-tell_closed all s = if is_closed s.router.link then record s { home = None } else record (noted all (closed_at s.router.now s.router) s) { home = None }
+tell_closed all s = if is_closed s.router.link then record s { home = None; read_at = None } else record (noted all (closed_at s.router.now s.router) s) { home = None; read_at = None }
 
 -- A cache connection that ended, with nothing left to pull, is closed at the cache.
 abbrev pub close_ended : Side → Bool → List ℕ → Side

@@ -68,8 +68,8 @@ pub fn no_way_back()
 {}
 
 /// After every list of events what is on its way to a router on a live link is at most one answer, and what a cut took of it: the
-/// answer of its cache to its question, as the cache was at some time after the connection was made. Its records lead from what the
-/// router holds to the set that was published under its End of Data. Notifies may stand between its units. Between events no link has
+/// answer of its cache to its question, as the cache was when the question was read, after the connection was made. Its records lead from
+/// what the router holds to the set that was published under its End of Data. Notifies may stand between its units. Between events no link has
 /// ended, and a closed one holds nothing, has nothing to be pulled, and nothing is on the wire to it. When a question is read at the cache,
 /// what is due then is the answer of the cache as it is at that event, of the version that is current there, or Error Report 1 where memory
 /// is wanting at a unit of that event.
