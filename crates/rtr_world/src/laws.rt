@@ -49,9 +49,9 @@ pub fn headline()
 
 /// A link ends by want of memory at the router, by the expiry of its version, by an Error Report of code 1 (want of memory at the
 /// cache), or by one of code 0 to a Serial Query of another session than the cache's, and by nothing else. These are the ends that were
-/// noted, and each link that ends by an event is noted, one that is refused after some bytes included, and stays noted in the clean-up; none
-/// that was noted is dropped, and an event adds one at most. Where no outcome of bytes that arrive at a router names a unit, no link ended by want of memory at its
-/// router.
+/// noted, and each link that ends by an event is noted, one that is refused after some bytes included, and stays noted in the clean-up;
+/// none that was noted is dropped, and an event adds one at most. Where no outcome of bytes that arrive at a router names a unit, no link
+/// ended by want of memory at its router.
 pub fn lawful_ends()
     ensures lawful { LawfulEnds }
     ensures noted { EndsNoted }

@@ -204,8 +204,9 @@ impl World {
     /// empty if it holds no session, and otherwise is exactly the set that the cache published under the version, session and serial of the
     /// End of Data that this router committed last, each announcement and each withdrawal having acted exactly once, and the router's
     /// answer for every route is RFC 6811's state over that set. Besides, each router holds what its transcript keeps; at most one
-    /// answer is on its way to it, that of the cache as it was when the question was read; it commits no version that was published before one that it committed; and its link ends by want of
-    /// memory, by expiry, by a report of want of memory, or by one of another session, and by nothing else.
+    /// answer is on its way to it, that of the cache as it was when the question was read; it commits no version that was published before
+    /// one that it committed; and its link ends by want of memory, by expiry, by a report of want of memory, or by one of another session,
+    /// and by nothing else.
     pub fn run(&mut self, events: &[Event]) -> usize
         ensures steps { (made : Made) (history : List Entry) → LeadsTo made history self.old → RunsTo made history (map event_of events.now) result self.new }
         ensures tables { (made : Made) (history : List Entry) → LeadsTo made history self.old → RunsSo made history (map event_of events.now) result self.new (λ w s. IsKept s.router s.items) }
