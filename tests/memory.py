@@ -64,6 +64,7 @@ def queried(parts, refusals):
 
 
 OPENED = "open\n"
+NO_DATA = units("010a00020000001800000008", RESET, "00000000")
 CHANGES = [units(RESPONSE, V_UNIT[:4]) + OPENED, units(ANSWER[20:]) + OPENED] + 2 * [units(RESPONSE, W_UNIT, end(6)) + OPENED]
 RUNS = {
     "payload_runs::decode_one_prefix": once(V),
@@ -91,7 +92,10 @@ RUNS = {
     ),
     "end_runs::answer_a_reset_query": once(units(ANSWER) + OPENED),
     "end_runs::answer_a_serial_query": queried(CHANGES, [2, 3]),
-    "end_runs::answer_an_old_serial": queried([units(RESPONSE, end(7)) + OPENED, units("0108000000000008") + OPENED], [0]),
+    "end_runs::answer_an_old_serial": queried(
+        [units(RESPONSE, end(7)) + OPENED, units("0108000000000008") + OPENED, units(RESPONSE, V_UNIT, end(7)) + OPENED], [0]
+    ),
+    "end_runs::answer_without_data": once(NO_DATA + OPENED),
     "end_runs::commit_an_answer": ("Idle 1 4660 5\n", ["Ended(Memory) 0\nIdle 1 4660 5\n"]),
     "end_runs::commit_a_change": ("Idle 2 4660 6\n", ["Ended(Memory) 1 4660 5\nIdle 2 4660 6\n"]),
     "feed_runs::judge_a_route": once("valid\n" + units("0103000100000008", V_UNIT, "010700010000001800000000", end(5)[24:])),
@@ -106,11 +110,11 @@ YES = "yes\n"
 # What the program of tests prints behind a run.
 WELL = "\ntest result: ok\n"
 FREE = {
-    "free_runs::free_faults": "6 at 2\n20 at 33\n12 at 25\n4 at 19\n" + 3 * "1 at 0\n" + "3 at 0\n4 at 2\n7 at 2\n1 at 7\n",
+    "free_runs::free_faults": "6 at 2\n20 at 33\n12 at 25\n4 at 19\n" + 25 * "1 at 0\n" + "5 at 25\n3 at 0\n4 at 2\n7 at 2\n1 at 7\n",
     "free_runs::free_readings": 4 * YES + "no\n" + 8 * YES,
     "free_runs::free_roas": 2 * YES,
     "free_runs::free_states": 3 * YES + units(QUERY) + "Ended(Expired) 0\n" + units(RESET),
-    "free_runs::free_answers": YES + units(ANSWER) + YES + units("010012340000000c00000005") + units(RESPONSE, end(5)) + YES + "no\n",
+    "free_runs::free_answers": YES + units(ANSWER) + YES + units("010012340000000c00000005") + units(RESPONSE, end(5)) + YES + "no\n" + NO_DATA + YES,
     "free_runs::free_units": units(RESPONSE) + 4 * YES + units(RESPONSE),
 }
 

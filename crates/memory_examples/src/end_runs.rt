@@ -104,7 +104,7 @@ fn answer_a_serial_query(rt: HostRuntime) -> Result<(), Fail> {
     tell_pulled(&rt, &mut cache, other, 64)
 }
 
-/// Versions 4 to 7 of which two before the current one are kept: from 5 on nothing changed, 4 is forgotten.
+/// Versions 4 to 7 of which two before the current one are kept: from 5 on nothing changed, 4 is forgotten, and its router asks for all.
 #[test]
 fn answer_an_old_serial(rt: HostRuntime) -> Result<(), Fail> {
     let alloc = rt.alloc();
@@ -124,7 +124,18 @@ fn answer_an_old_serial(rt: HostRuntime) -> Result<(), Fail> {
     tell_pulled(&rt, &mut cache, conn, 64)?;
     let old = opened(&rt, &mut cache)?;
     cache.receive(old, b"\x01\x01\x12\x34\x00\x00\x00\x0c\x00\x00\x00\x04");
+    tell_pulled(&rt, &mut cache, old, 64)?;
+    cache.receive(old, RESET_QUERY);
     tell_pulled(&rt, &mut cache, old, 64)
+}
+
+#[test]
+fn answer_without_data(rt: HostRuntime) -> Result<(), Fail> {
+    let mut cache = cache_from(rt.alloc(), 5)?;
+    begin(rt.alloc())?;
+    let conn = opened(&rt, &mut cache)?;
+    cache.receive(conn, RESET_QUERY);
+    tell_pulled(&rt, &mut cache, conn, 64)
 }
 
 /// Prints the link, the size of the table, and what is committed.

@@ -40,9 +40,17 @@ fn free_faults(rt: HostRuntime) -> Result<(), Fail> {
     \x30\x10\x30\x0e\x04\x02\x00\x01\
     \x30\x08\x30\x06\x03\x04\x01\xc0\x00\x03";
     tell_decoded(&rt, host_bits)?;
-    for short in [&ONE_PREFIX[..0], &ONE_PREFIX[..1], &ONE_PREFIX[..24]] {
-        tell_decoded(&rt, short)?;
+    for count in 0..ONE_PREFIX.len() {
+        if let Some(short) = ONE_PREFIX.get(..count) {
+            tell_decoded(&rt, short)?;
+        }
     }
+    let longer = b"\
+    \x30\x17\x02\x03\x00\xfb\xf0\
+    \x30\x10\x30\x0e\x04\x02\x00\x01\
+    \x30\x08\x30\x06\x03\x04\x00\xc0\x00\x02\
+    \x00";
+    tell_decoded(&rt, longer)?;
     for other in [
         b"\x30\x80".as_slice(),
         b"\x30\x04\x02\x02\x00\x01",
@@ -148,6 +156,8 @@ fn free_answers(rt: HostRuntime) -> Result<(), Fail> {
     let mut cache = cache_from(rt.alloc(), 5)?;
     cache.publish(set_of(rt.alloc(), &[V])?)?;
     let (conn, other) = (cache.open()?, cache.open()?);
+    let mut empty = cache_from(rt.alloc(), 5)?;
+    let early = empty.open()?;
     begin(rt.alloc())?;
     let mut room = [0u8; 64];
     tell_whether(&rt, cache.receive(conn, RESET_QUERY) == 8)?;
@@ -161,7 +171,11 @@ fn free_answers(rt: HostRuntime) -> Result<(), Fail> {
     tell_bytes(&rt, &room[..count])?;
     tell_whether(&rt, cache.is_open(other))?;
     cache.close(conn);
-    tell_whether(&rt, cache.is_open(conn))
+    tell_whether(&rt, cache.is_open(conn))?;
+    empty.receive(early, RESET_QUERY);
+    let count = empty.pull(early, &mut room);
+    tell_bytes(&rt, &room[..count])?;
+    tell_whether(&rt, empty.is_open(early))
 }
 
 #[test]
