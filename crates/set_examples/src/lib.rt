@@ -5,6 +5,8 @@
 #[cfg(test)]
 mod logs;
 #[cfg(test)]
+mod probes;
+#[cfg(test)]
 mod sets;
 #[cfg(test)]
 mod states;

@@ -219,24 +219,6 @@ fn families_are_judged_apart(rt: HostRuntime) -> Result<(), Fail> {
     expect_states(&rt, &records, &table)
 }
 
-#[test]
-fn few_groups_are_read(rt: HostRuntime) -> Result<(), Fail> {
-    let nested = [("10.0.0.0/8", 24, 1), ("10.1.0.0/16", 16, 2)];
-    let index = OriginIndex::over(rt.alloc(), &set_of(rt.alloc(), &nested)?)?;
-    let table = [
-        ("10.1.2.0/24", OriginState::Valid, 50),
-        ("0.0.0.0/0", OriginState::NotFound, 2),
-    ];
-    for (text, want, most) in table {
-        let prefix = IpPrefix::parse(text)?;
-        let origin = Some(1);
-        let (state, probes) = index.state_counted(&Route { prefix, origin });
-        assert!(rt; state == want, "{text}");
-        assert!(rt; probes <= most, "{text}: {probes}");
-    }
-    Ok(())
-}
-
 fn expect_no_reading<R: AllocGlobal + Abort>(rt: &R, index: &OriginIndex) -> Result<(), Fail> {
     let prefix = IpPrefix::parse("10.0.0.0/8")?;
     let origin = Some(1);
