@@ -6,7 +6,8 @@ use Rattle.vrps.specs.Instance.{Instance, IsInstance}
 use Rattle.vrps.specs.Store.{published}
 use Rattle.vrps.proofs.SetVersions.{published_is_instance}
 use Rattle.rtr_ends.specs.Cache.{ConnCall, Conn, Gives, IsConnCall, IsServed, Notifies, Publishes, Takes, conn_notified, conn_pulled, conn_takes, new_conn, serve, serving}
-use Rattle.rtr_ends.specs.CacheState.{CacheCall, CacheState, Close, EachIsServed, Pull, IsCacheCall, IsLife, Life, Open, Publish, Receive, Notify, cache_called, life, life_after, ran, serves, without_conns}
+use Rattle.rtr_ends.specs.declared.cache.Cache.{Cache}
+use Rattle.rtr_ends.specs.CacheState.{CacheCall, CacheIsServed, CacheState, Close, EachIsServed, Pull, IsCacheCall, IsLife, Life, Open, Publish, Receive, Notify, cache_called, life, life_after, ran, serves, without_conns}
 use Rattle.rtr_ends.specs.Timing.{Intervals}
 use Rattle.rtr_ends.proofs.ServingLaws.{serves_history}
 use Rattle.prefixes.proofs.Basics.{eq_of}
@@ -117,3 +118,7 @@ is_line keep t i a (Some x) h = record {
 pub each_is_served : EachIsServed
 each_is_served keep t i calls is all c =
     is_line _ _ _ _ _ ((all_agree calls (without_conns keep t i) is (λ d. refl) all).1 c)
+
+-- So it is of a value that the calls lead to.
+pub cache_is_served : {S : Type 0} (holds : ℕ → Instance → S → Type 0) (cache : Cache S) → CacheIsServed holds cache
+cache_is_served holds cache keep t i calls leads is all c = record { shown = leads.slots c; served = each_is_served keep t i calls is all c }

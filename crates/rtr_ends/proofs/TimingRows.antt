@@ -1,6 +1,6 @@
 -- The intervals at both sides of each of their bounds, worked out.
-use Rattle.std.proofs.Common.{◌≡◌, ℕ, ◌≤◌, ◌<◌, arith, refl}
-use Rattle.rtr_ends.specs.Timing.{Intervals, InRange, IsTiming, OutlastsOthers, default_intervals, intervals}
+use Rattle.std.proofs.Common.{◌≡◌, ℕ, arith, refl}
+use Rattle.rtr_ends.specs.Timing.{InRange, IsTiming, OutlastsOthers, default_intervals, intervals}
 use Rattle.rtr_ends.specs.Transcript.{bounded}
 
 -- Each bound is in its range,

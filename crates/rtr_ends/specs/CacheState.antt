@@ -201,3 +201,18 @@ abbrev pub EachIsServed : Type 0
 EachIsServed =
     (keep : ℕ) (t : Intervals) (i : Instance) (calls : List CacheCall) → IsInstance i → AllByRecursion IsCacheCall calls → (c : ℕ) →
     let m : CacheState = ran calls (without_conns keep t i) in IsLife m.keep m.timing m.cache (m.at c) (life calls (without_conns keep t i) c)
+
+-- These calls, the last first, lead to the value, from a new cache that keeps so many versions, with these intervals and this instance.
+-- What the contract of a call says of a state, it says of the one after these calls, and the next is the state after one call more.
+abbrev pub CacheCallsLead : {S : Type 0} → (ℕ → Instance → S → Type 0) → ℕ → Intervals → Instance → List CacheCall → Cache S → Type 0
+CacheCallsLead holds keep t i calls cache = ShowsCache holds (ran calls (without_conns keep t i)) cache
+
+-- What stands in the value under a number is a connection as its own calls leave it, and they made its history; or none is open there.
+pub record SlotIsServed {S : Type 0} (m : CacheState) (c : ℕ) (l : Option Life) (cache : Cache S) : Type 0 where
+  pub shown : ShowsSlot m.timing m.cache (m.at c) (peer_at cache.peers.items c)
+  pub served : IsLife m.keep m.timing m.cache (m.at c) l
+
+abbrev pub CacheIsServed : {S : Type 0} → (ℕ → Instance → S → Type 0) → Cache S → Type 0
+CacheIsServed holds cache =
+    (keep : ℕ) (t : Intervals) (i : Instance) (calls : List CacheCall) → CacheCallsLead holds keep t i calls cache → IsInstance i → AllByRecursion IsCacheCall calls →
+    (c : ℕ) → SlotIsServed (ran calls (without_conns keep t i)) c (life calls (without_conns keep t i) c) cache

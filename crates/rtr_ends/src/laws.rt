@@ -1,6 +1,6 @@
 //! Laws of the definitions. These functions do nothing: their contracts are the laws.
 ghost use Rattle.rtr_ends.specs.Cache.{ConnStops, ConnTakes, ServesHistory};
-ghost use Rattle.rtr_ends.specs.CacheState.{AllHaveRoom, CacheState, EachIsServed, ShowsCache};
+ghost use Rattle.rtr_ends.specs.CacheState.{AllHaveRoom, CacheIsServed, CacheState, EachIsServed, ShowsCache};
 ghost use Rattle.rtr_ends.specs.Commit.{ChangeCommits, OneCommit};
 ghost use Rattle.rtr_ends.specs.Connection.{HistorySplits, PulledAreReplies};
 ghost use Rattle.rtr_ends.specs.Consumed.{RouterSplits};
@@ -85,6 +85,12 @@ pub fn router_speaks()
 /// What is called on a cache, in any order and on any number of connections, makes the history of each of them, since it was opened.
 pub fn each_is_served()
     ensures { EachIsServed }
+{}
+
+/// So it is with the value that such calls lead to: what stands in it under a number is the connection that its own calls made, what was
+/// pulled from it is the beginning of its replies, and what it has due is the rest of them.
+pub fn cache_is_served<S: VersionStore>(cache: &Cache<S>)
+    ensures { CacheIsServed S.holds cache.now }
 {}
 
 /// After every call on a cache each of its connections holds at most 4,096 bytes that came and are not yet a whole unit, and at most
