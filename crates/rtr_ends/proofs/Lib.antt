@@ -24,6 +24,7 @@ pub mod RouterBytes
 pub mod RouterCells
 pub mod RouterRows
 pub mod RouterSteps
+pub mod SaidLaws
 pub mod SeenLaws
 pub mod SenderLaws
 pub mod ServeStreamLaws

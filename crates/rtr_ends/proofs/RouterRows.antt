@@ -13,6 +13,7 @@ use Rattle.rtr_pdu.specs.declared.version.Version.TheVariants.{V1}
 use Rattle.rtr_ends.specs.Answer.{report, sent}
 use Rattle.rtr_ends.specs.LinkRules.{Router, Staged, Stays, Wrong, Over, on_unit, new_router, stage, staged, is_staged}
 use Rattle.rtr_ends.specs.Router.{Noted, router_byte, receives, clocked, connects_at, closed_at, ticks_at, asks, router_pulled, played, called, Connects, Receives, Pulls, Closes, AsksNow, Ticks, lacks, asked_by}
+use Rattle.rtr_ends.specs.RouterLaws.{pulled_by, questions_in}
 use Rattle.rtr_ends.specs.RouterLink.{Closed, Idle, Asked, Answering, Ended}
 use Rattle.rtr_ends.specs.Transcript.{Item, At, Opened, Asks, Reads, Lacks, Breaks, Shut, Begun, Committed, AskReset, AskSerial, kept, led_to}
 use Rattle.rtr_ends.specs.Timing.{default_intervals}
@@ -35,6 +36,19 @@ connects = refl
 first_query : (called (Connects 100) new_router).router.out ≡ reset_bytes
 unfolding connects_at clocked
 first_query = refl
+
+-- What was pulled of it and what is to be pulled are the bytes of the question.
+pulls_a_part : (pulled_by (Pulls 3 ∷ Connects 100 ∷ []) ≡ take 3 reset_bytes) × ((played (Pulls 3 ∷ Connects 100 ∷ [])).router.out ≡ drop 3 reset_bytes)
+    × (questions_in V1 (played (Pulls 3 ∷ Connects 100 ∷ [])).items ≡ reset_bytes)
+unfolding connects_at clocked router_pulled
+pulls_a_part = (refl, refl, refl)
+
+-- The questions of the latest connection alone, in their order
+questions_of_latest : questions_in V1 (Asks AskReset ∷ Reads CacheReset ∷ At 100 ∷ Asks (AskSerial 0x1234 5) ∷ Opened V1 ∷ Shut ∷ Asks AskReset ∷ Opened V1 ∷ []) ≡ serial_bytes ++ reset_bytes
+questions_of_latest = refl
+
+pulled_of_latest : pulled_by (Connects 200 ∷ Pulls 8 ∷ Connects 100 ∷ []) ≡ []
+pulled_of_latest = refl
 
 -- the Cache Response
 abbrev pub nothing_yet : Begun

@@ -1,13 +1,15 @@
 -- What a router takes of a piece, holds, asks and speaks, whatever it is told and reads.
-use Rattle.std.specs.Prelude.{◌≡◌, ℕ, Bool, true, false, not, List, [], ◌∷◌, ◌++◌, Option, Some, None}
+use Rattle.std.specs.Prelude.{◌≡◌, ◌⊎◌, ℕ, Bool, true, false, not, List, [], ◌∷◌, ◌++◌, take, Option, Some, None}
 use Rattle.vrps.specs.VrpSet.{VrpSet}
 use Rattle.rtr_pdu.specs.declared.version.Version.{Version}
 use Rattle.rtr_pdu.specs.declared.version.Version.TheVariants.{V1}
 use Rattle.rtr_pdu.specs.Judging.{Begins, judge}
+use Rattle.rtr_ends.specs.declared.link.End.TheVariants as ends
+use Rattle.rtr_ends.specs.Answer.{report, sent}
 use Rattle.rtr_ends.specs.Feeding.{IsTaken}
-use Rattle.rtr_ends.specs.Transcript.{Item, At, choose, spoken, of_version, base_of, kept, due, moment, is_connected, waiting, under_way, has_agreed, responded, acts_once, marked, AsksRightly}
+use Rattle.rtr_ends.specs.Transcript.{Item, At, Opened, Asks, choose, query, spoken, of_version, base_of, kept, due, moment, is_connected, waiting, under_way, has_agreed, responded, acts_once, marked, AsksRightly}
 use Rattle.rtr_ends.specs.LinkRules.{Router}
-use Rattle.rtr_ends.specs.Router.{router_stops, Receiving, router_byte, clocked, receives, RouterCall, Connects, Speaks, played}
+use Rattle.rtr_ends.specs.Router.{router_stops, Receiving, router_byte, clocked, receives, RouterCall, Connects, Pulls, Speaks, played}
 use Rattle.rtr_ends.specs.RouterLink.{Link, Closed, Idle, Asked, Answering, Ended}
 
 -- What a router takes of a piece, whatever it is
@@ -74,3 +76,46 @@ connected_version (call ∷ calls) = connected_version calls
 abbrev pub RouterSpeaks : Type 0
 RouterSpeaks =
     (calls : List RouterCall) → ((played calls).router.speaks ≡ told_version calls) × (spoken (played calls).items ≡ connected_version calls)
+
+-- the bytes of the questions of the latest connection, which is of this version, in their order. The items stand with the last first.
+abbrev pub questions_in : Version → List Item → List ℕ
+questions_in version [] = []
+questions_in version (Opened opened ∷ items) = []
+questions_in version (Asks question ∷ items) = questions_in version items ++ sent version (query question)
+questions_in version (item ∷ items) = questions_in version items
+
+-- the bytes that were pulled since the latest connection was made. The calls stand with the last first.
+abbrev pub pulled_by : List RouterCall → List ℕ
+pulled_by [] = []
+pulled_by (Connects now ∷ calls) = []
+pulled_by (Pulls most ∷ calls) = pulled_by calls ++ take most (played calls).router.out
+pulled_by (call ∷ calls) = pulled_by calls
+
+-- These bytes are an Error Report of this code.
+abbrev pub IsReport : Version → ℕ → List ℕ → Type 0
+IsReport version code bytes = (copy : List ℕ) × (bytes ≡ sent version (report code copy))
+
+-- What is said behind the questions: the report by which the link ended, and nothing on a link that ended otherwise or is open. Before
+-- it was closed a link may have ended either way.
+abbrev pub SaysLast : Link → Version → List ℕ → Type 0
+SaysLast (Ended (ends.Reported code)) version bytes = IsReport version code bytes
+SaysLast Closed version bytes = (bytes ≡ []) ⊎ ((code : ℕ) × IsReport version code bytes)
+SaysLast link version bytes = bytes ≡ []
+
+-- What was not pulled is dropped where the link is closed, and where a Serial Query expires.
+abbrev pub is_cut : Link → Bool
+is_cut Closed = true
+is_cut (Ended ends.Expired) = true
+is_cut link = false
+
+-- The bytes that a router gave on its latest connection, those to be pulled, and those dropped where it was cut are its questions and
+-- then its report, if there is one.
+pub record HasSaid (r : Router) (items : List Item) (given : List ℕ) : Type 0 where
+  pub report : List ℕ
+  pub reported : SaysLast r.link r.spoken report
+  pub dropped : List ℕ
+  pub said : given ++ (r.out ++ dropped) ≡ questions_in r.spoken items ++ report
+  pub whole : is_cut r.link ≡ false → dropped ≡ []
+
+abbrev pub RouterSays : Type 0
+RouterSays = (calls : List RouterCall) → HasSaid (played calls).router (played calls).items (pulled_by calls)

@@ -5,7 +5,7 @@ ghost use Rattle.rtr_ends.specs.Commit.{ChangeCommits, OneCommit};
 ghost use Rattle.rtr_ends.specs.Connection.{HistorySplits, PulledAreReplies};
 ghost use Rattle.rtr_ends.specs.Consumed.{RouterSplits};
 ghost use Rattle.rtr_ends.specs.Peer.{HasBufferRoom};
-ghost use Rattle.rtr_ends.specs.RouterLaws.{RouterAsks, RouterKeeps, RouterSpeaks, RouterStops, RouterTakes};
+ghost use Rattle.rtr_ends.specs.RouterLaws.{RouterAsks, RouterKeeps, RouterSays, RouterSpeaks, RouterStops, RouterTakes};
 ghost use Rattle.rtr_ends.specs.RouterShown.{held_by_router};
 ghost use Rattle.rtr_ends.specs.Transcript.{ActsExactly};
 
@@ -80,6 +80,13 @@ pub fn router_asks()
 /// latest one is of the version that it had been told by then.
 pub fn router_speaks()
     ensures { RouterSpeaks }
+{}
+
+/// After any calls the bytes that were pulled from a router on its latest connection, and those to be pulled, are those of its questions in
+/// their order, and then of the report by which the link ended, if it did so. What was not pulled is lost where the link is closed or a
+/// Serial Query expires, and nothing is said after that.
+pub fn router_says()
+    ensures { RouterSays }
 {}
 
 /// What is called on a cache, in any order and on any number of connections, makes the history of each of them, since it was opened.
