@@ -22,13 +22,13 @@ use Rattle.rtr_ends.specs.Timing.{default_intervals}
 use Rattle.rtr_ends.specs.Transcript.{At, Opened, Asks, Reads, Refused, Restarts, Shut, Item, AskReset, AskSerial, Committed}
 use Rattle.rtr_ends.proofs.WholeAnswerRows.{v, v_ascends, cache, with_all_of, reset_bytes, response_bytes, v_bytes, end_bytes}
 use Rattle.rtr_world.specs.CatchUp.{HoldsNewest}
-use Rattle.rtr_world.specs.Claims.{OfAnother}
+use Rattle.rtr_world.specs.Claims.{OfAnother, told}
 use Rattle.rtr_world.specs.SideShown.{held_of}
 use Rattle.rtr_world.specs.declared.event.WorldFault.TheVariants as faults
 use Rattle.rtr_world.specs.VersionPlaces.{position_of, version_place_of}
 use Rattle.rtr_world.specs.Events.{outcome_fault}
-use Rattle.rtr_world.specs.History.{Done, SessionUsed, TooManyVersions, NoSuchRouter, Memory, after, refusal, may_refuse, moved, MayEnd, has_connection, is_near, room_for, room_since}
-use Rattle.rtr_world.specs.World.{Side, World, Publish, Restart, On, RouterRestart, Speak, Connect, RouterSends, CacheGets, CacheSends, RouterGets, Cut, NotifyRouter, Ask, Tick, new_side, connects, router_sends, cache_gets, cache_sends, router_gets, router_restarts, speaks, cut, side_step, side_refused, settle, goes_through, settled, is_refused}
+use Rattle.rtr_world.specs.History.{Done, SessionUsed, TooManyVersions, NoSuchRouter, Memory, Entry, after, refusal, may_refuse, moved, MayEnd, has_connection, is_near, room_for, room_since}
+use Rattle.rtr_world.specs.World.{Side, World, Event, Publish, Restart, On, RouterRestart, Speak, Connect, RouterSends, CacheGets, CacheSends, RouterGets, Cut, NotifyRouter, Ask, Tick, new_side, connects, router_sends, cache_gets, cache_sends, router_gets, router_restarts, speaks, cut, side_step, side_refused, settle, goes_through, settled, is_refused}
 
 abbrev just_v : VrpSet
 just_v = set_of (v ∷ [])
@@ -375,3 +375,13 @@ not_where_it_sends h = absurd (let e : false ≡ true = h in cc)
 told_as : (bytes : ℕ) (wanting : Option ℕ) → (outcome_fault (Done wanting) ≡ None) × (outcome_fault SessionUsed ≡ Some faults.SessionUsed) × (outcome_fault TooManyVersions ≡ Some faults.TooManyVersions)
     × (outcome_fault NoSuchRouter ≡ Some faults.NoSuchRouter) × (outcome_fault (Memory bytes wanting) ≡ Some faults.Memory)
 told_as bytes wanting = (refl, refl, refl, refl, refl)
+
+-- What a router was told: the last that went through counts, of this router alone, and not what was told before it restarted.
+abbrev went : Event → Entry
+went event = record { event = event; outcome = Done None }
+
+told_last : (told 0 [] ≡ V1) × (told 0 (went (On 0 (Speak V0)) ∷ []) ≡ V0) × (told 1 (went (On 0 (Speak V0)) ∷ []) ≡ V1)
+    × (told 0 (went (On 0 (Speak V0)) ∷ went (On 0 Connect) ∷ went (On 0 (Speak V1)) ∷ []) ≡ V1) × (told 0 (went (On 0 (Speak V0)) ∷ went (On 1 RouterRestart) ∷ []) ≡ V0)
+    × (told 0 (went (On 0 (Speak V0)) ∷ went (On 0 RouterRestart) ∷ []) ≡ V1)
+    × (told 0 (went (On 0 (Speak V0)) ∷ record { event = On 0 RouterRestart; outcome = Memory 0 None } ∷ []) ≡ V0)
+told_last = (refl, refl, refl, refl, refl, refl, refl)
