@@ -1,6 +1,6 @@
 -- A new router that is handed the answer of a cache with one version.
-use Rattle.std.specs.Prelude.{◌≡◌, ℕ, Bool, true, false, not, ◌&&◌, List, [], ◌∷◌, ◌++◌, map, Option, Some, Result, if◌then◌else◌, refl, ⊤}
-use Rattle.std.proofs.Common.{sym, ap, ◌∙◌, subst, append_assoc, append-nil, arith}
+use Rattle.std.specs.Prelude.{◌≡◌, ℕ, Bool, true, false, not, ◌&&◌, List, [], ◌∷◌, ◌++◌, map, Some, if◌then◌else◌, refl, ⊤}
+use Rattle.std.proofs.Common.{sym, ap, ◌∙◌, subst, append-nil, arith}
 use Rattle.std.specs.List.{AllByRecursion, All}
 use Rattle.std.proofs.lemmas.List.Elements.{All-head, All-tail}
 use Rattle.prefixes.specs.Payload.{IsPayload, Payload}
@@ -14,20 +14,18 @@ use Rattle.rtr_pdu.specs.declared.version.Version.TheVariants.{V1}
 use Rattle.rtr_ends.specs.Answer.{sent_all}
 use Rattle.rtr_ends.specs.Cache.{finds_memory}
 use Rattle.rtr_ends.specs.Consumed.{IsRouterCall, came, units_read_in}
-use Rattle.rtr_ends.specs.FetchStream.{Fetches, IsFetchCall, calls_since}
+use Rattle.rtr_ends.specs.FetchStream.{IsFetchCall, calls_since}
 use Rattle.rtr_ends.specs.RouterLink.{name_of}
 use Rattle.rtr_ends.specs.Router as model
 use Rattle.rtr_ends.specs.LinkRules.{Router, may_lack, on_unit}
 use Rattle.rtr_ends.specs.Router.{RouterCall, Closes, Connects, AsksNow, Ticks, Pulls, Speaks, Receives, Receiving, asked_by, called, closed_at, connects_at, played, receives, router_byte, router_pulled, router_stops, with_bytes}
 use Rattle.rtr_ends.specs.RouterLink.{Answering, Asked, Closed, Ended, Idle, Link}
 use Rattle.rtr_ends.specs.RouterLaws.{RouterSpeaks, connected_version}
-use Rattle.rtr_ends.specs.RouterShown.{CallsLead}
+use Rattle.rtr_ends.specs.RouterShown.{CallsLead, LeadsOn}
 use Rattle.rtr_ends.specs.Transcript.{Asks, At, Breaks, Item, Lacks, Opened, Reads, Refused, Restarts, Shut, kept, spoken}
-use Rattle.rtr_ends.specs.declared.fetching.Fetched.{Fetched}
 use Rattle.rtr_ends.specs.declared.router.Router as code
-use Rattle.rtr_ends.specs.declared.streams.StreamFault.{StreamFault}
 use Rattle.feed.specs.Feed.{answer_bytes}
-use Rattle.feed.specs.Loopback.{HasTable}
+use Rattle.feed.specs.Loopback.{HasTable, Took}
 use Rattle.feed.proofs.Serving.{feed_keeps, sent_in}
 use Rattle.rtr_ends.specs.Connection.{bytes_sent, in_version}
 use Rattle.feed.proofs.FrontUnits.{read_are_first}
@@ -143,18 +141,17 @@ answer_is set = ap bytes_sent (append-nil (in_version V1 (answer_units (listing 
 
 module _ (apart : NoBeginning) (written : WrittenIsRead) (same : SameMembers) (speaks : RouterSpeaks) where
   -- What such a router has committed is the set.
-  pub fetched : (set : VrpSet) (wire left : List ℕ) (reads : ℕ) (had has : Option (List ℕ)) (result : Result Fetched StreamFault) (new : code.Router) (name : Version × ℕ × ℕ) → All IsPayload (listing set) → wire ≡ answer_bytes set
-      → Fetches 0 [] (Some wire) (Some left) reads had has result new → ((calls : List RouterCall) → CallsLead calls new → Some name ≡ name_of (kept (played calls).items).version) → HasTable set new
-  fetched set wire left reads had has result new name payloads wire_is (f, led) named =
-      let calls : List RouterCall = Closes 0 ∷ calls_since f.turns 0 [] in
-      let s = led.split (tt, are_calls f.turns f.each) in
-      let version : spoken (played calls).items ≡ V1 = (speaks calls).1 ∙ connected_1 f.turns f.each in
-      let stream : s.split.front ++ (s.rest ++ (f.unread ++ left)) ≡ sent_all V1 (answer_units (listing set)) =
-      sym (append_assoc s.split.front s.rest (f.unread ++ left)) ∙ ap (λ b. b ++ (f.unread ++ left)) (sym s.split.whole ∙ append-nil (came (calls_since f.turns 0 []))) ∙ sym (append_assoc (came (calls_since f.turns 0 [])) f.unread left)
-      ∙ sym f.consumed ∙ wire_is ∙ answer_is set in
-      let first = read_are_first apart written true (answer_units (listing set)) (units_read_in (played calls).items) s.split.front (s.rest ++ (f.unread ++ left)) (all_units (listing set) payloads) (subst (λ v. AreRead v true (units_read_in (played calls).items) s.split.front) version s.split.read) stream in
+  pub fetched : (set : VrpSet) (wire : List ℕ) (old new : code.Router) (name : Version × ℕ × ℕ) → All IsPayload (listing set) → wire ≡ answer_bytes set → (t : Took wire old) → LeadsOn (Closes 0) old new
+      → ((calls : List RouterCall) → CallsLead calls new → Some name ≡ name_of (kept (played calls).items).version) → HasTable set new
+  fetched set wire old new name payloads wire_is t closes named =
+      let calls : List RouterCall = Closes 0 ∷ calls_since t.turns 0 [] in
+      let led = closes (calls_since t.turns 0 []) t.leads in
+      let s = led.split (tt, are_calls t.turns t.each) in
+      let version : spoken (played calls).items ≡ V1 = (speaks calls).1 ∙ connected_1 t.turns t.each in
+      let stream : s.split.front ++ s.rest ≡ sent_all V1 (answer_units (listing set)) = sym s.split.whole ∙ append-nil (came (calls_since t.turns 0 [])) ∙ t.came_is ∙ wire_is ∙ answer_is set in
+      let first = read_are_first apart written true (answer_units (listing set)) (units_read_in (played calls).items) s.split.front s.rest (all_units (listing set) payloads) (subst (λ v. AreRead v true (units_read_in (played calls).items) s.split.front) version s.split.read) stream in
       record {
         machine = (played calls).router;
         shown = led.leads;
-        table = led.kept.table ∙ holds same set (played calls).items first.0 (closed f.turns f.each) first.1 name (sym (named calls led.leads));
+        table = led.kept.table ∙ holds same set (played calls).items first.0 (closed t.turns t.each) first.1 name (sym (named calls led.leads));
       }

@@ -19,17 +19,16 @@ use Rattle.rtr_pdu.specs.Version.{first_version, version_in}
 use Rattle.rtr_pdu.specs.declared.version.Version.{Version}
 use Rattle.rtr_pdu.specs.declared.version.Version.TheVariants.{V1}
 use Rattle.rtr_ends.specs.Answer.{answer, sent, sent_all}
-use Rattle.rtr_ends.specs.Cache.{ConnCall, Conn, Gives, IsServed, Notifies, Publishes as Publication, Takes, Taking, and_moment, conn_byte, conn_stops, conn_takes, finds_memory, conn_moment_of, version_at}
+use Rattle.rtr_ends.specs.Cache.{ConnCall, Conn, Gives, IsServed, ServesHistory, Notifies, Publishes as Publication, Takes, Taking, and_moment, conn_byte, conn_stops, conn_takes, finds_memory, conn_moment_of, version_at}
 use Rattle.rtr_ends.specs.CacheState.{CacheState, ShowsCache, without_conns}
 use Rattle.rtr_ends.specs.Connection.{Connection, HistorySplits, IsHistory, ConnMoment, Read, Wanting, Fault, Notify, Pull, bytes_sent, conn_after, in_version, opened, replies_from, takes_memory, units_of}
 use Rattle.rtr_ends.specs.Feeding.{FedPiece, feed}
-use Rattle.rtr_ends.specs.ServeStream.{IsTurn, ServesConnection, stood}
+use Rattle.rtr_ends.specs.ServeStream.{IsTurn, stood}
 use Rattle.rtr_ends.specs.Timing.{Intervals, default_intervals}
 use Rattle.rtr_ends.specs.declared.cache.Cache.{Cache}
-use Rattle.rtr_ends.specs.declared.serving.Served.{Served}
-use Rattle.rtr_ends.specs.declared.serving.Served.TheVariants.{PeerClosed}
 use Rattle.feed.specs.Feed.{answer_bytes, cache_publishing}
-use Rattle.feed.specs.Loopback.{StartsWithSet}
+use Rattle.feed.specs.Loopback.{GaveAt, StartsWithSet, publishing}
+use Rattle.feed.proofs.Turns.{turns_are_calls}
 use Rattle.feed.proofs.FrontUnits.{never_empty}
 use Rattle.prefixes.proofs.Basics.{not_both, all_both}
 
@@ -170,31 +169,20 @@ module _ (apart : NoBeginning) (written : WrittenIsRead) (keep : ℕ) (t : Inter
       absurd (let e : [] ≡ ResetQuery ∷ [] = sym none ∙ units in cc)
   one_reply c (Notify version cache held ∷ later) new own h units = absurd own.0
 
--- ---- the stream
+-- ---- the connection
 
-module _ (apart : NoBeginning) (written : WrittenIsRead) (one_split : OneSplit) (history_splits : HistorySplits) where
-  -- What went out is the answer.
-  answers : (set : VrpSet) (query left wire : List ℕ) (reads : ℕ) → IsInstance (cache_publishing set) → query ≡ sent V1 ResetQuery
-      → ServesConnection (without_conns 1 default_intervals (cache_publishing set)) (Some query) (Some left) reads (Some []) (Some wire) (Ok PeerClosed) → wire ≡ answer_bytes set
+module _ (apart : NoBeginning) (written : WrittenIsRead) (one_split : OneSplit) (history_splits : HistorySplits) (serves : ServesHistory) where
+  -- Where nothing is due, what was pulled is the answer.
+  pub answered : (set : VrpSet) (c : ℕ) (wire : List ℕ) (cache : Cache Steps) (g : GaveAt set c wire cache) → IsInstance (cache_publishing set) → (stood (publishing set) g.calls).conn.state.due ≡ [] → wire ≡ answer_bytes set
   unfolding answer_bytes
-  answers set query left wire reads is query_is s =
-      let m : CacheState = without_conns 1 default_intervals (cache_publishing set) in
-      let v : IsServed 1 default_intervals (cache_publishing set) (stood m s.calls) = s.served is in
-      let (all_out, goes_on, held, at_end) = s.ends in
-      let came : (stood m s.calls).came ≡ sent V1 ResetQuery =
-      sym (append-nil (stood m s.calls).came) ∙ ap (λ l. (stood m s.calls).came ++ l) (sym goes_on.0) ∙ sym (append-nil ((stood m s.calls).came ++ s.unread)) ∙ ap (λ l. ((stood m s.calls).came ++ s.unread) ++ l) (sym at_end) ∙ sym s.consumed ∙ query_is in
-      let history : IsHistory 1 default_intervals (opened (cache_publishing set)) (stood m s.calls).moments (sent V1 ResetQuery) = subst (λ b. IsHistory 1 default_intervals (opened (cache_publishing set)) (stood m s.calls).moments b) came v.history in
-      let split = history_splits 1 default_intervals (cache_publishing set) (stood m s.calls).moments (sent V1 ResetQuery) history in
-      let units : units_of (stood m s.calls).moments ≡ ResetQuery ∷ [] = (one_split V1 false (sent V1 ResetQuery) (units_of (stood m s.calls).moments) (ResetQuery ∷ []) split.0 [] split.1 None split.2 (query_splits written)).units_are in
-      let replied = one_reply apart written 1 default_intervals (cache_publishing set) (opened (cache_publishing set)) (stood m s.calls).moments refl (own_calls m s.calls s.turns).1 history units in
-      all_out.1 ∙ sym (append-nil (stood m s.calls).given) ∙ ap (λ d. (stood m s.calls).given ++ d) (sym all_out.0) ∙ v.replies ∙ ap bytes_sent (replied ∙ sym (append-nil (in_version V1 (answer V1 (cache_publishing set) 1 default_intervals ResetQuery).units)))
-
-  pub answered : (set : VrpSet) (query left had wire : List ℕ) (reads : ℕ) (served : Served) → IsInstance (cache_publishing set) → query ≡ sent V1 ResetQuery → had ≡ [] → served ≡ PeerClosed
-      → ServesConnection (without_conns 1 default_intervals (cache_publishing set)) (Some query) (Some left) reads (Some had) (Some wire) (Ok served) → wire ≡ answer_bytes set
-  answered set query left had wire reads served is query_is had_is served_is s =
-      answers set query left wire reads is query_is
-      (subst (λ (x : Served). ServesConnection (without_conns 1 default_intervals (cache_publishing set)) (Some query) (Some left) reads (Some []) (Some wire) (Ok x)) served_is
-      (subst (λ (x : List ℕ). ServesConnection (without_conns 1 default_intervals (cache_publishing set)) (Some query) (Some left) reads (Some x) (Some wire) (Ok served)) had_is s))
+  answered set c wire cache g is none =
+      let m : CacheState = publishing set in
+      let v : IsServed 1 default_intervals (cache_publishing set) (stood m g.calls) = serves 1 default_intervals (cache_publishing set) g.calls is (turns_are_calls g.calls g.turns) in
+      let history : IsHistory 1 default_intervals (opened (cache_publishing set)) (stood m g.calls).moments (sent V1 ResetQuery) = subst (λ b. IsHistory 1 default_intervals (opened (cache_publishing set)) (stood m g.calls).moments b) g.query v.history in
+      let split = history_splits 1 default_intervals (cache_publishing set) (stood m g.calls).moments (sent V1 ResetQuery) history in
+      let units : units_of (stood m g.calls).moments ≡ ResetQuery ∷ [] = (one_split V1 false (sent V1 ResetQuery) (units_of (stood m g.calls).moments) (ResetQuery ∷ []) split.0 [] split.1 None split.2 (query_splits written)).units_are in
+      let replied = one_reply apart written 1 default_intervals (cache_publishing set) (opened (cache_publishing set)) (stood m g.calls).moments refl (own_calls m g.calls g.turns).1 history units in
+      sym g.given ∙ sym (append-nil (stood m g.calls).given) ∙ ap (λ d. (stood m g.calls).given ++ d) (sym none) ∙ v.replies ∙ ap bytes_sent (replied ∙ sym (append-nil (in_version V1 (answer V1 (cache_publishing set) 1 default_intervals ResetQuery).units)))
 
 -- what is sent in one version
 pub sent_in : (version : Version) (units : List Unit) → bytes_sent (in_version version units) ≡ sent_all version units

@@ -1,20 +1,24 @@
-//! A cache with one version, and a new router that is handed what it sends.
-ghost use Rattle.std.specs.Prelude.{◌≡◌, IfOk};
-ghost use Rattle.rtr_pdu.specs.Stream.{NoBeginning, WrittenIsRead};
+//! A cache with one version, and a new router that asks it for all, with bytes that go from the one to the other in turns.
+ghost use Rattle.std.specs.Prelude.{◌≡◌, ◌≤◌, ℕ, false, List, [], ◌++◌, length, take, IfOk, OnOk};
+ghost use Rattle.vrps.specs.Steps.{HoldsSteps};
 ghost use Rattle.vrps.specs.VrpSet.{VrpSet, IsVrpSet};
+ghost use Rattle.rtr_pdu.specs.Stream.{NoBeginning, WrittenIsRead};
+ghost use Rattle.rtr_pdu.specs.declared.unit.Unit.TheVariants.{ResetQuery};
+ghost use Rattle.rtr_pdu.specs.declared.version.Version.TheVariants.{V1};
+ghost use Rattle.rtr_ends.specs.Answer.{sent};
+ghost use Rattle.rtr_ends.specs.ServeStream.{StandsAt};
 ghost use Rattle.feed.specs.Feed.{answer_bytes};
-ghost use Rattle.feed.specs.Loopback.{StartsWithSet, HasTable};
+ghost use Rattle.feed.specs.Loopback.{GaveAt, HasTable, StartsWithSet, Took, Turned, publishing};
 
-use rtr_ends::laws::{history_splits, router_speaks};
-use rtr_ends::{Cache, Router, Served, Timing, fetch_stream, serve_stream};
+use rtr_ends::laws::{history_splits, router_speaks, serves_history};
+use rtr_ends::{Cache, Conn, Router, Timing};
 use rtr_pdu::laws::{no_beginning, one_split, written_is_read};
-use rtr_pdu::{Counted, Unit, UnitBuffer, encode};
 use std::alloc::{AllocError, Global};
 use vrps::laws::same_members;
 use vrps::{VersionLog, VrpSet};
 
-/// How often is read of a stream at most: streams of memory end before it.
-const MOST_READS: u64 = u64::MAX;
+/// How many bytes go from one end to the other in a turn, at most.
+const TURN: usize = 4096;
 
 /// The laws by which units are told apart in a stream.
 fn know_units()
@@ -36,38 +40,94 @@ fn cache_with(alloc: Global, set: VrpSet) -> Result<Cache<VersionLog>, AllocErro
     Ok(cache)
 }
 
-/// What such a cache sends to a router that asks for all (RFC 8210 section 8.1).
-pub(crate) fn answer_with(alloc: Global, set: VrpSet) -> Result<Vec<u8>, AllocError>
-    ensures sent { IfOk result (λ wire. wire.items ≡ answer_bytes set) }
+/// A new router that is connected, and how many bytes its question has, which stand in the room then.
+fn asking(alloc: Global, room: &mut [u8]) -> (Router, usize)
+    requires { 8 ≤ length room.old }
+    ensures router { Took [] result.0 }
+    ensures question { take result.1 room.new ≡ sent V1 ResetQuery }
+    ensures within { result.1 ≤ length room.old }
+{
+    let mut router = Router::new(alloc);
+    router.connect(0);
+    let asked = router.pull(room);
+    (router, asked)
+}
+
+/// Hands a connection of the cache the question of a router.
+fn ask(cache: &mut Cache<VersionLog>, conn: &Conn, question: &[u8]) -> Result<(), AllocError>
+    ensures { (set : VrpSet) → question.now ≡ sent V1 ResetQuery → StandsAt HoldsSteps (publishing set) conn.now.0 [] cache.old → OnOk result (GaveAt set conn.now.0 [] cache.new) }
+{
+    if cache.receive(*conn, question) < question.len() {
+        return Err(AllocError);
+    }
+    Ok(())
+}
+
+/// Hands a router a piece of what its cache sent.
+fn hand_in(router: &mut Router, piece: &[u8]) -> Result<(), AllocError>
+    ensures { (wire : List ℕ) → Took wire router.old → OnOk result (Took (wire ++ piece.now) router.new) }
+{
+    if router.receive(piece, 0) < piece.len() {
+        return Err(AllocError);
+    }
+    Ok(())
+}
+
+/// A turn: what is due to the router goes to it, as far as it is no more than 4,096 bytes. Whether there was any.
+fn turn(
+    cache: &mut Cache<VersionLog>,
+    conn: &Conn,
+    router: &mut Router,
+    wire: &mut Vec<u8>,
+) -> Result<bool, AllocError>
+    ensures { (set : VrpSet) → GaveAt set conn.now.0 wire.old.items cache.old → Took wire.old.items router.old → IfOk result (λ moved. Turned set conn.now.0 moved wire.new.items cache.new router.new) }
+{
+    let mut room = [0u8; TURN];
+    let ready = cache.pull(*conn, &mut room);
+    wire.extend_from_slice(&room[..ready])?;
+    hand_in(router, &room[..ready])?;
+    Ok(ready > 0)
+}
+
+/// Turns until nothing is due: all that the cache sent.
+fn turns(
+    alloc: Global,
+    cache: &mut Cache<VersionLog>,
+    conn: &Conn,
+    router: &mut Router,
+) -> Result<Vec<u8>, AllocError>
+    ensures { (set : VrpSet) → GaveAt set conn.now.0 [] cache.old → Took [] router.old → IfOk result (λ wire. Turned set conn.now.0 false wire.items cache.new router.new) }
+{
+    let mut wire = Vec::new(alloc);
+    for _turn in 0..u64::MAX {
+        if !turn(cache, conn, router, &mut wire)? {
+            return Ok(wire);
+        }
+    }
+    Err(AllocError)
+}
+
+/// A new router that has asked a cache with this set for all, and has committed what the cache sent (RFC 8210 section 8.1); and those bytes.
+pub(crate) fn fetched(alloc: Global, set: VrpSet) -> Result<(Router, Vec<u8>), AllocError>
+    ensures table { IfOk result (λ fetched. HasTable set fetched.0) }
+    ensures sent { IfOk result (λ fetched. fetched.1.items ≡ answer_bytes set) }
     ensures within_limit { IfOk result (λ _. IsVrpSet set) }
 {
     know_units();
     one_split();
     history_splits();
-    let mut cache = cache_with(alloc, set)?;
-    let mut query = UnitBuffer::new();
-    encode(&Unit::ResetQuery, &mut query);
-    let mut input = Counted::new(query.as_slice());
-    let mut output = Counted::new(Vec::new(alloc));
-    match serve_stream(&mut cache, &mut input, &mut output, MOST_READS) {
-        Ok(Served::PeerClosed) => Vec::from_slice(alloc, output.device().as_slice()),
-        _ => Err(AllocError),
-    }
-}
-
-/// A new router that was handed these bytes, in pieces of at most 4,096, and has committed what they tell.
-pub(crate) fn router_with(alloc: Global, wire: &[u8]) -> Result<Router, AllocError>
-    ensures { (set : VrpSet) → IsVrpSet set → wire.now ≡ answer_bytes set → IfOk result (λ router. HasTable set router) }
-{
-    know_units();
+    serves_history();
     same_members();
     router_speaks();
-    let mut router = Router::new(alloc);
-    let mut input = Counted::new(wire);
-    let mut questions = Counted::new(Vec::new(alloc));
-    let _fetched = fetch_stream(&mut router, &mut input, &mut questions, 0, MOST_READS);
+    let mut cache = cache_with(alloc, set)?;
+    let conn = cache.open()?;
+    let mut room = [0u8; TURN];
+    let (mut router, asked) = asking(alloc, &mut room);
+    ask(&mut cache, &conn, &room[..asked])?;
+    let wire = turns(alloc, &mut cache, &conn, &mut router)?;
+    router.closed(0);
     match router.committed() {
-        Some(_) => Ok(router),
+        Some(_) => Ok((router, wire)),
         None => Err(AllocError),
     }
 }

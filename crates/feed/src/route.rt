@@ -2,7 +2,7 @@
 ghost use Rattle.std.specs.Prelude.{IfOk, IfErr};
 ghost use Rattle.feed.specs.Feed.{IsFed, IsRefused};
 
-use crate::loopback::{answer_with, router_with};
+use crate::loopback::fetched;
 use crate::offers::take_all;
 use crate::{FeedFault, Offer};
 use der_lite::Moment;
@@ -22,7 +22,7 @@ pub struct Fed {
 /// The state of a route at a new router that asks a cache for all, where the cache has published what is in use at a moment after all
 /// these offers, made at that moment to publication points that had accepted nothing, in their order. An offer that is the same as what
 /// its point holds is no fault. The set is published as serial 0 of session 1, with the intervals that RFC 8210 section 6 recommends.
-/// The router is handed the cache's bytes in pieces of at most 4,096.
+/// Bytes go from the router to the cache and from the cache to the router in turns of at most 4,096.
 ///
 /// The first offer that is refused decides, or that meets want of memory; then too many payloads; then want of memory.
 pub fn route_from_payloads(
@@ -36,8 +36,7 @@ pub fn route_from_payloads(
 {
     let repository = take_all(alloc, offers, now)?;
     let set = VrpSet::from_list(repository.payloads(now)?)?;
-    let wire = answer_with(alloc, set)?;
-    let router = router_with(alloc, wire.as_slice())?;
+    let (router, wire) = fetched(alloc, set)?;
     let state = router.route_state(route);
     Ok(Fed { state, wire })
 }

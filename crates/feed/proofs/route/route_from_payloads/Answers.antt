@@ -1,4 +1,4 @@
-use Rattle.std.proofs.Common.{ap, ◌∙◌, Err}
+use Rattle.std.proofs.Common.{ap, Err}
 use Rattle.std.proofs.lemmas.Result.{err_from_is_err_and}
 use Rattle.feed.proofs.PayloadsInUse.{is_used, set_refused, state_over}
 use Rattle.feed.proofs.route.route_from_payloads.Goals as goal
@@ -12,12 +12,11 @@ returns-in_err-set-clause-refused c =
 
 pub returns-clause-fed : goal.returns-clause-fed
 returns-clause-fed c =
-    let sent = c.in_ok-wire.ensures.sent in
-    let table = c.in_ok-router.ensures c.in_ok-set.set c.in_ok-wire.ensures.within_limit (c.as_slice.ensures.value ∙ sent) in
+    let done = c.in_ok-router.ensures in
     record {
       set = c.in_ok-set.set;
       used = is_used c.args.now c.args.offers.now c.in_ok-repository.repository c.in_ok-payloads.field-0.items c.in_ok-set.set c.in_ok-repository.ensures.taken c.in_ok-payloads.ensures c.in_ok-set.ensures.ok;
-      within_limit = c.in_ok-wire.ensures.within_limit.within_limit;
-      wire = sent;
-      state_is = state_over c.in_ok-set.set c.in_ok-router.router c.args.route.now c.route_state-state.result table c.route_state-state.ensures;
+      within_limit = done.within_limit.within_limit;
+      wire = done.sent;
+      state_is = state_over c.in_ok-set.set c.in_ok-router.router c.args.route.now c.route_state-state.result done.table c.route_state-state.ensures;
     }
