@@ -19,10 +19,11 @@ use vrps::VersionLog;
 /// How often is read on a connection at most.
 const MOST_READS: u64 = 1_000_000;
 
-/// How often, and how long each time, is read on a connection that the cache has ended.
+/// How often is read at most on a connection that the cache has ended.
 const LAST_READS: u32 = 64;
 
-const LAST_WAIT: Duration = Duration::from_millis(250);
+/// How long each of these reads waits at most, in milliseconds.
+const LAST_WAIT: u64 = 250;
 
 fn loopback(port: u16) -> SocketAddr {
     SocketAddr::new(IpAddr::V4(Ipv4Addr::LOCALHOST), port)
@@ -105,9 +106,8 @@ fn serve_prepared<T: Read + Write + OpenStream + Drop>(
 /// comes is read for some seconds at most.
 fn let_go<T: Read + OpenStream>(stream: &mut T) {
     let mut room = [0u8; 32768];
-    if stream.shutdown(Shutdown::Write).is_err()
-        || stream.set_read_timeout(Some(LAST_WAIT)).is_err()
-    {
+    let wait = Some(Duration::from_millis(LAST_WAIT));
+    if stream.shutdown(Shutdown::Write).is_err() || stream.set_read_timeout(wait).is_err() {
         return;
     }
     for _read in 0..LAST_READS {
