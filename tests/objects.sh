@@ -38,6 +38,13 @@ for kind in folder pipe socket nothing; do
 done
 rm -rf point/objects/b.roa point/objects/c.roa
 
+# nor is a link to itself, or through a file, one to a regular file
+for target in c.roa "$folder/payload.der/b"; do
+    ln -s "$target" point/objects/c.roa
+    offer 0 'point new'
+    rm point/objects/c.roa
+done
+
 # a link to a regular file is that file
 mv point/objects/a.roa payload.object
 ln -s "$folder/payload.object" point/objects/a.roa

@@ -129,6 +129,15 @@ def sends_rubbish(peer):
     differs("the code of the report", receive(peer, 1000)[:4], bytes.fromhex("010a0004"))
 
 
+def sends_on_behind_a_fault(peer):
+    """What the cache reads no more does not take its report back: the connection ends, and is not reset."""
+    peer.sendall(bytes.fromhex("0108000000000008") + bytes(200_000))
+    try:
+        differs("the report, and the end", receive(peer, 1000), bytes.fromhex("010a00030000001800000008010800000000000800000000"))
+    except ConnectionResetError:
+        differs("the end behind a report", "a reset", "the end")
+
+
 def hangs_up(peer):
     """Resets the connection in the middle of an answer."""
     peer.sendall(RESET)
@@ -139,6 +148,7 @@ def hangs_up(peer):
 def serves():
     served([in_two_pieces(size) for size in range(1, 8)])
     served([sends_rubbish, asks_once])
+    served([sends_on_behind_a_fault, asks_once])
     served([hangs_up, asks_once], 3, errors=DEVICE)
     served([])
     served([asks_once])
