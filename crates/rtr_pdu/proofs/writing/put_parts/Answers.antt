@@ -1,4 +1,4 @@
-use Rattle.std.proofs.Common.{◌≡◌, ◌+◌, sym, length, refl, arith, take, drop, ◌++◌}
+use Rattle.std.proofs.Common.{◌≡◌, sym, length, arith, take, drop, ◌++◌}
 use Rattle.std.proofs.lemmas.List.{length-append, length-take, take-append-drop}
 use Rattle.rtr_pdu.proofs.WritingLaws.{four_parts}
 use Rattle.rtr_pdu.proofs.writing.put_parts.Goals as goal

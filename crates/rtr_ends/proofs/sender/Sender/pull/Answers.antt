@@ -1,4 +1,4 @@
-use Rattle.std.proofs.Common.{◌≡◌, ◌∙◌, ◌<◌, ◌≤◌, ap, subst, sym, arith, length, drop, [], None, Some}
+use Rattle.std.proofs.Common.{◌≡◌, ◌∙◌, ◌<◌, ◌≤◌, ap, subst, sym, arith, length, None, Some}
 use Rattle.rtr_ends.specs.Sender.{PullsBytes, Stays, due_of, left}
 use Rattle.rtr_ends.specs.declared.sender.Sender.{Sender}
 use Rattle.rtr_ends.proofs.FillingLaws.{fills_more, none_more, none_stays}
