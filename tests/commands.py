@@ -80,6 +80,8 @@ def resets():
     answers(RESET, ANSWER)
     answers(RESET, ANSWER, file="twice.json")
     answers(RESET, NO_CHANGE, file="none.json")
+    answers(RESET + RESET, ANSWER + ANSWER)
+    # what is reserved is ignored
     answers("01020000000000080102ffff00000008", ANSWER + ANSWER)
 
 

@@ -15,6 +15,8 @@ mod routers_v0;
 #[cfg(test)]
 mod streams;
 #[cfg(test)]
+mod timings;
+#[cfg(test)]
 mod units;
 #[cfg(test)]
 mod units_v0;

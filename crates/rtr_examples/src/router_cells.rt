@@ -1,10 +1,11 @@
-//! The protocol's table: what each unit does on each link of a router.
-use crate::routers::{asked, asked_since, expect_held, expect_pulled, hand, holding};
-use crate::wire::{CACHE_RESET, END_6, RESET_QUERY, RESPONSE, SERIAL_QUERY, W, bytes};
+//! The protocol's table: what each unit does on each link of a router, in each version.
+use crate::routers::expect_bytes;
+use crate::wire::{CACHE_RESET, END_5, END_6, RESET_QUERY, RESPONSE, SERIAL_QUERY, V, W, bytes_in};
 use rtr_ends::{End, Link, Router};
-use rtr_pdu::error_code;
-use std::alloc::Global;
+use rtr_pdu::{Version, error_code};
+use std::alloc::{AllocGlobal, Global};
 use std::process::Abort;
+use vrps::Serial;
 
 /// The links of the protocol's table.
 #[derive(Clone, Copy)]
@@ -53,9 +54,13 @@ const ASKED: Does = Does::Goes(Link::Asked);
 
 const ANSWERING: Does = Does::Goes(Link::Answering);
 
-/// Each unit, and what it does on each link.
+/// A Router Key, which version 1 alone has.
+const ROUTER_KEY: &str = "01 09 0100 00000020 0102030405060708090a0b0c0d0e0f1011121314 0000fbf0";
+
+/// Each unit, and what it does on each link. Spelled in version 1: in version 0 it is the same but for the version bytes and the End of
+/// Data, and there are no Router Keys.
 const CELLS: &[(&str, [Does; 5])] = &[
-    // A Serial Notify of another session, of a later serial, and of the serial that is committed.
+    // A Serial Notify of another session, of later serials, of the serial that is committed, of one before it, and of one too far.
     (
         "01 00 2222 0000000c 00000006",
         [Does::Fails, ASKED, Does::Fails, Does::Fails, Does::Fails],
@@ -65,7 +70,19 @@ const CELLS: &[(&str, [Does; 5])] = &[
         [Does::AsksSince, ASKED, ASKED, ANSWERING, ANSWERING],
     ),
     (
+        "01 00 1234 0000000c 80000004",
+        [Does::AsksSince, ASKED, ASKED, ANSWERING, ANSWERING],
+    ),
+    (
         "01 00 1234 0000000c 00000005",
+        [IDLE, ASKED, ASKED, ANSWERING, ANSWERING],
+    ),
+    (
+        "01 00 1234 0000000c 00000004",
+        [IDLE, ASKED, ASKED, ANSWERING, ANSWERING],
+    ),
+    (
+        "01 00 1234 0000000c 80000005",
         [IDLE, ASKED, ASKED, ANSWERING, ANSWERING],
     ),
     // A Cache Response of the committed session, and of another.
@@ -100,7 +117,7 @@ const CELLS: &[(&str, [Does; 5])] = &[
         ],
     ),
     (
-        "01 09 0100 00000020 0102030405060708090a0b0c0d0e0f1011121314 0000fbf0",
+        ROUTER_KEY,
         [
             Does::Reports,
             Does::Reports,
@@ -161,31 +178,75 @@ const CELLS: &[(&str, [Does; 5])] = &[
     ),
 ];
 
-/// A router on this link.
-fn router_at<R: Abort>(rt: &R, alloc: Global, link: At) -> Router {
+/// Hands in units one after the other at moment 0, and checks that all of each is taken.
+fn hand<R: Abort>(rt: &R, router: &mut Router, version: Version, units: &[&str]) {
+    for unit in units {
+        let piece = bytes_in(version, unit);
+        assert!(rt; router.receive(piece.as_slice(), 0) == piece.len());
+    }
+}
+
+fn expect_pulled<R: Abort>(rt: &R, router: &mut Router, version: Version, unit: &str) {
+    expect_bytes(rt, router, &bytes_in(version, unit));
+}
+
+/// A router of this version that has put its first question.
+fn asked<R: Abort>(rt: &R, alloc: Global, version: Version) -> Router {
+    let mut router = Router::new(alloc);
+    router.speak(version);
+    router.connect(0);
+    expect_pulled(rt, &mut router, version, RESET_QUERY);
+    router
+}
+
+/// One that holds v as serial 5 of session 4660.
+fn holding<R: Abort>(rt: &R, alloc: Global, version: Version) -> Router {
+    let mut router = asked(rt, alloc, version);
+    hand(rt, &mut router, version, &[RESPONSE, V, END_5]);
+    expect_held(rt, &router, version, 1, 5);
+    router
+}
+
+/// The same, and it has asked what changed since.
+fn asked_since<R: Abort>(rt: &R, alloc: Global, version: Version) -> Router {
+    let mut router = holding(rt, alloc, version);
+    assert!(rt; router.ask().is_ok());
+    expect_pulled(rt, &mut router, version, SERIAL_QUERY);
+    router
+}
+
+/// A router of this version on this link.
+fn router_at<R: Abort>(rt: &R, alloc: Global, version: Version, link: At) -> Router {
     match link {
-        At::Idle => holding(rt, alloc, 0),
-        At::First => asked(rt, alloc, 0),
-        At::Since => asked_since(rt, alloc),
+        At::Idle => holding(rt, alloc, version),
+        At::First => asked(rt, alloc, version),
+        At::Since => asked_since(rt, alloc, version),
         At::Answering => {
-            let mut router = asked_since(rt, alloc);
-            hand(rt, &mut router, &[RESPONSE], 0);
+            let mut router = asked_since(rt, alloc, version);
+            hand(rt, &mut router, version, &[RESPONSE]);
             router
         }
         At::AnsweringAll => {
-            let mut router = asked(rt, alloc, 0);
-            hand(rt, &mut router, &[RESPONSE], 0);
+            let mut router = asked(rt, alloc, version);
+            hand(rt, &mut router, version, &[RESPONSE]);
             router
         }
     }
 }
 
+/// Checks what is committed: so many records, and this serial of session 4660 in this version.
+fn expect_held<R: Abort>(rt: &R, router: &Router, version: Version, records: usize, serial: u32) {
+    assert!(rt; router.table().len() == records);
+    assert!(rt; router.committed() == Some((version, 4660, Serial(serial))));
+}
+
 /// Checks that a report of code 0 on this unit is to be pulled.
-fn expect_report<R: Abort>(rt: &R, router: &mut Router, unit: &str) {
+fn expect_report<R: Abort>(rt: &R, router: &mut Router, version: Version, unit: &str) {
     let mut room = [0u8; 128];
-    let unit = bytes(unit);
+    let unit = bytes_in(version, unit);
+    let head = bytes_in(version, "01 0a 0000");
     let count = router.pull(&mut room);
-    assert!(rt; room.starts_with(bytes("01 0a 0000").as_slice()));
+    assert!(rt; room.starts_with(head.as_slice()));
     assert!(rt; count == unit.len().saturating_add(16));
     match room.get(12..count.saturating_sub(4)) {
         Some(copy) => assert!(rt; copy == unit.as_slice()),
@@ -194,16 +255,23 @@ fn expect_report<R: Abort>(rt: &R, router: &mut Router, unit: &str) {
     assert!(rt; router.link() == Link::Ended(End::Reported(error_code::CORRUPT_DATA)));
 }
 
-/// Checks what this unit has done to a router that had so many records.
-fn expect_done<R: Abort>(rt: &R, router: &mut Router, unit: &str, does: Does, records: usize) {
+/// Checks what this unit has done to a router of this version that had so many records.
+fn expect_done<R: Abort>(
+    rt: &R,
+    router: &mut Router,
+    version: Version,
+    unit: &str,
+    does: Does,
+    records: usize,
+) {
     let mut kept = records;
     match does {
         Does::Goes(link) => assert!(rt; router.link() == link),
-        Does::AsksSince => expect_pulled(rt, router, SERIAL_QUERY),
-        Does::AsksAll => expect_pulled(rt, router, RESET_QUERY),
-        Does::Reports => expect_report(rt, router, unit),
+        Does::AsksSince => expect_pulled(rt, router, version, SERIAL_QUERY),
+        Does::AsksAll => expect_pulled(rt, router, version, RESET_QUERY),
+        Does::Reports => expect_report(rt, router, version, unit),
         Does::Fails => {
-            expect_report(rt, router, unit);
+            expect_report(rt, router, version, unit);
             kept = 0;
         }
         Does::Ends(code) => assert!(rt; router.link() == Link::Ended(End::Told(code))),
@@ -212,23 +280,30 @@ fn expect_done<R: Abort>(rt: &R, router: &mut Router, unit: &str, does: Does, re
             kept = 0;
         }
         Does::Commits(count) => {
-            expect_held(rt, router, count, 6);
+            expect_held(rt, router, version, count, 6);
             return;
         }
     }
-    expect_pulled(rt, router, "");
+    assert!(rt; !router.has_bytes());
     assert!(rt; router.table().len() == kept);
     assert!(rt; router.committed().is_some() == (kept == 1));
+}
+
+fn each_cell<R: AllocGlobal + Abort>(rt: &R, version: Version, unit: &str, cells: &[Does; 5]) {
+    for (link, does) in LINKS.iter().zip(cells.iter()) {
+        let mut router = router_at(rt, rt.alloc(), version, *link);
+        let records = router.table().len();
+        hand(rt, &mut router, version, &[unit]);
+        expect_done(rt, &mut router, version, unit, *does, records);
+    }
 }
 
 #[test]
 fn each_unit_on_each_link(rt: HostRuntime) {
     for (unit, cells) in CELLS {
-        for (link, does) in LINKS.iter().zip(cells.iter()) {
-            let mut router = router_at(&rt, rt.alloc(), *link);
-            let records = router.table().len();
-            hand(&rt, &mut router, &[unit], 0);
-            expect_done(&rt, &mut router, unit, *does, records);
+        each_cell(&rt, Version::V1, unit, cells);
+        if *unit != ROUTER_KEY {
+            each_cell(&rt, Version::V0, unit, cells);
         }
     }
 }

@@ -1,12 +1,13 @@
 use crate::caches::{V as CACHE_V, W as CACHE_W, cache_of, set_of, whole_answer};
 use crate::wire::{
-    CACHE_RESET, END_5, END_6, RESET_QUERY, RESPONSE, SERIAL_QUERY, V, V_WITHDRAWN, W, bytes,
+    Bytes, CACHE_RESET, END_5, END_6, RESET_QUERY, RESPONSE, SERIAL_QUERY, V, V_WITHDRAWN, W,
+    bytes, bytes_in,
 };
 use prefixes::{IpPrefix, Route};
 use rtr_ends::laws::router_has_room;
 use rtr_ends::{AskFault, Cache, Conn, End, Link, Router};
 use rtr_pdu::{Version, error_code};
-use std::alloc::Global;
+use std::alloc::{AllocGlobal, Global};
 use std::process::Abort;
 use std::test::Fail;
 use vrps::{OriginState, Serial, VersionLog};
@@ -21,8 +22,12 @@ pub(crate) fn hand<R: Abort>(rt: &R, router: &mut Router, units: &[&str], now: u
 
 /// Checks that this unit, and no more, is to be pulled.
 pub(crate) fn expect_pulled<R: Abort>(rt: &R, router: &mut Router, unit: &str) {
+    expect_bytes(rt, router, &bytes(unit));
+}
+
+/// Checks that these bytes, and no more, are to be pulled.
+pub(crate) fn expect_bytes<R: Abort>(rt: &R, router: &mut Router, expected: &Bytes) {
     let mut room = [0u8; 64];
-    let expected = bytes(unit);
     assert!(rt; router.has_bytes() == !expected.is_empty());
     let count = router.pull(&mut room);
     assert!(rt; room.get(..count) == Some(expected.as_slice()));
@@ -210,20 +215,10 @@ fn all_is_asked_for_after_a_cache_reset(rt: HostRuntime) {
 }
 
 /// What comes after a Reset Query, how many bytes of it are taken, what is sent, and how the link ends.
-const HOSTILE: &[(&str, usize, &str, End)] = &[
-    // A version before agreement and after it.
-    (
-        "00 03 1234 00000008",
-        8,
-        "01 0a 0004 00000018 00000008 0003123400000008 00000000",
-        End::Reported(error_code::UNSUPPORTED_VERSION),
-    ),
-    (
-        "01 03 1234 00000008 | 00 03 1234 00000008",
-        16,
-        "01 0a 0008 00000018 00000008 0003123400000008 00000000",
-        End::Reported(error_code::UNEXPECTED_VERSION),
-    ),
+type Hostile = (&'static str, usize, &'static str, End);
+
+/// Spelled in version 1, and the same in version 0.
+const HOSTILE: &[Hostile] = &[
     (
         "01 05 0000 00000008",
         8,
@@ -237,9 +232,15 @@ const HOSTILE: &[(&str, usize, &str, End)] = &[
         End::Reported(error_code::CORRUPT_DATA),
     ),
     (
-        "01 09 0000 00001001",
+        "01 0b 0000 00000008",
         8,
-        "01 0a 0000 00000018 00000008 0109000000001001 00000000",
+        "01 0a 0005 00000018 00000008 010b000000000008 00000000",
+        End::Reported(error_code::UNSUPPORTED_TYPE),
+    ),
+    (
+        "01 03 1234 00000009",
+        8,
+        "01 0a 0000 00000018 00000008 0103123400000009 00000000",
         End::Reported(error_code::CORRUPT_DATA),
     ),
     // No report is sent on an Error Report.
@@ -259,21 +260,57 @@ const HOSTILE: &[(&str, usize, &str, End)] = &[
     ),
 ];
 
+/// In version 1 alone.
+const HOSTILE_APART: &[Hostile] = &[
+    // A version before agreement and after it.
+    (
+        "00 03 1234 00000008",
+        8,
+        "01 0a 0004 00000018 00000008 0003123400000008 00000000",
+        End::Reported(error_code::UNSUPPORTED_VERSION),
+    ),
+    (
+        "01 03 1234 00000008 | 00 03 1234 00000008",
+        16,
+        "01 0a 0008 00000018 00000008 0003123400000008 00000000",
+        End::Reported(error_code::UNEXPECTED_VERSION),
+    ),
+    (
+        "01 09 0000 00001001",
+        8,
+        "01 0a 0000 00000018 00000008 0109000000001001 00000000",
+        End::Reported(error_code::CORRUPT_DATA),
+    ),
+];
+
+/// Hands a row to a router of this version, cut at each byte.
+fn expect_refused<R: AllocGlobal + Abort>(rt: &R, version: Version, row: &Hostile) {
+    let (units, taken, report, end) = row;
+    let came = bytes_in(version, units);
+    for cut in 0..came.len() {
+        let mut router = Router::new(rt.alloc());
+        router.speak(version);
+        router.connect(0);
+        expect_bytes(rt, &mut router, &bytes_in(version, RESET_QUERY));
+        assert!(rt;
+            taken_of(&mut router, came.as_slice(), cut) == *taken,
+            "{cut} of {units}"
+        );
+        assert!(rt; router.link() == Link::Ended(*end));
+        expect_bytes(rt, &mut router, &bytes_in(version, report));
+        assert!(rt; router.receive(bytes_in(version, RESPONSE).as_slice(), 0) == 0);
+        expect_nothing(rt, &router);
+    }
+}
+
 #[test]
 fn hostile_units_are_refused(rt: HostRuntime) {
-    for (units, taken, report, end) in HOSTILE {
-        let came = bytes(units);
-        for cut in 0..came.len() {
-            let mut router = asked(&rt, rt.alloc(), 0);
-            assert!(rt;
-                taken_of(&mut router, came.as_slice(), cut) == *taken,
-                "{cut} of {units}"
-            );
-            assert!(rt; router.link() == Link::Ended(*end));
-            expect_pulled(&rt, &mut router, report);
-            assert!(rt; router.receive(bytes(RESPONSE).as_slice(), 0) == 0);
-            expect_nothing(&rt, &router);
-        }
+    for row in HOSTILE {
+        expect_refused(&rt, Version::V0, row);
+        expect_refused(&rt, Version::V1, row);
+    }
+    for row in HOSTILE_APART {
+        expect_refused(&rt, Version::V1, row);
     }
 }
 
@@ -335,7 +372,7 @@ fn connected(cache: &mut Cache<VersionLog>, conn: Conn, router: &mut Router) {
 #[test]
 fn a_router_follows_a_cache(rt: HostRuntime) -> Result<(), Fail> {
     let alloc = rt.alloc();
-    let mut cache = cache_of(alloc, 5, 2, &[&[CACHE_V]])?;
+    let mut cache = cache_of::<VersionLog>(alloc, 5, &[&[CACHE_V]])?;
     let conn = cache.open()?;
     let mut router = Router::new(alloc);
     router.connect(0);

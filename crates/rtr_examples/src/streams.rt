@@ -182,7 +182,7 @@ fn expect_served<R: Abort>(
     served: Served,
     answers: usize,
 ) -> Result<(), Fail> {
-    let mut cache = cache_of(alloc, 5, 2, &[&[V]])?;
+    let mut cache = cache_of::<VersionLog>(alloc, 5, &[&[V]])?;
     let first = cache.open()?;
     cache.close(first);
     let mut input = stepwise(input, 8, 9);
@@ -227,7 +227,7 @@ fn a_connection_is_served_to_its_end(rt: HostRuntime) -> Result<(), Fail> {
 #[test]
 fn what_was_read_is_answered_before_the_next_read(rt: HostRuntime) -> Result<(), Fail> {
     let alloc = rt.alloc();
-    let mut cache = cache_of(alloc, 5, 2, &[&[V]])?;
+    let mut cache = cache_of::<VersionLog>(alloc, 5, &[&[V]])?;
     let list = Rc::new(alloc, RefCell::new(Vec::new(alloc)))?;
     let mut input = Counted::new(Waiting {
         steps: reader_of(TWO_QUERIES, 8, 9),
@@ -245,7 +245,7 @@ fn a_device_that_fails_ends_the_connection(rt: HostRuntime) -> Result<(), Fail> 
     let alloc = rt.alloc();
     let answer = bytes(ANSWER);
     for room in [0, 1, 51, 52, 103] {
-        let mut cache = cache_of(alloc, 5, 2, &[&[V]])?;
+        let mut cache = cache_of::<VersionLog>(alloc, 5, &[&[V]])?;
         let mut input = stepwise(TWO_QUERIES, 16, 9);
         let mut output = Counted::new(Narrow {
             taken: Vec::new(alloc),
@@ -259,7 +259,7 @@ fn a_device_that_fails_ends_the_connection(rt: HostRuntime) -> Result<(), Fail> 
             out.len() == room && out.get(..room.min(52)) == answer.as_slice().get(..room.min(52))
         );
     }
-    let mut cache = cache_of(alloc, 5, 2, &[&[V]])?;
+    let mut cache = cache_of::<VersionLog>(alloc, 5, &[&[V]])?;
     let mut input = stepwise(TWO_QUERIES, 8, 1);
     let mut output = list(alloc);
     let served = serve_stream(&mut cache, &mut input, &mut output, 9);
@@ -283,7 +283,7 @@ fn unchanged_twice() -> Bytes {
 fn each_read_may_fail(rt: HostRuntime) -> Result<(), Fail> {
     let alloc = rt.alloc();
     for calls in 0..5u8 {
-        let mut cache = cache_of(alloc, 5, 2, &[&[V]])?;
+        let mut cache = cache_of::<VersionLog>(alloc, 5, &[&[V]])?;
         let first = cache.open()?;
         cache.close(first);
         let mut input = stepwise(SINCE_TWICE, 5, calls);
@@ -305,7 +305,7 @@ fn each_read_may_fail(rt: HostRuntime) -> Result<(), Fail> {
 fn each_write_may_fail_or_take_nothing(rt: HostRuntime) -> Result<(), Fail> {
     let alloc = rt.alloc();
     for (calls, fails) in (0..=10u8).flat_map(|calls| [(calls, true), (calls, false)]) {
-        let mut cache = cache_of(alloc, 5, 2, &[&[V]])?;
+        let mut cache = cache_of::<VersionLog>(alloc, 5, &[&[V]])?;
         let first = cache.open()?;
         cache.close(first);
         let mut input = stepwise(SINCE_TWICE, 24, 9);

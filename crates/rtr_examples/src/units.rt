@@ -223,6 +223,36 @@ fn agreement_within_a_unit(rt: HostRuntime) {
     assert!(rt; matches!(reader.next(&mut again), Next::Fault(UnitFault::Version)));
 }
 
+/// Agreement is told when so many bytes of a notify of another version have come: it counts for this unit where its header has not come
+/// whole, and for the units after it in every case.
+#[test]
+fn agreement_at_each_byte(rt: HostRuntime) {
+    let mut notify = SERIAL_NOTIFY;
+    notify[0] = 2;
+    for cut in 0..12usize {
+        let mut reader = UnitReader::for_router(Version::V1);
+        let (mut front, mut back) = notify.as_slice().split_at(cut);
+        assert!(rt; matches!(reader.next(&mut front), Next::NeedMore));
+        assert!(rt; reader.held().len() == cut, "{cut}");
+        reader.agreed();
+        let read = reader.next(&mut back);
+        if cut < 8 {
+            assert!(rt; matches!(read, Next::Fault(UnitFault::Version)), "{cut}");
+            assert!(rt; reader.held().len() == 8, "{cut}");
+        } else {
+            assert!(rt;
+                matches!(read, Next::Unit(Unit::SerialNotify { .. })),
+                "{cut}"
+            );
+            let mut again = notify.as_slice();
+            assert!(rt;
+                matches!(reader.next(&mut again), Next::Fault(UnitFault::Version)),
+                "{cut}"
+            );
+        }
+    }
+}
+
 /// A writer that takes one byte a call, and as many calls as it may; then it fails.
 #[derive(Drop)]
 struct Narrow {

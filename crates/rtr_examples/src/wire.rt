@@ -1,5 +1,6 @@
 //! Units of the examples in hexadecimal. Blanks part the fields as RFC 8210 section 5 draws them, and bars part the units.
 use arrayvec::ArrayVec;
+use rtr_pdu::Version;
 
 /// Bytes of a few units.
 pub(crate) type Bytes = ArrayVec<u8, 256>;
@@ -28,6 +29,58 @@ pub(crate) fn all_of(units: &[&str]) -> Bytes {
     all
 }
 
+/// A unit of version 1 that is no Error Report, as it is in version 0: the End of Data has 12 bytes, without intervals (RFC 6810
+/// section 5.8), and all others differ in the version byte alone.
+fn plain_in_0(unit: &[u8]) -> Bytes {
+    let mut all = Bytes::new();
+    for (at, &byte) in unit.iter().enumerate() {
+        let is_end = unit.get(1) == Some(&7);
+        let told = match at {
+            0 => 0,
+            7 if is_end => 12,
+            _ => byte,
+        };
+        if !is_end || at < 12 {
+            let _fits = all.try_push(told);
+        }
+    }
+    all
+}
+
+/// The same, also of an Error Report, which copies a unit as that is in version 0.
+fn in_0(unit: &[u8]) -> Bytes {
+    let copy = match (unit.get(1), unit.get(11)) {
+        (Some(10), Some(&len)) if len > 0 => unit.get(12..usize::from(len).saturating_add(12)),
+        _ => None,
+    };
+    let (Some(copy), Some(code)) = (copy, unit.get(2..4)) else {
+        return plain_in_0(unit);
+    };
+    let copy = plain_in_0(copy);
+    let mut all = Bytes::new();
+    let _fits = all.try_extend_from_slice(&[0, 10]);
+    let _fits = all.try_extend_from_slice(code);
+    let len = (copy.len() % 128) as u8;
+    let _fits = all.try_extend_from_slice(&[0, 0, 0, len + 16, 0, 0, 0, len]);
+    let _fits = all.try_extend_from_slice(copy.as_slice());
+    let _fits = all.try_extend_from_slice(&[0, 0, 0, 0]);
+    all
+}
+
+/// The bytes of units that are spelled in version 1, as they are in this version.
+pub(crate) fn bytes_in(version: Version, text: &str) -> Bytes {
+    let mut all = Bytes::new();
+    for part in text.split('|') {
+        let unit = bytes(part);
+        let unit = match version {
+            Version::V0 => in_0(unit.as_slice()),
+            Version::V1 => unit,
+        };
+        let _fits = all.try_extend_from_slice(unit.as_slice());
+    }
+    all
+}
+
 pub(crate) const RESET_QUERY: &str = "01 02 0000 00000008";
 
 /// What changed since serial 5 of session 4660?
@@ -44,6 +97,10 @@ pub(crate) const V_WITHDRAWN: &str = "01 04 0000 00000014 00 18 18 00 c0000200 0
 
 /// 198.51.100.0/24 up to 24 of AS 64497, announced.
 pub(crate) const W: &str = "01 04 0000 00000014 01 18 18 00 c6336400 0000fbf1";
+
+/// 2001:db8::/32 up to 48 of AS 64499, announced.
+pub(crate) const Y: &str =
+    "01 06 0000 00000020 01 20 30 00 20010db8000000000000000000000000 0000fbf3";
 
 /// An End of Data: serial 5 of session 4660, with the intervals that the standard recommends.
 pub(crate) const END_5: &str = "01 07 1234 00000018 00000005 00000e10 00000258 00001c20";
