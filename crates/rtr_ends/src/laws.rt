@@ -83,8 +83,8 @@ pub fn router_speaks()
 {}
 
 /// After any calls the bytes that were pulled from a router on its latest connection, and those to be pulled, are those of its questions in
-/// their order, and then of the report by which the link ended, if it did so. What was not pulled is lost where the link is closed or a
-/// Serial Query expires, and nothing is said after that.
+/// their order, and then of one report at most: on a link that has ended, of the code with which it did; on a closed one, of some code.
+/// What was not pulled is lost where the link is closed or a Serial Query expires, and nothing is said after that.
 pub fn router_says()
     ensures { RouterSays }
 {}
