@@ -3,13 +3,13 @@ ghost use Rattle.std.specs.Prelude.{◌≡◌, ◌+◌, ◌≤◌, List, ℕ, �
 ghost use Rattle.arrayvec.specs.ArrayVec.{array_vec_len};
 ghost use Rattle.byteorder.specs.Endian.{big_bytes};
 ghost use Rattle.rtr_pdu.specs.Kind.{type_number};
-ghost use Rattle.rtr_pdu.specs.Unit.{IsUnit, fits, header, fixed_header, unit_bytes, flag};
+ghost use Rattle.rtr_pdu.specs.Unit.{IsUnit, fits, header, fixed_header, prefix_bytes, unit_bytes, zeros, flag};
 
 use crate::kind::Kind;
 use crate::unit::{ErrorReport, MAX_UNIT_LEN, RouterKey, Unit};
 use crate::version::Version;
 use arrayvec::ArrayVec;
-use prefixes::{IpPrefix, Vrp};
+use prefixes::{Asn, IpPrefix, Prefix, V4, V6, Vrp};
 
 /// Room for the longest unit.
 pub type UnitBuffer = ArrayVec<u8, MAX_UNIT_LEN>;
@@ -181,23 +181,46 @@ fn put_at(out: &mut [u8], at: usize, bytes: &[u8]) -> usize
     end
 }
 
-/// Writes the parts of a Prefix behind the first `at` bytes of `out`, and answers where they end.
-fn put_parts(
-    out: &mut [u8],
-    at: usize,
-    header: &[u8; 8],
-    lengths: &[u8; 4],
-    addr: &[u8],
-    asn: &[u8; 4],
-) -> usize
-    requires { at + 16 + length addr.now ≤ length out.old }
-    ensures end { result ≡ at + 16 + length addr.now }
-    ensures parts { out.new ≡ take at out.old ++ (header.now ++ lengths.now ++ addr.now ++ asn.now) ++ drop result out.old }
+/// The bytes of an IPv4 Prefix (RFC 8210 section 5.6).
+fn ipv4_unit(
+    version: Version,
+    announce: bool,
+    prefix: &Prefix<V4>,
+    max_len: u8,
+    asn: Asn,
+) -> [u8; 20]
+    ensures { result ≡ prefix_bytes version announce (IpPrefix.V4 prefix.now) max_len asn.0 zeros }
 {
-    let lengths_at = put_at(out, at, header);
-    let addr_at = put_at(out, lengths_at, lengths);
-    let asn_at = put_at(out, addr_at, addr);
-    put_at(out, asn_at, asn)
+    let number = version.number();
+    let flags = flag_of(announce);
+    let len = prefix.len();
+    let a = (prefix.addr() as u32).to_be_bytes();
+    let s = asn.0.to_be_bytes();
+    [
+        number, 4, 0, 0, 0, 0, 0, 20, flags, len, max_len, 0, a[0], a[1], a[2], a[3], s[0], s[1],
+        s[2], s[3],
+    ]
+}
+
+/// The bytes of an IPv6 Prefix (RFC 8210 section 5.7).
+fn ipv6_unit(
+    version: Version,
+    announce: bool,
+    prefix: &Prefix<V6>,
+    max_len: u8,
+    asn: Asn,
+) -> [u8; 32]
+    ensures { result ≡ prefix_bytes version announce (IpPrefix.V6 prefix.now) max_len asn.0 zeros }
+{
+    let number = version.number();
+    let flags = flag_of(announce);
+    let len = prefix.len();
+    let a = prefix.addr().to_be_bytes();
+    let s = asn.0.to_be_bytes();
+    [
+        number, 6, 0, 0, 0, 0, 0, 32, flags, len, max_len, 0, a[0], a[1], a[2], a[3], a[4], a[5],
+        a[6], a[7], a[8], a[9], a[10], a[11], a[12], a[13], a[14], a[15], s[0], s[1], s[2], s[3],
+    ]
 }
 
 /// Writes a Prefix, as `encode_prefix` does, behind the first `at` bytes of `out`, whose other bytes stay, and answers where it ends.
@@ -213,21 +236,9 @@ pub fn encode_prefix_at(
     ensures end { result ≡ at + length (unit_bytes version (Unit.Prefix announce vrp.now)) }
     ensures unit { IsUnit (Unit.Prefix announce vrp.now) }
 {
-    let number = version.number();
-    let max_len = vrp.max_len();
-    let asn = vrp.asn().0.to_be_bytes();
+    let (max_len, asn) = (vrp.max_len(), vrp.asn());
     match vrp.prefix() {
-        IpPrefix::V4(p) => {
-            let addr = (p.addr() as u32).to_be_bytes();
-            let header = [number, 4, 0, 0, 0, 0, 0, 20];
-            let lengths = [flag_of(announce), p.len(), max_len, 0];
-            put_parts(out, at, &header, &lengths, &addr, &asn)
-        }
-        IpPrefix::V6(p) => {
-            let addr = p.addr().to_be_bytes();
-            let header = [number, 6, 0, 0, 0, 0, 0, 32];
-            let lengths = [flag_of(announce), p.len(), max_len, 0];
-            put_parts(out, at, &header, &lengths, &addr, &asn)
-        }
+        IpPrefix::V4(p) => put_at(out, at, &ipv4_unit(version, announce, &p, max_len, asn)),
+        IpPrefix::V6(p) => put_at(out, at, &ipv6_unit(version, announce, &p, max_len, asn)),
     }
 }

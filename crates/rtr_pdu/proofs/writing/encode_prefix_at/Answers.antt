@@ -1,16 +1,16 @@
-use Rattle.std.proofs.Common.{rules, ◌≡◌, ◌∙◌, ap, ◌∷◌, [], ◌++◌, take, drop}
-use Rattle.rtr_pdu.specs.Unit.{unit_bytes}
-use Rattle.rtr_pdu.specs.declared.unit.Unit.TheVariants.{Prefix}
+use Rattle.std.proofs.Common.{◌≡◌, sym, length, arith, take, drop, ap, ◌∙◌, ◌++◌}
+use Rattle.std.proofs.lemmas.List.{length-take, take-append-drop}
+use Rattle.rtr_pdu.proofs.WritingLaws.{one_unit}
 use Rattle.rtr_pdu.proofs.writing.encode_prefix_at.Goals as goal
 
 pub returns-in-V4-clause-bytes : goal.returns-in-V4-clause-bytes
 returns-in-V4-clause-bytes c =
-    let parts : (c.number-number.result ∷ 4 ∷ 0 ∷ 0 ∷ 0 ∷ 0 ∷ 0 ∷ 20 ∷ []) ++ (c.flag_of.result ∷ c.len.result ∷ c.max_len-max_len.result ∷ 0 ∷ []) ++ c.to_be_bytes-addr.result ++ c.to_be_bytes-asn.result
-    ≡ unit_bytes c.args.version (Prefix c.args.announce c.args.vrp.now) = search rules in
-    c.put_parts.ensures.parts ∙ ap (λ x. take c.args.at c.args.out.now ++ x ++ drop c.put_parts.result c.args.out.now) parts
+    let begins : length (take c.args.at c.args.out.now) ≡ c.args.at = omega (arith, length-take c.args.at c.args.out.now, c.requires) in
+    let puts = c.put_at.ensures.puts (take c.args.at c.args.out.now) (drop c.args.at c.args.out.now) (sym (take-append-drop c.args.at c.args.out.now)) begins in
+    one_unit c.args.at c.ipv4_unit.result c.args.out.now _ _ puts c.put_at.ensures.end ∙ ap (λ x. take c.args.at c.args.out.now ++ x ++ drop c.put_at.result c.args.out.now) (cc)
 
 pub returns-in-V6-clause-bytes : goal.returns-in-V6-clause-bytes
 returns-in-V6-clause-bytes c =
-    let parts : (c.number-number.result ∷ 6 ∷ 0 ∷ 0 ∷ 0 ∷ 0 ∷ 0 ∷ 32 ∷ []) ++ (c.flag_of-in-V6.result ∷ c.len-in-V6.result ∷ c.max_len-max_len.result ∷ 0 ∷ []) ++ c.to_be_bytes-addr-in-V6.result ++ c.to_be_bytes-asn.result
-    ≡ unit_bytes c.args.version (Prefix c.args.announce c.args.vrp.now) = search rules in
-    c.put_parts-in-V6.ensures.parts ∙ ap (λ x. take c.args.at c.args.out.now ++ x ++ drop c.put_parts-in-V6.result c.args.out.now) parts
+    let begins : length (take c.args.at c.args.out.now) ≡ c.args.at = omega (arith, length-take c.args.at c.args.out.now, c.requires) in
+    let puts = c.put_at-in-V6.ensures.puts (take c.args.at c.args.out.now) (drop c.args.at c.args.out.now) (sym (take-append-drop c.args.at c.args.out.now)) begins in
+    one_unit c.args.at c.ipv6_unit.result c.args.out.now _ _ puts c.put_at-in-V6.ensures.end ∙ ap (λ x. take c.args.at c.args.out.now ++ x ++ drop c.put_at-in-V6.result c.args.out.now) (cc)
