@@ -6,6 +6,7 @@ pub mod JudgingLaws
 pub mod KindLaws
 pub mod ModeLaws
 pub mod NextLaws
+pub mod PrefixLaws
 pub mod ReadLaws
 pub mod ReadingRows
 pub mod ReaderLaws

@@ -1,5 +1,6 @@
 //! Units from a stream that comes in pieces.
-ghost use Rattle.std.specs.Prelude.{◌≡◌, ◌≤◌, [], ◌++◌, length, Some, None, true, false, IfSome, IfNone};
+ghost use Rattle.std.specs.Prelude.{◌≡◌, ℕ, ◌≤◌, List, [], ◌++◌, length, Bool, Some, None, true, false, IfSome, IfNone};
+ghost use Rattle.prefixes.specs.Payload.{Payload};
 ghost use Rattle.arrayvec.specs.ArrayVec.{array_vec_len};
 ghost use Rattle.rtr_pdu.specs.Stream.{as_read, header_fault, length_of, IsPartial};
 ghost use Rattle.rtr_pdu.specs.Reader.{Advances, FitsAnswer, ReaderTakes, IsReader, fresh, after_agreed, at_end, known_version, version_with, Reader};
@@ -199,6 +200,7 @@ impl UnitReader {
     pub fn next_prefix(&mut self, piece: &mut &[u8]) -> Option<(bool, Vrp)>
         ensures some { IfSome result (λ found. ReaderTakes (version_with self.old piece.old.now) self.old piece.old.now (Next.Unit (Prefix found.0 found.1)) piece.new.now self.new) }
         ensures none { IfNone result ((self.new ≡ self.old) × (piece.new.now ≡ piece.old.now)) }
+        ensures only { IfNone result (self.old.held ≡ [] → (announce : Bool) (v : Payload) (rest : List ℕ) (now : Reader) → ¬ (ReaderTakes (version_with self.old piece.old.now) self.old piece.old.now (Next.Unit (Prefix announce v)) rest now)) }
         ensures reader { IsReader (version_with self.old piece.old.now) self.old }
     {
         if self.fault.is_some() || self.buffer.len() > 0 {

@@ -1,8 +1,10 @@
 //! Units from bytes.
-ghost use Rattle.std.specs.Prelude.{◌≡◌, ◌==◌, ◌&&◌, true, not, nat_lt, Some, None, if◌then◌else◌, ◌+◌, ◌≤◌, length, take, IfOk, IfErr, IfSome, IfNone};
+ghost use Rattle.std.specs.Prelude.{◌≡◌, ◌==◌, ◌&&◌, true, not, nat_lt, Some, None, if◌then◌else◌, ◌+◌, ◌≤◌, length, take, Bool, IfOk, IfErr, IfSome, IfNone};
 ghost use Rattle.rtr_pdu.specs.Kind.{type_number, end_of_data_len, fixed_len, may_have, is_type};
 ghost use Rattle.rtr_pdu.specs.Judging.{end_of_data_in};
-ghost use Rattle.rtr_pdu.specs.Stream.{fault_of, header_fault, as_read, type_of, length_of, IsKind, IsRecord, IsReport};
+ghost use Rattle.rtr_pdu.specs.Stream.{fault_of, header_fault, as_read, type_of, length_of, IsKind, IsRecord, IsReport, IsWhole};
+ghost use Rattle.rtr_pdu.specs.Unit.{Reads};
+ghost use Rattle.prefixes.specs.Payload.{Payload};
 ghost use Rattle.rtr_pdu.specs.Reading.{number_at, v4_in, v6_in, key_in, report_in, IsBody};
 ghost use Rattle.rtr_pdu.specs.Version.{version_number};
 ghost use Rattle.rtr_pdu.specs.Reader.{IsRead, IsFaulty};
@@ -234,7 +236,8 @@ pub fn read(version: Version, any: bool, bytes: &[u8]) -> Result<Unit, UnitFault
 /// unit, or a fault.
 pub fn read_prefix(version: Version, any: bool, bytes: &[u8]) -> Option<(bool, Vrp)>
     requires { IsBody version any bytes.now }
-    ensures { IfSome result (λ found. IsRead version any bytes.now (Unit.Prefix found.0 found.1)) }
+    ensures some { IfSome result (λ found. IsRead version any bytes.now (Unit.Prefix found.0 found.1)) }
+    ensures none { IfNone result ((announce : Bool) (v : Payload) → ¬ (Reads version (Unit.Prefix announce v) (as_read version any bytes.now))) }
 {
     match kind_of(version, bytes) {
         Kind::Ipv4Prefix => match v4_record(bytes) {
@@ -253,6 +256,7 @@ pub fn read_prefix(version: Version, any: bool, bytes: &[u8]) -> Option<(bool, V
 pub fn whole_size(version: Version, any: bool, bytes: &[u8]) -> Option<usize>
     ensures within { IfSome result (λ size. size ≤ length bytes.now) }
     ensures body { IfSome result (λ size. IsBody version any (take size bytes.now)) }
+    ensures none { IfNone result (¬ (IsWhole version (as_read version any bytes.now))) }
 {
     if bytes.len() < 8 {
         return None;

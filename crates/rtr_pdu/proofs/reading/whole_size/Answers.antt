@@ -7,6 +7,7 @@ use Rattle.rtr_pdu.specs.Stream.{as_read, header_fault, length_of}
 use Rattle.rtr_pdu.specs.Reading.{filled, number_at, IsBody}
 use Rattle.rtr_pdu.proofs.ReaderLaws as laws
 use Rattle.rtr_pdu.proofs.BodyLaws as bodies
+use Rattle.rtr_pdu.proofs.PrefixLaws as whole
 use Rattle.rtr_pdu.proofs.reading.whole_size.Goals as goal
 
 -- a whole unit at the front of bytes, whose header tells its size
@@ -32,3 +33,17 @@ returns-clause-body c =
     (ap (λ x. header_fault c.args.version (as_read c.args.version c.args.any x)) (sym c.split_at.ensures.front) ∙ sym c.judge.ensures ∙ laws.none_found c.judge.result (sym c.is_some.ensures ∙ c.if-is_some.false))
     (c.number_32-size.ensures ∙ ap (λ x. number_at 4 4 x) c.split_at.ensures.front ∙ bodies.header_size c.args.version c.args.any (take 8 c.args.bytes.now))
     (omega (arith, c.if-bytes-size.false))
+
+pub returns-then-bytes-lt8-clause-none : goal.returns-then-bytes-lt8-clause-none
+returns-then-bytes-lt8-clause-none c = whole.not_short c.args.version c.args.any c.args.bytes.now (omega (arith, c.if-bytes-lt8.true))
+
+pub returns-then-is_some-clause-none : goal.returns-then-is_some-clause-none
+returns-then-is_some-clause-none c =
+    whole.not_bad c.args.version c.args.any c.args.bytes.now c.judge.result (omega (arith, c.if-bytes-lt8.false)) (sym c.is_some.ensures ∙ c.if-is_some.true)
+    (c.judge.ensures ∙ ap (λ x. header_fault c.args.version (as_read c.args.version c.args.any x)) c.split_at.ensures.front)
+
+pub returns-then-bytes-size-clause-none : goal.returns-then-bytes-size-clause-none
+returns-then-bytes-size-clause-none c =
+    whole.not_cut c.args.version c.args.any c.args.bytes.now c.number_32-size.result (omega (arith, c.if-bytes-lt8.false))
+    (c.number_32-size.ensures ∙ ap (λ x. number_at 4 4 x) c.split_at.ensures.front ∙ bodies.header_size c.args.version c.args.any (take 8 c.args.bytes.now))
+    (omega (arith, c.if-bytes-size.true))
