@@ -1,9 +1,11 @@
 #!/usr/bin/env python3
 """The commands serve, fetch and loop over sockets of this machine.
 
-usage: tests/sockets.py PROGRAM
+usage: tests/sockets.py PROGRAM [SHIM]
 
-The other end of each connection stands here, or is the program itself. It exits with 1 where something differs, and says what."""
+SHIM is what tests/accepting.c was compiled to; without it no call for a connection fails. The other end of each connection stands
+here, or is the program itself. It exits with 1 where something differs, and says what."""
+import errno
 import os
 import socket
 import struct
@@ -22,7 +24,7 @@ ANNOUNCED = bytes.fromhex("010400000000001401181800c00002000000fbf0")
 ANSWER = BEGIN + ANNOUNCED + END
 NO_DATA = bytes.fromhex("010a000200000018000000080102000000000008" + "00000000")
 
-program, failed = "", 0
+program, shim, failed = "", "", 0
 
 
 def differs(what, found, wanted):
@@ -266,16 +268,33 @@ def closed_streams():
         differs(f"status of serve, {closed}", ran.returncode, 3 if "1>&-" in closed else 0)
 
 
+def failed_accepts():
+    """A connection that its router gave up before it was taken, and a call that was interrupted, do not end the command; any other fault does."""
+    for faults, status, output, errors in (
+        ((errno.ECONNABORTED, errno.EINTR, errno.ECONNABORTED), 0, "served 1\n", ""),
+        ((errno.EINTR, errno.EMFILE), 3, "", DEVICE),
+    ):
+        port = free_port()
+        words = f"serve --port {port} --session 4660 --start 5 --vrps v.json --connections 1"
+        given = {**os.environ, "LD_PRELOAD": shim, "FAIL": " ".join(map(str, faults))}
+        with subprocess.Popen([program, *words.split(" ")], env=given, stdin=subprocess.DEVNULL, stdout=subprocess.PIPE, stderr=subprocess.PIPE) as ran:
+            if status == 0:
+                with dial(port) as peer:
+                    asks_once(peer)
+            out, err = ran.communicate(timeout=60)
+        differs(f"{words}, where accept fails with {faults}", (ran.returncode, out.decode(), err.decode()), (status, output, errors))
+
+
 MANY = "[" + ",".join('{"asn":1,"maxLength":24,"prefix":"10.%d.%d.0/24"}' % (n // 256, n % 256) for n in range(5000)) + "]"
 
 if __name__ == "__main__":
-    program = os.path.abspath(sys.argv[1])
+    program, shim = os.path.abspath(sys.argv[1]), "".join(map(os.path.abspath, sys.argv[2:]))
     with tempfile.TemporaryDirectory() as folder:
         os.chdir(folder)
         for name, text in (("v.json", f"[{ENTRY}]"), ("many.json", MANY), ("bad", "{}")):
             with open(name, "w", encoding="utf-8") as it:
                 it.write(text)
-        for part in (serves, fetches, both, loops, closed_streams):
+        for part in (serves, fetches, both, loops, *([failed_accepts] if shim else []), closed_streams):
             part()
         os.chdir("/")
     sys.exit(1 if failed else 0)

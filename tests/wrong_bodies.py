@@ -8,7 +8,8 @@ those in must-fail. Proofs are modular: a proof knows of other functions their c
 tried in one check of a copy, in which each function but the edited ones has a hole for a proof: it stands for its contract, and takes
 no time. Each edited function must be refused of its own; one that waits for a refused callee is tried again without it, and what is
 not refused so is tried alone over the whole crate. An edit of a constant or a layout names in a line 'by: FUNCTION' who must refuse
-it, and goes alone. The last line is 'N passed, M failed'.
+it, and goes alone. One that no longer compiles must say so in a line 'by: compiler: MESSAGE', with a part of what the compiler says of
+it. The last line is 'N passed, M failed'.
 
 --after-gate takes the libraries that a run of the gate has just built in this tree."""
 import copy
@@ -32,6 +33,9 @@ WELL = re.compile(r"proved|no holes|depends on a hole")
 MASKED = re.compile(r"it calls|which is not proved|which has no proof")
 OPEN = re.compile(r"`search` did not prove")
 
+# How an edit begins the line that says what the compiler must say of it.
+COMPILER = "by: compiler: "
+
 # The proof of a function that a pack leaves as it is.
 HOLE = """use Rattle.{library}.proofs.{path}.Statement.{{statement}}
 
@@ -47,18 +51,20 @@ class Edit:
         self.name = os.path.basename(file)[: -len(".edit")]
         self.label = f"{crate.name}/{self.name}"
         self.texts, self.why = RT.read_edit(file, crate.folder)
-        self.pairs, self.places, path, old = [], set(), "", ""
+        self.pairs, self.places, self.message, path, old = [], set(), "", "", ""
         with open(file, encoding="utf-8") as it:
             for line in it.read().split("\n"):
                 if line.startswith("file: "):
                     path = line[len("file: ") :].strip()
+                elif line.startswith(COMPILER):
+                    self.message = line[len(COMPILER) :].strip()
                 elif line.startswith("by: "):
                     self.places.add(f"{crate.name}::{line[len('by: ') :].strip()}")
                 elif line.startswith("old: "):
                     old = line[len("old: ") :]
                 elif line.startswith("new:"):
                     self.pairs.append((path, old, re.sub(r"\A ", "", line[len("new:") :])))
-        self.goes_alone = bool(self.places)
+        self.goes_alone = bool(self.places or self.message)
         if not self.places and not self.why:
             # (a pair that applies to what an earlier one made stands in no function of the text as it is: such an edit goes alone)
             self.places = {function_at(crate, *it[:2]) for it in self.pairs}
@@ -196,6 +202,8 @@ def refused_of_own(ran, texts):
 def judged_alone(crate, edit, kept):
     """Whether the edit, tried alone over the whole crate, is refused by what it changes, and what to say."""
     own, why = refused_of_own(RT.checked(crate, edit.texts, ["--jobs", "1"], kept), edit.texts)
+    if edit.message:
+        return own is None and edit.message in why, f"refused by the compiler: {edit.message}" if own is None and edit.message in why else f"NOT REFUSED by the compiler: {why}"
     if own is None:
         return False, f"BAD EDIT: {why}"
     if not own:
@@ -219,7 +227,7 @@ def shared(own, places):
 def judged(crate, edits, kept):
     """Tries a pack of edits in one check, what waits there for a refused callee in the next, and alone what no check of several refused as it must be."""
     found, left = [], edits
-    while left and None not in left[0].places:
+    while left and not left[0].message and None not in left[0].places:
         places = {place for edit in left for place in edit.places}
         own, _ = refused_in(crate, texts_of(crate, left), places, kept)
         if own is None or shared(own, places)[1]:

@@ -83,20 +83,19 @@ fn accepted(alloc: Global) -> Option<Point> {
     }
 }
 
-/// What an offer is answered at noon by a point that accepted the first manifest: 0 for New and for
-/// Same, else the number of the fault, and with it its index.
+/// What an offer is answered at noon by a point that accepted the first manifest: of a fault its number and its index.
 fn at_noon(
     alloc: Global,
     number: u8,
     this_update: &str,
     objects: &[(&str, &[u8])],
     files: &[FileIn],
-) -> Option<(u8, Option<usize>)> {
+) -> Option<Result<Offered, (u8, Option<usize>)>> {
     let next = manifest(alloc, number, this_update, "20250103000000Z", objects)?;
     let mut point = accepted(alloc)?;
     match point.offer(next.as_slice(), files, Moment::parse(NOON)?) {
-        Ok(_) => Some((0, None)),
-        Err(fault) => Some((fault.number(), fault.index())),
+        Ok(offered) => Some(Ok(offered)),
+        Err(fault) => Some(Err((fault.number(), fault.index()))),
     }
 }
 
@@ -155,13 +154,13 @@ fn judges_later_offers(rt: HostRuntime) -> Result<(), Fail> {
     let alloc = rt.alloc();
     let roa = file("a.roa", ROA);
     let listed: &[(&str, &[u8])] = &[("a.roa", ROA)];
-    assert!(rt; at_noon(alloc, 1, NOON, listed, &[roa]) == Some((4, None)));
-    assert!(rt; at_noon(alloc, 1, "20250101000000Z", listed, &[roa]) == Some((4, None)));
-    assert!(rt; at_noon(alloc, 2, "20250101000000Z", listed, &[roa]) == Some((5, None)));
-    assert!(rt; at_noon(alloc, 2, NOON, listed, &[roa, roa]) == Some((6, Some(1))));
-    assert!(rt; at_noon(alloc, 2, NOON, listed, &[]) == Some((7, Some(0))));
+    assert!(rt; at_noon(alloc, 1, NOON, listed, &[roa]) == Some(Err((4, None))));
+    assert!(rt; at_noon(alloc, 1, "20250101000000Z", listed, &[roa]) == Some(Err((4, None))));
+    assert!(rt; at_noon(alloc, 2, "20250101000000Z", listed, &[roa]) == Some(Err((5, None))));
+    assert!(rt; at_noon(alloc, 2, NOON, listed, &[roa, roa]) == Some(Err((6, Some(1)))));
+    assert!(rt; at_noon(alloc, 2, NOON, listed, &[]) == Some(Err((7, Some(0)))));
     assert!(rt;
-        at_noon(alloc, 2, NOON, listed, &[file("a.roa", WITH_VERSION)]) == Some((8, Some(0)))
+        at_noon(alloc, 2, NOON, listed, &[file("a.roa", WITH_VERSION)]) == Some(Err((8, Some(0))))
     );
     assert!(rt;
         at_noon(
@@ -170,9 +169,11 @@ fn judges_later_offers(rt: HostRuntime) -> Result<(), Fail> {
             NOON,
             &[("a.roa", WITH_VERSION)],
             &[file("a.roa", WITH_VERSION)]
-        ) == Some((9, Some(0)))
+        ) == Some(Err((9, Some(0))))
     );
-    assert!(rt; at_noon(alloc, 2, NOON, listed, &[roa, file("b.roa", b"")]) == Some((0, None)));
+    assert!(rt;
+        at_noon(alloc, 2, NOON, listed, &[roa, file("b.roa", b"")]) == Some(Ok(Offered::New))
+    );
     assert!(rt;
         at_noon(
             alloc,
@@ -180,7 +181,7 @@ fn judges_later_offers(rt: HostRuntime) -> Result<(), Fail> {
             NOON,
             &[("a.crl", b"abc")],
             &[file("a.crl", b"abc")]
-        ) == Some((0, None))
+        ) == Some(Ok(Offered::New))
     );
     Ok(())
 }
@@ -256,7 +257,7 @@ fn refuses_a_superfluous_maximum(rt: HostRuntime) -> Result<(), Fail> {
 fn keeps_what_is_in_use(rt: HostRuntime) -> Result<(), Fail> {
     let alloc = rt.alloc();
     let mut repository = Repository::new(alloc);
-    let files = [file("a.roa", ROA), file("b.roa", b"abd")];
+    let files = [file("a.roa", ROA), file("b.roa", b"abb")];
     let next = manifest(
         alloc,
         2,
