@@ -224,6 +224,7 @@ fn ipv6_unit(
 }
 
 /// Writes a Prefix, as `encode_prefix` does, behind the first `at` bytes of `out`, whose other bytes stay, and answers where it ends.
+#[inline(always)]
 pub fn encode_prefix_at(
     version: Version,
     announce: bool,
