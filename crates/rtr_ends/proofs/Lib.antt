@@ -16,6 +16,7 @@ pub mod KeptUnits
 pub mod LifeLaws
 pub mod LinkCells
 pub mod MachineCells
+pub mod NumberLaws
 pub mod OutboxLaws
 pub mod PeerLaws
 pub mod QuestionLaws

@@ -7,6 +7,7 @@ pub mod Consumed
 pub mod Feeding
 pub mod FetchStream
 pub mod LinkRules
+pub mod Numbers
 pub mod Peer
 pub mod Router
 pub mod RouterLaws

@@ -8,6 +8,7 @@ mod link;
 mod machine;
 mod machine_clock;
 mod machine_units;
+mod numbers;
 mod outbox;
 mod peer;
 mod question;
