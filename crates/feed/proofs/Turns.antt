@@ -74,7 +74,7 @@ module _ (set : VrpSet) (c : ℕ) where
 
   -- what is set twice is what it was set to last
   set_twice : (x y z : Option Conn) (cache : Cache Steps) → x ≡ z → ShowsCache HoldsSteps (with_conn c x (with_conn c y (publishing set))) cache → ShowsCache HoldsSteps (with_conn c z (publishing set)) cache
-  set_twice x y z cache e shows = record { timing = shows.timing; session0 = shows.session0; store = shows.store; slots = λ d. by_test d (d == c) (shows.slots d) }
+  set_twice x y z cache e shows = record { timing = shows.timing; session0 = shows.session0; store = shows.store; slots = λ d. by_test d (d == c) (shows.slots d); numbers = shows.numbers }
     where
       by_test : (d : ℕ) (b : Bool) → ShowsSlot (publishing set).timing (publishing set).cache (if b then x else if b then y else (publishing set).at d) (peer_at cache.peers.items d)
           → ShowsSlot (publishing set).timing (publishing set).cache (if b then z else (publishing set).at d) (peer_at cache.peers.items d)

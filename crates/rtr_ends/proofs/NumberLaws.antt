@@ -1,12 +1,12 @@
 -- The free numbers after one is taken or freed.
-use Rattle.std.specs.Prelude.{◌≡◌, ℕ, ◌+◌, ◌<◌, ◌≤◌, ◌==◌, Bool, true, false, List, [], ◌∷◌, ◌++◌, length, Option, None, Some, slice_get, slice_set, get_or, refl, Result, Ok, Err, IsOk, OnOk}
+use Rattle.std.specs.Prelude.{◌≡◌, ℕ, ◌+◌, ◌<◌, ◌≤◌, ◌==◌, Bool, true, false, List, [], ◌∷◌, ◌++◌, length, Option, None, Some, slice_get, slice_set, get_or, unwrap_or, refl, Result, Ok, Err, IsOk, OnOk}
 use Rattle.std.proofs.Common.{sym, ap, ◌∙◌, subst, arith, inl, inr, zero, suc, cond}
 use Rattle.std.proofs.lemmas.Bool.{cases_Bool}
 use Rattle.std.proofs.lemmas.Bool.Decides.{nat_tests}
 use Rattle.std.proofs.lemmas.List.Elements.{All-head}
 use Rattle.std.proofs.lemmas.List.Sorted.{le_from_greatest, sum_by_popped, sum_by_pushed}
 use Rattle.std.proofs.lemmas.List.Sums.{count_by-le-length, get_or-le-sum_by, sum_by-cons, sum_by-set, sum_by_push}
-use Rattle.std.proofs.lemmas.Option.{get_or_from_slice_get, slice_get-get_or, slice_get_past, slice_get_within}
+use Rattle.std.proofs.lemmas.Option.{get_or_from_slice_get, slice_get-get_or, slice_get_within}
 use Rattle.std.specs.BinaryHeap.{IsHeap, IsUpperBound, heap_capacity, heap_items, heap_len}
 use Rattle.std.specs.List.Sorted.{IsPermutation}
 use Rattle.std.specs.Ordering.{nat_cmp}
@@ -84,11 +84,14 @@ module _ (taken : List Bool) (old new : FreeNumbers) (was : AreFree taken old) w
   -- None is free: all are taken.
   pub takes_none : heap_len old.numbers ≡ 0 → length (heap_items old.numbers) ≡ heap_len old.numbers → heap_items new.numbers ≡ heap_items old.numbers → heap_len new.numbers ≡ heap_len old.numbers → heap_capacity new.numbers ≡ heap_capacity old.numbers
       → TakesNumber taken None new
-  takes_none none long items len capacity = (λ n low. is_taken (slice_get taken n) (get_or taken n true) (slice_get-get_or taken n true low) (sym (was.each n) ∙ ap (times n) (empty (heap_items old.numbers) (long ∙ none))), record {
-    order = subst (λ xs. IsHeap (λ (a b : Reverse ℕ). nat_cmp b.0 a.0) xs) (sym items) was.order;
-    each = λ n. ap (times n) items ∙ was.each n;
-    room = omega (arith, was.room, len, capacity);
-  })
+  takes_none none long items len capacity = (
+    λ n low. is_taken (slice_get taken n) (get_or taken n true) (slice_get-get_or taken n true low) (sym (was.each n) ∙ ap (times n) (empty (heap_items old.numbers) (long ∙ none))),
+    record {
+      order = subst (λ xs. IsHeap (λ (a b : Reverse ℕ). nat_cmp b.0 a.0) xs) (sym items) was.order;
+      each = λ n. ap (times n) items ∙ was.each n;
+      room = omega (arith, was.room, len, capacity);
+    },
+  )
     where
       empty : {X : Type 0} (xs : List X) → length xs ≡ 0 → xs ≡ []
       empty [] h = refl
@@ -141,3 +144,12 @@ module _ (taken : List Bool) (old new : FreeNumbers) (was : AreFree taken old) w
       past [] (suc n) = refl
       past (x ∷ xs) zero = refl
       past (x ∷ xs) (suc n) = past xs n
+
+-- A number that is taken, or the next one after them: where it is below the end it was the least that is free, and else all are taken.
+pub takes_below : (taken : List Bool) (new : FreeNumbers) (r : Option ℕ) (n : ℕ) → n ≡ unwrap_or r (length taken) → n < length taken → TakesNumber taken r new → TakesNumber taken (Some n) new
+takes_below taken new None n is low t = absurd (omega (arith, is, low))
+takes_below taken new (Some x) n is low t = subst (λ k. TakesNumber taken (Some k) new) (sym is) t
+
+pub takes_next : (taken : List Bool) (new : FreeNumbers) (r : Option ℕ) (n : ℕ) → n ≡ unwrap_or r (length taken) → length taken ≤ n → TakesNumber taken r new → (n ≡ length taken) × TakesNumber taken None new
+takes_next taken new None n is high t = (is, t)
+takes_next taken new (Some x) n is high t = absurd (omega (arith, is, high, slice_get_within taken x false t.0))

@@ -129,7 +129,7 @@ module _ {S : Type 0} (holds : ℕ → Instance → S → Type 0) (m : CacheStat
 
   -- what is set twice is what it was set to last
   set_twice : (x y z : Option Conn) (cache : Cache S) → x ≡ z → ShowsCache holds (with_conn c x (with_conn c y m)) cache → ShowsCache holds (with_conn c z m) cache
-  set_twice x y z cache e shows = record { timing = shows.timing; session0 = shows.session0; store = shows.store; slots = λ d. by_test d (d == c) (shows.slots d) }
+  set_twice x y z cache e shows = record { timing = shows.timing; session0 = shows.session0; store = shows.store; slots = λ d. by_test d (d == c) (shows.slots d); numbers = shows.numbers }
     where
       by_test : (d : ℕ) (b : Bool) → ShowsSlot m.timing m.cache (if b then x else if b then y else m.at d) (peer_at cache.peers.items d) → ShowsSlot m.timing m.cache (if b then z else m.at d) (peer_at cache.peers.items d)
       by_test d true h = subst (λ a. ShowsSlot m.timing m.cache a (peer_at cache.peers.items d)) e h
@@ -137,7 +137,7 @@ module _ {S : Type 0} (holds : ℕ → Instance → S → Type 0) (m : CacheStat
 
   -- A connection that is closed, and had not been open, leaves all as it was.
   pub closes : (calls : List ConnCall) (cache : Cache S) → m.at c ≡ None → ShowsCache holds (with_conn c None (standing calls)) cache → ShowsCache holds m cache
-  closes calls cache free shows = record { timing = shows.timing; session0 = shows.session0; store = shows.store; slots = λ d. by_test d (d == c) refl (shows.slots d) }
+  closes calls cache free shows = record { timing = shows.timing; session0 = shows.session0; store = shows.store; slots = λ d. by_test d (d == c) refl (shows.slots d); numbers = shows.numbers }
     where
       by_test : (d : ℕ) (b : Bool) → (d == c) ≡ b → ShowsSlot m.timing m.cache (if b then None else if b then Some (stood m calls).conn else m.at d) (peer_at cache.peers.items d) → ShowsSlot m.timing m.cache (m.at d) (peer_at cache.peers.items d)
       by_test d true is h = subst (λ a. ShowsSlot m.timing m.cache a (peer_at cache.peers.items d)) (sym (ap m.at (eq_of d c is) ∙ free)) h

@@ -1,5 +1,5 @@
 -- A cache with many connections, as a machine.
-use Rattle.std.specs.Prelude.{◌≡◌, ℕ, ◌-◌, ◌<◌, ◌==◌, Bool, true, false, not, List, [], ◌∷◌, length, Box, Option, Some, None, IsSome, IfSome, Result, Ok, Err, slice_get, option_map, if◌then◌else◌, ⊤}
+use Rattle.std.specs.Prelude.{◌≡◌, ℕ, ◌-◌, ◌<◌, ◌==◌, Bool, true, false, not, List, [], ◌∷◌, length, Box, Option, Some, None, IsSome, IfSome, Result, Ok, Err, is_some, map, slice_get, option_map, if◌then◌else◌, ⊤}
 use Rattle.std.specs.declared.alloc.AllocError.{AllocError}
 use Rattle.std.specs.List.{AllByRecursion}
 use Rattle.vrps.specs.Instance.{Instance, IsInstance, NumberedSet, versions}
@@ -8,6 +8,7 @@ use Rattle.vrps.specs.Stores.{newest}
 use Rattle.vrps.specs.VrpSet.{IsVrpSet, VrpSet}
 use Rattle.rtr_pdu.specs.Payloads.{AreBytes}
 use Rattle.rtr_ends.specs.Cache.{ConnCall, Conn, Gives, IsServed, Notifies, Publishes, Serving, Takes, can_notify, conn_notified, conn_pulled, conn_takes, is_none, new_conn, serve, serving}
+use Rattle.rtr_ends.specs.Numbers.{AreFree}
 use Rattle.rtr_ends.specs.Peer.{HasBufferRoom, ShowsPeer, held_by_peer, is_wanted_by_peer}
 use Rattle.rtr_ends.specs.Sender as sends
 use Rattle.rtr_ends.specs.Sender.{numbered_of}
@@ -90,12 +91,17 @@ unboxed (Some b) = Some b.value
 abbrev pub peer_at : {A : Type 0} → List (Option (Box Peer A)) → ℕ → Option Peer
 peer_at peers c = unboxed (joined (slice_get peers c))
 
+-- which numbers of a list have a connection
+abbrev pub taken_numbers : {A : Type 0} → List (Option (Box Peer A)) → List Bool
+taken_numbers peers = map is_some peers
+
 -- The machine's state is shown by this cache, over a store of which this holds.
 pub record ShowsCache {S : Type 0} (holds : ℕ → Instance → S → Type 0) (m : CacheState) (cache : Cache S) : Type 0 where
   pub timing : cache.timing ≡ m.timing
   pub session0 : cache.session0 ≡ m.cache.session0
   pub store : holds m.keep m.cache cache.store
   pub slots : (c : ℕ) → ShowsSlot m.timing m.cache (m.at c) (peer_at cache.peers.items c)
+  pub numbers : AreFree (taken_numbers cache.peers.items) cache.free
 
 -- Memory is wanting at this unit of a piece: it is read, and its answer takes memory.
 abbrev pub is_wanted_at : List ℕ → CacheState → Option Conn → ℕ → Bool
@@ -129,16 +135,18 @@ Brings v old new =
     (t : Intervals) (i j : Instance) (a : Option Conn) → i.session ≡ j.session → i.session0 ≡ j.session0 → Some v ≡ newest (versions j) → ShowsSlot t i a old →
     ShowsSlot t j a new
 
--- One connection has a share of a newer version.
+-- One connection has a share of a newer version; no number is taken or freed.
 pub record OffersAt {A : Type 0} (old : List (Option (Box Peer A))) (c : ℕ) (share : Share) (new : List (Option (Box Peer A))) : Type 0 where
   pub len : length new ≡ length old
+  pub taken : taken_numbers new ≡ taken_numbers old
   pub here : Brings (numbered_of share) (peer_at old c) (peer_at new c)
   pub others : (d : ℕ) → ¬ (d ≡ c) → peer_at new d ≡ peer_at old d
 
--- Each connection has a share of a newer version of this serial, where all these sets are its set.
+-- Each connection has a share of a newer version of this serial, where all these sets are its set; no number is taken or freed.
 abbrev pub HandsOut : {A : Type 0} → List (Option (Box Peer A)) → ℕ → List VrpSet → List (Option (Box Peer A)) → Type 0
 HandsOut old serial sets new =
-    (set : VrpSet) → AllByRecursion (λ s. s ≡ set) sets → (c : ℕ) → Brings (record { serial = serial; set = set }) (peer_at old c) (peer_at new c)
+    (taken_numbers new ≡ taken_numbers old)
+    × ((set : VrpSet) → AllByRecursion (λ s. s ≡ set) sets → (c : ℕ) → Brings (record { serial = serial; set = set }) (peer_at old c) (peer_at new c))
 
 -- What is called on a cache: a set is published; a connection is opened under a number or closed; a piece is handed in; bytes are
 -- pulled; a router is notified.

@@ -1,5 +1,5 @@
 //! The cache: many connections over one store of versions.
-ghost use Rattle.std.specs.Prelude.{◌≡◌, ℕ, ◌<◌, ◌≤◌, length, Option, IfOk, IsSome, map, option_map};
+ghost use Rattle.std.specs.Prelude.{◌≡◌, ℕ, ◌<◌, ◌≤◌, length, Option, IfOk, map, option_map};
 ghost use Rattle.std.specs.List.{AllByRecursion};
 ghost use Rattle.vrps.specs.Instance.{Instance, versions};
 ghost use Rattle.vrps.specs.Store.{is_current};
@@ -8,6 +8,7 @@ ghost use Rattle.rtr_ends.specs.CacheState.{CacheState, GivesBytes, HandsOut, Of
 ghost use Rattle.rtr_ends.specs.Sender.{numbered_of};
 ghost use Rattle.rtr_ends.specs.ServeStream.{is_within};
 
+use crate::numbers::FreeNumbers;
 use crate::peer::Peer;
 use crate::sender::Share;
 use crate::sessions::Sessions;
@@ -31,6 +32,8 @@ pub struct Cache<S> {
     timing: Timing,
     /// The connections by their numbers.
     peers: Vec<Option<Box<Peer>>>,
+    /// The numbers in that list that no connection has.
+    free: FreeNumbers,
 }
 
 impl<S: VersionStore> Cache<S> {
@@ -53,6 +56,7 @@ impl<S: VersionStore> Cache<S> {
             session0,
             timing,
             peers: Vec::new(alloc),
+            free: FreeNumbers::new(alloc),
         }
     }
 
@@ -153,23 +157,10 @@ impl<S: VersionStore> Cache<S> {
     pub fn close(&mut self, conn: Conn)
         ensures { (m : CacheState) → ShowsCache S.holds m self.old → ShowsCache S.holds (with_conn conn.0 Option.None m) self.new }
     {
-        if conn.0 < self.peers.len() {
+        if self.peer(conn).is_some() {
             self.peers[conn.0] = None;
+            self.free.put(conn.0);
         }
-    }
-
-    /// The least number that no connection has.
-    fn least_free(&self) -> usize
-        ensures low { result ≤ length self.now.peers.items }
-        ensures free { peer_at self.now.peers.items result ≡ Option.None }
-        ensures least { (k : ℕ) → k < result → IsSome (peer_at self.now.peers.items k) }
-    {
-        for (number, slot) in self.peers.iter().enumerate() {
-            if slot.is_none() {
-                return number;
-            }
-        }
-        self.peers.len()
     }
 
     /// A share of the current version.
@@ -202,10 +193,12 @@ impl<S: VersionStore> Cache<S> {
     {
         let ready = self.share()?;
         let peer = Box::new(self.alloc, Peer::new(self.sessions(), self.timing, ready))?;
-        let number = self.least_free();
-        if number < self.peers.len() {
+        let count = self.peers.len();
+        let number = self.free.take().unwrap_or(count);
+        if number < count {
             self.peers[number] = Some(peer);
         } else {
+            self.free.reserve(count + 1)?;
             self.peers.push(Some(peer))?;
         }
         Ok(Conn(number))

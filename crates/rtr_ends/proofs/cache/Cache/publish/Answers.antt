@@ -15,7 +15,7 @@ returns-in-New g c = λ m shows.
     let told : Publishes (g.S.VersionStore.holds m.keep) (Ok (New c.in-New.serial)) c.args.set m.cache c.publish.new.self =
     subst Q c.in_ok-set.ensures.ok (subst P c.in-New.is (c.in_ok-publish.ensures m.keep m.cache shows.store)) in
     let all = all_same (map (λ (share : Rc VrpSet Global). share.value) c.in_ok-shares.shares.items) c.in_ok-set.set.value c.args.set c.in_ok-set.ensures.ok c.in_ok-shares.ensures.1 in (
-      publishes g.S.VersionStore.holds m c.args.self.now _ c.args.set c.in-New.serial.0 shows refl refl told.0 told.1 told.2 (c.hand_out.ensures c.args.set all),
+      publishes g.S.VersionStore.holds m c.args.self.now _ c.args.set c.in-New.serial.0 shows refl refl told.0 told.1 told.2 (c.hand_out.ensures.1 c.args.set all) c.hand_out.ensures.0 refl,
       told.1,
       told.2,
     )

@@ -1,11 +1,16 @@
 use Rattle.std.proofs.Common.{◌≡◌, ◌∙◌, ap, sym, refl, arith, Some}
 use Rattle.std.specs.Box.{with_value}
 use Rattle.rtr_ends.specs.CacheState.{peer_at}
-use Rattle.rtr_ends.proofs.CacheStateLaws.{slot_of, gives_bytes}
+use Rattle.rtr_ends.proofs.CacheStateLaws.{slot_none, slot_of, gives_nothing, gives_bytes}
 use Rattle.rtr_ends.proofs.cache.Cache.pull.Goals as goal
 
 pub returns-in-Some-clause-gives : goal.returns-in-Some-clause-gives
 returns-in-Some-clause-gives g c = λ m shows.
     let at : peer_at c.args.self.now.peers.items c.args.conn.0 ≡ Some c.deref_mut.result.now =
     slot_of c.args.self.now.peers.items c.args.conn.0 c.index_mut.result.now c.in-Some.peer (omega (arith, c.if-conn-len.false, c.len.ensures)) c.index_mut.ensures.value c.in-Some.is ∙ ap Some (sym c.deref_mut.ensures.value) in
-    gives_bytes g.S.VersionStore.holds m c.args.self.now _ c.args.conn.0 shows (omega (arith, c.if-conn-len.false, c.len.ensures)) refl refl refl c.deref_mut.result.now (with_value c.in-Some.peer c.pull.new.self) at refl c.args.out.now c.pull.result c.pull.new.out (λ o s. c.pull.ensures.pulls m.keep m.timing m.cache o s)
+    gives_bytes g.S.VersionStore.holds m c.args.self.now _ c.args.conn.0 shows (omega (arith, c.if-conn-len.false, c.len.ensures)) refl refl refl c.deref_mut.result.now (with_value c.in-Some.peer c.pull.new.self) at refl refl c.args.out.now c.pull.result c.pull.new.out (λ o s. c.pull.ensures.pulls m.keep m.timing m.cache o s)
+
+pub returns-in-None-clause-gives : goal.returns-in-None-clause-gives
+returns-in-None-clause-gives g c = λ m shows.
+    let slot = slot_none c.args.self.now.peers.items c.args.conn.0 c.index_mut.result.now (omega (arith, c.if-conn-len.false, c.len.ensures)) c.index_mut.ensures.value c.in-None.is in
+    gives_nothing g.S.VersionStore.holds m c.args.self.now _ c.args.conn.0 shows refl refl refl refl slot.0 slot.1 c.args.out.now

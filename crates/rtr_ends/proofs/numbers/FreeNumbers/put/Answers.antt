@@ -1,4 +1,3 @@
-use Rattle.std.proofs.Common.{arith}
 use Rattle.rtr_ends.proofs.NumberLaws.{frees, room_for_one, when_ok}
 use Rattle.rtr_ends.proofs.numbers.FreeNumbers.put.Goals as goal
 
