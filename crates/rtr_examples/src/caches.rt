@@ -549,6 +549,28 @@ fn a_number_that_no_connection_has<S: Log + Drop, R: AllocGlobal + Abort>(
     Ok(())
 }
 
+fn the_least_free_number_is_given<S: Log + Drop, R: AllocGlobal + Abort>(
+    rt: &R,
+) -> Result<(), Fail> {
+    let mut cache = cache_of::<S>(rt.alloc(), 5, &[&[V]])?;
+    let conns = [cache.open()?, cache.open()?, cache.open()?, cache.open()?];
+    let last = cache.open()?;
+    cache.close(conns[3]);
+    cache.close(conns[1]);
+    cache.close(conns[2]);
+    cache.close(conns[1]);
+    assert!(rt; cache.open()? == conns[1]);
+    assert!(rt; cache.open()? == conns[2]);
+    assert!(rt; cache.open()? == conns[3]);
+    let next = cache.open()?;
+    assert!(rt; next != last && next != conns[0]);
+    cache.close(next);
+    cache.close(last);
+    assert!(rt; cache.open()? == last);
+    assert!(rt; cache.open()? == next);
+    Ok(())
+}
+
 /// So many IPv4 records.
 fn many(alloc: Global, count: u32) -> Result<VrpSet, Fail> {
     let mut list = Vec::new(alloc);
@@ -636,6 +658,7 @@ fn each_example<S: Log + Drop, R: AllocGlobal + Abort>(rt: &R) -> Result<(), Fai
     another_session_is_corrupt::<S, R>(rt)?;
     a_long_unit_is_copied_as_far_as_there_is_room::<S, R>(rt)?;
     a_number_that_no_connection_has::<S, R>(rt)?;
+    the_least_free_number_is_given::<S, R>(rt)?;
     ten_thousand_records_in_pieces::<S, R>(rt)
 }
 
