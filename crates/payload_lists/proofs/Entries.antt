@@ -1,5 +1,5 @@
 -- The entries of a payload list.
-use Rattle.std.proofs.Common.{◌≡◌, ◌≢◌, ℕ, ◌<◌, ◌+◌, suc, drop, get_or, drop-cons, ◌≤◌, ◌++◌, IfSome, append_assoc, append-nil, List, [], ◌∷◌, Option, Some, None, Result, Ok, length, refl, sym, ap, ◌∙◌, subst, arith, rules, add-one, codes, String}
+use Rattle.std.proofs.Common.{◌≡◌, ◌≢◌, ℕ, ◌<◌, ◌+◌, suc, drop, get_or, drop-cons, ◌≤◌, ◌++◌, IfSome, append_assoc, append-nil, List, [], ◌∷◌, Option, Some, None, Result, Ok, Err, length, refl, sym, ap, ◌∙◌, subst, arith, rules, add-one, codes, String}
 use Rattle.std.proofs.lemmas.List.{length-map}
 use Rattle.std.specs.declared.alloc.Global.{Global}
 use Rattle.serde_json.specs.Data.{Data, Items, no_items, item, Members}
@@ -132,3 +132,10 @@ same_list bytes s value items h reads array =
     let values : h.value ≡ value = one_some h.value value (json.read bytes) h.reads reads in
     let arrays : h.items ≡ items = one_some h.items items (as_array value) (ap (λ d. as_array d) (sym values) ∙ h.is_array) (sym array) in
     subst (λ ds. ListsSet ds s) arrays h.lists
+
+-- the error that `?` hands on
+error_is : {T E : Type 0} (x t : E) → ◌≡◌ {A = Result T E} (Err x) (Err t) → x ≡ t
+error_is x t h = cc
+
+pub same_error : {T S E : Type 0} (r : Result T E) (q : Result S E) (x y t : E) → r ≡ Err x → x ≡ y → q ≡ Err y → r ≡ Err t → q ≡ Err t
+same_error {T = T} r q x y t a b d e = d ∙ ap Err (sym b ∙ error_is {T = T} x t (sym a ∙ e))

@@ -1,8 +1,9 @@
 -- A list in its plain form is a payload list, and of no other set.
-use Rattle.std.proofs.Common.{◌≡◌, ℕ, ◌<◌, ◌≤◌, List, [], ◌∷◌, Some, Result, Ok, Err, refl, ap₂, subst}
+use Rattle.std.proofs.Common.{◌≡◌, ℕ, ◌<◌, ◌≤◌, List, [], ◌∷◌, Some, Result, Ok, Err, refl, ap, ◌∙◌, ap₂, subst}
 use Rattle.std.specs.Prelude.{IfOk}
 use Rattle.std.specs.Str.{IsUtf8}
-use Rattle.serde_json.specs.Data.{Data, Items, no_items, item, array}
+use Rattle.serde_json.specs.Data.{Data, null, boolean, number, string, object, Items, no_items, item, array}
+use Rattle.serde_json.specs.Find.{as_array}
 use Rattle.serde_json.specs.Read as json
 use Rattle.prefixes.specs.Text.{OneReading, Says}
 use Rattle.prefixes.specs.Payload.{Payload}
@@ -38,3 +39,18 @@ listed_is text vs (Ok s) utf8 h made =
 
 pub listed_no : OneReading → (text : List ℕ) (vs : List Payload) → IsListed text vs → 16777215 < size (set_of vs) → (s : VrpSet) → IsPayloadList text s → ⊥
 listed_no one text vs h many s is = too_many h.0 vs s (λ ws others. one_list one h.0 vs ws h.2 others) many (same_list text s (array h.0) h.0 is h.1 refl)
+
+-- What a text says is an array of no entries of payloads, if it is an array.
+abbrev pub IsRefused : List ℕ → Type 0
+IsRefused text = (ds : Items) → json.read text ≡ Some (array ds) → (vs : List Payload) → ¬ (AreEntries ds vs)
+
+array_is : (d : Data) (ds : Items) → as_array d ≡ Some ds → d ≡ array ds
+array_is (array xs) ds e = cc
+array_is null ds e = absurd (cc)
+array_is (boolean b) ds e = absurd (cc)
+array_is (number n) ds e = absurd (cc)
+array_is (string s) ds e = absurd (cc)
+array_is (object ms) ds e = absurd (cc)
+
+pub refused_no : (text : List ℕ) → IsRefused text → (s : VrpSet) → IsPayloadList text s → ⊥
+refused_no text h s is = h is.items (is.reads ∙ ap (λ d. Some d) (array_is is.value is.items is.is_array)) is.lists.records is.lists.entries

@@ -1,17 +1,20 @@
 -- The turns of reading a list in its plain form.
-use Rattle.std.proofs.Common.{◌≡◌, ℕ, suc, ◌-◌, ◌<◌, ◌≤◌, List, ◌∷◌, length, Option, Some, None, option_map, Bor, refl, ap, ◌∙◌, arith}
-use Rattle.std.specs.Prelude.{IfSome, option_and_then}
+use Rattle.std.proofs.Common.{◌≡◌, ℕ, suc, ◌-◌, ◌<◌, ◌≤◌, List, ◌∷◌, length, Option, Some, None, option_map, Bor, refl, sym, ap, ◌∙◌, subst, arith}
+use Rattle.std.specs.Prelude.{IfSome, codes, option_and_then}
 use Rattle.serde_json.specs.Find.{as_number, as_str, as_u64}
 use Rattle.payload_lists.specs.EntrySteps.{MakesPayload}
 use Rattle.json.specs.Token.{Token}
 use Rattle.json.specs.Json as json
 use Rattle.json.specs.Json.{Parse, parse_map, read_key, after_end_array, items, members, value}
 use Rattle.json.proofs.Grammar.{value_is, value-begin_object, read_key-shorter, members_more, members_end}
-use Rattle.serde_json.specs.Data.{Data, Members, no_members, object, put}
+use Rattle.serde_json.specs.Data.{Data, Members, no_members, object, number, string, unsigned, put}
 use Rattle.serde_json.specs.Read.{of_json, of_members, converted}
 use Rattle.prefixes.specs.Payload.{Payload}
-use Rattle.payload_lists.specs.PlainForm.{HoldsMembers, ReadsMember, ReadsEntry}
+use Rattle.prefixes.specs.Text.{PrefixText}
+use Rattle.payload_lists.specs.PayloadList.{IsEntry, text_at, whole_at}
+use Rattle.payload_lists.specs.PlainForm.{HoldsMembers, ReadsMember, ReadsObject, ReadsEntry, ReadsNoEntry}
 use Rattle.payload_lists.specs.declared.plain.Plain.{Plain}
+use Rattle.payload_lists.proofs.Entries.{is_entry, one_some}
 
 with_member : (k : List ℕ) (j : json.Json) (d : Data) (old : Members) → of_json j ≡ Some d → (o : Option (json.Members × List Token))
     → converted (λ ms. of_members ms old) (parse_map (json.member k j) o) ≡ converted (λ ms. of_members ms (put k d old)) o
@@ -69,28 +72,48 @@ members_are depth ts s₁ s₂ s₃ rest p₁ p₂ p₃ one two three end =
     let m₃ = three.1 depth (n - 1 - 1) m₂.0 some₃ m₂.1 in
     (m₃.0, m₃.1, m₁.2 ∙ m₂.2 ∙ m₃.2 ∙ ap (converted (λ x. of_members x m₃.0)) (members_end (value depth) (n - 1 - 1 - 1) s₃ rest enough end))
 
-pub entry_is : (old ts s₁ s₂ s₃ rest : List Token) (p₁ p₂ : Plain) (asn max_len : ℕ) (text : Bor (List ℕ)) (result : Option Payload) → old ≡ Token.begin_object ∷ ts
+pub object_is : (old ts s₁ s₂ s₃ rest : List Token) (p₁ p₂ : Plain) (asn max_len : ℕ) (text : Bor (List ℕ)) → old ≡ Token.begin_object ∷ ts
     → ReadsMember ts s₁ nothing p₁ → ReadsMember s₁ s₂ p₁ p₂ → ReadsMember s₂ s₃ p₂ (record { asn = Some asn; max_len = Some max_len; prefix = Some text }) → read_key s₃ ≡ Some (None, rest)
-    → IfSome result (λ v. MakesPayload asn max_len text.now v) → IfSome result (λ v. ReadsEntry old rest v)
-entry_is old ts s₁ s₂ s₃ rest p₁ p₂ asn max_len text None first one two three end made = tt
-entry_is old ts s₁ s₂ s₃ rest p₁ p₂ asn max_len text (Some v) first one two three end made =
+    → ReadsObject old rest asn max_len text
+object_is old ts s₁ s₂ s₃ rest p₁ p₂ asn max_len text first one two three end =
     let last = read_key-shorter s₃ None rest end in
     let long : length old ≡ suc (length ts) = ap length first in (
       omega (arith, last, long, one.0, two.0, three.0),
       λ depth some.
           let m = members_are (depth - 1) ts s₁ s₂ s₃ rest p₁ p₂ _ one two three end in (
-            object m.0,
-            record {
-              members = m.0;
-              is_object = refl;
-              three = m.1.count;
-              asn = ap (λ d. option_and_then as_u64 (option_and_then as_number d)) m.1.asn ∙ ap Some made.asn_is;
-              max_len = ap (λ d. option_and_then as_u64 (option_and_then as_number d)) m.1.max_len ∙ ap Some made.max_len_is;
-              text = text.now;
-              has_text = ap (λ d. option_and_then as_str d) m.1.prefix;
-              prefix = made.prefix;
-              payload = made.payload;
-            },
+            m.0,
+            m.1,
             ap (converted of_json) (ap (value depth) first ∙ value-begin_object depth ts some) ∙ converted-object (members (value (depth - 1)) (length ts) ts) ∙ ap (parse_map object) m.2,
           ),
     )
+
+whole_is : (d : Option Data) (n : ℕ) → d ≡ Some (number (unsigned n)) → option_and_then as_u64 (option_and_then as_number d) ≡ Some n
+whole_is d n e = ap (λ x. option_and_then as_u64 (option_and_then as_number x)) e
+
+text_is : (d : Option Data) (s : List ℕ) → d ≡ Some (string s) → option_and_then as_str d ≡ Some s
+text_is d s e = ap (λ x. option_and_then as_str x) e
+
+-- An object of three members is the entry of a payload that they make, and of no other one.
+pub entry_is : (old new : List Token) (asn max_len : ℕ) (text : Bor (List ℕ)) (v : Payload) → ReadsObject old new asn max_len text → MakesPayload asn max_len text.now v → ReadsEntry old new v
+entry_is old new asn max_len text v h made = (
+  h.0,
+  λ depth some.
+      let m = h.1 depth some in (
+        object m.0,
+        is_entry (object m.0) m.0 asn max_len text.now v refl m.1.count (sym (whole_is _ asn m.1.asn)) (sym (whole_is _ max_len m.1.max_len)) (sym (text_is _ text.now m.1.prefix)) made,
+        m.2,
+      ),
+)
+
+makes : (ms : Members) (asn max_len : ℕ) (text : Bor (List ℕ)) (v : Payload) → HoldsMembers ms (record { asn = Some asn; max_len = Some max_len; prefix = Some text })
+    → IsEntry (object ms) v → MakesPayload asn max_len text.now v
+makes ms asn max_len text v holds h = record {
+  asn_is = one_some asn v.asn (whole_at (codes "asn") (object ms)) (whole_is _ asn holds.asn) h.asn;
+  max_len_is = one_some max_len v.max_len (whole_at (codes "maxLength") (object ms)) (whole_is _ max_len holds.max_len) h.max_len;
+  prefix = subst (λ t. PrefixText v.prefix t) (one_some h.text text.now (text_at (codes "prefix") (object ms)) h.has_text (text_is _ text.now holds.prefix)) h.prefix;
+  payload = h.payload;
+}
+
+pub no_entry_is : (old new : List Token) (asn max_len : ℕ) (text : Bor (List ℕ)) → ReadsObject old new asn max_len text → ((v : Payload) → ¬ (MakesPayload asn max_len text.now v)) → ReadsNoEntry old new
+no_entry_is old new asn max_len text h none =
+    (h.0, λ depth some. let m = h.1 depth some in (object m.0, λ v is. none v (makes m.0 asn max_len text v m.1 is), m.2))

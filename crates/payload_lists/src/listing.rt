@@ -155,7 +155,8 @@ fn read_any(alloc: Global, bytes: &[u8]) -> Result<VrpSet, ListFault>
 }
 
 /// The set of a payload list: a JSON array of objects with exactly the keys `asn`, `maxLength` and `prefix`. Of a key that
-/// stands twice in an object, `serde_json` reads the last. A list in its plain form is read token by token, any other as a whole.
+/// stands twice in an object, `serde_json` reads the last. A list in its plain form is read token by token, up to
+/// the first entry that makes no payload, and any other as a whole.
 /// `NoList`: the bytes are no such list, or it has over 16,777,215 different payloads. `Memory`: memory was wanting.
 pub fn read_list(alloc: Global, bytes: &[u8]) -> Result<VrpSet, ListFault>
     ensures ok { IfOk result (λ s. IsPayloadList bytes.now s) }

@@ -1,15 +1,16 @@
 //! Payload lists in their plain form, token by token.
-ghost use Rattle.std.specs.Prelude.{◌≡◌, Some, IfSome, IfOk};
+ghost use Rattle.std.specs.Prelude.{◌≡◌, List, Some, IfSome, IfOk, IsErrOf};
 ghost use Rattle.serde_json.specs.Data.{Items, Members, array, number, put, string, unsigned};
 ghost use Rattle.serde_json.specs.Read.{number_of, read};
+ghost use Rattle.prefixes.specs.Payload.{Payload};
 ghost use Rattle.payload_lists.specs.PayloadList.{AreEntries};
-ghost use Rattle.payload_lists.specs.PlainForm.{HoldsMembers, ReadsMember, ReadsEntry, ReadsItems};
+ghost use Rattle.payload_lists.specs.PlainForm.{HoldsMembers, ReadsMember, ReadsObject, ReadsEntry, ReadsNoEntry, ReadsItems, RefusesItems};
 
-use crate::listing::payload;
+use crate::listing::{ListFault, payload};
 use fast_float::Numeral;
 use json::{Reader, Scratch, Token};
 use prefixes::Vrp;
-use std::alloc::{AllocError, Global};
+use std::alloc::Global;
 
 /// The whole number below 2^64 that a number's text writes in digits alone.
 fn plain_number(text: &str) -> Option<u64>
@@ -70,9 +71,9 @@ fn plain_member<'a>(reader: &mut Reader<'a>, found: Plain<'a>) -> Option<Plain<'
     }
 }
 
-/// Reads an entry of three members.
-fn plain_entry(reader: &mut Reader<'_>) -> Option<Vrp>
-    ensures { IfSome result (λ v. ReadsEntry reader.old reader.new v) }
+/// Reads an object of the three members.
+fn plain_object<'a>(reader: &mut Reader<'a>) -> Option<(u64, u64, &'a str)>
+    ensures { IfSome result (λ found. ReadsObject reader.old reader.new found.0 found.1 found.2) }
 {
     match reader.next()? {
         Token::BeginObject => {}
@@ -87,28 +88,47 @@ fn plain_entry(reader: &mut Reader<'_>) -> Option<Vrp>
     let two = plain_member(reader, one)?;
     let three = plain_member(reader, two)?;
     match reader.next_key() {
-        Ok(None) => payload(three.asn?, three.max_len?, three.prefix?),
+        Ok(None) => Some((three.asn?, three.max_len?, three.prefix?)),
         _ => None,
     }
 }
 
-/// Reads the entries of an array to its end.
-fn plain_records(alloc: Global, reader: &mut Reader<'_>) -> Result<Option<Vec<Vrp>>, AllocError>
-    ensures { IfOk result (λ found. IfSome found (λ vs. ReadsItems reader.old reader.new vs.items)) }
+/// Reads an entry, if it has the plain form. `NoList`: it has, and it makes no payload.
+fn plain_entry(reader: &mut Reader<'_>) -> Result<Option<Vrp>, ListFault>
+    ensures ok { IfOk result (λ found. IfSome found (λ v. ReadsEntry reader.old reader.new v)) }
+    ensures no_list { IsErrOf result ListFault.NoList → ReadsNoEntry reader.old reader.new }
+{
+    match plain_object(reader) {
+        Some((asn, max_len, prefix)) => match payload(asn, max_len, prefix) {
+            Some(vrp) => Ok(Some(vrp)),
+            None => Err(ListFault::NoList),
+        },
+        None => Ok(None),
+    }
+}
+
+/// Reads the entries of an array to its end, if all have the plain form. `NoList`: one has, and it makes no payload.
+fn plain_records(alloc: Global, reader: &mut Reader<'_>) -> Result<Option<Vec<Vrp>>, ListFault>
+    ensures ok { IfOk result (λ found. IfSome found (λ vs. ReadsItems reader.old reader.new vs.items)) }
+    ensures no_list { IsErrOf result ListFault.NoList → RefusesItems reader.old }
 {
     let mut records = Vec::new(alloc);
     while !reader.take_end_array() {
-        let Some(vrp) = plain_entry(reader) else {
+        let Some(vrp) = plain_entry(reader)? else {
             return Ok(None);
         };
-        records.push(vrp)?;
+        if records.push(vrp).is_err() {
+            return Err(ListFault::Memory);
+        }
     }
     Ok(Some(records))
 }
 
 /// The records of a list in its plain form: an array of objects in which each of the three keys comes once, with numbers of digits alone.
-pub fn plain_list(alloc: Global, text: &str) -> Result<Option<Vec<Vrp>>, AllocError>
-    ensures { IfOk result (λ found. IfSome found (λ vs. (ds : Items) × (read text.now ≡ Some (array ds)) × AreEntries ds vs.items)) }
+/// `NoList`: an entry has this form and makes no payload, whatever comes behind it.
+pub fn plain_list(alloc: Global, text: &str) -> Result<Option<Vec<Vrp>>, ListFault>
+    ensures ok { IfOk result (λ found. IfSome found (λ vs. (ds : Items) × (read text.now ≡ Some (array ds)) × AreEntries ds vs.items)) }
+    ensures no_list { IsErrOf result ListFault.NoList → (ds : Items) → read text.now ≡ Some (array ds) → (vs : List Payload) → ¬ (AreEntries ds vs) }
 {
     let mut scratch = Scratch::new(alloc);
     let mut reader = Reader::new(text, &mut scratch)?;
