@@ -297,7 +297,7 @@ fn judges_the_least_file_and_its_first_fault(rt: HostRuntime) {
     let both: &[(&str, &[u8])] = &[("a.roa", ROA), ("b.roa", ROA)];
     // The hash of the first listed file is judged before the second, which is missing, and so is its content.
     assert!(rt;
-        at_noon(alloc, 2, NOON, both, &[file("a.roa", WITH_VERSION)]) == Some((8, Some(0)))
+        at_noon(alloc, 2, NOON, both, &[file("a.roa", WITH_VERSION)]) == Some(Err((8, Some(0))))
     );
     assert!(rt;
         at_noon(
@@ -306,19 +306,23 @@ fn judges_the_least_file_and_its_first_fault(rt: HostRuntime) {
             NOON,
             &[("a.roa", WITH_VERSION), ("b.roa", ROA)],
             &[file("a.roa", WITH_VERSION), file("b.roa", WITH_VERSION)]
-        ) == Some((9, Some(0)))
+        ) == Some(Err((9, Some(0))))
     );
     // Two files of one name come before all that is listed, also where neither is listed, and where they are equal.
-    assert!(rt; at_noon(alloc, 2, NOON, both, &[roa, roa]) == Some((6, Some(1))));
+    assert!(rt; at_noon(alloc, 2, NOON, both, &[roa, roa]) == Some(Err((6, Some(1)))));
     let other = file("x", b"");
-    assert!(rt; at_noon(alloc, 2, NOON, listed, &[roa, other, other, roa]) == Some((6, Some(2))));
+    assert!(rt;
+        at_noon(alloc, 2, NOON, listed, &[roa, other, other, roa]) == Some(Err((6, Some(2))))
+    );
     // The object is hashed, and the content is read.
     let signed = FileIn {
         name: "a.roa",
         object: b"signed",
         content: ROA,
     };
-    assert!(rt; at_noon(alloc, 2, NOON, &[("a.roa", b"signed")], &[signed]) == Some((0, None)));
+    assert!(rt;
+        at_noon(alloc, 2, NOON, &[("a.roa", b"signed")], &[signed]) == Some(Ok(Offered::New))
+    );
 }
 
 #[test]
