@@ -5,6 +5,7 @@ pub mod Fault
 pub mod Judging
 pub mod Kind
 pub mod Payloads
+pub mod Placing
 pub mod Reader
 pub mod Reading
 pub mod Rows

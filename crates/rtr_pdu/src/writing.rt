@@ -1,15 +1,17 @@
 //! Units as bytes.
 ghost use Rattle.std.specs.Prelude.{◌≡◌, ◌+◌, ◌≤◌, List, ℕ, ◌∷◌, ◌++◌, drop, take, length, true};
 ghost use Rattle.arrayvec.specs.ArrayVec.{array_vec_len};
+ghost use Rattle.std.specs.Int.{byte_at};
 ghost use Rattle.byteorder.specs.Endian.{big_bytes};
 ghost use Rattle.rtr_pdu.specs.Kind.{type_number};
+ghost use Rattle.rtr_pdu.specs.Placing.{PutsFour};
 ghost use Rattle.rtr_pdu.specs.Unit.{IsUnit, fits, header, fixed_header, prefix_bytes, unit_bytes, zeros, flag};
 
 use crate::kind::Kind;
 use crate::unit::{ErrorReport, MAX_UNIT_LEN, RouterKey, Unit};
 use crate::version::Version;
 use arrayvec::ArrayVec;
-use prefixes::{Asn, IpPrefix, Prefix, V4, V6, Vrp};
+use prefixes::{IpPrefix, Prefix, V4, V6, Vrp};
 
 /// Room for the longest unit.
 pub type UnitBuffer = ArrayVec<u8, MAX_UNIT_LEN>;
@@ -170,57 +172,81 @@ pub fn encode_prefix(version: Version, announce: bool, vrp: &Vrp, buffer: &mut U
 /// How many bytes the longest Prefix has, that of an IPv6 prefix (RFC 8210 section 5.7).
 pub const MAX_PREFIX_LEN: usize = 32;
 
-/// Writes bytes behind the first `at` of `out`, and answers where they end.
-fn put_at(out: &mut [u8], at: usize, bytes: &[u8]) -> usize
-    requires { at + length bytes.now ≤ length out.old }
-    ensures end { result ≡ at + length bytes.now }
-    ensures puts { (done rest : List ℕ) → out.old ≡ done ++ rest → length done ≡ at → out.new ≡ done ++ bytes.now ++ drop (length bytes.now) rest }
+/// Writes four bytes behind the first `at` of `out`.
+#[inline(always)]
+fn put_four(out: &mut [u8], at: usize, a: u8, b: u8, c: u8, d: u8)
+    requires { at + 4 ≤ length out.old }
+    ensures puts { PutsFour at a b c d out.old out.new }
+    ensures len { length out.new ≡ length out.old }
 {
-    let end = at + bytes.len();
-    out[at..end].copy_from_slice(bytes);
-    end
+    out[at] = a;
+    out[at + 1] = b;
+    out[at + 2] = c;
+    out[at + 3] = d;
 }
 
-/// The bytes of an IPv4 Prefix (RFC 8210 section 5.6).
-fn ipv4_unit(
+/// Writes a number of four bytes behind the first `at` of `out`, the highest byte first.
+#[inline(always)]
+fn put_word(out: &mut [u8], at: usize, word: u32)
+    requires { at + 4 ≤ length out.old }
+    ensures puts { PutsFour at (byte_at 3 word) (byte_at 2 word) (byte_at 1 word) (byte_at 0 word) out.old out.new }
+    ensures len { length out.new ≡ length out.old }
+{
+    let bytes = word.to_be_bytes();
+    put_four(out, at, bytes[0], bytes[1], bytes[2], bytes[3]);
+}
+
+/// Writes an IPv4 Prefix (RFC 8210 section 5.6) behind the first `at` bytes of `out`. The address and the AS number are written right
+/// after they are read: so each is one store.
+#[inline(always)]
+fn put_ipv4(
     version: Version,
     announce: bool,
     prefix: &Prefix<V4>,
-    max_len: u8,
-    asn: Asn,
-) -> [u8; 20]
-    ensures { result ≡ prefix_bytes version announce (IpPrefix.V4 prefix.now) max_len asn.0 zeros }
+    vrp: &Vrp,
+    out: &mut [u8],
+    at: usize,
+)
+    requires { at + 20 ≤ length out.old }
+    ensures { out.new ≡ take at out.old ++ prefix_bytes version announce (IpPrefix.V4 prefix.now) vrp.now.max_len vrp.now.asn zeros ++ drop (at + 20) out.old }
 {
-    let number = version.number();
-    let flags = flag_of(announce);
-    let len = prefix.len();
-    let a = (prefix.addr() as u32).to_be_bytes();
-    let s = asn.0.to_be_bytes();
-    [
-        number, 4, 0, 0, 0, 0, 0, 20, flags, len, max_len, 0, a[0], a[1], a[2], a[3], s[0], s[1],
-        s[2], s[3],
-    ]
+    put_word(out, at + 12, prefix.addr() as u32);
+    put_word(out, at + 16, vrp.asn().0);
+    put_four(
+        out,
+        at + 8,
+        flag_of(announce),
+        prefix.len(),
+        vrp.max_len(),
+        0,
+    );
+    put_four(out, at, version.number(), 4, 0, 0);
+    put_four(out, at + 4, 0, 0, 0, 20);
 }
 
-/// The bytes of an IPv6 Prefix (RFC 8210 section 5.7).
-fn ipv6_unit(
+/// Writes an IPv6 Prefix (RFC 8210 section 5.7) behind the first `at` bytes of `out`, in the order of `put_ipv4`.
+#[inline(always)]
+fn put_ipv6(
     version: Version,
     announce: bool,
     prefix: &Prefix<V6>,
-    max_len: u8,
-    asn: Asn,
-) -> [u8; 32]
-    ensures { result ≡ prefix_bytes version announce (IpPrefix.V6 prefix.now) max_len asn.0 zeros }
+    vrp: &Vrp,
+    out: &mut [u8],
+    at: usize,
+)
+    requires { at + 32 ≤ length out.old }
+    ensures { out.new ≡ take at out.old ++ prefix_bytes version announce (IpPrefix.V6 prefix.now) vrp.now.max_len vrp.now.asn zeros ++ drop (at + 32) out.old }
 {
-    let number = version.number();
-    let flags = flag_of(announce);
-    let len = prefix.len();
     let a = prefix.addr().to_be_bytes();
-    let s = asn.0.to_be_bytes();
-    [
-        number, 6, 0, 0, 0, 0, 0, 32, flags, len, max_len, 0, a[0], a[1], a[2], a[3], a[4], a[5],
-        a[6], a[7], a[8], a[9], a[10], a[11], a[12], a[13], a[14], a[15], s[0], s[1], s[2], s[3],
-    ]
+    put_four(out, at + 12, a[0], a[1], a[2], a[3]);
+    put_four(out, at + 16, a[4], a[5], a[6], a[7]);
+    put_word(out, at + 28, vrp.asn().0);
+    let max_len = vrp.max_len();
+    put_four(out, at + 20, a[8], a[9], a[10], a[11]);
+    put_four(out, at + 24, a[12], a[13], a[14], a[15]);
+    put_four(out, at + 8, flag_of(announce), prefix.len(), max_len, 0);
+    put_four(out, at, version.number(), 6, 0, 0);
+    put_four(out, at + 4, 0, 0, 0, 32);
 }
 
 /// Writes a Prefix, as `encode_prefix` does, behind the first `at` bytes of `out`, whose other bytes stay, and answers where it ends.
@@ -237,9 +263,14 @@ pub fn encode_prefix_at(
     ensures end { result ≡ at + length (unit_bytes version (Unit.Prefix announce vrp.now)) }
     ensures unit { IsUnit (Unit.Prefix announce vrp.now) }
 {
-    let (max_len, asn) = (vrp.max_len(), vrp.asn());
     match vrp.prefix() {
-        IpPrefix::V4(p) => put_at(out, at, &ipv4_unit(version, announce, &p, max_len, asn)),
-        IpPrefix::V6(p) => put_at(out, at, &ipv6_unit(version, announce, &p, max_len, asn)),
+        IpPrefix::V4(p) => {
+            put_ipv4(version, announce, &p, vrp, out, at);
+            at + 20
+        }
+        IpPrefix::V6(p) => {
+            put_ipv6(version, announce, &p, vrp, out, at);
+            at + 32
+        }
     }
 }
