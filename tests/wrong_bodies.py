@@ -1,15 +1,18 @@
 #!/usr/bin/env python3
 """Tries the wrong bodies of crates/NAME/wrong: each must be refused by the contract of the function that it changes.
 
-usage: tests/wrong_bodies.py [--after-gate] [NAME | NAME/EDIT]..
+usage: tests/wrong_bodies.py [--after-gate] [--all] [--list] [NAME | NAME/EDIT]..
 
-Without words all crates are tried, else these crates or single edits (with or without the ending .edit). An edit has the form of
-those in must-fail. Proofs are modular: a proof knows of other functions their contracts alone. So edits of different functions are
-tried in one check of a copy, in which each function but the edited ones has a hole for a proof: it stands for its contract, and takes
-no time. Each edited function must be refused of its own; one that waits for a refused callee is tried again without it, and what is
-not refused so is tried alone over the whole crate. An edit of a constant or a layout names in a line 'by: FUNCTION' who must refuse
-it, and goes alone. One that no longer compiles must say so in a line 'by: compiler: MESSAGE', with a part of what the compiler says of
-it. The last line is 'N passed, M failed'.
+Without words those are tried that were not yet refused as the texts stand (tests/refused.py says what decides that), with --all each, else
+those of these crates or these single edits (with or without the ending .edit). What is refused is kept in tests/refused.txt, which --all
+writes anew. --list only tells which would be tried, with the sum of what decides it.
+
+An edit has the form of those in must-fail. Proofs are modular: a proof knows of other functions their contracts alone. So edits of
+different functions are tried in one check of a copy, in which each function but the edited ones has a hole for a proof: it stands for its
+contract, and takes no time. Each edited function must be refused of its own; one that waits for a refused callee is tried again without
+it, and what is not refused so is tried alone over the whole crate. An edit of a constant or a layout names in a line 'by: FUNCTION' who
+must refuse it, and goes alone. One that no longer compiles must say so in a line 'by: compiler: MESSAGE', with a part of what the compiler
+says of it. The last line is 'N passed, M failed'.
 
 --after-gate takes the libraries that a run of the gate has just built in this tree."""
 import copy
@@ -23,6 +26,7 @@ import time
 TOP = os.path.realpath(f"{os.path.dirname(os.path.abspath(__file__))}/..")
 
 sys.path.insert(0, f"{TOP}/tools")
+import refused
 from kit import RT
 
 HEAD = re.compile(r"(?m)^(?:    )?(?:pub(?:\([a-z]+\))? )?(?:const )?fn (\w+)|^impl\b[^{;]*|^(?:pub(?:\([a-z]+\))? )?(?:const|static|struct|enum|trait|type|mod)\b")
@@ -52,18 +56,18 @@ class Edit:
         self.label = f"{crate.name}/{self.name}"
         self.texts, self.why = RT.read_edit(file, crate.folder)
         self.pairs, self.places, self.message, path, old = [], set(), "", "", ""
-        with open(file, encoding="utf-8") as it:
-            for line in it.read().split("\n"):
-                if line.startswith("file: "):
-                    path = line[len("file: ") :].strip()
-                elif line.startswith(COMPILER):
-                    self.message = line[len(COMPILER) :].strip()
-                elif line.startswith("by: "):
-                    self.places.add(f"{crate.name}::{line[len('by: ') :].strip()}")
-                elif line.startswith("old: "):
-                    old = line[len("old: ") :]
-                elif line.startswith("new:"):
-                    self.pairs.append((path, old, re.sub(r"\A ", "", line[len("new:") :])))
+        self.text = refused.read(file)
+        for line in self.text.split("\n"):
+            if line.startswith("file: "):
+                path = line[len("file: ") :].strip()
+            elif line.startswith(COMPILER):
+                self.message = line[len(COMPILER) :].strip()
+            elif line.startswith("by: "):
+                self.places.add(f"{crate.name}::{line[len('by: ') :].strip()}")
+            elif line.startswith("old: "):
+                old = line[len("old: ") :]
+            elif line.startswith("new:"):
+                self.pairs.append((path, old, re.sub(r"\A ", "", line[len("new:") :])))
         self.goes_alone = bool(self.places or self.message)
         if not self.places and not self.why:
             # (a pair that applies to what an earlier one made stands in no function of the text as it is: such an edit goes alone)
@@ -275,34 +279,52 @@ def library_stands(crate, after_gate):
     return not crate.build_rlib(["--jobs", str(RT.processors())], anew=False)
 
 
-def main(words):
-    os.chdir(TOP)
-    RT.rtlib.guarded()
-    after_gate = "--after-gate" in words
-    words = [it.removesuffix(".edit").rstrip("/") for it in words if it != "--after-gate"]
-    crates = sorted(RT.rtlib.crates_below(TOP), key=lambda it: len(it.below()))
-    edits = {it.name: edits_of(it, words) for it in crates}
-    wanted = [it for it in crates if edits[it.name]]
-    if not wanted:
-        print("0 passed, 1 failed" if words else "0 passed, 0 failed")
-        return bool(words)
-    below = {dep.name for it in wanted for dep in it.below()}
-    if not all(library_stands(it, after_gate) for it in crates if it.name in below):
-        print("a library below could not be built\n0 passed, 1 failed")
-        return 1
+def tasks_of(edits):
+    """What is to be tried, crate by crate, as tasks that run side by side."""
     tasks = {}
-    for crate in wanted:
-        parts = in_parts(crate, edits[crate.name])
-        for number, part in enumerate(parts):
+    for crate, some in edits.items():
+        for number, part in enumerate(in_parts(crate, some)):
             work = crate.count(rb"\n") * (2 + len(part)) * (8 if crate.is_program else 1)
             # (a task of this second word gets one job)
             tasks[f"{crate.name} {number}", "edits"] = ([], work, RT.need(crate), lambda given, jobs, of=crate, it=part: tried(of, it))
-    found = [it for some in RT.in_lanes(tasks).values() for it in some]
+    return tasks
+
+
+def told(found):
+    """Tells what was found of each edit that was tried, and returns how many failed."""
     for edit, is_well, what in sorted(found, key=lambda it: it[0].label):
         print(f"wrong body {edit.label}: {what}")
     failed = sum(not it[1] for it in found)
     print(f"{len(found) - failed} passed, {failed} failed")
-    return 1 if failed else 0
+    return failed
+
+
+def main(words):
+    os.chdir(TOP)
+    RT.rtlib.guarded()
+    flags = {it for it in words if it.startswith("--")}
+    words = [it.removesuffix(".edit").rstrip("/") for it in words if it not in flags]
+    crates = sorted(RT.rtlib.crates_below(TOP), key=lambda it: len(it.below()))
+    edits = {it: edits_of(it, words) for it in crates}
+    if flags - {"--after-gate", "--all", "--list"} or (words and not any(edits.values())):
+        print("usage: tests/wrong_bodies.py [--after-gate] [--all] [--list] [NAME | NAME/EDIT]..\n0 passed, 1 failed")
+        return 1
+    sums = {edit.label: refused.sum_of(crate, edit.text) for crate, some in edits.items() for edit in some}
+    kept = refused.kept()
+    is_new = lambda edit: words or "--all" in flags or kept.get(edit.label) != sums[edit.label]
+    wanted = {crate: left for crate, some in edits.items() if (left := [it for it in some if is_new(it)])}
+    if "--list" in flags:
+        sys.stdout.writelines(f"{sums[it.label]} {it.label}\n" for some in wanted.values() for it in some)
+        return 0
+    print(f"wrong bodies: {sum(map(len, wanted.values()))} to be tried, {len(sums) - sum(map(len, wanted.values()))} refused as the texts stand", flush=True)
+    if not all(library_stands(it, "--after-gate" in flags) for it in {dep.name: dep for it in wanted for dep in it.below()}.values()):
+        print("a library below could not be built\n0 passed, 1 failed")
+        return 1
+    found = [it for some in RT.in_lanes(tasks_of(wanted)).values() for it in some]
+    for edit, is_well, _ in found:
+        kept[edit.label] = sums[edit.label] if is_well else ""
+    refused.keep({it: sum for it, sum in kept.items() if sum == sums.get(it, words and sum)})
+    return 1 if told(found) else 0
 
 
 if __name__ == "__main__":

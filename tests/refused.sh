@@ -1,0 +1,69 @@
+#!/usr/bin/env bash
+# Which wrong bodies are to be tried, after which change: those of which the crate, what its libraries say, or the edit itself is another.
+set -u
+top=$(cd "$(dirname "${BASH_SOURCE[0]}")/.." && pwd) || exit 1
+room=$(mktemp -d) || exit 1
+trap 'rm -rf "$room"' EXIT
+failed=0
+
+cd "$top" || exit 1
+tar -c --exclude=out --exclude=.git . | tar -x -C "$room" || exit 1
+cd "$room" && git init -q . || exit 1
+
+listed() {
+    python3 tests/wrong_bodies.py --list "$@"
+}
+
+# The crates of which edits are to be tried.
+to_be_tried() {
+    listed | sed 's/^[^ ]* //; s|/.*||' | sort -u | tr '\n' ' '
+}
+
+expect() { # expect WHAT CRATES
+    local found
+    found=$(to_be_tried)
+    if [ "$found" != "$2" ]; then
+        echo "$1: edits of '$found' are to be tried, in place of '$2'"
+        failed=1
+    fi
+}
+
+# Makes a change in a file, asks what is to be tried then, and takes the change back.
+changed() { # changed FILE SED CRATES
+    cp "$1" saved
+    sed -i "$2" "$1"
+    if cmp -s saved "$1"; then
+        echo "$1: nothing was changed by $2"
+        failed=1
+    fi
+    expect "$1 $2" "$3"
+    mv saved "$1"
+}
+
+: >tests/refused.txt
+expect 'nothing was refused yet' 'der_lite feed payload_lists payloads points prefixes rpkirtr rtr_ends rtr_pdu rtr_world vrps '
+listed --all >tests/refused.txt
+expect 'all was refused' ''
+
+# a comment
+changed crates/rtr_ends/src/router.rt '1s|$| Changed.|' ''
+# the body of a function, and a proof
+changed crates/rtr_ends/src/router.rt 's|self.machine.out.pull(room)|self.machine.out.pull(&mut *room)|' 'rtr_ends '
+changed crates/rtr_ends/proofs/router/Router/receive/Answers.antt '$s|$| |' 'rtr_ends '
+# a contract, a definition, and a type
+changed crates/rtr_ends/src/router.rt 's|ensures within { result ≤ |ensures within { 0 + result ≤ |' 'feed rpkirtr rtr_ends rtr_world '
+changed crates/rtr_pdu/specs/Version.antt '$s|$|\nmore : ℕ\nmore = 1|' 'feed rpkirtr rtr_ends rtr_pdu rtr_world '
+changed crates/orders/src/lib.rt '$s|$|\npub struct More;|' 'rpkirtr '
+# a lemma that is named from above, and one that is not
+changed crates/rtr_ends/proofs/TableLaws.antt '$s|$| |' 'rpkirtr rtr_ends rtr_world '
+changed crates/rtr_ends/proofs/LinkCells.antt '$s|$| |' 'rtr_ends '
+# the libraries of a crate
+changed crates.txt 's|^vrps: .*|& arrayvec|' 'feed payload_lists rpkirtr rtr_ends rtr_world vrps '
+# an edit, which alone is tried
+changed crates/vrps/wrong/a_group_has_no_records.edit '$s|$| |' 'vrps '
+echo ' ' >>crates/vrps/wrong/a_group_has_no_records.edit
+if [ "$(listed | sed 's/^[^ ]* //')" != vrps/a_group_has_no_records ]; then
+    echo 'not the changed edit alone is to be tried'
+    failed=1
+fi
+[ "$failed" -eq 0 ]
