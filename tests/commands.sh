@@ -1,5 +1,5 @@
 #!/usr/bin/env bash
-# The commands of the program: tests/commands.py has the words, and what they give.
+# The commands of the program: tests/cases has the words, and what they give.
 set -u
 top=$(cd "$(dirname "${BASH_SOURCE[0]}")/.." && pwd) || exit 1
 "$top/run" roa /dev/null >/dev/null 2>&1

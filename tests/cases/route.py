@@ -1,0 +1,64 @@
+"""`route`: the state of a route over a payload list (RFC 6811)."""
+from cases.shared import BAD_JSON, DEVICE, FULL, V_JSON, Case, bad_words, device_failed
+
+ROUTES_JSON = {
+    "routes.json": '[{"asn":64496,"maxLength":25,"prefix":"192.0.2.0/24"},{"asn":0,"maxLength":24,"prefix":"192.0.2.0/24"},'
+    '{"asn":1,"maxLength":48,"prefix":"2001:db8::/32"}]'
+}
+
+
+def state(name, route, output):
+    return Case(name, f"route --vrps routes.json {route}", 0, f"{output}\n", files=ROUTES_JSON)
+
+
+STATES = [
+    state("as-long-as-the-maximum-length", "192.0.2.0/25 64496", "valid"),
+    state("longer-than-the-maximum-length", "192.0.2.0/26 64496", "invalid"),
+    state("no-origin", "192.0.2.0/24 none", "invalid"),
+    state("as-0", "192.0.2.0/24 0", "invalid"),
+    state("shorter-than-each-prefix", "192.0.0.0/16 64496", "not-found"),
+    state("shorter-than-each-prefix-and-no-origin", "192.0.0.0/16 none", "not-found"),
+    state("ipv6-in-another-spelling", "2001:DB8:0:0::/48 1", "valid"),
+    state("greatest-as", "192.0.2.0/24 4294967295", "invalid"),
+    Case("the-list-behind-the-route", "route 192.0.2.0/24 64496 --vrps routes.json", 0, "valid\n", files=ROUTES_JSON),
+]
+
+
+def refused(name, prefix, origin):
+    return Case(name, ["route", "--vrps", "routes.json", prefix, origin], 1, "refused word\n", files=ROUTES_JSON)
+
+
+REFUSED_WORDS = [
+    refused("origin-of-33-bits", "192.0.2.0/24", "4294967296"),
+    refused("origin-with-a-leading-zero", "192.0.2.0/24", "064496"),
+    refused("origin-with-letters-before", "192.0.2.0/24", "AS64496"),
+    refused("none-in-capitals", "192.0.2.0/24", "NONE"),
+    refused("origin-empty", "192.0.2.0/24", ""),
+    refused("origin-with-a-sign", "192.0.2.0/24", "+5"),
+    refused("origin-with-a-blank-behind", "192.0.2.0/24", "5 "),
+    refused("prefix-with-a-bit-behind-its-length", "192.0.2.1/24", "64496"),
+    refused("prefix-longer-than-its-family", "192.0.2.0/33", "64496"),
+    refused("prefix-without-a-length", "192.0.2.0", "64496"),
+]
+
+BAD_WORDS = [
+    bad_words("an-empty-word", ["route", ""]),
+    bad_words("without-a-route", "route --vrps gone.json"),
+    bad_words("without-an-origin", "route --vrps gone.json 192.0.2.1/24"),
+    bad_words("two-origins", "route --vrps gone.json 192.0.2.1/24 64496 64497"),
+    bad_words("without-a-list", "route 192.0.2.1/24 64496"),
+    bad_words("two-lists", "route --vrps gone.json --vrps gone.json 192.0.2.1/24 64496"),
+    bad_words("unknown-option", "route --vrps gone.json --serial 1 192.0.2.1/24 64496"),
+    bad_words("session0-of-a-cache", "route --session0 1 --vrps v.json 192.0.2.0/24 1", V_JSON),
+]
+
+ORDER_OF_REFUSALS = [
+    # the words come before the prefix and the origin, these before the file, and the file before its list
+    Case("refused-prefix-before-the-file", "route --vrps gone.json 192.0.2.1/24 64496", 1, "refused word\n"),
+    device_failed("no-such-file", "route --vrps gone.json 192.0.2.0/24 64496"),
+    Case("refused-origin-before-the-list", "route --vrps bad.json 192.0.2.0/24 +1", 1, "refused word\n", files=BAD_JSON),
+    Case("refused-list", "route --vrps bad.json 192.0.2.0/24 64496", 1, "refused list\n", files=BAD_JSON),
+    # a failed output comes before a refusal
+    Case("a-full-output", "route --vrps v.json 192.0.2.0/24 64496", 3, FULL, DEVICE, V_JSON),
+    Case("a-full-output-before-a-refused-prefix", "route --vrps v.json 192.0.2.1/24 64496", 3, FULL, DEVICE, V_JSON),
+]
