@@ -2,7 +2,8 @@
 """Proves and builds the program, and tells on standard error what it is at.
 
 Its libraries are proved side by side, each as soon as those below it stand, and then the program. What stands already is taken as it
-is. The status is 0 exactly where the program was built.
+is. It tells how long a crate took last time: that is kept in its out/, and tools/took.txt has what it took where these figures were last
+written. The status is 0 exactly where the program was built.
 
 A library is built as `rt lib` builds it. That command itself is not called for each: it lets no other run into the crates below its own,
 so that two libraries above a third would wait for each other."""
@@ -17,10 +18,22 @@ from kit import RT
 
 TOP = os.path.realpath(f"{os.path.dirname(os.path.abspath(__file__))}/..")
 PROGRAM = f"{TOP}/crates/rpkirtr"
+TOOK = f"{TOP}/tools/took.txt"
+
+# How many seconds pass at most without a word.
+PATIENCE = 30
 
 
 def tell(text):
     print(f"run: {text}", file=sys.stderr, flush=True)
+
+
+def seconds_kept(path):
+    """The seconds in a file, by the name in front of them."""
+    if not os.path.isfile(path):
+        return {}
+    with open(path, encoding="utf-8") as it:
+        return {name: int(seconds) for name, seconds in map(str.split, it)}
 
 
 def prove_library(crate, jobs):
@@ -40,58 +53,73 @@ def build_program(crate, jobs):
 
 
 class Build:
-    """The crates that are to be proved, which of them are left, and which stand."""
+    """The crates that are to be proved, which of them are left, which are at work since when, and which stand."""
 
     def __init__(self, crates):
         self.crates, self.cores, self.began = crates, RT.processors(), time.time()
-        self.left, self.stand = sorted(crates, key=self.chain, reverse=True), set()
+        self.left, self.since, self.stand = sorted(crates, key=self.chain, reverse=True), {}, set()
+        self.took = seconds_kept(TOOK)
 
     def chain(self, crate):
         """The lines of code of the longest chain of crates from this one up to the program."""
         return crate.count(rb"\n") + max((self.chain(it) for it in self.crates if crate in it.deps), default=0)
 
-    def next(self, running, memory):
-        """A library that can be proved now beside these and for which memory is left, or None: first that with the longest chain."""
+    def next(self, wanted, running, memory):
+        """One of these crates that can be proved now beside those, as far as memory goes, or None: first that with the longest chain."""
         room = memory - sum(RT.need(it) for it in running)
-        ready = [it for it in self.left if not it.is_program and self.stand.issuperset(it.deps)]
+        ready = [it for it in self.left if it in wanted and self.stand.issuperset(it.deps)]
         return next((it for it in ready if not running or (len(running) < self.cores and RT.need(it) <= room)), None)
 
-    def jobs(self, running):
-        """The jobs for a library beside those that have these: two for as many as fill the processors so, and one for each other. A second job
-        shortens a chain, and takes more of the processors in all."""
+    def jobs(self, crate, running):
+        """The jobs for a crate beside those that have these: two for as many libraries as fill the processors so, and one for each other. A
+        second job shortens a chain, and takes more of the processors in all. The program comes last, and gets all."""
+        if crate.is_program:
+            return self.cores
         return 2 if sum(it > 1 for it in running) < self.cores // 2 else 1
+
+    def last_time(self, crate):
+        """How long a crate took last time, as the end of a line."""
+        seconds = {**self.took, **seconds_kept(f"{crate.folder}/out/took")}.get(crate.name)
+        return "" if seconds is None else f", which took {seconds} s last time"
 
     def begin(self, crate):
         self.left.remove(crate)
-        tell(f"proving {crate.name}, {len(self.crates) - len(self.left)} of {len(self.crates)}")
+        self.since[crate] = time.time()
+        if crate.is_program or not crate.is_built():
+            tell(f"proving {crate.name}, {len(self.crates) - len(self.left)} of {len(self.crates)}{self.last_time(crate)}")
+
+    def wait(self, running):
+        """Those of the running that have ended. As long as none has, it tells from time to time which are at work."""
+        while not (done := wait(running, timeout=PATIENCE, return_when=FIRST_COMPLETED).done):
+            tell("still at " + ", ".join(f"{it.name} ({time.time() - self.since[it]:.0f} s)" for it, _ in running.values()))
+        return done
 
     def end(self, crate, stands, said):
         """Tells whether the crate stands, and returns it."""
+        took = round(time.time() - self.since.pop(crate))
         if stands:
             self.stand.add(crate)
+            if took > 1:
+                with open(f"{crate.folder}/out/took", "w", encoding="utf-8") as it:
+                    it.write(f"{crate.name} {took}\n")
             tell(f"{crate.name} stands after {time.time() - self.began:.0f} s")
         else:
             print("\n".join(said.splitlines()[-20:]), file=sys.stderr)
             tell(f"{crate.name} could not be proved or built")
         return stands
 
-    def libraries(self):
-        """Proves the libraries. Returns whether all stand."""
+    def run(self, wanted):
+        """Proves these libraries, or builds the program. Returns whether all stand."""
         well, running, memory = True, {}, RT.free()
         with ThreadPoolExecutor(self.cores) as pool:
-            while running or (well and self.next([], memory)):
-                while well and (crate := self.next([it for it, _ in running.values()], memory)):
-                    jobs = self.jobs([it for _, it in running.values()])
+            while running or (well and self.next(wanted, [], memory)):
+                while well and (crate := self.next(wanted, [it for it, _ in running.values()], memory)):
+                    jobs = self.jobs(crate, [it for _, it in running.values()])
                     self.begin(crate)
-                    running[pool.submit(prove_library, crate, jobs)] = crate, jobs
-                for it in wait(running, return_when=FIRST_COMPLETED).done:
+                    running[pool.submit(build_program if crate.is_program else prove_library, crate, jobs)] = crate, jobs
+                for it in self.wait(running):
                     well = self.end(running.pop(it)[0], *it.result()) and well
         return well
-
-    def program(self):
-        """Builds the program. Returns whether that went well."""
-        self.begin(self.crates[-1])
-        return self.end(self.crates[-1], *build_program(self.crates[-1], self.cores))
 
 
 def main():
@@ -101,10 +129,11 @@ def main():
     held = RT.rtlib.lock(build.crates)
     for it in build.crates:
         RT.rtlib.stop_on_links(it.folder)
-    well = build.libraries()
+    well = build.run(build.crates[:-1])
+    # (the program is built by a command that works in these folders alone too)
     for it in held:
         os.close(it)
-    return 0 if well and build.program() else 1
+    return 0 if well and build.run(build.crates[-1:]) else 1
 
 
 if __name__ == "__main__":
