@@ -8,8 +8,9 @@ use crate::asn::Asn;
 use crate::family::Family;
 use crate::fault::PrefixFault;
 use crate::prefix::{IpPrefix, Prefix};
-use std::fmt::{self, Display};
+use std::fmt::{self, Debug, Display};
 use std::net::{Ipv4Addr, Ipv6Addr};
+use std::str::FromStr;
 
 impl IpPrefix {
     ghost use Rattle.prefixes.specs.Text.{PrefixText, ReadsAs};
@@ -61,6 +62,33 @@ impl Display for IpPrefix {
     }
 }
 
+/// The text that `Display` writes.
+impl Debug for IpPrefix {
+    fn fmt<W: fmt::Write>(&self, f: &mut fmt::Formatter<W>) -> fmt::Result {
+        Display::fmt(self, f)
+    }
+}
+
+/// As `parse`: the prefix that a text spells.
+impl FromStr for IpPrefix {
+    type Err = PrefixFault;
+
+    ghost use Rattle.prefixes.specs.Text.{ReadsAs};
+
+    ghost from_str_gives = { λ text result. ReadsAs text result };
+
+    fn from_str(text: &str) -> Result<IpPrefix, PrefixFault> {
+        IpPrefix::parse(text)
+    }
+}
+
+/// The address as a number in hexadecimal digits, a slash, and the length.
+impl<F: Family> Debug for Prefix<F> {
+    fn fmt<W: fmt::Write>(&self, f: &mut fmt::Formatter<W>) -> fmt::Result {
+        write!(f, "{:#x}/{}", self.addr(), self.len())
+    }
+}
+
 impl Asn {
     ghost use Rattle.prefixes.specs.Text.{ReadsAsNumber};
 
@@ -73,6 +101,19 @@ impl Asn {
             Some(n) => Ok(Asn(n)),
             None => Err(PrefixFault::BadText),
         }
+    }
+}
+
+/// As `parse`: the AS number that a text writes.
+impl FromStr for Asn {
+    type Err = PrefixFault;
+
+    ghost use Rattle.prefixes.specs.Text.{ReadsAsNumber};
+
+    ghost from_str_gives = { λ text result. ReadsAsNumber text result };
+
+    fn from_str(text: &str) -> Result<Asn, PrefixFault> {
+        Asn::parse(text)
     }
 }
 

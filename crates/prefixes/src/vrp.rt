@@ -16,7 +16,7 @@ use std::mem::size_of;
 
 /// A validated ROA payload: the AS may originate the prefix, and its parts up to the maximum length
 /// (RFC 6811 section 2). Payloads are ordered by family, address, length, maximum, AS.
-#[derive(Clone, Copy, PartialEq, Eq, Hash)]
+#[derive(Clone, Copy, Debug, PartialEq, Eq, Hash)]
 pub struct Vrp {
     prefix: IpPrefix,
     max_len: u8,
