@@ -3,19 +3,26 @@
 ghost use Rattle.std.specs.Prelude.{◌≡◌};
 ghost use Rattle.der_lite.specs.Cursors.{der_kind_number};
 
-/// What is wrong with an element. Each kind has a fixed number.
-#[derive(Clone, Copy, Debug, PartialEq, Eq)]
+use thiserror::Error;
+
+/// What is wrong with an element. Each kind has a fixed number, which stands at the end of its text.
+#[derive(Clone, Copy, Debug, PartialEq, Eq, Error)]
 pub enum DerFaultKind {
     /// 1: the tag, the length or the content does not stand before the end of the enclosing element.
+    #[error("truncated: the element does not end before the enclosing one (fault 1)")]
     Truncated,
     /// 2: an element of another tag stands here (X.690 section 8.1.2).
+    #[error("an element of another tag stands here (fault 2)")]
     WrongTag,
     /// 3: the length is indefinite, has more than four bytes, or is not in the fewest bytes
     /// (X.690 sections 8.1.3 and 10.1).
+    #[error("the length is indefinite, has more than four bytes, or is not in the fewest bytes (fault 3)")]
     BadLength,
     /// 4: the content is none of this type.
+    #[error("the content is not one of this type (fault 4)")]
     BadContent,
     /// 5: bytes remain where the enclosing element should end.
+    #[error("trailing bytes where the enclosing element should end (fault 5)")]
     Trailing,
 }
 
@@ -35,7 +42,8 @@ impl DerFaultKind {
 }
 
 /// What is wrong with an element, and where the element begins.
-#[derive(Clone, Copy, Debug, PartialEq, Eq)]
+#[derive(Clone, Copy, Debug, PartialEq, Eq, Error)]
+#[error("at byte {offset}: {kind}")]
 pub struct DerFault {
     /// What is wrong.
     pub kind: DerFaultKind,
@@ -52,3 +60,8 @@ impl DerFault {
         self.kind.number()
     }
 }
+
+/// A text is no moment.
+#[derive(Clone, Copy, Debug, PartialEq, Eq, Error)]
+#[error("not a date and time of the years 1970 to 9999 in UTC, written YYYYMMDDHHMMSSZ")]
+pub struct MomentFault;

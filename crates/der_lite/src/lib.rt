@@ -17,6 +17,6 @@ mod writer;
 
 pub use content::{Bits, is_integer, unsigned};
 pub use cursor::Cursor;
-pub use fault::{DerFault, DerFaultKind};
+pub use fault::{DerFault, DerFaultKind, MomentFault};
 pub use moment::Moment;
 pub use writer::DerWriter;

@@ -10,11 +10,12 @@ ghost use Rattle.std.specs.Ordering.{on, nat_cmp, as_partial_cmp};
 ghost use Rattle.std.specs.Cmp.Lexicographic.{slice_cmp, pointwise};
 ghost use Rattle.der_lite.specs.Moments.{is_moment, decimals, decimal_number, moment_text, if_real, moment_in, moment_cmp, numbers_of, told_moment, IsMomentOf};
 
+use crate::fault::MomentFault;
 use jiff::civil::DateTime;
 use std::cmp::Ordering;
 use std::fmt::{self, Display};
 use std::marker::Model;
-use std::str;
+use std::str::{self, FromStr};
 
 /// The first year of moments.
 const FIRST_YEAR: u16 = 1970;
@@ -132,6 +133,23 @@ impl Moment {
         let [n1, n2] = decimals(minute);
         let [s1, s2] = decimals(second);
         [y1, y2, y3, y4, m1, m2, d1, d2, h1, h2, n1, n2, s1, s2, b'Z']
+    }
+}
+
+/// As `parse`: the moment of which this is the text.
+impl FromStr for Moment {
+    type Err = MomentFault;
+
+    ghost use Rattle.std.specs.Prelude.{None, Some, IfOk, OnErr};
+    ghost use Rattle.der_lite.specs.Moments.{IsMomentOf};
+
+    ghost from_str_gives = { λ text result. IfOk result (λ moment. IsMomentOf text (Some moment)) × OnErr result (IsMomentOf text None) };
+
+    fn from_str(text: &str) -> Result<Moment, MomentFault> {
+        match Moment::parse(text) {
+            Some(moment) => Ok(moment),
+            None => Err(MomentFault),
+        }
     }
 }
 
