@@ -13,7 +13,7 @@ use std::alloc::{AllocError, Global};
 use std::cmp::Ordering;
 
 /// What leads from one set to another (RFC 8210 sections 5.6 and 8.2).
-#[derive(Drop)]
+#[derive(Debug, Drop)]
 pub struct Change {
     /// The records to be withdrawn.
     pub withdraw: VrpSet,

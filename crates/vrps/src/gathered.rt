@@ -11,7 +11,7 @@ use std::collections::BTreeSet;
 use std::marker::Model;
 
 /// Records that come one by one, in any order. Each is added, and found, in logarithmic time.
-#[derive(Drop)]
+#[derive(Debug, Drop)]
 pub struct Gathered {
     records: BTreeSet<Vrp>,
 }

@@ -10,7 +10,7 @@ use prefixes::{IpPrefix, Prefix, V6, Vrp};
 use std::alloc::{AllocError, Global};
 
 /// The prefixes of sorted groups, those of a family side by side.
-#[derive(Drop)]
+#[derive(Debug, Drop)]
 pub(crate) struct Heads {
     /// Of the IPv4 groups, which are the first ones.
     v4: Vec<Head<u32>>,
@@ -55,7 +55,7 @@ impl Heads {
 }
 
 /// Sorted groups of records. A group is all records of one prefix. The prefixes stand apart from the records, as a search reads them alone.
-#[derive(Drop)]
+#[derive(Debug, Drop)]
 pub(crate) struct Groups {
     /// The groups, one after the other.
     records: Vec<Vrp>,

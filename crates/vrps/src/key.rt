@@ -8,7 +8,7 @@ ghost use Rattle.vrps.specs.Keys.{agree, cut, key_prefix, up_to};
 use prefixes::IpPrefix;
 
 /// An address of one family, and how many of its first bits count.
-#[derive(Clone, Copy)]
+#[derive(Clone, Copy, Debug)]
 pub(crate) struct Head<A: Copy> {
     pub(crate) addr: A,
     pub(crate) len: u8,

@@ -16,7 +16,7 @@ use std::rc::Rc;
 /// The versions of one session: the current set, and the steps to it from the versions that are kept. A publication walks both sets
 /// once, and takes memory for its step before it changes anything. What changed since a version is merged from the steps when it is
 /// asked for, so the memory is that of one set and of the changes.
-#[derive(Drop)]
+#[derive(Debug, Drop)]
 pub struct VersionLog {
     alloc: Global,
     session: u16,

@@ -28,7 +28,7 @@ pub enum OriginState {
 
 /// Judges routes over one set. The records of one prefix are a group. The groups that cover a route are found the longest first, by a
 /// binary search for each length that is tried.
-#[derive(Drop)]
+#[derive(Debug, Drop)]
 pub struct OriginIndex {
     groups: Groups,
 }

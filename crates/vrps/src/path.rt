@@ -2,6 +2,8 @@
 ghost use Rattle.std.specs.Prelude.{◌≡◌};
 ghost use Rattle.vrps.specs.Path.{last_of, origin_of_path, rightmost};
 
+use thiserror::Error;
+
 /// The kind of a path segment (RFC 4271 section 4.3, RFC 5065 section 3).
 #[derive(Clone, Copy, Debug, PartialEq, Eq)]
 pub enum SegmentKind {
@@ -16,7 +18,7 @@ pub enum SegmentKind {
 }
 
 /// A segment of a path, with its AS numbers in the order in which they stand.
-#[derive(Drop)]
+#[derive(Debug, Drop)]
 pub struct Segment {
     /// Whether it is a sequence or a set, of a confederation or not.
     pub kind: SegmentKind,
@@ -25,9 +27,10 @@ pub struct Segment {
 }
 
 /// Why a path has no origin. The number is fixed.
-#[derive(Clone, Copy, Debug, PartialEq, Eq)]
+#[derive(Clone, Copy, Debug, PartialEq, Eq, Error)]
 pub enum PathFault {
     /// The final segment is a sequence without a number.
+    #[error("the final segment of the path is an AS_SEQUENCE without an AS number (fault 1)")]
     EmptySequence = 1,
 }
 

@@ -12,13 +12,16 @@ use prefixes::Vrp;
 use std::alloc::{AllocError, Global};
 use std::marker::Model;
 use std::slice::Iter;
+use thiserror::Error;
 
 /// Why there is no set. The numbers are fixed.
-#[derive(Clone, Copy, Debug, PartialEq, Eq)]
+#[derive(Clone, Copy, Debug, PartialEq, Eq, Error)]
 pub enum SetFault {
     /// Over 16,777,215 different records.
+    #[error("more than 16777215 different records (fault 1)")]
     TooMany = 1,
-    /// Want of memory.
+    /// Out of memory.
+    #[error("out of memory (fault 2)")]
     Memory = 2,
 }
 
@@ -44,7 +47,7 @@ impl From<AllocError> for SetFault {
 }
 
 /// A set of validated ROA payloads, at most 16,777,215 of them.
-#[derive(Drop)]
+#[derive(Debug, Drop)]
 pub struct VrpSet {
     items: Vec<Vrp>,
 }

@@ -18,7 +18,7 @@ pub enum Published {
 }
 
 /// What is known since a version that is asked for by its serial (RFC 8210 sections 8.2 to 8.4).
-#[derive(Drop)]
+#[derive(Debug, Drop)]
 pub enum Since {
     /// The change from it to the current version.
     Change(Change),

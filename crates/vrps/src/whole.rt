@@ -11,7 +11,7 @@ use std::rc::Rc;
 
 /// The versions of one session, each kept as a whole set: the current one and some before it. Room for
 /// them is taken when the log is made, so a publication takes no memory.
-#[derive(Drop)]
+#[derive(Debug, Drop)]
 pub struct WholeLog {
     alloc: Global,
     session: u16,
