@@ -6,7 +6,7 @@ use std::io::{ErrorKind, Read, Result, Write};
 
 /// A reader or a writer, with how often it was called and how often a call failed. With 2^64 - 1 calls it is spent: it
 /// is called no more, and each further call answers an error and is not counted.
-#[derive(Drop)]
+#[derive(Debug, Drop)]
 pub struct Counted<D> {
     device: D,
     calls: u64,

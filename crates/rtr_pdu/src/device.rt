@@ -14,13 +14,16 @@ use crate::version::Version;
 use crate::writing::encode;
 use arrayvec::ArrayVec;
 use std::io::{Read, Write};
+use thiserror::Error;
 
 /// Why no unit was read. The numbers are fixed.
-#[derive(Clone, Copy, Debug, PartialEq, Eq)]
+#[derive(Clone, Copy, Debug, PartialEq, Eq, Error)]
 pub enum ReadFault {
     /// The bytes are no unit, or the input ends within one.
+    #[error(transparent)]
     Fault(UnitFault),
     /// The reader failed.
+    #[error("the reader failed")]
     ReadFailed,
 }
 
@@ -39,7 +42,8 @@ impl ReadFault {
 }
 
 /// The writer failed.
-#[derive(Clone, Copy, Debug, PartialEq, Eq)]
+#[derive(Clone, Copy, Debug, PartialEq, Eq, Error)]
+#[error("the writer failed")]
 pub struct WriteFailed;
 
 /// Writes all the bytes.

@@ -64,7 +64,7 @@ fn advance(version: Version, any: bool, buffer: &mut UnitBuffer, piece: &mut &[u
 
 /// Reads units of one version from a stream that comes in pieces, one unit at a time. It takes no byte of a unit before
 /// the unit ahead of it was answered, and it holds at most 4,096 bytes, within the value.
-#[derive(Drop)]
+#[derive(Debug, Drop)]
 pub struct UnitReader {
     /// The version of the units, where it was known from the start or a unit was read.
     version: Option<Version>,
