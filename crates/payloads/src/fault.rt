@@ -4,45 +4,63 @@ ghost use Rattle.std.specs.Prelude.{◌≡◌};
 
 use der_lite::{DerFault, DerFaultKind};
 use std::alloc::AllocError;
+use thiserror::Error;
 
-/// What is wrong with a payload, or with a value that is to be one. Each kind has a fixed number.
-#[derive(Clone, Copy, Debug, PartialEq, Eq)]
+/// What is wrong with a payload, or with a value that is to be one. Each kind has a fixed number, which
+/// stands at the end of its text.
+#[derive(Clone, Copy, Debug, PartialEq, Eq, Error)]
 pub enum GrammarFaultKind {
     /// 1 to 5: the element is none of DER.
+    #[error("{0}")]
     Element(DerFaultKind),
     /// 6: a version is encoded; it may only be left out (RFC 9582 section 4.1).
+    #[error("a version is encoded, which may only be left out (fault 6)")]
     VersionPresent,
     /// 7: the AS number is negative or over 4294967295 (RFC 9582 section 4.2).
+    #[error("the AS number is negative or greater than 4294967295 (fault 7)")]
     AsnRange,
     /// 8: the address family is neither IPv4 nor IPv6, or it came before (RFC 9582 section 4.3.1).
+    #[error("the address family is neither IPv4 nor IPv6, or it stands twice (fault 8)")]
     Family,
     /// 9: there is no address family, or no address (RFC 9582 section 4.3).
+    #[error("no address family, or a family without addresses (fault 9)")]
     Empty,
     /// 10: the prefix has more bits than an address of its family (RFC 9582 section 4.3.2).
+    #[error("the prefix is longer than an address of its family (fault 10)")]
     PrefixTooLong,
     /// 11: the maximum length is below the prefix's, or over the width of its family (RFC 9582
     /// section 4.3.2).
+    #[error("the maximum length is below the prefix length, or greater than the width of the address family (fault 11)")]
     MaxLength,
     /// 12: it does not stand above what is before it: by family, address, length, maximum length.
+    #[error("not in strictly ascending order (fault 12)")]
     Order,
     /// 13: the number is negative, or its content has more than 20 bytes (RFC 9286 section 4.2.1).
     /// Of a value: or it is no INTEGER's content.
+    #[error("the manifest number is negative, longer than 20 bytes, or not the content of an INTEGER (fault 13)")]
     NumberRange,
     /// 14: nextUpdate is not later than thisUpdate (RFC 9286 section 4.2.1).
+    #[error("nextUpdate is not later than thisUpdate (fault 14)")]
     TimesOrder,
     /// 15: the hash algorithm is not SHA-256 (RFC 9286 section 4.2.1).
+    #[error("the hash algorithm is not SHA-256 (fault 15)")]
     HashAlg,
     /// 16: the name is not letters, digits, `-` or `_`, one dot and three small letters, in all at
     /// most 255 bytes (RFC 9286 section 4.2.2).
+    #[error("not a file name of a manifest (fault 16)")]
     Name,
     /// 17: the hash has not 256 bits (RFC 9286 section 4.2.1).
+    #[error("the hash is not 256 bits long (fault 17)")]
     HashLength,
     /// 18: the name came before (RFC 9286 section 4.2.1).
+    #[error("the file name stands twice (fault 18)")]
     NameTwice,
     /// 19: it is entry or file 65,537.
+    #[error("more than 65536 entries or files (fault 19)")]
     TooMany,
     /// 20: the maximum length equals the prefix length, which is what an absent one means. RFC 9582
     /// section 4.3.2.2 does not forbid it; here it is refused, so that one authorization has one payload.
+    #[error("the maximum length equals the prefix length, so it has to be left out (fault 20)")]
     MaxLengthSuperfluous,
 }
 
@@ -82,7 +100,8 @@ impl GrammarFaultKind {
 }
 
 /// What is wrong with a payload, and where.
-#[derive(Clone, Copy, Debug, PartialEq, Eq)]
+#[derive(Clone, Copy, Debug, PartialEq, Eq, Error)]
+#[error("at byte {offset}: {kind}")]
 pub struct GrammarFault {
     /// What is wrong.
     pub kind: GrammarFaultKind,
@@ -105,11 +124,13 @@ impl From<DerFault> for GrammarFault {
 }
 
 /// Why bytes give no payload.
-#[derive(Clone, Copy, Debug, PartialEq, Eq)]
+#[derive(Clone, Copy, Debug, PartialEq, Eq, Error)]
 pub enum PayloadFault {
     /// They spell none: the first fault.
+    #[error(transparent)]
     At(GrammarFault),
-    /// Want of memory.
+    /// Out of memory.
+    #[error("out of memory")]
     Memory,
 }
 
@@ -145,7 +166,8 @@ impl From<AllocError> for PayloadFault {
 }
 
 /// Why a value can't be a payload, and the index of the entry or file, or 0 where none is meant.
-#[derive(Clone, Copy, Debug, PartialEq, Eq)]
+#[derive(Clone, Copy, Debug, PartialEq, Eq, Error)]
+#[error("entry or file {index}: {kind}")]
 pub struct ValueFault {
     /// What is wrong.
     pub kind: GrammarFaultKind,
@@ -154,11 +176,13 @@ pub struct ValueFault {
 }
 
 /// Why there is no manifest of a value.
-#[derive(Clone, Copy, Debug, PartialEq, Eq)]
+#[derive(Clone, Copy, Debug, PartialEq, Eq, Error)]
 pub enum ManifestFault {
     /// No bytes spell it: the first fault.
+    #[error(transparent)]
     Value(ValueFault),
-    /// Want of memory.
+    /// Out of memory.
+    #[error("out of memory")]
     Memory,
 }
 

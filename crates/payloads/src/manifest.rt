@@ -1,6 +1,10 @@
 //! Manifests.
 
-ghost use Rattle.std.specs.Prelude.{◌≡◌, [], ◌∷◌, IfOk, List, length, option_map};
+ghost use Rattle.std.specs.Prelude.{◌≡◌, [], ◌∷◌, IfOk, List, length, option_map, nat_eq};
+ghost use Rattle.std.proofs.Common.{rules};
+ghost use Rattle.std.specs.Cmp.Lexicographic.{pointwise};
+ghost use Rattle.std.specs.Cmp.Rules.{comparing};
+ghost use Rattle.std.specs.Ordering.{on, eq_of_both};
 ghost use Rattle.std.specs.String.{string_bytes};
 ghost use Rattle.der_lite.specs.Place.{first_of};
 ghost use Rattle.payloads.specs.Faults.{kind_number};
@@ -18,7 +22,7 @@ use std::alloc::{AllocError, Global};
 use std::marker::Model;
 
 /// A file that a manifest lists (FileAndHash, RFC 9286 section 4.2.2).
-#[derive(Drop)]
+#[derive(Clone, Debug, Drop)]
 pub struct ListedFile {
     name: String,
     hash: [u8; 32],
@@ -60,9 +64,23 @@ impl ListedFile {
     }
 }
 
+impl PartialEq for ListedFile {
+    ghost eq = { eq_of_both (on (λ file. file.name) (pointwise nat_eq)) (on (λ file. file.hash) (pointwise nat_eq)) };
+
+    ghost laws = { Prim.search (comparing, rules) };
+
+    fn eq(&self, other: &ListedFile) -> bool {
+        self.name() == other.name() && self.hash() == other.hash()
+    }
+}
+
+impl Eq for ListedFile {
+    ghost laws = { Prim.search (comparing, rules) };
+}
+
 /// A manifest: its number, from when to when it holds, and the files that it lists, of which no two
 /// have the same name (RFC 9286 section 4.2).
-#[derive(Drop)]
+#[derive(Clone, Debug, Drop)]
 pub struct Manifest {
     pub(crate) number: Vec<u8>,
     pub(crate) this_update: Moment,
@@ -140,6 +158,28 @@ impl Manifest {
     {
         &self.files
     }
+}
+
+impl PartialEq for Manifest {
+    ghost use Rattle.der_lite.specs.Moments.{numbers_of};
+
+    ghost eq = { eq_of_both (on (λ m. m.number) (pointwise nat_eq))
+        (eq_of_both (on (λ m. numbers_of m.this_update) (pointwise nat_eq))
+        (eq_of_both (on (λ m. numbers_of m.next_update) (pointwise nat_eq))
+        (on (λ m. m.files) (pointwise (eq_of_both (on (λ file. file.name) (pointwise nat_eq)) (on (λ file. file.hash) (pointwise nat_eq))))))) };
+
+    ghost laws = { Prim.search (comparing, rules) depth 9 };
+
+    fn eq(&self, other: &Manifest) -> bool {
+        self.number == other.number
+            && self.this_update == other.this_update
+            && self.next_update == other.next_update
+            && self.files == other.files
+    }
+}
+
+impl Eq for Manifest {
+    ghost laws = { Prim.search (comparing, rules) depth 9 };
 }
 
 /// The first fault of the value of a manifest.

@@ -14,7 +14,7 @@ use std::marker::Model;
 
 /// A ROA: an AS and the prefixes that it may originate, one or more, in strictly ascending order by
 /// family, address, length, maximum length (RFC 9582 section 4).
-#[derive(Drop)]
+#[derive(Clone, Debug, Drop)]
 pub struct Roa {
     asn: Asn,
     entries: Vec<RoaEntry>,

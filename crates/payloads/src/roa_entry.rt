@@ -14,7 +14,7 @@ pub(crate) const LIMIT: usize = 65_536;
 
 /// A prefix of a ROA, with the greatest length of the prefixes in it that the AS may originate
 /// (ROAIPAddress, RFC 9582 section 4.3.2).
-#[derive(Clone, Copy, PartialEq, Eq, Hash)]
+#[derive(Clone, Copy, Debug, PartialEq, Eq, Hash)]
 pub struct RoaEntry {
     /// The prefix.
     pub prefix: IpPrefix,
