@@ -13,7 +13,7 @@ use std::alloc::{AllocError, Global};
 use std::marker::Model;
 
 /// A manifest with its bytes, and the ROAs that it lists.
-#[derive(Drop)]
+#[derive(Debug, Drop)]
 pub(crate) struct Accepted {
     pub(crate) bytes: Vec<u8>,
     pub(crate) manifest: Manifest,

@@ -4,6 +4,7 @@ ghost use Rattle.std.specs.Prelude.{◌≡◌};
 
 use payloads::GrammarFault;
 use std::alloc::AllocError;
+use thiserror::Error;
 
 /// What became of an offer that is not refused.
 #[derive(Clone, Copy, Debug, PartialEq, Eq)]
@@ -16,27 +17,37 @@ pub enum Offered {
 
 /// Why an offer is refused. Each has a fixed number. An index counts from 0: that of a file handed
 /// in at `FileTwice`, and that of a listed file at `Missing`, `HashDiffers` and `Roa`.
-#[derive(Clone, Copy, Debug, PartialEq, Eq)]
+#[derive(Clone, Copy, Debug, PartialEq, Eq, Error)]
 pub enum PointFault {
     /// 1: the manifest's bytes spell none: their first fault (RFC 9286 section 4.2).
+    #[error("the manifest does not decode, {0} (refusal 1)")]
     Manifest(GrammarFault),
     /// 2: the moment is before thisUpdate (RFC 9286 section 6.3).
+    #[error("the moment is before the manifest's thisUpdate (refusal 2)")]
     NotYet,
     /// 3: the moment is after nextUpdate (RFC 9286 section 6.3).
+    #[error("the moment is after the manifest's nextUpdate (refusal 3)")]
     Stale,
     /// 4: the number is not higher than that of the manifest accepted last (RFC 9286 section 4.2.1).
+    #[error("the manifest number is not higher than the one accepted last (refusal 4)")]
     OldNumber,
     /// 5: thisUpdate is not later than that of the manifest accepted last (RFC 9286 section 4.2.1).
+    #[error("thisUpdate is not later than that of the manifest accepted last (refusal 5)")]
     OldTime,
     /// 6: the file handed in has the name of an earlier one.
+    #[error("file {0} has the name of an earlier file (refusal 6)")]
     FileTwice(usize),
     /// 7: no file of the listed name was handed in (RFC 9286 section 6.4).
+    #[error("listed file {0} is missing (refusal 7)")]
     Missing(usize),
     /// 8: the object of the listed name has another SHA-256 (RFC 9286 section 6.5).
+    #[error("listed file {0} does not have the listed SHA-256 (refusal 8)")]
     HashDiffers(usize),
     /// 9: the content of the listed name spells no ROA: its first fault (RFC 9582 section 4).
+    #[error("listed file {0} is no ROA payload, {1} (refusal 9)")]
     Roa(usize, GrammarFault),
-    /// 10: want of memory.
+    /// 10: out of memory.
+    #[error("out of memory (refusal 10)")]
     Memory,
 }
 

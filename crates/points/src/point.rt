@@ -12,7 +12,7 @@ use std::alloc::Global;
 use std::marker::Model;
 
 /// A publication point: nothing, or what was accepted last.
-#[derive(Drop)]
+#[derive(Debug, Drop)]
 pub struct Point {
     alloc: Global,
     accepted: Option<Accepted>,

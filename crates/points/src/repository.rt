@@ -21,7 +21,7 @@ use std::marker::Model;
 
 /// Publication points by their names. A name that was never accepted at counts as a point that holds
 /// nothing.
-#[derive(Drop)]
+#[derive(Debug, Drop)]
 pub struct Repository {
     alloc: Global,
     points: BTreeMap<String, Accepted>,
