@@ -23,7 +23,7 @@ pub struct Conn(usize);
 
 /// A cache (RFC 6810, RFC 8210): it answers the queries of its routers from a store of versions. Each of its connections is a machine over
 /// bytes, and keeps a share of the current version ready. A call on a number that no connection has changes nothing.
-#[derive(Drop)]
+#[derive(Debug, Drop)]
 pub struct Cache<S> {
     alloc: Global,
     store: S,

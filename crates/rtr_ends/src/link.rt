@@ -1,6 +1,8 @@
 //! A router's link, and how it ends.
 ghost use Rattle.std.specs.Prelude.{◌≡◌};
 
+use thiserror::Error;
+
 /// Why a router's link ended.
 #[derive(Clone, Copy, Debug, PartialEq, Eq)]
 pub enum End {
@@ -52,11 +54,13 @@ pub enum Link {
 }
 
 /// Why nothing is asked. The numbers are fixed.
-#[derive(Clone, Copy, Debug, PartialEq, Eq)]
+#[derive(Clone, Copy, Debug, PartialEq, Eq, Error)]
 pub enum AskFault {
     /// A question is outstanding.
+    #[error("a question is outstanding (fault 1)")]
     Busy = 1,
     /// There is no connection, or it has ended.
+    #[error("no connection, or one that has ended (fault 2)")]
     NotConnected = 2,
 }
 

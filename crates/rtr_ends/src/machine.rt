@@ -33,7 +33,7 @@ pub enum State {
 }
 
 /// A router, but for the bytes that have come of a unit.
-#[derive(Drop)]
+#[derive(Debug, Drop)]
 pub struct Machine {
     pub alloc: Global,
     pub table: Table,

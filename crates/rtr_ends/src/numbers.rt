@@ -7,7 +7,7 @@ use std::cmp::Reverse;
 use std::collections::BinaryHeap;
 
 /// The numbers below a count that are not taken, as a heap with the least on top. There is room for the taken ones too.
-#[derive(Drop)]
+#[derive(Debug, Drop)]
 pub(crate) struct FreeNumbers {
     numbers: BinaryHeap<Reverse<usize>>,
 }

@@ -8,7 +8,7 @@ use rtr_pdu::{MAX_UNIT_LEN, Unit, UnitBuffer, Version, encode_as};
 use std::marker::Model;
 
 /// The bytes of one unit that are still to be pulled. It takes no memory.
-#[derive(Drop)]
+#[derive(Debug, Drop)]
 pub struct Outbox {
     unit: UnitBuffer,
     /// How many of its bytes were pulled.

@@ -18,7 +18,7 @@ use rtr_pdu::{Next, Unit, UnitFault, UnitReader, Version, error_code};
 use vrps::{Serial, Since, VersionStore};
 
 /// One connection at the cache (RFC 8210 sections 5 to 8). It holds at most 4,096 bytes that came and 4,096 to be sent.
-#[derive(Drop)]
+#[derive(Debug, Drop)]
 pub struct Peer {
     pub reader: UnitReader,
     pub ended: bool,

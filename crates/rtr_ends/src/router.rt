@@ -21,7 +21,7 @@ use vrps::{OriginState, Serial, VrpSet};
 
 /// A router: what it has committed, and at most one connection (RFC 6810, RFC 8210 sections 5 to 8). Moments are in seconds of a clock
 /// that the caller hands in; one below the greatest so far counts as that one.
-#[derive(Drop)]
+#[derive(Debug, Drop)]
 pub struct Router {
     machine: Machine,
     reader: UnitReader,

@@ -21,14 +21,14 @@ use std::rc::Rc;
 use vrps::{Change, Serial, VrpSet};
 
 /// A version: its serial, and a share of its set.
-#[derive(Drop)]
+#[derive(Debug, Drop)]
 pub struct Share {
     pub serial: Serial,
     pub set: Rc<VrpSet>,
 }
 
 /// The records of an answer.
-#[derive(Drop)]
+#[derive(Debug, Drop)]
 pub enum Records {
     /// All of a version.
     Whole(Share),
@@ -37,7 +37,7 @@ pub enum Records {
 }
 
 /// An answer under way: its Cache Response was sent, and the records before this place.
-#[derive(Drop)]
+#[derive(Debug, Drop)]
 pub struct AnswerCursor {
     pub records: Records,
     pub place: usize,
@@ -157,7 +157,7 @@ impl AnswerCursor {
 
 /// What a connection has to send. Its bytes lie in one buffer, a unit at a time; the records of the answer under way lie where
 /// they are kept.
-#[derive(Drop)]
+#[derive(Debug, Drop)]
 pub struct Sender {
     /// The version in which is sent.
     pub version: Version,

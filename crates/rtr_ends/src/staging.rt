@@ -12,7 +12,7 @@ use vrps::{Change, Gathered, SetFault, VrpSet};
 
 /// The records of an answer that is not at its end: those withdrawn from its base, those announced over it, and how many records
 /// its end would leave. The base stays as it is.
-#[derive(Drop)]
+#[derive(Debug, Drop)]
 pub struct Staging {
     pub withdrawn: Gathered,
     pub announced: Gathered,

@@ -6,15 +6,19 @@ ghost use Rattle.rtr_pdu.specs.Device.{GoesOutInPart};
 
 use rtr_pdu::{Counted, WriteFailed};
 use std::io::Write;
+use thiserror::Error;
 
 /// Why a stream ended before its time. The numbers are fixed.
-#[derive(Clone, Copy, Debug, PartialEq, Eq)]
+#[derive(Clone, Copy, Debug, PartialEq, Eq, Error)]
 pub enum StreamFault {
     /// The reader failed.
+    #[error("the reader failed (fault 1)")]
     ReadFailed = 1,
     /// The writer failed. A beginning of what was to be written has gone out.
+    #[error("the writer failed (fault 2)")]
     WriteFailed = 2,
-    /// Want of memory for a connection. Nothing was read or written.
+    /// Out of memory for a connection. Nothing was read or written.
+    #[error("out of memory for a connection (fault 3)")]
     Memory = 3,
 }
 

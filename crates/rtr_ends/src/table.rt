@@ -9,7 +9,7 @@ use std::marker::Model;
 use vrps::{OriginIndex, OriginState, VrpSet};
 
 /// A set of records with the index by which routes are judged over it.
-#[derive(Drop)]
+#[derive(Debug, Drop)]
 pub struct Table {
     set: VrpSet,
     index: OriginIndex,

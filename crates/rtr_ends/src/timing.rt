@@ -3,13 +3,16 @@ ghost use Rattle.std.specs.Prelude.{◌≡◌, ℕ, ◌≤◌, ◌<◌, ◌↔�
 ghost use Rattle.rtr_ends.specs.Timing.{Intervals, InRange, IsTiming, OutlastsOthers, default_intervals, intervals};
 
 use std::marker::Model;
+use thiserror::Error;
 
 /// Why intervals are refused. The numbers are fixed.
-#[derive(Clone, Copy, Debug, PartialEq, Eq)]
+#[derive(Clone, Copy, Debug, PartialEq, Eq, Error)]
 pub enum TimingFault {
     /// An interval is out of its range.
+    #[error("an interval is out of its range (fault 1)")]
     OutOfRange = 1,
     /// Expire is not larger than refresh and retry.
+    #[error("the expire interval is not larger than the refresh and the retry interval (fault 2)")]
     ExpireTooSmall = 2,
 }
 
