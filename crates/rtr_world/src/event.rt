@@ -3,10 +3,11 @@ ghost use Rattle.std.specs.Prelude.{◌≡◌};
 
 use rtr_pdu::Version;
 use std::alloc::AllocError;
+use thiserror::Error;
 use vrps::VrpSet;
 
 /// What happens. Routers are numbered from 0.
-#[derive(Drop)]
+#[derive(Debug, Drop)]
 pub enum Event {
     /// The cache publishes a set. A set that is current already adds no version.
     Publish(VrpSet),
@@ -52,15 +53,19 @@ pub enum SideEvent {
 }
 
 /// Why an event was refused. The numbers are fixed.
-#[derive(Clone, Copy, Debug, PartialEq, Eq)]
+#[derive(Clone, Copy, Debug, PartialEq, Eq, Error)]
 pub enum WorldFault {
     /// An instance of the cache has this session, or had it, in the same version of the protocol.
+    #[error("an instance of the cache has, or had, this session in the same version of the protocol (fault 1)")]
     SessionUsed = 1,
     /// The new version would stand 2^31 or more after one that a router holds, or that was current when its connection was made.
+    #[error("2^31 or more versions after one that is still in use (fault 2)")]
     TooManyVersions = 2,
     /// There is no such router.
+    #[error("no such router (fault 3)")]
     NoSuchRouter = 3,
-    /// Want of memory.
+    /// Out of memory.
+    #[error("out of memory (fault 4)")]
     Memory = 4,
 }
 
@@ -86,13 +91,16 @@ impl From<AllocError> for WorldFault {
 }
 
 /// Why a router did not catch up. The numbers are fixed.
-#[derive(Clone, Copy, Debug, PartialEq, Eq)]
+#[derive(Clone, Copy, Debug, PartialEq, Eq, Error)]
 pub enum CatchFault {
-    /// Want of memory.
+    /// Out of memory.
+    #[error("out of memory (fault 1)")]
     Memory = 1,
     /// Nothing is published.
+    #[error("nothing is published (fault 2)")]
     NoData = 2,
     /// There is no such router.
+    #[error("no such router (fault 3)")]
     NoSuchRouter = 3,
 }
 

@@ -20,7 +20,7 @@ use std::alloc::{AllocError, Global};
 use vrps::{Serial, VersionLog};
 
 /// A router, its connection at the cache where one is open there, and the bytes on their way to the cache and to the router.
-#[derive(Drop)]
+#[derive(Debug, Drop)]
 pub struct Side {
     pub router: Router,
     pub conn: Option<Conn>,

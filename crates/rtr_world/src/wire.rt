@@ -6,7 +6,7 @@ use std::alloc::{AllocError, Global};
 use std::marker::Model;
 
 /// The bytes on their way from one end of a connection to the other, in their order (an ordered transport, RFC 8210 section 9).
-#[derive(Drop)]
+#[derive(Debug, Drop)]
 pub struct Wire {
     bytes: Vec<u8>,
     /// How many of them have arrived.

@@ -28,7 +28,7 @@ use std::marker::Model;
 use vrps::{OriginState, Serial, VersionLog, VrpSet};
 
 /// How many versions before the current one a cache keeps: 1 to 65,536.
-#[derive(Drop)]
+#[derive(Debug, Drop)]
 struct Keep(u32);
 
 impl Model for Keep {
@@ -42,7 +42,7 @@ impl Model for Keep {
 }
 
 /// One cache, its routers, which are numbered from 0, and the wires between them. It keeps no history.
-#[derive(Drop)]
+#[derive(Debug, Drop)]
 pub struct World {
     alloc: Global,
     keep: Keep,
