@@ -3,16 +3,20 @@ ghost use Rattle.std.specs.Prelude.{◌≡◌};
 
 use points::PointFault;
 use std::alloc::AllocError;
+use thiserror::Error;
 use vrps::SetFault;
 
 /// Why there is no state of a route. Each has a fixed number.
-#[derive(Clone, Copy, Debug, PartialEq, Eq)]
+#[derive(Clone, Copy, Debug, PartialEq, Eq, Error)]
 pub enum FeedFault {
-    /// 1: an offer is refused, for another cause than want of memory: its index, from 0, and the fault. All offers before it were taken.
+    /// 1: an offer is refused, for another cause than memory: its index, from 0, and the fault. All offers before it were taken.
+    #[error("offer {0} is refused: {1} (fault 1)")]
     Point(usize, PointFault),
     /// 2: over 16,777,215 different payloads are in use.
+    #[error("more than 16777215 different payloads are in use (fault 2)")]
     TooMany,
-    /// 3: want of memory.
+    /// 3: out of memory.
+    #[error("out of memory (fault 3)")]
     Memory,
 }
 

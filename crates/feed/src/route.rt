@@ -11,7 +11,7 @@ use std::alloc::Global;
 use vrps::{OriginState, VrpSet};
 
 /// The state of a route, and what was sent for it.
-#[derive(Drop)]
+#[derive(Debug, Drop)]
 pub struct Fed {
     /// The state of the route at the router (RFC 6811 section 2).
     pub state: OriginState,
