@@ -13,14 +13,17 @@ use prefixes::{Asn, IpPrefix, Vrp};
 use serde_json::Value;
 use std::alloc::{AllocError, Global};
 use std::str;
+use thiserror::Error;
 use vrps::VrpSet;
 
 /// Why bytes give no set. The numbers are fixed.
-#[derive(Clone, Copy, Debug, PartialEq, Eq)]
+#[derive(Clone, Copy, Debug, PartialEq, Eq, Error)]
 pub enum ListFault {
     /// The bytes are no payload list.
+    #[error("not a payload list (fault 1)")]
     NoList = 1,
-    /// Want of memory.
+    /// Out of memory.
+    #[error("out of memory (fault 2)")]
     Memory = 2,
 }
 
