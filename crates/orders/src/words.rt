@@ -3,13 +3,16 @@ use clap::error::ErrorKind;
 use clap::{Arg, ArgAction, ArgMatches, Command, Error};
 use rtr_pdu::Version;
 use std::alloc::{AllocError, Global};
+use thiserror::Error;
 
 /// Why words give no order.
-#[derive(Debug, Drop)]
+#[derive(Debug, Drop, Error)]
 pub enum WordsFault {
     /// The words do not parse.
+    #[error("the words do not parse")]
     NoOrder,
-    /// Want of memory.
+    /// Out of memory.
+    #[error("out of memory")]
     Memory,
 }
 
@@ -139,7 +142,7 @@ fn command_line<'a>(alloc: Global) -> Result<Command<'a>, AllocError> {
 }
 
 /// What names the version that a cache has published: the session in version 1 of the protocol, that in version 0, and the serial.
-#[derive(Clone, Copy)]
+#[derive(Clone, Copy, Debug, PartialEq, Eq)]
 pub struct CacheName {
     /// The session in version 1.
     pub session: u16,
@@ -150,7 +153,7 @@ pub struct CacheName {
 }
 
 /// What the words ask for.
-#[derive(Drop)]
+#[derive(Debug, Drop)]
 pub enum Order<'a> {
     /// What the payload of a ROA in FILE says.
     Roa {
