@@ -1,5 +1,18 @@
 //! Elements of the distinguished encoding rules of ASN.1 (ITU-T X.690), read in place and written.
 //!
+//! For example, where `rt` is the runtime that `main` is handed:
+//!
+//! ```rust
+//! use der_lite::{Cursor, DerWriter, Moment};
+//!
+//! let moment: Moment = "20250101120000Z".parse()?;
+//! let mut writer = DerWriter::new(rt.alloc());
+//! writer.time(&moment)?;
+//! let mut cursor = Cursor::new(writer.as_slice());
+//! assert!(rt; cursor.time()? == moment);
+//! cursor.finish()?;
+//! ```
+//!
 //! A [`Cursor`] reads the elements that stand in an enclosing one, in order, and copies nothing.
 //! A [`DerWriter`] writes each element in its one spelling. A [`Moment`] is the date and time that a
 //! GeneralizedTime says.

@@ -1,4 +1,19 @@
 //! The words of the command line: [`read_words`] gives the order that they spell, and [`decimal`] reads a number as its options are read.
+//!
+//! For example, where `rt` is the runtime that `main` is handed:
+//!
+//! ```rust
+//! use orders::{Order, read_words};
+//!
+//! let mut words = Vec::new(rt.alloc());
+//! for word in ["roa", "a.roa"] {
+//!     words.push(String::from_str(rt.alloc(), word)?)?;
+//! }
+//! match read_words(rt.alloc(), words.as_slice())? {
+//!     Order::Roa { file } => assert!(rt; file == "a.roa"),
+//!     _ => assert!(rt; false),
+//! }
+//! ```
 #![tactic(auto)]
 
 mod words;

@@ -1,4 +1,16 @@
 //! Payload lists: the JSON in which validators hand on a set of payloads. [`read_list`] reads a list and [`write_list`] writes it.
+//!
+//! For example, where `rt` is the runtime that `main` is handed:
+//!
+//! ```rust
+//! use payload_lists::{read_list, write_list};
+//!
+//! let text = br#"[{"prefix":"192.0.2.0/24","maxLength":24,"asn":64496}]"#;
+//! let set = read_list(rt.alloc(), text)?;
+//! assert!(rt; set.len() == 1);
+//! let written = write_list(rt.alloc(), set.as_slice())?;
+//! assert!(rt; read_list(rt.alloc(), written.as_bytes())?.is_same(&set));
+//! ```
 #![tactic(auto)]
 
 mod listing;

@@ -23,7 +23,7 @@ pub enum ReadFault {
     #[error(transparent)]
     Fault(UnitFault),
     /// The reader failed.
-    #[error("the reader failed")]
+    #[error("the reader failed (fault 8)")]
     ReadFailed,
 }
 

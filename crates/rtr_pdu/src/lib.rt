@@ -1,4 +1,18 @@
 //! The units of the RPKI-to-Router protocol, version 0 (RFC 6810 section 5) and version 1 (RFC 8210 section 5).
+//!
+//! For example, where `rt` is the runtime that `main` is handed:
+//!
+//! ```rust
+//! use rtr_pdu::{Next, Unit, UnitBuffer, UnitReader, encode};
+//!
+//! let mut buffer = UnitBuffer::new();
+//! encode(&Unit::ResetQuery, &mut buffer);
+//! let mut piece = buffer.as_slice();
+//! match UnitReader::for_cache().next(&mut piece) {
+//!     Next::Unit(unit) => assert!(rt; unit == Unit::ResetQuery),
+//!     Next::NeedMore | Next::Fault(_) => assert!(rt; false),
+//! }
+//! ```
 #![tactic(auto)]
 
 mod counted;

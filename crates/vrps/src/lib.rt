@@ -1,4 +1,20 @@
 //! Sets of validated ROA payloads, changes between them, serials, and the states of routes.
+//!
+//! For example, where `rt` is the runtime that `main` is handed:
+//!
+//! ```rust
+//! use prefixes::{Asn, Route, Vrp};
+//! use vrps::{OriginIndex, OriginState, VrpSet};
+//!
+//! let mut list = Vec::new(rt.alloc());
+//! list.push(Vrp::new("192.0.2.0/24".parse()?, 24, Asn(64496))?)?;
+//! let index = OriginIndex::over(rt.alloc(), &VrpSet::from_list(list)?)?;
+//! let route = Route {
+//!     prefix: "192.0.2.0/24".parse()?,
+//!     origin: Some(64497),
+//! };
+//! assert!(rt; index.state(&route) == OriginState::Invalid);
+//! ```
 #![tactic(auto)]
 
 mod change;

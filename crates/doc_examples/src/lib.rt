@@ -1,0 +1,27 @@
+//! The examples with which the libraries' first pages begin, as tests: `tools/examples.py` writes them there.
+#![tactic(auto)]
+
+#[cfg(test)]
+mod der_lite_example;
+#[cfg(test)]
+mod fault_texts;
+#[cfg(test)]
+mod feed_example;
+#[cfg(test)]
+mod orders_example;
+#[cfg(test)]
+mod payload_lists_example;
+#[cfg(test)]
+mod payloads_example;
+#[cfg(test)]
+mod points_example;
+#[cfg(test)]
+mod prefixes_example;
+#[cfg(test)]
+mod rtr_ends_example;
+#[cfg(test)]
+mod rtr_pdu_example;
+#[cfg(test)]
+mod rtr_world_example;
+#[cfg(test)]
+mod vrps_example;

@@ -1,0 +1,14 @@
+use rtr_pdu::{Next, Unit, UnitBuffer, UnitReader, encode};
+use std::test::Fail;
+
+#[test]
+fn a_pdu_is_written_and_read(rt: HostRuntime) -> Result<(), Fail> {
+    let mut buffer = UnitBuffer::new();
+    encode(&Unit::ResetQuery, &mut buffer);
+    let mut piece = buffer.as_slice();
+    match UnitReader::for_cache().next(&mut piece) {
+        Next::Unit(unit) => assert!(rt; unit == Unit::ResetQuery),
+        Next::NeedMore | Next::Fault(_) => assert!(rt; false),
+    }
+    Ok(())
+}

@@ -1,0 +1,67 @@
+#!/usr/bin/env python3
+"""Writes the example with which a library's first page begins: the body of the one test of crates/doc_examples/src/NAME_example.rt, with what
+it uses. So what the page shows is what the gate proves and runs.
+
+usage: tools/examples.py [--check]
+
+With --check nothing is written: the status is 1 where a page would change, or a library has no example."""
+import os
+import re
+import sys
+
+TOP = os.path.realpath(f"{os.path.dirname(os.path.abspath(__file__))}/..")
+TESTS = f"{TOP}/crates/doc_examples/src"
+
+# The line above an example, and an example as it stands in a page.
+LEAD = "//! For example, where `rt` is the runtime that `main` is handed:"
+BLOCK = re.compile(rf"//!\n{re.escape(LEAD)}\n//!\n//! ```rust\n(?://![^\n]*\n)*?//! ```\n")
+
+
+def read(path):
+    with open(path, encoding="utf-8") as it:
+        return it.read()
+
+
+def libraries():
+    """The libraries of crates.txt with code of their own: those that are no program and hold more than tests."""
+    names = [line.split(":")[0].split()[0] for line in read(f"{TOP}/crates.txt").splitlines() if line.split("#")[0].strip()]
+    return [it for it in names if not it.endswith("_examples") and os.path.isfile(f"{TOP}/crates/{it}/src/lib.rt")]
+
+
+def example_of(name):
+    """The lines of a library's example."""
+    text = read(f"{TESTS}/{name}_example.rt")
+    used = re.search(r"\Ause std::test::Fail;\n\n|^use std::test::Fail;\n", text, re.M)
+    head, body = re.fullmatch(r"(.*?)\n#\[test\]\nfn \w+\(rt: HostRuntime\) -> Result<\(\), Fail> \{\n(.*)    Ok\(\(\)\)\n\}\n", text.replace(used[0], "", 1), re.S).groups()
+    return [*head.strip().splitlines(), "", *(line.removeprefix("    ") for line in body.splitlines())]
+
+
+def with_example(page, lines):
+    """A page with this example behind its first paragraph."""
+    block = "".join(f"//! {line}".rstrip() + "\n" for line in ["", LEAD.removeprefix("//! "), "", "```rust", *lines, "```"])
+    first = re.match(r"(?://! [^\n]+\n)+", page)[0]
+    rest = BLOCK.sub("", page[len(first) :], count=1)
+    return first + block + rest
+
+
+def main(check):
+    wrong = []
+    for name in libraries():
+        path = f"{TOP}/crates/{name}/src/lib.rt"
+        if not os.path.isfile(f"{TESTS}/{name}_example.rt"):
+            wrong.append(f"{name} has no example: crates/doc_examples/src/{name}_example.rt is not there")
+            continue
+        page = read(path)
+        made = with_example(page, example_of(name))
+        if made != page and check:
+            wrong.append(f"crates/{name}/src/lib.rt does not show its example: run tools/examples.py")
+        elif made != page:
+            with open(path, "w", encoding="utf-8") as it:
+                it.write(made)
+    for it in wrong:
+        print(it, file=sys.stderr)
+    return 1 if wrong else 0
+
+
+if __name__ == "__main__":
+    sys.exit(main("--check" in sys.argv[1:]))
