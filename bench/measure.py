@@ -1,12 +1,13 @@
 #!/usr/bin/env python3
 """Measures the program beside what else is installed, on one machine and in one run.
 
-usage: bench/measure.py PROGRAM [--quick]
+usage: bench/measure.py PROGRAM [--quick | --before OLD COMMIT]
 
 Over lists of 10,000 to 1,000,000 records, made by a seed so that they look like the table of the Internet: a cache's answer to a Reset
 Query over loopback (ours, StayRTR, and a plain sender of the same bytes), a router that fills its table from a plain sender (ours, and
 rtrclient), a list that is read and a route judged from a cold start, and payloads of ROAs and manifests decoded. Each figure is the best
-of three runs, in which our cache and the plain sender are asked ten times. It writes docs/FIGURES.md, and with Debian's python3-matplotlib docs/figures/growth.svg."""
+of three runs, in which our cache and the plain sender are asked ten times. It writes docs/FIGURES.md, with --before also what an older
+program, built of that commit, takes beside this one over 500,000 records, and with Debian's python3-matplotlib docs/figures/growth.svg."""
 import ipaddress
 import json
 import os
@@ -224,6 +225,45 @@ def machine():
 NAMES = ["cache, ours", "cache, StayRTR", "cache, plain sender", "router, ours", "router, rtrclient", "read and judge"]
 
 
+def processor_time(words):
+    """The seconds of a processor that a command takes, and the kernel for it."""
+    with open(os.devnull, "w") as nothing:
+        it = subprocess.Popen(list(map(str, words)), stdin=subprocess.DEVNULL, stdout=nothing, stderr=nothing)
+        _, status, used = os.wait4(it.pid, 0)
+    if status:
+        raise SystemExit(f"{words}: status {status}")
+    return used.ru_utime + used.ru_stime
+
+
+def before_and_after(old, new, commit):
+    """A section: what an older program takes beside this one, asked in turn."""
+    count = 500_000
+    found = records(count)
+    name, data = write("list", listed(found)), answer(found)
+    sent, programs = write("answer", data), {f"before ({commit[:7]})": old, "now": new}
+
+    def served(words):
+        port = free_port()
+        return serving([it.format(port=port) for it in words], port, len(data))
+
+    measures = {
+        "`fetch`, processor time": lambda it: processor_time([it, "fetch", "--port", plain_sender(data)]),
+        "`answer` to a Reset Query, processor time": lambda it: processor_time([it, "answer", "--session", SESSION, "--serial", SERIAL, "--vrps", name, RESET.hex()]),
+        "of this the list alone (`route`)": lambda it: processor_time([it, "route", "--vrps", name, "192.0.2.0/24", "64496"]),
+        "`serve`, from the query to the last byte": lambda it: served([it, "serve", "--port", "{port}", "--session", str(SESSION), "--start", str(SERIAL), "--vrps", name, "--connections", "1"]),
+    }
+    rows = {it: dict.fromkeys(programs, float("inf")) for it in measures}
+    plain = float("inf")
+    for _ in range(5):
+        for what, measure in measures.items():
+            for label, program in programs.items():
+                rows[what][label] = min(rows[what][label], measure(program))
+        plain = min(plain, served([sys.executable, "-c", SENDER, "{port}", sent]))
+    lines = ["", f"Beside an older program, over {count:,} records, in turn, the best of five, in seconds:", "", "| | " + " | ".join(programs) + " |", "|---|" + "---|" * len(programs)]
+    lines += [f"| {what} | " + " | ".join(f"{it:.4f}" for it in cells.values()) + " |" for what, cells in rows.items()]
+    return "\n".join([*lines, f"| a plain sender, from the query to the last byte | | {plain:.4f} |", ""])
+
+
 def page(rows, speeds):
     lines = [
         "# Figures",
@@ -264,17 +304,21 @@ def plot(rows, file):
 
 
 def main():
-    if len(sys.argv) < 2 or sys.argv[2:] not in ([], ["--quick"]):
+    quick, before = sys.argv[2:] == ["--quick"], sys.argv[3:] if sys.argv[2:3] == ["--before"] and len(sys.argv) == 5 else None
+    if len(sys.argv) < 2 or (sys.argv[2:] and not quick and not before):
         raise SystemExit(__doc__)
     program = os.path.abspath(sys.argv[1])
-    counts = [10_000, 30_000] if sys.argv[2:] else [10_000, 30_000, 100_000, 300_000, 500_000, 1_000_000]
+    counts = [10_000, 30_000] if quick else [10_000, 30_000, 100_000, 300_000, 500_000, 1_000_000]
+    old = os.path.abspath(before[0]) if before else None
     with tempfile.TemporaryDirectory() as folder:
         os.chdir(folder)
         rows = [(count, measured(program, count)) for count in counts]
         text = page(rows, decoded(program))
+        if before:
+            text += before_and_after(old, program, before[1])
         os.chdir("/")
     print(text)
-    if not sys.argv[2:]:
+    if not quick:
         write(f"{TOP}/docs/FIGURES.md", text)
         plot(rows, f"{TOP}/docs/figures/growth.svg")
     return 0
