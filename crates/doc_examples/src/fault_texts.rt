@@ -5,7 +5,7 @@ use feed::FeedFault;
 use payload_lists::ListFault;
 use payloads::GrammarFaultKind;
 use points::PointFault;
-use prefixes::{IpPrefix, PrefixFault};
+use prefixes::PrefixFault;
 use rtr_ends::{AskFault, StreamFault, TimingFault};
 use rtr_pdu::{ReadFault, UnitFault};
 use rtr_world::{CatchFault, WorldFault};
@@ -152,13 +152,5 @@ fn faults_of_worlds(rt: HostRuntime) -> Result<(), Fail> {
     ] {
         assert!(rt; tells(rt.alloc(), &fault, "fault", number)?);
     }
-    Ok(())
-}
-
-#[test]
-fn values_are_shown_as_they_are_written(rt: HostRuntime) -> Result<(), Fail> {
-    let prefix: IpPrefix = "2001:db8::/32".parse()?;
-    assert!(rt; format!(in rt.alloc(); "{prefix:?}")?.as_str() == "2001:db8::/32");
-    assert!(rt; "2001:db8::".parse::<IpPrefix>() == Err(PrefixFault::BadText));
     Ok(())
 }

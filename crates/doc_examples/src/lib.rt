@@ -24,4 +24,6 @@ mod rtr_pdu_example;
 #[cfg(test)]
 mod rtr_world_example;
 #[cfg(test)]
+mod values;
+#[cfg(test)]
 mod vrps_example;
