@@ -1,5 +1,5 @@
-use Rattle.rpkirtr.proofs.Printing.{when_ok, digits_are_text}
-use Rattle.rpkirtr.proofs.hexadecimal.push_piece.Goals as goal
+use Rattle.command_parts.proofs.Digits.{when_ok, digits_are_text}
+use Rattle.command_parts.proofs.hexadecimal.push_piece.Goals as goal
 
 pub unreachable-requires : goal.unreachable-requires
 unreachable-requires c =

@@ -1,7 +1,7 @@
 use Rattle.std.proofs.Common.{◌≡◌, ℕ, ◌++◌, List, length}
 use Rattle.std.specs.Prelude.{string_bytes}
 use Rattle.hex.specs.Hex.{encode_lower}
-use Rattle.rpkirtr.proofs.hexadecimal.push_hex.Given as goal
+use Rattle.command_parts.proofs.hexadecimal.push_hex.Given as goal
 
 -- the bytes so far are appended, and the others are left
 abbrev pub invariant-loop-rest : goal.invariant-loop-rest

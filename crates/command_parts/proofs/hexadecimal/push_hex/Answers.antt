@@ -2,8 +2,8 @@ use Rattle.std.proofs.Common.{◌≡◌, ℕ, ◌++◌, ◌∙◌, List, [], str
 use Rattle.std.proofs.lemmas.Bool.{eqb-true}
 use Rattle.std.proofs.lemmas.List.{nil_from_length, take-append-drop}
 use Rattle.hex.specs.Hex.{encode_lower}
-use Rattle.rpkirtr.proofs.Printing.{digits-append, digits-nil}
-use Rattle.rpkirtr.proofs.hexadecimal.push_hex.Goals as goal
+use Rattle.command_parts.proofs.Digits.{digits-append, digits-nil}
+use Rattle.command_parts.proofs.hexadecimal.push_hex.Goals as goal
 
 pub loop-rest-init : goal.loop-rest-init
 loop-rest-init c = ([], refl, sym (append-nil (string_bytes c.args.text.now)) ∙ ap (λ (x : List ℕ). string_bytes c.args.text.now ++ x) (sym digits-nil))

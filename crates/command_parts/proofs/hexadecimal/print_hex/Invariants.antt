@@ -1,7 +1,7 @@
 use Rattle.std.proofs.Common.{◌≡◌, ℕ, ◌++◌, List, length}
 use Rattle.std.specs.Io.KnownBytes.{Appends}
 use Rattle.hex.specs.Hex.{encode_lower}
-use Rattle.rpkirtr.proofs.hexadecimal.print_hex.Given as goal
+use Rattle.command_parts.proofs.hexadecimal.print_hex.Given as goal
 
 -- the bytes so far are printed, and the others are left
 abbrev pub invariant-loop-rest : goal.invariant-loop-rest

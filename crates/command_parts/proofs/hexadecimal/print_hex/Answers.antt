@@ -4,8 +4,8 @@ use Rattle.std.proofs.lemmas.Bool.{eqb-true}
 use Rattle.std.proofs.lemmas.List.{nil_from_length, take-append-drop}
 use Rattle.std.specs.Io.KnownBytes.{Appends}
 use Rattle.hex.specs.Hex.{encode_lower}
-use Rattle.rpkirtr.proofs.Printing.{digits-nil, prints_more}
-use Rattle.rpkirtr.proofs.hexadecimal.print_hex.Goals as goal
+use Rattle.command_parts.proofs.Digits.{digits-nil, prints_more}
+use Rattle.command_parts.proofs.hexadecimal.print_hex.Goals as goal
 
 pub loop-rest-init : goal.loop-rest-init
 loop-rest-init g c = ([], refl, rw digits-nil (Appends-nil (g.W.Write.contents c.args.out.now)))

@@ -1,0 +1,44 @@
+//! The words of a route, and of its state.
+ghost use Rattle.std.specs.Prelude.{◌≡◌, ℕ, IfNone, IfSome, Option};
+ghost use Rattle.prefixes.specs.declared.route.Route.{Route};
+ghost use Rattle.command_parts.specs.RouteWords.{OriginText, RouteText, state_word};
+
+use prefixes::{Asn, IpPrefix, Route};
+use vrps::OriginState;
+
+/// The route that two words name: a prefix, and the number of an AS or `none`.
+pub fn read_route(prefix: &str, origin: &str) -> Option<Route>
+    ensures some { IfSome result (λ route. RouteText route prefix.now origin.now) }
+    ensures none { IfNone result ((route : Route) → ¬ (RouteText route prefix.now origin.now)) }
+{
+    let Ok(prefix) = IpPrefix::parse(prefix) else {
+        return None;
+    };
+    let origin = read_origin(origin)?;
+    Some(Route { prefix, origin })
+}
+
+/// The origin that a word names.
+fn read_origin(word: &str) -> Option<Option<u32>>
+    ensures some { IfSome result (λ origin. OriginText origin word.now) }
+    ensures none { IfNone result ((origin : Option ℕ) → ¬ (OriginText origin word.now)) }
+{
+    if word == "none" {
+        return Some(None);
+    }
+    match Asn::parse(word) {
+        Ok(asn) => Some(Some(asn.0)),
+        Err(_) => None,
+    }
+}
+
+/// The word for a state.
+pub fn word_of(state: OriginState) -> &'static str
+    ensures { result.now ≡ state_word state }
+{
+    match state {
+        OriginState::Valid => "valid",
+        OriginState::Invalid => "invalid",
+        OriginState::NotFound => "not-found",
+    }
+}
