@@ -2,9 +2,9 @@
 ghost use Rattle.std.specs.Prelude.{◌≡◌, OnOk};
 ghost use Rattle.std.specs.List.{flat_map};
 ghost use Rattle.std.specs.Io.KnownBytes.{Appends};
-ghost use Rattle.rpkirtr.specs.ManifestLines.{file_line, front_lines, manifest_lines};
+ghost use Rattle.payload_commands.specs.ManifestLines.{file_line, front_lines, manifest_lines};
 
-use crate::hexadecimal::print_hex;
+use command_parts::print_hex;
 use payloads::{ListedFile, Manifest};
 use std::io::{self, Write};
 

@@ -1,5 +1,5 @@
 //! Directories that hold what is offered to a publication point.
-use crate::runner::read_file;
+use command_parts::read_file;
 use points::FileIn;
 use std::alloc::{AllocError, Global};
 use std::io::ErrorKind;

@@ -1,6 +1,6 @@
-use Rattle.rpkirtr.specs.ManifestLines.{file_line}
-use Rattle.rpkirtr.proofs.Printing.{prints_next}
-use Rattle.rpkirtr.proofs.manifests.print_files.Goals as goal
+use Rattle.payload_commands.specs.ManifestLines.{file_line}
+use Rattle.payload_commands.proofs.Printing.{prints_next}
+use Rattle.payload_commands.proofs.manifests.print_files.Goals as goal
 
 pub loop-file-preserved : goal.loop-file-preserved
 loop-file-preserved g c =

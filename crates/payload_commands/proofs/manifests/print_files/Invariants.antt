@@ -1,8 +1,8 @@
 use Rattle.std.proofs.Common.{take}
 use Rattle.std.specs.List.{flat_map}
 use Rattle.std.specs.Io.KnownBytes.{Appends}
-use Rattle.rpkirtr.specs.ManifestLines.{file_line}
-use Rattle.rpkirtr.proofs.manifests.print_files.Given as goal
+use Rattle.payload_commands.specs.ManifestLines.{file_line}
+use Rattle.payload_commands.proofs.manifests.print_files.Given as goal
 
 -- the files so far are printed
 abbrev pub invariant-loop-file : goal.invariant-loop-file

@@ -1,8 +1,8 @@
 use Rattle.std.proofs.Common.{take}
 use Rattle.std.specs.List.{flat_map}
 use Rattle.std.specs.Io.KnownBytes.{Appends}
-use Rattle.rpkirtr.specs.RoaLines.{entry_line}
-use Rattle.rpkirtr.proofs.roas.print_roa.Given as goal
+use Rattle.payload_commands.specs.RoaLines.{entry_line}
+use Rattle.payload_commands.proofs.roas.print_roa.Given as goal
 
 -- the entries so far are printed
 abbrev pub invariant-loop-entry : goal.invariant-loop-entry

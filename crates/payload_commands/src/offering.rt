@@ -1,7 +1,7 @@
 //! Offers to publication points, told in lines.
 ghost use Rattle.std.specs.Prelude.{◌≡◌, OnOk};
 ghost use Rattle.std.specs.Io.KnownBytes.{Appends};
-ghost use Rattle.rpkirtr.specs.OfferLines.{offer_line};
+ghost use Rattle.payload_commands.specs.OfferLines.{offer_line};
 
 use crate::directories::Directory;
 use der_lite::Moment;

@@ -2,9 +2,9 @@ use Rattle.std.proofs.Common.{◌+◌, List, subst, sym, take}
 use Rattle.std.specs.List.{flat_map}
 use Rattle.std.specs.Io.KnownBytes.{Appends}
 use Rattle.payloads.specs.declared.roa_entry.RoaEntry.{RoaEntry}
-use Rattle.rpkirtr.specs.RoaLines.{entry_line}
-use Rattle.rpkirtr.proofs.Printing.{prints_next}
-use Rattle.rpkirtr.proofs.roas.print_roa.Goals as goal
+use Rattle.payload_commands.specs.RoaLines.{entry_line}
+use Rattle.payload_commands.proofs.Printing.{prints_next}
+use Rattle.payload_commands.proofs.roas.print_roa.Goals as goal
 
 pub loop-entry-preserved : goal.loop-entry-preserved
 loop-entry-preserved g c =

@@ -1,7 +1,7 @@
 //! ROAs, told in lines.
 ghost use Rattle.std.specs.Prelude.{◌≡◌, OnOk};
 ghost use Rattle.std.specs.Io.KnownBytes.{Appends};
-ghost use Rattle.rpkirtr.specs.RoaLines.{entry_line, roa_lines};
+ghost use Rattle.payload_commands.specs.RoaLines.{entry_line, roa_lines};
 
 use payloads::{Roa, RoaEntry};
 use prefixes::Asn;

@@ -1,0 +1,3 @@
+pub mod RoaLines
+pub mod ManifestLines
+pub mod OfferLines
