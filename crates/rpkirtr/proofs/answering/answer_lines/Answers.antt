@@ -1,5 +1,0 @@
-use Rattle.rpkirtr.specs.Lines.{cache_of}
-use Rattle.rpkirtr.proofs.answering.answer_lines.Goals as goal
-
-pub answers_of-requires : goal.answers_of-requires
-answers_of-requires c = (cache_of c.args.session c.args.session0 c.args.serial c.args.set, c.in_ok-cache.ensures)
