@@ -1,5 +1,5 @@
 use Rattle.std.proofs.Common.{length}
-use Rattle.rpkirtr.proofs.playing.play.Given as goal
+use Rattle.world_scripts.proofs.playing.play.Given as goal
 
 abbrev pub decreases-loop-line : goal.decreases-loop-line
 decreases-loop-line g l = length l.lines.rest.now

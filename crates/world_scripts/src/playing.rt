@@ -1,9 +1,8 @@
 //! Scripts of a world, played.
 ghost use Rattle.std.specs.Prelude.{◌≤◌, ◌<◌, IfOk, IfSome, IsSome, length};
 
-use crate::routing::word_of;
-use crate::runner::ProgramFault;
 use crate::scripts::{Beginning, Line, read_beginning, read_line};
+use command_parts::{ProgramFault, word_of};
 use prefixes::Route;
 use rtr_pdu::Version;
 use rtr_world::{CatchFault, World, WorldFault};
