@@ -1,4 +1,4 @@
-//! The words of the command line: [`read_words`] gives the order that they spell, and [`decimal`] reads a number as its options are read.
+//! The words of the command line: [`read_words`] gives the order that they spell.
 //!
 //! For example, where `rt` is the runtime that `main` is handed:
 //!
@@ -18,4 +18,4 @@
 
 mod words;
 
-pub use words::{CacheName, Order, WordsFault, decimal, read_words};
+pub use words::{Order, WordsFault, read_words};

@@ -1,6 +1,7 @@
 //! The words of the command line.
 use clap::error::ErrorKind;
 use clap::{Arg, ArgAction, ArgMatches, Command, Error};
+use command_parts::{CacheName, ProgramFault, decimal};
 use rtr_pdu::Version;
 use std::alloc::{AllocError, Global};
 use thiserror::Error;
@@ -19,6 +20,15 @@ pub enum WordsFault {
 impl From<AllocError> for WordsFault {
     fn from(_error: AllocError) -> WordsFault {
         WordsFault::Memory
+    }
+}
+
+impl From<WordsFault> for ProgramFault {
+    fn from(fault: WordsFault) -> ProgramFault {
+        match fault {
+            WordsFault::NoOrder => ProgramFault::Words,
+            WordsFault::Memory => ProgramFault::Memory,
+        }
     }
 }
 
@@ -141,17 +151,6 @@ fn command_line<'a>(alloc: Global) -> Result<Command<'a>, AllocError> {
     Ok(all)
 }
 
-/// What names the version that a cache has published: the session in version 1 of the protocol, that in version 0, and the serial.
-#[derive(Clone, Copy, Debug, PartialEq, Eq)]
-pub struct CacheName {
-    /// The session in version 1.
-    pub session: u16,
-    /// The session in version 0.
-    pub session0: u16,
-    /// The serial number.
-    pub serial: u32,
-}
-
 /// What the words ask for.
 #[derive(Debug, Drop)]
 pub enum Order<'a> {
@@ -222,15 +221,6 @@ fn fault_of(error: Error) -> WordsFault {
 /// The value of an option or a word.
 fn value<'a>(found: &ArgMatches<'a>, name: &str) -> Result<&'a str, WordsFault> {
     found.get_str(name).ok_or(WordsFault::NoOrder)
-}
-
-/// The number that a text writes in decimal digits without a leading zero or a sign.
-pub fn decimal(text: &str) -> Option<u64> {
-    match text.as_bytes() {
-        [b'+', ..] => None,
-        [b'0', _, ..] => None,
-        _ => text.parse::<u64>().ok(),
-    }
 }
 
 /// The number of 16 bits under this name.

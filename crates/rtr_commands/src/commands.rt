@@ -6,8 +6,7 @@ use crate::streaming::{
     connected, dial, fetch_all, fetch_in_turns, listen, serve_all, tell_committed, tell_fetched,
 };
 use crate::unit_lines::{UnitsEnd, print_units};
-use command_parts::{ProgramFault, read_file, read_route, read_set, refuse, word_of};
-use orders::CacheName;
+use command_parts::{CacheName, ProgramFault, read_file, read_route, read_set, refuse, word_of};
 use rtr_ends::{Cache, Fetched, StreamFault};
 use rtr_pdu::Version;
 use std::alloc::{AllocError, Global};

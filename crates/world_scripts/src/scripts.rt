@@ -1,8 +1,7 @@
 //! Scripts of a world: what a line says. Words are parted by exactly one blank.
 ghost use Rattle.std.specs.Prelude.{◌≤◌, IfSome};
 
-use command_parts::{ProgramFault, read_route};
-use orders::decimal;
+use command_parts::{ProgramFault, decimal, read_route};
 use prefixes::{Asn, IpPrefix, Route, Vrp};
 use rtr_pdu::Version;
 use rtr_world::{Event, SideEvent};
