@@ -1,18 +1,7 @@
 //! The program: `run_words` answers its words.
 #![tactic(auto)]
 
-pub mod answering;
-pub mod directories;
-pub mod hexadecimal;
-pub mod manifests;
-pub mod offering;
-pub mod playing;
-pub mod roas;
-pub mod routing;
 pub mod runner;
-pub mod scripts;
-pub mod streaming;
-pub mod units;
 
 use std::process::ExitCode;
 use std::{env, io};

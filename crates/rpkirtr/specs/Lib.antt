@@ -1,9 +1,0 @@
-pub mod Answered
-pub mod ProgramFaults
-pub mod Lines
-pub mod RouteWords
-pub mod RoaLines
-pub mod ManifestLines
-pub mod OfferLines
-pub mod UnitLines
-pub mod Serves
