@@ -1,6 +1,17 @@
 //! What several commands of the program share: why one did not end well ([`ProgramFault`]), the files that it reads ([`read_file`],
 //! [`read_set`]), what it refuses ([`refuse`]), bytes in hexadecimal ([`print_hex`], [`push_hex`]), the words of a route and of its state
 //! ([`read_route`], [`word_of`]), numbers ([`decimal`]) and the name of a version ([`CacheName`]).
+//!
+//! For example, where `rt` is the runtime that `main` is handed:
+//!
+//! ```rust
+//! use command_parts::{decimal, read_route, word_of};
+//! use vrps::OriginState;
+//!
+//! assert!(rt; decimal("4660") == Some(4660));
+//! assert!(rt; read_route("192.0.2.0/24", "none").is_some());
+//! assert!(rt; word_of(OriginState::NotFound) == "not-found");
+//! ```
 #![tactic(auto)]
 
 mod fault;

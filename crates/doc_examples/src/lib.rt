@@ -2,6 +2,8 @@
 #![tactic(auto)]
 
 #[cfg(test)]
+mod command_parts_example;
+#[cfg(test)]
 mod der_lite_example;
 #[cfg(test)]
 mod fault_texts;
@@ -10,6 +12,8 @@ mod feed_example;
 #[cfg(test)]
 mod orders_example;
 #[cfg(test)]
+mod payload_commands_example;
+#[cfg(test)]
 mod payload_lists_example;
 #[cfg(test)]
 mod payloads_example;
@@ -17,6 +21,8 @@ mod payloads_example;
 mod points_example;
 #[cfg(test)]
 mod prefixes_example;
+#[cfg(test)]
+mod rtr_commands_example;
 #[cfg(test)]
 mod rtr_ends_example;
 #[cfg(test)]
@@ -27,3 +33,5 @@ mod rtr_world_example;
 mod values;
 #[cfg(test)]
 mod vrps_example;
+#[cfg(test)]
+mod world_scripts_example;

@@ -7,7 +7,7 @@ use std::rt::Files;
 use std::{fs, io};
 
 /// A file as it was read.
-#[derive(Drop)]
+#[derive(Debug, Drop)]
 struct Fetched {
     name: String,
     object: Vec<u8>,
@@ -15,7 +15,7 @@ struct Fetched {
 }
 
 /// What a directory holds: a manifest, and files, sorted by their names.
-#[derive(Drop)]
+#[derive(Debug, Drop)]
 pub struct Directory<'a> {
     name: &'a str,
     manifest: Vec<u8>,

@@ -15,10 +15,11 @@ use rtr_pdu::{
     MAX_UNIT_LEN, Next, Unit, UnitBuffer, UnitReader, Version, encode_as, encode_prefix, error_code,
 };
 use std::alloc::{AllocError, Global};
+use thiserror::Error;
 use vrps::{Serial, VersionLog, VrpSet};
 
 /// The answers of a cache to the bytes that came on a connection.
-#[derive(Drop)]
+#[derive(Debug, Drop, PartialEq, Eq)]
 pub struct Answered {
     /// A line for each unit of the replies: its bytes in lower-case hexadecimal.
     pub lines: String,
@@ -27,11 +28,13 @@ pub struct Answered {
 }
 
 /// Why nothing is answered. The numbers are fixed.
-#[derive(Clone, Copy, Debug, PartialEq, Eq)]
+#[derive(Clone, Copy, Debug, PartialEq, Eq, Error)]
 pub enum AnswerFault {
     /// The text is no hexadecimal.
+    #[error("not hexadecimal digits in pairs (fault 1)")]
     BadHex = 1,
-    /// Want of memory.
+    /// Out of memory.
+    #[error("out of memory (fault 2)")]
     Memory = 2,
 }
 

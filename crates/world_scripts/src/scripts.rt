@@ -10,7 +10,7 @@ use vrps::{SetFault, VrpSet};
 
 /// With what a world begins: how many routers it has, the session of the cache, and that in version 0 of the protocol, the serial of its
 /// first version, and how many versions before the current one it keeps, from 1 to 65,536.
-#[derive(Clone, Copy)]
+#[derive(Clone, Copy, Debug, PartialEq, Eq)]
 pub struct Beginning {
     /// How many routers.
     pub routers: u16,
@@ -25,7 +25,7 @@ pub struct Beginning {
 }
 
 /// What a line says.
-#[derive(Drop)]
+#[derive(Debug, Drop)]
 pub enum Line {
     /// An event.
     Event(Event),
