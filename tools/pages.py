@@ -33,10 +33,19 @@ def read(path):
         return it.read()
 
 
+def named():
+    """All crates, as crates.txt has them, lowest first."""
+    return [it.split(":")[0] for it in read(f"{TOP}/crates.txt").splitlines() if ":" in it]
+
+
+def examples():
+    """The crates of examples, and that of the values which these share."""
+    return [it for it in named() if it.endswith("_examples") or it == "example_values"]
+
+
 def crates():
-    """The crates that have definitions or contracts, as crates.txt has them, lowest first."""
-    named = [it.split(":")[0] for it in read(f"{TOP}/crates.txt").splitlines() if ":" in it]
-    return [it for it in named if not it.endswith("_examples")]
+    """The crates that have definitions or contracts."""
+    return [it for it in named() if it not in examples()]
 
 
 class Definition:
@@ -331,7 +340,7 @@ def cited_by(house):
         for it in file.definitions:
             for pair in cited(it.comment, of):
                 places[pair].append(f"`{it.name}` in {link(file.path)}")
-    for crate in crates() + ["payload_examples", "set_examples", "rtr_examples", "memory_examples", "feed_examples"]:
+    for crate in crates() + examples():
         for path in sorted(glob.glob(f"{TOP}/crates/{crate}/src/*.rt")):
             found = comments(path)
             of = subject(found[0][1] if found else "", crate)

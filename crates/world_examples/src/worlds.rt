@@ -1,4 +1,4 @@
-use crate::caches::{V, set_of};
+use example_values::sets::{V, set_of};
 use prefixes::{IpPrefix, Route};
 use rtr_pdu::Version;
 use rtr_world::{CatchFault, Event, SideEvent, World, WorldFault};

@@ -1,10 +1,12 @@
-use crate::caches::{V, cache_of};
-use crate::wire::{ANSWER, Bytes, RESET_QUERY, UNCHANGED, bytes};
+use crate::play::cache_of;
+use example_values::hex::{Bytes, bytes};
+use example_values::sets::V;
+use example_values::units::{ANSWER, RESET_QUERY, UNCHANGED};
 use rtr_ends::{
     Cache, End, Fetched, Link, Router, Served, StreamFault, fetch_stream, serve_stream,
 };
 use rtr_pdu::{Counted, Version};
-use std::alloc::Global;
+use std::alloc::{AllocGlobal, Global};
 use std::cell::RefCell;
 use std::io;
 use std::io::{ErrorKind, Read, Write};
@@ -182,7 +184,7 @@ fn expect_served<R: Abort>(
     served: Served,
     answers: usize,
 ) -> Result<(), Fail> {
-    let mut cache = cache_of::<VersionLog>(alloc, 5, &[&[V]])?;
+    let mut cache = cache_of::<VersionLog>(alloc, 0x1234, 5, &[&[V]])?;
     let first = cache.open()?;
     cache.close(first);
     let mut input = stepwise(input, 8, 9);
@@ -227,7 +229,7 @@ fn a_connection_is_served_to_its_end(rt: HostRuntime) -> Result<(), Fail> {
 #[test]
 fn what_was_read_is_answered_before_the_next_read(rt: HostRuntime) -> Result<(), Fail> {
     let alloc = rt.alloc();
-    let mut cache = cache_of::<VersionLog>(alloc, 5, &[&[V]])?;
+    let mut cache = cache_of::<VersionLog>(alloc, 0x1234, 5, &[&[V]])?;
     let list = Rc::new(alloc, RefCell::new(Vec::new(alloc)))?;
     let mut input = Counted::new(Waiting {
         steps: reader_of(TWO_QUERIES, 8, 9),
@@ -240,32 +242,36 @@ fn what_was_read_is_answered_before_the_next_read(rt: HostRuntime) -> Result<(),
     Ok(())
 }
 
+/// Serves two queries to a writer that takes so many bytes, and checks that it fails then.
+fn expect_write_failed<R: AllocGlobal + Abort>(rt: &R, room: usize) -> Result<(), Fail> {
+    let alloc = rt.alloc();
+    let mut cache = cache_of::<VersionLog>(alloc, 0x1234, 5, &[&[V]])?;
+    let mut input = stepwise(TWO_QUERIES, 16, 9);
+    let mut output = Counted::new(Narrow {
+        taken: Vec::new(alloc),
+        room,
+    });
+    let served = serve_stream(&mut cache, &mut input, &mut output, 9);
+    assert!(rt; served == Err(StreamFault::WriteFailed));
+    assert!(rt; output.failures() == 1 && input.failures() == 0);
+    let out = output.device().taken.as_slice();
+    let front = room.min(52);
+    assert!(rt; out.len() == room && out.get(..front) == bytes(ANSWER).as_slice().get(..front));
+    Ok(())
+}
+
 #[test]
 fn a_device_that_fails_ends_the_connection(rt: HostRuntime) -> Result<(), Fail> {
-    let alloc = rt.alloc();
-    let answer = bytes(ANSWER);
     for room in [0, 1, 51, 52, 103] {
-        let mut cache = cache_of::<VersionLog>(alloc, 5, &[&[V]])?;
-        let mut input = stepwise(TWO_QUERIES, 16, 9);
-        let mut output = Counted::new(Narrow {
-            taken: Vec::new(alloc),
-            room,
-        });
-        let served = serve_stream(&mut cache, &mut input, &mut output, 9);
-        assert!(rt; served == Err(StreamFault::WriteFailed));
-        assert!(rt; output.failures() == 1 && input.failures() == 0);
-        let out = output.device().taken.as_slice();
-        assert!(rt;
-            out.len() == room && out.get(..room.min(52)) == answer.as_slice().get(..room.min(52))
-        );
+        expect_write_failed(&rt, room)?;
     }
-    let mut cache = cache_of::<VersionLog>(alloc, 5, &[&[V]])?;
+    let mut cache = cache_of::<VersionLog>(rt.alloc(), 0x1234, 5, &[&[V]])?;
     let mut input = stepwise(TWO_QUERIES, 8, 1);
-    let mut output = list(alloc);
+    let mut output = list(rt.alloc());
     let served = serve_stream(&mut cache, &mut input, &mut output, 9);
     assert!(rt; served == Err(StreamFault::ReadFailed));
     assert!(rt; StreamFault::ReadFailed.number() == 1);
-    assert!(rt; output.device().as_slice() == answer.as_slice());
+    assert!(rt; output.device().as_slice() == bytes(ANSWER).as_slice());
     Ok(())
 }
 
@@ -283,7 +289,7 @@ fn unchanged_twice() -> Bytes {
 fn each_read_may_fail(rt: HostRuntime) -> Result<(), Fail> {
     let alloc = rt.alloc();
     for calls in 0..5u8 {
-        let mut cache = cache_of::<VersionLog>(alloc, 5, &[&[V]])?;
+        let mut cache = cache_of::<VersionLog>(alloc, 0x1234, 5, &[&[V]])?;
         let first = cache.open()?;
         cache.close(first);
         let mut input = stepwise(SINCE_TWICE, 5, calls);
@@ -301,29 +307,36 @@ fn each_read_may_fail(rt: HostRuntime) -> Result<(), Fail> {
     Ok(())
 }
 
+/// Serves two queries to a writer that takes seven bytes a call, and after so many calls none.
+fn expect_stalled<R: AllocGlobal + Abort>(rt: &R, calls: u8, fails: bool) -> Result<(), Fail> {
+    let alloc = rt.alloc();
+    let mut cache = cache_of::<VersionLog>(alloc, 0x1234, 5, &[&[V]])?;
+    let first = cache.open()?;
+    cache.close(first);
+    let mut input = stepwise(SINCE_TWICE, 24, 9);
+    let mut output = Counted::new(Stalling {
+        taken: Vec::new(alloc),
+        size: 7,
+        calls,
+        fails,
+    });
+    let served = serve_stream(&mut cache, &mut input, &mut output, 9);
+    // Each answer of 32 bytes takes five calls.
+    let whole = usize::from(calls / 5) * 32 + usize::from(calls % 5) * 7;
+    assert!(rt; served.is_err() == (whole < 64), "{calls}");
+    assert!(rt;
+        unchanged_twice().as_slice().get(..whole) == Some(output.device().taken.as_slice()),
+        "{calls}"
+    );
+    assert!(rt; cache.open()? == first);
+    Ok(())
+}
+
 #[test]
 fn each_write_may_fail_or_take_nothing(rt: HostRuntime) -> Result<(), Fail> {
-    let alloc = rt.alloc();
-    for (calls, fails) in (0..=10u8).flat_map(|calls| [(calls, true), (calls, false)]) {
-        let mut cache = cache_of::<VersionLog>(alloc, 5, &[&[V]])?;
-        let first = cache.open()?;
-        cache.close(first);
-        let mut input = stepwise(SINCE_TWICE, 24, 9);
-        let mut output = Counted::new(Stalling {
-            taken: Vec::new(alloc),
-            size: 7,
-            calls,
-            fails,
-        });
-        let served = serve_stream(&mut cache, &mut input, &mut output, 9);
-        // Each answer of 32 bytes takes five calls.
-        let whole = usize::from(calls / 5) * 32 + usize::from(calls % 5) * 7;
-        assert!(rt; served.is_err() == (whole < 64), "{calls}");
-        assert!(rt;
-            unchanged_twice().as_slice().get(..whole) == Some(output.device().taken.as_slice()),
-            "{calls}"
-        );
-        assert!(rt; cache.open()? == first);
+    for calls in 0..=10u8 {
+        expect_stalled(&rt, calls, true)?;
+        expect_stalled(&rt, calls, false)?;
     }
     Ok(())
 }

@@ -1,27 +1,8 @@
-//! Units of the examples in hexadecimal. Blanks part the fields as RFC 8210 section 5 draws them, and bars part the units.
-use arrayvec::ArrayVec;
-use rtr_pdu::Version;
-
-/// Bytes of a few units.
-pub(crate) type Bytes = ArrayVec<u8, 256>;
-
-/// The bytes that hexadecimal digits spell. What is none is passed over.
-pub(crate) fn bytes(text: &str) -> Bytes {
-    let mut bytes = Bytes::new();
-    let mut first = None;
-    for digit in text.chars().filter_map(|c| c.to_digit(16)) {
-        match first.take() {
-            None => first = Some(digit),
-            Some(high) => {
-                let _fits = bytes.try_push((((high << 4) | digit) % 256) as u8);
-            }
-        }
-    }
-    bytes
-}
+//! Units of the RPKI-to-Router protocol. Blanks part the fields as RFC 8210 section 5 draws them, and bars part the units.
+use crate::hex::{Bytes, bytes};
 
 /// The bytes of these units, one after the other.
-pub(crate) fn all_of(units: &[&str]) -> Bytes {
+pub fn all_of(units: &[&str]) -> Bytes {
     let mut all = Bytes::new();
     for unit in units {
         let _fits = all.try_extend_from_slice(bytes(unit).as_slice());
@@ -67,64 +48,64 @@ fn in_0(unit: &[u8]) -> Bytes {
     all
 }
 
-/// The bytes of units that are spelled in version 1, as they are in this version.
-pub(crate) fn bytes_in(version: Version, text: &str) -> Bytes {
+/// The bytes of units that are spelled in version 1, as they are in the version of this number.
+pub fn bytes_in(version: u8, text: &str) -> Bytes {
     let mut all = Bytes::new();
     for part in text.split('|') {
         let unit = bytes(part);
-        let unit = match version {
-            Version::V0 => in_0(unit.as_slice()),
-            Version::V1 => unit,
+        let unit = if version == 0 {
+            in_0(unit.as_slice())
+        } else {
+            unit
         };
         let _fits = all.try_extend_from_slice(unit.as_slice());
     }
     all
 }
 
-pub(crate) const RESET_QUERY: &str = "01 02 0000 00000008";
+pub const RESET_QUERY: &str = "01 02 0000 00000008";
 
 /// What changed since serial 5 of session 4660?
-pub(crate) const SERIAL_QUERY: &str = "01 01 1234 0000000c 00000005";
+pub const SERIAL_QUERY: &str = "01 01 1234 0000000c 00000005";
 
 /// A Cache Response of session 4660.
-pub(crate) const RESPONSE: &str = "01 03 1234 00000008";
+pub const RESPONSE: &str = "01 03 1234 00000008";
 
 /// 192.0.2.0/24 up to 24 of AS 64496, announced.
-pub(crate) const V: &str = "01 04 0000 00000014 01 18 18 00 c0000200 0000fbf0";
+pub const V: &str = "01 04 0000 00000014 01 18 18 00 c0000200 0000fbf0";
 
 /// The same, withdrawn.
-pub(crate) const V_WITHDRAWN: &str = "01 04 0000 00000014 00 18 18 00 c0000200 0000fbf0";
+pub const V_WITHDRAWN: &str = "01 04 0000 00000014 00 18 18 00 c0000200 0000fbf0";
 
 /// 198.51.100.0/24 up to 24 of AS 64497, announced.
-pub(crate) const W: &str = "01 04 0000 00000014 01 18 18 00 c6336400 0000fbf1";
+pub const W: &str = "01 04 0000 00000014 01 18 18 00 c6336400 0000fbf1";
 
 /// 2001:db8::/32 up to 48 of AS 64499, announced.
-pub(crate) const Y: &str =
-    "01 06 0000 00000020 01 20 30 00 20010db8000000000000000000000000 0000fbf3";
+pub const Y: &str = "01 06 0000 00000020 01 20 30 00 20010db8000000000000000000000000 0000fbf3";
 
 /// An End of Data: serial 5 of session 4660, with the intervals that the standard recommends.
-pub(crate) const END_5: &str = "01 07 1234 00000018 00000005 00000e10 00000258 00001c20";
+pub const END_5: &str = "01 07 1234 00000018 00000005 00000e10 00000258 00001c20";
 
 /// The same with serial 6, 7 and 0.
-pub(crate) const END_6: &str = "01 07 1234 00000018 00000006 00000e10 00000258 00001c20";
+pub const END_6: &str = "01 07 1234 00000018 00000006 00000e10 00000258 00001c20";
 
-pub(crate) const END_7: &str = "01 07 1234 00000018 00000007 00000e10 00000258 00001c20";
+pub const END_7: &str = "01 07 1234 00000018 00000007 00000e10 00000258 00001c20";
 
-pub(crate) const END_0: &str = "01 07 1234 00000018 00000000 00000e10 00000258 00001c20";
+pub const END_0: &str = "01 07 1234 00000018 00000000 00000e10 00000258 00001c20";
 
 /// The whole answer of a cache whose serial 5 of session 4660 has v alone.
-pub(crate) const ANSWER: &str =
+pub const ANSWER: &str =
     "01 03 1234 00000008 | 01 04 0000 00000014 01 18 18 00 c0000200 0000fbf0 | 01 07 1234 00000018 00000005 00000e10 00000258 00001c20";
 
 /// The answer of that cache to a router that has serial 5.
-pub(crate) const UNCHANGED: &str =
+pub const UNCHANGED: &str =
     "01 03 1234 00000008 | 01 07 1234 00000018 00000005 00000e10 00000258 00001c20";
 
-pub(crate) const CACHE_RESET: &str = "01 08 0000 00000008";
+pub const CACHE_RESET: &str = "01 08 0000 00000008";
 
 /// v in version 0, announced.
-pub(crate) const V_0: &str = "00 04 0000 00000014 01 18 18 00 c0000200 0000fbf0";
+pub const V_0: &str = "00 04 0000 00000014 01 18 18 00 c0000200 0000fbf0";
 
 /// The whole answer of that cache in version 0, in which its session is 4660 too.
-pub(crate) const ANSWER_0: &str =
+pub const ANSWER_0: &str =
     "00 03 1234 00000008 | 00 04 0000 00000014 01 18 18 00 c0000200 0000fbf0 | 00 07 1234 0000000c 00000005";

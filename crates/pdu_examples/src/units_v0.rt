@@ -1,12 +1,13 @@
 use crate::units::{always_comes_back, first_fault};
-use crate::wire;
-use crate::wire::bytes;
 use arrayvec::ArrayVec;
-use prefixes::{Asn, IpPrefix, Vrp};
+use example_values::hex::bytes;
+use example_values::sets::payload;
+use example_values::units as wire;
 use rtr_pdu::{
     Counted, ErrorReport, Kind, Next, ReadFault, RouterKey, Unit, UnitFault, UnitReader, Version,
     encode_as, encode_prefix, read_all, read_unit_of,
 };
+use std::alloc::Global;
 use std::process::Abort;
 use std::test::Fail;
 
@@ -41,14 +42,6 @@ const REPORT: &str = "00 0a 0000 0000001c 0000000c 00 01 1234 0000000c 00000005 
 const ANSWER: &str =
     "00 03 0777 00000008 | 00 04 0000 00000014 01 18 18 00 c0000200 0000fbf0 | 00 07 0777 0000000c 00000005";
 
-/// The payload of `V`, and that of `V6_WITHDRAWN`.
-fn payloads() -> Result<(Vrp, Vrp), Fail> {
-    Ok((
-        Vrp::new(IpPrefix::parse("192.0.2.0/24")?, 24, Asn(64496))?,
-        Vrp::new(IpPrefix::parse("2001:db8::/32")?, 48, Asn(64496))?,
-    ))
-}
-
 /// An End of Data of version 1.
 fn end_of_version_1() -> Unit {
     Unit::EndOfData {
@@ -66,7 +59,8 @@ fn router_key() -> Unit {
 
 #[test]
 fn each_unit_is_written(rt: HostRuntime) -> Result<(), Fail> {
-    let (v, v6) = payloads()?;
+    let v = payload("192.0.2.0/24", 24, 64496)?;
+    let v6 = payload("2001:db8::/32", 48, 64496)?;
     let query = bytes("00 01 1234 0000000c 00000005");
     assert!(rt; query.len() < 20);
     let rows = [
@@ -227,7 +221,7 @@ fn units_in_every_cutting(rt: HostRuntime) -> Result<(), Fail> {
 
 #[test]
 fn units_that_fit_a_version(rt: HostRuntime) -> Result<(), Fail> {
-    let (v, _) = payloads()?;
+    let v = payload("192.0.2.0/24", 24, 64496)?;
     for unit in [
         Unit::SerialNotify {
             session: 0,
@@ -371,45 +365,71 @@ fn a_version_is_told_once_a_header_has_come(rt: HostRuntime) {
     assert!(rt; UnitReader::for_router(Version::V1).version() == Some(Version::V1));
 }
 
+/// Whether these bytes are a Serial Notify of session 0x777, serial 5.
+fn is_notify(reader: &mut UnitReader, text: &str) -> bool {
+    let notify = bytes(text);
+    let mut piece = notify.as_slice();
+    matches!(
+        reader.next(&mut piece),
+        Next::Unit(Unit::SerialNotify {
+            session: 0x777,
+            serial: 5
+        })
+    )
+}
+
+/// Whether the version of these bytes is refused.
+fn is_refused(reader: &mut UnitReader, text: &str) -> bool {
+    let notify = bytes(text);
+    let mut piece = notify.as_slice();
+    matches!(reader.next(&mut piece), Next::Fault(UnitFault::Version))
+}
+
 #[test]
-fn notifies_before_agreement(rt: HostRuntime) -> Result<(), Fail> {
-    for version in [Version::V0, Version::V1] {
+fn notifies_before_agreement(rt: HostRuntime) {
+    for (version, same, other) in [
+        (Version::V0, NOTIFY, NOTIFY_1),
+        (Version::V1, NOTIFY_1, NOTIFY),
+    ] {
         let mut reader = UnitReader::for_router(version);
         for text in [NOTIFY, NOTIFY_1, NOTIFY_2] {
-            let notify = bytes(text);
-            let mut piece = notify.as_slice();
-            let read = reader.next(&mut piece);
-            let is_notify = matches!(
-                read,
-                Next::Unit(Unit::SerialNotify {
-                    session: 0x777,
-                    serial: 5
-                })
-            );
-            assert!(rt; is_notify && reader.version() == Some(version), "{text}");
+            assert!(rt; is_notify(&mut reader, text), "{text}");
+            assert!(rt; reader.version() == Some(version), "{text}");
         }
         reader.agreed();
-        let (same, other) = match version {
-            Version::V0 => (bytes(NOTIFY), bytes(NOTIFY_1)),
-            Version::V1 => (bytes(NOTIFY_1), bytes(NOTIFY)),
-        };
-        let mut piece = same.as_slice();
-        assert!(rt; matches!(reader.next(&mut piece), Next::Unit(_)));
-        let mut piece = other.as_slice();
-        assert!(rt; matches!(reader.next(&mut piece), Next::Fault(UnitFault::Version)));
+        assert!(rt; is_notify(&mut reader, same));
+        assert!(rt; is_refused(&mut reader, other));
     }
-    // A router agrees at the first unit that is no Serial Notify.
-    for (units, count) in [
-        ([NOTIFY_1, NOTIFY_2, NOTIFY, RESPONSE, NOTIFY], 5),
-        ([NOTIFY_1, RESPONSE, NOTIFY, NOTIFY_1, END], 3),
-        ([RESPONSE, V, NOTIFY_2, END, END], 2),
+}
+
+/// How many units a router of version 0 reads of these, and the fault behind them.
+fn read_by_router(alloc: Global, units: &[&str]) -> Result<(usize, Option<UnitFault>), Fail> {
+    let mut pieces = Vec::new(alloc);
+    pieces.push(wire::all_of(units).as_slice().to_vec(alloc)?)?;
+    let (read, fault) = read_all(alloc, Some(Version::V0), pieces.as_slice())?;
+    Ok((read.len(), fault))
+}
+
+/// A router agrees at the first unit that is no Serial Notify.
+#[test]
+fn a_router_agrees_at_the_first_other_unit(rt: HostRuntime) -> Result<(), Fail> {
+    for (units, count, fault) in [
+        ([NOTIFY_1, NOTIFY_2, NOTIFY, RESPONSE, NOTIFY], 5, None),
+        (
+            [NOTIFY_1, RESPONSE, NOTIFY, NOTIFY_1, END],
+            3,
+            Some(UnitFault::Version),
+        ),
+        (
+            [RESPONSE, V, NOTIFY_2, END, END],
+            2,
+            Some(UnitFault::Version),
+        ),
     ] {
-        let mut pieces = Vec::new(rt.alloc());
-        pieces.push(wire::all_of(&units).as_slice().to_vec(rt.alloc())?)?;
-        let (read, fault) = read_all(rt.alloc(), Some(Version::V0), pieces.as_slice())?;
-        assert!(rt; read.len() == count, "{count}");
-        assert!(rt; fault.is_none() == (count == 5), "{count}");
-        assert!(rt; count == 5 || fault == Some(UnitFault::Version), "{count}");
+        assert!(rt;
+            read_by_router(rt.alloc(), &units)? == (count, fault),
+            "{count}"
+        );
     }
     Ok(())
 }

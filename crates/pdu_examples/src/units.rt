@@ -1,6 +1,7 @@
-use crate::wire;
 use arrayvec::ArrayVec;
-use prefixes::{Asn, IpPrefix, Vrp};
+use example_values::hex::bytes;
+use example_values::sets::payload;
+use example_values::units as wire;
 use rtr_pdu::{
     Counted, Next, ReadFault, Unit, UnitFault, UnitReader, Version, encode, encode_as, read_all,
     read_unit, write_unit,
@@ -56,7 +57,19 @@ fn written(alloc: Global, version: Version, units: &[Unit]) -> Result<Vec<u8>, A
     Ok(bytes)
 }
 
-/// Whether units of this version are read from these bytes, cut at this place, that are written as the same bytes.
+/// Whether units of this version are read from these pieces that are written as these bytes.
+fn are_read(
+    alloc: Global,
+    version: Version,
+    pieces: &[Vec<u8>],
+    bytes: &[u8],
+) -> Result<bool, AllocError> {
+    let (units, fault) = read_all(alloc, None, pieces)?;
+    let again = written(alloc, version, units.as_slice())?;
+    Ok(fault.is_none() && again.as_slice() == bytes)
+}
+
+/// Whether they come back from these bytes, cut at this place.
 fn comes_back(
     alloc: Global,
     version: Version,
@@ -67,9 +80,7 @@ fn comes_back(
     let mut pieces = Vec::new(alloc);
     pieces.push(first.to_vec(alloc)?)?;
     pieces.push(second.to_vec(alloc)?)?;
-    let (units, fault) = read_all(alloc, None, pieces.as_slice())?;
-    let again = written(alloc, version, units.as_slice())?;
-    Ok(fault.is_none() && again.as_slice() == bytes)
+    are_read(alloc, version, pieces.as_slice(), bytes)
 }
 
 /// The same for the bytes one by one.
@@ -78,9 +89,7 @@ fn comes_back_by_bytes(alloc: Global, version: Version, bytes: &[u8]) -> Result<
     for byte in bytes {
         pieces.push([*byte].to_vec(alloc)?)?;
     }
-    let (units, fault) = read_all(alloc, None, pieces.as_slice())?;
-    let again = written(alloc, version, units.as_slice())?;
-    Ok(fault.is_none() && again.as_slice() == bytes)
+    are_read(alloc, version, pieces.as_slice(), bytes)
 }
 
 /// Whether they come back in every cutting into two pieces, and byte by byte.
@@ -117,13 +126,17 @@ pub(crate) fn first_fault(
 
 #[test]
 fn units_in_every_cutting(rt: HostRuntime) -> Result<(), Fail> {
-    assert!(rt; always_comes_back(rt.alloc(), Version::V1, &SERIAL_NOTIFY)?);
-    assert!(rt; always_comes_back(rt.alloc(), Version::V1, &SERIAL_QUERY)?);
-    assert!(rt; always_comes_back(rt.alloc(), Version::V1, &RESET_QUERY)?);
-    assert!(rt; always_comes_back(rt.alloc(), Version::V1, &ANSWER)?);
-    assert!(rt; always_comes_back(rt.alloc(), Version::V1, &ANNOUNCEMENT)?);
-    assert!(rt; always_comes_back(rt.alloc(), Version::V1, &CACHE_RESET)?);
-    assert!(rt; always_comes_back(rt.alloc(), Version::V1, &ERROR_REPORT)?);
+    for units in [
+        SERIAL_NOTIFY.as_slice(),
+        &SERIAL_QUERY,
+        &RESET_QUERY,
+        &ANSWER,
+        &ANNOUNCEMENT,
+        &CACHE_RESET,
+        &ERROR_REPORT,
+    ] {
+        assert!(rt; always_comes_back(rt.alloc(), Version::V1, units)?);
+    }
     Ok(())
 }
 
@@ -183,10 +196,8 @@ fn reserved_bits(rt: HostRuntime) -> Result<(), Fail> {
     unit[11] = 0xff;
     let mut pieces = Vec::new(rt.alloc());
     pieces.push(unit.as_slice().to_vec(rt.alloc())?)?;
-    let (units, fault) = read_all(rt.alloc(), None, pieces.as_slice())?;
-    assert!(rt; fault == None);
-    let again = written(rt.alloc(), Version::V1, units.as_slice())?;
-    assert!(rt; again.as_slice() == ANNOUNCEMENT.as_slice());
+    let is_same = are_read(rt.alloc(), Version::V1, pieces.as_slice(), &ANNOUNCEMENT)?;
+    assert!(rt; is_same);
     Ok(())
 }
 
@@ -365,30 +376,35 @@ fn end_and_failure_of_a_reader(rt: HostRuntime) {
     assert!(rt; ReadFault::ReadFailed.number() == 8);
 }
 
+/// Whether a writer of so many calls gets as many bytes of a unit of 20, and fails where they are fewer.
+fn is_written(alloc: Global, unit: &Unit, calls: u8) -> bool {
+    if !unit.fits(Version::V1) {
+        return false;
+    }
+    let mut out = Counted::new(Narrow {
+        taken: Vec::new(alloc),
+        calls,
+        is_flushed: false,
+    });
+    let written = write_unit(unit, &mut out);
+    let all = bytes(wire::V);
+    written.is_ok() == (calls == 20)
+        && all.as_slice().get(..usize::from(calls)) == Some(out.device().taken.as_slice())
+        && out.failures() == (if calls == 20 { 0 } else { 1 })
+}
+
 #[test]
 fn units_to_a_writer(rt: HostRuntime) -> Result<(), Fail> {
-    let vrp = Vrp::new(IpPrefix::parse("192.0.2.0/24")?, 24, Asn(64496))?;
     let unit = Unit::Prefix {
         announce: true,
-        vrp,
+        vrp: payload("192.0.2.0/24", 24, 64496)?,
     };
     let mut whole = Counted::new(Vec::new(rt.alloc()));
     assert!(rt; write_unit(&unit, &mut whole).is_ok());
-    assert!(rt; whole.device().as_slice() == wire::bytes(wire::V).as_slice());
+    assert!(rt; whole.device().as_slice() == bytes(wire::V).as_slice());
     assert!(rt; (whole.calls(), whole.failures()) == (1, 0));
     for calls in 0..=20u8 {
-        let mut out = Counted::new(Narrow {
-            taken: Vec::new(rt.alloc()),
-            calls,
-            is_flushed: false,
-        });
-        let written = write_unit(&unit, &mut out);
-        assert!(rt; written.is_ok() == (calls == 20));
-        assert!(rt;
-            wire::bytes(wire::V).as_slice().get(..usize::from(calls))
-                == Some(out.device().taken.as_slice())
-        );
-        assert!(rt; out.failures() == (if calls == 20 { 0 } else { 1 }));
+        assert!(rt; is_written(rt.alloc(), &unit, calls), "{calls}");
     }
     Ok(())
 }

@@ -1,0 +1,7 @@
+//! Values that the crates of examples share: bytes from hexadecimal text, payloads of ROAs, units, and sets of payloads.
+#![tactic(auto)]
+
+pub mod hex;
+pub mod payloads;
+pub mod sets;
+pub mod units;

@@ -1,0 +1,10 @@
+//! Examples of units, which are the tests of the public items of `rtr_pdu`: values of the standards, and each public call once on its happy
+//! path. They stand apart, as a crate with tests is proved twice.
+#![tactic(auto)]
+
+#[cfg(test)]
+mod counted;
+#[cfg(test)]
+mod units;
+#[cfg(test)]
+mod units_v0;

@@ -1,0 +1,12 @@
+//! Examples of routers, which are the tests of the public items of `rtr_ends` that ask: values of the standards, and each public call once on
+//! its happy path. They stand apart, as a crate with tests is proved twice.
+#![tactic(auto)]
+
+#[cfg(test)]
+mod play;
+#[cfg(test)]
+mod router_cells;
+#[cfg(test)]
+mod routers;
+#[cfg(test)]
+mod scripts;

@@ -1,0 +1,139 @@
+//! Scripts of what happens at a router, and one function that plays them.
+use example_values::hex::Bytes;
+use example_values::units::bytes_in;
+use prefixes::{IpPrefix, Route};
+use rtr_ends::laws::router_has_room;
+use rtr_ends::{AskFault, Link, Router};
+use rtr_pdu::Version;
+use std::alloc::AllocGlobal;
+use std::process::Abort;
+use vrps::{OriginState, Serial};
+
+/// What happens at a router, and what has to come of it.
+pub(crate) enum Step {
+    Speaks(Version),
+    Connects(u64),
+    /// These units come, one after the other, and all of each is taken.
+    Takes(&'static [&'static str], u64),
+    /// Nothing of this unit is taken.
+    Leaves(&'static str, u64),
+    /// These units are to be pulled, and no more.
+    Sends(&'static str),
+    /// It is asked to put its question.
+    Asks(Result<(), AskFault>),
+    Ticks(u64),
+    /// The connection is closed.
+    Closes(u64),
+    /// It wants to be called again at this moment.
+    IsDue(u64),
+    HasBytes(bool),
+    HasLink(Link),
+    /// So many records are committed, under this session and serial of this version.
+    Holds(usize, Version, u16, u32),
+    HoldsNothing,
+    /// A route of this prefix and AS has this state.
+    Judges(&'static str, u32, OriginState),
+}
+
+/// Whether all of these units is taken.
+fn takes(router: &mut Router, version: Version, units: &[&str], now: u64) -> bool {
+    for unit in units {
+        let piece = bytes_in(version.number(), unit);
+        if router.receive(piece.as_slice(), now) != piece.len() {
+            return false;
+        }
+    }
+    true
+}
+
+/// Whether these bytes, and no more, are to be pulled.
+pub(crate) fn sends(router: &mut Router, expected: &Bytes) -> bool {
+    let mut room = [0u8; 64];
+    if router.has_bytes() == expected.is_empty() {
+        return false;
+    }
+    let count = router.pull(&mut room);
+    room.get(..count) == Some(expected.as_slice()) && !router.has_bytes()
+}
+
+/// Whether so many records are committed, under this session and serial of this version.
+pub(crate) fn holds(
+    router: &Router,
+    records: usize,
+    version: Version,
+    session: u16,
+    serial: u32,
+) -> bool {
+    router_has_room(router);
+    router.table().len() == records
+        && router.committed() == Some((version, session, Serial(serial)))
+}
+
+fn judges(router: &Router, text: &str, asn: u32, state: OriginState) -> bool {
+    match IpPrefix::parse(text) {
+        Err(_) => false,
+        Ok(prefix) => {
+            let origin = Some(asn);
+            router.route_state(&Route { prefix, origin }) == state
+        }
+    }
+}
+
+/// Whether a router has what it has to have.
+fn stands(router: &Router, step: &Step) -> bool {
+    match step {
+        Step::IsDue(moment) => router.due() == Some(*moment),
+        Step::HasBytes(has) => router.has_bytes() == *has,
+        Step::HasLink(link) => router.link() == *link,
+        Step::Holds(records, version, session, serial) => {
+            holds(router, *records, *version, *session, *serial)
+        }
+        Step::HoldsNothing => router.table().is_empty() && router.committed().is_none(),
+        Step::Judges(text, asn, state) => judges(router, text, *asn, *state),
+        _ => false,
+    }
+}
+
+/// Whether a step goes as it has to. Units are spelled in version 1, and come and go as they are in this version.
+fn goes(router: &mut Router, version: Version, step: &Step) -> bool {
+    match step {
+        Step::Speaks(version) => router.speak(*version),
+        Step::Connects(now) => router.connect(*now),
+        Step::Ticks(now) => router.tick(*now),
+        Step::Closes(now) => router.closed(*now),
+        Step::Takes(units, now) => return takes(router, version, units, *now),
+        Step::Leaves(unit, now) => {
+            return router.receive(bytes_in(version.number(), unit).as_slice(), *now) == 0;
+        }
+        Step::Sends(units) => return sends(router, &bytes_in(version.number(), units)),
+        Step::Asks(answer) => return router.ask() == *answer,
+        _ => return stands(router, step),
+    }
+    true
+}
+
+/// Plays steps of a script of this name.
+pub(crate) fn play<R: Abort>(
+    rt: &R,
+    router: &mut Router,
+    version: Version,
+    steps: &[Step],
+    name: &str,
+) {
+    for (place, step) in steps.iter().enumerate() {
+        assert!(rt; goes(router, version, step), "{name}, step {place}");
+    }
+}
+
+/// A router of this version at which these steps have been played.
+pub(crate) fn played<R: AllocGlobal + Abort>(
+    rt: &R,
+    version: Version,
+    steps: &[Step],
+    name: &str,
+) -> Router {
+    let mut router = Router::new(rt.alloc());
+    router.speak(version);
+    play(rt, &mut router, version, steps, name);
+    router
+}
