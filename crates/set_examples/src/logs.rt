@@ -1,10 +1,11 @@
 //! Logs of versions.
-use crate::sets::{Rows, V, W, set_of};
+use crate::sets::is_change;
+use example_values::sets::{Rows, V, W, set_of};
 use std::alloc::Global;
 use std::process::Abort;
 use std::rc::Rc;
 use std::test::Fail;
-use vrps::{Change, Published, Serial, Since, VersionLog, VersionStore, VrpSet, WholeLog};
+use vrps::{Published, Serial, Since, VersionLog, VersionStore, VrpSet, WholeLog};
 
 /// Publishes the set of these rows.
 fn publish<S: VersionStore>(store: &mut S, alloc: Global, rows: Rows) -> Result<Published, Fail> {
@@ -41,14 +42,7 @@ fn expect_changes<R: AllocGlobal + Abort, S: VersionStore>(
         let Since::Change(change) = log.since(Serial(serial))? else {
             return Err(Fail::from("no change"));
         };
-        assert!(rt;
-            change.withdraw.is_same(&set_of(alloc, withdraw)?),
-            "{serial}"
-        );
-        assert!(rt;
-            change.announce.is_same(&set_of(alloc, announce)?),
-            "{serial}"
-        );
+        assert!(rt; is_change(alloc, &change, withdraw, announce)?, "{serial}");
     }
     for serial in [4, 8, 0, 2147483655] {
         assert!(rt;
@@ -65,32 +59,42 @@ fn a_log_knows_what_changed_since_a_version(rt: HostRuntime) -> Result<(), Fail>
     expect_changes(&rt, &mut WholeLog::new(rt.alloc(), 0x1234, 4, 2)?)
 }
 
-/// Publishes sets from serial 10 on, and asks for what changed since versions.
+/// Whether this is answered: what is withdrawn and announced, or nothing where the version is not known.
+fn is_answer(alloc: Global, since: &Since, want: Option<(Rows, Rows)>) -> Result<bool, Fail> {
+    match (since, want) {
+        (Since::Unknown, None) => Ok(true),
+        (Since::Change(change), Some((withdraw, announce))) => {
+            is_change(alloc, change, withdraw, announce)
+        }
+        _ => Ok(false),
+    }
+}
+
+/// Sets, and what is answered for versions, of which the first has serial 10.
+const COMES_AND_GOES: &[(&[Rows], &[(u32, Option<(Rows, Rows)>)])] = &[
+    (
+        &[&[], &[V], &[V, W], &[W]],
+        &[(10, Some((&[], &[W]))), (11, Some((&[V], &[W])))],
+    ),
+    (
+        &[&[V], &[], &[V]],
+        &[(10, Some((&[], &[]))), (11, Some((&[], &[V]))), (13, None)],
+    ),
+];
+
+/// Publishes sets, and asks for what changed since versions.
 fn expect_since<R: AllocGlobal + Abort, S: VersionStore>(
     rt: &R,
     log: &mut S,
     sets: &[Rows],
     table: &[(u32, Option<(Rows, Rows)>)],
 ) -> Result<(), Fail> {
-    let alloc = rt.alloc();
     for rows in sets {
-        let _published = publish(log, alloc, rows)?;
+        let _published = publish(log, rt.alloc(), rows)?;
     }
     for &(serial, want) in table {
-        match (log.since(Serial(serial))?, want) {
-            (Since::Unknown, None) => {}
-            (Since::Change(change), Some((withdraw, announce))) => {
-                assert!(rt;
-                    change.withdraw.is_same(&set_of(alloc, withdraw)?),
-                    "{serial}"
-                );
-                assert!(rt;
-                    change.announce.is_same(&set_of(alloc, announce)?),
-                    "{serial}"
-                );
-            }
-            _ => return Err(Fail::from("another answer")),
-        }
+        let since = log.since(Serial(serial))?;
+        assert!(rt; is_answer(rt.alloc(), &since, want)?, "{serial}");
     }
     Ok(())
 }
@@ -98,21 +102,7 @@ fn expect_since<R: AllocGlobal + Abort, S: VersionStore>(
 #[test]
 fn what_comes_and_goes_is_in_neither_list(rt: HostRuntime) -> Result<(), Fail> {
     let alloc = rt.alloc();
-    let on: [Rows; 4] = [&[], &[V], &[V, W], &[W]];
-    let on_table: [(u32, Option<(Rows, Rows)>); 2] = [
-        (10, Some((&[], &[W]))),
-        (11, Some((&[V], &[W]))),
-    ];
-    let back: [Rows; 3] = [&[V], &[], &[V]];
-    let back_table: [(u32, Option<(Rows, Rows)>); 3] = [
-        (10, Some((&[], &[]))),
-        (11, Some((&[], &[V]))),
-        (13, None),
-    ];
-    for (sets, table) in [
-        (on.as_slice(), on_table.as_slice()),
-        (back.as_slice(), back_table.as_slice()),
-    ] {
+    for &(sets, table) in COMES_AND_GOES {
         expect_since(&rt, &mut VersionLog::new(alloc, 1, 10, 8)?, sets, table)?;
         expect_since(&rt, &mut WholeLog::new(alloc, 1, 10, 8)?, sets, table)?;
     }
@@ -155,37 +145,43 @@ fn a_log_keeps_65536_versions(rt: HostRuntime) -> Result<(), Fail> {
     expect_long(&rt, &mut WholeLog::new(rt.alloc(), 1, 0, 65536)?)
 }
 
+/// Whether the step of this place is kept, and is this change.
+fn is_kept(
+    log: &VersionLog,
+    alloc: Global,
+    place: usize,
+    step: Option<(Rows, Rows)>,
+) -> Result<bool, Fail> {
+    match (log.kept(place), step) {
+        (None, None) => Ok(true),
+        (Some(kept), Some((withdraw, announce))) => is_change(alloc, kept, withdraw, announce),
+        _ => Ok(false),
+    }
+}
+
 #[test]
 fn kept_steps_are_lent(rt: HostRuntime) -> Result<(), Fail> {
-    let alloc = rt.alloc();
-    let mut log = VersionLog::new(alloc, 1, 10, 2)?;
+    let mut log = VersionLog::new(rt.alloc(), 1, 10, 2)?;
     assert!(rt; log.kept(0).is_none());
     let sets: [Rows; 4] = [&[], &[V], &[V, W], &[W]];
     for rows in sets {
-        let _published = publish(&mut log, alloc, rows)?;
+        let _published = publish(&mut log, rt.alloc(), rows)?;
     }
-    let steps: [(Rows, Rows); 2] = [(&[], &[W]), (&[V], &[])];
-    for (place, (withdraw, announce)) in steps.iter().enumerate() {
-        let Some(step) = log.kept(place) else {
-            return Err(Fail::from("no step"));
-        };
-        assert!(rt; step.withdraw.is_same(&set_of(alloc, withdraw)?), "{place}");
-        assert!(rt; step.announce.is_same(&set_of(alloc, announce)?), "{place}");
+    let steps: [Option<(Rows, Rows)>; 3] = [Some((&[], &[W])), Some((&[V], &[])), None];
+    for (place, &step) in steps.iter().enumerate() {
+        assert!(rt; is_kept(&log, rt.alloc(), place, step)?, "{place}");
     }
-    assert!(rt; log.kept(2).is_none());
     Ok(())
 }
 
 #[test]
 fn serials_of_a_log_go_round(rt: HostRuntime) -> Result<(), Fail> {
-    let alloc = rt.alloc();
-    let mut log = VersionLog::new(alloc, 0x1234, 4294967295, 2)?;
-    assert!(rt; publish(&mut log, alloc, &[V])? == Published::New(Serial(4294967295)));
-    assert!(rt; publish(&mut log, alloc, &[V, W])? == Published::New(Serial(0)));
-    let Since::Change(change) = log.since(Serial(4294967295))? else {
-        return Err(Fail::from("no change"));
-    };
-    assert!(rt; change.withdraw.is_empty());
-    assert!(rt; change.announce.is_same(&set_of(alloc, &[W])?));
+    let mut log = VersionLog::new(rt.alloc(), 0x1234, 4294967295, 2)?;
+    let published: [(Rows, u32); 2] = [(&[V], 4294967295), (&[V, W], 0)];
+    for (rows, serial) in published {
+        assert!(rt; publish(&mut log, rt.alloc(), rows)? == Published::New(Serial(serial)));
+    }
+    let since = log.since(Serial(4294967295))?;
+    assert!(rt; is_answer(rt.alloc(), &since, Some((&[], &[W])))?);
     Ok(())
 }

@@ -1,5 +1,5 @@
 //! How many groups are read for a route. The numbers are worked out by hand, from the places that a binary search halves.
-use crate::sets::{Row, set_of};
+use example_values::sets::{Row, set_of};
 use prefixes::{IpPrefix, Route};
 use std::process::Abort;
 use std::test::Fail;

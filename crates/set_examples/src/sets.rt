@@ -1,36 +1,59 @@
-use prefixes::{Asn, IpPrefix, Vrp};
+use example_values::sets::{Row, Rows, V, W, payload, set_of};
 use std::alloc::Global;
+use std::process::Abort;
 use std::test::Fail;
 use vrps::{
     Change, Gathered, PathFault, Segment, SegmentKind, Serial, SetFault, VrpSet, origin_of_path,
 };
 
-pub(crate) fn payload(text: &str, max_len: u8, asn: u32) -> Result<Vrp, Fail> {
-    Ok(Vrp::new(IpPrefix::parse(text)?, max_len, Asn(asn))?)
+const X: Row = ("192.0.2.0/24", 25, 64496);
+
+const Y: Row = ("2001:db8::/32", 48, 64496);
+
+const Z: Row = ("10.0.0.0/8", 8, 1);
+
+/// Whether a set has these rows and no others, in their order.
+pub(crate) fn is_set(alloc: Global, set: &VrpSet, rows: &[Row]) -> Result<bool, Fail> {
+    Ok(set.as_slice() == set_of(alloc, rows)?.as_slice())
 }
 
-pub(crate) fn set_of(alloc: Global, rows: &[(&str, u8, u32)]) -> Result<VrpSet, Fail> {
-    let mut list = Vec::new(alloc);
-    for &(text, max_len, asn) in rows {
-        list.push(payload(text, max_len, asn)?)?;
+/// Whether a change withdraws these rows and announces those.
+pub(crate) fn is_change(
+    alloc: Global,
+    change: &Change,
+    withdraw: Rows,
+    announce: Rows,
+) -> Result<bool, Fail> {
+    Ok(is_set(alloc, &change.withdraw, withdraw)? && is_set(alloc, &change.announce, announce)?)
+}
+
+/// Whether a set has these records in this order.
+fn ascends(set: &VrpSet, rows: &[Row]) -> Result<bool, Fail> {
+    for (vrp, &(text, max_len, asn)) in set.iter().zip(rows) {
+        if *vrp != payload(text, max_len, asn)? || !set.contains(vrp) {
+            return Ok(false);
+        }
     }
-    Ok(VrpSet::from_list(list)?)
+    Ok(set.len() == rows.len())
+}
+
+/// Whether a set is the same where it is duplicated, and as a list.
+fn is_duplicated(set: &VrpSet) -> Result<bool, Fail> {
+    let list = set.duplicate()?.into_list();
+    Ok(set.duplicate()?.as_slice() == set.as_slice() && list.as_slice() == set.as_slice())
 }
 
 #[test]
 fn sets_ascend(rt: HostRuntime) -> Result<(), Fail> {
-    let set = set_of(
-        rt.alloc(),
-        &[
-            ("2001:db8::/32", 48, 1),
-            ("10.0.0.0/8", 8, 2),
-            ("192.0.2.0/24", 24, 1),
-            ("10.0.0.0/8", 8, 1),
-            ("10.0.0.0/8", 8, 2),
-            ("10.0.0.0/9", 9, 1),
-            ("2001:db8::/32", 48, 1),
-        ],
-    )?;
+    let rows = [
+        ("2001:db8::/32", 48, 1),
+        ("10.0.0.0/8", 8, 2),
+        ("192.0.2.0/24", 24, 1),
+        ("10.0.0.0/8", 8, 1),
+        ("10.0.0.0/8", 8, 2),
+        ("10.0.0.0/9", 9, 1),
+        ("2001:db8::/32", 48, 1),
+    ];
     let ascending = [
         ("10.0.0.0/8", 8, 1),
         ("10.0.0.0/8", 8, 2),
@@ -38,87 +61,87 @@ fn sets_ascend(rt: HostRuntime) -> Result<(), Fail> {
         ("192.0.2.0/24", 24, 1),
         ("2001:db8::/32", 48, 1),
     ];
-    assert!(rt; set.len() == ascending.len());
+    let set = set_of(rt.alloc(), &rows)?;
+    assert!(rt; ascends(&set, &ascending)?);
     assert!(rt; !set.is_empty());
     assert!(rt; VrpSet::empty(rt.alloc()).is_empty());
-    for (vrp, (text, max_len, asn)) in set.iter().zip(ascending) {
-        assert!(rt; *vrp == payload(text, max_len, asn)?, "{text} {asn}");
-        assert!(rt; set.contains(vrp), "{text} {asn}");
-    }
     assert!(rt; !set.contains(&payload("10.0.0.0/8", 9, 1)?));
-    assert!(rt; set.duplicate()?.as_slice() == set.as_slice());
-    let list = set.duplicate()?.into_list();
-    assert!(rt; list.as_slice() == set.as_slice());
+    assert!(rt; is_duplicated(&set)?);
     Ok(())
 }
 
-pub(crate) type Row = (&'static str, u8, u32);
+/// A set, another one, and what is withdrawn and announced between them.
+const BETWEEN: &[(Rows, Rows, Rows, Rows)] = &[
+    (&[], &[], &[], &[]),
+    (&[], &[V, W], &[], &[V, W]),
+    (&[V, W], &[], &[V, W], &[]),
+    (&[V, W], &[V, W], &[], &[]),
+    (&[V], &[V, W], &[], &[W]),
+    (&[V, W], &[W], &[V], &[]),
+    (&[V, Y], &[Z, X, W], &[V, Y], &[Z, X, W]),
+    (&[Z, V, W, Y], &[V, X, Y], &[Z, W], &[X]),
+    (&[X], &[V, Y], &[X], &[V, Y]),
+];
 
-pub(crate) type Rows = &'static [Row];
+/// The change between the sets of these rows.
+fn between(alloc: Global, old: Rows, new: Rows) -> Result<Change, Fail> {
+    let (old, new) = (set_of(alloc, old)?, set_of(alloc, new)?);
+    Ok(Change::between(alloc, &old, &new)?)
+}
 
-pub(crate) const V: Row = ("192.0.2.0/24", 24, 64496);
+/// Whether a change leads from the set of these rows to that of those.
+fn leads(alloc: Global, change: &Change, old: Rows, new: Rows) -> Result<bool, Fail> {
+    let set = change.apply(alloc, &set_of(alloc, old)?)?;
+    is_set(alloc, &set, new)
+}
 
-pub(crate) const W: Row = ("198.51.100.0/24", 24, 64497);
-
-pub(crate) const X: Row = ("192.0.2.0/24", 25, 64496);
-
-pub(crate) const Y: Row = ("2001:db8::/32", 48, 64496);
-
-pub(crate) const Z: Row = ("10.0.0.0/8", 8, 1);
+fn expect_between<R: AllocGlobal + Abort>(
+    rt: &R,
+    cases: &[(Rows, Rows, Rows, Rows)],
+) -> Result<(), Fail> {
+    for (index, &(old, new, withdraw, announce)) in cases.iter().enumerate() {
+        let change = between(rt.alloc(), old, new)?;
+        assert!(rt;
+            is_change(rt.alloc(), &change, withdraw, announce)?,
+            "{index}"
+        );
+        assert!(rt; leads(rt.alloc(), &change, old, new)?, "{index}");
+    }
+    Ok(())
+}
 
 #[test]
 fn changes_lead_from_set_to_set(rt: HostRuntime) -> Result<(), Fail> {
-    let alloc = rt.alloc();
-    let cases: [(Rows, Rows, Rows, Rows); 9] = [
-        (&[], &[], &[], &[]),
-        (&[], &[V, W], &[], &[V, W]),
-        (&[V, W], &[], &[V, W], &[]),
-        (&[V, W], &[V, W], &[], &[]),
-        (&[V], &[V, W], &[], &[W]),
-        (&[V, W], &[W], &[V], &[]),
-        (&[V, Y], &[Z, X, W], &[V, Y], &[Z, X, W]),
-        (&[Z, V, W, Y], &[V, X, Y], &[Z, W], &[X]),
-        (&[X], &[V, Y], &[X], &[V, Y]),
-    ];
-    for (index, (old, new, withdrawn, announced)) in cases.iter().enumerate() {
-        let (s, t) = (set_of(alloc, old)?, set_of(alloc, new)?);
-        let change = Change::between(alloc, &s, &t)?;
-        let withdraw = set_of(alloc, withdrawn)?;
-        let announce = set_of(alloc, announced)?;
-        assert!(rt;
-            change.withdraw.as_slice() == withdraw.as_slice(),
-            "{index}"
-        );
-        assert!(rt;
-            change.announce.as_slice() == announce.as_slice(),
-            "{index}"
-        );
-        let led = change.apply(alloc, &s)?;
-        assert!(rt; led.as_slice() == t.as_slice(), "{index}");
+    expect_between(&rt, BETWEEN)
+}
+
+/// A set, what is withdrawn and announced, and the set to which that leads.
+const APPLIED: &[(Rows, Rows, Rows, Rows)] = &[
+    (&[], &[V], &[W], &[W]),
+    (&[V, W], &[X], &[Y], &[V, W, Y]),
+    (&[W], &[], &[W], &[W]),
+    (&[V], &[V], &[V], &[V]),
+    (&[Z, V, X, W], &[Z, X], &[X, Y], &[V, X, W, Y]),
+    (&[V, W], &[V, W, Y], &[Z], &[Z]),
+];
+
+fn expect_applied<R: AllocGlobal + Abort>(
+    rt: &R,
+    cases: &[(Rows, Rows, Rows, Rows)],
+) -> Result<(), Fail> {
+    for (index, &(old, withdraw, announce, new)) in cases.iter().enumerate() {
+        let change = Change {
+            withdraw: set_of(rt.alloc(), withdraw)?,
+            announce: set_of(rt.alloc(), announce)?,
+        };
+        assert!(rt; leads(rt.alloc(), &change, old, new)?, "{index}");
     }
     Ok(())
 }
 
 #[test]
 fn changes_apply_to_any_set(rt: HostRuntime) -> Result<(), Fail> {
-    let alloc = rt.alloc();
-    let cases: [(Rows, Rows, Rows, Rows); 6] = [
-        (&[], &[V], &[W], &[W]),
-        (&[V, W], &[X], &[Y], &[V, W, Y]),
-        (&[W], &[], &[W], &[W]),
-        (&[V], &[V], &[V], &[V]),
-        (&[Z, V, X, W], &[Z, X], &[X, Y], &[V, X, W, Y]),
-        (&[V, W], &[V, W, Y], &[Z], &[Z]),
-    ];
-    for (index, (old, withdrawn, announced, new)) in cases.iter().enumerate() {
-        let change = Change {
-            withdraw: set_of(alloc, withdrawn)?,
-            announce: set_of(alloc, announced)?,
-        };
-        let led = change.apply(alloc, &set_of(alloc, old)?)?;
-        assert!(rt; led.as_slice() == set_of(alloc, new)?.as_slice(), "{index}");
-    }
-    Ok(())
+    expect_applied(&rt, APPLIED)
 }
 
 #[test]
@@ -192,29 +215,33 @@ fn the_final_segment_tells_the_origin(rt: HostRuntime) -> Result<(), Fail> {
     Ok(())
 }
 
+/// Two lists of rows, and whether they make the same set.
+const SAME: &[(Rows, Rows, bool)] = &[
+    (&[V, W], &[W, V, W], true),
+    (&[V, W], &[V], false),
+    (&[V, W], &[V, X], false),
+    (&[], &[], true),
+];
+
 #[test]
 fn equal_sets_are_same(rt: HostRuntime) -> Result<(), Fail> {
-    let alloc = rt.alloc();
-    let set = set_of(alloc, &[V, W])?;
-    assert!(rt; set.is_same(&set_of(alloc, &[W, V, W])?));
-    assert!(rt; !set.is_same(&set_of(alloc, &[V])?));
-    assert!(rt; !set.is_same(&set_of(alloc, &[V, X])?));
-    assert!(rt; VrpSet::empty(alloc).is_same(&set_of(alloc, &[])?));
+    for &(rows, others, is_same) in SAME {
+        let set = set_of(rt.alloc(), rows)?;
+        assert!(rt; set.is_same(&set_of(rt.alloc(), others)?) == is_same);
+    }
+    assert!(rt; VrpSet::empty(rt.alloc()).is_same(&set_of(rt.alloc(), &[])?));
     Ok(())
 }
 
 #[test]
 fn gathered_records_make_a_set(rt: HostRuntime) -> Result<(), Fail> {
-    let alloc = rt.alloc();
-    let mut gathered = Gathered::new(alloc);
-    let v = payload("192.0.2.0/24", 24, 64496)?;
-    let w = payload("198.51.100.0/24", 24, 64497)?;
-    assert!(rt; gathered.insert(w)?);
-    assert!(rt; gathered.insert(v)?);
-    assert!(rt; !gathered.insert(w)?);
-    assert!(rt; gathered.contains(&v));
+    let mut gathered = Gathered::new(rt.alloc());
+    for ((text, max_len, asn), is_new) in [(W, true), (V, true), (W, false)] {
+        assert!(rt; gathered.insert(payload(text, max_len, asn)?)? == is_new);
+    }
+    assert!(rt; gathered.contains(&payload("192.0.2.0/24", 24, 64496)?));
     assert!(rt; gathered.len() == 2);
-    let set = gathered.into_set(alloc)?;
-    assert!(rt; set.is_same(&set_of(alloc, &[V, W])?));
+    let set = gathered.into_set(rt.alloc())?;
+    assert!(rt; set.is_same(&set_of(rt.alloc(), &[V, W])?));
     Ok(())
 }

@@ -1,107 +1,10 @@
 //! The states of routes.
-use crate::sets::{Row, set_of};
+use example_values::sets::{Row, set_of};
 use prefixes::{IpPrefix, Route};
+use std::alloc::Global;
 use std::process::Abort;
 use std::test::Fail;
 use vrps::{OriginIndex, OriginState, VrpSet};
-
-#[test]
-fn routes_have_states(rt: HostRuntime) -> Result<(), Fail> {
-    let with_as_0 = set_of(
-        rt.alloc(),
-        &[("192.0.2.0/24", 25, 64496), ("192.0.2.0/24", 24, 0)],
-    )?;
-    let nested = set_of(rt.alloc(), &[("10.0.0.0/8", 24, 1), ("10.1.0.0/16", 16, 2)])?;
-    for (set, text, origin, want) in [
-        (&with_as_0, "192.0.2.0/25", Some(64496), OriginState::Valid),
-        (
-            &with_as_0,
-            "192.0.2.0/26",
-            Some(64496),
-            OriginState::Invalid,
-        ),
-        (&with_as_0, "192.0.2.0/24", None, OriginState::Invalid),
-        (&with_as_0, "192.0.2.0/24", Some(0), OriginState::Invalid),
-        (
-            &with_as_0,
-            "192.0.0.0/16",
-            Some(64496),
-            OriginState::NotFound,
-        ),
-        (&nested, "10.1.2.0/24", Some(1), OriginState::Valid),
-        (&nested, "10.1.0.0/16", Some(2), OriginState::Valid),
-        (&nested, "10.1.0.0/25", Some(1), OriginState::Invalid),
-        (&nested, "10.1.2.0/24", Some(2), OriginState::Invalid),
-        (&nested, "11.0.0.0/8", Some(1), OriginState::NotFound),
-    ] {
-        let index = OriginIndex::over(rt.alloc(), set)?;
-        let prefix = IpPrefix::parse(text)?;
-        assert!(rt; index.state(&Route { prefix, origin }) == want, "{text}");
-    }
-    Ok(())
-}
-
-#[test]
-fn covering_members_are_listed(rt: HostRuntime) -> Result<(), Fail> {
-    let alloc = rt.alloc();
-    let set = set_of(
-        alloc,
-        &[
-            ("::/0", 128, 1),
-            ("10.1.0.0/16", 16, 2),
-            ("10.0.0.0/8", 24, 1),
-            ("10.1.0.0/16", 16, 0),
-            ("0.0.0.0/0", 0, 3),
-            ("10.2.0.0/16", 16, 2),
-        ],
-    )?;
-    let index = OriginIndex::over(alloc, &set)?;
-    let cases: [(&str, &[Row]); 4] = [
-        (
-            "10.1.2.0/24",
-            &[
-                ("0.0.0.0/0", 0, 3),
-                ("10.0.0.0/8", 24, 1),
-                ("10.1.0.0/16", 16, 0),
-                ("10.1.0.0/16", 16, 2),
-            ],
-        ),
-        ("10.0.0.0/8", &[("0.0.0.0/0", 0, 3), ("10.0.0.0/8", 24, 1)]),
-        ("10.0.0.0/7", &[("0.0.0.0/0", 0, 3)]),
-        ("2001:db8::/32", &[("::/0", 128, 1)]),
-    ];
-    for (text, want) in cases {
-        let prefix = IpPrefix::parse(text)?;
-        let origin = Some(1);
-        let found = index.covering(alloc, &Route { prefix, origin })?;
-        assert!(rt;
-            found.as_slice() == set_of(alloc, want)?.as_slice(),
-            "{text}"
-        );
-    }
-    let nested = [("10.0.0.0/8", 24, 1), ("10.1.0.0/16", 16, 2)];
-    let both = OriginIndex::over(alloc, &set_of(alloc, &nested)?)?;
-    let prefix = IpPrefix::parse("10.1.2.0/24")?;
-    let found = both.covering(
-        alloc,
-        &Route {
-            prefix,
-            origin: None,
-        },
-    )?;
-    assert!(rt; found.as_slice() == set_of(alloc, &nested)?.as_slice());
-    let none = OriginIndex::over(alloc, &VrpSet::empty(alloc))?;
-    let prefix = IpPrefix::parse("10.0.0.0/8")?;
-    let found = none.covering(
-        alloc,
-        &Route {
-            prefix,
-            origin: None,
-        },
-    )?;
-    assert!(rt; found.is_empty());
-    Ok(())
-}
 
 /// Judges a table of routes over one set.
 fn expect_states<R: AllocGlobal + Abort>(
@@ -113,6 +16,104 @@ fn expect_states<R: AllocGlobal + Abort>(
     for &(text, origin, want) in table {
         let prefix = IpPrefix::parse(text)?;
         assert!(rt; index.state(&Route { prefix, origin }) == want, "{text}");
+    }
+    Ok(())
+}
+
+#[test]
+fn routes_have_states(rt: HostRuntime) -> Result<(), Fail> {
+    let with_as_0 = [("192.0.2.0/24", 25, 64496), ("192.0.2.0/24", 24, 0)];
+    let table = [
+        ("192.0.2.0/25", Some(64496), OriginState::Valid),
+        ("192.0.2.0/26", Some(64496), OriginState::Invalid),
+        ("192.0.2.0/24", None, OriginState::Invalid),
+        ("192.0.2.0/24", Some(0), OriginState::Invalid),
+        ("192.0.0.0/16", Some(64496), OriginState::NotFound),
+    ];
+    expect_states(&rt, &with_as_0, &table)?;
+    let nested = [("10.0.0.0/8", 24, 1), ("10.1.0.0/16", 16, 2)];
+    let table = [
+        ("10.1.2.0/24", Some(1), OriginState::Valid),
+        ("10.1.0.0/16", Some(2), OriginState::Valid),
+        ("10.1.0.0/25", Some(1), OriginState::Invalid),
+        ("10.1.2.0/24", Some(2), OriginState::Invalid),
+        ("11.0.0.0/8", Some(1), OriginState::NotFound),
+    ];
+    expect_states(&rt, &nested, &table)
+}
+
+/// Whether the members that cover a route of this prefix are these.
+fn covers(
+    alloc: Global,
+    index: &OriginIndex,
+    text: &str,
+    origin: Option<u32>,
+    want: &[Row],
+) -> Result<bool, Fail> {
+    let prefix = IpPrefix::parse(text)?;
+    let found = index.covering(alloc, &Route { prefix, origin })?;
+    Ok(found.as_slice() == set_of(alloc, want)?.as_slice())
+}
+
+/// Records, and routes with the members that cover them.
+const COVERED: &[(&[Row], &[(&str, Option<u32>, &[Row])])] = &[
+    (
+        &[
+            ("::/0", 128, 1),
+            ("10.1.0.0/16", 16, 2),
+            ("10.0.0.0/8", 24, 1),
+            ("10.1.0.0/16", 16, 0),
+            ("0.0.0.0/0", 0, 3),
+            ("10.2.0.0/16", 16, 2),
+        ],
+        &[
+            (
+                "10.1.2.0/24",
+                Some(1),
+                &[
+                    ("0.0.0.0/0", 0, 3),
+                    ("10.0.0.0/8", 24, 1),
+                    ("10.1.0.0/16", 16, 0),
+                    ("10.1.0.0/16", 16, 2),
+                ],
+            ),
+            (
+                "10.0.0.0/8",
+                Some(1),
+                &[("0.0.0.0/0", 0, 3), ("10.0.0.0/8", 24, 1)],
+            ),
+            ("10.0.0.0/7", Some(1), &[("0.0.0.0/0", 0, 3)]),
+            ("2001:db8::/32", Some(1), &[("::/0", 128, 1)]),
+        ],
+    ),
+    (
+        &[("10.0.0.0/8", 24, 1), ("10.1.0.0/16", 16, 2)],
+        &[(
+            "10.1.2.0/24",
+            None,
+            &[("10.0.0.0/8", 24, 1), ("10.1.0.0/16", 16, 2)],
+        )],
+    ),
+    (&[], &[("10.0.0.0/8", None, &[])]),
+];
+
+/// Asks for the members that cover routes over one set.
+fn expect_covered<R: AllocGlobal + Abort>(
+    rt: &R,
+    records: &[Row],
+    routes: &[(&str, Option<u32>, &[Row])],
+) -> Result<(), Fail> {
+    let index = OriginIndex::over(rt.alloc(), &set_of(rt.alloc(), records)?)?;
+    for &(text, origin, want) in routes {
+        assert!(rt; covers(rt.alloc(), &index, text, origin, want)?, "{text}");
+    }
+    Ok(())
+}
+
+#[test]
+fn covering_members_are_listed(rt: HostRuntime) -> Result<(), Fail> {
+    for &(records, routes) in COVERED {
+        expect_covered(&rt, records, routes)?;
     }
     Ok(())
 }
