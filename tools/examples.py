@@ -25,7 +25,7 @@ def read(path):
 def libraries():
     """The libraries of crates.txt with code of their own: those that are no program and hold more than tests."""
     names = [line.split(":")[0].split()[0] for line in read(f"{TOP}/crates.txt").splitlines() if line.split("#")[0].strip()]
-    return [it for it in names if not it.endswith("_examples") and os.path.isfile(f"{TOP}/crates/{it}/src/lib.rt")]
+    return [it for it in names if "example" not in it and os.path.isfile(f"{TOP}/crates/{it}/src/lib.rt")]
 
 
 def example_of(name):
