@@ -3,6 +3,7 @@ pub mod AnswerUnits
 pub mod AnsweringLaws
 pub mod ByteLists
 pub mod CacheRows
+pub mod CallRows
 pub mod CacheStateLaws
 pub mod CommitLaws
 pub mod ConsumedLaws
