@@ -3,11 +3,12 @@ pub mod AnswerUnits
 pub mod AnsweringLaws
 pub mod ByteLists
 pub mod CacheRows
-pub mod CallRows
 pub mod CacheStateLaws
+pub mod CallRows
 pub mod CommitLaws
 pub mod ConsumedLaws
 pub mod ConsumedUnits
+pub mod FaultRows
 pub mod FeedingLaws
 pub mod FetchStreamLaws
 pub mod FillingLaws
