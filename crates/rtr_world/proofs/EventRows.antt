@@ -24,9 +24,10 @@ use Rattle.rtr_ends.proofs.WholeAnswerRows.{v, v_ascends, cache, with_all_of, re
 use Rattle.rtr_world.specs.CatchUp.{HoldsNewest}
 use Rattle.rtr_world.specs.Claims.{OfAnother, told}
 use Rattle.rtr_world.specs.SideShown.{held_of}
+use Rattle.rtr_world.specs.declared.event.CatchFault.TheVariants as catch_faults
 use Rattle.rtr_world.specs.declared.event.WorldFault.TheVariants as faults
 use Rattle.rtr_world.specs.VersionPlaces.{position_of, version_place_of}
-use Rattle.rtr_world.specs.Events.{outcome_fault}
+use Rattle.rtr_world.specs.Events.{catch_fault_number, outcome_fault, world_fault_number}
 use Rattle.rtr_world.specs.History.{Done, SessionUsed, TooManyVersions, NoSuchRouter, Memory, Entry, after, refusal, may_refuse, moved, MayEnd, has_connection, is_near, room_for, room_since}
 use Rattle.rtr_world.specs.World.{Side, World, Event, Publish, Restart, On, RouterRestart, Speak, Connect, RouterSends, CacheGets, CacheSends, RouterGets, Cut, NotifyRouter, Ask, Tick, new_side, connects, router_sends, cache_gets, cache_sends, router_gets, router_restarts, speaks, cut, side_step, side_refused, settle, goes_through, settled, is_refused}
 
@@ -375,6 +376,11 @@ not_where_it_sends h = absurd (let e : false ≡ true = h in cc)
 told_as : (bytes : ℕ) (wanting : Option ℕ) → (outcome_fault (Done wanting) ≡ None) × (outcome_fault SessionUsed ≡ Some faults.SessionUsed) × (outcome_fault TooManyVersions ≡ Some faults.TooManyVersions)
     × (outcome_fault NoSuchRouter ≡ Some faults.NoSuchRouter) × (outcome_fault (Memory bytes wanting) ≡ Some faults.Memory)
 told_as bytes wanting = (refl, refl, refl, refl, refl)
+
+-- Each refusal has a number of its own, and so has each cause that catching up did not succeed.
+numbers : (world_fault_number faults.SessionUsed ≡ 1) × (world_fault_number faults.TooManyVersions ≡ 2) × (world_fault_number faults.NoSuchRouter ≡ 3) × (world_fault_number faults.Memory ≡ 4)
+    × (catch_fault_number catch_faults.Memory ≡ 1) × (catch_fault_number catch_faults.NoData ≡ 2) × (catch_fault_number catch_faults.NoSuchRouter ≡ 3)
+numbers = (refl, refl, refl, refl, refl, refl, refl)
 
 -- What a router was told: the last that went through counts, of this router alone, and not what was told before it restarted.
 abbrev went : Event → Entry
