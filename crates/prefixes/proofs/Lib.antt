@@ -2,6 +2,7 @@ pub mod AddressNumbers
 pub mod Addresses
 pub mod Basics
 pub mod Decimals
+pub mod FaultRows
 pub mod HexGroups
 pub mod Lacks
 pub mod LongestRun
