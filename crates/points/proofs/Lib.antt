@@ -1,5 +1,6 @@
 pub mod Deciding
 pub mod Exactly
+pub mod FaultRows
 pub mod InSteps
 pub mod Maps
 pub mod Named
