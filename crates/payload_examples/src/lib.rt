@@ -15,6 +15,4 @@ mod prefix_texts;
 #[cfg(test)]
 mod roas;
 #[cfg(test)]
-mod spelled;
-#[cfg(test)]
 mod written_roas;

@@ -1,7 +1,8 @@
 //! ROAs by hand.
 
-use crate::spelled::{NO_BITS, ONE_PREFIX, SUPERFLUOUS, WITH_MAXIMUM, bytes};
 use der_lite::{Bits, DerFaultKind, DerWriter};
+use example_values::hex::bytes;
+use example_values::payloads::{NO_BITS, ONE_PREFIX, SUPERFLUOUS, WITH_MAXIMUM};
 use payloads::{GrammarFaultKind as Kind, PayloadFault, Roa, RoaEntry, decode_roa, encode_roa};
 use prefixes::{Asn, IpPrefix, Prefix, PrefixFault, V4, Vrp};
 use std::alloc::Global;

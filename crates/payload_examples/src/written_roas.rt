@@ -1,7 +1,8 @@
 //! ROAs that are written.
 
 use crate::roas::{entries_of, long_payload};
-use crate::spelled::{BOTH_FAMILIES, NO_BITS, ONE_PREFIX, WITH_MAXIMUM, bytes};
+use example_values::hex::bytes;
+use example_values::payloads::{BOTH_FAMILIES, NO_BITS, ONE_PREFIX, WITH_MAXIMUM};
 use payloads::{Roa, decode_roa, encode_roa};
 use prefixes::Asn;
 use std::test::Fail;
