@@ -21,6 +21,7 @@ import re
 import shutil
 import sys
 import tempfile
+import threading
 import time
 
 TOP = os.path.realpath(f"{os.path.dirname(os.path.abspath(__file__))}/..")
@@ -245,13 +246,29 @@ def judged(crate, edits, kept):
     return found + [(edit, *judged_alone(crate, edit, kept)) for edit in left]
 
 
-def tried(crate, edits):
+class Refused:
+    """The sums of what was refused, by name. They are written after each pack, so that a run that is ended early is not lost."""
+
+    def __init__(self, sums, keeps_others):
+        self.sums, self.keeps_others, self.kept, self.lock = sums, keeps_others, refused.kept(), threading.Lock()
+
+    def note(self, found):
+        with self.lock:
+            for edit, is_well, _ in found:
+                self.kept[edit.label] = self.sums[edit.label] if is_well else ""
+            refused.keep({it: sum for it, sum in self.kept.items() if sum == self.sums.get(it, self.keeps_others and sum)})
+
+
+def tried(crate, edits, known):
     """Tries a crate's edits, and returns each with whether it passed and what to say."""
     began = time.time()
-    bad = [(edit, False, f"BAD EDIT: {edit.why}") for edit in edits if edit.why]
+    found = [(edit, False, f"BAD EDIT: {edit.why}") for edit in edits if edit.why]
     packs = packed([edit for edit in edits if not edit.why])
     with tempfile.TemporaryDirectory(prefix="wrong-bodies-") as kept:
-        found = bad + [it for pack in packs for it in judged(crate, pack, kept)]
+        for pack in packs:
+            some = judged(crate, pack, kept)
+            known.note(some)
+            found += some
     print(f"wrong bodies of {crate.name}: {len(edits)} in {len(packs)} packs, {time.time() - began:.0f} s", flush=True)
     return found
 
@@ -279,14 +296,14 @@ def library_stands(crate, after_gate):
     return not crate.build_rlib(["--jobs", str(RT.processors())], anew=False)
 
 
-def tasks_of(edits):
+def tasks_of(edits, known):
     """What is to be tried, crate by crate, as tasks that run side by side."""
     tasks = {}
     for crate, some in edits.items():
         for number, part in enumerate(in_parts(crate, some)):
             work = crate.count(rb"\n") * (2 + len(part)) * (8 if crate.is_program else 1)
             # (a task of this second word gets one job)
-            tasks[f"{crate.name} {number}", "edits"] = ([], work, RT.need(crate), lambda given, jobs, of=crate, it=part: tried(of, it))
+            tasks[f"{crate.name} {number}", "edits"] = ([], work, RT.need(crate), lambda given, jobs, of=crate, it=part: tried(of, it, known))
     return tasks
 
 
@@ -310,8 +327,8 @@ def main(words):
         print("usage: tests/wrong_bodies.py [--after-gate] [--all] [--list] [NAME | NAME/EDIT]..\n0 passed, 1 failed")
         return 1
     sums = {edit.label: refused.sum_of(crate, edit.text) for crate, some in edits.items() for edit in some}
-    kept = refused.kept()
-    is_new = lambda edit: words or "--all" in flags or kept.get(edit.label) != sums[edit.label]
+    known = Refused(sums, bool(words))
+    is_new = lambda edit: words or "--all" in flags or known.kept.get(edit.label) != sums[edit.label]
     wanted = {crate: left for crate, some in edits.items() if (left := [it for it in some if is_new(it)])}
     if "--list" in flags:
         sys.stdout.writelines(f"{sums[it.label]} {it.label}\n" for some in wanted.values() for it in some)
@@ -320,10 +337,9 @@ def main(words):
     if not all(library_stands(it, "--after-gate" in flags) for it in {dep.name: dep for it in wanted for dep in it.below()}.values()):
         print("a library below could not be built\n0 passed, 1 failed")
         return 1
-    found = [it for some in RT.in_lanes(tasks_of(wanted)).values() for it in some]
-    for edit, is_well, _ in found:
-        kept[edit.label] = sums[edit.label] if is_well else ""
-    refused.keep({it: sum for it, sum in kept.items() if sum == sums.get(it, words and sum)})
+    known.note([])
+    found = [it for some in RT.in_lanes(tasks_of(wanted, known)).values() for it in some]
+    known.note([it for it in found if not it[1]])
     return 1 if told(found) else 0
 
 
