@@ -219,6 +219,7 @@ def decoded(program):
 def machine():
     with open("/proc/cpuinfo") as it:
         model = next((line.split(":")[1].strip() for line in it if line.startswith("model name")), platform.processor())
+    model = " ".join(model.replace("(R)", "").replace("Processor", "").split())
     return f"{os.cpu_count()} processors ({model}), {platform.system()} {platform.release().split('-')[0]}"
 
 
