@@ -20,7 +20,7 @@ fn plain_number(text: &str) -> Option<u64>
 }
 
 /// The members of an entry, as far as they were read: each at most once, and no others.
-#[derive(Clone, Copy, Drop)]
+#[derive(Clone, Copy, Debug, Drop)]
 pub struct Plain<'a> {
     asn: Option<u64>,
     max_len: Option<u64>,
