@@ -13,3 +13,5 @@ pub mod Moments
 pub mod MomentRows
 pub mod HeadRows
 pub mod Civils
+pub mod Seconds
+pub mod SecondRows

@@ -25,6 +25,7 @@ mod head;
 pub mod laws;
 mod length;
 mod moment;
+mod seconds;
 mod tag;
 mod writer;
 

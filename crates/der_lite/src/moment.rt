@@ -9,16 +9,15 @@ ghost use Rattle.std.specs.Cmp.Rules.{comparing};
 ghost use Rattle.std.specs.Ordering.{on, nat_cmp, as_partial_cmp};
 ghost use Rattle.std.specs.Cmp.Lexicographic.{slice_cmp, pointwise};
 ghost use Rattle.der_lite.specs.Moments.{is_moment, decimals, decimal_number, moment_text, if_real, moment_in, moment_cmp, numbers_of, told_moment, IsMomentOf};
+ghost use Rattle.der_lite.specs.Seconds.{seconds_of};
 
 use crate::fault::MomentFault;
+use crate::seconds::{FIRST_YEAR, days_before_month, days_before_year};
 use jiff::civil::DateTime;
 use std::cmp::Ordering;
 use std::fmt::{self, Display};
 use std::marker::Model;
 use std::str::{self, FromStr};
-
-/// The first year of moments.
-const FIRST_YEAR: u16 = 1970;
 
 /// How many digits a text has before its `Z`.
 const DIGITS: usize = 14;
@@ -117,6 +116,17 @@ impl Moment {
             civil.minute() as u16,
             civil.second() as u16,
         ]
+    }
+
+    /// How many seconds after the beginning of 1970 the moment is, where days have 86,400.
+    pub fn seconds(&self) -> u64
+        ensures { result ≡ seconds_of self.now }
+    {
+        let [year, month, day, hour, minute, second] = self.numbers();
+        let days = days_before_year(year) + days_before_month(year, month) + u64::from(day - 1);
+        let hours = days * 24 + u64::from(hour);
+        let minutes = hours * 60 + u64::from(minute);
+        minutes * 60 + u64::from(second)
     }
 
     /// The text, `YYYYMMDDHHMMSSZ`.
