@@ -48,15 +48,15 @@ impl From<AllocError> for ListFault {
     }
 }
 
-/// The whole number under a key.
-fn whole(value: &Value, key: &str) -> Option<u64>
+/// The whole number below 2^64 that stands under a key of an object. `None`: nothing does, or something else.
+pub fn whole(value: &Value, key: &str) -> Option<u64>
     ensures { result ≡ whole_at key.now (view value.now) }
 {
     value.get(key).and_then(Value::as_u64)
 }
 
-/// The text under a key.
-fn text<'a>(value: &'a Value, key: &str) -> Option<&'a str>
+/// The text that stands under a key of an object. `None`: nothing does, or something else.
+pub fn text<'a>(value: &'a Value, key: &str) -> Option<&'a str>
     ensures { option_map (λ s. s.now) result ≡ text_at key.now (view value.now) }
 {
     value.get(key).and_then(Value::as_str)
@@ -99,8 +99,9 @@ fn entry(value: &Value) -> Option<Vrp>
     payload(asn, max_len, prefix)
 }
 
-/// The payloads of the entries, in their order.
-fn records_of(alloc: Global, list: &[Value]) -> Result<Vec<Vrp>, ListFault>
+/// The payloads of the entries of a payload list, in their order.
+/// `NoList`: one of the items is no such entry. `Memory`: out of memory.
+pub fn records_of(alloc: Global, list: &[Value]) -> Result<Vec<Vrp>, ListFault>
     ensures ok { IfOk result (λ vs. AreEntries (items_view list.now) vs.items) }
     ensures one { IfOk result (λ vs. (ws : List Payload) → AreEntries (items_view list.now) ws → ws ≡ vs.items) }
     ensures no_list { IsErrOf result ListFault.NoList → (vs : List Payload) → ¬ (AreEntries (items_view list.now) vs) }
@@ -160,7 +161,7 @@ fn read_any(alloc: Global, bytes: &[u8]) -> Result<VrpSet, ListFault>
 /// The set of a payload list: a JSON array of objects with exactly the keys `asn`, `maxLength` and `prefix`. Of a key that
 /// stands twice in an object, `serde_json` reads the last. A list in its plain form is read token by token, up to
 /// the first entry that makes no payload, and any other as a whole.
-/// `NoList`: the bytes are no such list, or it has over 16,777,215 different payloads. `Memory`: memory was wanting.
+/// `NoList`: the bytes are no such list, or it has over 16,777,215 different payloads. `Memory`: out of memory.
 pub fn read_list(alloc: Global, bytes: &[u8]) -> Result<VrpSet, ListFault>
     ensures ok { IfOk result (λ s. IsPayloadList bytes.now s) }
     ensures no_list { IsErrOf result ListFault.NoList → (s : Vrps) → ¬ (IsPayloadList bytes.now s) }

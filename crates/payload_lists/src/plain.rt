@@ -12,8 +12,8 @@ use json::{Reader, Scratch, Token};
 use prefixes::Vrp;
 use std::alloc::Global;
 
-/// The whole number below 2^64 that a number's text writes in digits alone.
-fn plain_number(text: &str) -> Option<u64>
+/// The whole number below 2^64 that a number's text writes in digits alone. `None`: it writes another one, or one in another form.
+pub fn plain_number(text: &str) -> Option<u64>
     ensures { IfSome result (λ n. number_of text.now ≡ Some (unsigned n)) }
 {
     Numeral::scan(text.as_bytes()).to_u64()
@@ -125,7 +125,8 @@ fn plain_records(alloc: Global, reader: &mut Reader<'_>) -> Result<Option<Vec<Vr
 }
 
 /// The records of a list in its plain form: an array of objects in which each of the three keys comes once, with numbers of digits alone.
-/// `NoList`: an entry has this form and makes no payload, whatever comes behind it.
+/// `None`: the text has another form, or is no JSON. `NoList`: an entry has this form and makes no payload, whatever comes behind it.
+/// `Memory`: out of memory.
 pub fn plain_list(alloc: Global, text: &str) -> Result<Option<Vec<Vrp>>, ListFault>
     ensures ok { IfOk result (λ found. IfSome found (λ vs. (ds : Items) × (read text.now ≡ Some (array ds)) × AreEntries ds vs.items)) }
     ensures no_list { IsErrOf result ListFault.NoList → (ds : Items) → read text.now ≡ Some (array ds) → (vs : List Payload) → ¬ (AreEntries ds vs) }
