@@ -315,6 +315,10 @@ pub found_real : (text : List ℕ) (found : Option CivilMoment) → found ≡ mo
 found_real text None e = tt
 found_real text (Some m) e = let s : IsMomentOf text (Some m) = subst (IsMomentOf text) (sym e) (says text) in s.real
 
+-- what is found in a text is what it says
+pub found_says : (text : List ℕ) (found : Option CivilMoment) → found ≡ moment_in text → IsMomentOf text found
+found_says text found e = subst (IsMomentOf text) (sym e) (says text)
+
 -- the moment that is found in its text
 pub text_found : (m : CivilMoment) → is_moment m ≡ true → moment_in (moment_text m) ≡ Some m
 unfolding moment_in

@@ -55,8 +55,9 @@ impl Moment {
         Moment::from_text(text.as_bytes())
     }
 
-    /// The moment of which these bytes are the text.
-    pub(crate) fn from_text(text: &[u8]) -> Option<Moment>
+    /// The moment of which these bytes are the text, as `parse` has it.
+    pub fn from_text(text: &[u8]) -> Option<Moment>
+        ensures says { IsMomentOf text.now result }
         ensures value { result ≡ moment_in text.now }
         ensures real { IfSome result (λ moment. IsTrue (is_moment moment)) }
     {

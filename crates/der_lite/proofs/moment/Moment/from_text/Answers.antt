@@ -1,6 +1,6 @@
-use Rattle.std.proofs.Common.{◌≡◌, true, false, sym, ap, ◌∙◌}
+use Rattle.std.proofs.Common.{◌≡◌, None, true, false, sym, ap, ◌∙◌}
 use Rattle.der_lite.specs.Moments.{if_real, moment_in}
-use Rattle.der_lite.proofs.MomentLaws.{not_zone, zone_is, not_digits, read_digits, told_digits, found_real}
+use Rattle.der_lite.proofs.MomentLaws.{not_zone, zone_is, not_digits, read_digits, told_digits, found_real, found_says}
 use Rattle.der_lite.proofs.moment.Moment.from_text.Goals.{then-digits-ne-DIGITS-via-then-digits-ne-DIGITS, then-digits-ne-DIGITS-via-else-digits-ne-DIGITS+then-not-are_digits}
 use Rattle.der_lite.proofs.moment.Moment.from_text.Goals as goal
 
@@ -25,3 +25,12 @@ returns-clause-value c =
 
 pub returns-clause-real : goal.returns-clause-real
 returns-clause-real c = found_real c.args.text.now c.new.result (returns-clause-value c)
+
+pub returns-in_err-digits-clause-says : goal.returns-in_err-digits-clause-says
+returns-in_err-digits-clause-says c = found_says c.args.text.now c.from_residual.result (returns-in_err-digits-clause-value c)
+
+pub returns-then-digits-ne-DIGITS-clause-says : goal.returns-then-digits-ne-DIGITS-clause-says
+returns-then-digits-ne-DIGITS-clause-says c = found_says c.args.text.now None (returns-then-digits-ne-DIGITS-clause-value c)
+
+pub returns-clause-says : goal.returns-clause-says
+returns-clause-says c = found_says c.args.text.now c.new.result (returns-clause-value c)
