@@ -1,0 +1,5 @@
+pub mod Faults
+pub mod Built
+pub mod Entry
+pub mod Export
+pub mod Found

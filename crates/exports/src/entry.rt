@@ -1,0 +1,147 @@
+//! The entries of an export.
+ghost use Rattle.std.specs.Prelude.{◌≡◌, ℕ, ◌<◌, ◌≤◌, ◌^◌, ◌++◌, option_map, Some, codes, IfSome, IfNone, IfOk, IfErr};
+ghost use Rattle.std.specs.Fmt.{decimal};
+ghost use Rattle.serde_json.specs.View.{view};
+ghost use Rattle.serde_json.specs.Find.{get};
+ghost use Rattle.prefixes.specs.Payload.{block_of, width_of};
+ghost use Rattle.prefixes.specs.declared.prefix.IpPrefix.{IpPrefix as Prefix};
+ghost use Rattle.exports.specs.Entry.{AsnText, IsEntry, IsNoEntry, Said, SaysAsn, SaysEntry, SaysFault, SaysPrefix, whole};
+ghost use Rattle.exports.specs.Found.{said_by};
+
+use crate::fault::EntryFault;
+use payload_lists::parts::{text, whole};
+use prefixes::{Asn, IpPrefix, Vrp};
+use serde_json::Value;
+
+/// What an entry lists: a payload, and the second since 1970 from which on it does not count, where the entry has one.
+#[derive(Clone, Copy, Debug)]
+pub struct Listed {
+    pub(crate) payload: Vrp,
+    pub(crate) expires: Option<u64>,
+}
+
+/// What was found in an entry: under each key the whole number or the text that stands there, if one does. Under `expires` something may
+/// stand that is no whole number.
+#[derive(Clone, Copy, Debug)]
+pub struct Found<'a> {
+    pub(crate) asn_number: Option<u64>,
+    pub(crate) asn_text: Option<&'a str>,
+    pub(crate) prefix: Option<&'a str>,
+    pub(crate) max_len: Option<u64>,
+    pub(crate) expires: Option<Option<u64>>,
+}
+
+/// The AS number that a text writes in decimal.
+fn number(text: &str) -> Option<u32>
+    ensures some { IfSome result (λ n. (n < 2 ^ 32) × (text.now ≡ decimal n)) }
+    ensures none { IfNone result ((n : ℕ) → n < 2 ^ 32 → ¬ (text.now ≡ decimal n)) }
+{
+    match Asn::parse(text) {
+        Ok(asn) => Some(asn.0),
+        Err(_) => None,
+    }
+}
+
+/// The AS number that a text writes in decimal, with `AS` before it or without.
+fn asn_in(text: &str) -> Option<u32>
+    ensures some { IfSome result (λ n. (n < 2 ^ 32) × AsnText n text.now) }
+    ensures none { IfNone result ((n : ℕ) → n < 2 ^ 32 → ¬ (AsnText n text.now)) }
+{
+    match text.strip_prefix("AS") {
+        Some(digits) => number(digits),
+        None => number(text),
+    }
+}
+
+/// The AS number of an entry.
+fn asn(found: &Found<'_>) -> Option<u32>
+    ensures some { IfSome result (λ n. SaysAsn (said_by found.now) n) }
+    ensures none { IfNone result ((n : ℕ) → ¬ (SaysAsn (said_by found.now) n)) }
+{
+    if let Some(count) = found.asn_number {
+        return match u32::try_from(count) {
+            Ok(asn) => Some(asn),
+            Err(_) => None,
+        };
+    }
+    asn_in(found.asn_text?)
+}
+
+/// The prefix of an entry.
+fn prefix(found: &Found<'_>) -> Option<IpPrefix>
+    ensures some { IfSome result (λ p. SaysPrefix (said_by found.now) p) }
+    ensures none { IfNone result ((p : Prefix) → ¬ (SaysPrefix (said_by found.now) p)) }
+{
+    match IpPrefix::parse(found.prefix?) {
+        Ok(prefix) => Some(prefix),
+        Err(_) => None,
+    }
+}
+
+/// The payload of these, if the maximum is a number that suits the prefix.
+fn payload(prefix: IpPrefix, max_len: Option<u64>, asn: u32) -> Option<Vrp>
+    ensures some { IfSome result (λ v. (v.prefix ≡ prefix) × (v.asn ≡ asn) × (max_len ≡ Some v.max_len) × ((block_of prefix).len ≤ v.max_len) × (v.max_len ≤ width_of prefix)) }
+    ensures none { IfNone result ((m : ℕ) → max_len ≡ Some m → (block_of prefix).len ≤ m → m ≤ width_of prefix → ⊥) }
+{
+    let Ok(max_len) = u8::try_from(max_len?) else {
+        return None;
+    };
+    match Vrp::new(prefix, max_len, Asn(asn)) {
+        Ok(vrp) => Some(vrp),
+        Err(_) => None,
+    }
+}
+
+/// What an entry lists, or what is wrong first with what was found in it.
+pub(crate) fn judged(found: &Found<'_>) -> Result<Listed, EntryFault>
+    ensures ok { IfOk result (λ e. SaysEntry (said_by found.now) e) }
+    ensures fault { IfErr result (λ w. SaysFault (said_by found.now) w) }
+{
+    let Some(asn) = asn(found) else {
+        return Err(EntryFault::Asn);
+    };
+    let Some(prefix) = prefix(found) else {
+        return Err(EntryFault::Prefix);
+    };
+    let Some(payload) = payload(prefix, found.max_len, asn) else {
+        return Err(EntryFault::MaxLength);
+    };
+    match found.expires {
+        None => Ok(Listed {
+            payload,
+            expires: None,
+        }),
+        Some(Some(second)) => Ok(Listed {
+            payload,
+            expires: Some(second),
+        }),
+        Some(None) => Err(EntryFault::Expires),
+    }
+}
+
+/// What stands under `expires`: nothing, a whole number, or something else.
+fn expiry(value: &Value) -> Option<Option<u64>>
+    ensures { result ≡ option_map whole (get (codes "expires") (view value.now)) }
+{
+    match value.get("expires") {
+        Some(expires) => Some(expires.as_u64()),
+        None => None,
+    }
+}
+
+/// What an entry lists, or what is wrong first with it.
+pub(crate) fn entry(value: &Value) -> Result<Listed, EntryFault>
+    ensures ok { IfOk result (λ e. IsEntry (view value.now) e) }
+    ensures fault { IfErr result (λ w. IsNoEntry (view value.now) w) }
+{
+    if !value.is_object() {
+        return Err(EntryFault::NoObject);
+    }
+    judged(&Found {
+        asn_number: whole(value, "asn"),
+        asn_text: text(value, "asn"),
+        prefix: text(value, "prefix"),
+        max_len: whole(value, "maxLength"),
+        expires: expiry(value),
+    })
+}

@@ -1,0 +1,109 @@
+//! Exports, read from JSON.
+ghost use Rattle.std.specs.Prelude.{◌≡◌, ◌<◌, ◌≤◌, List, IfOk, IfErr, OnErr, Err};
+ghost use Rattle.serde_json.specs.View.{view, items_view};
+ghost use Rattle.vrps.specs.VrpSet.{set_of, size};
+ghost use Rattle.payload_lists.specs.PayloadList.{AreEntries};
+ghost use Rattle.exports.specs.Export.{HasFault, IsExport, Lists};
+ghost use Rattle.exports.specs.Found.{Gathers, ListFails, ValueFails};
+ghost use Rattle.exports.specs.declared.entry.Listed.{Listed as Entry};
+
+use crate::built::built_of;
+use crate::fault::ExportFault;
+use crate::gathered::{Gathered, gather};
+use payload_lists::ListFault;
+use payload_lists::parts::records_of;
+use prefixes::Vrp;
+use serde_json::Value;
+use std::alloc::Global;
+use vrps::{SetFault, VrpSet};
+
+/// What a validator exported, at a moment.
+#[derive(Debug, Drop)]
+pub struct Export {
+    /// The payloads of the entries that count.
+    pub set: VrpSet,
+    /// How many entries do not count, as their `expires` is not after the moment.
+    pub expired: u64,
+    /// When the export was made, in seconds since 1970, where it says so.
+    pub built: Option<u64>,
+}
+
+/// The set of these records, if they are not too many.
+fn set_from(records: Vec<Vrp>) -> Result<VrpSet, ExportFault>
+    ensures ok { IfOk result (λ s. (s ≡ set_of records.items) × (size s ≤ 16777215)) }
+    ensures too_many { OnErr result ((result ≡ Err ExportFault.TooMany) × (16777215 < size (set_of records.items))) }
+{
+    match VrpSet::from_list(records) {
+        Ok(set) => {
+            let _within_limit = set.len();
+            Ok(set)
+        }
+        Err(_) => Err(ExportFault::TooMany),
+    }
+}
+
+/// Gathers the payloads of a payload list.
+fn gather_list(alloc: Global, list: &[Value]) -> Result<Gathered, ExportFault>
+    ensures ok { IfOk result (λ g. AreEntries (items_view list.now) g.records.items × (g.expired ≡ 0)) }
+    ensures fault { IfErr result (λ fault. ListFails (items_view list.now) fault) }
+{
+    match records_of(alloc, list) {
+        Ok(records) => Ok(Gathered {
+            records,
+            expired: 0,
+        }),
+        Err(ListFault::NoList) => Err(ExportFault::NoRoas),
+        Err(ListFault::Memory) => Err(ExportFault::Memory),
+    }
+}
+
+/// Gathers the entries of a value in either form.
+fn gather_any(alloc: Global, value: &Value, now: u64) -> Result<Gathered, ExportFault>
+    ensures ok { IfOk result (λ g. (es : List Entry) × Lists (view value.now) es × Gathers now es g) }
+    ensures fault { IfErr result (λ fault. ValueFails (view value.now) fault) }
+{
+    if let Some(list) = value.as_array() {
+        return gather_list(alloc, list.as_slice());
+    }
+    match value.get("roas").and_then(Value::as_array) {
+        Some(list) => gather(alloc, list.as_slice(), now),
+        None => Err(ExportFault::NoRoas),
+    }
+}
+
+/// The export of what was gathered.
+fn export_of(gathered: Gathered, built: Option<u64>) -> Result<Export, ExportFault>
+    ensures set { IfOk result (λ x. (x.set ≡ set_of gathered.records.items) × (size x.set ≤ 16777215)) }
+    ensures rest { IfOk result (λ x. (x.expired ≡ gathered.expired) × (x.built ≡ built)) }
+    ensures too_many { OnErr result ((result ≡ Err ExportFault.TooMany) × (16777215 < size (set_of gathered.records.items))) }
+{
+    let Gathered { records, expired } = gathered;
+    let set = set_from(records)?;
+    Ok(Export {
+        set,
+        expired,
+        built,
+    })
+}
+
+/// The export of a text in any form, read as a whole.
+fn read_any(alloc: Global, bytes: &[u8], now: u64) -> Result<Export, ExportFault>
+    ensures ok { IfOk result (λ export. IsExport bytes.now now export) }
+    ensures fault { IfErr result (λ fault. HasFault bytes.now now fault) }
+{
+    let value = match Value::from_slice(alloc, bytes) {
+        Ok(value) => value,
+        Err(error) if error.is_memory() => return Err(ExportFault::Memory),
+        Err(_) => return Err(ExportFault::NotJson),
+    };
+    let gathered = gather_any(alloc, &value, now)?;
+    export_of(gathered, built_of(&value))
+}
+
+/// The export that these bytes are, at a moment in seconds since 1970.
+pub fn read_export(alloc: Global, bytes: &[u8], now: u64) -> Result<Export, ExportFault>
+    ensures ok { IfOk result (λ export. IsExport bytes.now now export) }
+    ensures fault { IfErr result (λ fault. HasFault bytes.now now fault) }
+{
+    read_any(alloc, bytes, now)
+}

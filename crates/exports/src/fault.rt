@@ -1,0 +1,72 @@
+//! Why bytes give no export.
+ghost use Rattle.std.specs.Prelude.{◌≡◌};
+
+use std::alloc::AllocError;
+use thiserror::Error;
+
+/// What of an entry cannot be read. Where several cannot, it is the first in this order.
+#[derive(Clone, Copy, Debug, Drop, PartialEq, Eq, Error)]
+pub enum EntryFault {
+    /// The entry is no object.
+    #[error("it is no object")]
+    NoObject,
+    /// `asn` is no whole number below 2^32, nor the text of one.
+    #[error("asn is no AS number")]
+    Asn,
+    /// `prefix` is no prefix.
+    #[error("prefix is no prefix")]
+    Prefix,
+    /// `maxLength` is no whole number from the prefix's length to its family's width.
+    #[error("maxLength is no length of the prefix's parts")]
+    MaxLength,
+    /// `expires` is there and is no whole number.
+    #[error("expires is no whole number")]
+    Expires,
+}
+
+/// Why bytes give no export. The numbers are fixed.
+#[derive(Clone, Copy, Debug, Drop, PartialEq, Eq, Error)]
+pub enum ExportFault {
+    /// The bytes are no JSON.
+    #[error("not JSON (fault 1)")]
+    NotJson,
+    /// They are no payload list, and no object with an array `roas`.
+    #[error("neither a payload list nor an object with an array roas (fault 2)")]
+    NoRoas,
+    /// The first entry that cannot be read, counted from 0, and what of it cannot.
+    #[error("entry {0} of roas cannot be read: {1} (fault 3)")]
+    Entry(usize, EntryFault),
+    /// Over 16,777,215 different payloads count.
+    #[error("more than 16777215 different payloads (fault 4)")]
+    TooMany,
+    /// Out of memory.
+    #[error("out of memory (fault 5)")]
+    Memory,
+}
+
+impl ExportFault {
+    ghost use Rattle.exports.specs.Faults.{export_fault_number};
+
+    /// The number by which the fault is printed.
+    pub fn number(self) -> u8
+        ensures { result ≡ export_fault_number self }
+    {
+        match self {
+            ExportFault::NotJson => 1,
+            ExportFault::NoRoas => 2,
+            ExportFault::Entry(_, _) => 3,
+            ExportFault::TooMany => 4,
+            ExportFault::Memory => 5,
+        }
+    }
+}
+
+impl From<AllocError> for ExportFault {
+    ghost use Rattle.exports.specs.declared.fault.ExportFault.TheVariants.{Memory};
+
+    ghost from_gives = { λ _ e. e ≡ Memory };
+
+    fn from(_error: AllocError) -> ExportFault {
+        ExportFault::Memory
+    }
+}

@@ -1,0 +1,64 @@
+//! What is gathered of the entries of an export.
+ghost use Rattle.std.specs.Prelude.{◌≡◌, ◌+◌, ◌^◌, ◌<◌, ◌++◌, ◌∷◌, [], List, IfOk, IfErr, OnOk};
+ghost use Rattle.serde_json.specs.View.{items_view};
+ghost use Rattle.exports.specs.Entry.{AreEntries, counts_at, current, expired};
+ghost use Rattle.exports.specs.Found.{Gathers, ItemsFail};
+ghost use Rattle.exports.specs.declared.entry.Listed.{Listed as Entry};
+
+use crate::entry::{Listed, entry};
+use crate::fault::ExportFault;
+use prefixes::Vrp;
+use serde_json::Value;
+use std::alloc::{AllocError, Global};
+
+/// What was gathered of entries: the payloads of those that count, and how many do not.
+#[derive(Debug, Drop)]
+pub struct Gathered {
+    pub(crate) records: Vec<Vrp>,
+    pub(crate) expired: u64,
+}
+
+/// Whether an entry counts at a moment.
+fn counts(entry: &Listed, now: u64) -> bool
+    ensures { result ≡ counts_at now entry.now }
+{
+    match entry.expires {
+        Some(second) => now < second,
+        None => true,
+    }
+}
+
+impl Gathered {
+    /// Gathers one more entry.
+    pub(crate) fn add(&mut self, entry: &Listed, now: u64) -> Result<(), AllocError>
+        requires { self.old.expired + 1 < 2 ^ 64 }
+        ensures records { OnOk result (self.new.records.items ≡ self.old.records.items ++ current now (entry.now ∷ [])) }
+        ensures expired { OnOk result (self.new.expired ≡ self.old.expired + expired now (entry.now ∷ [])) }
+    {
+        if counts(entry, now) {
+            self.records.push(entry.payload)?;
+        } else {
+            self.expired += 1;
+        }
+        Ok(())
+    }
+}
+
+/// Gathers the entries of an array, or tells which is the first that cannot be read, and what of it.
+pub(crate) fn gather(alloc: Global, list: &[Value], now: u64) -> Result<Gathered, ExportFault>
+    ensures ok { IfOk result (λ g. (es : List Entry) × AreEntries (items_view list.now) es × Gathers now es g) }
+    ensures fault { IfErr result (λ f. ItemsFail (items_view list.now) f) }
+{
+    let mut gathered = Gathered {
+        records: Vec::new(alloc),
+        expired: 0,
+    };
+    for (index, item) in list.iter().enumerate() {
+        let listed = match entry(item) {
+            Ok(listed) => listed,
+            Err(what) => return Err(ExportFault::Entry(index, what)),
+        };
+        gathered.add(&listed, now)?;
+    }
+    Ok(gathered)
+}

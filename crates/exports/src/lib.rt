@@ -1,0 +1,26 @@
+//! Exports: the JSON in which validators write what they validated. [`read_export`] reads a payload list, or an object with an array
+//! `roas`, as rpki-client, Routinator, FORT, StayRTR and rtrdump write it.
+//!
+//! For example, where `rt` is the runtime that `main` is handed:
+//!
+//! ```rust
+//! use exports::read_export;
+//!
+//! let text = br#"{"metadata":{"generated":1700000000},"roas":[
+//!     {"asn":"AS64496","prefix":"192.0.2.0/24","maxLength":24,"ta":"ripe","expires":1700003600},
+//!     {"asn":64497,"prefix":"2001:db8::/32","maxLength":48,"ta":"arin","expires":1700000000}]}"#;
+//! let export = read_export(rt.alloc(), text, 1_700_000_060)?;
+//! assert!(rt; export.set.len() == 1);
+//! assert!(rt; export.expired == 1);
+//! assert!(rt; export.built == Some(1_700_000_000));
+//! ```
+#![tactic(auto)]
+
+mod built;
+mod entry;
+mod export;
+mod fault;
+mod gathered;
+
+pub use export::{Export, read_export};
+pub use fault::{EntryFault, ExportFault};
