@@ -233,15 +233,37 @@ fn equal_sets_are_same(rt: HostRuntime) -> Result<(), Fail> {
     Ok(())
 }
 
+/// Records as they come, each with whether it is new: in ascending order, and out of order from some place on.
+const GATHERED: &[&[(Row, bool)]] = &[
+    &[],
+    &[(V, true), (V, false), (X, true), (Y, true), (X, false)],
+    &[(Y, true), (Z, true), (Y, false), (Z, false), (W, true)],
+    &[(V, true), (X, true), (Z, true), (V, false), (Z, false), (Y, true)],
+];
+
+/// Whether records that come one by one are new where it is said so, are found from then on, and are the same set at the end.
+fn gathers(alloc: Global, rows: &[(Row, bool)]) -> Result<bool, Fail> {
+    let mut gathered = Gathered::new(alloc);
+    let mut list = Vec::new(alloc);
+    for &((text, max_len, asn), is_new) in rows {
+        let vrp = payload(text, max_len, asn)?;
+        if gathered.contains(&vrp) == is_new || gathered.insert(vrp)? != is_new {
+            return Ok(false);
+        }
+        list.push(vrp)?;
+    }
+    let set = VrpSet::from_list(list)?;
+    Ok(gathered.len() == set.len() && gathered.into_set(alloc)?.is_same(&set))
+}
+
 #[test]
 fn gathered_records_make_a_set(rt: HostRuntime) -> Result<(), Fail> {
-    let mut gathered = Gathered::new(rt.alloc());
-    for ((text, max_len, asn), is_new) in [(W, true), (V, true), (W, false)] {
-        assert!(rt; gathered.insert(payload(text, max_len, asn)?)? == is_new);
+    for rows in GATHERED {
+        assert!(rt; gathers(rt.alloc(), rows)?);
     }
+    let mut gathered = Gathered::new(rt.alloc());
+    gathered.insert(payload("192.0.2.0/24", 24, 64496)?)?;
     assert!(rt; gathered.contains(&payload("192.0.2.0/24", 24, 64496)?));
-    assert!(rt; gathered.len() == 2);
-    let set = gathered.into_set(rt.alloc())?;
-    assert!(rt; set.is_same(&set_of(rt.alloc(), &[V, W])?));
+    assert!(rt; !gathered.contains(&payload("10.0.0.0/8", 8, 1)?));
     Ok(())
 }

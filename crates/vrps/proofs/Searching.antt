@@ -11,7 +11,7 @@ use Rattle.std.proofs.lemmas.List.Sorted.{searchable_from_sorted}
 use Rattle.std.proofs.lemmas.Map.Keys.{Less-from_sorted}
 use Rattle.prefixes.specs.Payload.{Payload, vrp_cmp}
 use Rattle.prefixes.specs.Orders.{vrp_total}
-use Rattle.vrps.specs.VrpSet.{VrpSet, IsListing, has, set_of}
+use Rattle.vrps.specs.VrpSet.{has, set_of}
 use Rattle.vrps.proofs.SetLaws.{has-set_of, same_vrp}
 
 sorted : (vs : List Payload) → IsStrictlySortedBy vrp_cmp vs → IsSorted vrp_cmp vs
@@ -32,6 +32,6 @@ found vs q ascends (Err at) within parted =
     (λ after. seen_from _ q Greater (parts.1 k d after below))
     (cases_lt k at)))
 
-pub has_searched : (s : VrpSet) (vs : List Payload) (q : Payload) → set_of vs ≡ s → IsListing vs
-    → (r : Result ℕ ℕ) → IsSearchInRange r (length vs) → IsBinarySearchResult (λ v. vrp_cmp v q) vs r → is_ok r ≡ has s q
-has_searched s vs q is h r within searched = found vs q h.ascends r within searched ∙ sym (has-set_of vs q) ∙ ap (λ t. has t q) is
+pub has_searched : (vs : List Payload) (q : Payload) → IsStrictlySortedBy vrp_cmp vs
+    → (r : Result ℕ ℕ) → IsSearchInRange r (length vs) → IsBinarySearchResult (λ v. vrp_cmp v q) vs r → is_ok r ≡ has (set_of vs) q
+has_searched vs q ascends r within searched = found vs q ascends r within searched ∙ sym (has-set_of vs q)

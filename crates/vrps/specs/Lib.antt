@@ -1,6 +1,7 @@
 pub mod Change
 pub mod SetFaults
 pub mod Found
+pub mod Gathering
 pub mod Groups
 pub mod Heads
 pub mod Instance

@@ -138,7 +138,7 @@ impl VrpSet {
     pub fn contains(&self, vrp: &Vrp) -> bool
         ensures { result ≡ has self.now vrp.now }
     {
-        self.items.binary_search(vrp).is_ok()
+        is_listed(&self.items, vrp)
     }
 
     /// Yields the members in ascending order.
@@ -174,6 +174,14 @@ fn ascending(list: Vec<Vrp>) -> Vec<Vrp>
     items.sort_unstable();
     items.dedup();
     items
+}
+
+/// Whether an ascending list has a record.
+pub(crate) fn is_listed(list: &[Vrp], vrp: &Vrp) -> bool
+    requires { IsStrictlySortedBy vrp_cmp list.now }
+    ensures { result ≡ has (set_of list.now) vrp.now }
+{
+    list.binary_search(vrp).is_ok()
 }
 
 /// Looks at each record once. That it is a payload is known of a value that is looked at.

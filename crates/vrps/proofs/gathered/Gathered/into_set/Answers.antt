@@ -6,4 +6,4 @@ use Rattle.vrps.proofs.gathered.Gathered.into_set.Goals as goal
 
 pub from_listing-requires : goal.from_listing-requires
 from_listing-requires c =
-    gathered_listing _ _ _ c.self.view_is c.in_ok-items.ensures.items c.in_ok-items.ensures.ascends (subst (λ l. All IsPayload l) c.as_slice.ensures.value c.know_payloads.ensures) (omega (arith, c.len.ensures))
+    gathered_listing _ _ c.in_ok-items.ensures.same c.in_ok-items.ensures.ascends (subst (λ l. All IsPayload l) c.as_slice.ensures.value c.know_payloads.ensures) (omega (arith, c.len.ensures))

@@ -1,8 +1,8 @@
-use Rattle.std.proofs.Common.{◌∙◌}
-use Rattle.vrps.proofs.Searching.{has_searched}
+use Rattle.std.proofs.Common.{◌∙◌, ap}
+use Rattle.vrps.specs.VrpSet.{has}
 use Rattle.vrps.proofs.set.VrpSet.contains.Goals as goal
 
 pub returns : goal.returns
 returns c =
-    let searched = rw c.deref.ensures.value at c.binary_search.ensures in
-    c.is_ok.ensures.value ∙ has_searched _ _ c.args.vrp.now c.self.view_is c.self.invariant c.binary_search.result searched.bound searched.position
+    let listed = rw c.deref.ensures.value at c.is_listed.ensures in
+    listed ∙ ap (λ t. has t c.args.vrp.now) c.self.view_is
