@@ -1,7 +1,7 @@
 //! Values that are parsed, compared and copied.
 
 use der_lite::{Moment, MomentFault};
-use payloads::{ListedFile, Manifest};
+use payloads::{ListedFile, Manifest, Roa, RoaEntry};
 use prefixes::{Asn, IpPrefix, PrefixFault};
 use rtr_pdu::{ErrorReport, RouterKey, Unit};
 use std::alloc::Global;
@@ -36,6 +36,27 @@ fn manifests_are_compared(rt: HostRuntime) -> Result<(), Fail> {
     assert!(rt; manifest(rt.alloc(), 1, 7)? == one);
     assert!(rt; manifest(rt.alloc(), 2, 7)? != one);
     assert!(rt; manifest(rt.alloc(), 1, 8)? != one);
+    Ok(())
+}
+
+/// A ROA of this AS for one prefix, with this maximum length.
+fn roa(alloc: Global, asn: u32, prefix: &str, max_len: Option<u8>) -> Result<Roa, Fail> {
+    let mut entries = Vec::new(alloc);
+    entries.push(RoaEntry {
+        prefix: prefix.parse()?,
+        max_len,
+    })?;
+    Ok(Roa::new(Asn(asn), entries)?)
+}
+
+#[test]
+fn roas_are_compared(rt: HostRuntime) -> Result<(), Fail> {
+    let one = roa(rt.alloc(), 64496, "192.0.2.0/24", Some(25))?;
+    assert!(rt; one.clone()? == one);
+    assert!(rt; roa(rt.alloc(), 64496, "192.0.2.0/24", Some(25))? == one);
+    assert!(rt; roa(rt.alloc(), 64497, "192.0.2.0/24", Some(25))? != one);
+    assert!(rt; roa(rt.alloc(), 64496, "198.51.100.0/24", Some(25))? != one);
+    assert!(rt; roa(rt.alloc(), 64496, "192.0.2.0/24", None)? != one);
     Ok(())
 }
 

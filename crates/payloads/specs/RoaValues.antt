@@ -1,7 +1,9 @@
 -- The value of a ROA as programs hold it: all entries in one list.
-use Rattle.std.specs.Prelude.{◌≡◌, ℕ, List, [], ◌++◌, map, Option, Some, None}
+use Rattle.std.specs.Prelude.{◌≡◌, ℕ, Bool, List, [], ◌++◌, map, Option, Some, None, nat_eq}
+use Rattle.std.specs.Option.{option_eq}
+use Rattle.std.specs.Ordering.{eq_by_cmp, eq_of_both, on}
 use Rattle.der_lite.specs.Place.{place_of}
-use Rattle.prefixes.specs.Payload.{Payload}
+use Rattle.prefixes.specs.Payload.{Payload, prefix_cmp}
 use Rattle.payloads.specs.declared.roa_entry.RoaEntry.{RoaEntry}
 use Rattle.payloads.specs.RoaEntries.{payload_of}
 use Rattle.payloads.specs.Roa.{Family, Blocks, RoaTree, roa_payload}
@@ -10,6 +12,10 @@ use Rattle.payloads.specs.Roa.{Family, Blocks, RoaTree, roa_payload}
 pub record RoaValue : Type 0 where
   pub asn : ℕ
   pub entries : List RoaEntry
+
+-- whether two entries have the same prefix, and the same maximum length or both none
+abbrev pub entry_eq : RoaEntry → RoaEntry → Bool
+entry_eq = eq_of_both (on (λ e. e.prefix) (eq_by_cmp prefix_cmp)) (on (λ e. e.max_len) (option_eq nat_eq))
 
 abbrev pub entries_of : Option Family → List RoaEntry
 entries_of None = []

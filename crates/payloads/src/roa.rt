@@ -1,7 +1,11 @@
 //! ROAs.
 
-ghost use Rattle.std.specs.Prelude.{◌≡◌, IfOk};
-ghost use Rattle.payloads.specs.RoaValues.{payloads_of};
+ghost use Rattle.std.specs.Prelude.{◌≡◌, IfOk, nat_eq};
+ghost use Rattle.std.proofs.Common.{rules};
+ghost use Rattle.std.specs.Cmp.Lexicographic.{pointwise};
+ghost use Rattle.std.specs.Cmp.Rules.{comparing};
+ghost use Rattle.std.specs.Ordering.{on, eq_of_both};
+ghost use Rattle.payloads.specs.RoaValues.{entry_eq, payloads_of};
 ghost use Rattle.payloads.specs.Gives.{Decodes};
 ghost use Rattle.payloads.specs.RoaRefusal.{roa_refusal, IsRoa, Makes, Finds};
 
@@ -29,6 +33,20 @@ impl Model for Roa {
     ghost view = { λ r. record { asn = r.asn.0; entries = r.entries.items } };
 
     ghost invariant = { λ r. IsRoa r.entries.items };
+}
+
+impl PartialEq for Roa {
+    ghost eq = { eq_of_both (on (λ r. r.entries) (pointwise entry_eq)) (on (λ r. r.asn) nat_eq) };
+
+    ghost laws = { Prim.search (comparing, rules) depth 9 };
+
+    fn eq(&self, other: &Roa) -> bool {
+        self.entries == other.entries && self.asn == other.asn
+    }
+}
+
+impl Eq for Roa {
+    ghost laws = { Prim.search (comparing, rules) depth 9 };
 }
 
 impl Roa {
