@@ -1,6 +1,6 @@
 -- The turns of reading a list in its plain form.
 use Rattle.std.proofs.Common.{◌≡◌, ℕ, suc, ◌-◌, ◌<◌, ◌≤◌, List, ◌∷◌, length, Option, Some, None, option_map, Bor, refl, sym, ap, ◌∙◌, subst, arith}
-use Rattle.std.specs.Prelude.{IfSome, codes, option_and_then}
+use Rattle.std.specs.Prelude.{OnSome, codes, option_and_then}
 use Rattle.serde_json.specs.Find.{as_number, as_str, as_u64}
 use Rattle.payload_lists.specs.EntrySteps.{MakesPayload}
 use Rattle.json.specs.Token.{Token}
@@ -21,11 +21,11 @@ with_member : (k : List ℕ) (j : json.Json) (d : Data) (old : Members) → of_j
 with_member k j d old e None = refl
 with_member k j d old e (Some p) = rw e
 
-pub member_is : (old s new : List Token) (k : List ℕ) (t : Token) (j : json.Json) (d : Data) (before : Plain) (result : Option Plain) → read_key old ≡ Some (Some k, s) → s ≡ t ∷ new
-    → ((depth : ℕ) → value depth (t ∷ new) ≡ Some (j, new)) → of_json j ≡ Some d → IfSome result (λ now. (ms : Members) → HoldsMembers ms before → HoldsMembers (put k d ms) now)
-    → IfSome result (λ now. ReadsMember old new before now)
-member_is old s new k t j d before None key first is made h = tt
-member_is old s new k t j d before (Some now) key first is made h =
+pub member_is : (old s new : List Token) (k : List ℕ) (t : Token) (j : json.Json) (d : Data) (before now : Plain) (result : Option (Unit {0})) → read_key old ≡ Some (Some k, s) → s ≡ t ∷ new
+    → ((depth : ℕ) → value depth (t ∷ new) ≡ Some (j, new)) → of_json j ≡ Some d → OnSome result ((ms : Members) → HoldsMembers ms before → HoldsMembers (put k d ms) now)
+    → OnSome result (ReadsMember old new before now)
+member_is old s new k t j d before now None key first is made h = tt
+member_is old s new k t j d before now (Some done) key first is made h =
     let less = read_key-shorter old (Some k) s key in
     let long : length s ≡ suc (length new) = ap length first in (
       omega (arith, less, long),

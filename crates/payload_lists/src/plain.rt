@@ -1,5 +1,5 @@
 //! Payload lists in their plain form, token by token.
-ghost use Rattle.std.specs.Prelude.{◌≡◌, List, Some, IfSome, IfOk, IsErrOf};
+ghost use Rattle.std.specs.Prelude.{◌≡◌, List, Some, IfSome, IfOk, IsErrOf, OnSome};
 ghost use Rattle.serde_json.specs.Data.{Items, Members, array, number, put, string, unsigned};
 ghost use Rattle.serde_json.specs.Read.{number_of, read};
 ghost use Rattle.prefixes.specs.Payload.{Payload};
@@ -27,46 +27,39 @@ pub struct Plain<'a> {
     prefix: Option<&'a str>,
 }
 
-/// With a member more, where it is a number, has one of these names, and comes for the first time.
-fn with_number<'a>(found: Plain<'a>, name: &str, count: u64) -> Option<Plain<'a>>
-    ensures { IfSome result (λ now. (ms : Members) → HoldsMembers ms found.entry → HoldsMembers (put name.now (number (unsigned count)) ms) now) }
+/// Adds a member, if it is a number, has one of these names, and comes for the first time.
+fn add_number(found: &mut Plain<'_>, name: &str, count: u64) -> Option<()>
+    ensures { OnSome result ((ms : Members) → HoldsMembers ms found.old → HoldsMembers (put name.now (number (unsigned count)) ms) found.new) }
 {
     match name {
-        "asn" if found.asn.is_none() => Some(Plain {
-            asn: Some(count),
-            ..found
-        }),
-        "maxLength" if found.max_len.is_none() => Some(Plain {
-            max_len: Some(count),
-            ..found
-        }),
-        _ => None,
+        "asn" if found.asn.is_none() => found.asn = Some(count),
+        "maxLength" if found.max_len.is_none() => found.max_len = Some(count),
+        _ => return None,
     }
+    Some(())
 }
 
 /// The same of a text.
-fn with_text<'a>(found: Plain<'a>, name: &str, text: &'a str) -> Option<Plain<'a>>
-    ensures { IfSome result (λ now. (ms : Members) → HoldsMembers ms found.entry → HoldsMembers (put name.now (string text.now) ms) now) }
+fn add_text<'a>(found: &mut Plain<'a>, name: &str, text: &'a str) -> Option<()>
+    ensures { OnSome result ((ms : Members) → HoldsMembers ms found.old → HoldsMembers (put name.now (string text.now) ms) found.new) }
 {
     match name {
-        "prefix" if found.prefix.is_none() => Some(Plain {
-            prefix: Some(text),
-            ..found
-        }),
-        _ => None,
+        "prefix" if found.prefix.is_none() => found.prefix = Some(text),
+        _ => return None,
     }
+    Some(())
 }
 
-/// Reads a member.
-fn plain_member<'a>(reader: &mut Reader<'a>, found: Plain<'a>) -> Option<Plain<'a>>
-    ensures { IfSome result (λ now. ReadsMember reader.old reader.new found.entry now) }
+/// Reads a member, if it is one of the three and comes for the first time.
+fn plain_member<'a>(reader: &mut Reader<'a>, found: &mut Plain<'a>) -> Option<()>
+    ensures { OnSome result (ReadsMember reader.old reader.new found.old found.new) }
 {
     let Ok(Some(name)) = reader.next_key() else {
         return None;
     };
     match reader.next()? {
-        Token::Number(text) => with_number(found, name, plain_number(text)?),
-        Token::String(text) => with_text(found, name, text),
+        Token::Number(text) => add_number(found, name, plain_number(text)?),
+        Token::String(text) => add_text(found, name, text),
         _ => None,
     }
 }
@@ -79,16 +72,16 @@ fn plain_object<'a>(reader: &mut Reader<'a>) -> Option<(u64, u64, &'a str)>
         Token::BeginObject => {}
         _ => return None,
     }
-    let none = Plain {
+    let mut found: Plain<'a> = Plain {
         asn: None,
         max_len: None,
         prefix: None,
     };
-    let one = plain_member(reader, none)?;
-    let two = plain_member(reader, one)?;
-    let three = plain_member(reader, two)?;
+    plain_member(reader, &mut found)?;
+    plain_member(reader, &mut found)?;
+    plain_member(reader, &mut found)?;
     match reader.next_key() {
-        Ok(None) => Some((three.asn?, three.max_len?, three.prefix?)),
+        Ok(None) => Some((found.asn?, found.max_len?, found.prefix?)),
         _ => None,
     }
 }
