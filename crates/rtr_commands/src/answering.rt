@@ -159,7 +159,8 @@ fn push_prefix(
 fn unit_lines(alloc: Global, version: Version, bytes: &[u8]) -> Result<String, AllocError>
     ensures { IfOk result (λ lines. HasLines version bytes.now (string_bytes lines)) }
 {
-    let mut lines = String::new(alloc);
+    // (a byte has two digits, and a unit has eight bytes or more for each newline)
+    let mut lines = String::with_capacity(alloc, bytes.len().saturating_mul(17) / 8)?;
     let mut buffer = UnitBuffer::new();
     let mut reader = UnitReader::of_version(version);
     let mut rest = bytes;

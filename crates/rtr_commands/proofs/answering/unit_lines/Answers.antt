@@ -4,13 +4,13 @@ use Rattle.rtr_commands.proofs.SplitLines.{Lined, Read, ends_there, has_lines, l
 use Rattle.rtr_commands.proofs.answering.unit_lines.Goals as goal
 
 pub loop-found-init : goal.loop-found-init
-loop-found-init c = (c.of_version-reader.ensures, read_none c.args.version (Lined c.args.version (string_bytes c.new-lines.result)) c.args.bytes.now (record { sound = tt; lines_are = c.new-lines.ensures.bytes }))
+loop-found-init c = (c.of_version-reader.ensures, read_none c.args.version (Lined c.args.version (string_bytes c.in_ok-lines.lines)) c.args.bytes.now (record { sound = tt; lines_are = c.in_ok-lines.ensures.bytes }))
 
-pub loop-found-smaller-in-Continue-1 : goal.loop-found-smaller-in-Continue-1
-loop-found-smaller-in-Continue-1 c = read_less c.args.version c.loop-found.rest.now c.next_prefix.new.piece.now (Prefix c.in-Some.found.0 c.in-Some.found.1) c.loop-found.reader c.next_prefix.new.self c.loop-found.invariant.0 c.in-Some.ensures.some
+pub loop-found-smaller-in-Continue-branch-2 : goal.loop-found-smaller-in-Continue-branch-2
+loop-found-smaller-in-Continue-branch-2 c = read_less c.args.version c.loop-found.rest.now c.next_prefix.new.piece.now (Prefix c.in-Some.found.0 c.in-Some.found.1) c.loop-found.reader c.next_prefix.new.self c.loop-found.invariant.0 c.in-Some.ensures.some
 
-pub loop-found-preserved-in-Continue-1 : goal.loop-found-preserved-in-Continue-1
-loop-found-preserved-in-Continue-1 c =
+pub loop-found-preserved-in-Continue-branch-2 : goal.loop-found-preserved-in-Continue-branch-2
+loop-found-preserved-in-Continue-branch-2 c =
     read_more c.args.version (Lined c.args.version (string_bytes c.loop-found.lines)) (Lined c.args.version (string_bytes c.push_prefix.new.lines)) c.args.bytes.now c.loop-found.rest.now c.next_prefix.new.piece.now (Prefix c.in-Some.found.0 c.in-Some.found.1) c.loop-found.reader c.next_prefix.new.self c.loop-found.invariant.0 c.in-Some.ensures.some c.loop-found.invariant.1
     (λ lined. lined_more c.args.version (string_bytes c.loop-found.lines) (string_bytes c.push_prefix.new.lines) c.loop-found.invariant.1.units (Prefix c.in-Some.found.0 c.in-Some.found.1) c.in_ok-push_prefix.ensures refl lined)
 
