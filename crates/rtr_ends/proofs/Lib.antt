@@ -6,6 +6,7 @@ pub mod CacheRows
 pub mod CacheStateLaws
 pub mod CallRows
 pub mod CommitLaws
+pub mod CountedRows
 pub mod ConsumedLaws
 pub mod ConsumedUnits
 pub mod FaultRows
