@@ -23,6 +23,9 @@ TOOK = f"{TOP}/tools/took.txt"
 # How many seconds pass at most without a word.
 PATIENCE = 30
 
+# Which part of the longest chain another one has at least that must not wait for it.
+NEAR = 0.8
+
 
 def tell(text):
     print(f"run: {text}", file=sys.stderr, flush=True)
@@ -71,11 +74,11 @@ class Build:
         return next((it for it in ready if not running or (len(running) < self.cores and RT.need(it) <= room)), None)
 
     def jobs(self, crate, running):
-        """The jobs for a crate beside those that have these: two for as many libraries as fill the processors so, and one for each other. A
-        second job shortens a chain, and takes more of the processors in all. The program comes last, and gets all."""
-        if crate.is_program:
-            return self.cores
-        return 2 if sum(it > 1 for it in running) < self.cores // 2 else 1
+        """The jobs for a crate beside those that run: those on the longest chain, which all others wait for in the end, share the processors, and
+        any other has one. A further job shortens a chain, and takes more of the processors in all."""
+        longest = max(map(self.chain, [crate, *running]))
+        heads = [it for it in [crate, *running, *self.left] if self.stand.issuperset(it.deps) and self.chain(it) >= NEAR * longest]
+        return max(1, self.cores // len(set(heads))) if crate in heads else 1
 
     def last_time(self, crate):
         """How long a crate took last time, as the end of a line."""
@@ -114,7 +117,7 @@ class Build:
         with ThreadPoolExecutor(self.cores) as pool:
             while running or (well and self.next(wanted, [], memory)):
                 while well and (crate := self.next(wanted, [it for it, _ in running.values()], memory)):
-                    jobs = self.jobs(crate, [it for _, it in running.values()])
+                    jobs = self.jobs(crate, [it for it, _ in running.values()])
                     self.begin(crate)
                     running[pool.submit(build_program if crate.is_program else prove_library, crate, jobs)] = crate, jobs
                 for it in self.wait(running):
