@@ -16,7 +16,7 @@ use Rattle.payload_lists.specs.PlainForm.{HoldsMembers, ReadsMember, ReadsObject
 use Rattle.payload_lists.specs.declared.plain.Plain.{Plain}
 use Rattle.payload_lists.proofs.Entries.{is_entry, one_some}
 
-with_member : (k : List ℕ) (j : json.Json) (d : Data) (old : Members) → of_json j ≡ Some d → (o : Option (json.Members × List Token))
+pub with_member : (k : List ℕ) (j : json.Json) (d : Data) (old : Members) → of_json j ≡ Some d → (o : Option (json.Members × List Token))
     → converted (λ ms. of_members ms old) (parse_map (json.member k j) o) ≡ converted (λ ms. of_members ms (put k d old)) o
 with_member k j d old e None = refl
 with_member k j d old e (Some p) = rw e
@@ -45,7 +45,7 @@ string_read s new depth = value_is depth (Token.string s ∷ new)
 
 -- ---- an entry
 
-converted-object : (o : Option (json.Members × List Token)) → converted of_json (parse_map json.object o) ≡ parse_map object (converted (λ ms. of_members ms no_members) o)
+pub converted-object : (o : Option (json.Members × List Token)) → converted of_json (parse_map json.object o) ≡ parse_map object (converted (λ ms. of_members ms no_members) o)
 converted-object None = refl
 converted-object (Some p) = by (of_members p.0 no_members)
   where
