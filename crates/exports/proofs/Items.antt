@@ -1,12 +1,10 @@
 -- The entries of an array, one after the other.
-use Rattle.std.proofs.Common.{◌≡◌, ℕ, zero, suc, ◌<◌, ◌+◌, ◌≤◌, ◌++◌, Bool, true, false, cond, List, [], ◌∷◌, length, drop, get_or, drop-cons, add-one, append_assoc, append-nil, map, refl, sym, ap, ◌∙◌, subst, arith, Some, inl}
-use Rattle.std.specs.Prelude.{filter, count_by, not}
+use Rattle.std.proofs.Common.{◌≡◌, ℕ, suc, ◌+◌, ◌≤◌, ◌++◌, cond, List, [], ◌∷◌, length, append_assoc, append-nil, map, refl, sym, ap, ◌∙◌, subst, arith, Some, inl}
+use Rattle.std.specs.Prelude.{filter, not}
 use Rattle.std.proofs.lemmas.List.{map-append, length-append}
 use Rattle.std.proofs.lemmas.List.Elements.{filter-append}
 use Rattle.std.proofs.lemmas.List.Sums.{count_by-le-length, sum_by-append}
 use Rattle.serde_json.specs.Data.{Data, Items, no_items, item}
-use Rattle.serde_json.specs.View.{view, items_view}
-use Rattle.serde_json.specs.declared.value.Value.{Value}
 use Rattle.exports.specs.Entry.{AreEntries, FailsAt, IsEntry, IsNoEntry, counts_at, current, expired}
 use Rattle.exports.specs.Export.{Lists, lasting}
 use Rattle.exports.specs.Found.{Gathers}
@@ -71,3 +69,6 @@ gather_list d ds now g array are none = (
   inl (record { items = ds; is_array = sym array; payloads = g.records.items; listed = are; entries_are = refl }),
   record { records = sym (current-lasting now g.records.items); expired = none ∙ sym (expired-lasting now g.records.items) },
 )
+
+pub gather_none : (now : ℕ) (g : Gathered) → g.records.items ≡ [] → g.expired ≡ 0 → Gathers now [] g
+gather_none now g records count = record { records = records; expired = count }

@@ -1,5 +1,5 @@
 -- The texts of AS numbers.
-use Rattle.std.proofs.Common.{◌≡◌, ℕ, ◌<◌, ◌≤◌, ◌^◌, ◌++◌, ◌∷◌, List, Option, Some, None, refl, sym, ◌∙◌, subst, arith, codes, inl, inr}
+use Rattle.std.proofs.Common.{◌≡◌, ℕ, ◌<◌, ◌^◌, ◌++◌, List, Option, Some, None, refl, sym, ◌∙◌, subst, arith, codes, inl, inr}
 use Rattle.std.specs.Prelude.{IfNone}
 use Rattle.std.specs.Fmt.{decimal}
 use Rattle.prefixes.proofs.Decimals.{decimal_lacks}

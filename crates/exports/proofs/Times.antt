@@ -1,5 +1,5 @@
 -- The texts of moments, with dashes and colons and without.
-use Rattle.std.proofs.Common.{◌≡◌, ℕ, List, [], ◌∷◌, length, get_or, refl, sym, ap, ◌∙◌, arith}
+use Rattle.std.proofs.Common.{◌≡◌, ℕ, List, [], ◌∷◌, length, get_or, refl, ap, ◌∙◌, arith}
 use Rattle.der_lite.specs.Moments.{CivilMoment, moment_digits, moment_text}
 use Rattle.exports.specs.Built.{time_text}
 

@@ -3,7 +3,7 @@ use Rattle.std.specs.Prelude.{◌≡◌, ℕ, List, Some, None, option_map, ⊤}
 use Rattle.serde_json.specs.Data.{Data, Items}
 use Rattle.prefixes.specs.Payload.{Payload}
 use Rattle.payload_lists.specs.PayloadList as lists
-use Rattle.exports.specs.Entry.{AreEntries, FailsAt, Said, current, expired}
+use Rattle.exports.specs.Entry.{FailsAt, Said, current, expired}
 use Rattle.exports.specs.Export.{IsList, roas}
 use Rattle.exports.specs.declared.entry.Found.{Found}
 use Rattle.exports.specs.declared.entry.Listed.{Listed}

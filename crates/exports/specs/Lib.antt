@@ -3,3 +3,4 @@ pub mod Built
 pub mod Entry
 pub mod Export
 pub mod Found
+pub mod PlainForm

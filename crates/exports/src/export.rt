@@ -1,20 +1,25 @@
 //! Exports, read from JSON.
-ghost use Rattle.std.specs.Prelude.{◌≡◌, ◌<◌, ◌≤◌, List, IfOk, IfErr, OnErr, Err};
+ghost use Rattle.std.specs.Prelude.{◌≡◌, ◌<◌, ◌≤◌, List, Some, IfOk, IfErr, IfSome, OnErr, Err};
 ghost use Rattle.serde_json.specs.View.{view, items_view};
 ghost use Rattle.vrps.specs.VrpSet.{set_of, size};
 ghost use Rattle.payload_lists.specs.PayloadList.{AreEntries};
 ghost use Rattle.exports.specs.Export.{HasFault, IsExport, Lists};
 ghost use Rattle.exports.specs.Found.{Gathers, ListFails, ValueFails};
+ghost use Rattle.exports.specs.PlainForm.{TellsParts};
+ghost use Rattle.serde_json.specs.Data.{Data};
+ghost use Rattle.serde_json.specs.Read.{read};
 ghost use Rattle.exports.specs.declared.entry.Listed.{Listed as Entry};
 
 use crate::built::built_of;
 use crate::fault::ExportFault;
 use crate::gathered::{Gathered, gather};
+use crate::plain::{Parts, plain_export};
 use payload_lists::ListFault;
-use payload_lists::parts::records_of;
+use payload_lists::parts::{plain_list, records_of};
 use prefixes::Vrp;
 use serde_json::Value;
-use std::alloc::Global;
+use std::alloc::{AllocError, Global};
+use std::str;
 use vrps::{SetFault, VrpSet};
 
 /// What a validator exported, at a moment.
@@ -100,10 +105,57 @@ fn read_any(alloc: Global, bytes: &[u8], now: u64) -> Result<Export, ExportFault
     export_of(gathered, built_of(&value))
 }
 
-/// The export that these bytes are, at a moment in seconds since 1970.
+/// What is gathered of a text in its plain form, of either kind.
+fn gather_plain(alloc: Global, text: &str, now: u64) -> Result<Option<Parts>, AllocError>
+    ensures { IfOk result (λ found. IfSome found (λ parts. (d : Data) × (read text.now ≡ Some d) × TellsParts now d parts)) }
+{
+    match plain_list(alloc, text) {
+        Ok(Some(records)) => Ok(Some(Parts {
+            gathered: Some(Gathered {
+                records,
+                expired: 0,
+            }),
+            built: None,
+        })),
+        Ok(None) => plain_export(alloc, text, now),
+        Err(ListFault::NoList) => Ok(None),
+        Err(ListFault::Memory) => Err(AllocError),
+    }
+}
+
+/// The export of a text in its plain form.
+fn read_plain(alloc: Global, text: &str, now: u64) -> Result<Option<Export>, ExportFault>
+    ensures ok { IfOk result (λ found. IfSome found (λ export. IsExport text.now now export)) }
+    ensures fault { IfErr result (λ fault. HasFault text.now now fault) }
+{
+    let Some(parts) = gather_plain(alloc, text, now)? else {
+        return Ok(None);
+    };
+    let Parts { gathered, built } = parts;
+    let Some(gathered) = gathered else {
+        return Ok(None);
+    };
+    match export_of(gathered, built) {
+        Ok(export) => Ok(Some(export)),
+        Err(fault) => Err(fault),
+    }
+}
+
+/// The export that these bytes are, at a moment in seconds since 1970: a payload list, or an object whose member `roas` is an array of
+/// entries. An entry is an object with `asn` (a whole number below 2^32, or a text of one, with `AS` before it or without), `prefix`,
+/// `maxLength`, and perhaps `expires`, in seconds since 1970: it counts at moments before that one. Other members are passed over. Of a
+/// key that stands twice in an object, `serde_json` reads the last.
+///
+/// A text whose numbers are of digits alone is read token by token, and any other as a whole. The fault is the first of those that there
+/// are, in the order of their numbers; where there is one, nothing was taken.
 pub fn read_export(alloc: Global, bytes: &[u8], now: u64) -> Result<Export, ExportFault>
     ensures ok { IfOk result (λ export. IsExport bytes.now now export) }
     ensures fault { IfErr result (λ fault. HasFault bytes.now now fault) }
 {
+    if let Ok(text) = str::from_utf8(bytes) {
+        if let Some(export) = read_plain(alloc, text, now)? {
+            return Ok(export);
+        }
+    }
     read_any(alloc, bytes, now)
 }

@@ -1,5 +1,6 @@
 //! What is gathered of the entries of an export.
 ghost use Rattle.std.specs.Prelude.{◌≡◌, ◌+◌, ◌^◌, ◌<◌, ◌++◌, ◌∷◌, [], List, IfOk, IfErr, OnOk};
+ghost use Rattle.std.specs.Bool.{OnFalse, OnTrue};
 ghost use Rattle.serde_json.specs.View.{items_view};
 ghost use Rattle.exports.specs.Entry.{AreEntries, counts_at, current, expired};
 ghost use Rattle.exports.specs.Found.{Gathers, ItemsFail};
@@ -29,6 +30,14 @@ fn counts(entry: &Listed, now: u64) -> bool
 }
 
 impl Gathered {
+    /// Whether the count of those that do not count can grow no more.
+    pub(crate) fn is_full(&self) -> bool
+        ensures full { OnTrue result (self.now.expired + 1 ≡ 2 ^ 64) }
+        ensures room { OnFalse result (self.now.expired + 1 < 2 ^ 64) }
+    {
+        self.expired == u64::MAX
+    }
+
     /// Gathers one more entry.
     pub(crate) fn add(&mut self, entry: &Listed, now: u64) -> Result<(), AllocError>
         requires { self.old.expired + 1 < 2 ^ 64 }

@@ -21,6 +21,7 @@ mod entry;
 mod export;
 mod fault;
 mod gathered;
+mod plain;
 
 pub use export::{Export, read_export};
 pub use fault::{EntryFault, ExportFault};

@@ -1,5 +1,5 @@
-use Rattle.std.proofs.Common.{◌≡◌, ◌∙◌, List, ℕ, length, get_or, refl, sym, ap, subst}
-use Rattle.exports.proofs.Times.{plain, plain_time, says_time}
+use Rattle.std.proofs.Common.{◌≡◌, ◌∙◌, refl, sym}
+use Rattle.exports.proofs.Times.{plain_time, says_time}
 use Rattle.exports.proofs.built.time_in.Goals as goal
 
 pub returns-in-Some : goal.returns-in-Some

@@ -1,4 +1,4 @@
-use Rattle.std.proofs.Common.{◌≡◌, ◌++◌, ◌∙◌, sym, ap, codes, drop}
+use Rattle.std.proofs.Common.{◌++◌, ◌∙◌, sym, ap, codes}
 use Rattle.exports.proofs.Texts.{asn_none}
 use Rattle.exports.proofs.entry.asn_in.Goals as goal
 

@@ -1,4 +1,4 @@
-use Rattle.std.proofs.Common.{◌≡◌, ◌∙◌, Result, Ok, Err, true, refl, sym, subst, inr}
+use Rattle.std.proofs.Common.{◌≡◌, Result, Ok, Err, true, sym, subst, inr}
 use Rattle.std.specs.Prelude.{IfErr, is_some}
 use Rattle.serde_json.specs.Data.{Data}
 use Rattle.serde_json.specs.Find.{as_object}

@@ -1,4 +1,4 @@
-use Rattle.std.proofs.Common.{◌≡◌, ◌+◌, ◌++◌, ◌∷◌, ◌∙◌, List, [], length, drop, refl, sym, ap, subst, arith}
+use Rattle.std.proofs.Common.{◌≡◌, ◌+◌, ◌++◌, ◌∷◌, [], drop, subst, arith}
 use Rattle.std.proofs.lemmas.List.{drop_all, length-append}
 use Rattle.serde_json.specs.View.{items_view, view}
 use Rattle.exports.proofs.Items.{SoFar, finish, gather_more, step, stop}

@@ -1,0 +1,25 @@
+use Rattle.std.proofs.Common.{◌+◌, ◌*◌, length}
+use Rattle.std.specs.Prelude.{⊤}
+use Rattle.exports.proofs.PlainSteps.{Begun, BegunItems}
+use Rattle.exports.proofs.plain.+passing.Given as goal
+
+abbrev pub decreases-see : goal.decreases-see
+decreases-see l = 2 * l.depth
+
+abbrev pub decreases-pass_items : goal.decreases-pass_items
+decreases-pass_items l = 2 * l.depth + 1
+
+abbrev pub decreases-pass_members : goal.decreases-pass_members
+decreases-pass_members l = 2 * l.depth + 1
+
+abbrev pub invariant-pass_items-loop-reader : goal.invariant-pass_items-loop-reader
+invariant-pass_items-loop-reader l = BegunItems l.depth (λ _. ⊤) l.initial.reader l.reader
+
+abbrev pub decreases-pass_items-loop-reader : goal.decreases-pass_items-loop-reader
+decreases-pass_items-loop-reader l = length l.reader
+
+abbrev pub invariant-pass_members-loop-reader : goal.invariant-pass_members-loop-reader
+invariant-pass_members-loop-reader l = Begun l.depth (λ _. ⊤) l.initial.reader l.reader
+
+abbrev pub decreases-pass_members-loop-reader : goal.decreases-pass_members-loop-reader
+decreases-pass_members-loop-reader l = length l.reader

@@ -1,0 +1,10 @@
+use Rattle.std.proofs.Common.{length}
+use Rattle.exports.specs.PlainForm.{IsMetadata}
+use Rattle.exports.proofs.PlainSteps.{Begun}
+use Rattle.exports.proofs.plain.plain_metadata.Given as goal
+
+abbrev pub invariant-loop-key : goal.invariant-loop-key
+invariant-loop-key l = Begun 16 (λ ms. IsMetadata ms l.metadata) l.initial.reader l.reader
+
+abbrev pub decreases-loop-key : goal.decreases-loop-key
+decreases-loop-key l = length l.reader

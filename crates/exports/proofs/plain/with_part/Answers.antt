@@ -1,0 +1,20 @@
+use Rattle.std.proofs.Common.{Some, sym, subst}
+use Rattle.std.specs.Prelude.{IfSome}
+use Rattle.exports.specs.PlainForm.{ReadsPart, ReadsRoas}
+use Rattle.exports.proofs.PlainWhole.{part_metadata, part_other, part_roas}
+use Rattle.exports.proofs.plain.with_part.Goals as goal
+
+pub returns-in-Some : goal.returns-in-Some
+returns-in-Some c =
+    let read = subst (λ o. IfSome o (λ g. ReadsRoas c.args.now c.args.reader.now c.plain_roas.new.reader g)) c.in-Some.is c.in_ok-gathered-in-roas.ensures in
+    subst (λ k. ReadsPart c.args.now k c.args.parts (record c.args.parts { gathered = Some c.in-Some.gathered }) c.args.reader.now c.plain_roas.new.reader) (sym c.in-roas.is)
+    (part_roas c.args.now c.args.parts c.in-Some.gathered c.args.reader.now c.plain_roas.new.reader read)
+
+pub returns-in-Some-plain_built : goal.returns-in-Some-plain_built
+returns-in-Some-plain_built c =
+    subst (λ k. ReadsPart c.args.now k c.args.parts (record c.args.parts { built = c.in-Some-plain_built.built }) c.args.reader.now c.plain_built.new.reader) (sym c.in-metadata.is)
+    (part_metadata c.args.now c.args.parts c.in-Some-plain_built.built c.args.reader.now c.plain_built.new.reader c.in-Some-plain_built.ensures)
+
+pub returns-in-Some-see : goal.returns-in-Some-see
+returns-in-Some-see c =
+    part_other c.args.now c.args.name.now c.args.parts c.in-Some-see._passed c.args.reader.now c.see.new.reader c.in_default.not-roas c.in_default.not-metadata c.in-Some-see.ensures
