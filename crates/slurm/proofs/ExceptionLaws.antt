@@ -1,0 +1,97 @@
+-- What exceptions make of a set.
+use Rattle.std.specs.Prelude.{◌≡◌, ◌≤◌, ℕ, Bool, true, false, not, ◌&&◌, ◌||◌, cond, List, Option, Some, None, is_some, refl, length, filter}
+use Rattle.std.proofs.Common.{ap, sym, ◌∙◌, subst, arith, rules, ◌<◌, IfOk, IsOk, OnErr, Result, Ok, Err}
+use Rattle.vrps.specs.declared.set.SetFault.{SetFault}
+use Rattle.vrps.specs.declared.set.SetFault.TheVariants.{TooMany}
+use Rattle.std.proofs.Math.Bool.{or-true}
+use Rattle.std.specs.List.{list_any}
+use Rattle.std.specs.FinMap as map
+use Rattle.std.specs.declared.cmp.Ordering.TheVariants.{Equal}
+use Rattle.std.proofs.lemmas.List.Kept.{IsStrictlySortedBy-filter}
+use Rattle.std.proofs.lemmas.List.Sums.{length-filter, count_by-le-length}
+use Rattle.prefixes.specs.Payload.{Payload, vrp_cmp}
+use Rattle.prefixes.specs.Orders.{vrp_exact}
+use Rattle.vrps.specs.VrpSet.{VrpSet, IsVrpSet, has, listing, set_of, size, union, without}
+use Rattle.vrps.proofs.Listed.{size_of_listing}
+use Rattle.vrps.proofs.SetLaws.{has-listing, has-set_of, has-union, has-without, kept, listing_ascends, same_set, same_vrp, size-set_of}
+use Rattle.slurm.specs.Exceptions.{AppliedTwice, AssertionsStay, IsExcepted, excepted, is_filtered}
+use Rattle.slurm.specs.declared.filter.PrefixFilter.{PrefixFilter}
+
+or_none : (b : Bool) (x : Option (Unit {0})) → is_some (cond b x None) ≡ (is_some x && b)
+or_none true None = refl
+or_none true (Some u) = refl
+or_none false None = refl
+or_none false (Some u) = refl
+
+-- payloads that tie are one
+alike : (p : Payload → Bool) (q x : Payload) → vrp_cmp q x ≡ Equal → p x ≡ p q
+alike p q x e = ap p (sym (vrp_exact q x e))
+
+-- the members that pass a test
+has-kept : (p : Payload → Bool) (s : VrpSet) (q : Payload) → has (map.retain_keys s p) q ≡ (has s q && p q)
+has-kept p s q = ap is_some (map.get-retain_keys s p q (λ x e. alike p q x e)) ∙ or_none (p q) (map.get s q)
+
+pub is_excepted : (fs : List PrefixFilter) (assertions s : VrpSet) → IsExcepted fs assertions s (excepted fs assertions s)
+is_excepted fs assertions s q =
+    has-union (map.retain_keys s (λ v. not (is_filtered fs v))) assertions q ∙ ap (λ b. b || has assertions q) (has-kept (λ v. not (is_filtered fs v)) s q)
+
+-- the members that some filter matches
+pub few : (fs : List PrefixFilter) (s : VrpSet) → IsVrpSet s → size (set_of (filter (is_filtered fs) (listing s))) ≤ 16777215
+few fs s h =
+    let sorted = IsStrictlySortedBy-filter vrp_cmp (is_filtered fs) (listing s) (listing_ascends s) in
+    omega (arith, h.within_limit, size-set_of (filter (is_filtered fs) (listing s)) sorted, size_of_listing s, length-filter (is_filtered fs) (listing s), count_by-le-length (is_filtered fs) (listing s))
+
+has-filtered : (fs : List PrefixFilter) (s : VrpSet) (q : Payload) → has (set_of (filter (is_filtered fs) (listing s))) q ≡ (has s q && is_filtered fs q)
+has-filtered fs s q =
+    has-set_of (filter (is_filtered fs) (listing s)) q ∙ kept (is_filtered fs) q (λ x e. alike (is_filtered fs) q x e) (listing s) ∙ ap (λ b. b && is_filtered fs q) (sym (has-listing s q))
+
+left : (a b : Bool) → (a && not (a && b)) ≡ (a && not b)
+left true b = refl
+left false b = refl
+
+-- To withdraw these, and to announce the assertions, is to apply the exceptions.
+pub by_change : (fs : List PrefixFilter) (assertions s : VrpSet) → union (without s (set_of (filter (is_filtered fs) (listing s)))) assertions ≡ excepted fs assertions s
+by_change fs assertions s = same_set _ _ (λ q.
+    has-union (without s (set_of (filter (is_filtered fs) (listing s)))) assertions q
+    ∙ ap (λ b. b || has assertions q) (has-without s (set_of (filter (is_filtered fs) (listing s))) q ∙ ap (λ b. has s q && not b) (has-filtered fs s q) ∙ left (has s q) (is_filtered fs q))
+    ∙ sym (is_excepted fs assertions s q))
+
+again : (a b c : Bool) → ((((a && not b) || c) && not b) || c) ≡ ((a && not b) || c)
+again true true true = refl
+again true true false = refl
+again true false true = refl
+again true false false = refl
+again false true true = refl
+again false true false = refl
+again false false true = refl
+again false false false = refl
+
+pub applied_twice : AppliedTwice
+applied_twice fs assertions s = same_set _ _ (λ q.
+    is_excepted fs assertions (excepted fs assertions s) q
+    ∙ ap (λ b. (b && not (is_filtered fs q)) || has assertions q) (is_excepted fs assertions s q)
+    ∙ again (has s q) (is_filtered fs q) (has assertions q)
+    ∙ sym (is_excepted fs assertions s q))
+
+pub assertions_stay : AssertionsStay
+assertions_stay fs assertions s v h = is_excepted fs assertions s v ∙ ap (λ b. (has s v && not (is_filtered fs v)) || b) h ∙ or-true (has s v && not (is_filtered fs v))
+
+-- a set of too few members to be refused
+pub is_made : (r : Result VrpSet SetFault) (n : ℕ) → OnErr r (r ≡ Err TooMany) → (r ≡ Err TooMany → 16777215 < n) → n ≤ 16777215 → IsOk r
+is_made (Ok s) n only many few = search rules
+is_made (Err e) n only many few = absurd (let more = many only in omega (arith, more, few))
+
+-- the set that a change makes
+pub made : (r : Result VrpSet SetFault) (t u : VrpSet) → IfOk r (λ x. (x ≡ t) × (size x ≤ 16777215)) → t ≡ u → IfOk r (λ x. (x ≡ u) × (size x ≤ 16777215))
+made (Ok s) t u h e = (h.0 ∙ e, h.1)
+made (Err f) t u h e = tt
+
+pub made_excepted : (r : Result VrpSet SetFault) (fs : List PrefixFilter) (assertions s : VrpSet) → IfOk r (λ t. (t ≡ excepted fs assertions s) × (size t ≤ 16777215)) → IfOk r (IsExcepted fs assertions s)
+made_excepted (Ok t) fs assertions s h = subst (IsExcepted fs assertions s) (sym h.0) (is_excepted fs assertions s)
+made_excepted (Err f) fs assertions s h = tt
+
+-- the same of a set that is made of these parts
+pub leads : (fs gs : List PrefixFilter) (assertions announce s withdraw : VrpSet) → gs ≡ fs → withdraw ≡ set_of (filter (is_filtered gs) (listing s)) → announce ≡ assertions
+    → union (without s withdraw) announce ≡ excepted fs assertions s
+leads fs gs assertions announce s withdraw e w a =
+    (λ i. union (without s (w i)) (a i)) ∙ (λ i. union (without s (set_of (filter (is_filtered (e i)) (listing s)))) assertions) ∙ by_change fs assertions s

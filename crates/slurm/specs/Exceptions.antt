@@ -1,0 +1,43 @@
+-- Local exceptions to a set of payloads (RFC 8416 sections 3.3.1 and 3.4.1).
+use Rattle.std.specs.Prelude.{◌≡◌, ℕ, Bool, true, not, ◌&&◌, ◌||◌, ◌==◌, List, Option, Some, None}
+use Rattle.std.specs.List.{list_any}
+use Rattle.std.specs.FinMap as map
+use Rattle.prefixes.specs.Payload.{Payload, covers}
+use Rattle.prefixes.specs.declared.asn.Asn.{Asn}
+use Rattle.prefixes.specs.declared.prefix.IpPrefix.{IpPrefix}
+use Rattle.vrps.specs.VrpSet.{VrpSet, has, union}
+use Rattle.slurm.specs.declared.filter.PrefixFilter.{PrefixFilter}
+
+-- The prefix is that of the filter or is covered by it, if the filter has one.
+abbrev pub is_within : Option IpPrefix → IpPrefix → Bool
+is_within None p = true
+is_within (Some q) p = covers q p
+
+-- The AS is that of the filter, if it has one.
+abbrev pub is_of_as : Option Asn → ℕ → Bool
+is_of_as None n = true
+is_of_as (Some a) n = a.0 == n
+
+-- A payload matches a filter (RFC 8416 section 3.3.1).
+abbrev pub matches : PrefixFilter → Payload → Bool
+matches f v = is_within f.prefix v.prefix && is_of_as f.asn v.asn
+
+-- some filter matches
+abbrev pub is_filtered : List PrefixFilter → Payload → Bool
+is_filtered fs v = list_any (λ f. matches f v) fs
+
+-- The members of a set that no filter matches, together with the assertions
+abbrev pub excepted : List PrefixFilter → VrpSet → VrpSet → VrpSet
+excepted fs assertions s = union (map.retain_keys s (λ v. not (is_filtered fs v))) assertions
+
+-- A payload is in what comes of a set exactly where it is in the set and no filter matches it, or an assertion says it.
+abbrev pub IsExcepted : List PrefixFilter → VrpSet → VrpSet → VrpSet → Type 0
+IsExcepted fs assertions s t = (v : Payload) → has t v ≡ ((has s v && not (is_filtered fs v)) || has assertions v)
+
+-- Applying twice gives what applying once gives.
+abbrev pub AppliedTwice : Type 0
+AppliedTwice = (fs : List PrefixFilter) (assertions s : VrpSet) → excepted fs assertions (excepted fs assertions s) ≡ excepted fs assertions s
+
+-- Filters do not act on assertions.
+abbrev pub AssertionsStay : Type 0
+AssertionsStay = (fs : List PrefixFilter) (assertions s : VrpSet) (v : Payload) → has assertions v ≡ true → has (excepted fs assertions s) v ≡ true

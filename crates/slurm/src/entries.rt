@@ -1,0 +1,220 @@
+//! The entries of the arrays.
+ghost use Rattle.std.specs.Prelude.{◌≡◌, ◌+◌, ℕ, ◌≤◌, ◌<◌, Option, Result, IfOk, IfErr, IfSome, IfNone, is_some, ⊤};
+ghost use Rattle.serde_json.specs.Data.{Data};
+ghost use Rattle.serde_json.specs.Find.{get};
+ghost use Rattle.serde_json.specs.View.{items_view, view};
+ghost use Rattle.prefixes.specs.Payload.{block_of};
+ghost use Rattle.slurm.specs.Members.{total};
+ghost use Rattle.slurm.specs.SlurmFile.{AreRead, ReadsAssertion, ReadsFilter, ReadsObject, ReadsPrefix, SpellsPrefix, asn_if_any, asn_of, assertion_asn, comment_of, filter_asn, listed, max_len_of, members_known, IsMaximum};
+ghost use Rattle.slurm.specs.Steps.{IsEntryFault};
+
+use crate::fault::{EntryFault, SlurmArray, SlurmFault};
+use crate::filter::PrefixFilter;
+use crate::members::{has, one_for, text, total, whole};
+use prefixes::{Asn, IpPrefix, Vrp};
+use serde_json::Value;
+use std::alloc::Global;
+
+/// What stands in an array.
+pub(crate) trait Entry: Copy {
+    ghost use Rattle.slurm.specs.declared.fault.EntryFault.{EntryFault};
+
+    /// What is read of a JSON value.
+    ghost reads: { Data → Result Self EntryFault → Type 0 };
+
+    /// Reads an entry.
+    fn read(value: &Value) -> Result<Self, EntryFault>
+        ensures { reads (view value.now) result };
+}
+
+/// The entries of an array, or the first that cannot be read.
+pub(crate) fn entries<E: Entry>(
+    alloc: Global,
+    list: &[Value],
+    array: SlurmArray,
+) -> Result<Vec<E>, SlurmFault>
+    ensures ok { IfOk result (λ xs. AreRead E.reads (listed (items_view list.now)) xs.items) }
+    ensures err { IfErr result (IsEntryFault E.reads array (listed (items_view list.now))) }
+{
+    let mut values = Vec::new(alloc);
+    for (index, item) in list.iter().enumerate() {
+        match E::read(item) {
+            Ok(value) => {
+                if values.push(value).is_err() {
+                    return Err(SlurmFault::Memory);
+                }
+            }
+            Err(why) => return Err(SlurmFault::Entry(array, index, why)),
+        }
+    }
+    Ok(values)
+}
+
+/// Judges whether an entry is an object that has so many members.
+fn know_members(value: &Value, known: usize) -> Result<(), EntryFault>
+    ensures { result ≡ members_known known (total (view value.now)) }
+{
+    match total(value) {
+        None => Err(EntryFault::NoObject),
+        Some(members) if members == known => Ok(()),
+        Some(_) => Err(EntryFault::OtherKey),
+    }
+}
+
+/// The AS of an entry.
+fn asn(value: &Value) -> Result<Asn, EntryFault>
+    ensures { result ≡ asn_of (view value.now) }
+{
+    let Some(number) = whole(value, "asn") else {
+        return Err(EntryFault::Asn);
+    };
+    match u32::try_from(number) {
+        Ok(number) => Ok(Asn(number)),
+        Err(_) => Err(EntryFault::Asn),
+    }
+}
+
+/// The AS of an entry, if it has one.
+fn asn_if_any(value: &Value) -> Result<Option<Asn>, EntryFault>
+    ensures { result ≡ asn_if_any (view value.now) }
+{
+    if !has(value, "asn") {
+        return Ok(None);
+    }
+    let asn = asn(value)?;
+    Ok(Some(asn))
+}
+
+/// Judges the comment of an entry.
+fn know_comment(value: &Value) -> Result<(), EntryFault>
+    ensures { result ≡ comment_of (view value.now) }
+{
+    if !has(value, "comment") || text(value, "comment").is_some() {
+        return Ok(());
+    }
+    Err(EntryFault::Comment)
+}
+
+/// The prefix that an entry spells.
+fn prefix(value: &Value) -> Option<IpPrefix>
+    ensures some { IfSome result (SpellsPrefix (view value.now)) }
+    ensures one { IfSome result (λ p. (q : IpPrefix) → SpellsPrefix (view value.now) q → q ≡ p) }
+    ensures none { IfNone result ((p : IpPrefix) → ¬ (SpellsPrefix (view value.now) p)) }
+{
+    let text = text(value, "prefix")?;
+    match IpPrefix::parse(text) {
+        Ok(prefix) => Some(prefix),
+        Err(_) => None,
+    }
+}
+
+/// The prefix of an entry, if it has one.
+fn prefix_if_any(value: &Value) -> Result<Option<IpPrefix>, EntryFault>
+    ensures { ReadsPrefix (view value.now) result }
+{
+    if !has(value, "prefix") {
+        return Ok(None);
+    }
+    match prefix(value) {
+        Some(prefix) => Ok(Some(prefix)),
+        None => Err(EntryFault::Prefix),
+    }
+}
+
+/// What a filter has before its prefix.
+fn filter_asn(value: &Value) -> Result<Option<Asn>, EntryFault>
+    ensures { result ≡ filter_asn (view value.now) }
+{
+    let known = one_for(value, "prefix") + one_for(value, "asn") + one_for(value, "comment");
+    know_members(value, known)?;
+    if !has(value, "prefix") && !has(value, "asn") {
+        return Err(EntryFault::NeitherKey);
+    }
+    let asn = asn_if_any(value)?;
+    know_comment(value)?;
+    Ok(asn)
+}
+
+/// A prefix filter (RFC 8416 section 3.3.1).
+impl Entry for PrefixFilter {
+    ghost use Rattle.slurm.specs.SlurmFile.{ReadsFilter};
+
+    ghost reads = { ReadsFilter };
+
+    fn read(value: &Value) -> Result<PrefixFilter, EntryFault> {
+        let asn = filter_asn(value)?;
+        let prefix = prefix_if_any(value)?;
+        Ok(PrefixFilter { prefix, asn })
+    }
+}
+
+/// What an assertion has before its prefix.
+fn assertion_asn(value: &Value) -> Result<Asn, EntryFault>
+    ensures { result ≡ assertion_asn (view value.now) }
+{
+    let known = one_for(value, "asn")
+        + one_for(value, "prefix")
+        + one_for(value, "maxPrefixLength")
+        + one_for(value, "comment");
+    know_members(value, known)?;
+    let asn = asn(value)?;
+    know_comment(value)?;
+    Ok(asn)
+}
+
+/// The maximum length of a prefix of this length: an absent one is the length.
+fn max_len(value: &Value, len: u8) -> Option<u64>
+    ensures { result ≡ max_len_of (view value.now) len }
+{
+    if !has(value, "maxPrefixLength") {
+        return Some(u64::from(len));
+    }
+    whole(value, "maxPrefixLength")
+}
+
+/// The payload of this prefix and AS, up to the maximum length of the entry.
+fn asserted(value: &Value, prefix: IpPrefix, asn: Asn) -> Option<Vrp>
+    ensures some { IfSome result (λ v. (v.prefix ≡ prefix) × (v.asn ≡ asn.0) × IsMaximum (view value.now) prefix v.max_len) }
+    ensures none { IfNone result ((m : ℕ) → ¬ (IsMaximum (view value.now) prefix m)) }
+{
+    let max_len = max_len(value, prefix.len())?;
+    let Ok(max_len) = u8::try_from(max_len) else {
+        return None;
+    };
+    match Vrp::new(prefix, max_len, asn) {
+        Ok(vrp) => Some(vrp),
+        Err(_) => None,
+    }
+}
+
+/// A prefix assertion, as the payload that it says (RFC 8416 section 3.4.1).
+impl Entry for Vrp {
+    ghost use Rattle.slurm.specs.SlurmFile.{ReadsAssertion};
+
+    ghost reads = { ReadsAssertion };
+
+    fn read(value: &Value) -> Result<Vrp, EntryFault> {
+        let asn = assertion_asn(value)?;
+        let Some(prefix) = prefix(value) else {
+            return Err(EntryFault::Prefix);
+        };
+        match asserted(value, prefix, asn) {
+            Some(vrp) => Ok(vrp),
+            None => Err(EntryFault::MaxLength),
+        }
+    }
+}
+
+/// An entry of the arrays on BGPsec, which has no effect (RFC 8416 sections 3.3.2 and 3.4.2).
+impl Entry for () {
+    ghost use Rattle.slurm.specs.SlurmFile.{ReadsObject};
+
+    ghost reads = { ReadsObject };
+
+    fn read(value: &Value) -> Result<(), EntryFault> {
+        match value.as_object() {
+            Some(_) => Ok(()),
+            None => Err(EntryFault::NoObject),
+        }
+    }
+}

@@ -1,0 +1,110 @@
+//! Why a file gives no exceptions.
+ghost use Rattle.std.specs.Prelude.{◌≡◌};
+
+use std::alloc::AllocError;
+use thiserror::Error;
+
+/// The arrays of a file (RFC 8416 section 3.2).
+#[derive(Clone, Copy, Debug, PartialEq, Eq, Error)]
+pub enum SlurmArray {
+    #[error("prefixFilters")]
+    PrefixFilters,
+    #[error("bgpsecFilters")]
+    BgpsecFilters,
+    #[error("prefixAssertions")]
+    PrefixAssertions,
+    #[error("bgpsecAssertions")]
+    BgpsecAssertions,
+}
+
+/// The objects of a file that are no entries (RFC 8416 section 3.2).
+#[derive(Clone, Copy, Debug, PartialEq, Eq, Error)]
+pub enum SlurmObject {
+    #[error("the file")]
+    File,
+    #[error("validationOutputFilters")]
+    Filters,
+    #[error("locallyAddedAssertions")]
+    Assertions,
+}
+
+/// Why an entry of an array cannot be read. Where there are several reasons, the first of these is told.
+#[derive(Clone, Copy, Debug, PartialEq, Eq, Error)]
+pub enum EntryFault {
+    /// It is no object.
+    #[error("no object")]
+    NoObject,
+    /// It has a key that no such entry has.
+    #[error("a key that is not known")]
+    OtherKey,
+    /// A filter has neither a prefix nor an AS.
+    #[error("neither prefix nor asn")]
+    NeitherKey,
+    /// `asn` is no whole number below 2^32, or an assertion has none.
+    #[error("asn is no AS number")]
+    Asn,
+    /// `comment` is no text.
+    #[error("comment is no text")]
+    Comment,
+    /// `prefix` is no text of a prefix, or an assertion has none.
+    #[error("prefix is no prefix")]
+    Prefix,
+    /// `maxPrefixLength` is no whole number from the prefix's length up to the width of its family.
+    #[error("maxPrefixLength is no maximum length of the prefix")]
+    MaxLength,
+}
+
+/// Why bytes give no exceptions. The numbers are fixed.
+#[derive(Clone, Copy, Debug, PartialEq, Eq, Error)]
+pub enum SlurmFault {
+    /// The bytes are no JSON text.
+    #[error("not JSON (fault 1)")]
+    NotJson,
+    /// This object is none, or does not have exactly its members.
+    #[error("{0} is no object of exactly its members (fault 2)")]
+    Members(SlurmObject),
+    /// `slurmVersion` is not 1.
+    #[error("slurmVersion is not 1 (fault 3)")]
+    Version,
+    /// This member is no array.
+    #[error("{0} is no array (fault 4)")]
+    NoArray(SlurmArray),
+    /// The entry of this index, from 0 on, cannot be read; it is the first one.
+    #[error("{0}[{1}]: {2} (fault 5)")]
+    Entry(SlurmArray, usize, EntryFault),
+    /// Over 16,777,215 different assertions.
+    #[error("more than 16777215 different assertions (fault 6)")]
+    TooMany,
+    /// Out of memory.
+    #[error("out of memory (fault 7)")]
+    Memory,
+}
+
+impl SlurmFault {
+    ghost use Rattle.slurm.specs.Faults.{slurm_fault_number};
+
+    /// The number by which the fault is printed.
+    pub fn number(self) -> u8
+        ensures { result ≡ slurm_fault_number self }
+    {
+        match self {
+            SlurmFault::NotJson => 1,
+            SlurmFault::Members(_) => 2,
+            SlurmFault::Version => 3,
+            SlurmFault::NoArray(_) => 4,
+            SlurmFault::Entry(_, _, _) => 5,
+            SlurmFault::TooMany => 6,
+            SlurmFault::Memory => 7,
+        }
+    }
+}
+
+impl From<AllocError> for SlurmFault {
+    ghost use Rattle.slurm.specs.declared.fault.SlurmFault.TheVariants.{Memory};
+
+    ghost from_gives = { λ _ e. e ≡ Memory };
+
+    fn from(_error: AllocError) -> SlurmFault {
+        SlurmFault::Memory
+    }
+}

@@ -1,0 +1,13 @@
+//! Laws of local exceptions. The functions do nothing: each states a law, which is proved.
+
+ghost use Rattle.slurm.specs.Exceptions.{AppliedTwice, AssertionsStay};
+
+/// Applying exceptions twice gives what applying them once gives.
+pub fn applied_twice()
+    ensures { AppliedTwice }
+{}
+
+/// Filters do not act on assertions.
+pub fn assertions_stay()
+    ensures { AssertionsStay }
+{}

@@ -1,0 +1,57 @@
+//! Members of objects.
+ghost use Rattle.std.specs.Prelude.{◌≡◌, ◌≤◌, option_map, is_some};
+ghost use Rattle.serde_json.specs.Find.{get};
+ghost use Rattle.serde_json.specs.View.{view};
+ghost use Rattle.payload_lists.specs.PayloadList.{text_at, whole_at};
+ghost use Rattle.slurm.specs.Members.{is_of_members, one_for, total};
+
+use serde_json::Value;
+
+/// How many members an object has.
+pub(crate) fn total(value: &Value) -> Option<usize>
+    ensures { result ≡ total (view value.now) }
+{
+    match value.as_object() {
+        Some(members) => Some(members.len()),
+        None => None,
+    }
+}
+
+/// Whether there is a member of this key.
+pub(crate) fn has(value: &Value, key: &str) -> bool
+    ensures { result ≡ is_some (get key.now (view value.now)) }
+{
+    value.get(key).is_some()
+}
+
+/// 1 for a key that is there.
+pub(crate) fn one_for(value: &Value, key: &str) -> usize
+    ensures value { result ≡ one_for key.now (view value.now) }
+    ensures one { result ≤ 1 }
+{
+    if has(value, key) { 1 } else { 0 }
+}
+
+/// Whether it is an object of so many members.
+pub(crate) fn is_of_members(value: &Value, count: usize) -> bool
+    ensures { result ≡ is_of_members count (total (view value.now)) }
+{
+    match total(value) {
+        Some(members) => members == count,
+        None => false,
+    }
+}
+
+/// The whole number under a key.
+pub(crate) fn whole(value: &Value, key: &str) -> Option<u64>
+    ensures { result ≡ whole_at key.now (view value.now) }
+{
+    value.get(key).and_then(Value::as_u64)
+}
+
+/// The text under a key.
+pub(crate) fn text<'a>(value: &'a Value, key: &str) -> Option<&'a str>
+    ensures { option_map (λ s. s.now) result ≡ text_at key.now (view value.now) }
+{
+    value.get(key).and_then(Value::as_str)
+}
