@@ -4,7 +4,7 @@ use Rattle.std.proofs.lemmas.List.{length-map, length-take-le, take_more, take_a
 use Rattle.serde_json.specs.Data.{Data}
 use Rattle.serde_json.specs.View.{items_of, items_view, view}
 use Rattle.serde_json.specs.declared.value.Value.{Value}
-use Rattle.slurm.specs.SlurmFile.{AreRead, FaultAt, listed}
+use Rattle.slurm.specs.Entries.{AreRead, FaultAt, listed}
 use Rattle.slurm.specs.declared.fault.EntryFault.{EntryFault}
 
 listed-items_of : (ds : List Data) → listed (items_of ds) ≡ ds

@@ -14,7 +14,7 @@ use Rattle.prefixes.specs.Orders.{vrp_exact}
 use Rattle.vrps.specs.VrpSet.{VrpSet, IsVrpSet, has, listing, set_of, size, union, without}
 use Rattle.vrps.proofs.Listed.{size_of_listing}
 use Rattle.vrps.proofs.SetLaws.{has-listing, has-set_of, has-union, has-without, kept, listing_ascends, same_set, same_vrp, size-set_of}
-use Rattle.slurm.specs.Exceptions.{AppliedTwice, AssertionsStay, IsExcepted, excepted, is_filtered}
+use Rattle.slurm.specs.Exceptions.{AppliedTwice, AssertionsStay, Exceptions, IsExcepted, excepted, is_filtered}
 use Rattle.slurm.specs.declared.filter.PrefixFilter.{PrefixFilter}
 
 or_none : (b : Bool) (x : Option (Unit {0})) → is_some (cond b x None) ≡ (is_some x && b)
@@ -31,9 +31,9 @@ alike p q x e = ap p (sym (vrp_exact q x e))
 has-kept : (p : Payload → Bool) (s : VrpSet) (q : Payload) → has (map.retain_keys s p) q ≡ (has s q && p q)
 has-kept p s q = ap is_some (map.get-retain_keys s p q (λ x e. alike p q x e)) ∙ or_none (p q) (map.get s q)
 
-pub is_excepted : (fs : List PrefixFilter) (assertions s : VrpSet) → IsExcepted fs assertions s (excepted fs assertions s)
-is_excepted fs assertions s q =
-    has-union (map.retain_keys s (λ v. not (is_filtered fs v))) assertions q ∙ ap (λ b. b || has assertions q) (has-kept (λ v. not (is_filtered fs v)) s q)
+pub is_excepted : (e : Exceptions) (s : VrpSet) → IsExcepted e s (excepted e s)
+is_excepted e s q =
+    has-union (map.retain_keys s (λ v. not (is_filtered e.filters v))) e.assertions q ∙ ap (λ b. b || has e.assertions q) (has-kept (λ v. not (is_filtered e.filters v)) s q)
 
 -- the members that some filter matches
 pub few : (fs : List PrefixFilter) (s : VrpSet) → IsVrpSet s → size (set_of (filter (is_filtered fs) (listing s))) ≤ 16777215
@@ -50,11 +50,11 @@ left true b = refl
 left false b = refl
 
 -- To withdraw these, and to announce the assertions, is to apply the exceptions.
-pub by_change : (fs : List PrefixFilter) (assertions s : VrpSet) → union (without s (set_of (filter (is_filtered fs) (listing s)))) assertions ≡ excepted fs assertions s
-by_change fs assertions s = same_set _ _ (λ q.
-    has-union (without s (set_of (filter (is_filtered fs) (listing s)))) assertions q
-    ∙ ap (λ b. b || has assertions q) (has-without s (set_of (filter (is_filtered fs) (listing s))) q ∙ ap (λ b. has s q && not b) (has-filtered fs s q) ∙ left (has s q) (is_filtered fs q))
-    ∙ sym (is_excepted fs assertions s q))
+pub by_change : (e : Exceptions) (s : VrpSet) → union (without s (set_of (filter (is_filtered e.filters) (listing s)))) e.assertions ≡ excepted e s
+by_change e s = same_set _ _ (λ q.
+    has-union (without s (set_of (filter (is_filtered e.filters) (listing s)))) e.assertions q
+    ∙ ap (λ b. b || has e.assertions q) (has-without s (set_of (filter (is_filtered e.filters) (listing s))) q ∙ ap (λ b. has s q && not b) (has-filtered e.filters s q) ∙ left (has s q) (is_filtered e.filters q))
+    ∙ sym (is_excepted e s q))
 
 again : (a b c : Bool) → ((((a && not b) || c) && not b) || c) ≡ ((a && not b) || c)
 again true true true = refl
@@ -67,14 +67,14 @@ again false false true = refl
 again false false false = refl
 
 pub applied_twice : AppliedTwice
-applied_twice fs assertions s = same_set _ _ (λ q.
-    is_excepted fs assertions (excepted fs assertions s) q
-    ∙ ap (λ b. (b && not (is_filtered fs q)) || has assertions q) (is_excepted fs assertions s q)
-    ∙ again (has s q) (is_filtered fs q) (has assertions q)
-    ∙ sym (is_excepted fs assertions s q))
+applied_twice e s = same_set _ _ (λ q.
+    is_excepted e (excepted e s) q
+    ∙ ap (λ b. (b && not (is_filtered e.filters q)) || has e.assertions q) (is_excepted e s q)
+    ∙ again (has s q) (is_filtered e.filters q) (has e.assertions q)
+    ∙ sym (is_excepted e s q))
 
 pub assertions_stay : AssertionsStay
-assertions_stay fs assertions s v h = is_excepted fs assertions s v ∙ ap (λ b. (has s v && not (is_filtered fs v)) || b) h ∙ or-true (has s v && not (is_filtered fs v))
+assertions_stay e s v h = is_excepted e s v ∙ ap (λ b. (has s v && not (is_filtered e.filters v)) || b) h ∙ or-true (has s v && not (is_filtered e.filters v))
 
 -- a set of too few members to be refused
 pub is_made : (r : Result VrpSet SetFault) (n : ℕ) → OnErr r (r ≡ Err TooMany) → (r ≡ Err TooMany → 16777215 < n) → n ≤ 16777215 → IsOk r
@@ -86,12 +86,12 @@ pub made : (r : Result VrpSet SetFault) (t u : VrpSet) → IfOk r (λ x. (x ≡ 
 made (Ok s) t u h e = (h.0 ∙ e, h.1)
 made (Err f) t u h e = tt
 
-pub made_excepted : (r : Result VrpSet SetFault) (fs : List PrefixFilter) (assertions s : VrpSet) → IfOk r (λ t. (t ≡ excepted fs assertions s) × (size t ≤ 16777215)) → IfOk r (IsExcepted fs assertions s)
-made_excepted (Ok t) fs assertions s h = subst (IsExcepted fs assertions s) (sym h.0) (is_excepted fs assertions s)
-made_excepted (Err f) fs assertions s h = tt
+pub made_excepted : (r : Result VrpSet SetFault) (e : Exceptions) (s : VrpSet) → IfOk r (λ t. (t ≡ excepted e s) × (size t ≤ 16777215)) → IfOk r (IsExcepted e s)
+made_excepted (Ok t) e s h = subst (IsExcepted e s) (sym h.0) (is_excepted e s)
+made_excepted (Err f) e s h = tt
 
 -- the same of a set that is made of these parts
-pub leads : (fs gs : List PrefixFilter) (assertions announce s withdraw : VrpSet) → gs ≡ fs → withdraw ≡ set_of (filter (is_filtered gs) (listing s)) → announce ≡ assertions
-    → union (without s withdraw) announce ≡ excepted fs assertions s
-leads fs gs assertions announce s withdraw e w a =
-    (λ i. union (without s (w i)) (a i)) ∙ (λ i. union (without s (set_of (filter (is_filtered (e i)) (listing s)))) assertions) ∙ by_change fs assertions s
+pub leads : (e : Exceptions) (gs : List PrefixFilter) (announce s withdraw : VrpSet) → gs ≡ e.filters → withdraw ≡ set_of (filter (is_filtered gs) (listing s)) → announce ≡ e.assertions
+    → union (without s withdraw) announce ≡ excepted e s
+leads e gs announce s withdraw f w a =
+    (λ i. union (without s (w i)) (a i)) ∙ (λ i. union (without s (set_of (filter (is_filtered (f i)) (listing s)))) e.assertions) ∙ by_change e s

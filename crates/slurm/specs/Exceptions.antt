@@ -7,6 +7,7 @@ use Rattle.prefixes.specs.declared.asn.Asn.{Asn}
 use Rattle.prefixes.specs.declared.prefix.IpPrefix.{IpPrefix}
 use Rattle.vrps.specs.VrpSet.{VrpSet, has, union}
 use Rattle.slurm.specs.declared.filter.PrefixFilter.{PrefixFilter}
+use Rattle.slurm.specs.declared.filter.Slurm.{Slurm}
 
 -- The prefix is that of the filter or is covered by it, if the filter has one.
 abbrev pub is_within : Option IpPrefix → IpPrefix → Bool
@@ -26,18 +27,26 @@ matches f v = is_within f.prefix v.prefix && is_of_as f.asn v.asn
 abbrev pub is_filtered : List PrefixFilter → Payload → Bool
 is_filtered fs v = list_any (λ f. matches f v) fs
 
+-- Local exceptions: filters and assertions
+pub record Exceptions : Type 0 where
+  pub filters : List PrefixFilter
+  pub assertions : VrpSet
+
+abbrev pub exceptions_of : Slurm → Exceptions
+exceptions_of s = record { filters = s.filters.items; assertions = s.assertions }
+
 -- The members of a set that no filter matches, together with the assertions
-abbrev pub excepted : List PrefixFilter → VrpSet → VrpSet → VrpSet
-excepted fs assertions s = union (map.retain_keys s (λ v. not (is_filtered fs v))) assertions
+abbrev pub excepted : Exceptions → VrpSet → VrpSet
+excepted e s = union (map.retain_keys s (λ v. not (is_filtered e.filters v))) e.assertions
 
 -- A payload is in what comes of a set exactly where it is in the set and no filter matches it, or an assertion says it.
-abbrev pub IsExcepted : List PrefixFilter → VrpSet → VrpSet → VrpSet → Type 0
-IsExcepted fs assertions s t = (v : Payload) → has t v ≡ ((has s v && not (is_filtered fs v)) || has assertions v)
+abbrev pub IsExcepted : Exceptions → VrpSet → VrpSet → Type 0
+IsExcepted e s t = (v : Payload) → has t v ≡ ((has s v && not (is_filtered e.filters v)) || has e.assertions v)
 
 -- Applying twice gives what applying once gives.
 abbrev pub AppliedTwice : Type 0
-AppliedTwice = (fs : List PrefixFilter) (assertions s : VrpSet) → excepted fs assertions (excepted fs assertions s) ≡ excepted fs assertions s
+AppliedTwice = (e : Exceptions) (s : VrpSet) → excepted e (excepted e s) ≡ excepted e s
 
 -- Filters do not act on assertions.
 abbrev pub AssertionsStay : Type 0
-AssertionsStay = (fs : List PrefixFilter) (assertions s : VrpSet) (v : Payload) → has assertions v ≡ true → has (excepted fs assertions s) v ≡ true
+AssertionsStay = (e : Exceptions) (s : VrpSet) (v : Payload) → has e.assertions v ≡ true → has (excepted e s) v ≡ true

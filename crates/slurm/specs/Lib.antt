@@ -1,3 +1,5 @@
+pub mod Chains
+pub mod Entries
 pub mod Exceptions
 pub mod Faults
 pub mod Members

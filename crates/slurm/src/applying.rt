@@ -1,7 +1,7 @@
 //! Exceptions, applied to a set.
 ghost use Rattle.std.specs.Prelude.{◌≡◌, ◌<◌, ◌≤◌, not, ◌&&◌, ◌||◌, filter, IfOk, OnErr, IsErrOf, Err};
 ghost use Rattle.vrps.specs.VrpSet.{listing, set_of, size};
-ghost use Rattle.slurm.specs.Exceptions.{IsExcepted, excepted, is_filtered};
+ghost use Rattle.slurm.specs.Exceptions.{IsExcepted, excepted, exceptions_of, is_filtered};
 
 use crate::filter::{PrefixFilter, Slurm};
 use prefixes::Vrp;
@@ -43,9 +43,9 @@ fn matched(alloc: Global, filters: &[PrefixFilter], set: &VrpSet) -> Result<VrpS
 /// The members of the set that no filter matches, together with the assertions, on which filters do not act.
 /// `TooMany` where these are more than a set may have; `Memory` where memory is wanting.
 pub fn apply(slurm: &Slurm, alloc: Global, set: &VrpSet) -> Result<VrpSet, SetFault>
-    ensures ok { IfOk result (λ t. (t ≡ excepted slurm.now.filters.items slurm.now.assertions set.now) × (size t ≤ 16777215)) }
-    ensures members { IfOk result (IsExcepted slurm.now.filters.items slurm.now.assertions set.now) }
-    ensures too_many { IsErrOf result SetFault.TooMany → 16777215 < size (excepted slurm.now.filters.items slurm.now.assertions set.now) }
+    ensures ok { IfOk result (λ t. (t ≡ excepted (exceptions_of slurm.now) set.now) × (size t ≤ 16777215)) }
+    ensures members { IfOk result (IsExcepted (exceptions_of slurm.now) set.now) }
+    ensures too_many { IsErrOf result SetFault.TooMany → 16777215 < size (excepted (exceptions_of slurm.now) set.now) }
 {
     let withdraw = matched(alloc, slurm.filters.as_slice(), set)?;
     let announce = slurm.assertions.duplicate()?;

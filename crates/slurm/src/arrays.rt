@@ -4,7 +4,8 @@ ghost use Rattle.serde_json.specs.Find.{get};
 ghost use Rattle.serde_json.specs.View.{items_view, view};
 ghost use Rattle.slurm.specs.Members.{total};
 ghost use Rattle.slurm.specs.SlurmFile.{array_at, arrays_of, is_file, is_pair, is_version_1, pair_of};
-ghost use Rattle.slurm.specs.Steps.{arrays_view, seen};
+ghost use Rattle.slurm.specs.Steps.{arrays_view};
+ghost use Rattle.slurm.specs.Chains.{seen};
 ghost use Rattle.payload_lists.specs.PayloadList.{whole_at};
 
 use crate::fault::{SlurmArray, SlurmFault, SlurmObject};

@@ -5,8 +5,8 @@ ghost use Rattle.serde_json.specs.Find.{get};
 ghost use Rattle.serde_json.specs.View.{items_view, view};
 ghost use Rattle.prefixes.specs.Payload.{block_of};
 ghost use Rattle.slurm.specs.Members.{total};
-ghost use Rattle.slurm.specs.SlurmFile.{AreRead, ReadsAssertion, ReadsFilter, ReadsObject, ReadsPrefix, SpellsPrefix, asn_if_any, asn_of, assertion_asn, comment_of, filter_asn, listed, max_len_of, members_known, IsMaximum};
-ghost use Rattle.slurm.specs.Steps.{IsEntryFault};
+ghost use Rattle.slurm.specs.Chains.{UnlessMemory, seen};
+ghost use Rattle.slurm.specs.Entries.{IsMaximum, ReadsEntries, ReadsPrefix, SpellsPrefix, asn_if_any, asn_of, assertion_asn, comment_of, filter_asn, max_len_of, members_known};
 
 use crate::fault::{EntryFault, SlurmArray, SlurmFault};
 use crate::filter::PrefixFilter;
@@ -33,8 +33,7 @@ pub(crate) fn entries<E: Entry>(
     list: &[Value],
     array: SlurmArray,
 ) -> Result<Vec<E>, SlurmFault>
-    ensures ok { IfOk result (λ xs. AreRead E.reads (listed (items_view list.now)) xs.items) }
-    ensures err { IfErr result (IsEntryFault E.reads array (listed (items_view list.now))) }
+    ensures { UnlessMemory (ReadsEntries E.reads array (items_view list.now)) (seen (λ xs. xs.items) result) }
 {
     let mut values = Vec::new(alloc);
     for (index, item) in list.iter().enumerate() {
@@ -137,7 +136,7 @@ fn filter_asn(value: &Value) -> Result<Option<Asn>, EntryFault>
 
 /// A prefix filter (RFC 8416 section 3.3.1).
 impl Entry for PrefixFilter {
-    ghost use Rattle.slurm.specs.SlurmFile.{ReadsFilter};
+    ghost use Rattle.slurm.specs.Entries.{ReadsFilter};
 
     ghost reads = { ReadsFilter };
 
@@ -189,7 +188,7 @@ fn asserted(value: &Value, prefix: IpPrefix, asn: Asn) -> Option<Vrp>
 
 /// A prefix assertion, as the payload that it says (RFC 8416 section 3.4.1).
 impl Entry for Vrp {
-    ghost use Rattle.slurm.specs.SlurmFile.{ReadsAssertion};
+    ghost use Rattle.slurm.specs.Entries.{ReadsAssertion};
 
     ghost reads = { ReadsAssertion };
 
@@ -207,7 +206,7 @@ impl Entry for Vrp {
 
 /// An entry of the arrays on BGPsec, which has no effect (RFC 8416 sections 3.3.2 and 3.4.2).
 impl Entry for () {
-    ghost use Rattle.slurm.specs.SlurmFile.{ReadsObject};
+    ghost use Rattle.slurm.specs.Entries.{ReadsObject};
 
     ghost reads = { ReadsObject };
 

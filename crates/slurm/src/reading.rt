@@ -3,9 +3,10 @@ ghost use Rattle.std.specs.Prelude.{◌≡◌, ◌<◌, ◌≤◌, IfOk, IfErr, 
 ghost use Rattle.std.specs.Str.{IsUtf8};
 ghost use Rattle.serde_json.specs.Data.{Data};
 ghost use Rattle.serde_json.specs.View.{view};
-ghost use Rattle.vrps.specs.VrpSet.{set_of, size};
-ghost use Rattle.slurm.specs.SlurmFile.{IsJson, ReadsArrays, ReadsSlurm};
-ghost use Rattle.slurm.specs.Steps.{IsJsonFault, UnlessMemory, arrays_view};
+ghost use Rattle.slurm.specs.SlurmFile.{ReadsArrays, ReadsJson, ReadsSlurm, limited};
+ghost use Rattle.slurm.specs.Chains.{UnlessMemory, seen};
+ghost use Rattle.slurm.specs.Exceptions.{exceptions_of};
+ghost use Rattle.slurm.specs.Steps.{arrays_view};
 
 use crate::arrays::{Arrays, arrays_of};
 use crate::entries::entries;
@@ -18,9 +19,7 @@ use vrps::VrpSet;
 
 /// The JSON value of the bytes.
 fn json(alloc: Global, bytes: &[u8]) -> Result<Value, SlurmFault>
-    ensures ok { IfOk result (λ v. IsJson bytes.now (view v)) }
-    ensures not_json { IsErrOf result SlurmFault.NotJson → (d : Data) → ¬ (IsJson bytes.now d) }
-    ensures only { IfErr result (λ e. IsJsonFault e) }
+    ensures { UnlessMemory (ReadsJson bytes.now) (seen view result) }
 {
     match Value::from_slice(alloc, bytes) {
         Ok(value) => Ok(value),
@@ -29,16 +28,17 @@ fn json(alloc: Global, bytes: &[u8]) -> Result<Value, SlurmFault>
     }
 }
 
-/// The set of these records, if they are not too many.
-fn set_from(records: Vec<Vrp>) -> Result<VrpSet, SlurmFault>
-    ensures ok { IfOk result (λ s. (s ≡ set_of records.items) × (size (set_of records.items) ≤ 16777215)) }
-    ensures too_many { OnErr result (16777215 < size (set_of records.items)) }
-    ensures only { OnErr result (result ≡ Err SlurmFault.TooMany) }
+/// The exceptions of these filters and records, if the records are not too many.
+fn exceptions_from(filters: Vec<PrefixFilter>, records: Vec<Vrp>) -> Result<Slurm, SlurmFault>
+    ensures { seen exceptions_of result ≡ limited filters.items records.items }
 {
     match VrpSet::from_list(records) {
-        Ok(set) => {
-            let _within_limit = set.len();
-            Ok(set)
+        Ok(assertions) => {
+            let _within_limit = assertions.len();
+            Ok(Slurm {
+                filters,
+                assertions,
+            })
         }
         Err(_) => Err(SlurmFault::TooMany),
     }
@@ -46,7 +46,7 @@ fn set_from(records: Vec<Vrp>) -> Result<VrpSet, SlurmFault>
 
 /// The exceptions that the entries of the arrays say.
 fn exceptions(alloc: Global, arrays: &Arrays<'_>) -> Result<Slurm, SlurmFault>
-    ensures { UnlessMemory (ReadsArrays (arrays_view arrays.now)) result }
+    ensures { UnlessMemory (ReadsArrays (arrays_view arrays.now)) (seen exceptions_of result) }
 {
     let filters = entries::<PrefixFilter>(alloc, arrays.prefix_filters, SlurmArray::PrefixFilters)?;
     let _bgpsec = entries::<()>(alloc, arrays.bgpsec_filters, SlurmArray::BgpsecFilters)?;
@@ -60,11 +60,7 @@ fn exceptions(alloc: Global, arrays: &Arrays<'_>) -> Result<Slurm, SlurmFault>
         arrays.bgpsec_assertions,
         SlurmArray::BgpsecAssertions,
     )?;
-    let assertions = set_from(records)?;
-    Ok(Slurm {
-        filters,
-        assertions,
-    })
+    exceptions_from(filters, records)
 }
 
 /// The exceptions that a SLURM file says: an object with exactly the members `slurmVersion`, which is 1, `validationOutputFilters` and
@@ -77,7 +73,7 @@ fn exceptions(alloc: Global, arrays: &Arrays<'_>) -> Result<Slurm, SlurmFault>
 /// with its array, its index from 0 on, and its own first fault; `TooMany` where over 16,777,215 different records are asserted. `Memory`:
 /// memory was wanting.
 pub fn read_slurm(alloc: Global, bytes: &[u8]) -> Result<Slurm, SlurmFault>
-    ensures { ReadsSlurm bytes.now result }
+    ensures { UnlessMemory (ReadsSlurm bytes.now) (seen exceptions_of result) }
 {
     let value = json(alloc, bytes)?;
     let arrays = arrays_of(&value)?;

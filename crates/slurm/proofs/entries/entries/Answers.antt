@@ -1,12 +1,12 @@
-use Rattle.std.proofs.Common.{◌≡◌, ◌+◌, ◌++◌, ◌∷◌, ◌∙◌, [], if◌then◌else◌, map, take, refl, subst, sym, ap, arith}
+use Rattle.std.proofs.Common.{◌≡◌, inl, ◌+◌, ◌++◌, ◌∷◌, ◌∙◌, [], if◌then◌else◌, map, take, refl, subst, sym, ap, arith}
 use Rattle.serde_json.specs.View.{view}
-use Rattle.slurm.specs.SlurmFile.{AreRead}
+use Rattle.slurm.specs.Entries.{AreRead}
 use Rattle.slurm.proofs.EntryReads.{all_read, fault_at, next_read}
 use Rattle.slurm.proofs.entries.entries.Goals as goal
 
-pub returns-in-Err-clause-err : goal.returns-in-Err-clause-err
-returns-in-Err-clause-err g c =
-    (refl, fault_at g.E.Entry.reads c.args.list.now c.loop-index.index c.index-list-index.result c.loop-index.values.items c.in-Err.why c.loop-index-test.true c.index-list-index.is c.loop-index.invariant c.in-Err.ensures)
+pub returns-in-Err : goal.returns-in-Err
+returns-in-Err g c =
+    inl (refl, fault_at g.E.Entry.reads c.args.list.now c.loop-index.index c.index-list-index.result c.loop-index.values.items c.in-Err.why c.loop-index-test.true c.index-list-index.is c.loop-index.invariant c.in-Err.ensures)
 
 pub loop-index-preserved : goal.loop-index-preserved
 loop-index-preserved g c =
@@ -15,5 +15,5 @@ loop-index-preserved g c =
     subst (λ xs. AreRead g.E.Entry.reads (map view (take (c.loop-index.index + 1) c.args.list.now)) xs) (sym pushed)
     (next_read g.E.Entry.reads c.args.list.now c.loop-index.index c.index-list-index.result c.loop-index.values.items c.in-Ok.value c.loop-index-test.true c.index-list-index.is c.loop-index.invariant c.in-Ok.ensures)
 
-pub returns-clause-ok : goal.returns-clause-ok
-returns-clause-ok g c = all_read g.E.Entry.reads c.args.list.now (c.loop-index.index) c.loop-index.values.items (omega arith) c.loop-index.invariant
+pub returns : goal.returns
+returns g c = inl (all_read g.E.Entry.reads c.args.list.now c.loop-index.index c.loop-index.values.items (omega arith) c.loop-index.invariant)

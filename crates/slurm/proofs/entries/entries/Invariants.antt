@@ -1,6 +1,6 @@
 use Rattle.std.proofs.Common.{map, take}
 use Rattle.serde_json.specs.View.{view}
-use Rattle.slurm.specs.SlurmFile.{AreRead}
+use Rattle.slurm.specs.Entries.{AreRead}
 use Rattle.slurm.proofs.entries.entries.Given as goal
 
 -- the entries so far are read

@@ -1,0 +1,72 @@
+-- Steps that may fail, one after the other.
+use Rattle.std.proofs.Common.{◌≡◌, ◌⊎◌, inl, inr, Result, Ok, Err, ap, sym, ◌∙◌, subst, refl}
+use Rattle.std.specs.Prelude.{List, ⊤}
+use Rattle.prefixes.specs.Payload.{Payload}
+use Rattle.slurm.specs.Chains.{Then, UnlessMemory}
+use Rattle.slurm.specs.Entries.{ReadsAssertion, ReadsEntries, ReadsFilter, ReadsObject}
+use Rattle.slurm.specs.Exceptions.{Exceptions}
+use Rattle.slurm.specs.SlurmFile.{Arrays, ReadsArrays, limited}
+use Rattle.slurm.specs.declared.fault.SlurmArray.TheVariants as array
+use Rattle.slurm.specs.declared.filter.PrefixFilter.{PrefixFilter}
+use Rattle.slurm.specs.declared.fault.SlurmFault.{SlurmFault}
+use Rattle.slurm.specs.declared.fault.SlurmFault.TheVariants.{Memory}
+
+-- A value is read.
+pub is_read : {A : Type 0} (P : Result A SlurmFault → Type 0) (x : A) → UnlessMemory P (Ok x) → P (Ok x)
+is_read P x (inl h) = h
+is_read P x (inr h) = absurd (cc)
+
+-- A reading goes on from a value.
+pub goes_on : {A B : Type 0} (P : Result A SlurmFault → Type 0) (Q : A → Result B SlurmFault → Type 0) (x : A) (r : Result B SlurmFault)
+    → UnlessMemory P (Ok x) → UnlessMemory (Q x) r → UnlessMemory (Then P Q) r
+goes_on P Q x (Ok y) h (inl k) = inl (x, is_read P x h, k)
+goes_on P Q x (Err e) h (inl k) = inl (inr (x, is_read P x h, k))
+goes_on P Q x r h (inr k) = inr k
+
+-- A reading stops at a fault.
+pub stops : {A B : Type 0} (P : Result A SlurmFault → Type 0) (Q : A → Result B SlurmFault → Type 0) (q : Result B SlurmFault) (e : SlurmFault)
+    → q ≡ Err e → UnlessMemory P (Err e) → UnlessMemory (Then P Q) q
+stops P Q q e same (inl h) = inl (subst (Then P Q) (sym same) (inl h))
+stops {A} P Q q e same (inr h) = inr (same ∙ ap Err (memory h))
+  where
+    memory : ◌≡◌ {A = Result A SlurmFault} (Err e) (Err Memory) → e ≡ Memory
+    memory k = cc
+
+-- The four arrays, the last of which has a fault.
+module _ (a : Arrays) where
+  abbrev FiltersRead : Result (List PrefixFilter) SlurmFault → Type 0
+  FiltersRead = ReadsEntries ReadsFilter array.PrefixFilters a.prefix_filters
+
+  abbrev BgpsecRead : Result (List ⊤) SlurmFault → Type 0
+  BgpsecRead = ReadsEntries ReadsObject array.BgpsecFilters a.bgpsec_filters
+
+  abbrev AssertionsRead : Result (List Payload) SlurmFault → Type 0
+  AssertionsRead = ReadsEntries ReadsAssertion array.PrefixAssertions a.prefix_assertions
+
+  abbrev KeysRead : Result (List ⊤) SlurmFault → Type 0
+  KeysRead = ReadsEntries ReadsObject array.BgpsecAssertions a.bgpsec_assertions
+
+  abbrev AfterAssertions : List PrefixFilter → List Payload → Result Exceptions SlurmFault → Type 0
+  AfterAssertions fs vs = Then KeysRead (λ _ s. s ≡ limited fs vs)
+
+  abbrev AfterBgpsec : List PrefixFilter → Result Exceptions SlurmFault → Type 0
+  AfterBgpsec fs = Then AssertionsRead (AfterAssertions fs)
+
+  abbrev AfterFilters : List PrefixFilter → Result Exceptions SlurmFault → Type 0
+  AfterFilters fs = Then BgpsecRead (λ _. AfterBgpsec fs)
+
+  abbrev BeforeKeys : List PrefixFilter → List ⊤ → List Payload → Type 0
+  BeforeKeys fs xs vs = UnlessMemory FiltersRead (Ok fs) × UnlessMemory BgpsecRead (Ok xs) × UnlessMemory AssertionsRead (Ok vs)
+
+  before_keys : (fs : List PrefixFilter) (xs : List ⊤) (vs : List Payload) (q : Result Exceptions SlurmFault) → BeforeKeys fs xs vs → UnlessMemory (AfterAssertions fs vs) q → UnlessMemory (ReadsArrays a) q
+  before_keys fs xs vs q h k =
+      goes_on FiltersRead AfterFilters fs q h.0 (goes_on BgpsecRead (λ _. AfterBgpsec fs) xs q h.1 (goes_on AssertionsRead (AfterAssertions fs) vs q h.2 k))
+
+  pub keys_stop : (fs : List PrefixFilter) (xs : List ⊤) (vs : List Payload) (q : Result Exceptions SlurmFault) (e : SlurmFault)
+      → BeforeKeys fs xs vs → UnlessMemory KeysRead (Err e) → q ≡ Err e → UnlessMemory (ReadsArrays a) q
+  keys_stop fs xs vs q e h k same = before_keys fs xs vs q h (stops KeysRead (λ _ s. s ≡ limited fs vs) q e same k)
+
+  -- All are read.
+  pub all_read : (fs : List PrefixFilter) (xs : List ⊤) (vs : List Payload) (ys : List ⊤) (q : Result Exceptions SlurmFault)
+      → BeforeKeys fs xs vs → UnlessMemory KeysRead (Ok ys) → q ≡ limited fs vs → UnlessMemory (ReadsArrays a) q
+  all_read fs xs vs ys q h k same = before_keys fs xs vs q h (goes_on KeysRead (λ _ s. s ≡ limited fs vs) ys q k (inl same))
