@@ -1,0 +1,297 @@
+use prefixes::Asn;
+use slurm::{EntryFault, PrefixFilter, Slurm, SlurmArray, SlurmFault, SlurmObject, read_slurm};
+use std::alloc::Global;
+use std::process::Abort;
+use std::test::Fail;
+
+/// The full example of RFC 8416 section 3.5.
+pub(crate) const FULL: &str = r#"{
+  "slurmVersion": 1,
+  "validationOutputFilters": {
+    "prefixFilters": [
+      {
+        "prefix": "192.0.2.0/24",
+        "comment": "All VRPs encompassed by prefix"
+      },
+      {
+        "asn": 64496,
+        "comment": "All VRPs matching ASN"
+      },
+      {
+        "prefix": "198.51.100.0/24",
+        "asn": 64497,
+        "comment": "All VRPs encompassed by prefix, matching ASN"
+      }
+    ],
+    "bgpsecFilters": [
+      {
+        "asn": 64496,
+        "comment": "All keys for ASN"
+      },
+      {
+        "SKI": "Zm9v",
+        "comment": "Key matching Router SKI"
+      },
+      {
+        "asn": 64497,
+        "SKI": "YmFy",
+        "comment": "Key for ASN 64497 matching Router SKI"
+      }
+    ]
+  },
+  "locallyAddedAssertions": {
+    "prefixAssertions": [
+      {
+        "asn": 64496,
+        "prefix": "198.51.100.0/24",
+        "comment": "My other important route"
+      },
+      {
+        "asn": 64496,
+        "prefix": "2001:DB8::/32",
+        "maxPrefixLength": 48,
+        "comment": "My other important de-aggregated routes"
+      }
+    ],
+    "bgpsecAssertions": [
+      {
+        "asn": 64496,
+        "comment": "My known key for my important ASN",
+        "SKI": "<some base64 SKI>",
+        "routerPublicKey": "<some base64 public key>"
+      }
+    ]
+  }
+}
+"#;
+
+/// A file of these entries.
+pub(crate) fn file(alloc: Global, arrays: &[&str; 4]) -> Result<String, Fail> {
+    let [filters, bgpsec, assertions, keys] = *arrays;
+    Ok(format!(in alloc;
+        "{{\"slurmVersion\":1,\"validationOutputFilters\":{{\"prefixFilters\":{filters},\"bgpsecFilters\":{bgpsec}}},\"locallyAddedAssertions\":{{\"prefixAssertions\":{assertions},\"bgpsecAssertions\":{keys}}}}}"
+    )?)
+}
+
+/// Why bytes give no exceptions.
+fn fault_of(alloc: Global, bytes: &[u8]) -> Option<SlurmFault> {
+    match read_slurm(alloc, bytes) {
+        Ok(_) => None,
+        Err(fault) => Some(fault),
+    }
+}
+
+/// Whether the filters are these.
+fn has_filters(slurm: &Slurm, filters: &[(Option<&str>, Option<u32>)]) -> Result<bool, Fail> {
+    for (filter, &(text, number)) in slurm.filters.iter().zip(filters) {
+        let prefix = match text {
+            Some(text) => Some(text.parse()?),
+            None => None,
+        };
+        let wanted = PrefixFilter {
+            prefix,
+            asn: number.map(Asn),
+        };
+        if *filter != wanted {
+            return Ok(false);
+        }
+    }
+    Ok(slurm.filters.len() == filters.len())
+}
+
+#[test]
+fn the_full_example_is_read(rt: HostRuntime) -> Result<(), Fail> {
+    let slurm = read_slurm(rt.alloc(), FULL.as_bytes())?;
+    let filters = [
+        (Some("192.0.2.0/24"), None),
+        (None, Some(64496)),
+        (Some("198.51.100.0/24"), Some(64497)),
+    ];
+    assert!(rt; has_filters(&slurm, &filters)?);
+    let assertions = example_values::sets::set_of(
+        rt.alloc(),
+        &[("198.51.100.0/24", 24, 64496), ("2001:db8::/32", 48, 64496)],
+    )?;
+    assert!(rt; slurm.assertions.is_same(&assertions));
+    Ok(())
+}
+
+/// Texts that are no file, and why.
+const FILES: &[(&str, SlurmFault)] = &[
+    ("", SlurmFault::NotJson),
+    ("{", SlurmFault::NotJson),
+    ("{} {}", SlurmFault::NotJson),
+    ("[]", SlurmFault::Members(SlurmObject::File)),
+    ("{}", SlurmFault::Members(SlurmObject::File)),
+    (
+        r#"{"slurmVersion":1,"validationOutputFilters":{},"locallyAddedAssertions":{},"more":1}"#,
+        SlurmFault::Members(SlurmObject::File),
+    ),
+    (
+        r#"{"slurmVersion":2,"validationOutputFilters":{},"locallyAddedAssertions":{}}"#,
+        SlurmFault::Version,
+    ),
+    (
+        r#"{"slurmVersion":"1","validationOutputFilters":{},"locallyAddedAssertions":{}}"#,
+        SlurmFault::Version,
+    ),
+    (
+        r#"{"slurmVersion":1,"validationOutputFilters":[],"locallyAddedAssertions":{}}"#,
+        SlurmFault::Members(SlurmObject::Filters),
+    ),
+    (
+        r#"{"slurmVersion":1,"validationOutputFilters":{"prefixFilters":1,"bgpsecFilters":2},"locallyAddedAssertions":{"prefixAssertions":3}}"#,
+        SlurmFault::Members(SlurmObject::Assertions),
+    ),
+];
+
+/// Entries of the four arrays, and the fault of a file of them.
+const ENTRIES: &[([&str; 4], SlurmFault)] = &[
+    (
+        ["1", "2", "3", "4"],
+        SlurmFault::NoArray(SlurmArray::PrefixFilters),
+    ),
+    (
+        ["[]", "2", "3", "4"],
+        SlurmFault::NoArray(SlurmArray::BgpsecFilters),
+    ),
+    (
+        ["[1]", "[]", "{}", "4"],
+        SlurmFault::NoArray(SlurmArray::PrefixAssertions),
+    ),
+    (
+        ["[]", "[]", "[]", "null"],
+        SlurmFault::NoArray(SlurmArray::BgpsecAssertions),
+    ),
+    (
+        [r#"[{"asn":1},7]"#, "[7]", "[7]", "[7]"],
+        SlurmFault::Entry(SlurmArray::PrefixFilters, 1, EntryFault::NoObject),
+    ),
+    (
+        [r#"[{"asn":1,"more":1}]"#, "[]", "[]", "[]"],
+        SlurmFault::Entry(SlurmArray::PrefixFilters, 0, EntryFault::OtherKey),
+    ),
+    (
+        [r#"[{"comment":"all"}]"#, "[]", "[]", "[]"],
+        SlurmFault::Entry(SlurmArray::PrefixFilters, 0, EntryFault::NeitherKey),
+    ),
+    (
+        [r#"[{"asn":"64496"}]"#, "[]", "[]", "[]"],
+        SlurmFault::Entry(SlurmArray::PrefixFilters, 0, EntryFault::Asn),
+    ),
+    (
+        [r#"[{"asn":-1}]"#, "[]", "[]", "[]"],
+        SlurmFault::Entry(SlurmArray::PrefixFilters, 0, EntryFault::Asn),
+    ),
+    (
+        [
+            r#"[{"asn":4294967295},{"asn":4294967296,"prefix":1}]"#,
+            "[]",
+            "[]",
+            "[]",
+        ],
+        SlurmFault::Entry(SlurmArray::PrefixFilters, 1, EntryFault::Asn),
+    ),
+    (
+        [r#"[{"asn":1,"comment":2,"prefix":3}]"#, "[]", "[]", "[]"],
+        SlurmFault::Entry(SlurmArray::PrefixFilters, 0, EntryFault::Comment),
+    ),
+    (
+        [r#"[{"prefix":"192.0.2.1/24"}]"#, "[]", "[]", "[]"],
+        SlurmFault::Entry(SlurmArray::PrefixFilters, 0, EntryFault::Prefix),
+    ),
+    (
+        ["[]", "[{},{},[]]", "[7]", "[7]"],
+        SlurmFault::Entry(SlurmArray::BgpsecFilters, 2, EntryFault::NoObject),
+    ),
+    (
+        ["[]", "[]", r#"[{"prefix":"192.0.2.0/24"}]"#, "[7]"],
+        SlurmFault::Entry(SlurmArray::PrefixAssertions, 0, EntryFault::Asn),
+    ),
+    (
+        ["[]", "[]", r#"[{"asn":1}]"#, "[]"],
+        SlurmFault::Entry(SlurmArray::PrefixAssertions, 0, EntryFault::Prefix),
+    ),
+    (
+        [
+            "[]",
+            "[]",
+            r#"[{"asn":1,"prefix":"192.0.2.0/24","maxPrefixLength":23}]"#,
+            "[]",
+        ],
+        SlurmFault::Entry(SlurmArray::PrefixAssertions, 0, EntryFault::MaxLength),
+    ),
+    (
+        [
+            "[]",
+            "[]",
+            r#"[{"asn":1,"prefix":"192.0.2.0/24","maxPrefixLength":33}]"#,
+            "[]",
+        ],
+        SlurmFault::Entry(SlurmArray::PrefixAssertions, 0, EntryFault::MaxLength),
+    ),
+    (
+        [
+            "[]",
+            "[]",
+            r#"[{"asn":1,"prefix":"192.0.2.0/24","maxPrefixLength":"24"}]"#,
+            "[]",
+        ],
+        SlurmFault::Entry(SlurmArray::PrefixAssertions, 0, EntryFault::MaxLength),
+    ),
+    (
+        [
+            "[]",
+            "[]",
+            r#"[{"asn":1,"prefix":"192.0.2.0/24","maxLength":24}]"#,
+            "[]",
+        ],
+        SlurmFault::Entry(SlurmArray::PrefixAssertions, 0, EntryFault::OtherKey),
+    ),
+    (
+        ["[]", "[]", "[]", "[\"SKI\"]"],
+        SlurmFault::Entry(SlurmArray::BgpsecAssertions, 0, EntryFault::NoObject),
+    ),
+];
+
+/// Whether each text has its fault.
+fn have_faults(alloc: Global, rows: &[(&str, SlurmFault)]) -> bool {
+    rows.iter().all(|(text, fault)| fault_of(alloc, text.as_bytes()) == Some(*fault))
+}
+
+/// Whether each file of entries has its fault.
+fn have_entry_faults(alloc: Global, rows: &[([&str; 4], SlurmFault)]) -> Result<bool, Fail> {
+    for (arrays, fault) in rows {
+        let text = file(alloc, arrays)?;
+        if fault_of(alloc, text.as_bytes()) != Some(*fault) {
+            return Ok(false);
+        }
+    }
+    Ok(true)
+}
+
+#[test]
+fn each_fault_is_told_with_its_place(rt: HostRuntime) -> Result<(), Fail> {
+    assert!(rt; have_faults(rt.alloc(), FILES));
+    assert!(rt; have_entry_faults(rt.alloc(), ENTRIES)?);
+    assert!(rt; fault_of(rt.alloc(), &FULL.as_bytes()[..600]) == Some(SlurmFault::NotJson));
+    Ok(())
+}
+
+#[test]
+fn faults_have_texts(rt: HostRuntime) -> Result<(), Fail> {
+    let fault = SlurmFault::Entry(SlurmArray::PrefixAssertions, 12, EntryFault::MaxLength);
+    let text = format!(in rt.alloc(); "{fault}")?;
+    assert!(rt;
+        text.as_str()
+            == "prefixAssertions[12]: maxPrefixLength is no maximum length of the prefix (fault 5)"
+    );
+    assert!(rt; fault.number() == 5);
+    let members = SlurmFault::Members(SlurmObject::Filters);
+    let text = format!(in rt.alloc(); "{members}")?;
+    assert!(rt;
+        text.as_str() == "validationOutputFilters is no object of exactly its members (fault 2)"
+    );
+    assert!(rt; SlurmFault::Memory.number() == 7);
+    Ok(())
+}
