@@ -1,6 +1,6 @@
 -- Prefixes in order: what covers a prefix, and what stands before it.
 use Rattle.std.proofs.Common.{◌≡◌, ◌∙◌, ◌⊎◌, inl, inr, ℕ, ◌+◌, ◌-◌, ◌*◌, ◌/◌, ◌%◌, ◌^◌, ◌<◌, ◌≤◌, true, false, ap, sym, subst, refl, arith}
-use Rattle.std.specs.Prelude.{nat_le}
+use Rattle.std.specs.Prelude.{◌&&◌, nat_le}
 use Rattle.std.specs.Ordering.{is_le, nat_cmp, ordering_then}
 use Rattle.std.specs.declared.cmp.Ordering.TheVariants.{Less}
 use Rattle.std.proofs.Math.Nat.{div-mul-le_self, mul-le-mul_right}
@@ -164,3 +164,55 @@ shorter_before (V4 p) q (V6 r) h k less it other = absurd (let e : false ≡ tru
 shorter_before (V6 p) q (V4 r) h k less it other = absurd (let e : false ≡ true = it in cc)
 shorter_before (V4 p) (V6 q) (V4 r) h k less it other = absurd (let e : false ≡ true = other in cc)
 shorter_before (V6 p) (V4 q) (V6 r) h k less it other = absurd (let e : false ≡ true = other in cc)
+
+-- What stands between a prefix and one that it covers, it covers too.
+block_between : (w : ℕ) (p q r : Block) → IsPrefix w p → IsPrefix w q → is_le (block_cmp p q) ≡ true → is_le (block_cmp q r) ≡ true → contains w p r ≡ true → contains w p q ≡ true
+block_between w p q r h k low high it =
+    let bits = eq_of _ _ (and_parts (nat_le p.len r.len) _ it).1 in
+    let up : p.addr ≤ q.addr = elim (rank p q low) [ inl less ↦ omega (arith, less) | inr same ↦ omega (arith, same.0) ] in
+    let down : q.addr ≤ r.addr = elim (rank q r high) [ inl less ↦ omega (arith, less) | inr same ↦ omega (arith, same.0) ] in
+    let one = bits_rise p.addr q.addr (w - p.len) up in
+    let other = bits_rise q.addr r.addr (w - p.len) down in
+    let same : first_bits w p.addr p.len ≡ first_bits w q.addr p.len = omega (arith, one, other, bits) in
+    let short : p.len ≤ q.len = elim (rank p q low) [ inl less ↦ longer same less | inr tie ↦ tie.1 ] in
+    λ i. le_true p.len q.len short i && eq_true _ _ same i
+  where
+    le_true : (a b : ℕ) → a ≤ b → nat_le a b ≡ true
+    le_true a b h = grind (arith, nat_tests)
+
+    by_length : (q.len ≤ p.len → p.len ≤ q.len) → p.len ≤ q.len
+    by_length f = grind (arith, f)
+
+    longer : first_bits w p.addr p.len ≡ first_bits w q.addr p.len → p.addr < q.addr → p.len ≤ q.len
+    longer same less = by_length (λ long.
+        let whole : q.addr ≡ cut_addr w q.addr q.len = covering_addr w q q k refl in
+        let rises = cut_rises w q.addr q.len p.len long h.in_family in
+        let is : cut_addr w p.addr p.len ≡ cut_addr w q.addr p.len = ap (λ n. n * 2 ^ (w - p.len)) same in
+        let below = cut_below w p.addr p.len in
+        absurd (omega (arith, whole, rises, is, below, less)))
+
+-- A prefix that covers another is not after it.
+block_up_to : (w : ℕ) (p r : Block) → IsPrefix w p → contains w p r ≡ true → is_le (block_cmp p r) ≡ true
+block_up_to w p r h it = elim (is_le (block_cmp p r)) as (λ b. is_le (block_cmp p r) ≡ b → b ≡ true) [ true ↦ λ is. refl | false ↦ λ is. absurd (never is) ] refl
+  where
+    never : is_le (block_cmp p r) ≡ false → ⊥
+    never after =
+        let parts = and_parts (nat_le p.len r.len) _ it in
+        let addr : p.addr ≡ cut_addr w r.addr p.len = covering_addr w p r h (eq_of _ _ parts.1) in
+        let below = cut_below w r.addr p.len in
+        let short = no_longer p.len r.len parts.0 in
+        elim (not_rank p r after) [ inl more ↦ omega (arith, addr, below, more) | inr more ↦ omega (arith, short, more.1) ]
+
+pub covers_between : (p q r : IpPrefix) → IsPrefix (width_of p) (block_of p) → IsPrefix (width_of q) (block_of q) → up_to p q ≡ true → up_to q r ≡ true → covers p r ≡ true → covers p q ≡ true
+covers_between (V4 p) (V4 q) (V4 r) h k low high it = block_between 32 p q r h k low high it
+covers_between (V6 p) (V6 q) (V6 r) h k low high it = block_between 128 p q r h k low high it
+covers_between (V4 p) q (V6 r) h k low high it = absurd (let e : false ≡ true = it in cc)
+covers_between (V6 p) q (V4 r) h k low high it = absurd (let e : false ≡ true = it in cc)
+covers_between (V4 p) (V6 q) (V4 r) h k low high it = absurd (let e : false ≡ true = high in cc)
+covers_between (V6 p) (V4 q) (V6 r) h k low high it = absurd (let e : false ≡ true = low in cc)
+
+pub covers_up_to : (p r : IpPrefix) → IsPrefix (width_of p) (block_of p) → covers p r ≡ true → up_to p r ≡ true
+covers_up_to (V4 p) (V4 r) h it = block_up_to 32 p r h it
+covers_up_to (V6 p) (V6 r) h it = block_up_to 128 p r h it
+covers_up_to (V4 p) (V6 r) h it = absurd (let e : false ≡ true = it in cc)
+covers_up_to (V6 p) (V4 r) h it = absurd (let e : false ≡ true = it in cc)
