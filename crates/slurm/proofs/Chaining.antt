@@ -1,5 +1,5 @@
 -- Steps that may fail, one after the other.
-use Rattle.std.proofs.Common.{◌≡◌, ◌⊎◌, inl, inr, Result, Ok, Err, ap, sym, ◌∙◌, subst, refl}
+use Rattle.std.proofs.Common.{◌≡◌, inl, inr, Result, Ok, Err, ap, sym, ◌∙◌, subst}
 use Rattle.std.specs.Prelude.{List, ⊤}
 use Rattle.prefixes.specs.Payload.{Payload}
 use Rattle.slurm.specs.Chains.{Then, UnlessMemory}

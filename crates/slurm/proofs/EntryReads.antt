@@ -1,5 +1,5 @@
 -- Entries, read one after the other.
-use Rattle.std.proofs.Common.{◌≡◌, ℕ, ◌+◌, ◌<◌, zero, suc, ◌++◌, List, [], ◌∷◌, Result, Ok, Err, length, map, take, drop, get_or, drop-cons, refl, sym, ap, ◌∙◌, subst, arith, add-one, append_assoc}
+use Rattle.std.proofs.Common.{◌≡◌, ℕ, ◌+◌, ◌<◌, zero, suc, ◌++◌, List, [], ◌∷◌, Result, Ok, Err, length, map, take, drop, get_or, refl, sym, ap, ◌∙◌, subst, arith, add-one}
 use Rattle.std.proofs.lemmas.List.{length-map, length-take-le, take_more, take_all}
 use Rattle.serde_json.specs.Data.{Data}
 use Rattle.serde_json.specs.View.{items_of, items_view, view}

@@ -1,10 +1,9 @@
 -- What exceptions make of a set.
-use Rattle.std.specs.Prelude.{◌≡◌, ◌≤◌, ℕ, Bool, true, false, not, ◌&&◌, ◌||◌, cond, List, Option, Some, None, is_some, refl, length, filter}
+use Rattle.std.specs.Prelude.{◌≡◌, ◌≤◌, ℕ, Bool, true, false, not, ◌&&◌, ◌||◌, cond, List, Option, Some, None, is_some, refl, filter}
 use Rattle.std.proofs.Common.{ap, sym, ◌∙◌, subst, arith, rules, ◌<◌, IfOk, IsOk, OnErr, Result, Ok, Err}
 use Rattle.vrps.specs.declared.set.SetFault.{SetFault}
 use Rattle.vrps.specs.declared.set.SetFault.TheVariants.{TooMany}
 use Rattle.std.proofs.Math.Bool.{or-true}
-use Rattle.std.specs.List.{list_any}
 use Rattle.std.specs.FinMap as map
 use Rattle.std.specs.declared.cmp.Ordering.TheVariants.{Equal}
 use Rattle.std.proofs.lemmas.List.Kept.{IsStrictlySortedBy-filter}
@@ -13,7 +12,7 @@ use Rattle.prefixes.specs.Payload.{Payload, vrp_cmp}
 use Rattle.prefixes.specs.Orders.{vrp_exact}
 use Rattle.vrps.specs.VrpSet.{VrpSet, IsVrpSet, has, listing, set_of, size, union, without}
 use Rattle.vrps.proofs.Listed.{size_of_listing}
-use Rattle.vrps.proofs.SetLaws.{has-listing, has-set_of, has-union, has-without, kept, listing_ascends, same_set, same_vrp, size-set_of}
+use Rattle.vrps.proofs.SetLaws.{has-listing, has-set_of, has-union, has-without, kept, listing_ascends, same_set, size-set_of}
 use Rattle.slurm.specs.Exceptions.{AppliedTwice, AssertionsStay, Exceptions, IsExcepted, excepted, is_filtered}
 use Rattle.slurm.specs.declared.filter.PrefixFilter.{PrefixFilter}
 

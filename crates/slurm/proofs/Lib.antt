@@ -1,3 +1,5 @@
 pub mod EntryReads
 pub mod ExceptionLaws
 pub mod Chaining
+pub mod Arranging
+pub mod Walking

@@ -1,3 +1,4 @@
+pub mod Arranged
 pub mod Chains
 pub mod Entries
 pub mod Exceptions

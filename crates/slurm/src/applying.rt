@@ -1,33 +1,45 @@
 //! Exceptions, applied to a set.
-ghost use Rattle.std.specs.Prelude.{◌≡◌, ◌<◌, ◌≤◌, not, ◌&&◌, ◌||◌, filter, IfOk, OnErr, IsErrOf, Err};
+ghost use Rattle.std.specs.Prelude.{◌≡◌, ◌<◌, ◌≤◌, ◌++◌, ◌∷◌, [], if◌then◌else◌, filter, IfOk, OnOk, IsErrOf};
+ghost use Rattle.std.specs.List.Sorted.{IsStrictlySortedBy};
+ghost use Rattle.prefixes.specs.Payload.{vrp_cmp};
 ghost use Rattle.vrps.specs.VrpSet.{listing, set_of, size};
 ghost use Rattle.slurm.specs.Exceptions.{IsExcepted, excepted, exceptions_of, is_filtered};
 
 use crate::filter::{PrefixFilter, Slurm};
+use crate::index::{Covering, Index};
 use prefixes::Vrp;
 use std::alloc::{AllocError, Global};
 use vrps::{Change, SetFault, VrpSet};
 
-/// Whether some filter matches the record.
-fn is_filtered(filters: &[PrefixFilter], vrp: &Vrp) -> bool
-    ensures { result ≡ is_filtered filters.now vrp.now }
+/// Appends the record, if it is wanted.
+fn push_if(records: &mut Vec<Vrp>, vrp: &Vrp, wanted: bool) -> Result<(), AllocError>
+    ensures { OnOk result (records.new.items ≡ records.old.items ++ (if wanted then vrp.now ∷ [] else [])) }
 {
-    filters.iter().any(|filter| filter.matches(vrp))
+    if wanted {
+        records.push(*vrp)?;
+    }
+    Ok(())
 }
 
-/// The records that some filter matches, in their order.
+/// The records that some filter matches, in their order. The records and the filters are walked once, side by side: the filters at hand are
+/// those that cover the present record.
 fn filtered(
     alloc: Global,
     filters: &[PrefixFilter],
     records: &[Vrp],
 ) -> Result<Vec<Vrp>, AllocError>
+    requires { IsStrictlySortedBy vrp_cmp records.now }
     ensures { IfOk result (λ vs. vs.items ≡ filter (is_filtered filters.now) records.now) }
 {
+    let index = Index::over(alloc, filters)?;
+    let mut opened = Vec::new(alloc);
+    let mut next = 0;
     let mut matched = Vec::new(alloc);
     for vrp in records {
-        if is_filtered(filters, vrp) {
-            matched.push(*vrp)?;
-        }
+        let prefix = vrp.prefix();
+        next = Covering::add_up_to(&mut opened, index.by_prefix.as_slice(), next, &prefix)?;
+        Covering::keep_covering(&mut opened, &prefix);
+        push_if(&mut matched, vrp, index.is_hit(opened.as_slice(), vrp))?;
     }
     Ok(matched)
 }

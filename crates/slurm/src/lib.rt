@@ -21,6 +21,7 @@ mod arrays;
 mod entries;
 mod fault;
 mod filter;
+mod index;
 pub mod laws;
 mod members;
 mod reading;

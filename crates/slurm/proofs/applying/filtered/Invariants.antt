@@ -1,7 +1,5 @@
-use Rattle.std.proofs.Common.{◌≡◌, filter, take}
-use Rattle.slurm.specs.Exceptions.{is_filtered}
+use Rattle.slurm.proofs.Walking.{Ahead}
 use Rattle.slurm.proofs.applying.filtered.Given as goal
 
--- the records so far that some filter matches
 abbrev pub invariant-loop-vrp : goal.invariant-loop-vrp
-invariant-loop-vrp l = l.matched.items ≡ filter (is_filtered l.filters) (take l.vrp-index l.records)
+invariant-loop-vrp l = Ahead l.filters l.index.by_prefix.items l.records l.vrp-index l.next l.opened.items l.matched.items

@@ -1,5 +1,5 @@
-use Rattle.std.proofs.Common.{◌≡◌, ◌≤◌, ap, filter, subst, sym, ◌∙◌}
-use Rattle.vrps.specs.VrpSet.{listing, set_of, size}
+use Rattle.std.proofs.Common.{◌≤◌, ap, filter, subst, sym, ◌∙◌}
+use Rattle.vrps.specs.VrpSet.{set_of, size}
 use Rattle.slurm.specs.Exceptions.{is_filtered}
 use Rattle.slurm.proofs.ExceptionLaws.{few, is_made}
 use Rattle.slurm.proofs.applying.matched.Goals as goal
