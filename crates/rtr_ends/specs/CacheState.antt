@@ -7,6 +7,8 @@ use Rattle.vrps.specs.Store.{published}
 use Rattle.vrps.specs.Stores.{newest}
 use Rattle.vrps.specs.VrpSet.{IsVrpSet, VrpSet}
 use Rattle.rtr_pdu.specs.Payloads.{AreBytes}
+use Rattle.rtr_pdu.specs.Version.{header_version}
+use Rattle.rtr_pdu.specs.declared.version.Version.{Version}
 use Rattle.rtr_ends.specs.Cache.{ConnCall, Conn, Gives, IsServed, Notifies, Publishes, Serving, Takes, can_notify, conn_notified, conn_pulled, conn_takes, is_none, new_conn, serve, serving}
 use Rattle.rtr_ends.specs.Numbers.{AreFree}
 use Rattle.rtr_ends.specs.Peer.{HasBufferRoom, ShowsPeer, held_by_peer, is_wanted_by_peer}
@@ -66,6 +68,11 @@ is_open_at (Some o) = not o.state.ended
 abbrev pub has_bytes_at : Option Conn → Bool
 has_bytes_at None = false
 has_bytes_at (Some o) = not (is_none o.state.due)
+
+-- the version of the first header of a connection, once it came whole
+abbrev pub version_at : Option Conn → Option Version
+version_at None = None
+version_at (Some o) = header_version o.state.version o.held
 
 -- the least number that no connection has
 pub record IsLeastFree (at : ℕ → Option Conn) (n : ℕ) : Type 0 where

@@ -4,7 +4,7 @@ ghost use Rattle.std.specs.List.{AllByRecursion};
 ghost use Rattle.vrps.specs.Instance.{Instance, versions};
 ghost use Rattle.vrps.specs.Store.{is_current};
 ghost use Rattle.vrps.specs.Stores.{Publishes, newest};
-ghost use Rattle.rtr_ends.specs.CacheState.{CacheState, GivesBytes, HandsOut, OffersAt, Opens, ShowsCache, TakesPiece, has_bytes_at, is_open_at, notified, can_notify_at, peer_at, with_conn, without_conns};
+ghost use Rattle.rtr_ends.specs.CacheState.{CacheState, GivesBytes, HandsOut, OffersAt, Opens, ShowsCache, TakesPiece, has_bytes_at, is_open_at, notified, can_notify_at, peer_at, version_at, with_conn, without_conns};
 ghost use Rattle.rtr_ends.specs.Sender.{numbered_of};
 ghost use Rattle.rtr_ends.specs.ServeStream.{is_within};
 
@@ -13,6 +13,7 @@ use crate::peer::Peer;
 use crate::sender::Share;
 use crate::sessions::Sessions;
 use crate::timing::Timing;
+use rtr_pdu::Version;
 use std::alloc::{AllocError, Global};
 use std::rc::Rc;
 use vrps::{Published, Serial, VersionStore, VrpSet};
@@ -20,6 +21,15 @@ use vrps::{Published, Serial, VersionStore, VrpSet};
 /// The number of a connection at a cache. It has it until it is closed.
 #[derive(Clone, Copy, Debug, PartialEq, Eq)]
 pub struct Conn(usize);
+
+impl Conn {
+    /// The number itself. It is the least that no connection had when this one was opened.
+    pub fn number(self) -> usize
+        ensures { result ≡ self.0 }
+    {
+        self.0
+    }
+}
 
 /// A cache (RFC 6810, RFC 8210): it answers the queries of its routers from a store of versions. Each of its connections is a machine over
 /// bytes, and keeps a share of the current version ready. A call on a number that no connection has changes nothing.
@@ -136,13 +146,20 @@ impl<S: VersionStore> Cache<S> {
     }
 
     /// Whether bytes of a unit came that has not come whole.
-    pub(crate) fn is_within_unit(&self, conn: Conn) -> bool
+    pub fn is_within_unit(&self, conn: Conn) -> bool
         ensures { (m : CacheState) → ShowsCache S.holds m self.now → result ≡ is_within (m.at conn.0) }
     {
         match self.peer(conn) {
             None => false,
             Some(peer) => peer.is_within_unit(),
         }
+    }
+
+    /// The version of the protocol in which a router speaks: that of its first header, once it came whole (RFC 8210 section 7).
+    pub fn version(&self, conn: Conn) -> Option<Version>
+        ensures { (m : CacheState) → ShowsCache S.holds m self.now → result ≡ version_at (m.at conn.0) }
+    {
+        self.peer(conn)?.version()
     }
 
     /// The current version: its serial and its set.

@@ -51,6 +51,13 @@ impl Peer {
         !self.reader.held().is_empty()
     }
 
+    /// The version of what came, once a header came whole.
+    pub fn version(&self) -> Option<Version>
+        ensures { result ≡ known_version self.now.reader }
+    {
+        self.reader.version()
+    }
+
     /// From now on is sent in the version of what came, in version 1 where no header has come.
     fn speak(&mut self)
         requires { due_of self.old.sender ≡ [] }
