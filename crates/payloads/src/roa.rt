@@ -1,11 +1,8 @@
 //! ROAs.
 
-ghost use Rattle.std.specs.Prelude.{◌≡◌, IfOk, nat_eq};
-ghost use Rattle.std.proofs.Common.{rules};
-ghost use Rattle.std.specs.Cmp.Lexicographic.{pointwise};
-ghost use Rattle.std.specs.Cmp.Rules.{comparing};
-ghost use Rattle.std.specs.Ordering.{on, eq_of_both};
-ghost use Rattle.payloads.specs.RoaValues.{entry_eq, payloads_of};
+ghost use Rattle.std.specs.Prelude.{◌≡◌, IfOk};
+ghost use Rattle.std.specs.Cmp.{partial_equiv_from_equiv};
+ghost use Rattle.payloads.specs.RoaValues.{payloads_of, roa_eq, roa_equiv};
 ghost use Rattle.payloads.specs.Gives.{Decodes};
 ghost use Rattle.payloads.specs.RoaRefusal.{roa_refusal, IsRoa, Makes, Finds};
 
@@ -36,9 +33,9 @@ impl Model for Roa {
 }
 
 impl PartialEq for Roa {
-    ghost eq = { eq_of_both (on (λ r. r.entries) (pointwise entry_eq)) (on (λ r. r.asn) nat_eq) };
+    ghost eq = { roa_eq };
 
-    ghost laws = { Prim.search (comparing, rules) depth 9 };
+    ghost laws = { partial_equiv_from_equiv roa_equiv };
 
     fn eq(&self, other: &Roa) -> bool {
         self.entries == other.entries && self.asn == other.asn
@@ -46,7 +43,7 @@ impl PartialEq for Roa {
 }
 
 impl Eq for Roa {
-    ghost laws = { Prim.search (comparing, rules) depth 9 };
+    ghost laws = { roa_equiv };
 }
 
 impl Roa {
