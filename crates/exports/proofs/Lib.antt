@@ -4,3 +4,6 @@ pub mod Times
 pub mod PlainSteps
 pub mod PlainParts
 pub mod PlainWhole
+pub mod FaultRows
+pub mod Once
+pub mod Outcomes

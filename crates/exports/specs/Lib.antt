@@ -4,3 +4,5 @@ pub mod Entry
 pub mod Export
 pub mod Found
 pub mod PlainForm
+pub mod ExportRows
+pub mod ExportLaws

@@ -21,6 +21,7 @@ mod entry;
 mod export;
 mod fault;
 mod gathered;
+pub mod laws;
 mod plain;
 
 pub use export::{Export, read_export};

@@ -24,7 +24,7 @@ one_entry one d v w hv hw =
     let prefix = one hv.text w.prefix v.prefix (subst (λ t. Says w.prefix t) text hw.prefix.says) hv.prefix.says in
     λ i. record { prefix = prefix i; max_len = max_len i; asn = asn i }
 
-one_list : OneReading → (ds : Items) (vs ws : List Payload) → AreEntries ds vs → AreEntries ds ws → ws ≡ vs
+pub one_list : OneReading → (ds : Items) (vs ws : List Payload) → AreEntries ds vs → AreEntries ds ws → ws ≡ vs
 one_list one no_items [] [] hv hw = refl
 one_list one no_items [] (w ∷ ws) hv hw = absurd hw
 one_list one no_items (v ∷ vs) ws hv hw = absurd hv

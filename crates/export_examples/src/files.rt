@@ -1,0 +1,193 @@
+//! Files as validators and RTR tools write them.
+use example_values::sets::{Rows, set_of};
+use exports::{Export, read_export};
+use std::alloc::Global;
+use std::test::Fail;
+
+/// The moment at which the files are read: 14 November 2023, 22:13:20 UTC.
+const NOW: u64 = 1_700_000_000;
+
+/// Two records, as all the files list them.
+const TWO: Rows = &[("192.0.2.0/24", 24, 64496), ("2001:db8::/32", 48, 64497)];
+
+/// Whether an export is of these records.
+fn is_of(alloc: Global, export: &Export, rows: Rows) -> Result<bool, Fail> {
+    Ok(export.set.as_slice() == set_of(alloc, rows)?.as_slice())
+}
+
+/// Whether a text is an export of two records and no others, that was made then.
+fn is_two(alloc: Global, text: &[u8], built: Option<u64>) -> Result<bool, Fail> {
+    let export = read_export(alloc, text, NOW)?;
+    Ok(export.built == built && export.expired == 0 && is_of(alloc, &export, TWO)?)
+}
+
+#[test]
+fn a_payload_list(rt: HostRuntime) -> Result<(), Fail> {
+    let text = br#"[{"asn":64496,"prefix":"192.0.2.0/24","maxLength":24},
+        {"asn":64497,"prefix":"2001:db8::/32","maxLength":48}]"#;
+    assert!(rt; is_two(rt.alloc(), text, None)?);
+    Ok(())
+}
+
+#[test]
+fn as_rpki_client_writes_it(rt: HostRuntime) -> Result<(), Fail> {
+    let text = br#"{
+  "metadata": {
+    "buildmachine": "validator.example.net",
+    "buildtime": "2023-11-14T22:10:00Z",
+    "elapsedtime": 123,
+    "vrps": 3,
+    "nonfunc_cas": []
+  },
+
+  "roas": [
+    { "asn": 64496, "prefix": "192.0.2.0/24", "maxLength": 24, "ta": "ripe", "expires": 1700050000 },
+    { "asn": 64498, "prefix": "198.51.100.0/24", "maxLength": 24, "ta": "arin", "expires": 1699999999 },
+    { "asn": 64497, "prefix": "2001:db8::/32", "maxLength": 48, "ta": "apnic", "expires": 1700050000 }
+  ],
+
+  "bgpsec_keys": [
+    { "asn": 64496, "ski": "00", "pubkey": "MFkw", "ta": "ripe", "expires": 1700050000 }
+  ],
+
+  "aspas": [
+    { "customer_asid": 64496, "expires": 1700050000, "providers": [ 64497, 64498 ] }
+  ]
+}
+"#;
+    let export = read_export(rt.alloc(), text, NOW)?;
+    assert!(rt; is_of(rt.alloc(), &export, TWO)?);
+    assert!(rt; export.expired == 1);
+    assert!(rt; export.built == Some(1_699_999_800));
+    Ok(())
+}
+
+#[test]
+fn as_routinator_writes_it(rt: HostRuntime) -> Result<(), Fail> {
+    let text = br#"{
+  "metadata": {
+    "generated": 1699999900,
+    "generatedTime": "2023-11-14T22:11:40Z"
+  },
+  "roas": [
+    { "asn": "AS64496", "prefix": "192.0.2.0/24", "maxLength": 24, "ta": "ripe" },
+    { "asn": "AS64497", "prefix": "2001:db8::/32", "maxLength": 48, "ta": "apnic" }
+  ]
+}
+"#;
+    assert!(rt; is_two(rt.alloc(), text, Some(1_699_999_900))?);
+    Ok(())
+}
+
+#[test]
+fn as_fort_writes_it(rt: HostRuntime) -> Result<(), Fail> {
+    let text = br#"{ "roas" : [
+{ "asn" : "AS64496", "prefix" : "192.0.2.0/24", "maxLength" : 24 },
+{ "asn" : "AS64497", "prefix" : "2001:db8::/32", "maxLength" : 48 }
+],
+"router-keys" : [ ] }
+"#;
+    assert!(rt; is_two(rt.alloc(), text, None)?);
+    Ok(())
+}
+
+#[test]
+fn as_stayrtr_and_rtrdump_write_it(rt: HostRuntime) -> Result<(), Fail> {
+    let stayrtr =
+        br#"{"metadata":{"vrps":2,"buildtime":"2023-11-14T22:10:00Z"},"roas":[{"prefix":"192.0.2.0/24","maxLength":24,"asn":64496,"ta":"ripe","expires":1700050000},{"prefix":"2001:db8::/32","maxLength":48,"asn":"AS64497"}],"bgpsec_keys":null}"#;
+    assert!(rt; is_two(rt.alloc(), stayrtr, Some(1_699_999_800))?);
+    let rtrdump =
+        br#"{"metadata":{"vrps":2,"generated":1699999900,"buildtime":"2023-11-14T22:10:00Z","sessionid":7,"serial":1},"roas":[{"prefix":"192.0.2.0/24","maxLength":24,"asn":64496},{"prefix":"2001:db8::/32","maxLength":48,"asn":64497}]}"#;
+    assert!(rt; is_two(rt.alloc(), rtrdump, Some(1_699_999_900))?);
+    Ok(())
+}
+
+/// How many entries count, and how many do not, of one that expires at this moment.
+fn counts(alloc: Global, text: &[u8], now: u64) -> Result<(usize, u64), Fail> {
+    let export = read_export(alloc, text, now)?;
+    Ok((export.set.len(), export.expired))
+}
+
+#[test]
+fn an_entry_counts_before_its_expiry(rt: HostRuntime) -> Result<(), Fail> {
+    let text = br#"{"roas":[{"asn":1,"prefix":"10.0.0.0/8","maxLength":8,"expires":1700000000}]}"#;
+    assert!(rt; counts(rt.alloc(), text, NOW - 1)? == (1, 0));
+    assert!(rt; counts(rt.alloc(), text, NOW)? == (0, 1));
+    assert!(rt; counts(rt.alloc(), text, NOW + 1)? == (0, 1));
+    Ok(())
+}
+
+/// What is read as a whole: a number in another form, and a value that nests deeper than what is passed over.
+#[test]
+fn other_forms_are_the_same_exports(rt: HostRuntime) -> Result<(), Fail> {
+    let float =
+        br#"{"metadata":{"elapsed":1.5},"roas":[{"asn":"64496","prefix":"192.0.2.0/24","maxLength":24,"x":-1},
+        {"asn":64497,"prefix":"2001:db8::/32","maxLength":48}]}"#;
+    assert!(rt; is_two(rt.alloc(), float, None)?);
+    let deep =
+        br#"{"x":[[[[[[[[[[[[[[[[[[[[]]]]]]]]]]]]]]]]]]]],"roas":[{"asn":"64496","prefix":"192.0.2.0/24","maxLength":24},
+        {"asn":64497,"prefix":"2001:db8::/32","maxLength":48}]}"#;
+    assert!(rt; is_two(rt.alloc(), deep, None)?);
+    Ok(())
+}
+
+/// Of a key that stands twice the last is read, in an entry, in the metadata and in the whole.
+#[test]
+fn the_last_of_a_key_is_read(rt: HostRuntime) -> Result<(), Fail> {
+    let text = br#"{"roas":[{"asn":"AS1"}],"metadata":{"generated":1,"generated":2},"roas":[
+        {"asn":1,"asn":"AS64496","prefix":"10.0.0.0/8","prefix":"192.0.2.0/24","maxLength":1,"maxLength":24},
+        {"asn":"AS1","asn":64497,"prefix":"2001:db8::/32","maxLength":48,"expires":1,"expires":1700000001}]}"#;
+    assert!(rt; is_two(rt.alloc(), text, Some(2))?);
+    let plain = br#"{"roas":[],"metadata":{"generated":1,"generated":2},"roas":[
+        {"asn":1,"asn":"AS64496","prefix":"10.0.0.0/8","prefix":"192.0.2.0/24","maxLength":1,"maxLength":24},
+        {"asn":"AS1","asn":64497,"prefix":"2001:db8::/32","maxLength":48,"expires":1,"expires":1700000001}]}"#;
+    assert!(rt; is_two(rt.alloc(), plain, Some(2))?);
+    Ok(())
+}
+
+#[test]
+fn no_entry_at_all(rt: HostRuntime) -> Result<(), Fail> {
+    let export = read_export(rt.alloc(), b"{\"roas\":[]}", NOW)?;
+    assert!(rt; export.set.is_empty());
+    assert!(rt; export.expired == 0);
+    assert!(rt; export.built.is_none());
+    assert!(rt; read_export(rt.alloc(), b"[]", NOW)?.set.is_empty());
+    Ok(())
+}
+
+/// When an export was made, as this metadata tell it.
+fn built(alloc: Global, metadata: &str) -> Result<Option<u64>, Fail> {
+    let text = format!(in alloc; "{{\"metadata\":{metadata},\"roas\":[]}}")?;
+    Ok(read_export(alloc, text.as_bytes(), NOW)?.built)
+}
+
+#[test]
+fn when_it_was_made(rt: HostRuntime) -> Result<(), Fail> {
+    let told = [
+        ("{\"buildtime\":\"1970-01-01T00:00:00Z\"}", Some(0)),
+        (
+            "{\"buildtime\":\"2024-02-29T23:59:59Z\"}",
+            Some(1_709_251_199),
+        ),
+        ("{\"buildtime\":\"2023-02-29T23:59:59Z\"}", None),
+        ("{\"buildtime\":\"1969-12-31T23:59:59Z\"}", None),
+        ("{\"buildtime\":\"2024-02-29 23:59:59Z\"}", None),
+        ("{\"buildtime\":\"2024-02-29T23:59:59+00:00\"}", None),
+        ("{\"buildtime\":1709251199}", None),
+        (
+            "{\"generated\":\"7\",\"buildtime\":\"1970-01-01T00:00:01Z\"}",
+            Some(1),
+        ),
+        (
+            "{\"generated\":7,\"buildtime\":\"1970-01-01T00:00:01Z\"}",
+            Some(7),
+        ),
+        ("{\"generated\":7.5}", None),
+        ("[]", None),
+        ("7", None),
+    ];
+    for (metadata, then) in told {
+        assert!(rt; built(rt.alloc(), metadata)? == then);
+    }
+    Ok(())
+}

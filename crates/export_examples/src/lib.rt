@@ -1,0 +1,7 @@
+//! Examples of exports, which are the tests of the library `exports`: files as validators write them, and bytes that are none.
+#![tactic(auto)]
+
+#[cfg(test)]
+mod faults;
+#[cfg(test)]
+mod files;

@@ -1,0 +1,5 @@
+use Rattle.exports.proofs.Outcomes as outcomes
+use Rattle.exports.proofs.laws.one_fault.Goals as goal
+
+pub returns : goal.returns
+returns c = outcomes.one_fault c.one_reading.ensures

@@ -1,0 +1,129 @@
+-- Exports, worked out.
+use Rattle.std.specs.Prelude.{◌≡◌, ℕ, List, [], ◌∷◌, true, false, Option, Some, None, option_and_then, option_map, codes, refl}
+use Rattle.std.specs.Fmt.{digits}
+use Rattle.std.proofs.Common.{inl, inr, lit<}
+use Rattle.serde_json.specs.Data.{Data, null, number, string, array, object, unsigned, no_items, item, no_members, member}
+use Rattle.serde_json.specs.Read as json
+use Rattle.serde_json.proofs.OnLiterals.{serde_json_on_literals}
+use Rattle.der_lite.specs.Moments.{told_moment, is_moment}
+use Rattle.prefixes.specs.Payload.{Payload}
+use Rattle.prefixes.specs.declared.prefix.IpPrefix.TheVariants.{V4}
+use Rattle.exports.specs.Built.{IsBuilt, SaysTime, buildtime, generated, time_text}
+use Rattle.exports.specs.Entry.{FailsAt, IsNoEntry, SaysAsn, current, expired, is_after, said}
+use Rattle.exports.specs.Export.{roas}
+use Rattle.exports.specs.declared.entry.Listed.{Listed}
+use Rattle.exports.specs.declared.fault.EntryFault.TheVariants as faults
+
+-- ---- the moment of an expiry
+
+still_counts : is_after 99 (Some 100) ≡ true
+still_counts = refl
+
+-- from its second on an entry does not count
+counts_no_more : is_after 100 (Some 100) ≡ false
+counts_no_more = refl
+
+nor_later : is_after 101 (Some 100) ≡ false
+nor_later = refl
+
+without_expiry : is_after 101 None ≡ true
+without_expiry = refl
+
+-- a payload of 10.0.0.0/8 and this AS
+abbrev of_as : ℕ → Payload
+of_as n = record { prefix = V4 (record { addr = 167772160; len = 8 }); max_len = 8; asn = n }
+
+abbrev three : List Listed
+three = record { payload = of_as 1; expires = Some 100 } ∷ record { payload = of_as 2; expires = Some 101 } ∷ record { payload = of_as 3; expires = None } ∷ []
+
+those_that_count : current 100 three ≡ of_as 2 ∷ of_as 3 ∷ []
+those_that_count = refl
+
+those_that_do_not : expired 100 three ≡ 1
+those_that_do_not = refl
+
+-- ---- what a text holds
+
+-- the value of a text, looked at
+abbrev in_text : {A : Type 0} → (Data → Option A) → List ℕ → Option A
+in_text look text = option_and_then look (json.read text)
+
+no_entries : in_text roas (codes "{\"roas\":[]}") ≡ Some no_items
+unfolding serde_json_on_literals
+no_entries = refl
+
+-- of a key that stands twice the last
+last_roas : in_text roas (codes "{\"roas\":7,\"roas\":[7]}") ≡ Some (item (number (unsigned 7)) no_items)
+unfolding serde_json_on_literals
+last_roas = refl
+
+roas_of_another_kind : in_text roas (codes "{\"roas\":[],\"roas\":7}") ≡ None
+unfolding serde_json_on_literals
+roas_of_another_kind = refl
+
+no_roas_in_an_array : in_text roas (codes "[]") ≡ None
+unfolding serde_json_on_literals
+no_roas_in_an_array = refl
+
+-- as Routinator writes it
+generated_then : in_text generated (codes "{\"metadata\":{\"generated\":1700000000,\"generatedTime\":\"x\"},\"roas\":[]}") ≡ Some 1700000000
+unfolding serde_json_on_literals
+generated_then = refl
+
+generated_as_text : in_text generated (codes "{\"metadata\":{\"generated\":\"7\"}}") ≡ None
+unfolding serde_json_on_literals
+generated_as_text = refl
+
+-- as rpki-client writes it
+built_then : in_text buildtime (codes "{\"metadata\":{\"buildtime\":\"2024-02-29T23:59:59Z\"}}") ≡ Some (codes "2024-02-29T23:59:59Z")
+unfolding serde_json_on_literals
+built_then = refl
+
+time_written : time_text (told_moment 2024 2 29 23 59 59) ≡ codes "2024-02-29T23:59:59Z"
+time_written = refl
+
+-- the first of the two that is there
+generated_first : IsBuilt (Some 7) (Some (codes "2024-02-29T23:59:59Z")) (Some 7)
+generated_first = refl
+
+leap_day : SaysTime (told_moment 2024 2 29 23 59 59) (codes "2024-02-29T23:59:59Z")
+unfolding is_moment
+leap_day = record { text_is = refl; real = refl }
+
+-- ---- what an entry says
+
+-- `expires` where it is a number, a text, and nothing
+expires_as_number : in_text (λ d. Some (said d).expires) (codes "{\"expires\":100}") ≡ Some (Some (Some 100))
+unfolding serde_json_on_literals
+expires_as_number = refl
+
+expires_as_text : in_text (λ d. Some (said d).expires) (codes "{\"expires\":\"100\"}") ≡ Some (Some None)
+unfolding serde_json_on_literals
+expires_as_text = refl
+
+no_expires : in_text (λ d. Some (said d).expires) (codes "{}") ≡ Some None
+unfolding serde_json_on_literals
+no_expires = refl
+
+-- an AS as a number, and as a text with and without AS before it
+abbrev only_as : Data → Data
+only_as d = object (member (codes "asn") d no_members)
+
+as_number : SaysAsn (said (only_as (number (unsigned 64496)))) 64496
+as_number = (lit< tt, refl)
+
+as_text : SaysAsn (said (only_as (string (codes "AS64496")))) 64496
+unfolding digits
+as_text = (lit< tt, (codes "AS64496", refl, inr refl))
+
+as_text_alone : SaysAsn (said (only_as (string (codes "4294967295")))) 4294967295
+unfolding digits
+as_text_alone = (lit< tt, (codes "4294967295", refl, inl refl))
+
+-- what is no object
+not_an_object : IsNoEntry null faults.NoObject
+not_an_object = inl (refl, refl)
+
+-- the first entry of two that are none
+the_first_of_two : FailsAt (item null (item null no_items)) 0 faults.NoObject
+the_first_of_two = not_an_object

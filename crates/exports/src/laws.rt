@@ -1,0 +1,25 @@
+//! Laws of exports. The functions do nothing: each states a law, which is proved.
+ghost use Rattle.exports.specs.ExportLaws.{NoFaultOfExports, OneExport, OneFault};
+
+use prefixes::laws::one_reading;
+
+/// What bytes are an export of, at a moment, is one thing.
+pub fn one_export()
+    ensures { OneExport }
+{
+    one_reading();
+}
+
+/// Bytes that are an export, at a moment, have no fault; so `read_export` refuses them for want of memory alone.
+pub fn no_fault_of_exports()
+    ensures { NoFaultOfExports }
+{
+    one_reading();
+}
+
+/// Bytes that are no export have one fault: the first.
+pub fn one_fault()
+    ensures { OneFault }
+{
+    one_reading();
+}
