@@ -6,6 +6,8 @@ mod command_parts_example;
 #[cfg(test)]
 mod der_lite_example;
 #[cfg(test)]
+mod exports_example;
+#[cfg(test)]
 mod fault_texts;
 #[cfg(test)]
 mod feed_example;

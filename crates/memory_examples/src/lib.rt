@@ -6,6 +6,8 @@
 #[cfg(test)]
 mod end_runs;
 #[cfg(test)]
+mod export_runs;
+#[cfg(test)]
 mod feed_runs;
 #[cfg(test)]
 mod free_runs;

@@ -27,6 +27,22 @@ fn writes_what_it_reads(rt: HostRuntime) -> Result<(), Fail> {
 }
 
 #[test]
+fn counts_seconds_since_1970(rt: HostRuntime) -> Result<(), Fail> {
+    let counted = [
+        ("19700101000000Z", 0),
+        ("20000301000000Z", 951_868_800),
+        ("20240229235959Z", 1_709_251_199),
+        ("20380119031407Z", 2_147_483_647),
+        ("99991231235959Z", 253_402_300_799),
+    ];
+    for (text, seconds) in counted {
+        assert!(rt; Moment::from_text(text.as_bytes()).map(|m| m.seconds()) == Some(seconds));
+    }
+    assert!(rt; Moment::from_text(b"2024-02-29T23:59:59Z").is_none());
+    Ok(())
+}
+
+#[test]
 fn refuses_what_is_no_moment(rt: HostRuntime) {
     for text in [
         "",
