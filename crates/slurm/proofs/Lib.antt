@@ -3,3 +3,5 @@ pub mod ExceptionLaws
 pub mod Chaining
 pub mod Arranging
 pub mod Walking
+pub mod Readings
+pub mod SlurmRows
