@@ -94,6 +94,8 @@ RUNS = {
     "set_runs::publish_what_comes_again": anywhere(
         "10\n", "11\n", "12\n", *(f"withdrawn:\nannounced:\n{come}" for come in ("", V)), "unknown\n"
     ),
+    "slurm_runs::read_exceptions": once(W),
+    "slurm_runs::apply_exceptions": once(W),
     "end_runs::answer_a_reset_query": once(units(ANSWER) + OPENED),
     "end_runs::answer_a_serial_query": queried(CHANGES, [2, 3]),
     "end_runs::answer_an_old_serial": queried(

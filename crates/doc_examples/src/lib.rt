@@ -32,6 +32,8 @@ mod rtr_pdu_example;
 #[cfg(test)]
 mod rtr_world_example;
 #[cfg(test)]
+mod slurm_example;
+#[cfg(test)]
 mod values;
 #[cfg(test)]
 mod vrps_example;

@@ -16,6 +16,8 @@ mod payload_runs;
 #[cfg(test)]
 mod set_runs;
 #[cfg(test)]
+mod slurm_runs;
+#[cfg(test)]
 mod telling;
 #[cfg(test)]
 mod world_runs;

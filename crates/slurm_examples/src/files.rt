@@ -278,20 +278,41 @@ fn each_fault_is_told_with_its_place(rt: HostRuntime) -> Result<(), Fail> {
     Ok(())
 }
 
+/// Whether the text of each fault ends with its number.
+fn tell_their_numbers(alloc: Global, faults: &[SlurmFault]) -> Result<bool, Fail> {
+    for fault in faults {
+        let text = format!(in alloc; "{fault}")?;
+        let end = format!(in alloc; "(fault {})", fault.number())?;
+        if !text.as_str().ends_with(end.as_str()) {
+            return Ok(false);
+        }
+    }
+    Ok(true)
+}
+
 #[test]
 fn faults_have_texts(rt: HostRuntime) -> Result<(), Fail> {
-    let fault = SlurmFault::Entry(SlurmArray::PrefixAssertions, 12, EntryFault::MaxLength);
-    let text = format!(in rt.alloc(); "{fault}")?;
+    let entry = SlurmFault::Entry(SlurmArray::PrefixAssertions, 12, EntryFault::MaxLength);
+    let text = format!(in rt.alloc(); "{entry}")?;
     assert!(rt;
         text.as_str()
             == "prefixAssertions[12]: maxPrefixLength is no maximum length of the prefix (fault 5)"
     );
-    assert!(rt; fault.number() == 5);
     let members = SlurmFault::Members(SlurmObject::Filters);
     let text = format!(in rt.alloc(); "{members}")?;
     assert!(rt;
         text.as_str() == "validationOutputFilters is no object of exactly its members (fault 2)"
     );
-    assert!(rt; SlurmFault::Memory.number() == 7);
+    let faults = [
+        SlurmFault::NotJson,
+        members,
+        SlurmFault::Version,
+        SlurmFault::NoArray(SlurmArray::BgpsecFilters),
+        entry,
+        SlurmFault::TooMany,
+        SlurmFault::Memory,
+    ];
+    assert!(rt; tell_their_numbers(rt.alloc(), &faults)?);
+    assert!(rt; entry.number() == 5);
     Ok(())
 }
