@@ -2,30 +2,56 @@
 ghost use Rattle.std.specs.Prelude.{◌≡◌};
 
 use std::alloc::AllocError;
+use std::fmt::{self, Display};
 use thiserror::Error;
 
 /// The arrays of a file (RFC 8416 section 3.2).
-#[derive(Clone, Copy, Debug, PartialEq, Eq, Error)]
+#[derive(Clone, Copy, Debug, PartialEq, Eq)]
 pub enum SlurmArray {
-    #[error("prefixFilters")]
+    /// `prefixFilters` (section 3.3.1).
     PrefixFilters,
-    #[error("bgpsecFilters")]
+    /// `bgpsecFilters` (section 3.3.2).
     BgpsecFilters,
-    #[error("prefixAssertions")]
+    /// `prefixAssertions` (section 3.4.1).
     PrefixAssertions,
-    #[error("bgpsecAssertions")]
+    /// `bgpsecAssertions` (section 3.4.2).
     BgpsecAssertions,
 }
 
+/// The key under which it stands.
+impl Display for SlurmArray {
+    fn fmt<W: fmt::Write>(&self, f: &mut fmt::Formatter<W>) -> fmt::Result {
+        let key = match self {
+            SlurmArray::PrefixFilters => "prefixFilters",
+            SlurmArray::BgpsecFilters => "bgpsecFilters",
+            SlurmArray::PrefixAssertions => "prefixAssertions",
+            SlurmArray::BgpsecAssertions => "bgpsecAssertions",
+        };
+        write!(f, "{key}")
+    }
+}
+
 /// The objects of a file that are no entries (RFC 8416 section 3.2).
-#[derive(Clone, Copy, Debug, PartialEq, Eq, Error)]
+#[derive(Clone, Copy, Debug, PartialEq, Eq)]
 pub enum SlurmObject {
-    #[error("the file")]
+    /// The file itself, of three members.
     File,
-    #[error("validationOutputFilters")]
+    /// `validationOutputFilters`, of two arrays.
     Filters,
-    #[error("locallyAddedAssertions")]
+    /// `locallyAddedAssertions`, of two arrays.
     Assertions,
+}
+
+/// The key under which it stands, or that it is the file.
+impl Display for SlurmObject {
+    fn fmt<W: fmt::Write>(&self, f: &mut fmt::Formatter<W>) -> fmt::Result {
+        let name = match self {
+            SlurmObject::File => "the file",
+            SlurmObject::Filters => "validationOutputFilters",
+            SlurmObject::Assertions => "locallyAddedAssertions",
+        };
+        write!(f, "{name}")
+    }
 }
 
 /// Why an entry of an array cannot be read. Where there are several reasons, the first of these is told.

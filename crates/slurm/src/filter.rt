@@ -8,7 +8,9 @@ use vrps::VrpSet;
 /// whose AS is this AS, where there is one.
 #[derive(Clone, Copy, Debug, PartialEq, Eq)]
 pub struct PrefixFilter {
+    /// The prefix that it reaches, with all that it covers; none for every prefix.
     pub prefix: Option<IpPrefix>,
+    /// The AS that it reaches; none for every AS.
     pub asn: Option<Asn>,
 }
 
