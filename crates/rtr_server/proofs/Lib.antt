@@ -1,0 +1,4 @@
+pub mod ClientLaws
+pub mod FlowLaws
+pub mod PastLaws
+pub mod Windows

@@ -1,0 +1,47 @@
+-- What the calls of a stream that does not wait do to its bytes, where those are known.
+use Rattle.std.specs.Prelude.{◌≡◌, ℕ, ◌<◌, ◌≤◌, List, [], length, take, drop, Option, ⊤}
+use Rattle.std.specs.Io.KnownBytes.{Appends, Consumes, IsAtEnd, Keeps}
+use Rattle.vrps.specs.Instance.{Instance}
+use Rattle.rtr_ends.specs.CacheState.{CacheState, ShowsCache, due_at, given}
+use Rattle.rtr_ends.specs.declared.cache.Cache.{Cache}
+use Rattle.rtr_server.specs.declared.stream.Moved.{Moved}
+use Rattle.rtr_server.specs.declared.stream.Moved.TheVariants.{Bytes, Waits, Interrupted, Failed}
+
+-- no more than there is room for
+abbrev pub IsWithin : ℕ → Moved → Type 0
+IsWithin most (Bytes n) = n ≤ most
+IsWithin most Waits = ⊤
+IsWithin most Interrupted = ⊤
+IsWithin most Failed = ⊤
+
+-- A read took these bytes of what was left, none only at the end; or nothing.
+abbrev pub ReadsSo : Option (List ℕ) → Option (List ℕ) → Moved → List ℕ → Type 0
+ReadsSo before left (Bytes n) buf = Consumes before left (take n buf) × (n ≡ 0 → 0 < length buf → IsAtEnd left)
+ReadsSo before left Waits buf = Keeps before left
+ReadsSo before left Interrupted buf = Keeps before left
+ReadsSo before left Failed buf = Keeps before left
+
+-- A write appended the beginning that it took, or nothing.
+abbrev pub WritesSo : Option (List ℕ) → Option (List ℕ) → Moved → List ℕ → Type 0
+WritesSo had has (Bytes n) buf = Appends had has (take n buf)
+WritesSo had has Waits buf = Keeps had has
+WritesSo had has Interrupted buf = Keeps had has
+WritesSo had has Failed buf = Keeps had has
+
+-- A read into an empty buffer leaves there what it took, and at the end nothing.
+abbrev pub FillsSo : Option (List ℕ) → Option (List ℕ) → Moved → List ℕ → Type 0
+FillsSo before left (Bytes n) unread = Consumes before left unread × (length unread ≡ n) × (n ≡ 0 → IsAtEnd left)
+FillsSo before left Waits unread = Keeps before left × (unread ≡ [])
+FillsSo before left Interrupted unread = Keeps before left × (unread ≡ [])
+FillsSo before left Failed unread = Keeps before left × (unread ≡ [])
+
+-- A write takes what it took from the front of what is to be written.
+abbrev pub EmptiesSo : Option (List ℕ) → Option (List ℕ) → Moved → List ℕ → List ℕ → Type 0
+EmptiesSo had has (Bytes n) old new = Appends had has (take n old) × (new ≡ drop n old) × (n ≤ length old)
+EmptiesSo had has Waits old new = Keeps had has × (new ≡ old)
+EmptiesSo had has Interrupted old new = Keeps had has × (new ≡ old)
+EmptiesSo had has Failed old new = Keeps had has × (new ≡ old)
+
+-- What is due is pulled into an empty buffer, as far as there is room.
+abbrev pub PullsInto : {S : Type 0} → (ℕ → Instance → S → Type 0) → CacheState → ℕ → List ℕ → Cache S → Type 0
+PullsInto holds m c unwritten new = (unwritten ≡ take 32768 (due_at (m.at c))) × ShowsCache holds (given 32768 c m) new

@@ -1,0 +1,11 @@
+//! One cache (RFC 6810, RFC 8210) and many routers, over streams that do not wait.
+#![tactic(auto)]
+
+mod pieces;
+mod server;
+mod stream;
+mod turn;
+
+pub use server::{AdmitFault, Client, Server};
+pub use stream::{Duplex, Moved, Stream};
+pub use turn::{Gone, Turn};

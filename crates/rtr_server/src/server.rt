@@ -1,0 +1,249 @@
+//! One cache and many clients.
+ghost use Rattle.std.specs.Prelude.{◌≡◌, ◌<◌, ℕ, false, [], ◌∷◌, IfErr, IfOk, Option, length};
+ghost use Rattle.vrps.specs.Instance.{Instance, IsInstance};
+ghost use Rattle.rtr_ends.specs.Timing.{Intervals};
+ghost use Rattle.rtr_ends.specs.CacheState.{CacheCall, CacheState, ShowsCache, with_conn, without_conns};
+ghost use Rattle.rtr_server.specs.Clients.{AdmitsTo, Begun, EachClientIsServed, GoesOnAfter, KeepsAll, KeepsOthers, NotifiesAt, NotifiesBelow, Past, PublishesTo, Serves, ShowsServer, TakesTurn, is_gone, slot_at};
+
+use crate::stream::Stream;
+use crate::turn::{Slot, Turn};
+use rtr_ends::{Cache, Conn};
+use std::alloc::{AllocError, Global};
+use thiserror::Error;
+use vrps::{Published, Serial, VersionStore, VrpSet};
+
+/// The number of a client. It has it until it is gone.
+#[derive(Clone, Copy, Debug, PartialEq, Eq)]
+pub struct Client(Conn);
+
+/// Why a stream was not admitted. The numbers are fixed.
+#[derive(Clone, Copy, Debug, PartialEq, Eq, Error)]
+pub enum AdmitFault {
+    /// As many clients are there as may be.
+    #[error("too many clients (fault 1)")]
+    TooManyClients = 1,
+    /// Out of memory for a client.
+    #[error("out of memory for a client (fault 2)")]
+    Memory = 2,
+}
+
+/// One cache and its clients. A client has the number of its connection at the cache.
+#[derive(Debug, Drop)]
+pub struct Server<S, T> {
+    alloc: Global,
+    cache: Cache<S>,
+    most: usize,
+    /// How many are there.
+    count: usize,
+    slots: Vec<Option<Box<Slot<T>>>>,
+}
+
+impl<S: VersionStore, T: Stream + Drop> Server<S, T> {
+    /// A server of this cache, which has no connection, for so many clients at most. It takes no memory.
+    pub fn new(alloc: Global, cache: Cache<S>, most: usize) -> Server<S, T>
+        ensures { (keep : ℕ) (timing : Intervals) (i : Instance) (begun : ℕ → Begun) → IsInstance i → ShowsCache S.holds (without_conns keep timing i) cache →
+            ShowsServer S.holds T.remaining T.contents (record { keep = keep; timing = timing; first = i; calls = []; begun = begun }) result }
+    {
+        Server {
+            alloc,
+            cache,
+            most,
+            count: 0,
+            slots: Vec::new(alloc),
+        }
+    }
+
+    /// Admits a client. Its number is the least that no client has.
+    pub fn admit(&mut self, stream: T) -> Result<Client, AdmitFault>
+        ensures { (p : Past) → ShowsServer S.holds T.remaining T.contents p self.old → AdmitsTo S.holds T.remaining T.contents p (T.remaining stream) (T.contents stream) result self.new }
+    {
+        if self.count >= self.most {
+            return Err(AdmitFault::TooManyClients);
+        }
+        match self.cache.open() {
+            Err(_) => Err(AdmitFault::Memory),
+            Ok(conn) => match put_at(self.alloc, &mut self.slots, conn, stream) {
+                Err(_) => {
+                    self.cache.close(conn);
+                    Err(AdmitFault::Memory)
+                }
+                Ok(()) => {
+                    self.count = self.count.saturating_add(1);
+                    Ok(Client(conn))
+                }
+            },
+        }
+    }
+
+    /// One turn of a client, and its end where it is gone.
+    fn serve_one(&mut self, client: Client, budget: u32) -> Option<Turn>
+        ensures others { KeepsOthers client.0.0 self.old.slots.items self.new.slots.items }
+        ensures serves { Serves S.holds T.remaining T.contents client.0.0 (slot_at self.old.slots.items client.0.0) self.old.cache result (slot_at self.new.slots.items client.0.0) self.new.cache }
+    {
+        let number = client.0.number();
+        let turn = turn_at(&mut self.cache, &mut self.slots, number, budget);
+        if is_gone(turn) {
+            self.drop_client(client);
+        }
+        turn
+    }
+
+    /// One turn of a client, of at most so many calls of its stream: none where there is no such client.
+    pub fn serve(&mut self, client: Client, budget: u32) -> Option<Turn>
+        ensures others { KeepsOthers client.0.0 self.old.slots.items self.new.slots.items }
+        ensures serves { Serves S.holds T.remaining T.contents client.0.0 (slot_at self.old.slots.items client.0.0) self.old.cache result (slot_at self.new.slots.items client.0.0) self.new.cache }
+        ensures past { (p : Past) → ShowsServer S.holds T.remaining T.contents p self.old → GoesOnAfter S.holds T.remaining T.contents p client.0.0 result self.new }
+    {
+        self.serve_one(client, budget)
+    }
+
+    /// Publishes a set. Each client to which nothing is due is notified of a new version, and each other is owed a notify.
+    pub fn publish(&mut self, set: VrpSet) -> Result<Published, AllocError>
+        ensures { (m : CacheState) → ShowsCache S.holds m self.old.cache → PublishesTo S.holds m set self.old.slots.items result self.new.slots.items self.new.cache }
+    {
+        let published = self.cache.publish(set)?;
+        if let Published::New(_) = published {
+            notify_all(&mut self.cache, &mut self.slots);
+        }
+        Ok(published)
+    }
+
+    /// Drops a client, if it is there, with all that was to be written to it.
+    pub fn drop_client(&mut self, client: Client)
+        ensures others { KeepsOthers client.0.0 self.old.slots.items self.new.slots.items }
+        ensures gone { slot_at self.new.slots.items client.0.0 ≡ Option.None }
+        ensures closed { (m : CacheState) → ShowsCache S.holds m self.old.cache → ShowsCache S.holds (with_conn client.0.0 Option.None m) self.new.cache }
+        ensures past { (p : Past) → ShowsServer S.holds T.remaining T.contents p self.old → ShowsServer S.holds T.remaining T.contents (record p { calls = CacheCall.Close client.0.0 ∷ p.calls }) self.new }
+    {
+        self.close(client);
+    }
+
+    /// Empties the client's place, and closes its connection.
+    fn close(&mut self, client: Client)
+        ensures others { KeepsOthers client.0.0 self.old.slots.items self.new.slots.items }
+        ensures gone { slot_at self.new.slots.items client.0.0 ≡ Option.None }
+        ensures closed { (m : CacheState) → ShowsCache S.holds m self.old.cache → ShowsCache S.holds (with_conn client.0.0 Option.None m) self.new.cache }
+    {
+        if empty_at(&mut self.slots, client.0.number()) {
+            self.count = self.count.saturating_sub(1);
+        }
+        self.cache.close(client.0);
+    }
+
+    /// How many clients there are.
+    pub fn clients(&self) -> usize {
+        self.count
+    }
+
+    /// The current version.
+    pub fn current(&self) -> Option<(Serial, &VrpSet)> {
+        self.cache.current()
+    }
+}
+
+/// Notifies the client under a number, or owes it a notify.
+fn notify_at<S: VersionStore, T: Stream>(
+    cache: &mut Cache<S>,
+    slots: &mut Vec<Option<Box<Slot<T>>>>,
+    number: usize,
+)
+    requires { number < length slots.old.items }
+    ensures others { KeepsOthers number slots.old.items slots.new.items }
+    ensures len { length slots.new.items ≡ length slots.old.items }
+    ensures told { (m : CacheState) → ShowsCache S.holds m cache.old → NotifiesAt S.holds (slot_at slots.old.items number) m (slot_at slots.new.items number) cache.new }
+{
+    match &mut slots[number] {
+        None => {}
+        Some(slot) => slot.is_owed = !cache.notify(slot.conn),
+    }
+}
+
+fn notify_all<S: VersionStore, T: Stream>(
+    cache: &mut Cache<S>,
+    slots: &mut Vec<Option<Box<Slot<T>>>>,
+)
+    ensures { NotifiesBelow S.holds slots.old.items cache.old (length slots.old.items) slots.new.items cache.new }
+{
+    for number in 0..slots.len() {
+        notify_at(cache, slots, number);
+    }
+}
+
+/// Makes room for a place of this number.
+fn grow<T: Stream + Drop>(
+    slots: &mut Vec<Option<Box<Slot<T>>>>,
+    number: usize,
+) -> Result<(), AllocError>
+    ensures kept { KeepsAll slots.old.items slots.new.items }
+    ensures room { IfOk result (λ _. number < length slots.new.items) }
+{
+    while slots.len() <= number {
+        slots.push(None)?;
+    }
+    Ok(())
+}
+
+/// Puts a client under the number of its connection.
+fn put_at<T: Stream + Drop>(
+    alloc: Global,
+    slots: &mut Vec<Option<Box<Slot<T>>>>,
+    conn: Conn,
+    stream: T,
+) -> Result<(), AllocError>
+    ensures others { KeepsOthers conn.0 slots.old.items slots.new.items }
+    ensures placed { IfOk result (λ _. slot_at slots.new.items conn.0 ≡ Option.Some (record { stream = stream; conn = conn; unread = []; unwritten = []; is_owed = false })) }
+    ensures kept { IfErr result (λ _. KeepsAll slots.old.items slots.new.items) }
+{
+    let number = conn.number();
+    grow(slots, number)?;
+    let slot = Box::new(alloc, Slot::new(stream, conn))?;
+    slots[number] = Some(slot);
+    Ok(())
+}
+
+/// Whether a client is gone.
+fn is_gone(turn: Option<Turn>) -> bool
+    ensures { result ≡ is_gone turn }
+{
+    match turn {
+        Some(Turn::Gone(_)) => true,
+        _ => false,
+    }
+}
+
+/// One turn of the client under a number, if there is one.
+fn turn_at<S: VersionStore, T: Stream>(
+    cache: &mut Cache<S>,
+    slots: &mut Vec<Option<Box<Slot<T>>>>,
+    number: usize,
+    budget: u32,
+) -> Option<Turn>
+    ensures others { KeepsOthers number slots.old.items slots.new.items }
+    ensures turns { TakesTurn S.holds T.remaining T.contents (slot_at slots.old.items number) cache.old result (slot_at slots.new.items number) cache.new }
+{
+    if number >= slots.len() {
+        return None;
+    }
+    match &mut slots[number] {
+        None => None,
+        Some(slot) => Some(slot.turn(cache, budget)),
+    }
+}
+
+/// Empties the place under a number, and says whether a client was there.
+fn empty_at<T: Stream + Drop>(slots: &mut Vec<Option<Box<Slot<T>>>>, number: usize) -> bool
+    ensures others { KeepsOthers number slots.old.items slots.new.items }
+    ensures gone { slot_at slots.new.items number ≡ Option.None }
+{
+    if number >= slots.len() {
+        return false;
+    }
+    let was_there = slots[number].is_some();
+    slots[number] = None;
+    was_there
+}
+
+/// What went over the stream of each client of a server is what its connection's history says: each past that led to the server made it.
+pub fn each_client_is_served<S: VersionStore, T: Stream>(server: &Server<S, T>)
+    ensures { EachClientIsServed S.holds T.remaining T.contents server.now }
+{}

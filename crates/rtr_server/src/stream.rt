@@ -1,0 +1,81 @@
+//! Streams that do not wait.
+ghost use Rattle.std.specs.Prelude.{◌≡◌, ℕ, ◌≤◌, List, Option, length};
+ghost use Rattle.std.specs.Io.KnownBytes.{Keeps};
+ghost use Rattle.rtr_server.specs.Streams.{ReadsSo, WritesSo, IsWithin};
+
+use std::io;
+use std::io::{ErrorKind, Read, Write};
+
+/// What one call of a stream came to.
+#[derive(Clone, Copy, Debug, PartialEq, Eq)]
+pub enum Moved {
+    /// So many bytes went. At a read none is the end, where there is room.
+    Bytes(usize),
+    /// The stream would wait.
+    Waits,
+    /// The call was interrupted, and can be made again.
+    Interrupted,
+    /// The stream failed.
+    Failed,
+}
+
+/// Both directions of a connection. What is read changes nothing of what was written, nor the other way round.
+pub trait Stream {
+    /// What is left to be read, where that is known.
+    ghost remaining: { Self → Option (List ℕ) };
+
+    /// What was written, where that is known.
+    ghost contents: { Self → Option (List ℕ) };
+
+    /// Reads into the buffer.
+    fn read(&mut self, buf: &mut [u8]) -> Moved
+        ensures reads { ReadsSo (remaining self.old) (remaining self.new) result buf.new }
+        ensures within { IsWithin (length buf.old) result }
+        ensures keeps { Keeps (contents self.old) (contents self.new) };
+
+    /// Writes from the buffer.
+    fn write(&mut self, buf: &[u8]) -> Moved
+        ensures writes { WritesSo (contents self.old) (contents self.new) result buf.now }
+        ensures within { IsWithin (length buf.now) result }
+        ensures keeps { Keeps (remaining self.old) (remaining self.new) };
+}
+
+/// A stream of a reader and a writer.
+#[derive(Debug, Drop)]
+pub struct Duplex<R, W> {
+    /// What is read.
+    pub input: R,
+    /// What is written to.
+    pub output: W,
+}
+
+/// What an error of a device says.
+fn moved_of(error: &io::Error) -> Moved
+    ensures { (n : ℕ) → ¬ (result ≡ Moved.Bytes n) }
+{
+    match error.kind() {
+        ErrorKind::WouldBlock => Moved::Waits,
+        ErrorKind::Interrupted => Moved::Interrupted,
+        _ => Moved::Failed,
+    }
+}
+
+impl<R: Read, W: Write> Stream for Duplex<R, W> {
+    ghost remaining = { λ d. R.remaining d.input };
+
+    ghost contents = { λ d. W.contents d.output };
+
+    fn read(&mut self, buf: &mut [u8]) -> Moved {
+        match self.input.read(buf) {
+            Ok(n) => Moved::Bytes(n),
+            Err(error) => moved_of(&error),
+        }
+    }
+
+    fn write(&mut self, buf: &[u8]) -> Moved {
+        match self.output.write(buf) {
+            Ok(n) => Moved::Bytes(n),
+            Err(error) => moved_of(&error),
+        }
+    }
+}
