@@ -1,4 +1,6 @@
-pub mod ClientLaws
-pub mod FlowLaws
+pub mod AnswerLogs
+pub mod NoticeLaws
 pub mod PastLaws
+pub mod PlaceLaws
+pub mod TurnLaws
 pub mod Windows

@@ -1,3 +1,3 @@
 pub mod Clients
-pub mod Flow
 pub mod Streams
+pub mod Turns

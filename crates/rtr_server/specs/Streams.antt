@@ -1,5 +1,5 @@
 -- What the calls of a stream that does not wait do to its bytes, where those are known.
-use Rattle.std.specs.Prelude.{◌≡◌, ℕ, ◌<◌, ◌≤◌, List, [], length, take, drop, Option, ⊤}
+use Rattle.std.specs.Prelude.{◌≡◌, ℕ, ◌<◌, ◌≤◌, List, [], ◌++◌, length, take, drop, Option, Some, None, ⊤}
 use Rattle.std.specs.Io.KnownBytes.{Appends, Consumes, IsAtEnd, Keeps}
 use Rattle.vrps.specs.Instance.{Instance}
 use Rattle.rtr_ends.specs.CacheState.{CacheState, ShowsCache, due_at, given}
@@ -28,12 +28,25 @@ WritesSo had has Waits buf = Keeps had has
 WritesSo had has Interrupted buf = Keeps had has
 WritesSo had has Failed buf = Keeps had has
 
+-- These were the answers of the calls made since, the last first, where all answers are known.
+abbrev pub Logged : List Moved → Option (List Moved) → Option (List Moved) → Type 0
+Logged since before None = ⊤
+Logged since None (Some now) = ⊥
+Logged since (Some before) (Some now) = now ≡ since ++ before
+
 -- A read into an empty buffer leaves there what it took, and at the end nothing.
 abbrev pub FillsSo : Option (List ℕ) → Option (List ℕ) → Moved → List ℕ → Type 0
 FillsSo before left (Bytes n) unread = Consumes before left unread × (length unread ≡ n) × (n ≡ 0 → IsAtEnd left)
 FillsSo before left Waits unread = Keeps before left × (unread ≡ [])
 FillsSo before left Interrupted unread = Keeps before left × (unread ≡ [])
 FillsSo before left Failed unread = Keeps before left × (unread ≡ [])
+
+-- how many bytes went
+abbrev pub moved_count : Moved → ℕ
+moved_count (Bytes n) = n
+moved_count Waits = 0
+moved_count Interrupted = 0
+moved_count Failed = 0
 
 -- A write takes what it took from the front of what is to be written.
 abbrev pub EmptiesSo : Option (List ℕ) → Option (List ℕ) → Moved → List ℕ → List ℕ → Type 0

@@ -1,9 +1,9 @@
 //! What was read of a stream and is not consumed, and what was pulled and is not written.
-ghost use Rattle.std.specs.Prelude.{◌≡◌, ◌↔◌, ◌≤◌, [], IsTrue, length, drop};
+ghost use Rattle.std.specs.Prelude.{◌≡◌, ◌↔◌, ◌∷◌, ◌≤◌, [], IsTrue, length, drop};
 ghost use Rattle.std.specs.Io.KnownBytes.{Keeps};
 ghost use Rattle.rtr_pdu.specs.Payloads.{AreBytes};
 ghost use Rattle.rtr_ends.specs.CacheState.{CacheState, ShowsCache, TakesPiece};
-ghost use Rattle.rtr_server.specs.Streams.{FillsSo, EmptiesSo, PullsInto};
+ghost use Rattle.rtr_server.specs.Streams.{EmptiesSo, FillsSo, Logged, PullsInto};
 
 use crate::stream::{Moved, Stream};
 use rtr_ends::{Cache, Conn};
@@ -31,6 +31,7 @@ impl Model for Unread {
 
 #[tactic(auto, using(crate::proofs::Windows::moved_on))]
 impl Unread {
+    /// Nothing was read yet.
     pub(crate) fn new() -> Unread
         ensures { result ≡ [] }
     {
@@ -41,6 +42,7 @@ impl Unread {
         }
     }
 
+    /// Whether nothing is left of it.
     pub(crate) fn is_empty(&self) -> bool
         ensures { IsTrue result ↔ (self.now ≡ []) }
     {
@@ -52,6 +54,7 @@ impl Unread {
         requires { self.old ≡ [] }
         ensures fills { FillsSo (T.remaining stream.old) (T.remaining stream.new) result self.new }
         ensures keeps { Keeps (T.contents stream.old) (T.contents stream.new) }
+        ensures logs { Logged (result ∷ []) (T.answers stream.old) (T.answers stream.new) }
     {
         let moved = stream.read(&mut self.bytes);
         self.from = 0;
@@ -104,6 +107,7 @@ impl Model for Unwritten {
 
 #[tactic(auto, using(crate::proofs::Windows::moved_on))]
 impl Unwritten {
+    /// Nothing was pulled yet.
     pub(crate) fn new() -> Unwritten
         ensures { result ≡ [] }
     {
@@ -114,6 +118,7 @@ impl Unwritten {
         }
     }
 
+    /// Whether nothing is left of it.
     pub(crate) fn is_empty(&self) -> bool
         ensures { IsTrue result ↔ (self.now ≡ []) }
     {
@@ -133,6 +138,7 @@ impl Unwritten {
     pub(crate) fn write<T: Stream>(&mut self, stream: &mut T) -> Moved
         ensures empties { EmptiesSo (T.contents stream.old) (T.contents stream.new) result self.old self.new }
         ensures keeps { Keeps (T.remaining stream.old) (T.remaining stream.new) }
+        ensures logs { Logged (result ∷ []) (T.answers stream.old) (T.answers stream.new) }
     {
         let moved = stream.write(&self.bytes[self.from..self.to]);
         if let Moved::Bytes(n) = moved {

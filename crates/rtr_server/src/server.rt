@@ -1,9 +1,10 @@
 //! One cache and many clients.
-ghost use Rattle.std.specs.Prelude.{◌≡◌, ◌<◌, ℕ, false, [], ◌∷◌, IfErr, IfOk, Option, length};
-ghost use Rattle.vrps.specs.Instance.{Instance, IsInstance};
+ghost use Rattle.std.specs.Prelude.{◌≡◌, ◌+◌, ◌<◌, ℕ, false, true, [], ◌∷◌, IfErr, IfOk, Option, cond, length, option_map};
+ghost use Rattle.vrps.specs.Instance.{Instance, IsInstance, versions};
+ghost use Rattle.vrps.specs.Stores.{newest};
 ghost use Rattle.rtr_ends.specs.Timing.{Intervals};
 ghost use Rattle.rtr_ends.specs.CacheState.{CacheCall, CacheState, ShowsCache, with_conn, without_conns};
-ghost use Rattle.rtr_server.specs.Clients.{AdmitsTo, Begun, EachClientIsServed, GoesOnAfter, KeepsAll, KeepsOthers, NotifiesAt, NotifiesBelow, Past, PublishesTo, Serves, ShowsServer, TakesTurn, is_gone, slot_at};
+ghost use Rattle.rtr_server.specs.Clients.{AdmitsTo, Begun, EachClientIsServed, GoesOnAfter, IsCounted, KeepsAll, KeepsOthers, NotifiesAt, NotifiesBelow, Past, PublishesSo, PublishesTo, Serves, ShowsServer, TakesTurn, admit_fault_number, clients_in, is_gone, present, slot_at};
 
 use crate::stream::Stream;
 use crate::turn::{Slot, Turn};
@@ -27,6 +28,15 @@ pub enum AdmitFault {
     Memory = 2,
 }
 
+impl AdmitFault {
+    /// The number by which the fault is printed.
+    pub fn number(self) -> u8
+        ensures { result ≡ admit_fault_number self }
+    {
+        self as u8
+    }
+}
+
 /// One cache and its clients. A client has the number of its connection at the cache.
 #[derive(Debug, Drop)]
 pub struct Server<S, T> {
@@ -42,7 +52,7 @@ impl<S: VersionStore, T: Stream + Drop> Server<S, T> {
     /// A server of this cache, which has no connection, for so many clients at most. It takes no memory.
     pub fn new(alloc: Global, cache: Cache<S>, most: usize) -> Server<S, T>
         ensures { (keep : ℕ) (timing : Intervals) (i : Instance) (begun : ℕ → Begun) → IsInstance i → ShowsCache S.holds (without_conns keep timing i) cache →
-            ShowsServer S.holds T.remaining T.contents (record { keep = keep; timing = timing; first = i; calls = []; begun = begun }) result }
+            ShowsServer S.holds T.remaining T.contents (record { keep = keep; timing = timing; first = i; most = most; calls = []; begun = begun }) result }
     {
         Server {
             alloc,
@@ -53,9 +63,10 @@ impl<S: VersionStore, T: Stream + Drop> Server<S, T> {
         }
     }
 
-    /// Admits a client. Its number is the least that no client has.
+    /// Admits a client. Its number is the least that no client has. `TooManyClients` comes exactly where as many are there as may be; after
+    /// it and after `Memory` the stream is dropped, and all clients are as they were.
     pub fn admit(&mut self, stream: T) -> Result<Client, AdmitFault>
-        ensures { (p : Past) → ShowsServer S.holds T.remaining T.contents p self.old → AdmitsTo S.holds T.remaining T.contents p (T.remaining stream) (T.contents stream) result self.new }
+        ensures { (p : Past) → ShowsServer S.holds T.remaining T.contents p self.old → AdmitsTo S.holds T.remaining T.contents p stream result self.old self.new }
     {
         if self.count >= self.most {
             return Err(AdmitFault::TooManyClients);
@@ -68,7 +79,7 @@ impl<S: VersionStore, T: Stream + Drop> Server<S, T> {
                     Err(AdmitFault::Memory)
                 }
                 Ok(()) => {
-                    self.count = self.count.saturating_add(1);
+                    self.count += 1;
                     Ok(Client(conn))
                 }
             },
@@ -78,28 +89,34 @@ impl<S: VersionStore, T: Stream + Drop> Server<S, T> {
     /// One turn of a client, and its end where it is gone.
     fn serve_one(&mut self, client: Client, budget: u32) -> Option<Turn>
         ensures others { KeepsOthers client.0.0 self.old.slots.items self.new.slots.items }
-        ensures serves { Serves S.holds T.remaining T.contents client.0.0 (slot_at self.old.slots.items client.0.0) self.old.cache result (slot_at self.new.slots.items client.0.0) self.new.cache }
+        ensures serves { Serves S.holds T.remaining T.contents T.answers budget client.0.0 (slot_at self.old.slots.items client.0.0) self.old.cache result (slot_at self.new.slots.items client.0.0) self.new.cache }
+        ensures most { self.new.most ≡ self.old.most }
+        ensures counted { IsCounted self.old → IsCounted self.new }
     {
         let number = client.0.number();
         let turn = turn_at(&mut self.cache, &mut self.slots, number, budget);
         if is_gone(turn) {
-            self.drop_client(client);
+            self.close(client);
         }
         turn
     }
 
-    /// One turn of a client, of at most so many calls of its stream: none where there is no such client.
+    /// One turn of a client, of at most `budget` calls of its stream: what was pulled is written, then more is pulled; where nothing is due,
+    /// what was read is handed in; where nothing is left of that, a piece is read. None where no client has the number. A number is free
+    /// again once its client is gone, and may go to another.
     pub fn serve(&mut self, client: Client, budget: u32) -> Option<Turn>
         ensures others { KeepsOthers client.0.0 self.old.slots.items self.new.slots.items }
-        ensures serves { Serves S.holds T.remaining T.contents client.0.0 (slot_at self.old.slots.items client.0.0) self.old.cache result (slot_at self.new.slots.items client.0.0) self.new.cache }
+        ensures serves { Serves S.holds T.remaining T.contents T.answers budget client.0.0 (slot_at self.old.slots.items client.0.0) self.old.cache result (slot_at self.new.slots.items client.0.0) self.new.cache }
         ensures past { (p : Past) → ShowsServer S.holds T.remaining T.contents p self.old → GoesOnAfter S.holds T.remaining T.contents p client.0.0 result self.new }
     {
         self.serve_one(client, budget)
     }
 
-    /// Publishes a set. Each client to which nothing is due is notified of a new version, and each other is owed a notify.
-    pub fn publish(&mut self, set: VrpSet) -> Result<Published, AllocError>
-        ensures { (m : CacheState) → ShowsCache S.holds m self.old.cache → PublishesTo S.holds m set self.old.slots.items result self.new.slots.items self.new.cache }
+    /// Publishes a set, and notifies the routers of all clients if it is new.
+    fn publish_to_all(&mut self, set: VrpSet) -> Result<Published, AllocError>
+        ensures publishes { (m : CacheState) → ShowsCache S.holds m self.old.cache → PublishesSo S.holds m set self.old.slots.items result self.new.slots.items self.new.cache }
+        ensures most { self.new.most ≡ self.old.most }
+        ensures counted { IsCounted self.old → IsCounted self.new }
     {
         let published = self.cache.publish(set)?;
         if let Published::New(_) = published {
@@ -108,11 +125,20 @@ impl<S: VersionStore, T: Stream + Drop> Server<S, T> {
         Ok(published)
     }
 
-    /// Drops a client, if it is there, with all that was to be written to it.
+    /// Publishes a set. Each client whose connection goes on and has nothing due is notified of a new version: the notify stands behind
+    /// what was pulled and is not written. Each other is owed a notify, which it gets as soon as nothing is due, before anything more is
+    /// handed in. Without memory nothing is published.
+    pub fn publish(&mut self, set: VrpSet) -> Result<Published, AllocError>
+        ensures { (p : Past) → ShowsServer S.holds T.remaining T.contents p self.old → PublishesTo S.holds T.remaining T.contents p set result self.old self.new }
+    {
+        let _size = set.len();
+        self.publish_to_all(set)
+    }
+
+    /// Drops the client that has the number now, if there is one, with all that was to be written to it.
     pub fn drop_client(&mut self, client: Client)
         ensures others { KeepsOthers client.0.0 self.old.slots.items self.new.slots.items }
         ensures gone { slot_at self.new.slots.items client.0.0 ≡ Option.None }
-        ensures closed { (m : CacheState) → ShowsCache S.holds m self.old.cache → ShowsCache S.holds (with_conn client.0.0 Option.None m) self.new.cache }
         ensures past { (p : Past) → ShowsServer S.holds T.remaining T.contents p self.old → ShowsServer S.holds T.remaining T.contents (record p { calls = CacheCall.Close client.0.0 ∷ p.calls }) self.new }
     {
         self.close(client);
@@ -123,6 +149,8 @@ impl<S: VersionStore, T: Stream + Drop> Server<S, T> {
         ensures others { KeepsOthers client.0.0 self.old.slots.items self.new.slots.items }
         ensures gone { slot_at self.new.slots.items client.0.0 ≡ Option.None }
         ensures closed { (m : CacheState) → ShowsCache S.holds m self.old.cache → ShowsCache S.holds (with_conn client.0.0 Option.None m) self.new.cache }
+        ensures most { self.new.most ≡ self.old.most }
+        ensures counted { IsCounted self.old → IsCounted self.new }
     {
         if empty_at(&mut self.slots, client.0.number()) {
             self.count = self.count.saturating_sub(1);
@@ -131,12 +159,16 @@ impl<S: VersionStore, T: Stream + Drop> Server<S, T> {
     }
 
     /// How many clients there are.
-    pub fn clients(&self) -> usize {
+    pub fn clients(&self) -> usize
+        ensures { (p : Past) → ShowsServer S.holds T.remaining T.contents p self.now → result ≡ clients_in self.now.slots.items }
+    {
         self.count
     }
 
-    /// The current version.
-    pub fn current(&self) -> Option<(Serial, &VrpSet)> {
+    /// The current version: its serial and its set.
+    pub fn current(&self) -> Option<(Serial, &VrpSet)>
+        ensures { (p : Past) → ShowsServer S.holds T.remaining T.contents p self.now → option_map (λ found. record { serial = found.0.0; set = found.1.now }) result ≡ newest (versions (present p).cache) }
+    {
         self.cache.current()
     }
 }
@@ -150,6 +182,7 @@ fn notify_at<S: VersionStore, T: Stream>(
     requires { number < length slots.old.items }
     ensures others { KeepsOthers number slots.old.items slots.new.items }
     ensures len { length slots.new.items ≡ length slots.old.items }
+    ensures count { clients_in slots.new.items ≡ clients_in slots.old.items }
     ensures told { (m : CacheState) → ShowsCache S.holds m cache.old → NotifiesAt S.holds (slot_at slots.old.items number) m (slot_at slots.new.items number) cache.new }
 {
     match &mut slots[number] {
@@ -158,11 +191,13 @@ fn notify_at<S: VersionStore, T: Stream>(
     }
 }
 
+/// Notifies all clients, or owes them a notify.
 fn notify_all<S: VersionStore, T: Stream>(
     cache: &mut Cache<S>,
     slots: &mut Vec<Option<Box<Slot<T>>>>,
 )
-    ensures { NotifiesBelow S.holds slots.old.items cache.old (length slots.old.items) slots.new.items cache.new }
+    ensures notifies { NotifiesBelow S.holds slots.old.items cache.old (length slots.old.items) slots.new.items cache.new }
+    ensures count { clients_in slots.new.items ≡ clients_in slots.old.items }
 {
     for number in 0..slots.len() {
         notify_at(cache, slots, number);
@@ -176,6 +211,7 @@ fn grow<T: Stream + Drop>(
 ) -> Result<(), AllocError>
     ensures kept { KeepsAll slots.old.items slots.new.items }
     ensures room { IfOk result (λ _. number < length slots.new.items) }
+    ensures count { clients_in slots.new.items ≡ clients_in slots.old.items }
 {
     while slots.len() <= number {
         slots.push(None)?;
@@ -183,7 +219,7 @@ fn grow<T: Stream + Drop>(
     Ok(())
 }
 
-/// Puts a client under the number of its connection.
+/// Puts a client under the number of its connection, where none is.
 fn put_at<T: Stream + Drop>(
     alloc: Global,
     slots: &mut Vec<Option<Box<Slot<T>>>>,
@@ -193,6 +229,8 @@ fn put_at<T: Stream + Drop>(
     ensures others { KeepsOthers conn.0 slots.old.items slots.new.items }
     ensures placed { IfOk result (λ _. slot_at slots.new.items conn.0 ≡ Option.Some (record { stream = stream; conn = conn; unread = []; unwritten = []; is_owed = false })) }
     ensures kept { IfErr result (λ _. KeepsAll slots.old.items slots.new.items) }
+    ensures more { IfOk result (λ _. slot_at slots.old.items conn.0 ≡ Option.None → clients_in slots.new.items ≡ clients_in slots.old.items + 1) }
+    ensures same { IfErr result (λ _. clients_in slots.new.items ≡ clients_in slots.old.items) }
 {
     let number = conn.number();
     grow(slots, number)?;
@@ -219,7 +257,8 @@ fn turn_at<S: VersionStore, T: Stream>(
     budget: u32,
 ) -> Option<Turn>
     ensures others { KeepsOthers number slots.old.items slots.new.items }
-    ensures turns { TakesTurn S.holds T.remaining T.contents (slot_at slots.old.items number) cache.old result (slot_at slots.new.items number) cache.new }
+    ensures turns { TakesTurn S.holds T.remaining T.contents T.answers budget (slot_at slots.old.items number) cache.old result (slot_at slots.new.items number) cache.new }
+    ensures count { clients_in slots.new.items ≡ clients_in slots.old.items }
 {
     if number >= slots.len() {
         return None;
@@ -234,6 +273,7 @@ fn turn_at<S: VersionStore, T: Stream>(
 fn empty_at<T: Stream + Drop>(slots: &mut Vec<Option<Box<Slot<T>>>>, number: usize) -> bool
     ensures others { KeepsOthers number slots.old.items slots.new.items }
     ensures gone { slot_at slots.new.items number ≡ Option.None }
+    ensures count { clients_in slots.old.items ≡ clients_in slots.new.items + cond result 1 0 }
 {
     if number >= slots.len() {
         return false;
@@ -243,7 +283,8 @@ fn empty_at<T: Stream + Drop>(slots: &mut Vec<Option<Box<Slot<T>>>>, number: usi
     was_there
 }
 
-/// What went over the stream of each client of a server is what its connection's history says: each past that led to the server made it.
+/// What went over the stream of each client of a server is what its connection's history says, and a notify is owed to it exactly where its
+/// router awaits one: each past that led to the server made it so.
 pub fn each_client_is_served<S: VersionStore, T: Stream>(server: &Server<S, T>)
     ensures { EachClientIsServed S.holds T.remaining T.contents server.now }
 {}

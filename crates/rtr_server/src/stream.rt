@@ -1,7 +1,7 @@
 //! Streams that do not wait.
-ghost use Rattle.std.specs.Prelude.{◌≡◌, ℕ, ◌≤◌, List, Option, length};
+ghost use Rattle.std.specs.Prelude.{◌≡◌, ◌∷◌, ℕ, ◌≤◌, [], List, Option, length};
 ghost use Rattle.std.specs.Io.KnownBytes.{Keeps};
-ghost use Rattle.rtr_server.specs.Streams.{ReadsSo, WritesSo, IsWithin};
+ghost use Rattle.rtr_server.specs.Streams.{IsWithin, Logged, ReadsSo, WritesSo};
 
 use std::io;
 use std::io::{ErrorKind, Read, Write};
@@ -19,28 +19,36 @@ pub enum Moved {
     Failed,
 }
 
-/// Both directions of a connection. What is read changes nothing of what was written, nor the other way round.
+/// Both directions of a connection, whose calls do not wait. What is read changes nothing of what was written, nor the other way round.
 pub trait Stream {
+    ghost use Rattle.rtr_server.specs.declared.stream.Moved.{Moved};
+
     /// What is left to be read, where that is known.
     ghost remaining: { Self → Option (List ℕ) };
 
     /// What was written, where that is known.
     ghost contents: { Self → Option (List ℕ) };
 
-    /// Reads into the buffer.
+    /// What its calls answered, the last first, where that is known.
+    ghost answers: { Self → Option (List Moved) };
+
+    /// Reads into the front of the buffer, as many bytes as it answers.
     fn read(&mut self, buf: &mut [u8]) -> Moved
         ensures reads { ReadsSo (remaining self.old) (remaining self.new) result buf.new }
         ensures within { IsWithin (length buf.old) result }
-        ensures keeps { Keeps (contents self.old) (contents self.new) };
+        ensures keeps { Keeps (contents self.old) (contents self.new) }
+        ensures logs { Logged (result ∷ []) (answers self.old) (answers self.new) };
 
-    /// Writes from the buffer.
+    /// Writes from the front of the buffer, as many bytes as it answers.
     fn write(&mut self, buf: &[u8]) -> Moved
         ensures writes { WritesSo (contents self.old) (contents self.new) result buf.now }
         ensures within { IsWithin (length buf.now) result }
-        ensures keeps { Keeps (remaining self.old) (remaining self.new) };
+        ensures keeps { Keeps (remaining self.old) (remaining self.new) }
+        ensures logs { Logged (result ∷ []) (answers self.old) (answers self.new) };
 }
 
-/// A stream of a reader and a writer.
+/// A stream of a reader and a writer. An error of kind `WouldBlock` is that it would wait, and one of kind `Interrupted` that it was
+/// interrupted; any other is that it failed.
 #[derive(Debug, Drop)]
 pub struct Duplex<R, W> {
     /// What is read.
@@ -64,6 +72,8 @@ impl<R: Read, W: Write> Stream for Duplex<R, W> {
     ghost remaining = { λ d. R.remaining d.input };
 
     ghost contents = { λ d. W.contents d.output };
+
+    ghost answers = { λ d. Option.None };
 
     fn read(&mut self, buf: &mut [u8]) -> Moved {
         match self.input.read(buf) {

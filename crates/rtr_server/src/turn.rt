@@ -1,6 +1,6 @@
 //! One turn of a client.
-ghost use Rattle.std.specs.Prelude.{◌≡◌, ◌≤◌, [], false, drop, length};
-ghost use Rattle.rtr_server.specs.Flow.{FlowsOn, GoesOn};
+ghost use Rattle.std.specs.Prelude.{◌≡◌, ◌<◌, ◌≤◌, [], false, drop, length};
+ghost use Rattle.rtr_server.specs.Turns.{Anyhow, AnswersTurn, AnswersStep, EndsSo, GoesFrom, GoesOrEnds, IsIdle, IsOver, IsSettled, IsToWrite, MaySettle, NoneDue, StandsFor, WritesFrom, after_read, after_write, settles};
 
 use crate::pieces::{Unread, Unwritten};
 use crate::stream::{Moved, Stream};
@@ -14,7 +14,7 @@ pub enum Gone {
     PeerClosed,
     /// They ended inside a PDU.
     Truncated,
-    /// The cache ended the connection, and its last answer is written.
+    /// The cache ended the connection, and its last answer is written (RFC 8210 section 12).
     CacheEnded,
     /// The stream failed at a read.
     ReadFailed,
@@ -29,7 +29,7 @@ pub enum Turn {
     WaitsToRead,
     /// The stream would wait for room to write.
     WaitsToWrite,
-    /// As many calls were made as are allowed.
+    /// As many calls of the stream were made as are allowed.
     Busy,
     /// The client is not there any more.
     Gone(Gone),
@@ -48,13 +48,16 @@ pub(crate) struct Slot<T> {
 /// What is to be done with the stream next.
 #[derive(Clone, Copy, Debug, PartialEq, Eq)]
 pub(crate) enum Next {
+    /// A piece is to be read.
     Read,
+    /// What was pulled is to be written.
     Write,
     /// Nothing: the connection has ended, and all is written.
     Nothing,
 }
 
 impl<T: Stream> Slot<T> {
+    /// A client that has just come.
     pub(crate) fn new(stream: T, conn: Conn) -> Slot<T>
         ensures { result ≡ record { stream = stream; conn = conn; unread = []; unwritten = []; is_owed = false } }
     {
@@ -67,23 +70,25 @@ impl<T: Stream> Slot<T> {
         }
     }
 
-    /// Sends the notify that is owed, where nothing is due. It answers whether it did.
+    /// Sends the notify that is owed, where it can be sent. It answers whether it did.
     fn settle<S: VersionStore>(&mut self, cache: &mut Cache<S>) -> bool
-        ensures goes { GoesOn S.holds T.remaining T.contents self.old cache.old self.new cache.new }
-        ensures rest { self.new ≡ record self.old { is_owed = false } }
+        requires { self.old.unwritten ≡ [] }
+        ensures goes { GoesFrom S.holds T.remaining T.contents NoneDue self.old cache.old self.new cache.new (settles result) }
+        ensures rest { self.new ≡ record self.old { is_owed = self.new.is_owed } }
         ensures conn { self.new.conn ≡ self.old.conn }
     {
         if !self.is_owed {
             return false;
         }
-        self.is_owed = false;
-        cache.notify(self.conn)
+        let is_sent = cache.notify(self.conn);
+        self.is_owed = !is_sent;
+        is_sent
     }
 
     /// Pulls what is due, where nothing is left to write.
     fn pull<S: VersionStore>(&mut self, cache: &mut Cache<S>)
         requires { self.old.unwritten ≡ [] }
-        ensures goes { GoesOn S.holds T.remaining T.contents self.old cache.old self.new cache.new }
+        ensures goes { GoesFrom S.holds T.remaining T.contents Anyhow self.old cache.old self.new cache.new NoneDue }
         ensures rest { self.new ≡ record self.old { unwritten = self.new.unwritten } }
         ensures conn { self.new.conn ≡ self.old.conn }
     {
@@ -92,9 +97,10 @@ impl<T: Stream> Slot<T> {
 
     /// Pulls the notify that is owed, where nothing is left to write and nothing is due.
     fn pull_owed<S: VersionStore>(&mut self, cache: &mut Cache<S>)
-        ensures goes { GoesOn S.holds T.remaining T.contents self.old cache.old self.new cache.new }
+        ensures goes { GoesFrom S.holds T.remaining T.contents NoneDue self.old cache.old self.new cache.new MaySettle }
         ensures conn { self.new.conn ≡ self.old.conn }
-        ensures unread { self.new.unread ≡ self.old.unread }
+        ensures rest { self.new.unread ≡ self.old.unread }
+        ensures answers { T.answers self.new.stream ≡ T.answers self.old.stream }
     {
         if !self.unwritten.is_empty() {
             return;
@@ -106,9 +112,10 @@ impl<T: Stream> Slot<T> {
 
     /// Pulls what is due, or the notify that is owed, where nothing is left to write.
     fn fill<S: VersionStore>(&mut self, cache: &mut Cache<S>)
-        ensures goes { GoesOn S.holds T.remaining T.contents self.old cache.old self.new cache.new }
+        ensures goes { GoesFrom S.holds T.remaining T.contents Anyhow self.old cache.old self.new cache.new MaySettle }
         ensures conn { self.new.conn ≡ self.old.conn }
-        ensures unread { self.new.unread ≡ self.old.unread }
+        ensures rest { self.new.unread ≡ self.old.unread }
+        ensures answers { T.answers self.new.stream ≡ T.answers self.old.stream }
     {
         if self.unwritten.is_empty() {
             self.pull(cache);
@@ -116,9 +123,10 @@ impl<T: Stream> Slot<T> {
         }
     }
 
-    /// Hands in what was read, and answers how many bytes were consumed.
+    /// Hands in what was read, and answers how many bytes were consumed: none where the connection has ended.
     fn take<S: VersionStore>(&mut self, cache: &mut Cache<S>) -> usize
-        ensures goes { GoesOn S.holds T.remaining T.contents self.old cache.old self.new cache.new }
+        requires { 0 < length self.old.unread }
+        ensures goes { GoesFrom S.holds T.remaining T.contents IsSettled self.old cache.old self.new cache.new (λ s. result ≡ 0 → IsOver s) }
         ensures rest { self.new ≡ record self.old { unread = drop result self.old.unread } }
         ensures conn { self.new.conn ≡ self.old.conn }
         ensures within { result ≤ length self.old.unread }
@@ -128,10 +136,10 @@ impl<T: Stream> Slot<T> {
 
     /// Hands in what was read, as far as nothing becomes due, and says what is to be done next.
     fn prepare<S: VersionStore>(&mut self, cache: &mut Cache<S>) -> Next
-        ensures goes { GoesOn S.holds T.remaining T.contents self.old cache.old self.new cache.new }
+        ensures goes { GoesFrom S.holds T.remaining T.contents Anyhow self.old cache.old self.new cache.new (StandsFor result) }
         ensures conn { self.new.conn ≡ self.old.conn }
         ensures read { result ≡ Next.Read → self.new.unread ≡ [] }
-        ensures out { ¬ (result ≡ Next.Write) → self.new.unwritten ≡ [] }
+        ensures answers { T.answers self.new.stream ≡ T.answers self.old.stream }
     {
         loop {
             self.fill(cache);
@@ -154,8 +162,9 @@ impl<T: Stream> Slot<T> {
     /// Reads a piece.
     fn read<S: VersionStore>(&mut self, cache: &Cache<S>) -> Option<Turn>
         requires { self.old.unread ≡ [] }
-        ensures flows { FlowsOn T.remaining T.contents self.old self.new }
+        ensures goes { GoesFrom S.holds T.remaining T.contents IsIdle self.old cache.now self.new cache.now (GoesOrEnds result (T.remaining self.new.stream)) }
         ensures conn { self.new.conn ≡ self.old.conn }
+        ensures answers { AnswersStep result (T.answers self.old.stream) (T.answers self.new.stream) }
     {
         let is_within = cache.is_within_unit(self.conn);
         let moved = self.unread.read(&mut self.stream);
@@ -164,8 +173,9 @@ impl<T: Stream> Slot<T> {
 
     /// Writes of what was pulled.
     fn write(&mut self) -> Option<Turn>
-        ensures flows { FlowsOn T.remaining T.contents self.old self.new }
+        ensures goes { WritesFrom T.remaining T.contents IsToWrite self.old self.new (GoesOrEnds result (T.remaining self.new.stream)) }
         ensures conn { self.new.conn ≡ self.old.conn }
+        ensures answers { AnswersStep result (T.answers self.old.stream) (T.answers self.new.stream) }
     {
         let moved = self.unwritten.write(&mut self.stream);
         after_write(moved)
@@ -173,8 +183,9 @@ impl<T: Stream> Slot<T> {
 
     /// One call of the stream, with what is to be done before.
     fn step<S: VersionStore>(&mut self, cache: &mut Cache<S>) -> Option<Turn>
-        ensures goes { GoesOn S.holds T.remaining T.contents self.old cache.old self.new cache.new }
+        ensures goes { GoesFrom S.holds T.remaining T.contents Anyhow self.old cache.old self.new cache.new (GoesOrEnds result (T.remaining self.new.stream)) }
         ensures conn { self.new.conn ≡ self.old.conn }
+        ensures answers { AnswersStep result (T.answers self.old.stream) (T.answers self.new.stream) }
     {
         match self.prepare(cache) {
             Next::Write => self.write(),
@@ -185,8 +196,9 @@ impl<T: Stream> Slot<T> {
 
     /// As many calls as are allowed, until the stream would wait or the client is to go.
     pub(crate) fn turn<S: VersionStore>(&mut self, cache: &mut Cache<S>, budget: u32) -> Turn
-        ensures goes { GoesOn S.holds T.remaining T.contents self.old cache.old self.new cache.new }
+        ensures goes { GoesFrom S.holds T.remaining T.contents Anyhow self.old cache.old self.new cache.new (EndsSo result (T.remaining self.new.stream)) }
         ensures conn { self.new.conn ≡ self.old.conn }
+        ensures answers { AnswersTurn budget result (T.answers self.old.stream) (T.answers self.new.stream) }
     {
         for _call in 0..budget {
             if let Some(turn) = self.step(cache) {
@@ -198,7 +210,9 @@ impl<T: Stream> Slot<T> {
 }
 
 /// What a read comes to: none where the turn goes on.
-fn after_read(moved: Moved, is_within: bool) -> Option<Turn> {
+fn after_read(moved: Moved, is_within: bool) -> Option<Turn>
+    ensures { result ≡ after_read moved is_within }
+{
     match moved {
         Moved::Bytes(0) => Some(Turn::Gone(if is_within {
             Gone::Truncated
@@ -212,7 +226,9 @@ fn after_read(moved: Moved, is_within: bool) -> Option<Turn> {
 }
 
 /// What a write comes to: none where the turn goes on.
-fn after_write(moved: Moved) -> Option<Turn> {
+fn after_write(moved: Moved) -> Option<Turn>
+    ensures { result ≡ after_write moved }
+{
     match moved {
         Moved::Bytes(0) | Moved::Failed => Some(Turn::Gone(Gone::WriteFailed)),
         Moved::Bytes(_) | Moved::Interrupted => None,

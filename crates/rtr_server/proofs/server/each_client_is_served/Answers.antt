@@ -1,4 +1,4 @@
-use Rattle.rtr_server.proofs.ClientLaws as laws
+use Rattle.rtr_server.proofs.PastLaws as laws
 use Rattle.rtr_server.proofs.server.each_client_is_served.Goals as goal
 
 pub returns : goal.returns

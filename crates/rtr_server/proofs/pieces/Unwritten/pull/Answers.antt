@@ -1,4 +1,4 @@
-use Rattle.rtr_server.proofs.FlowLaws as laws
+use Rattle.rtr_server.proofs.TurnLaws as laws
 use Rattle.rtr_server.proofs.pieces.Unwritten.pull.Goals as goal
 
 pub returns : goal.returns

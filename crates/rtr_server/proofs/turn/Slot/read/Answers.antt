@@ -1,6 +1,9 @@
-use Rattle.rtr_server.proofs.FlowLaws as laws
+use Rattle.rtr_server.proofs.AnswerLogs as logs
+use Rattle.rtr_server.proofs.TurnLaws as laws
 use Rattle.rtr_server.proofs.turn.Slot.read.Goals as goal
 
-pub returns-clause-flows : goal.returns-clause-flows
-returns-clause-flows g c = λ s before had flow.
-    laws.reads_on before _ _ had _ _ s _ _ _ c.read-moved.result c.requires flow c.read-moved.ensures.fills c.read-moved.ensures.keeps
+pub returns-clause-goes : goal.returns-clause-goes
+returns-clause-goes g c = laws.reads g.S.VersionStore.holds g.T.Stream.remaining g.T.Stream.contents c.args.self.now c.read-moved.new.self c.read-moved.new.stream c.args.cache.now c.read-moved.result c.is_within_unit-is_within.result c.after_read.result c.read-moved.ensures.fills c.read-moved.ensures.keeps c.is_within_unit-is_within.ensures c.after_read.ensures
+
+pub returns-clause-answers : goal.returns-clause-answers
+returns-clause-answers g c = record { since = _; logged = c.read-moved.ensures.logs; told = logs.read_told c.read-moved.result c.is_within_unit-is_within.result c.after_read.result c.after_read.ensures }

@@ -1,6 +1,9 @@
-use Rattle.rtr_server.proofs.FlowLaws as laws
+use Rattle.rtr_server.proofs.AnswerLogs as logs
+use Rattle.rtr_server.proofs.TurnLaws as laws
 use Rattle.rtr_server.proofs.turn.Slot.write.Goals as goal
 
-pub returns-clause-flows : goal.returns-clause-flows
-returns-clause-flows g c = λ s before had flow.
-    laws.writes_on before _ _ had _ _ s _ _ _ c.write-moved.result flow c.write-moved.ensures.empties c.write-moved.ensures.keeps
+pub returns-clause-goes : goal.returns-clause-goes
+returns-clause-goes g c = laws.writes g.T.Stream.remaining g.T.Stream.contents c.args.self.now c.write-moved.new.self c.write-moved.new.stream c.write-moved.result c.after_write.result c.write-moved.ensures.empties c.write-moved.ensures.keeps c.after_write.ensures
+
+pub returns-clause-answers : goal.returns-clause-answers
+returns-clause-answers g c = record { since = _; logged = c.write-moved.ensures.logs; told = logs.write_told c.write-moved.result c.after_write.result c.after_write.ensures }

@@ -1,0 +1,243 @@
+-- What is done for one client, step by step, and how its turn ends (RFC 8210 sections 5, 7, 8 and 12).
+use Rattle.std.specs.Prelude.{◌≡◌, ◌⊎◌, ℕ, ◌-◌, ◌<◌, ◌≤◌, ◌==◌, Bool, true, false, not, ◌&&◌, List, [], ◌∷◌, ◌++◌, length, take, drop, Option, Some, None, IfSome, if◌then◌else◌, ⊤}
+use Rattle.std.specs.Io.KnownBytes.{Appends, Consumes, IsAtEnd}
+use Rattle.vrps.specs.Instance.{Instance}
+use Rattle.rtr_pdu.specs.Payloads.{AreBytes}
+use Rattle.rtr_ends.specs.Cache.{Gives, Notifies as Notified, Serving, Takes, can_notify, conn_takes, serve}
+use Rattle.rtr_ends.specs.CacheState.{CacheState, ShowsCache, with_conn}
+use Rattle.rtr_ends.specs.Peer.{is_wanted_by_peer}
+use Rattle.rtr_ends.specs.Timing.{Intervals}
+use Rattle.rtr_ends.specs.declared.cache.Cache.{Cache}
+use Rattle.rtr_server.specs.Streams.{Logged}
+use Rattle.rtr_server.specs.declared.stream.Moved.{Moved}
+use Rattle.rtr_server.specs.declared.stream.Moved.TheVariants.{Bytes, Waits, Interrupted, Failed}
+use Rattle.rtr_server.specs.declared.turn.Gone.{Gone as Way}
+use Rattle.rtr_server.specs.declared.turn.Gone.TheVariants.{CacheEnded, PeerClosed, ReadFailed, Truncated, WriteFailed}
+use Rattle.rtr_server.specs.declared.turn.Next.{Next}
+use Rattle.rtr_server.specs.declared.turn.Next.TheVariants.{Nothing, Read, Write}
+use Rattle.rtr_server.specs.declared.turn.Slot.{Slot}
+use Rattle.rtr_server.specs.declared.turn.Turn.{Turn}
+use Rattle.rtr_server.specs.declared.turn.Turn.TheVariants.{Busy, Gone, WaitsToRead, WaitsToWrite}
+
+-- A client: its connection, what was read of its stream and is not consumed, what was pulled and is not written, and whether it is owed
+-- a notify
+pub record ClientState : Type 0 where
+  pub serving : Serving
+  pub unread : List ℕ
+  pub unwritten : List ℕ
+  pub owed : Bool
+
+-- What is done for a client: what was read is handed in, where memory is wanting at this PDU of it, if at any; what is due is pulled; its
+-- router is notified; these bytes are read of its stream; so many are written to it.
+pub data ClientStep : Type 0 where
+  HandsIn : (wanting : Option ℕ) → ClientStep
+  Pulls : ClientStep
+  Notifies : ClientStep
+  Reads : (bytes : List ℕ) → ClientStep
+  Writes : (count : ℕ) → ClientStep
+
+-- how many bytes of a piece a connection consumes
+abbrev pub consumed_of : ℕ → Intervals → Option ℕ → List ℕ → Serving → ℕ
+consumed_of keep t wanting piece s = length piece - length (conn_takes keep t s.cache wanting piece s.conn).rest
+
+-- the router of this connection can be notified
+abbrev pub can_be_told : Serving → Bool
+can_be_told s = can_notify s.cache s.conn
+
+abbrev pub client_wrote : ℕ → ClientState → ClientState
+client_wrote count s = record s { unwritten = drop count s.unwritten }
+
+abbrev pub client_after : ℕ → Intervals → ClientStep → ClientState → ClientState
+client_after keep t (HandsIn wanting) s = record s {
+  serving = serve keep t (Takes wanting s.unread) s.serving;
+  unread = drop (consumed_of keep t wanting s.unread s.serving) s.unread;
+}
+client_after keep t Pulls s = record s { serving = serve keep t (Gives 32768) s.serving; unwritten = take 32768 s.serving.conn.state.due }
+client_after keep t Notifies s = record s { serving = serve keep t Notified s.serving; owed = s.owed && not (can_be_told s.serving) }
+client_after keep t (Reads bytes) s = record s { unread = bytes }
+client_after keep t (Writes count) s = client_wrote count s
+
+-- All that was pulled is written, nothing is due, and no notify is owed that can be sent.
+pub record IsSettled (s : ClientState) : Type 0 where
+  pub all_written : s.unwritten ≡ []
+  pub none_due : s.serving.conn.state.due ≡ []
+  pub told : s.owed ≡ true → can_be_told s.serving ≡ false
+
+-- It is settled, all that was read is consumed, and its connection goes on.
+pub record IsIdle (s : ClientState) : Type 0 where
+  pub settled : IsSettled s
+  pub all_consumed : s.unread ≡ []
+  pub goes_on : s.serving.conn.state.ended ≡ false
+
+-- Its connection has ended, and all that was due on it is written.
+pub record IsOver (s : ClientState) : Type 0 where
+  pub all_written : s.unwritten ≡ []
+  pub none_due : s.serving.conn.state.due ≡ []
+  pub ended : s.serving.conn.state.ended ≡ true
+
+-- Where nothing is left to be written, nothing is due.
+abbrev pub NoneDue : ClientState → Type 0
+NoneDue s = s.unwritten ≡ [] → s.serving.conn.state.due ≡ []
+
+-- Where nothing is left to be written, it is settled.
+abbrev pub MaySettle : ClientState → Type 0
+MaySettle s = s.unwritten ≡ [] → IsSettled s
+
+-- A notify was sent, and none is owed; or it is settled.
+abbrev pub settles : Bool → ClientState → Type 0
+settles true s = s.owed ≡ false
+settles false s = IsSettled s
+
+-- Something is left to be written.
+abbrev pub IsToWrite : ClientState → Type 0
+IsToWrite s = 0 < length s.unwritten
+
+-- memory is wanting at this PDU of what is handed in: it is read, and its answer takes memory
+abbrev pub IsWanted : ℕ → Intervals → ClientState → ℕ → Type 0
+IsWanted keep t s unit = is_wanted_by_peer keep t s.serving.cache s.serving.conn s.unread unit ≡ true
+
+-- When a step may be taken: nothing is handed in or read while anything is due, to be written, or owed and could be sent; nothing is read
+-- before all that was read is consumed; nothing is pulled before all that was pulled is written; and no router is notified that is owed
+-- no notify.
+abbrev pub MayStep : ℕ → Intervals → ClientStep → ClientState → Type 0
+MayStep keep t (HandsIn wanting) s = AreBytes s.unread × IsSettled s × IfSome wanting (IsWanted keep t s)
+MayStep keep t Pulls s = s.unwritten ≡ []
+MayStep keep t Notifies s = s.owed ≡ true
+MayStep keep t (Reads bytes) s = IsIdle s
+MayStep keep t (Writes count) s = IsToWrite s
+
+-- after these steps, the last first
+abbrev pub steps_after : ℕ → Intervals → List ClientStep → ClientState → ClientState
+steps_after keep t [] s = s
+steps_after keep t (step ∷ steps) s = client_after keep t step (steps_after keep t steps s)
+
+abbrev pub MaySteps : ℕ → Intervals → List ClientStep → ClientState → Type 0
+MaySteps keep t [] s = ⊤
+MaySteps keep t (step ∷ steps) s = MayStep keep t step (steps_after keep t steps s) × MaySteps keep t steps s
+
+-- What was read of the stream since it came is what its connection consumed, and then the bytes that are not consumed; what was pulled
+-- is what was written to it, and then the bytes that are not written.
+pub record Flow (before left had has : Option (List ℕ)) (s : ClientState) : Type 0 where
+  pub read : Consumes before left (s.serving.came ++ s.unread)
+  pub written : List ℕ
+  pub given : s.serving.given ≡ written ++ s.unwritten
+  pub out : Appends had has written
+
+-- what a slot is, with this connection
+abbrev pub client_of : {T : Type 0} → Serving → Slot T → ClientState
+client_of s slot = record { serving = s; unread = slot.unread; unwritten = slot.unwritten; owed = slot.is_owed }
+
+-- The cache shows this state, where this is the connection under the number.
+pub record StandsSo {S : Type 0} (holds : ℕ → Instance → S → Type 0) (m : CacheState) (c : ℕ) (s : Serving) (cache : Cache S) : Type 0 where
+  pub shows : ShowsCache holds m cache
+  pub at : m.at c ≡ Some s.conn
+  pub now : s.cache ≡ m.cache
+
+-- Steps were taken, each of which could be, and they led from a client to what the slot is with this connection, and its stream; so it
+-- is, and all else at the cache is as it was.
+pub record Goes {S T : Type 0} (holds : ℕ → Instance → S → Type 0) (remaining contents : T → Option (List ℕ)) (m : CacheState) (c : ℕ) (before had : Option (List ℕ)) (start : ClientState) (new : Slot T) (cache : Cache S) (So : ClientState → Type 0) : Type 0 where
+  pub steps : List ClientStep
+  pub may : MaySteps m.keep m.timing steps start
+  pub now : Serving
+  pub leads : steps_after m.keep m.timing steps start ≡ client_of now new
+  pub shows : ShowsCache holds (with_conn c (Some now.conn) m) cache
+  pub flow : Flow before (remaining new.stream) had (contents new.stream) (client_of now new)
+  pub so : So (client_of now new)
+
+-- What a part of a turn does to a client, of which this holds before, and to the cache
+abbrev pub GoesFrom : {S T : Type 0} → (ℕ → Instance → S → Type 0) → (T → Option (List ℕ)) → (T → Option (List ℕ)) → (ClientState → Type 0) → Slot T → Cache S → Slot T → Cache S → (ClientState → Type 0) → Type 0
+GoesFrom holds remaining contents From old cache new after To =
+    (m : CacheState) (s : Serving) (before had : Option (List ℕ)) → StandsSo holds m old.conn.0 s cache → From (client_of s old)
+    → Flow before (remaining old.stream) had (contents old.stream) (client_of s old) → Goes holds remaining contents m old.conn.0 before had (client_of s old) new after To
+
+abbrev pub Anyhow : ClientState → Type 0
+Anyhow s = ⊤
+
+-- So many bytes of what was pulled were written, and that led to what the slot is, and its stream; so it is.
+pub record Wrote {T : Type 0} (remaining contents : T → Option (List ℕ)) (before had : Option (List ℕ)) (s : Serving) (old new : Slot T) (So : ClientState → Type 0) : Type 0 where
+  pub count : ℕ
+  pub leads : client_wrote count (client_of s old) ≡ client_of s new
+  pub flow : Flow before (remaining new.stream) had (contents new.stream) (client_of s new)
+  pub so : So (client_of s new)
+
+-- What a write does to a client, of which this holds before
+abbrev pub WritesFrom : {T : Type 0} → (T → Option (List ℕ)) → (T → Option (List ℕ)) → (ClientState → Type 0) → Slot T → Slot T → (ClientState → Type 0) → Type 0
+WritesFrom remaining contents From old new To =
+    (s : Serving) (before had : Option (List ℕ)) → From (client_of s old) → Flow before (remaining old.stream) had (contents old.stream) (client_of s old)
+    → Wrote remaining contents before had s old new To
+
+-- What is to be done next is so.
+abbrev pub StandsFor : Next → ClientState → Type 0
+StandsFor Write s = IsToWrite s
+StandsFor Read s = IsIdle s
+StandsFor Nothing s = IsOver s
+
+-- What a turn came to is so, where this is left of the stream: it waits to read where nothing is due or left, and to write where something
+-- is left to be written; the stream ended where nothing is due or left, at the end of a PDU or inside one; the cache ended the connection,
+-- and its last report is written; or a call failed.
+abbrev pub EndsSo : Turn → Option (List ℕ) → ClientState → Type 0
+EndsSo WaitsToRead left s = IsIdle s
+EndsSo WaitsToWrite left s = IsToWrite s
+EndsSo Busy left s = ⊤
+EndsSo (Gone PeerClosed) left s = IsIdle s × (s.serving.conn.held ≡ []) × IsAtEnd left
+EndsSo (Gone Truncated) left s = IsIdle s × (0 < length s.serving.conn.held) × IsAtEnd left
+EndsSo (Gone CacheEnded) left s = IsOver s
+EndsSo (Gone ReadFailed) left s = IsIdle s
+EndsSo (Gone WriteFailed) left s = IsToWrite s
+
+-- or the turn goes on
+abbrev pub GoesOrEnds : Option Turn → Option (List ℕ) → ClientState → Type 0
+GoesOrEnds None left s = ⊤
+GoesOrEnds (Some turn) left s = EndsSo turn left s
+
+abbrev pub LastIs : Moved → List Moved → Type 0
+LastIs answer [] = ⊥
+LastIs answer (last ∷ earlier) = last ≡ answer
+
+-- What the stream said last, where a turn came to this: that it would wait, that it has ended, or that it failed. A write that takes nothing
+-- is a failure.
+abbrev pub ToldSo : Turn → List Moved → Type 0
+ToldSo WaitsToRead answers = LastIs Waits answers
+ToldSo WaitsToWrite answers = LastIs Waits answers
+ToldSo Busy answers = ⊤
+ToldSo (Gone PeerClosed) answers = LastIs (Bytes 0) answers
+ToldSo (Gone Truncated) answers = LastIs (Bytes 0) answers
+ToldSo (Gone CacheEnded) answers = ⊤
+ToldSo (Gone ReadFailed) answers = LastIs Failed answers
+ToldSo (Gone WriteFailed) answers = LastIs (Bytes 0) answers ⊎ LastIs Failed answers
+
+-- As many calls of the stream were made as are allowed, or fewer.
+abbrev pub FitsBudget : ℕ → Turn → ℕ → Type 0
+FitsBudget budget Busy count = count ≡ budget
+FitsBudget budget turn count = count ≤ budget
+
+-- So the answers go on by one call of the stream, or none, where the turn goes on or comes to this.
+abbrev pub StepTold : Option Turn → List Moved → Type 0
+StepTold None answers = length answers ≡ 1
+StepTold (Some Busy) answers = ⊥
+StepTold (Some turn) answers = (length answers ≤ 1) × ToldSo turn answers
+
+pub record AnswersStep (turn : Option Turn) (before after : Option (List Moved)) : Type 0 where
+  pub since : List Moved
+  pub logged : Logged since before after
+  pub told : StepTold turn since
+
+-- So they go on in a turn: at most as many calls were made as are allowed, exactly as many where it is Busy, and the last said what it came to.
+pub record AnswersTurn (budget : ℕ) (turn : Turn) (before after : Option (List Moved)) : Type 0 where
+  pub since : List Moved
+  pub logged : Logged since before after
+  pub fits : FitsBudget budget turn (length since)
+  pub told : ToldSo turn since
+
+-- What a read or a write comes to: none where the turn goes on
+abbrev pub after_read : Moved → Bool → Option Turn
+after_read (Bytes n) is_within = if n == 0 then Some (Gone (if is_within then Truncated else PeerClosed)) else None
+after_read Waits is_within = Some WaitsToRead
+after_read Interrupted is_within = None
+after_read Failed is_within = Some (Gone ReadFailed)
+
+abbrev pub after_write : Moved → Option Turn
+after_write (Bytes n) = if n == 0 then Some (Gone WriteFailed) else None
+after_write Waits = Some WaitsToWrite
+after_write Interrupted = None
+after_write Failed = Some (Gone WriteFailed)
