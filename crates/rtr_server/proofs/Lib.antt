@@ -1,4 +1,5 @@
 pub mod AnswerLogs
+pub mod MemoryLaws
 pub mod NoticeLaws
 pub mod PastLaws
 pub mod PlaceLaws

@@ -297,4 +297,5 @@ module _ {T A : Type 0} (remaining contents : T → Option (List ℕ)) (p : Past
               out = h.1.out;
             },
             refl,
+            record { unread = h.3.unread; unwritten = h.3.unwritten },
           )))

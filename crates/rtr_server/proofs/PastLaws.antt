@@ -21,14 +21,14 @@ use Rattle.rtr_ends.proofs.CacheStateLaws.{with_conn_at}
 use Rattle.rtr_ends.proofs.LifeLaws.{each_is_served}
 use Rattle.prefixes.proofs.Basics.{eq_of, eq_self, not_eq_of}
 use Rattle.rtr_server.specs.Clients.{Admits, Becomes, Begun, ClientIsServed, EachClientIsServed, GoesOnAfter, IsCounted, IsOn, KeepsAll, KeepsOthers, Leaves, NotifiesBelow, OwesSo, Past, PublishesNew, PublishesSo, PublishesTo, Serves, ShowsClient, ShowsServer, Turned, and_calls, awaits, can_be_sent, can_be_told_of, clients_in, made, notified_below, present, slot_at}
-use Rattle.rtr_server.specs.Turns.{Anyhow, ClientState, ClientStep, EndsSo, Flow, Goes, GoesFrom, HandsIn, MaySteps, Notifies, Pulls, Reads, StandsSo, Writes, client_after, client_of, steps_after}
+use Rattle.rtr_server.specs.Turns.{Anyhow, ClientState, ClientStep, EndsSo, Flow, Goes, GoesFrom, HandsIn, HasRoom, MaySteps, Notifies, Pulls, Reads, StandsSo, Writes, client_after, client_of, steps_after}
 use Rattle.rtr_server.specs.declared.server.Server.{Server}
 use Rattle.rtr_server.specs.declared.stream.Moved.{Moved}
 use Rattle.rtr_server.specs.declared.turn.Slot.{Slot}
 use Rattle.rtr_server.specs.declared.turn.Turn.{Turn}
 use Rattle.rtr_server.specs.declared.turn.Turn.TheVariants.{Busy, Gone, WaitsToRead, WaitsToWrite}
 use Rattle.rtr_server.proofs.NoticeLaws as notices
-use Rattle.rtr_server.proofs.TurnLaws.{cache_is, set_twice}
+use Rattle.rtr_server.proofs.TurnLaws.{cache_is, room_kept, set_twice}
 
 -- The steps of one client change no other connection.
 pub record Follows (c : ℕ) (m : CacheState) (l : Life) (lives : ℕ → Option Life) (waits : ℕ → Bool) (now : CacheState) (now_lives : ℕ → Option Life) (now_waits : ℕ → Bool) (s : ClientState) : Type 0 where
@@ -205,7 +205,7 @@ module _ {S T : Type 0} (holds : ℕ → Instance → S → Type 0) (remaining c
     count = counted shows.count;
   }
 
-  module _ (x : Slot T) (l : Life) (is : life p.calls (made p) c ≡ Some l) (number : x.conn.0 ≡ c) (flow : Flow (p.begun c).before (remaining x.stream) (p.begun c).had (contents x.stream) (client_of l.serving x)) (owed : x.is_owed ≡ awaits p.calls (made p) c) where
+  module _ (x : Slot T) (l : Life) (is : life p.calls (made p) c ≡ Some l) (number : x.conn.0 ≡ c) (flow : Flow (p.begun c).before (remaining x.stream) (p.begun c).had (contents x.stream) (client_of l.serving x)) (owed : x.is_owed ≡ awaits p.calls (made p) c) (room : HasRoom (client_of l.serving x)) where
     at_is : state.at c ≡ Some l.serving.conn
     at_is = (each_is_served p.keep p.timing p.first p.calls shows.first shows.lawful c).same ∙ ap (option_map (λ (k : Life). k.serving.conn)) is
 
@@ -225,6 +225,7 @@ module _ {S T : Type 0} (holds : ℕ → Instance → S → Type 0) (remaining c
       pub lives_are : (d : ℕ) → (d == c) ≡ false → life (calls ++ p.calls) (made p) d ≡ life p.calls (made p) d
       pub owed_is : y.is_owed ≡ awaits (calls ++ p.calls) (made p) c
       pub waits_are : (d : ℕ) → (d == c) ≡ false → awaits (calls ++ p.calls) (made p) d ≡ awaits p.calls (made p) d
+      pub roomy : HasRoom (client_of now y)
       pub flowed : Flow (p.begun c).before (remaining y.stream) (p.begun c).had (contents y.stream) (client_of now y)
 
     led : (y : Slot T) (cache : Cache S) (So : ClientState → Type 0) → GoesFrom holds remaining contents Anyhow x old.cache y cache So → (calls : List CacheCall) × Led calls y cache
@@ -244,6 +245,7 @@ module _ {S T : Type 0} (holds : ℕ → Instance → S → Type 0) (remaining c
             lives_are = h.lives_are;
             owed_is = sym h.owed;
             waits_are = h.waits_are;
+            roomy = subst HasRoom g.leads (room_kept state.keep state.timing g.steps (client_of l.serving x) g.may room);
             flowed = g.flow;
           },
         )
@@ -287,7 +289,7 @@ module _ {S T : Type 0} (holds : ℕ → Instance → S → Type 0) (remaining c
             shows = g.1.shown;
             each = each_so (life (calls ++ p.calls) (made p)) (awaits (calls ++ p.calls) (made p)) g.1.lives_are g.1.waits_are
                 (subst (λ k. ShowsClient remaining contents (p.begun c) c k (awaits (calls ++ p.calls) (made p) c) (slot_at new.slots.items c)) (sym g.1.life_is)
-                (subst (λ k. ShowsClient remaining contents (p.begun c) c (Some (record l { serving = g.1.now })) (awaits (calls ++ p.calls) (made p) c) k) (sym there) (ap (λ (n : Number). n.0) turned.conn ∙ number, g.1.flowed, g.1.owed_is)));
+                (subst (λ k. ShowsClient remaining contents (p.begun c) c (Some (record l { serving = g.1.now })) (awaits (calls ++ p.calls) (made p) c) k) (sym there) (ap (λ (n : Number). n.0) turned.conn ∙ number, g.1.flowed, g.1.owed_is, g.1.roomy)));
             most = most ∙ shows.most;
             count = counted shows.count;
           },
@@ -301,13 +303,13 @@ module _ {S T : Type 0} (holds : ℕ → Instance → S → Type 0) (remaining c
       by_life : (x : Slot T) (l : Option Life) → life p.calls (made p) c ≡ l → ShowsClient remaining contents (p.begun c) c l (awaits p.calls (made p) c) (Some x) → (b : Option (Slot T)) → slot_at new.slots.items c ≡ b → (t : Turn)
           → Becomes holds remaining contents answers budget c x old.cache t b new.cache → GoesOnAfter holds remaining contents p c (Some t) new
       by_life x None is h b there t told = absurd h
-      by_life x (Some l) is h b there (Gone how) told = gone_past x l is h.0 h.1 h.2 answers budget (Gone how) (subst (λ y. Leaves holds remaining contents answers budget c x old.cache (Gone how) y new.cache) (sym there) told)
+      by_life x (Some l) is h b there (Gone how) told = gone_past x l is h.0 h.1 h.2 h.3 answers budget (Gone how) (subst (λ y. Leaves holds remaining contents answers budget c x old.cache (Gone how) y new.cache) (sym there) told)
       by_life x (Some l) is h None there WaitsToRead told = absurd told
       by_life x (Some l) is h None there WaitsToWrite told = absurd told
       by_life x (Some l) is h None there Busy told = absurd told
-      by_life x (Some l) is h (Some y) there WaitsToRead told = stays_past x l is h.0 h.1 h.2 answers budget WaitsToRead y there told
-      by_life x (Some l) is h (Some y) there WaitsToWrite told = stays_past x l is h.0 h.1 h.2 answers budget WaitsToWrite y there told
-      by_life x (Some l) is h (Some y) there Busy told = stays_past x l is h.0 h.1 h.2 answers budget Busy y there told
+      by_life x (Some l) is h (Some y) there WaitsToRead told = stays_past x l is h.0 h.1 h.2 h.3 answers budget WaitsToRead y there told
+      by_life x (Some l) is h (Some y) there WaitsToWrite told = stays_past x l is h.0 h.1 h.2 h.3 answers budget WaitsToWrite y there told
+      by_life x (Some l) is h (Some y) there Busy told = stays_past x l is h.0 h.1 h.2 h.3 answers budget Busy y there told
 
       by_slot : (a : Option (Slot T)) → slot_at old.slots.items c ≡ a → (b : Option (Slot T)) → slot_at new.slots.items c ≡ b → (turn : Option Turn) → Serves holds remaining contents answers budget c a old.cache turn b new.cache
           → GoesOnAfter holds remaining contents p c turn new
@@ -408,7 +410,7 @@ module _ {S T : Type 0} (holds : ℕ → Instance → S → Type 0) (remaining c
         by_test d true e =
             subst (λ x. ShowsClient remaining contents (record { before = remaining stream; had = contents stream }) d
             (Some (record { opened = (present p).cache; serving = serving (present p).keep (present p).timing (present p).cache [] })) false x) (sym (ap (slot_at new.slots.items) (eq_of d c.0 e) ∙ placed))
-            (sym (eq_of d c.0 e), record { read = Consumes-nil (remaining stream); written = []; given = refl; out = Appends-nil (contents stream) }, refl)
+            (sym (eq_of d c.0 e), record { read = Consumes-nil (remaining stream); written = []; given = refl; out = Appends-nil (contents stream) }, refl, record { unread = omega arith; unwritten = omega arith })
         by_test d false e = subst (λ x. ShowsClient remaining contents (p.begun d) d (life p.calls (made p) d) (awaits p.calls (made p) d) x) (sym (others d (not_eq_of d c.0 e))) (shows.each d)
 
 -- Each client is served.
@@ -420,4 +422,4 @@ each_client_is_served {T = T} holds remaining contents server p c slot shows at 
     by_life : (l : Option Life) → life p.calls (made p) c ≡ l → IfSome l (λ x. IsServed (present p).keep (present p).timing x.opened x.serving) → ShowsClient remaining contents (p.begun c) c l (awaits p.calls (made p) c) (Some slot)
         → ClientIsServed remaining contents p c slot
     by_life None is served h = absurd h
-    by_life (Some l) is served h = record { own = l; own_is = is; served = served; flow = h.1; owed = h.2 }
+    by_life (Some l) is served h = record { own = l; own_is = is; served = served; flow = h.1; owed = h.2; room = h.3 }

@@ -1,11 +1,12 @@
 -- One client, from step to step.
 use Rattle.std.specs.Prelude.{◌≡◌, ◌⊎◌, ℕ, ◌+◌, ◌-◌, ◌<◌, ◌≤◌, ◌==◌, Bool, true, false, not, ◌&&◌, List, [], ◌∷◌, ◌++◌, length, take, drop, min, Option, Some, None, IfSome, option_map, if◌then◌else◌, refl}
 use Rattle.std.proofs.Common.{zero, suc, sym, ap, ◌∙◌, subst, arith, append_assoc, inl, inr}
-use Rattle.std.proofs.lemmas.List.{append-nil, length-append, take-append-drop}
+use Rattle.std.proofs.lemmas.List.{append-nil, length-append, length-drop, length-take, take-append-drop}
 use Rattle.std.specs.Io.KnownBytes.{Consumes, IsAtEnd, Keeps}
 use Rattle.std.proofs.KnownBytes.{Appends-kept, Appends-trans, Consumes-kept, Consumes-trans}
 use Rattle.vrps.specs.Instance.{Instance}
 use Rattle.rtr_pdu.specs.Payloads.{AreBytes}
+use Rattle.rtr_pdu.specs.Unit.{MAX_UNIT_LEN}
 use Rattle.rtr_ends.specs.Cache.{Conn, Gives, Notifies as Notified, Serving, Takes, can_notify, conn_notified, conn_pulled, conn_takes, is_none, serve}
 use Rattle.rtr_ends.specs.CacheState.{CacheState, GivesBytes, ShowsCache, ShowsSlot, TakesPiece, can_notify_at, conn_consumed, due_at, given, is_open_at, is_wanted_at, notified, peer_at, with_conn}
 use Rattle.rtr_ends.specs.Peer.{is_wanted_by_peer}
@@ -18,7 +19,7 @@ use Rattle.rtr_ends.proofs.ServeStreamLaws.{drop_none, none_taken, pulled_is}
 use Rattle.rtr_ends.proofs.TableLaws.{false_true}
 use Rattle.prefixes.proofs.Basics.{eq_of}
 use Rattle.rtr_server.specs.Streams.{EmptiesSo, FillsSo, Logged, PullsInto, moved_count}
-use Rattle.rtr_server.specs.Turns.{AnswersStep, AnswersTurn, Anyhow, ClientState, ClientStep, EndsSo, FitsBudget, Flow, Goes, GoesFrom, GoesOrEnds, HandsIn, IsIdle, IsOver, IsSettled, IsToWrite, IsWanted, LastIs, MaySettle, MayStep, MaySteps, NoneDue, Notifies, Pulls, Reads, StandsSo, StepTold, ToldSo, Writes, WritesFrom, after_read, after_write, can_be_told, client_after, client_of, client_wrote, consumed_of, settles, steps_after}
+use Rattle.rtr_server.specs.Turns.{AnswersStep, AnswersTurn, Anyhow, ClientState, ClientStep, EndsSo, FitsBudget, Flow, Goes, GoesFrom, GoesOrEnds, HandsIn, HasRoom, IsIdle, IsOver, IsSettled, IsToWrite, IsWanted, LastIs, MaySettle, MayStep, MaySteps, NoneDue, Notifies, Pulls, Reads, StandsSo, StepTold, ToldSo, Writes, WritesFrom, after_read, after_write, can_be_told, client_after, client_of, client_wrote, consumed_of, settles, steps_after}
 use Rattle.rtr_server.specs.declared.stream.Moved.{Moved}
 use Rattle.rtr_server.specs.declared.stream.Moved.TheVariants.{Bytes, Waits, Interrupted, Failed}
 use Rattle.rtr_server.specs.declared.turn.Gone.{Gone as Way}
@@ -44,6 +45,25 @@ cache_is keep t (Pulls ∷ steps) s = cache_is keep t steps s
 cache_is keep t (Notifies ∷ steps) s = cache_is keep t steps s
 cache_is keep t (Reads bytes ∷ steps) s = cache_is keep t steps s
 cache_is keep t (Writes count ∷ steps) s = cache_is keep t steps s
+
+-- They keep to the room.
+pub room_kept : (keep : ℕ) (t : Intervals) (steps : List ClientStep) (s : ClientState) → MaySteps keep t steps s → HasRoom s → HasRoom (steps_after keep t steps s)
+room_kept keep t [] s may h = h
+room_kept keep t (HandsIn wanting ∷ steps) s may h =
+    let k = room_kept keep t steps s may.1 h in
+    let a = steps_after keep t steps s in
+    let l = length-drop (consumed_of keep t wanting a.unread a.serving) a.unread in
+    record { unread = omega (arith, l, k.unread); unwritten = k.unwritten }
+room_kept keep t (Pulls ∷ steps) s may h =
+    let k = room_kept keep t steps s may.1 h in
+    let l = length-take 32768 (steps_after keep t steps s).serving.conn.state.due in
+    record { unread = k.unread; unwritten = omega (arith, l) }
+room_kept keep t (Notifies ∷ steps) s may h = let k = room_kept keep t steps s may.1 h in record { unread = k.unread; unwritten = k.unwritten }
+room_kept keep t (Reads bytes ∷ steps) s may h = let k = room_kept keep t steps s may.1 h in record { unread = may.0.1; unwritten = k.unwritten }
+room_kept keep t (Writes count ∷ steps) s may h =
+    let k = room_kept keep t steps s may.1 h in
+    let l = length-drop count (steps_after keep t steps s).unwritten in
+    record { unread = k.unread; unwritten = omega (arith, l, k.unwritten) }
 
 -- What is due is pulled whole where nothing of it comes.
 none_of : (most : ℕ) (due : List ℕ) → 0 < most → take most due ≡ [] → due ≡ []
@@ -296,12 +316,12 @@ module _ {S T : Type 0} (holds : ℕ → Instance → S → Type 0) (remaining c
 
   -- bytes are read
   pub reads : (old : Slot T) (unread : List ℕ) (stream : T) (cache : Cache S) (moved : Moved) (within : Bool) (turn : Option Turn) → FillsSo (remaining old.stream) (remaining stream) moved unread → Keeps (contents old.stream) (contents stream)
-      → ((m : CacheState) → ShowsCache holds m cache → within ≡ is_within (m.at old.conn.0)) → turn ≡ after_read moved within
+      → ((m : CacheState) → ShowsCache holds m cache → within ≡ is_within (m.at old.conn.0)) → turn ≡ after_read moved within → length unread ≤ MAX_UNIT_LEN
       → GoesFrom holds remaining contents IsIdle old cache (record old { stream = stream; unread = unread }) cache (GoesOrEnds turn (remaining stream))
-  reads old unread stream cache moved within turn fills keeps looks turn_is m s before had stands idle flow =
+  reads old unread stream cache moved within turn fills keeps looks turn_is room m s before had stands idle flow =
       record {
         steps = Reads unread ∷ [];
-        may = (idle, tt);
+        may = ((idle, room), tt);
         now = s;
         leads = refl;
         shows = set_same holds m old.conn.0 (Some s.conn) cache stands.at stands.shows;

@@ -12,7 +12,7 @@ use Rattle.rtr_ends.specs.Cache.{IsServed}
 use Rattle.rtr_ends.specs.CacheState.{CacheCall, CacheState, Close, IsCacheCall, IsLeastFree, Life, Notify, Open, Publish, Pull, Receive, ShowsCache, can_notify_at, joined, life, notified, ran, with_conn, without_conns}
 use Rattle.rtr_ends.specs.Timing.{Intervals}
 use Rattle.rtr_ends.specs.declared.cache.Cache.{Cache}
-use Rattle.rtr_server.specs.Turns.{AnswersTurn, Anyhow, EndsSo, Flow, GoesFrom, client_of}
+use Rattle.rtr_server.specs.Turns.{AnswersTurn, Anyhow, EndsSo, Flow, GoesFrom, HasRoom, client_of}
 use Rattle.rtr_server.specs.declared.server.AdmitFault.{AdmitFault}
 use Rattle.rtr_server.specs.declared.server.AdmitFault.TheVariants.{Memory, TooManyClients}
 use Rattle.rtr_server.specs.declared.server.Client.{Client}
@@ -155,12 +155,12 @@ made p = without_conns p.keep p.timing p.first
 abbrev pub present : Past → CacheState
 present p = ran p.calls (made p)
 
--- A client stands under the number of its connection; what went over its stream since it came is what went over that; and it is owed a
--- notify exactly where its router awaits one.
+-- A client stands under the number of its connection; what went over its stream since it came is what went over that; it is owed a
+-- notify exactly where its router awaits one; and its two buffers have room.
 abbrev pub ShowsClient : {T : Type 0} → (T → Option (List ℕ)) → (T → Option (List ℕ)) → Begun → ℕ → Option Life → Bool → Option (Slot T) → Type 0
 ShowsClient remaining contents b c None waits None = ⊤
 ShowsClient remaining contents b c (Some l) waits (Some slot) =
-    (slot.conn.0 ≡ c) × Flow b.before (remaining slot.stream) b.had (contents slot.stream) (client_of l.serving slot) × (slot.is_owed ≡ waits)
+    (slot.conn.0 ≡ c) × Flow b.before (remaining slot.stream) b.had (contents slot.stream) (client_of l.serving slot) × (slot.is_owed ≡ waits) × HasRoom (client_of l.serving slot)
 ShowsClient remaining contents b c None waits (Some slot) = ⊥
 ShowsClient remaining contents b c (Some l) waits None = ⊥
 
@@ -174,13 +174,14 @@ pub record ShowsServer {S T : Type 0} (holds : ℕ → Instance → S → Type 0
   pub count : server.count ≡ clients_in server.slots.items
 
 -- A client's bytes are its own: what was read of its stream made its connection's history, by which what was written is a beginning of
--- the replies to that. It is owed a notify exactly where its router awaits one.
+-- the replies to that. It is owed a notify exactly where its router awaits one. It holds no more than its two buffers.
 pub record ClientIsServed {T : Type 0} (remaining contents : T → Option (List ℕ)) (p : Past) (c : ℕ) (slot : Slot T) : Type 0 where
   pub own : Life
   pub own_is : life p.calls (made p) c ≡ Some own
   pub served : IsServed (present p).keep (present p).timing own.opened own.serving
   pub flow : Flow (p.begun c).before (remaining slot.stream) (p.begun c).had (contents slot.stream) (client_of own.serving slot)
   pub owed : slot.is_owed ≡ awaits p.calls (made p) c
+  pub room : HasRoom (client_of own.serving slot)
 
 abbrev pub EachClientIsServed : {S T : Type 0} → (ℕ → Instance → S → Type 0) → (T → Option (List ℕ)) → (T → Option (List ℕ)) → Server S T → Type 0
 EachClientIsServed {T = T} holds remaining contents server =

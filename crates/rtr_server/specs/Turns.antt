@@ -2,9 +2,14 @@
 use Rattle.std.specs.Prelude.{◌≡◌, ◌⊎◌, ℕ, ◌-◌, ◌<◌, ◌≤◌, ◌==◌, Bool, true, false, not, ◌&&◌, List, [], ◌∷◌, ◌++◌, length, take, drop, Option, Some, None, IfSome, if◌then◌else◌, ⊤}
 use Rattle.std.specs.Io.KnownBytes.{Appends, Consumes, IsAtEnd}
 use Rattle.vrps.specs.Instance.{Instance}
+use Rattle.rtr_pdu.specs.Code.{INTERNAL_ERROR}
 use Rattle.rtr_pdu.specs.Payloads.{AreBytes}
+use Rattle.rtr_pdu.specs.Unit.{MAX_UNIT_LEN}
+use Rattle.rtr_pdu.specs.declared.version.Version.{Version}
+use Rattle.rtr_ends.specs.Answer.{report, sent_all}
 use Rattle.rtr_ends.specs.Cache.{Gives, Notifies as Notified, Serving, Takes, can_notify, conn_takes, serve}
 use Rattle.rtr_ends.specs.CacheState.{CacheState, ShowsCache, with_conn}
+use Rattle.rtr_ends.specs.Connection.{Connection}
 use Rattle.rtr_ends.specs.Peer.{is_wanted_by_peer}
 use Rattle.rtr_ends.specs.Timing.{Intervals}
 use Rattle.rtr_ends.specs.declared.cache.Cache.{Cache}
@@ -103,8 +108,24 @@ abbrev pub MayStep : ℕ → Intervals → ClientStep → ClientState → Type 0
 MayStep keep t (HandsIn wanting) s = AreBytes s.unread × IsSettled s × IfSome wanting (IsWanted keep t s)
 MayStep keep t Pulls s = s.unwritten ≡ []
 MayStep keep t Notifies s = s.owed ≡ true
-MayStep keep t (Reads bytes) s = IsIdle s
+MayStep keep t (Reads bytes) s = IsIdle s × (length bytes ≤ MAX_UNIT_LEN)
 MayStep keep t (Writes count) s = IsToWrite s
+
+-- It holds at most 4,096 bytes that were read and not consumed, and at most 32,768 that were pulled and not written.
+pub record HasRoom (s : ClientState) : Type 0 where
+  pub unread : length s.unread ≤ MAX_UNIT_LEN
+  pub unwritten : length s.unwritten ≤ 32768
+
+-- A connection ended, and an Error Report of code 1, Internal Error, is due on it, and nothing else.
+pub record EndsByReport (c : Connection) : Type 0 where
+  pub ended : c.ended ≡ true
+  pub version : Version
+  pub due : c.due ≡ sent_all version (report INTERNAL_ERROR [] ∷ [])
+
+-- Where memory is wanting at a PDU that is handed in, the client's connection ends so (RFC 8210 section 12).
+abbrev pub MemoryEnds : Type 0
+MemoryEnds =
+    (keep : ℕ) (t : Intervals) (unit : ℕ) (s : ClientState) → MayStep keep t (HandsIn (Some unit)) s → EndsByReport (client_after keep t (HandsIn (Some unit)) s).serving.conn.state
 
 -- after these steps, the last first
 abbrev pub steps_after : ℕ → Intervals → List ClientStep → ClientState → ClientState

@@ -1,6 +1,7 @@
 //! One cache (RFC 6810, RFC 8210) and many routers, over streams that do not wait.
 #![tactic(auto)]
 
+pub mod laws;
 mod pieces;
 mod server;
 mod stream;

@@ -53,6 +53,7 @@ impl Unread {
     pub(crate) fn read<T: Stream>(&mut self, stream: &mut T) -> Moved
         requires { self.old ≡ [] }
         ensures fills { FillsSo (T.remaining stream.old) (T.remaining stream.new) result self.new }
+        ensures room { length self.new ≤ 4096 }
         ensures keeps { Keeps (T.contents stream.old) (T.contents stream.new) }
         ensures logs { Logged (result ∷ []) (T.answers stream.old) (T.answers stream.new) }
     {

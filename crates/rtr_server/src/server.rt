@@ -4,7 +4,7 @@ ghost use Rattle.vrps.specs.Instance.{Instance, IsInstance, versions};
 ghost use Rattle.vrps.specs.Stores.{newest};
 ghost use Rattle.rtr_ends.specs.Timing.{Intervals};
 ghost use Rattle.rtr_ends.specs.CacheState.{CacheCall, CacheState, ShowsCache, with_conn, without_conns};
-ghost use Rattle.rtr_server.specs.Clients.{AdmitsTo, Begun, EachClientIsServed, GoesOnAfter, IsCounted, KeepsAll, KeepsOthers, NotifiesAt, NotifiesBelow, Past, PublishesSo, PublishesTo, Serves, ShowsServer, TakesTurn, admit_fault_number, clients_in, is_gone, present, slot_at};
+ghost use Rattle.rtr_server.specs.Clients.{AdmitsTo, Begun, GoesOnAfter, IsCounted, KeepsAll, KeepsOthers, NotifiesAt, NotifiesBelow, Past, PublishesSo, PublishesTo, Serves, ShowsServer, TakesTurn, admit_fault_number, clients_in, is_gone, present, slot_at};
 
 use crate::stream::Stream;
 use crate::turn::{Slot, Turn};
@@ -282,9 +282,3 @@ fn empty_at<T: Stream + Drop>(slots: &mut Vec<Option<Box<Slot<T>>>>, number: usi
     slots[number] = None;
     was_there
 }
-
-/// What went over the stream of each client of a server is what its connection's history says, and a notify is owed to it exactly where its
-/// router awaits one: each past that led to the server made it so.
-pub fn each_client_is_served<S: VersionStore, T: Stream>(server: &Server<S, T>)
-    ensures { EachClientIsServed S.holds T.remaining T.contents server.now }
-{}

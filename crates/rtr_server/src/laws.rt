@@ -1,0 +1,19 @@
+//! Laws of the definitions and of servers. These functions do nothing: their contracts are the laws.
+ghost use Rattle.rtr_server.specs.Clients.{EachClientIsServed};
+ghost use Rattle.rtr_server.specs.Turns.{MemoryEnds};
+
+use crate::server::Server;
+use crate::stream::Stream;
+use vrps::VersionStore;
+
+/// What went over the stream of each client of a server is what its connection's history says, so what was written to it is a beginning of
+/// the replies to what was read of it; a notify is owed to it exactly where its router awaits one; and it holds at most 4,096 bytes that
+/// were read and not consumed, and at most 32,768 that were pulled and not written. Each past that led to the server made it so.
+pub fn each_client_is_served<S: VersionStore, T: Stream>(server: &Server<S, T>)
+    ensures { EachClientIsServed S.holds T.remaining T.contents server.now }
+{}
+
+/// Where memory is wanting at a client's PDU, its connection ends, with an Error Report of code 1 (RFC 8210 section 12).
+pub fn memory_ends_its_client()
+    ensures { MemoryEnds }
+{}
