@@ -4,4 +4,5 @@ pub mod NoticeLaws
 pub mod PastLaws
 pub mod PlaceLaws
 pub mod TurnLaws
+pub mod TurnRows
 pub mod Windows

@@ -1,11 +1,20 @@
 -- What the calls of a stream that does not wait do to its bytes, where those are known.
 use Rattle.std.specs.Prelude.{◌≡◌, ℕ, ◌<◌, ◌≤◌, List, [], ◌++◌, length, take, drop, Option, Some, None, ⊤}
 use Rattle.std.specs.Io.KnownBytes.{Appends, Consumes, IsAtEnd, Keeps}
+use Rattle.std.specs.declared.io.ErrorKind.{ErrorKind}
+use Rattle.std.specs.declared.io.ErrorKind.TheVariants.{WouldBlock}
+use Rattle.std.specs.declared.io.ErrorKind.TheVariants as kinds
 use Rattle.vrps.specs.Instance.{Instance}
 use Rattle.rtr_ends.specs.CacheState.{CacheState, ShowsCache, due_at, given}
 use Rattle.rtr_ends.specs.declared.cache.Cache.{Cache}
 use Rattle.rtr_server.specs.declared.stream.Moved.{Moved}
 use Rattle.rtr_server.specs.declared.stream.Moved.TheVariants.{Bytes, Waits, Interrupted, Failed}
+
+-- what an error of this kind says: that the stream would wait, that the call was interrupted, or that the stream failed
+abbrev pub moved_by : ErrorKind → Moved
+moved_by WouldBlock = Waits
+moved_by kinds.Interrupted = Interrupted
+moved_by kind = Failed
 
 -- no more than there is room for
 abbrev pub IsWithin : ℕ → Moved → Type 0

@@ -3,12 +3,13 @@ ghost use Rattle.std.specs.Prelude.{◌≡◌, ◌+◌, ◌<◌, ℕ, false, tru
 ghost use Rattle.vrps.specs.Instance.{Instance, IsInstance, versions};
 ghost use Rattle.vrps.specs.Stores.{newest};
 ghost use Rattle.rtr_ends.specs.Timing.{Intervals};
-ghost use Rattle.rtr_ends.specs.CacheState.{CacheCall, CacheState, ShowsCache, with_conn, without_conns};
+ghost use Rattle.rtr_ends.specs.CacheState.{CacheCall, CacheState, ShowsCache, version_at, with_conn, without_conns};
 ghost use Rattle.rtr_server.specs.Clients.{AdmitsTo, Begun, GoesOnAfter, IsCounted, KeepsAll, KeepsOthers, NotifiesAt, NotifiesBelow, Past, PublishesSo, PublishesTo, Serves, ShowsServer, TakesTurn, admit_fault_number, clients_in, is_gone, present, slot_at};
 
 use crate::stream::Stream;
 use crate::turn::{Slot, Turn};
 use rtr_ends::{Cache, Conn};
+use rtr_pdu::Version;
 use std::alloc::{AllocError, Global};
 use thiserror::Error;
 use vrps::{Published, Serial, VersionStore, VrpSet};
@@ -163,6 +164,13 @@ impl<S: VersionStore, T: Stream + Drop> Server<S, T> {
         ensures { (p : Past) → ShowsServer S.holds T.remaining T.contents p self.now → result ≡ clients_in self.now.slots.items }
     {
         self.count
+    }
+
+    /// The version of the protocol in which a client speaks: that of its first header, once it came whole (RFC 8210 section 7).
+    pub fn version(&self, client: Client) -> Option<Version>
+        ensures { (p : Past) → ShowsServer S.holds T.remaining T.contents p self.now → result ≡ version_at ((present p).at client.0.0) }
+    {
+        self.cache.version(client.0)
     }
 
     /// The current version: its serial and its set.

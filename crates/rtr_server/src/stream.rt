@@ -1,7 +1,8 @@
 //! Streams that do not wait.
 ghost use Rattle.std.specs.Prelude.{◌≡◌, ◌∷◌, ℕ, ◌≤◌, [], List, Option, length};
 ghost use Rattle.std.specs.Io.KnownBytes.{Keeps};
-ghost use Rattle.rtr_server.specs.Streams.{IsWithin, Logged, ReadsSo, WritesSo};
+ghost use Rattle.std.specs.IoError.{error_kind};
+ghost use Rattle.rtr_server.specs.Streams.{IsWithin, Logged, ReadsSo, WritesSo, moved_by};
 
 use std::io;
 use std::io::{ErrorKind, Read, Write};
@@ -59,7 +60,7 @@ pub struct Duplex<R, W> {
 
 /// What an error of a device says.
 fn moved_of(error: &io::Error) -> Moved
-    ensures { (n : ℕ) → ¬ (result ≡ Moved.Bytes n) }
+    ensures { result ≡ moved_by (error_kind error.now) }
 {
     match error.kind() {
         ErrorKind::WouldBlock => Moved::Waits,
