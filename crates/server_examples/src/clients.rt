@@ -1,0 +1,130 @@
+//! One client whose line waits, is interrupted or fails at one call, and how clients come and go.
+use crate::lines::{
+    Manner, Memory, PLAIN, Shared, admitted, cache_of, is_front, is_list, len_of, line, shared,
+};
+use example_values::hex::bytes;
+use example_values::sets::V;
+use example_values::units::{ANSWER, RESET_QUERY};
+use rtr_server::{AdmitFault, Client, Gone, Server, Turn};
+use std::alloc::Global;
+use std::io::ErrorKind;
+use std::process::Abort;
+use std::test::Fail;
+
+const TWO_QUERIES: &str = "01 02 0000 00000008 | 01 02 0000 00000008";
+
+/// The answers to them.
+const TWO_ANSWERS: &str =
+    "01 03 1234 00000008 | 01 04 0000 00000014 01 18 18 00 c0000200 0000fbf0 | 01 07 1234 00000018 00000005 00000e10 00000258 00001c20
+    | 01 03 1234 00000008 | 01 04 0000 00000014 01 18 18 00 c0000200 0000fbf0 | 01 07 1234 00000018 00000005 00000e10 00000258 00001c20";
+
+/// Serves a client to its end, in turns of so many calls.
+fn end_of(server: &mut Memory, client: Client, budget: u32) -> Option<Turn> {
+    let mut last = None;
+    for _turn in 0..400 {
+        match server.serve(client, budget) {
+            None => return last,
+            turn => last = turn,
+        }
+    }
+    last
+}
+
+/// Two queries on a line of this manner, which then ends.
+fn served(alloc: Global, manner: Manner, out: &Shared) -> Result<Option<Turn>, Fail> {
+    let mut server = Server::new(alloc, cache_of(alloc, &[V])?, 1);
+    let line = line(alloc, bytes(TWO_QUERIES).as_slice(), manner, out)?;
+    let client = admitted(&mut server, line)?;
+    Ok(end_of(&mut server, client, 3))
+}
+
+#[test]
+fn a_line_that_waits_or_is_interrupted_at_any_call_carries_the_same(
+    rt: HostRuntime,
+) -> Result<(), Fail> {
+    let alloc = rt.alloc();
+    for error in [ErrorKind::WouldBlock, ErrorKind::Interrupted] {
+        for size in [1, 7, 64] {
+            for bad_call in 0..30 {
+                let out = shared(alloc, &[])?;
+                let manner = Manner {
+                    size,
+                    bad_call,
+                    error,
+                    stays_open: false,
+                };
+                let last = served(alloc, manner, &out)?;
+                assert!(rt; last == Some(Turn::Gone(Gone::PeerClosed)));
+                assert!(rt; is_list(&out, bytes(TWO_ANSWERS).as_slice()));
+            }
+        }
+    }
+    Ok(())
+}
+
+#[test]
+fn a_line_that_fails_has_carried_a_beginning(rt: HostRuntime) -> Result<(), Fail> {
+    let alloc = rt.alloc();
+    for size in [1, 7, 64] {
+        for bad_call in 1..4 {
+            let out = shared(alloc, &[])?;
+            let manner = Manner {
+                size,
+                bad_call,
+                error: ErrorKind::BrokenPipe,
+                stays_open: false,
+            };
+            let last = served(alloc, manner, &out)?;
+            let failed = last == Some(Turn::Gone(Gone::ReadFailed))
+                || last == Some(Turn::Gone(Gone::WriteFailed))
+                || last == Some(Turn::Gone(Gone::PeerClosed));
+            assert!(rt; failed && is_front(&out, bytes(TWO_ANSWERS).as_slice()));
+        }
+    }
+    Ok(())
+}
+
+#[test]
+fn clients_come_and_go(rt: HostRuntime) -> Result<(), Fail> {
+    let alloc = rt.alloc();
+    let out = shared(alloc, &[])?;
+    let query = bytes(RESET_QUERY);
+    let mut server = Server::new(alloc, cache_of(alloc, &[V])?, 2);
+    let first = admitted(&mut server, line(alloc, query.as_slice(), PLAIN, &out)?)?;
+    let second = admitted(&mut server, line(alloc, query.as_slice(), PLAIN, &out)?)?;
+    assert!(rt; first != second && server.clients() == 2);
+    let third = server.admit(line(alloc, query.as_slice(), PLAIN, &out)?);
+    assert!(rt; third == Err(AdmitFault::TooManyClients));
+    assert!(rt; AdmitFault::TooManyClients.number() == 1 && AdmitFault::Memory.number() == 2);
+    server.drop_client(first);
+    assert!(rt; server.clients() == 1 && server.serve(first, 9) == None);
+    let again = admitted(&mut server, line(alloc, query.as_slice(), PLAIN, &out)?)?;
+    assert!(rt; again == first && server.clients() == 2);
+    assert!(rt; server.serve(second, 0) == Some(Turn::Busy));
+    assert!(rt; server.serve(second, 99) == Some(Turn::WaitsToRead));
+    assert!(rt; is_list(&out, bytes(ANSWER).as_slice()));
+    Ok(())
+}
+
+#[test]
+fn what_ends_a_client_is_told(rt: HostRuntime) -> Result<(), Fail> {
+    let alloc = rt.alloc();
+    let out = shared(alloc, &[])?;
+    let mut server = Server::new(alloc, cache_of(alloc, &[V])?, 2);
+    let ends = Manner {
+        stays_open: false,
+        ..PLAIN
+    };
+    let cut = admitted(&mut server, line(alloc, &[1, 2, 0], ends, &out)?)?;
+    assert!(rt; server.serve(cut, 9) == Some(Turn::Gone(Gone::Truncated)));
+    let waits = Manner {
+        bad_call: 2,
+        ..PLAIN
+    };
+    let rubbish = admitted(&mut server, line(alloc, &[9; 8], waits, &out)?)?;
+    assert!(rt; server.serve(rubbish, 1) == Some(Turn::Busy));
+    assert!(rt; server.serve(rubbish, 9) == Some(Turn::Gone(Gone::CacheEnded)));
+    assert!(rt; len_of(&out) > 8);
+    assert!(rt; server.serve(rubbish, 9) == None && server.clients() == 0);
+    Ok(())
+}

@@ -1,0 +1,12 @@
+//! Examples of a server of many routers, which are the tests of the public items of `rtr_server`: streams over memory that wait, are
+//! interrupted, fail or take a part at one call, for each call, and clients in every order of turns.
+#![tactic(auto)]
+
+#[cfg(test)]
+mod clients;
+#[cfg(test)]
+mod lines;
+#[cfg(test)]
+mod notices;
+#[cfg(test)]
+mod orders;
