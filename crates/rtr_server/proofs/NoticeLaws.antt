@@ -16,7 +16,7 @@ use Rattle.rtr_ends.specs.CacheState.{CacheCall, CacheState, IsCacheCall, Life, 
 use Rattle.rtr_ends.specs.declared.cache.Cache.{Cache}
 use Rattle.prefixes.proofs.Basics.{eq_of, eq_self, eq_true, not_eq_of}
 use Rattle.rtr_server.specs.Clients.{IsNotice, KeepsOthers, NotifiesAt, NotifiesBelow, OwesSo, Past, PublishesNew, PublishesSo, ShowsClient, ShowsServer, awaits, can_be_sent, can_be_told_of, clients_in, made, notified_below, notified_one, present, slot_at}
-use Rattle.rtr_server.specs.Turns.{Flow, client_of}
+use Rattle.rtr_server.specs.Turns.{Flow, capped, client_of}
 use Rattle.rtr_server.specs.declared.server.Server.{Server}
 use Rattle.rtr_server.specs.declared.turn.Slot.{Slot}
 
@@ -295,6 +295,8 @@ module _ {T A : Type 0} (remaining contents : T → Option (List ℕ)) (p : Past
               written = h.1.written;
               given = k.given ∙ h.1.given;
               out = h.1.out;
+              all_read = h.1.all_read ∙ ap (λ came. capped (length (came ++ x.unread))) (sym k.came);
+              all_written = h.1.all_written;
             },
             refl,
             record { unread = h.3.unread; unwritten = h.3.unwritten },

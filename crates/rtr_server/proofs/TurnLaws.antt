@@ -1,7 +1,7 @@
 -- One client, from step to step.
 use Rattle.std.specs.Prelude.{◌≡◌, ◌⊎◌, ℕ, ◌+◌, ◌-◌, ◌<◌, ◌≤◌, ◌==◌, Bool, true, false, not, ◌&&◌, List, [], ◌∷◌, ◌++◌, length, take, drop, min, Option, Some, None, IfSome, option_map, if◌then◌else◌, refl}
 use Rattle.std.proofs.Common.{zero, suc, sym, ap, ◌∙◌, subst, arith, append_assoc, inl, inr}
-use Rattle.std.proofs.lemmas.List.{append-nil, length-append, length-drop, length-take, take-append-drop}
+use Rattle.std.proofs.lemmas.List.{append-nil, length-append, length-drop, length-take, length-take-le, take-append-drop}
 use Rattle.std.specs.Io.KnownBytes.{Consumes, IsAtEnd, Keeps}
 use Rattle.std.proofs.KnownBytes.{Appends-kept, Appends-trans, Consumes-kept, Consumes-trans}
 use Rattle.vrps.specs.Instance.{Instance}
@@ -19,9 +19,10 @@ use Rattle.rtr_ends.proofs.ServeStreamLaws.{drop_none, none_taken, pulled_is}
 use Rattle.rtr_ends.proofs.TableLaws.{false_true}
 use Rattle.prefixes.proofs.Basics.{eq_of}
 use Rattle.rtr_server.specs.Streams.{EmptiesSo, FillsSo, Logged, PullsInto, moved_count}
-use Rattle.rtr_server.specs.Turns.{AnswersStep, AnswersTurn, Anyhow, ClientState, ClientStep, EndsSo, FitsBudget, Flow, Goes, GoesFrom, GoesOrEnds, HandsIn, HasRoom, IsIdle, IsOver, IsSettled, IsToWrite, IsWanted, LastIs, MaySettle, MayStep, MaySteps, NoneDue, Notifies, Pulls, Reads, StandsSo, StepTold, ToldSo, Writes, WritesFrom, after_read, after_write, can_be_told, client_after, client_of, client_wrote, consumed_of, settles, steps_after}
+use Rattle.rtr_server.specs.Turns.{AnswersStep, AnswersTurn, Anyhow, ClientState, ClientStep, EndsSo, FitsBudget, Flow, Goes, GoesFrom, GoesOrEnds, HandsIn, HasRoom, IsIdle, IsOver, IsSettled, IsToWrite, IsWanted, LastIs, MaySettle, MayStep, MaySteps, NoneDue, Notifies, Pulls, Reads, StandsSo, StepTold, ToldSo, Writes, WritesFrom, and_read, and_written, after_read, after_write, can_be_told, capped, client_after, client_of, client_wrote, consumed_of, settles, steps_after}
 use Rattle.rtr_server.specs.declared.stream.Moved.{Moved}
 use Rattle.rtr_server.specs.declared.stream.Moved.TheVariants.{Bytes, Waits, Interrupted, Failed}
+use Rattle.rtr_server.specs.declared.turn.Carried.{Carried}
 use Rattle.rtr_server.specs.declared.turn.Gone.{Gone as Way}
 use Rattle.rtr_server.specs.declared.turn.Gone.TheVariants.{CacheEnded, PeerClosed, ReadFailed, Truncated, WriteFailed}
 use Rattle.rtr_server.specs.declared.turn.Slot.{Slot}
@@ -126,12 +127,37 @@ module _ {S : Type 0} (holds : ℕ → Instance → S → Type 0) where
   set_known : (F : Conn → Conn) (m : CacheState) (c : ℕ) (o p : Conn) (cache : Cache S) → m.at c ≡ Some o → F o ≡ p → ShowsCache holds (with_conn c (option_map F (m.at c)) m) cache → ShowsCache holds (with_conn c (Some p) m) cache
   set_known F m c o p cache at is shows = subst (λ x. ShowsCache holds (with_conn c x m) cache) (ap (option_map F) at ∙ ap Some is) shows
 
+-- a count goes on
+more_counted : (count more all now : ℕ) → count ≡ capped all → now ≡ all + more → capped (count + more) ≡ capped now
+more_counted count more all now e is = omega (arith, e, is)
+
+pub read_more : (c : Carried) (now more count : ℕ) → now ≡ capped (c.read + more) → more ≡ count → record c { read = now } ≡ and_read count c
+read_more c now more count e is = let f : ℕ → Carried = λ n. record c { read = n } in ap f (e ∙ ap (λ k. capped (c.read + k)) is)
+
+pub written_more : (c : Carried) (now more count : ℕ) → now ≡ capped (c.written + more) → more ≡ count → record c { written = now } ≡ and_written count c
+written_more c now more count e is = let f : ℕ → Carried = λ n. record c { written = n } in ap f (e ∙ ap (λ k. capped (c.written + k)) is)
+
+-- as many bytes came as were answered
+filled_count : (b l : Option (List ℕ)) (moved : Moved) (unread : List ℕ) → FillsSo b l moved unread → length unread ≡ moved_count moved
+filled_count b l (Bytes n) unread h = h.1
+filled_count b l Waits unread h = ap (λ bs. length bs) h.1
+filled_count b l Interrupted unread h = ap (λ bs. length bs) h.1
+filled_count b l Failed unread h = ap (λ bs. length bs) h.1
+
 -- bytes are read
-reads_on : (before left after had has still : Option (List ℕ)) (s : Serving) (old unread unwritten : List ℕ) (owed : Bool) (moved : Moved) → old ≡ []
-    → Flow before left had has (record { serving = s; unread = old; unwritten = unwritten; owed = owed }) → FillsSo left after moved unread → Keeps has still
-    → Flow before after had still (record { serving = s; unread = unread; unwritten = unwritten; owed = owed })
-reads_on before left after had has still s old unread unwritten owed moved nothing flow fills keeps =
-    record { read = by_moved moved fills; written = flow.written; given = flow.given; out = Appends-kept had has still flow.written flow.out keeps }
+reads_on : (before left after had has still : Option (List ℕ)) (s : Serving) (old unread unwritten : List ℕ) (owed : Bool) (carried : Carried) (moved : Moved) → old ≡ []
+    → Flow before left had has (record { serving = s; unread = old; unwritten = unwritten; owed = owed; carried = carried }) → FillsSo left after moved unread → Keeps has still
+    → Flow before after had still (record { serving = s; unread = unread; unwritten = unwritten; owed = owed; carried = and_read (length unread) carried })
+reads_on before left after had has still s old unread unwritten owed carried moved nothing flow fills keeps =
+    record {
+      read = by_moved moved fills;
+      written = flow.written;
+      given = flow.given;
+      out = Appends-kept had has still flow.written flow.out keeps;
+      all_read = more_counted carried.read (length unread) (length (s.came ++ old)) (length (s.came ++ unread)) flow.all_read
+          (length-append s.came unread ∙ ap (λ n. n + length unread) (sym (ap (λ x. length (s.came ++ x)) nothing ∙ ap (λ x. length x) (append-nil s.came))));
+      all_written = flow.all_written;
+    }
   where
     came : Consumes before left s.came
     came = subst (Consumes before left) (ap (λ x. s.came ++ x) nothing ∙ append-nil s.came) flow.read
@@ -146,23 +172,33 @@ reads_on before left after had has still s old unread unwritten owed moved nothi
     by_moved Failed h = none h.0 h.1
 
 -- bytes are written
-writes_on : (before left still had has wrote : Option (List ℕ)) (s : Serving) (unread old new : List ℕ) (owed : Bool) (moved : Moved)
-    → Flow before left had has (record { serving = s; unread = unread; unwritten = old; owed = owed }) → EmptiesSo has wrote moved old new → Keeps left still
-    → Flow before still had wrote (record { serving = s; unread = unread; unwritten = new; owed = owed })
-writes_on before left still had has wrote s unread old new owed moved flow empties keeps = by_moved moved empties
+writes_on : (before left still had has wrote : Option (List ℕ)) (s : Serving) (unread old new : List ℕ) (owed : Bool) (carried : Carried) (moved : Moved)
+    → Flow before left had has (record { serving = s; unread = unread; unwritten = old; owed = owed; carried = carried }) → EmptiesSo has wrote moved old new → Keeps left still
+    → Flow before still had wrote (record { serving = s; unread = unread; unwritten = new; owed = owed; carried = and_written (moved_count moved) carried })
+writes_on before left still had has wrote s unread old new owed carried moved flow empties keeps = by_moved moved empties
   where
     came : Consumes before still (s.came ++ unread)
     came = Consumes-kept before left still (s.came ++ unread) flow.read keeps
 
-    none : Keeps has wrote → new ≡ old → Flow before still had wrote (record { serving = s; unread = unread; unwritten = new; owed = owed })
-    none kept is = record { read = came; written = flow.written; given = flow.given ∙ ap (λ x. flow.written ++ x) (sym is); out = Appends-kept had has wrote flow.written flow.out kept }
+    none : Keeps has wrote → new ≡ old → Flow before still had wrote (record { serving = s; unread = unread; unwritten = new; owed = owed; carried = and_written 0 carried })
+    none kept is = record {
+      read = came;
+      written = flow.written;
+      given = flow.given ∙ ap (λ x. flow.written ++ x) (sym is);
+      out = Appends-kept had has wrote flow.written flow.out kept;
+      all_read = flow.all_read;
+      all_written = more_counted carried.written 0 (length flow.written) (length flow.written) flow.all_written (omega arith);
+    }
 
-    by_moved : (moved : Moved) → EmptiesSo has wrote moved old new → Flow before still had wrote (record { serving = s; unread = unread; unwritten = new; owed = owed })
+    by_moved : (moved : Moved) → EmptiesSo has wrote moved old new → Flow before still had wrote (record { serving = s; unread = unread; unwritten = new; owed = owed; carried = and_written (moved_count moved) carried })
     by_moved (Bytes n) h = record {
       read = came;
       written = flow.written ++ take n old;
       given = flow.given ∙ ap (λ x. flow.written ++ x) (sym (ap (λ x. take n old ++ x) h.1 ∙ take-append-drop n old)) ∙ sym (append_assoc flow.written (take n old) new);
       out = Appends-trans had has wrote flow.written (take n old) flow.out h.0;
+      all_read = flow.all_read;
+      all_written = more_counted carried.written n (length flow.written) (length (flow.written ++ take n old)) flow.all_written
+          (length-append flow.written (take n old) ∙ ap (λ k. length flow.written + k) (length-take-le n old h.2));
     }
     by_moved Waits h = none h.0 h.1
     by_moved Interrupted h = none h.0 h.1
@@ -234,10 +270,13 @@ module _ {S T : Type 0} (holds : ℕ → Instance → S → Type 0) (remaining c
       let unread = old.unread in
       let F : Conn → Conn = λ o. (conn_takes m.keep m.timing m.cache t.wanting unread o).machine.conn in
       let now : Serving = serve m.keep m.timing (Takes t.wanting unread) s in
-      let left : ℕ → ClientState = λ n. record { serving = now; unread = drop n unread; unwritten = old.unwritten; owed = old.is_owed } in
-      let whole : List ℕ → ClientState = λ bs. record { serving = now; unread = bs; unwritten = old.unwritten; owed = old.is_owed } in
+      let left : ℕ → ClientState = λ n. record { serving = now; unread = drop n unread; unwritten = old.unwritten; owed = old.is_owed; carried = old.carried } in
+      let whole : List ℕ → ClientState = λ bs. record { serving = now; unread = bs; unwritten = old.unwritten; owed = old.is_owed; carried = old.carried } in
       let is : count ≡ consumed_of m.keep m.timing t.wanting unread s =
       t.result_is ∙ ap (conn_consumed t.wanting unread m) stands.at ∙ ap (λ i. length unread - length (conn_takes m.keep m.timing i t.wanting unread s.conn).rest) same in
+      let whole_is : ((s.came ++ take (consumed_of m.keep m.timing t.wanting unread s) unread) ++ rest) ≡ s.came ++ unread =
+      ap (λ x. (s.came ++ take (consumed_of m.keep m.timing t.wanting unread s) unread) ++ x) rest_is ∙ ap (λ n. (s.came ++ take n unread) ++ drop count unread) (sym is) ∙ append_assoc s.came (take count unread) (drop count unread)
+      ∙ ap (λ x. s.came ++ x) (take-append-drop count unread) in
       record {
         steps = HandsIn t.wanting ∷ [];
         may = ((bytes, settled, subst (λ i. IfSome t.wanting (λ unit. is_wanted_by_peer m.keep m.timing i s.conn unread unit ≡ true)) same (subst (λ o. IfSome t.wanting (λ unit. is_wanted_at unread m o unit ≡ true)) stands.at t.wanted)), tt);
@@ -245,10 +284,12 @@ module _ {S T : Type 0} (holds : ℕ → Instance → S → Type 0) (remaining c
         leads = ap left (sym is) ∙ ap whole (sym rest_is);
         shows = set_known holds F m old.conn.0 s.conn now.conn after stands.at (ap (λ i. (conn_takes m.keep m.timing i t.wanting unread s.conn).machine.conn) same) t.shows;
         flow = record {
-          read = subst (Consumes before (remaining old.stream)) (sym (ap (λ x. (s.came ++ take (consumed_of m.keep m.timing t.wanting unread s) unread) ++ x) rest_is ∙ ap (λ n. (s.came ++ take n unread) ++ drop count unread) (sym is) ∙ append_assoc s.came (take count unread) (drop count unread) ∙ ap (λ x. s.came ++ x) (take-append-drop count unread))) flow.read;
+          read = subst (Consumes before (remaining old.stream)) (sym whole_is) flow.read;
           written = flow.written;
           given = flow.given;
           out = flow.out;
+          all_read = flow.all_read ∙ ap (λ x. capped (length x)) (sym whole_is);
+          all_written = flow.all_written;
         };
         so = λ none.
             let n = none_taken m.keep m.timing s.cache t.wanting unread s.conn settled.none_due (sym none ∙ is) in
@@ -261,7 +302,7 @@ module _ {S T : Type 0} (holds : ℕ → Instance → S → Type 0) (remaining c
   pulls old new cache after nothing pulled m s before had stands is flow =
       let p = pulled m stands.shows in
       let now : Serving = serve m.keep m.timing (Gives 32768) s in
-      let with_bytes : List ℕ → ClientState = λ bs. record { serving = now; unread = old.unread; unwritten = bs; owed = old.is_owed } in
+      let with_bytes : List ℕ → ClientState = λ bs. record { serving = now; unread = old.unread; unwritten = bs; owed = old.is_owed; carried = old.carried } in
       let bytes_are : new ≡ take 32768 s.conn.state.due = p.0 ∙ ap (λ a. take 32768 (due_at a)) stands.at in
       record {
         steps = Pulls ∷ [];
@@ -274,6 +315,8 @@ module _ {S T : Type 0} (holds : ℕ → Instance → S → Type 0) (remaining c
           written = flow.written;
           given = ap (λ x. x ++ take 32768 s.conn.state.due) (flow.given ∙ ap (λ x. flow.written ++ x) nothing ∙ append-nil flow.written) ∙ ap (λ x. flow.written ++ x) (sym bytes_are);
           out = flow.out;
+          all_read = flow.all_read;
+          all_written = flow.all_written;
         };
         so = λ none. none_left m.keep m.timing s.conn (sym bytes_are ∙ none);
       }
@@ -285,7 +328,7 @@ module _ {S T : Type 0} (holds : ℕ → Instance → S → Type 0) (remaining c
   notifies old sent cache after nothing owed told m s before had stands due flow =
       let n = told m stands.shows in
       let now : Serving = serve m.keep m.timing Notified s in
-      let with_owed : Bool → ClientState = λ b. record { serving = now; unread = old.unread; unwritten = old.unwritten; owed = b } in
+      let with_owed : Bool → ClientState = λ b. record { serving = now; unread = old.unread; unwritten = old.unwritten; owed = b; carried = old.carried } in
       let is : sent ≡ can_be_told s = n.0 ∙ ap (can_notify_at m.cache) stands.at ∙ ap (λ i. can_notify i s.conn) (sym stands.now) in
       record {
         steps = Notifies ∷ [];
@@ -293,11 +336,11 @@ module _ {S T : Type 0} (holds : ℕ → Instance → S → Type 0) (remaining c
         now = now;
         leads = ap with_owed (ap (λ b. b && not (can_be_told s)) owed ∙ ap not (sym is));
         shows = set_known holds (conn_notified m.keep m.timing m.cache) m old.conn.0 s.conn now.conn after stands.at (ap (λ i. conn_notified m.keep m.timing i s.conn) (sym stands.now)) n.1;
-        flow = record { read = flow.read; written = flow.written; given = flow.given; out = flow.out };
+        flow = record { read = flow.read; written = flow.written; given = flow.given; out = flow.out; all_read = flow.all_read; all_written = flow.all_written };
         so = by_sent m.keep m.timing s sent is (due nothing);
       }
     where
-      by_sent : (keep : ℕ) (t : Intervals) (s : Serving) (sent : Bool) → sent ≡ can_be_told s → s.conn.state.due ≡ [] → settles sent (record { serving = serve keep t Notified s; unread = old.unread; unwritten = old.unwritten; owed = not sent })
+      by_sent : (keep : ℕ) (t : Intervals) (s : Serving) (sent : Bool) → sent ≡ can_be_told s → s.conn.state.due ≡ [] → settles sent (record { serving = serve keep t Notified s; unread = old.unread; unwritten = old.unwritten; owed = not sent; carried = old.carried })
       by_sent keep t s true is none = refl
       by_sent keep t s false is none =
           let same = not_notified keep t s.cache s.conn (sym is) in
@@ -317,20 +360,28 @@ module _ {S T : Type 0} (holds : ℕ → Instance → S → Type 0) (remaining c
   -- bytes are read
   pub reads : (old : Slot T) (unread : List ℕ) (stream : T) (cache : Cache S) (moved : Moved) (within : Bool) (turn : Option Turn) → FillsSo (remaining old.stream) (remaining stream) moved unread → Keeps (contents old.stream) (contents stream)
       → ((m : CacheState) → ShowsCache holds m cache → within ≡ is_within (m.at old.conn.0)) → turn ≡ after_read moved within → length unread ≤ MAX_UNIT_LEN
-      → GoesFrom holds remaining contents IsIdle old cache (record old { stream = stream; unread = unread }) cache (GoesOrEnds turn (remaining stream))
-  reads old unread stream cache moved within turn fills keeps looks turn_is room m s before had stands idle flow =
+      → (carried : Carried) → carried ≡ and_read (moved_count moved) old.carried
+      → GoesFrom holds remaining contents IsIdle old cache (record old { stream = stream; unread = unread; carried = carried }) cache (GoesOrEnds turn (remaining stream))
+  reads old unread stream cache moved within turn fills keeps looks turn_is room carried carried_is m s before had stands idle flow =
       record {
         steps = Reads unread ∷ [];
         may = ((idle, room), tt);
         now = s;
-        leads = refl;
+        leads = ap with_count counted;
         shows = set_same holds m old.conn.0 (Some s.conn) cache stands.at stands.shows;
-        flow = reads_on before (remaining old.stream) (remaining stream) had (contents old.stream) (contents stream) s old.unread unread old.unwritten old.is_owed moved idle.all_consumed flow fills keeps;
+        flow = subst (λ c. Flow before (remaining stream) had (contents stream) (with_count c)) counted
+            (reads_on before (remaining old.stream) (remaining stream) had (contents old.stream) (contents stream) s old.unread unread old.unwritten old.is_owed old.carried moved idle.all_consumed flow fills keeps);
         so = subst (λ o. GoesOrEnds o (remaining stream) now) (sym turn_is) (ends moved fills);
       }
     where
+      with_count : Carried → ClientState
+      with_count c = record { serving = s; unread = unread; unwritten = old.unwritten; owed = old.is_owed; carried = c }
+
       now : ClientState
-      now = record { serving = s; unread = unread; unwritten = old.unwritten; owed = old.is_owed }
+      now = with_count carried
+
+      counted : and_read (length unread) old.carried ≡ carried
+      counted = ap (λ n. and_read n old.carried) (filled_count (remaining old.stream) (remaining stream) moved unread fills) ∙ sym carried_is
 
       stays_idle : unread ≡ [] → IsIdle now
       stays_idle none = record { settled = record { all_written = idle.settled.all_written; none_due = idle.settled.none_due; told = idle.settled.told }; all_consumed = none; goes_on = idle.goes_on }
@@ -361,17 +412,22 @@ module _ {S T : Type 0} (holds : ℕ → Instance → S → Type 0) (remaining c
 -- bytes are written
 pub writes : {T : Type 0} (remaining contents : T → Option (List ℕ)) (old : Slot T) (new : List ℕ) (stream : T) (moved : Moved) (turn : Option Turn) → EmptiesSo (contents old.stream) (contents stream) moved old.unwritten new
     → Keeps (remaining old.stream) (remaining stream) → turn ≡ after_write moved
-    → WritesFrom remaining contents IsToWrite old (record old { stream = stream; unwritten = new }) (GoesOrEnds turn (remaining stream))
-writes remaining contents old new stream moved turn empties keeps turn_is s before had some flow =
+    → (carried : Carried) → carried ≡ and_written (moved_count moved) old.carried
+    → WritesFrom remaining contents IsToWrite old (record old { stream = stream; unwritten = new; carried = carried }) (GoesOrEnds turn (remaining stream))
+writes remaining contents old new stream moved turn empties keeps turn_is carried carried_is s before had some flow =
     record {
       count = moved_count moved;
-      leads = ap with_bytes (written_is (contents old.stream) (contents stream) moved old.unwritten new empties);
-      flow = writes_on before (remaining old.stream) (remaining stream) had (contents old.stream) (contents stream) s old.unread old.unwritten new old.is_owed moved flow empties keeps;
+      leads = ap (λ bs. with_both bs (and_written (moved_count moved) old.carried)) (written_is (contents old.stream) (contents stream) moved old.unwritten new empties) ∙ ap (with_both new) (sym carried_is);
+      flow = subst (λ c. Flow before (remaining stream) had (contents stream) (with_both new c)) (sym carried_is)
+          (writes_on before (remaining old.stream) (remaining stream) had (contents old.stream) (contents stream) s old.unread old.unwritten new old.is_owed old.carried moved flow empties keeps);
       so = subst (λ o. GoesOrEnds o (remaining stream) (with_bytes new)) (sym turn_is) (ends moved empties);
     }
   where
+    with_both : List ℕ → Carried → ClientState
+    with_both bs c = record { serving = s; unread = old.unread; unwritten = bs; owed = old.is_owed; carried = c }
+
     with_bytes : List ℕ → ClientState
-    with_bytes bs = record { serving = s; unread = old.unread; unwritten = bs; owed = old.is_owed }
+    with_bytes bs = with_both bs carried
 
     still : new ≡ old.unwritten → 0 < length new
     still is = subst (λ (x : List ℕ). 0 < length x) (sym is) some

@@ -34,8 +34,8 @@ told = (refl, refl, omega arith, refl)
 
 module _ (keep : ℕ) (t : Intervals) (s : Serving) where
   -- three bytes are left to be written, and two of them are; five come
-  steps : steps_after keep t (Reads (5 ∷ []) ∷ Writes 2 ∷ []) (record { serving = s; unread = []; unwritten = 1 ∷ 2 ∷ 3 ∷ []; owed = true })
-      ≡ record { serving = s; unread = 5 ∷ []; unwritten = 3 ∷ []; owed = true }
+  steps : steps_after keep t (Reads (5 ∷ []) ∷ Writes 2 ∷ []) (record { serving = s; unread = []; unwritten = 1 ∷ 2 ∷ 3 ∷ []; owed = true; carried = record { read = 8; written = 40 } })
+      ≡ record { serving = s; unread = 5 ∷ []; unwritten = 3 ∷ []; owed = true; carried = record { read = 9; written = 42 } }
   steps = refl
 
 -- A router that has just come awaits nothing, whatever was before; nor does another call make one await.

@@ -1,5 +1,5 @@
 -- What is done for one client, step by step, and how its turn ends (RFC 8210 sections 5, 7, 8 and 12).
-use Rattle.std.specs.Prelude.{◌≡◌, ◌⊎◌, ℕ, ◌-◌, ◌<◌, ◌≤◌, ◌==◌, Bool, true, false, not, ◌&&◌, List, [], ◌∷◌, ◌++◌, length, take, drop, Option, Some, None, IfSome, if◌then◌else◌, ⊤}
+use Rattle.std.specs.Prelude.{◌≡◌, ◌⊎◌, ℕ, ◌+◌, ◌-◌, ◌^◌, min, ◌<◌, ◌≤◌, ◌==◌, Bool, true, false, not, ◌&&◌, List, [], ◌∷◌, ◌++◌, length, take, drop, Option, Some, None, IfSome, if◌then◌else◌, ⊤}
 use Rattle.std.specs.Io.KnownBytes.{Appends, Consumes, IsAtEnd}
 use Rattle.vrps.specs.Instance.{Instance}
 use Rattle.rtr_pdu.specs.Code.{INTERNAL_ERROR}
@@ -16,6 +16,7 @@ use Rattle.rtr_ends.specs.declared.cache.Cache.{Cache}
 use Rattle.rtr_server.specs.Streams.{Logged}
 use Rattle.rtr_server.specs.declared.stream.Moved.{Moved}
 use Rattle.rtr_server.specs.declared.stream.Moved.TheVariants.{Bytes, Waits, Interrupted, Failed}
+use Rattle.rtr_server.specs.declared.turn.Carried.{Carried}
 use Rattle.rtr_server.specs.declared.turn.Gone.{Gone as Way}
 use Rattle.rtr_server.specs.declared.turn.Gone.TheVariants.{CacheEnded, PeerClosed, ReadFailed, Truncated, WriteFailed}
 use Rattle.rtr_server.specs.declared.turn.Next.{Next}
@@ -25,12 +26,13 @@ use Rattle.rtr_server.specs.declared.turn.Turn.{Turn}
 use Rattle.rtr_server.specs.declared.turn.Turn.TheVariants.{Busy, Gone, WaitsToRead, WaitsToWrite}
 
 -- A client: its connection, what was read of its stream and is not consumed, what was pulled and is not written, and whether it is owed
--- a notify
+-- a notify, and how many bytes went over its stream
 pub record ClientState : Type 0 where
   pub serving : Serving
   pub unread : List ℕ
   pub unwritten : List ℕ
   pub owed : Bool
+  pub carried : Carried
 
 -- What is done for a client: what was read is handed in, where memory is wanting at this PDU of it, if at any; what is due is pulled; its
 -- router is notified; these bytes are read of its stream; so many are written to it.
@@ -49,8 +51,18 @@ consumed_of keep t wanting piece s = length piece - length (conn_takes keep t s.
 abbrev pub can_be_told : Serving → Bool
 can_be_told s = can_notify s.cache s.conn
 
+-- a count of 64 bits
+abbrev pub capped : ℕ → ℕ
+capped n = min n (2 ^ 64 - 1)
+
+abbrev pub and_read : ℕ → Carried → Carried
+and_read count c = record c { read = capped (c.read + count) }
+
+abbrev pub and_written : ℕ → Carried → Carried
+and_written count c = record c { written = capped (c.written + count) }
+
 abbrev pub client_wrote : ℕ → ClientState → ClientState
-client_wrote count s = record s { unwritten = drop count s.unwritten }
+client_wrote count s = record s { unwritten = drop count s.unwritten; carried = and_written count s.carried }
 
 abbrev pub client_after : ℕ → Intervals → ClientStep → ClientState → ClientState
 client_after keep t (HandsIn wanting) s = record s {
@@ -59,7 +71,7 @@ client_after keep t (HandsIn wanting) s = record s {
 }
 client_after keep t Pulls s = record s { serving = serve keep t (Gives 32768) s.serving; unwritten = take 32768 s.serving.conn.state.due }
 client_after keep t Notifies s = record s { serving = serve keep t Notified s.serving; owed = s.owed && not (can_be_told s.serving) }
-client_after keep t (Reads bytes) s = record s { unread = bytes }
+client_after keep t (Reads bytes) s = record s { unread = bytes; carried = and_read (length bytes) s.carried }
 client_after keep t (Writes count) s = client_wrote count s
 
 -- All that was pulled is written, nothing is due, and no notify is owed that can be sent.
@@ -137,16 +149,18 @@ MaySteps keep t [] s = ⊤
 MaySteps keep t (step ∷ steps) s = MayStep keep t step (steps_after keep t steps s) × MaySteps keep t steps s
 
 -- What was read of the stream since it came is what its connection consumed, and then the bytes that are not consumed; what was pulled
--- is what was written to it, and then the bytes that are not written.
+-- is what was written to it, and then the bytes that are not written; and so many are counted.
 pub record Flow (before left had has : Option (List ℕ)) (s : ClientState) : Type 0 where
   pub read : Consumes before left (s.serving.came ++ s.unread)
   pub written : List ℕ
   pub given : s.serving.given ≡ written ++ s.unwritten
   pub out : Appends had has written
+  pub all_read : s.carried.read ≡ capped (length (s.serving.came ++ s.unread))
+  pub all_written : s.carried.written ≡ capped (length written)
 
 -- what a slot is, with this connection
 abbrev pub client_of : {T : Type 0} → Serving → Slot T → ClientState
-client_of s slot = record { serving = s; unread = slot.unread; unwritten = slot.unwritten; owed = slot.is_owed }
+client_of s slot = record { serving = s; unread = slot.unread; unwritten = slot.unwritten; owed = slot.is_owed; carried = slot.carried }
 
 -- The cache shows this state, where this is the connection under the number.
 pub record StandsSo {S : Type 0} (holds : ℕ → Instance → S → Type 0) (m : CacheState) (c : ℕ) (s : Serving) (cache : Cache S) : Type 0 where

@@ -9,4 +9,4 @@ mod turn;
 
 pub use server::{AdmitFault, Client, Server};
 pub use stream::{Duplex, Moved, Stream};
-pub use turn::{Gone, Turn};
+pub use turn::{Carried, Gone, Turn};

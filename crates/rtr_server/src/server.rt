@@ -7,7 +7,7 @@ ghost use Rattle.rtr_ends.specs.CacheState.{CacheCall, CacheState, ShowsCache, v
 ghost use Rattle.rtr_server.specs.Clients.{AdmitsTo, Begun, GoesOnAfter, IsCounted, KeepsAll, KeepsOthers, NotifiesAt, NotifiesBelow, Past, PublishesSo, PublishesTo, Serves, ShowsServer, TakesTurn, admit_fault_number, clients_in, is_gone, present, slot_at};
 
 use crate::stream::Stream;
-use crate::turn::{Slot, Turn};
+use crate::turn::{Carried, Slot, Turn};
 use rtr_ends::{Cache, Conn};
 use rtr_pdu::Version;
 use std::alloc::{AllocError, Global};
@@ -166,6 +166,16 @@ impl<S: VersionStore, T: Stream + Drop> Server<S, T> {
         self.count
     }
 
+    /// How many bytes went over a client's stream since it came, where there is such a client.
+    pub fn carried(&self, client: Client) -> Option<Carried>
+        ensures { result ≡ option_map (λ slot. slot.carried) (slot_at self.now.slots.items client.0.0) }
+    {
+        match self.slots.get(client.0.number())? {
+            None => None,
+            Some(slot) => Some(slot.carried),
+        }
+    }
+
     /// The version of the protocol in which a client speaks: that of its first header, once it came whole (RFC 8210 section 7).
     pub fn version(&self, client: Client) -> Option<Version>
         ensures { (p : Past) → ShowsServer S.holds T.remaining T.contents p self.now → result ≡ version_at ((present p).at client.0.0) }
@@ -235,7 +245,7 @@ fn put_at<T: Stream + Drop>(
     stream: T,
 ) -> Result<(), AllocError>
     ensures others { KeepsOthers conn.0 slots.old.items slots.new.items }
-    ensures placed { IfOk result (λ _. slot_at slots.new.items conn.0 ≡ Option.Some (record { stream = stream; conn = conn; unread = []; unwritten = []; is_owed = false })) }
+    ensures placed { IfOk result (λ _. slot_at slots.new.items conn.0 ≡ Option.Some (record { stream = stream; conn = conn; unread = []; unwritten = []; is_owed = false; carried = record { read = 0; written = 0 } })) }
     ensures kept { IfErr result (λ _. KeepsAll slots.old.items slots.new.items) }
     ensures more { IfOk result (λ _. slot_at slots.old.items conn.0 ≡ Option.None → clients_in slots.new.items ≡ clients_in slots.old.items + 1) }
     ensures same { IfErr result (λ _. clients_in slots.new.items ≡ clients_in slots.old.items) }

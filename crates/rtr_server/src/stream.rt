@@ -2,7 +2,7 @@
 ghost use Rattle.std.specs.Prelude.{◌≡◌, ◌∷◌, ℕ, ◌≤◌, [], List, Option, length};
 ghost use Rattle.std.specs.Io.KnownBytes.{Keeps};
 ghost use Rattle.std.specs.IoError.{error_kind};
-ghost use Rattle.rtr_server.specs.Streams.{IsWithin, Logged, ReadsSo, WritesSo, moved_by};
+ghost use Rattle.rtr_server.specs.Streams.{IsWithin, Logged, ReadsSo, WritesSo, moved_by, moved_count};
 
 use std::io;
 use std::io::{ErrorKind, Read, Write};
@@ -18,6 +18,18 @@ pub enum Moved {
     Interrupted,
     /// The stream failed.
     Failed,
+}
+
+impl Moved {
+    /// How many bytes went.
+    pub(crate) fn count(self) -> u64
+        ensures { result ≡ moved_count self }
+    {
+        match self {
+            Moved::Bytes(n) => n as u64,
+            Moved::Waits | Moved::Interrupted | Moved::Failed => 0,
+        }
+    }
 }
 
 /// Both directions of a connection, whose calls do not wait. What is read changes nothing of what was written, nor the other way round.

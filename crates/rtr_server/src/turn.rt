@@ -35,7 +35,16 @@ pub enum Turn {
     Gone(Gone),
 }
 
-/// A client: its stream, its connection, what is between them, and whether it is owed a notify.
+/// How many bytes went over a client's stream since it came. Counts stop at `u64::MAX`.
+#[derive(Clone, Copy, Debug, PartialEq, Eq)]
+pub struct Carried {
+    /// Bytes that were read of it.
+    pub read: u64,
+    /// Bytes that were written to it.
+    pub written: u64,
+}
+
+/// A client: its stream, its connection, what is between them, whether it is owed a notify, and how many bytes went.
 #[derive(Debug, Drop)]
 pub(crate) struct Slot<T> {
     pub(crate) stream: T,
@@ -43,6 +52,7 @@ pub(crate) struct Slot<T> {
     pub(crate) unread: Unread,
     pub(crate) unwritten: Unwritten,
     pub(crate) is_owed: bool,
+    pub(crate) carried: Carried,
 }
 
 /// What is to be done with the stream next.
@@ -59,7 +69,7 @@ pub(crate) enum Next {
 impl<T: Stream> Slot<T> {
     /// A client that has just come.
     pub(crate) fn new(stream: T, conn: Conn) -> Slot<T>
-        ensures { result ≡ record { stream = stream; conn = conn; unread = []; unwritten = []; is_owed = false } }
+        ensures { result ≡ record { stream = stream; conn = conn; unread = []; unwritten = []; is_owed = false; carried = record { read = 0; written = 0 } } }
     {
         Slot {
             stream,
@@ -67,6 +77,10 @@ impl<T: Stream> Slot<T> {
             unread: Unread::new(),
             unwritten: Unwritten::new(),
             is_owed: false,
+            carried: Carried {
+                read: 0,
+                written: 0,
+            },
         }
     }
 
@@ -168,6 +182,7 @@ impl<T: Stream> Slot<T> {
     {
         let is_within = cache.is_within_unit(self.conn);
         let moved = self.unread.read(&mut self.stream);
+        self.carried.read = self.carried.read.saturating_add(moved.count());
         after_read(moved, is_within)
     }
 
@@ -178,6 +193,7 @@ impl<T: Stream> Slot<T> {
         ensures answers { AnswersStep result (T.answers self.old.stream) (T.answers self.new.stream) }
     {
         let moved = self.unwritten.write(&mut self.stream);
+        self.carried.written = self.carried.written.saturating_add(moved.count());
         after_write(moved)
     }
 

@@ -3,7 +3,7 @@ use Rattle.rtr_server.proofs.TurnLaws as laws
 use Rattle.rtr_server.proofs.turn.Slot.write.Goals as goal
 
 pub returns-clause-goes : goal.returns-clause-goes
-returns-clause-goes g c = laws.writes g.T.Stream.remaining g.T.Stream.contents c.args.self.now c.write-moved.new.self c.write-moved.new.stream c.write-moved.result c.after_write.result c.write-moved.ensures.empties c.write-moved.ensures.keeps c.after_write.ensures
+returns-clause-goes g c = laws.writes g.T.Stream.remaining g.T.Stream.contents c.args.self.now c.write-moved.new.self c.write-moved.new.stream c.write-moved.result c.after_write.result c.write-moved.ensures.empties c.write-moved.ensures.keeps c.after_write.ensures (record c.args.self.now.carried { written = c.saturating_add-self.result }) (laws.written_more c.args.self.now.carried c.saturating_add-self.result c.count.result _ c.saturating_add-self.ensures c.count.ensures)
 
 pub returns-clause-answers : goal.returns-clause-answers
 returns-clause-answers g c = record { since = _; logged = c.write-moved.ensures.logs; told = logs.write_told c.write-moved.result c.after_write.result c.after_write.ensures }
