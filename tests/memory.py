@@ -81,6 +81,10 @@ RUNS = {
     "export_runs::read_a_payload_list_as_an_export": once(V + W),
     "export_runs::refuse_a_plain_export": once("another fault\n"),
     "set_runs::duplicate_a_set": once(V),
+    "set_runs::gather_out_of_order": (
+        "new\nnew\n" + V + W,
+        [WANT + "new\nnew\n" + V + W, "new\n" + WANT + "new\n" + V + W, "new\nnew\n" + WANT],
+    ),
     "set_runs::apply_to_one": once(W),
     "set_runs::apply_to_none": once(V + W),
     "set_runs::apply_the_second_announcement": once(W),

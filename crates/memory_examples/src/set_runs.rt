@@ -3,7 +3,7 @@ use std::alloc::Global;
 use std::io::Write;
 use std::rc::Rc;
 use std::test::Fail;
-use vrps::{Change, Published, Serial, SetFault, Since, VersionLog, VersionStore, VrpSet};
+use vrps::{Change, Gathered, Published, Serial, SetFault, Since, VersionLog, VersionStore, VrpSet};
 
 #[test]
 fn duplicate_a_set(rt: HostRuntime) -> Result<(), Fail> {
@@ -30,6 +30,27 @@ fn tell_applied(rt: &HostRuntime, from: &VrpSet, to: &VrpSet) -> Result<(), Fail
         }
     }
     Ok(())
+}
+
+#[test]
+fn gather_out_of_order(rt: HostRuntime) -> Result<(), Fail> {
+    let later = set_of(rt.alloc(), &[W])?;
+    let earlier = set_of(rt.alloc(), &[V])?;
+    let mut gathered = Gathered::new(rt.alloc());
+    begin(rt.alloc())?;
+    for vrp in later.iter().chain(earlier.iter()) {
+        for _try in 0..2 {
+            if gathered.insert(*vrp).is_ok() {
+                tell(&rt, "new")?;
+                break;
+            }
+            tell(&rt, "memory")?;
+        }
+    }
+    match gathered.into_set(rt.alloc()) {
+        Ok(set) => tell_payloads(&rt, set.as_slice()),
+        Err(_) => tell(&rt, "memory"),
+    }
 }
 
 #[test]
