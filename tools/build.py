@@ -8,6 +8,7 @@ written. The status is 0 exactly where the program was built.
 A library is built as `rt lib` builds it. That command itself is not called for each: it lets no other run into the crates below its own,
 so that two libraries above a third would wait for each other."""
 import os
+import re
 import subprocess
 import sys
 import tempfile
@@ -23,12 +24,20 @@ TOOK = f"{TOP}/tools/took.txt"
 # How many seconds pass at most without a word.
 PATIENCE = 30
 
+# What a check says of what it refuses.
+REFUSED = re.compile(r": error: |^error|: not proved|: no proof: |^rt: ")
+
 # Which part of the longest chain another one has at least that must not wait for it.
 NEAR = 0.8
 
 
 def tell(text):
     print(f"run: {text}", file=sys.stderr, flush=True)
+
+
+def why(lines):
+    """The lines that say what was not proved, or else the last ones."""
+    return [it for it in lines if REFUSED.search(it)][:20] or lines[-20:]
 
 
 def seconds_kept(path):
@@ -107,7 +116,7 @@ class Build:
                     it.write(f"{crate.name} {took}\n")
             tell(f"{crate.name} stands after {time.time() - self.began:.0f} s")
         else:
-            print("\n".join(said.splitlines()[-20:]), file=sys.stderr)
+            print("\n".join(why(said.splitlines())), file=sys.stderr)
             tell(f"{crate.name} could not be proved or built")
         return stands
 
