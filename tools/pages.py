@@ -25,6 +25,9 @@ PROMISES = [
     ("From what is offered to the state of a route", ["feed::route_from_payloads"]),
     ("The headline, after every list of events", ["rtr_world::World::run", "rtr_world::laws::headline"]),
     ("Catching up", ["rtr_world::World::catch_up"]),
+    ("One cache and many clients", ["rtr_server::Server::serve", "rtr_server::Server::publish", "rtr_server::laws::each_client_is_served"]),
+    ("What validators export", ["exports::read_export"]),
+    ("Local exceptions", ["slurm::read_slurm", "slurm::apply", "slurm::laws::one_reading", "slurm::laws::applied_twice"]),
 ]
 
 

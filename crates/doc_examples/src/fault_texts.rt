@@ -1,14 +1,17 @@
 //! What is printed for a fault ends with the number by which it is known.
 
 use der_lite::DerFaultKind;
+use exports::{EntryFault, ExportFault};
 use feed::FeedFault;
 use payload_lists::ListFault;
 use payloads::GrammarFaultKind;
 use points::PointFault;
 use prefixes::PrefixFault;
+use rtr_commands::AnswerFault;
 use rtr_ends::{AskFault, StreamFault, TimingFault};
 use rtr_pdu::{ReadFault, UnitFault};
 use rtr_world::{CatchFault, WorldFault};
+use slurm::{EntryFault as ExceptionFault, SlurmArray, SlurmFault, SlurmObject};
 use std::alloc::Global;
 use std::fmt::Display;
 use std::test::Fail;
@@ -102,6 +105,40 @@ fn faults_of_prefixes_and_sets(rt: HostRuntime) -> Result<(), Fail> {
 }
 
 #[test]
+fn faults_of_exports_and_exceptions(rt: HostRuntime) -> Result<(), Fail> {
+    for fault in [
+        ExportFault::NotJson,
+        ExportFault::NoRoas,
+        ExportFault::Entry(3, EntryFault::Expires),
+        ExportFault::TooMany,
+        ExportFault::Memory,
+    ] {
+        assert!(rt; tells(rt.alloc(), &fault, "fault", fault.number())?);
+    }
+    for fault in [
+        SlurmFault::NotJson,
+        SlurmFault::Members(SlurmObject::Filters),
+        SlurmFault::Version,
+        SlurmFault::NoArray(SlurmArray::BgpsecFilters),
+        SlurmFault::TooMany,
+        SlurmFault::Memory,
+    ] {
+        assert!(rt; tells(rt.alloc(), &fault, "fault", fault.number())?);
+    }
+    let fault = SlurmFault::Entry(SlurmArray::PrefixFilters, 7, ExceptionFault::NeitherKey);
+    assert!(rt;
+        format!(in rt.alloc(); "{fault}")?.as_str()
+            == "prefixFilters[7]: neither prefix nor asn (fault 5)"
+    );
+    let fault = ExportFault::Entry(3, EntryFault::Asn);
+    assert!(rt;
+        format!(in rt.alloc(); "{fault}")?.as_str()
+            == "entry 3 of roas cannot be read: asn is no AS number (fault 3)"
+    );
+    Ok(())
+}
+
+#[test]
 fn faults_of_the_protocol(rt: HostRuntime) -> Result<(), Fail> {
     for fault in [
         UnitFault::Version,
@@ -128,6 +165,9 @@ fn faults_of_the_protocol(rt: HostRuntime) -> Result<(), Fail> {
         (2, TimingFault::ExpireTooSmall),
     ] {
         assert!(rt; tells(rt.alloc(), &fault, "fault", number)?);
+    }
+    for fault in [AnswerFault::BadHex, AnswerFault::Memory] {
+        assert!(rt; tells(rt.alloc(), &fault, "fault", fault.number())?);
     }
     for (number, fault) in [(1, AskFault::Busy), (2, AskFault::NotConnected)] {
         assert!(rt; tells(rt.alloc(), &fault, "fault", number)?);

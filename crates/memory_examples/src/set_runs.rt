@@ -3,7 +3,9 @@ use std::alloc::Global;
 use std::io::Write;
 use std::rc::Rc;
 use std::test::Fail;
-use vrps::{Change, Gathered, Published, Serial, SetFault, Since, VersionLog, VersionStore, VrpSet};
+use vrps::{
+    Change, Gathered, Published, Serial, SetFault, Since, VersionLog, VersionStore, VrpSet,
+};
 
 #[test]
 fn duplicate_a_set(rt: HostRuntime) -> Result<(), Fail> {

@@ -238,7 +238,14 @@ const GATHERED: &[&[(Row, bool)]] = &[
     &[],
     &[(V, true), (V, false), (X, true), (Y, true), (X, false)],
     &[(Y, true), (Z, true), (Y, false), (Z, false), (W, true)],
-    &[(V, true), (X, true), (Z, true), (V, false), (Z, false), (Y, true)],
+    &[
+        (V, true),
+        (X, true),
+        (Z, true),
+        (V, false),
+        (Z, false),
+        (Y, true),
+    ],
 ];
 
 /// Whether records that come one by one are new where it is said so, are found from then on, and are the same set at the end.
