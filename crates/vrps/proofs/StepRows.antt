@@ -1,6 +1,9 @@
 -- Steps of a log and the groups of records, worked out.
-use Rattle.std.proofs.Common.{◌≡◌, ℕ, List, [], ◌∷◌, Option, Some, None, refl}
+use Rattle.std.proofs.Common.{◌≡◌, ℕ, List, [], ◌∷◌, Option, Some, None, Err, refl}
+use Rattle.std.specs.declared.alloc.AllocError.{AllocError}
 use Rattle.vrps.specs.Change.{between}
+use Rattle.vrps.specs.Instance.{Instance}
+use Rattle.vrps.specs.Stores.{Publishes}
 use Rattle.vrps.specs.Steps.{kept_step}
 use Rattle.vrps.specs.Search.{digit_count}
 use Rattle.vrps.specs.SetFaults.{set_fault_number, path_fault_number}
@@ -37,3 +40,11 @@ digits = (refl, refl, refl, refl, refl)
 
 numbers : (set_fault_number TooMany ≡ 1) × (set_fault_number Memory ≡ 2) × (path_fault_number EmptySequence ≡ 1)
 numbers = (refl, refl, refl)
+
+-- Without memory nothing is published: the store holds the instance that it held.
+unpublished : (error : AllocError) (set : VrpSet) (i : Instance) → Publishes {S = Unit {0}} (λ j store. j ≡ i) (Err error) set i tt
+unpublished error set i = refl
+
+-- and not anything
+unpublished_alone : (error : AllocError) (set : VrpSet) (i : Instance) → ¬ (Publishes {S = Unit {0}} (λ j store. ⊥) (Err error) set i tt)
+unpublished_alone error set i stands = stands
