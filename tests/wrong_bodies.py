@@ -94,6 +94,18 @@ def heads_in(crate, path):
         yield it.start(), f"{crate.name}::{home}{owner and owner + '::'}{it[1]}" if it[1] and owner is not None else None
 
 
+def cycles_of(crate):
+    """The cycle of each function that stands in one with others."""
+    found = {}
+    for path in sources(crate):
+        text = text_of(crate, path)
+        for at, name in heads_in(crate, path):
+            cycle = re.search(r"#\[cycle\((\w+)\)\]\s*\Z", text[:at])
+            if name and cycle:
+                found[name] = cycle[1]
+    return found
+
+
 def module_of(path):
     modules = path[len("src/") : -len(".rt")].replace("/", "::")
     return "" if modules in ("lib", "main") else f"{modules}::"
@@ -162,11 +174,12 @@ def with_holes(crate, places, room):
     for part in RT.rtlib.PARTS:
         if os.path.isdir(f"{crate.folder}/{part}"):
             shutil.copytree(f"{crate.folder}/{part}", f"{room}/{part}")
+    cycles = cycles_of(crate)
     for place in {name for path in sources(crate) for _, name in heads_in(crate, path) if name} - places:
         names = place.split("::")[1:]
         folder = "/".join([room, "proofs", *names])
-        # (a function that calls itself is proved in a folder of its cycle, and keeps its proof)
-        if os.path.isdir("/".join([room, "proofs", *names[:-1], f"+{names[-1]}"])):
+        # (a function that calls itself, also by way of others, is proved in a folder of its cycle, and keeps its proof)
+        if os.path.isdir("/".join([room, "proofs", *names[:-1], f"+{cycles.get(place, names[-1])}"])):
             continue
         os.makedirs(folder, exist_ok=True)
         for it in ("Invariants.antt", "Answers.antt"):
