@@ -12,12 +12,15 @@ ghost use Rattle.der_lite.specs.Moments.{is_moment, decimals, decimal_number, mo
 ghost use Rattle.der_lite.specs.Seconds.{seconds_of};
 
 use crate::fault::MomentFault;
-use crate::seconds::{FIRST_YEAR, days_before_month, days_before_year};
+use crate::seconds::{days_before_month, days_before_year};
 use jiff::civil::DateTime;
 use std::cmp::Ordering;
 use std::fmt::{self, Display};
 use std::marker::Model;
 use std::str::{self, FromStr};
+
+/// The first year of moments.
+pub(crate) const FIRST_YEAR: u16 = 1970;
 
 /// How many digits a text has before its `Z`.
 const DIGITS: usize = 14;

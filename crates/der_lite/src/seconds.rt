@@ -4,8 +4,7 @@ ghost use Rattle.std.specs.Prelude.{◌≡◌, ◌<◌, ◌≤◌, ◌-◌, ◌*
 ghost use Rattle.der_lite.specs.Moments.{days_of_month, is_leap};
 ghost use Rattle.der_lite.specs.Seconds.{days_of_months, days_of_year, days_of_years};
 
-/// The first year of moments.
-pub(crate) const FIRST_YEAR: u16 = 1970;
+use crate::moment::FIRST_YEAR;
 
 /// Whether a year has a 29 February: every fourth has, but of the centuries only every fourth.
 fn is_leap(year: u16) -> bool

@@ -1,4 +1,5 @@
--- Steps of reading an export token by token.
+-- Steps of reading an export token by token. What is passed over nests 16 deep at most (`NESTING`), so metadata and entries 17 deep, and
+-- `roas` 18.
 use Rattle.std.specs.Prelude.{◌≡◌, ℕ, ◌≤◌, ◌<◌, List, [], ◌∷◌, length, Option, Some, None, option_map, codes, ⊤, IfSome}
 use Rattle.json.specs.Token.{Token}
 use Rattle.json.specs.Json.{items, members, value}

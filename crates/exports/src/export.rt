@@ -20,7 +20,7 @@ use prefixes::Vrp;
 use serde_json::Value;
 use std::alloc::{AllocError, Global};
 use std::str;
-use vrps::{SetFault, VrpSet};
+use vrps::VrpSet;
 
 /// What a validator exported, at a moment.
 #[derive(Debug, Drop)]
