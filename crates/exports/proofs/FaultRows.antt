@@ -1,9 +1,9 @@
 -- Entries that cannot be read, worked out.
-use Rattle.std.proofs.Common.{◌≡◌, ℕ, ◌<◌, ◌^◌, List, [], ◌∷◌, Some, None, refl, arith, codes, lit<}
-use Rattle.serde_json.specs.Data.{Data, number, string, object, unsigned, no_members, member}
+use Rattle.std.proofs.Common.{◌≡◌, ℕ, ◌<◌, ◌^◌, Some, None, refl, arith, codes, lit<}
+use Rattle.serde_json.specs.Data.{number, object, unsigned, no_members, member}
 use Rattle.prefixes.proofs.Decimals.{begins}
 use Rattle.std.specs.Fmt.{decimal}
-use Rattle.exports.specs.Entry.{AsnText, SaysAsn, SaysExpiry, SaysFault, Said, said}
+use Rattle.exports.specs.Entry.{AsnText, SaysExpiry, SaysFault, Said, said}
 use Rattle.exports.specs.declared.fault.EntryFault.TheVariants as faults
 use Rattle.exports.proofs.Texts.{none_after}
 

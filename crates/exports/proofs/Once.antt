@@ -1,10 +1,9 @@
 -- What an entry lists, and what is wrong with it, is one thing.
-use Rattle.std.proofs.Common.{◌≡◌, ℕ, zero, suc, ◌<◌, ◌≤◌, ◌^◌, ◌++◌, Bool, true, false, List, [], ◌∷◌, Option, Some, None, refl, sym, ap, ap₂, subst, ◌∙◌, inl, inr, arith, codes, map}
+use Rattle.std.proofs.Common.{◌≡◌, ℕ, zero, suc, ◌<◌, ◌^◌, ◌++◌, Bool, true, false, List, [], ◌∷◌, Option, Some, None, refl, sym, ap, ap₂, subst, ◌∙◌, inl, inr, arith, codes}
 use Rattle.std.specs.Fmt.{decimal}
 use Rattle.std.proofs.lemmas.Fmt.{decimal_injective}
 use Rattle.prefixes.proofs.Decimals.{decimal_lacks}
 use Rattle.prefixes.proofs.Lacks.{Lacks}
-use Rattle.prefixes.specs.Payload.{Payload, block_of, width_of}
 use Rattle.prefixes.specs.Text.{OneReading, Says}
 use Rattle.prefixes.specs.declared.prefix.IpPrefix.{IpPrefix}
 use Rattle.serde_json.specs.Data.{Data, Items, no_items, item}

@@ -1,6 +1,6 @@
 -- What bytes are is one thing: an export, or of one fault.
-use Rattle.std.proofs.Common.{◌≡◌, ℕ, ◌<◌, ◌≤◌, List, [], ◌∷◌, Option, Some, None, refl, sym, ap, ap₂, subst, ◌∙◌, inl, inr, arith, codes, map}
-use Rattle.der_lite.specs.Moments.{CivilMoment, is_moment, moment_of, moment_text}
+use Rattle.std.proofs.Common.{◌≡◌, ℕ, List, Option, Some, None, refl, sym, ap, ap₂, subst, ◌∙◌, inl, inr, arith, map}
+use Rattle.der_lite.specs.Moments.{CivilMoment, moment_of}
 use Rattle.der_lite.specs.Seconds.{seconds_of}
 use Rattle.der_lite.proofs.MomentLaws.{text_said}
 use Rattle.prefixes.specs.Text.{OneReading}
@@ -20,7 +20,7 @@ use Rattle.exports.specs.declared.fault.EntryFault.{EntryFault}
 use Rattle.exports.specs.declared.fault.ExportFault.{ExportFault}
 use Rattle.exports.specs.declared.fault.ExportFault.TheVariants.{NotJson, NoRoas, Entry, TooMany, Memory}
 use Rattle.exports.proofs.Once.{none_fails, one_entries, one_fails}
-use Rattle.exports.proofs.Times.{plain, plain_time}
+use Rattle.exports.proofs.Times.{plain_time}
 
 one_value : (bytes : List ℕ) (d e : Data) → Reads bytes d → Reads bytes e → d ≡ e
 one_value bytes d e h k = one_some d e (json.read bytes) h.1 k.1

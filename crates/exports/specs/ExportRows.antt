@@ -1,8 +1,8 @@
 -- Exports, worked out.
-use Rattle.std.specs.Prelude.{◌≡◌, ℕ, List, [], ◌∷◌, true, false, Option, Some, None, option_and_then, option_map, codes, refl}
+use Rattle.std.specs.Prelude.{◌≡◌, ℕ, List, [], ◌∷◌, true, false, Option, Some, None, option_and_then, codes, refl}
 use Rattle.std.specs.Fmt.{digits}
 use Rattle.std.proofs.Common.{inl, inr, lit<}
-use Rattle.serde_json.specs.Data.{Data, null, number, string, array, object, unsigned, no_items, item, no_members, member}
+use Rattle.serde_json.specs.Data.{Data, null, number, string, object, unsigned, no_items, item, no_members, member}
 use Rattle.serde_json.specs.Read as json
 use Rattle.serde_json.proofs.OnLiterals.{serde_json_on_literals}
 use Rattle.der_lite.specs.Moments.{told_moment, is_moment}
