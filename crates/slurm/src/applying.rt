@@ -6,7 +6,7 @@ ghost use Rattle.vrps.specs.VrpSet.{listing, set_of, size};
 ghost use Rattle.slurm.specs.Exceptions.{IsExcepted, excepted, exceptions_of, is_filtered};
 
 use crate::filter::{PrefixFilter, Slurm};
-use crate::index::{Covering, Index};
+use crate::index::{Index, add_up_to, keep_covering};
 use prefixes::Vrp;
 use std::alloc::{AllocError, Global};
 use vrps::{Change, SetFault, VrpSet};
@@ -37,8 +37,8 @@ fn filtered(
     let mut matched = Vec::new(alloc);
     for vrp in records {
         let prefix = vrp.prefix();
-        next = Covering::add_up_to(&mut opened, index.by_prefix.as_slice(), next, &prefix)?;
-        Covering::keep_covering(&mut opened, &prefix);
+        next = add_up_to(&mut opened, index.by_prefix.as_slice(), next, &prefix)?;
+        keep_covering(&mut opened, &prefix);
         push_if(&mut matched, vrp, index.is_hit(opened.as_slice(), vrp))?;
     }
     Ok(matched)

@@ -1,7 +1,0 @@
-use Rattle.std.proofs.Common.{rules}
-use Rattle.std.proofs.lemmas.Fn.{filter_same}
-use Rattle.prefixes.specs.Payload.{covers}
-use Rattle.slurm.proofs.index.Covering.keep_covering.Goals as goal
-
-pub returns : goal.returns
-returns c = filter_same _ (λ f. covers f.prefix c.args.prefix.now) _ (λ x b f' h. search rules) _ _ c.retain.ensures.filtered
