@@ -1,5 +1,5 @@
 -- What a stream answered, from call to call.
-use Rattle.std.specs.Prelude.{◌≡◌, ◌⊎◌, ℕ, ◌+◌, ◌<◌, ◌≤◌, ◌==◌, Bool, true, false, List, [], ◌∷◌, ◌++◌, length, Option, Some, None, if◌then◌else◌, refl}
+use Rattle.std.specs.Prelude.{◌≡◌, ℕ, ◌+◌, ◌<◌, ◌≤◌, ◌==◌, Bool, true, false, List, [], ◌∷◌, ◌++◌, length, Option, Some, None, if◌then◌else◌, refl}
 use Rattle.std.proofs.Common.{sym, ap, ◌∙◌, subst, arith, append_assoc, inl, inr}
 use Rattle.std.proofs.lemmas.List.{length-append}
 use Rattle.prefixes.proofs.Basics.{eq_of}
@@ -7,7 +7,6 @@ use Rattle.rtr_server.specs.Streams.{Logged}
 use Rattle.rtr_server.specs.Turns.{AnswersStep, AnswersTurn, FitsBudget, LastIs, StepTold, ToldSo, after_read, after_write}
 use Rattle.rtr_server.specs.declared.stream.Moved.{Moved}
 use Rattle.rtr_server.specs.declared.stream.Moved.TheVariants.{Bytes, Waits, Interrupted, Failed}
-use Rattle.rtr_server.specs.declared.turn.Gone.{Gone as Way}
 use Rattle.rtr_server.specs.declared.turn.Gone.TheVariants.{CacheEnded, PeerClosed, ReadFailed, Truncated, WriteFailed}
 use Rattle.rtr_server.specs.declared.turn.Turn.{Turn}
 use Rattle.rtr_server.specs.declared.turn.Turn.TheVariants.{Busy, Gone, WaitsToRead, WaitsToWrite}

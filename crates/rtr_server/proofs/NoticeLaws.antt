@@ -7,17 +7,16 @@ use Rattle.std.specs.Io.KnownBytes.{Consumes}
 use Rattle.vrps.specs.Instance.{Instance}
 use Rattle.vrps.specs.Store.{is_current, published}
 use Rattle.vrps.specs.Stores as stores
-use Rattle.vrps.specs.VrpSet.{IsVrpSet, VrpSet}
+use Rattle.vrps.specs.VrpSet.{VrpSet}
 use Rattle.vrps.specs.declared.serial.Serial.{Serial}
 use Rattle.vrps.specs.declared.store.Published.{Published as Outcome}
-use Rattle.vrps.specs.declared.store.Published.TheVariants.{New, Unchanged}
-use Rattle.rtr_ends.specs.Cache.{Conn, Notifies, Publishes, conn_notified, serve}
-use Rattle.rtr_ends.specs.CacheState.{CacheCall, CacheState, IsCacheCall, Life, Notify, Publish, ShowsCache, can_notify_at, life, notified, ran, serves, with_conn}
+use Rattle.vrps.specs.declared.store.Published.TheVariants.{New}
+use Rattle.rtr_ends.specs.Cache.{Notifies, Publishes, conn_notified}
+use Rattle.rtr_ends.specs.CacheState.{CacheCall, CacheState, IsCacheCall, Life, Notify, Publish, ShowsCache, can_notify_at, life, notified, ran, serves}
 use Rattle.rtr_ends.specs.declared.cache.Cache.{Cache}
-use Rattle.prefixes.proofs.Basics.{eq_of, eq_self, eq_true, not_eq_of}
-use Rattle.rtr_server.specs.Clients.{IsNotice, KeepsOthers, NotifiesAt, NotifiesBelow, OwesSo, Past, PublishesNew, PublishesSo, ShowsClient, ShowsServer, awaits, can_be_sent, can_be_told_of, clients_in, made, notified_below, notified_one, present, slot_at}
-use Rattle.rtr_server.specs.Turns.{Flow, capped, client_of}
-use Rattle.rtr_server.specs.declared.server.Server.{Server}
+use Rattle.prefixes.proofs.Basics.{eq_of, eq_true}
+use Rattle.rtr_server.specs.Clients.{IsNotice, KeepsOthers, NotifiesAt, NotifiesBelow, OwesSo, Past, PublishesSo, ShowsClient, awaits, can_be_sent, can_be_told_of, made, notified_below, notified_one, present, slot_at}
+use Rattle.rtr_server.specs.Turns.{capped}
 use Rattle.rtr_server.specs.declared.turn.Slot.{Slot}
 
 module _ {S T A : Type 0} (holds : ℕ → Instance → S → Type 0) (start : List (Option (Box (Slot T) A))) (first : Cache S) where

@@ -1,27 +1,25 @@
 -- What led to a server, from call to call.
-use Rattle.std.specs.Prelude.{◌≡◌, ℕ, ◌+◌, ◌<◌, ◌≤◌, ◌==◌, Bool, true, false, not, ◌&&◌, List, [], ◌∷◌, ◌++◌, Box, Option, Some, None, Result, Ok, Err, IfSome, length, option_map, if◌then◌else◌, refl}
-use Rattle.std.proofs.Common.{zero, suc, sym, ap, ◌∙◌, subst, arith}
+use Rattle.std.specs.Prelude.{◌≡◌, ℕ, ◌+◌, ◌<◌, ◌==◌, Bool, true, false, not, ◌&&◌, List, [], ◌∷◌, ◌++◌, Option, Some, None, Result, Ok, Err, IfSome, length, option_map, if◌then◌else◌, refl}
+use Rattle.std.proofs.Common.{sym, ap, ◌∙◌, subst, arith}
 use Rattle.std.specs.List.{AllByRecursion}
 use Rattle.std.proofs.KnownBytes.{Appends-nil, Consumes-nil}
-use Rattle.vrps.specs.Instance.{Instance, IsInstance}
+use Rattle.vrps.specs.Instance.{Instance}
 use Rattle.vrps.specs.Serial.{serial_at}
 use Rattle.vrps.specs.Store.{is_current, published}
-use Rattle.vrps.specs.Stores as stores
 use Rattle.vrps.specs.VrpSet.{IsVrpSet, VrpSet}
-use Rattle.vrps.specs.declared.serial.Serial.{Serial}
 use Rattle.vrps.specs.declared.store.Published.{Published}
 use Rattle.vrps.specs.declared.store.Published.TheVariants.{New, Unchanged}
 use Rattle.std.specs.declared.alloc.AllocError.{AllocError}
-use Rattle.rtr_ends.specs.Cache.{Conn, ConnCall, Gives, IsServed, Notifies as Notified, Serving, Takes, can_notify, conn_notified, conn_pulled, conn_takes, new_conn, serve, serving}
-use Rattle.rtr_ends.specs.CacheState.{CacheCall, CacheState, Close, IsCacheCall, IsLeastFree, Life, Notify, Open, Publish, Pull, Receive, ShowsCache, ShowsSlot, can_notify_at, life, peer_at, ran, serves, with_conn, without_conns}
+use Rattle.rtr_ends.specs.Cache.{Conn, ConnCall, Gives, IsServed, Notifies as Notified, Serving, Takes, conn_notified, conn_pulled, conn_takes, new_conn, serve, serving}
+use Rattle.rtr_ends.specs.CacheState.{CacheCall, CacheState, Close, IsCacheCall, IsLeastFree, Life, Notify, Pull, Receive, ShowsCache, ShowsSlot, can_notify_at, life, peer_at, ran, serves, with_conn}
 use Rattle.rtr_ends.specs.Timing.{Intervals}
 use Rattle.rtr_ends.specs.declared.cache.Cache.{Cache}
 use Rattle.rtr_ends.specs.declared.cache.Conn.{Conn as Number}
 use Rattle.rtr_ends.proofs.CacheStateLaws.{with_conn_at}
 use Rattle.rtr_ends.proofs.LifeLaws.{each_is_served}
 use Rattle.prefixes.proofs.Basics.{eq_of, eq_self, not_eq_of}
-use Rattle.rtr_server.specs.Clients.{Admits, Becomes, Begun, ClientIsServed, EachClientIsServed, GoesOnAfter, IsCounted, IsOn, KeepsAll, KeepsOthers, Leaves, NotifiesBelow, OwesSo, Past, PublishesNew, PublishesSo, PublishesTo, Serves, ShowsClient, ShowsServer, Turned, and_calls, awaits, can_be_sent, can_be_told_of, clients_in, made, notified_below, present, slot_at}
-use Rattle.rtr_server.specs.Turns.{Anyhow, ClientState, ClientStep, EndsSo, Flow, Goes, GoesFrom, HandsIn, HasRoom, MaySteps, Notifies, Pulls, Reads, StandsSo, Writes, and_read, client_after, client_of, steps_after}
+use Rattle.rtr_server.specs.Clients.{Admits, Becomes, ClientIsServed, EachClientIsServed, GoesOnAfter, IsCounted, IsOn, KeepsAll, KeepsOthers, Leaves, OwesSo, Past, PublishesNew, PublishesSo, PublishesTo, Serves, ShowsClient, ShowsServer, Turned, and_calls, awaits, can_be_sent, clients_in, made, notified_below, present, slot_at}
+use Rattle.rtr_server.specs.Turns.{Anyhow, ClientState, ClientStep, EndsSo, Flow, GoesFrom, HandsIn, HasRoom, MaySteps, Notifies, Pulls, Reads, StandsSo, Writes, and_read, client_after, client_of, steps_after}
 use Rattle.rtr_server.specs.declared.server.Server.{Server}
 use Rattle.rtr_server.specs.declared.stream.Moved.{Moved}
 use Rattle.rtr_server.specs.declared.turn.Carried.{Carried}

@@ -1,5 +1,5 @@
 -- The places of clients, and how many of them are taken.
-use Rattle.std.specs.Prelude.{◌≡◌, ◌⊎◌, ℕ, zero, suc, ◌+◌, ◌<◌, ◌≤◌, Bool, true, false, cond, List, [], ◌∷◌, ◌++◌, Box, Option, Some, None, is_some, length, slice_get, slice_set, refl}
+use Rattle.std.specs.Prelude.{◌≡◌, ℕ, zero, suc, ◌+◌, ◌<◌, true, cond, List, [], ◌∷◌, ◌++◌, Box, Option, Some, None, is_some, length, slice_set, refl}
 use Rattle.std.proofs.Common.{sym, ap, ◌∙◌, subst, arith, get_or}
 use Rattle.std.proofs.lemmas.List.Sums.{sum_by-set, sum_by_push}
 use Rattle.std.proofs.lemmas.Option.{slice_get-get_or}
@@ -8,7 +8,7 @@ use Rattle.rtr_ends.specs.CacheState.{CacheState, ShowsCache, joined, with_conn}
 use Rattle.rtr_ends.specs.declared.cache.Cache.{Cache}
 use Rattle.rtr_ends.proofs.TableLaws.{false_true}
 use Rattle.prefixes.proofs.Basics.{set_same}
-use Rattle.rtr_server.specs.Clients.{Becomes, KeepsAll, Leaves, Serves, TakesTurn, Turned, clients_in, is_gone, slot_at, slot_value}
+use Rattle.rtr_server.specs.Clients.{KeepsAll, Serves, TakesTurn, Turned, clients_in, is_gone, slot_at, slot_value}
 use Rattle.rtr_server.specs.declared.stream.Moved.{Moved}
 use Rattle.rtr_server.specs.declared.turn.Slot.{Slot}
 use Rattle.rtr_server.specs.declared.turn.Turn.{Turn}

@@ -1,6 +1,6 @@
 -- One client, from step to step.
-use Rattle.std.specs.Prelude.{◌≡◌, ◌⊎◌, ℕ, ◌+◌, ◌-◌, ◌<◌, ◌≤◌, ◌==◌, Bool, true, false, not, ◌&&◌, List, [], ◌∷◌, ◌++◌, length, take, drop, min, Option, Some, None, IfSome, option_map, if◌then◌else◌, refl}
-use Rattle.std.proofs.Common.{zero, suc, sym, ap, ◌∙◌, subst, arith, append_assoc, inl, inr}
+use Rattle.std.specs.Prelude.{◌≡◌, ℕ, ◌+◌, ◌-◌, ◌<◌, ◌≤◌, ◌==◌, Bool, true, false, not, ◌&&◌, List, [], ◌∷◌, ◌++◌, length, take, drop, min, Option, Some, None, IfSome, option_map, if◌then◌else◌, refl}
+use Rattle.std.proofs.Common.{zero, suc, sym, ap, ◌∙◌, subst, arith, append_assoc}
 use Rattle.std.proofs.lemmas.List.{append-nil, length-append, length-drop, length-take, length-take-le, take-append-drop}
 use Rattle.std.specs.Io.KnownBytes.{Consumes, IsAtEnd, Keeps}
 use Rattle.std.proofs.KnownBytes.{Appends-kept, Appends-trans, Consumes-kept, Consumes-trans}
@@ -18,16 +18,15 @@ use Rattle.rtr_ends.proofs.CacheStateLaws.{with_conn_at}
 use Rattle.rtr_ends.proofs.ServeStreamLaws.{drop_none, none_taken, pulled_is}
 use Rattle.rtr_ends.proofs.TableLaws.{false_true}
 use Rattle.prefixes.proofs.Basics.{eq_of}
-use Rattle.rtr_server.specs.Streams.{EmptiesSo, FillsSo, Logged, PullsInto, moved_count}
-use Rattle.rtr_server.specs.Turns.{AnswersStep, AnswersTurn, Anyhow, ClientState, ClientStep, EndsSo, FitsBudget, Flow, Goes, GoesFrom, GoesOrEnds, HandsIn, HasRoom, IsIdle, IsOver, IsSettled, IsToWrite, IsWanted, LastIs, MaySettle, MayStep, MaySteps, NoneDue, Notifies, Pulls, Reads, StandsSo, StepTold, ToldSo, Writes, WritesFrom, and_read, and_written, after_read, after_write, can_be_told, capped, client_after, client_of, client_wrote, consumed_of, settles, steps_after}
+use Rattle.rtr_server.specs.Streams.{EmptiesSo, FillsSo, PullsInto, moved_count}
+use Rattle.rtr_server.specs.Turns.{Anyhow, ClientState, ClientStep, EndsSo, Flow, Goes, GoesFrom, GoesOrEnds, HandsIn, HasRoom, IsIdle, IsOver, IsSettled, IsToWrite, MaySettle, MayStep, MaySteps, NoneDue, Notifies, Pulls, Reads, StandsSo, Writes, WritesFrom, and_read, and_written, after_read, after_write, can_be_told, capped, client_after, client_of, consumed_of, settles, steps_after}
 use Rattle.rtr_server.specs.declared.stream.Moved.{Moved}
 use Rattle.rtr_server.specs.declared.stream.Moved.TheVariants.{Bytes, Waits, Interrupted, Failed}
 use Rattle.rtr_server.specs.declared.turn.Carried.{Carried}
-use Rattle.rtr_server.specs.declared.turn.Gone.{Gone as Way}
-use Rattle.rtr_server.specs.declared.turn.Gone.TheVariants.{CacheEnded, PeerClosed, ReadFailed, Truncated, WriteFailed}
+use Rattle.rtr_server.specs.declared.turn.Gone.TheVariants.{PeerClosed, Truncated, WriteFailed}
 use Rattle.rtr_server.specs.declared.turn.Slot.{Slot}
 use Rattle.rtr_server.specs.declared.turn.Turn.{Turn}
-use Rattle.rtr_server.specs.declared.turn.Turn.TheVariants.{Busy, Gone, WaitsToRead, WaitsToWrite}
+use Rattle.rtr_server.specs.declared.turn.Turn.TheVariants.{Gone}
 
 -- steps after steps
 pub after_both : (keep : ℕ) (t : Intervals) (more steps : List ClientStep) (s : ClientState) → steps_after keep t (more ++ steps) s ≡ steps_after keep t more (steps_after keep t steps s)

@@ -6,7 +6,7 @@ use Rattle.rtr_ends.specs.CacheState.{CacheCall, CacheState, Close, Notify, Open
 use Rattle.rtr_ends.specs.Timing.{Intervals}
 use Rattle.rtr_server.specs.Clients.{admit_fault_number, awaits}
 use Rattle.rtr_server.specs.Streams.{moved_by}
-use Rattle.rtr_server.specs.Turns.{Reads, ToldSo, Writes, FitsBudget, after_read, after_write, client_after, steps_after}
+use Rattle.rtr_server.specs.Turns.{Reads, ToldSo, Writes, FitsBudget, after_read, after_write, steps_after}
 use Rattle.rtr_server.specs.declared.server.AdmitFault.TheVariants as faults
 use Rattle.rtr_server.specs.declared.stream.Moved.TheVariants.{Bytes, Waits, Interrupted, Failed}
 use Rattle.rtr_server.specs.declared.turn.Gone.TheVariants.{PeerClosed, ReadFailed, Truncated, WriteFailed}

@@ -17,7 +17,6 @@ use Rattle.rtr_server.specs.Streams.{Logged}
 use Rattle.rtr_server.specs.declared.stream.Moved.{Moved}
 use Rattle.rtr_server.specs.declared.stream.Moved.TheVariants.{Bytes, Waits, Interrupted, Failed}
 use Rattle.rtr_server.specs.declared.turn.Carried.{Carried}
-use Rattle.rtr_server.specs.declared.turn.Gone.{Gone as Way}
 use Rattle.rtr_server.specs.declared.turn.Gone.TheVariants.{CacheEnded, PeerClosed, ReadFailed, Truncated, WriteFailed}
 use Rattle.rtr_server.specs.declared.turn.Next.{Next}
 use Rattle.rtr_server.specs.declared.turn.Next.TheVariants.{Nothing, Read, Write}

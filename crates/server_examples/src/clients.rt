@@ -5,7 +5,8 @@ use crate::lines::{
 use example_values::hex::bytes;
 use example_values::sets::V;
 use example_values::units::{ANSWER, RESET_QUERY};
-use rtr_server::{AdmitFault, Client, Gone, Server, Turn};
+use rtr_pdu::Version;
+use rtr_server::{AdmitFault, Carried, Client, Gone, Server, Turn};
 use std::alloc::Global;
 use std::io::ErrorKind;
 use std::process::Abort;
@@ -101,8 +102,15 @@ fn clients_come_and_go(rt: HostRuntime) -> Result<(), Fail> {
     let again = admitted(&mut server, line(alloc, query.as_slice(), PLAIN, &out)?)?;
     assert!(rt; again == first && server.clients() == 2);
     assert!(rt; server.serve(second, 0) == Some(Turn::Busy));
+    assert!(rt; server.version(second).is_none());
     assert!(rt; server.serve(second, 99) == Some(Turn::WaitsToRead));
     assert!(rt; is_list(&out, bytes(ANSWER).as_slice()));
+    assert!(rt; server.version(second) == Some(Version::V1));
+    let carried = Carried {
+        read: 8,
+        written: 52,
+    };
+    assert!(rt; server.carried(second) == Some(carried));
     Ok(())
 }
 

@@ -1,6 +1,5 @@
-use Rattle.std.proofs.Common.{◌≡◌, ◌∙◌, ◌+◌, ap, subst, sym, None, Some}
-use Rattle.std.specs.Prelude.{slice_set}
-use Rattle.rtr_server.specs.Clients.{clients_in, slot_at}
+use Rattle.std.proofs.Common.{◌∙◌, ◌+◌, ap}
+use Rattle.rtr_server.specs.Clients.{slot_at}
 use Rattle.rtr_server.proofs.PlaceLaws as laws
 use Rattle.rtr_server.proofs.server.put_at.Goals as goal
 

@@ -1,7 +1,7 @@
-use Rattle.std.proofs.Common.{◌≡◌, ◌∙◌, ap, sym, refl, not}
+use Rattle.std.proofs.Common.{◌≡◌, ◌∙◌, sym, refl, not}
 use Rattle.prefixes.proofs.Basics.{false_of_not, true_of_not}
 use Rattle.rtr_ends.proofs.TableLaws.{false_true}
-use Rattle.rtr_server.specs.Turns.{Anyhow, ClientState, IsIdle, IsOver, IsSettled, IsToWrite, MaySettle}
+use Rattle.rtr_server.specs.Turns.{Anyhow, IsIdle, IsOver, IsSettled, IsToWrite, MaySettle}
 use Rattle.rtr_server.proofs.TurnLaws as laws
 use Rattle.rtr_server.proofs.turn.Slot.prepare.Goals as goal
 

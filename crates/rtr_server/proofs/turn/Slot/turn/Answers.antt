@@ -1,4 +1,4 @@
-use Rattle.std.proofs.Common.{◌∙◌, Some, None, arith, refl}
+use Rattle.std.proofs.Common.{◌∙◌, arith, refl}
 use Rattle.rtr_server.specs.Turns.{Anyhow, EndsSo, GoesOrEnds}
 use Rattle.rtr_server.proofs.AnswerLogs as logs
 use Rattle.rtr_server.proofs.TurnLaws as laws
