@@ -10,6 +10,7 @@ use prefixes::PrefixFault;
 use rtr_commands::AnswerFault;
 use rtr_ends::{AskFault, StreamFault, TimingFault};
 use rtr_pdu::{ReadFault, UnitFault};
+use rtr_server::AdmitFault;
 use rtr_world::{CatchFault, WorldFault};
 use slurm::{EntryFault as ExceptionFault, SlurmArray, SlurmFault, SlurmObject};
 use std::alloc::Global;
@@ -158,6 +159,9 @@ fn faults_of_the_protocol(rt: HostRuntime) -> Result<(), Fail> {
         (2, StreamFault::WriteFailed),
         (3, StreamFault::Memory),
     ] {
+        assert!(rt; tells(rt.alloc(), &fault, "fault", number)?);
+    }
+    for (number, fault) in [(1, AdmitFault::TooManyClients), (2, AdmitFault::Memory)] {
         assert!(rt; tells(rt.alloc(), &fault, "fault", number)?);
     }
     for (number, fault) in [

@@ -30,6 +30,8 @@ mod rtr_ends_example;
 #[cfg(test)]
 mod rtr_pdu_example;
 #[cfg(test)]
+mod rtr_server_example;
+#[cfg(test)]
 mod rtr_world_example;
 #[cfg(test)]
 mod slurm_example;

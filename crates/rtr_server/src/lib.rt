@@ -1,4 +1,25 @@
 //! One cache (RFC 6810, RFC 8210) and many routers, over streams that do not wait.
+//!
+//! For example, where `rt` is the runtime that `main` is handed:
+//!
+//! ```rust
+//! use rtr_ends::{Cache, Timing};
+//! use rtr_server::{Duplex, Gone, Server, Turn};
+//! use vrps::{VersionLog, VrpSet};
+//!
+//! let store = VersionLog::new(rt.alloc(), 4660, 5, 16)?;
+//! let mut cache = Cache::new(rt.alloc(), store, Timing::default());
+//! cache.publish(VrpSet::empty(rt.alloc()))?;
+//! let mut server = Server::new(rt.alloc(), cache, 256);
+//! let query: &[u8] = &[1, 2, 0, 0, 0, 0, 0, 8];
+//! let output = Vec::new(rt.alloc());
+//! let client = server.admit(Duplex {
+//!     input: query,
+//!     output,
+//! })?;
+//! assert!(rt; server.serve(client, 64) == Some(Turn::Gone(Gone::PeerClosed)));
+//! assert!(rt; server.clients() == 0);
+//! ```
 #![tactic(auto)]
 
 pub mod laws;
