@@ -1,0 +1,45 @@
+//! What comes of the cases in a file: `tests/exports.py` makes them at random, and compares this with what it reads itself.
+use exports::read_export;
+use payload_lists::write_list;
+use std::alloc::Global;
+use std::io::Write;
+use std::test::Fail;
+use std::{fs, io, str};
+
+/// The file, in the folder where the tests run: on each line a moment, a blank, and a text in hexadecimal digits.
+const CASES: &str = "exports.cases";
+
+/// What comes of a text at a moment: how many entries have expired, when it was made and the payload list; or the fault and its text.
+fn outcome(alloc: Global, now: u64, text: &[u8]) -> Result<String, Fail> {
+    match read_export(alloc, text, now) {
+        Ok(export) => {
+            let list = write_list(alloc, export.set.as_slice())?;
+            let expired = export.expired;
+            match export.built {
+                Some(second) => Ok(format!(in alloc; "{expired} {second} {list}")?),
+                None => Ok(format!(in alloc; "{expired} - {list}")?),
+            }
+        }
+        Err(fault) => Ok(format!(in alloc; "fault {}: {fault}", fault.number())?),
+    }
+}
+
+#[test]
+fn outcomes(rt: HostRuntime) -> Result<(), Fail> {
+    // (the gate itself has no such file)
+    let Ok(mut file) = fs::open(&rt, CASES) else {
+        return Ok(());
+    };
+    let mut bytes = Vec::new(rt.alloc());
+    io::Read::read_to_end(&mut file, &mut bytes)?;
+    let mut out = rt.stdout();
+    for line in str::from_utf8(bytes.as_slice())?.lines() {
+        if let Some((now, digits)) = line.split_once(' ') {
+            let text = hex::decode(rt.alloc(), digits)?;
+            let told = outcome(rt.alloc(), now.parse()?, text.as_slice())?;
+            out.write_all(told.as_bytes())?;
+            out.write_all(b"\n")?;
+        }
+    }
+    Ok(())
+}

@@ -1,0 +1,250 @@
+#!/usr/bin/env python3
+"""Local exceptions at random (RFC 8416), read and applied beside Python's own working out of them.
+
+usage: tests/exceptions.py TESTS [--seed N] [--seconds S]
+
+TESTS is the program of crates/slurm_examples, whose test `cases::outcomes` tells what comes of each SLURM file in a file of cases and of
+the payload list beside it. Prefixes are drawn from a small tree, so that filters cover records, one another, and nothing. It exits with 1
+where an outcome is another, and tells the texts; the seed makes them again."""
+import argparse
+import json
+import os
+import random
+import subprocess
+import sys
+import tempfile
+import time
+
+from exports import Refused, deep, is_whole, number, prefix_of, written
+
+ARRAYS = ["prefixFilters", "bgpsecFilters", "prefixAssertions", "bgpsecAssertions"]
+OBJECTS = ["validationOutputFilters", "locallyAddedAssertions"]
+SAMPLES = os.path.realpath(f"{os.path.dirname(os.path.abspath(__file__))}/../samples")
+
+
+# ---- an independent working out (RFC 8416 sections 3.2 to 3.4)
+
+
+def unless(well, fault, what):
+    if not well:
+        raise Refused(f"fault {fault}: {what} (fault {fault})")
+
+
+def is_of(value, keys):
+    return isinstance(value, dict) and sorted(value) == sorted(keys)
+
+
+def arrays_of(text):
+    """The four arrays of a file."""
+    try:
+        file = json.loads(text.decode("utf-8"), parse_int=number, parse_constant=lambda it: int(it))
+    except ValueError:
+        file = None
+        unless(False, 1, "not JSON")
+    unless(deep(file) <= 127, 1, "not JSON")
+    unless(is_of(file, ["slurmVersion", *OBJECTS]), 2, "the file is no object of exactly its members")
+    unless(is_whole(file["slurmVersion"]) and file["slurmVersion"] == 1, 3, "slurmVersion is not 1")
+    for name, keys in zip(OBJECTS, (ARRAYS[:2], ARRAYS[2:])):
+        unless(is_of(file[name], keys), 2, f"{name} is no object of exactly its members")
+    found = {**file[OBJECTS[0]], **file[OBJECTS[1]]}
+    for name in ARRAYS:
+        unless(isinstance(found[name], list), 4, f"{name} is no array")
+    return [found[name] for name in ARRAYS]
+
+
+def why_not(entry, keys, least):
+    """Why an entry of these keys is none, up to its prefix; of the keys that it must have, one is enough for a filter."""
+    if not isinstance(entry, dict):
+        return "no object"
+    if set(entry) - set(keys):
+        return "a key that is not known"
+    if least == 1 and not {"prefix", "asn"} & set(entry):
+        return "neither prefix nor asn"
+    if ("asn" in entry or least == 2) and not (is_whole(entry.get("asn")) and entry["asn"] < 1 << 32):
+        return "asn is no AS number"
+    if type(entry.get("comment", "")) is not str:
+        return "comment is no text"
+    if ("prefix" in entry or least == 2) and prefix_of(entry.get("prefix")) is None:
+        return "prefix is no prefix"
+    return None
+
+
+def filter_of(entry):
+    return why_not(entry, ["prefix", "asn", "comment"], 1), entry
+
+
+def assertion_of(entry):
+    why, record = why_not(entry, ["asn", "prefix", "maxPrefixLength", "comment"], 2), None
+    if not why:
+        width, bits, length = prefix_of(entry["prefix"])
+        longest = entry.get("maxPrefixLength", length)
+        if is_whole(longest) and length <= longest <= width:
+            record = width, bits, length, longest, entry["asn"]
+        else:
+            why = "maxPrefixLength is no maximum length of the prefix"
+    return why, record
+
+
+def bgpsec_of(entry):
+    return None if isinstance(entry, dict) else "no object", None
+
+
+def values_of(text):
+    """The filters and the assertions of a file."""
+    values = []
+    for name, array, read in zip(ARRAYS, arrays_of(text), (filter_of, bgpsec_of, assertion_of, bgpsec_of)):
+        for index, entry in enumerate(array):
+            why, value = read(entry)
+            unless(not why, 5, f"{name}[{index}]: {why}")
+            values.append((name, value))
+    return [it for name, it in values if name == ARRAYS[0]], {it for name, it in values if name == ARRAYS[2]}
+
+
+def matches(entry, record):
+    """Whether a filter matches a record (RFC 8416 section 3.3.1)."""
+    width, bits, length, _, asn = record
+    if "prefix" in entry:
+        of, base, above = prefix_of(entry["prefix"])
+        if of != width or above > length or bits >> (width - above) != base >> (width - above):
+            return False
+    return entry.get("asn", asn) == asn
+
+
+def outcome(text, records):
+    """What must come of a set with the exceptions of a text."""
+    try:
+        filters, assertions = values_of(text)
+    except Refused as fault:
+        return str(fault)
+    left = {it for it in records if not any(matches(entry, it) for entry in filters)} | assertions
+    return f"[{','.join(map(written, sorted(left)))}]"
+
+
+# ---- cases at random
+
+
+class Maker:
+    """Makes files and sets by chance."""
+
+    def __init__(self, chance):
+        self.chance = chance
+
+    def rarely(self, share=0.03):
+        return self.chance.random() < share
+
+    def record(self):
+        """A record of a small tree of prefixes."""
+        chance = self.chance
+        width, base, first = chance.choice([(32, 0x0A000000, 8), (32, 0xC0000200, 24), (128, 0x20010DB8 << 96, 32)])
+        length = first + chance.randrange(5)
+        bits = base | (chance.getrandbits(length - first) << (width - length) if length > first else 0)
+        return width, bits, length, min(width, length + chance.choice([0, 0, 1, 8])), chance.choice([64496, 64497, 64498, 1])
+
+    def text(self, record):
+        """The text of a record's prefix."""
+        return written(record).split('"prefix":"')[1].removesuffix('"}')
+
+    def other(self):
+        return self.chance.choice([None, True, -1, 1.0, 1 << 32, 1 << 64, "", "64496", "192.0.2.1/24", "192.0.2.0/33", [], {}, 33])
+
+    def entry(self, keys):
+        """An entry of some of these keys, spoiled at times."""
+        record, found = self.record(), {}
+        known = {"prefix": self.text(record), "asn": record[4], "comment": "x", "maxPrefixLength": record[3]}
+        for key, share in keys.items():
+            if self.chance.random() < share:
+                found[key] = known[key]
+        if self.rarely() and found:
+            found[self.chance.choice(sorted(found))] = self.other()
+        if self.rarely(0.01):
+            found["more"] = 1
+        return self.other() if self.rarely(0.01) else found
+
+    def file(self):
+        """A SLURM file, spoiled at times."""
+        chance = self.chance
+        count = lambda: range(chance.choice([0, 1, 2, 5]))
+        half = chance.choice([{"prefix": 1, "asn": 0.4, "comment": 0.3}, {"prefix": 0.3, "asn": 1, "comment": 0.3}])
+        arrays = {
+            "prefixFilters": [self.entry(half) for _ in count()],
+            "bgpsecFilters": [{"asn": 1} if chance.random() < 0.98 else self.other() for _ in count()],
+            "prefixAssertions": [self.entry({"asn": 1, "prefix": 1, "maxPrefixLength": 0.5, "comment": 0.3}) for _ in count()],
+            "bgpsecAssertions": [{} for _ in count()],
+        }
+        file = {"slurmVersion": 1, OBJECTS[0]: {it: arrays[it] for it in ARRAYS[:2]}, OBJECTS[1]: {it: arrays[it] for it in ARRAYS[2:]}}
+        if self.rarely(0.1):
+            place = chance.choice([file, file[OBJECTS[0]], file[OBJECTS[1]]])
+            key = chance.choice([*place, "more"])
+            if chance.random() < 0.3:
+                place.pop(key, None)
+            else:
+                place[key] = self.other()
+        text = json.dumps(file, indent=chance.choice([None, 1])).encode()
+        if self.rarely(0.02):
+            at = chance.randrange(len(text))
+            text = chance.choice([text[:at], text[:at] + b"\xff" + text[at:], text + b"1"])
+        return text
+
+
+def outcomes(program, folder, cases):
+    """What the program tells of these cases."""
+    with open(f"{folder}/exceptions.cases", "w", encoding="ascii") as it:
+        it.writelines(f"{text.hex()} {list_of(records).encode().hex()}\n" for text, records in cases)
+    done = subprocess.run([program, "cases::outcomes"], cwd=folder, stdin=subprocess.DEVNULL, capture_output=True, text=True, timeout=300)
+    return done.stdout.split("\n"), done.returncode
+
+
+def list_of(records):
+    return f"[{','.join(map(written, sorted(records)))}]"
+
+
+def differs(found, status, cases):
+    """Tells the first case of which something else came, if there is one."""
+    for (text, records), answer in zip(cases, found):
+        wanted = outcome(text, records)
+        if answer != wanted:
+            print(f"{text!r}\n  on {list_of(records)}\n  gives {answer}\n  in place of {wanted}")
+            return True
+    if status or len(found) < len(cases):
+        print(f"the program ended with status {status} after {len(found)} of {len(cases)} lines")
+    return bool(status) or len(found) < len(cases)
+
+
+def sample(program, folder):
+    """Tells where the example of RFC 8416 section 3.5 gives another list than the one beside it."""
+    def read(name):
+        with open(f"{SAMPLES}/{name}", "rb") as it:
+            return it.read()
+    records = {(*prefix_of(it["prefix"]), it["maxLength"], it["asn"]) for it in json.loads(read("before-slurm.json"))}
+    found, status = outcomes(program, folder, [(read("slurm.json"), records)])
+    wanted = read("after-slurm.json").decode().strip()
+    if status or found[0] != wanted:
+        print(f"samples/slurm.json gives {found[0]}\n  in place of {wanted}")
+    return bool(status) or found[0] != wanted
+
+
+def main():
+    words = argparse.ArgumentParser()
+    words.add_argument("program")
+    words.add_argument("--seed", type=int, default=1)
+    words.add_argument("--seconds", type=float, default=5)
+    given = words.parse_args()
+    sys.setrecursionlimit(10_000)
+    maker, program = Maker(random.Random(given.seed)), os.path.abspath(given.program)
+    end, tried, taken = time.time() + given.seconds, 0, 0
+    with tempfile.TemporaryDirectory() as folder:
+        if sample(program, folder):
+            return 1
+        while time.time() < end:
+            cases = [(maker.file(), {maker.record() for _ in range(maker.chance.randrange(20))}) for _ in range(500)]
+            found, status = outcomes(program, folder, cases)
+            if differs(found, status, cases):
+                print(f"seed {given.seed}")
+                return 1
+            tried, taken = tried + len(cases), taken + sum(not it.startswith("fault") for it in found[: len(cases)])
+    print(f"{tried} files of exceptions, {taken} taken")
+    return 0
+
+
+if __name__ == "__main__":
+    sys.exit(main())
