@@ -15,7 +15,7 @@ import sys
 import tempfile
 import time
 
-from exports import Refused, deep, is_whole, number, prefix_of, written
+from exports import Chance, Refused, deep, is_whole, number, prefix_of, written
 
 ARRAYS = ["prefixFilters", "bgpsecFilters", "prefixAssertions", "bgpsecAssertions"]
 OBJECTS = ["validationOutputFilters", "locallyAddedAssertions"]
@@ -123,14 +123,8 @@ def outcome(text, records):
 # ---- cases at random
 
 
-class Maker:
+class Maker(Chance):
     """Makes files and sets by chance."""
-
-    def __init__(self, chance):
-        self.chance = chance
-
-    def rarely(self, share=0.03):
-        return self.chance.random() < share
 
     def record(self):
         """A record of a small tree of prefixes."""

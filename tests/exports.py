@@ -174,14 +174,18 @@ def outcome(now, text):
 # ---- cases at random
 
 
-class Maker:
-    """Makes texts by chance."""
+class Chance:
+    """What is made by chance."""
 
     def __init__(self, chance):
         self.chance = chance
 
     def rarely(self, share=0.04):
         return self.chance.random() < share
+
+
+class Maker(Chance):
+    """Makes texts by chance."""
 
     def other(self, depth=0):
         """A value of another kind."""
