@@ -1,0 +1,65 @@
+//! Why words ask for nothing.
+use std::alloc::AllocError;
+use thiserror::Error;
+
+/// What should stand behind an option.
+#[derive(Clone, Copy, Debug, PartialEq, Eq, Error)]
+pub enum Wanted {
+    /// A number between these two, which may be them: in decimal digits, without a sign or a leading zero.
+    #[error("a number from {least} to {most}")]
+    Number {
+        /// The least one.
+        least: u64,
+        /// The greatest one.
+        most: u64,
+    },
+    /// An IP address with a port.
+    #[error("an address with a port, as 192.0.2.1:3323 or [2001:db8::1]:3323,")]
+    Address,
+    /// A form of the log.
+    #[error("text or json")]
+    LogForm,
+}
+
+/// Why words ask for nothing. The text says which option is at fault, what is wrong with its value, and what would be right.
+#[derive(Debug, Drop, Error)]
+pub enum WordsFault {
+    /// A word that no option takes, an option without its value, or one twice that may stand once.
+    #[error("{0}")]
+    Unclear(String),
+    /// The value of an option is not what is wanted.
+    #[error("--{option} {value}: {wanted} is wanted")]
+    Value {
+        /// The option's name.
+        option: &'static str,
+        /// What stands behind it.
+        value: String,
+        /// What should stand there.
+        wanted: Wanted,
+    },
+    /// The expire interval is not longer than both others (RFC 8210 section 6).
+    #[error("--expire {expire}: a number above --refresh ({refresh}) and --retry ({retry}) is wanted")]
+    Expire {
+        /// Seconds until a router drops what it has.
+        expire: u32,
+        /// Seconds until it asks again.
+        refresh: u32,
+        /// Seconds until it tries again.
+        retry: u32,
+    },
+    /// Neither `--vrps` nor `--points` stands there.
+    #[error("at least one of --vrps and --points is wanted, for something to serve")]
+    NoSource,
+    /// `--stop-when-old` stands there without `--max-age`.
+    #[error("--max-age is wanted beside --stop-when-old, as nothing is old without it")]
+    NoAge,
+    /// Out of memory.
+    #[error("out of memory")]
+    Memory,
+}
+
+impl From<AllocError> for WordsFault {
+    fn from(_error: AllocError) -> WordsFault {
+        WordsFault::Memory
+    }
+}

@@ -1,0 +1,72 @@
+//! The help and the version.
+use crate::options::{Choice, Kind, MATTERS};
+use std::alloc::{AllocError, Global};
+
+const HEAD: &str = "\
+rpkirtrd serves validated RPKI payloads to routers over the RTR protocol
+(RFC 8210, and version 0 of it, RFC 6810), from the files that a validator
+writes. It follows these files: a changed one is read again, and routers are
+notified.
+
+Usage: rpkirtrd (--vrps FILE | --points DIR).. [OPTION]..
+";
+
+const TAIL: &str = "
+At least one of --vrps and --points is wanted. A file that cannot be taken at
+the start ends the daemon; later it is reported, and what is served stays.
+
+The daemon keeps nothing on disk. SIGTERM and SIGINT end it, and so does SIGHUP:
+no signal reloads, as the files are followed.
+
+Statuses: 0 the run has ended well; 1 a file was refused; 2 the words are wrong;
+3 a file or a socket failed; 4 out of memory.
+
+Example: a cache for the routers of a network, beside rpki-client, with its
+state at http://127.0.0.1:9323/
+
+  rpkirtrd --vrps /var/db/rpki-client/json --listen [::]:3323 \\
+      --max-age 86400 --status 127.0.0.1:9323
+";
+
+/// The text of `--version`.
+pub(crate) fn version(alloc: Global) -> Result<String, AllocError> {
+    String::from_str(alloc, "rpkirtrd 0.9.0")
+}
+
+fn push_lines(text: &mut String, lines: &[&str]) -> Result<(), AllocError> {
+    for line in lines {
+        write!(text, "      {line}\n")?;
+    }
+    Ok(())
+}
+
+fn push_choice(text: &mut String, choice: &Choice) -> Result<(), AllocError> {
+    text.push_str("  ")?;
+    if let Some(letter) = choice.letter {
+        write!(text, "-{letter}, ")?;
+    }
+    write!(text, "--{}", choice.name)?;
+    if !choice.value.is_empty() {
+        write!(text, " {}", choice.value)?;
+    }
+    text.push_str("\n")?;
+    push_lines(text, choice.help)
+}
+
+fn push_choices(text: &mut String, choices: &[Choice]) -> Result<(), AllocError> {
+    for choice in choices {
+        push_choice(text, choice)?;
+    }
+    Ok(())
+}
+
+/// The text of `--help`, without the newline at its end.
+pub(crate) fn help(alloc: Global) -> Result<String, AllocError> {
+    let mut text = String::from_str(alloc, HEAD)?;
+    for matter in &MATTERS {
+        write!(&mut text, "\n{}\n", matter.title)?;
+        push_choices(&mut text, matter.choices)?;
+    }
+    text.push_str(TAIL)?;
+    Ok(text)
+}

@@ -1,0 +1,294 @@
+//! The options of the command line: one table, from which words are read and the help is written.
+use clap::{Arg, ArgAction, Command};
+use std::alloc::{AllocError, Global};
+
+/// How often an option may stand, and whether a value stands behind it.
+pub(crate) enum Kind {
+    /// Once at most, without a value.
+    Flag,
+    /// Once at most, with a value.
+    Once,
+    /// As often as is wanted, each time with a value.
+    Often,
+}
+
+/// An option: its name, its letter, what stands behind it, and the lines that the help says of it.
+pub(crate) struct Choice {
+    pub(crate) name: &'static str,
+    pub(crate) letter: Option<char>,
+    pub(crate) kind: Kind,
+    pub(crate) value: &'static str,
+    pub(crate) help: &'static [&'static str],
+}
+
+/// Options of one matter, and the line above them in the help.
+pub(crate) struct Matter {
+    pub(crate) title: &'static str,
+    pub(crate) choices: &'static [Choice],
+}
+
+pub(crate) static MATTERS: [Matter; 7] = [
+    Matter {
+        title: "What is served (the records of all sources together):",
+        choices: &[
+            Choice {
+                name: "vrps",
+                letter: None,
+                kind: Kind::Often,
+                value: "FILE",
+                help: &[
+                    "A file that a validator writes: the JSON of rpki-client, Routinator, FORT,",
+                    "StayRTR or rtrdump, or a payload list. May stand several times.",
+                ],
+            },
+            Choice {
+                name: "points",
+                letter: None,
+                kind: Kind::Often,
+                value: "DIR",
+                help: &[
+                    "A directory that holds a publication point, with the payloads of its",
+                    "manifest and of its ROAs. May stand several times.",
+                ],
+            },
+            Choice {
+                name: "slurm",
+                letter: None,
+                kind: Kind::Once,
+                value: "FILE",
+                help: &["A file of local exceptions (RFC 8416), which are applied to all records."],
+            },
+            Choice {
+                name: "check",
+                letter: None,
+                kind: Kind::Once,
+                value: "SECONDS",
+                help: &[
+                    "The files are looked at every so many seconds, and read again where they",
+                    "have changed. Routers are notified no more often. At least 1; default 60.",
+                ],
+            },
+            Choice {
+                name: "max-age",
+                letter: None,
+                kind: Kind::Once,
+                value: "SECONDS",
+                help: &[
+                    "A file whose data were made longer ago is reported as old. What is served",
+                    "stays. At least 1; by default no file is old.",
+                ],
+            },
+            Choice {
+                name: "stop-when-old",
+                letter: None,
+                kind: Kind::Flag,
+                value: "",
+                help: &[
+                    "The daemon ends where a file is older than --max-age allows, so that",
+                    "routers let the records expire.",
+                ],
+            },
+        ],
+    },
+    Matter {
+        title: "Where routers connect:",
+        choices: &[
+            Choice {
+                name: "listen",
+                letter: None,
+                kind: Kind::Often,
+                value: "ADDRESS:PORT",
+                help: &[
+                    "An address and a port to listen on, as 192.0.2.1:3323 or [::1]:3323. May",
+                    "stand several times; default 127.0.0.1:3323. [::]:PORT takes IPv4 too, so",
+                    "0.0.0.0:PORT beside it is refused as in use.",
+                ],
+            },
+            Choice {
+                name: "clients",
+                letter: None,
+                kind: Kind::Once,
+                value: "NUMBER",
+                help: &[
+                    "So many routers may be connected at once; one more is closed. The system's",
+                    "limit of descriptors may allow fewer. At least 1; default 256.",
+                ],
+            },
+            Choice {
+                name: "stall",
+                letter: None,
+                kind: Kind::Once,
+                value: "SECONDS",
+                help: &[
+                    "A router to which nothing could be written for so long is closed. At least",
+                    "1; default 120.",
+                ],
+            },
+        ],
+    },
+    Matter {
+        title: "What the versions are called, and how many are kept:",
+        choices: &[
+            Choice {
+                name: "session",
+                letter: None,
+                kind: Kind::Once,
+                value: "NUMBER",
+                help: &[
+                    "The session in version 1 of the protocol, from 0 to 65535. By default it",
+                    "is made of the machine's id, the addresses and the files, so a restart",
+                    "keeps it.",
+                ],
+            },
+            Choice {
+                name: "session0",
+                letter: None,
+                kind: Kind::Once,
+                value: "NUMBER",
+                help: &[
+                    "The session in version 0, from 0 to 65535. By default it is made of the",
+                    "time of the start, so each start has another.",
+                ],
+            },
+            Choice {
+                name: "start",
+                letter: None,
+                kind: Kind::Once,
+                value: "NUMBER",
+                help: &[
+                    "The serial of the first version, from 0 to 4294967295. By default it is",
+                    "the time of the start in seconds since 1970, so serials go on after a",
+                    "restart, and no router drops what it has.",
+                ],
+            },
+            Choice {
+                name: "keep",
+                letter: None,
+                kind: Kind::Once,
+                value: "NUMBER",
+                help: &[
+                    "So many versions are kept, and a router that has one of them is sent the",
+                    "changes alone. From 1 to 65536; default 16.",
+                ],
+            },
+        ],
+    },
+    Matter {
+        title: "What routers are told (RFC 8210 section 6):",
+        choices: &[
+            Choice {
+                name: "refresh",
+                letter: None,
+                kind: Kind::Once,
+                value: "SECONDS",
+                help: &["A router asks again after so long. From 1 to 86400; default 3600."],
+            },
+            Choice {
+                name: "retry",
+                letter: None,
+                kind: Kind::Once,
+                value: "SECONDS",
+                help: &[
+                    "After a failure it tries again after so long. From 1 to 7200; default 600.",
+                ],
+            },
+            Choice {
+                name: "expire",
+                letter: None,
+                kind: Kind::Once,
+                value: "SECONDS",
+                help: &[
+                    "It drops what it has after so long without news. From 600 to 172800, and",
+                    "more than both others; default 7200.",
+                ],
+            },
+        ],
+    },
+    Matter {
+        title: "What is told:",
+        choices: &[
+            Choice {
+                name: "status",
+                letter: None,
+                kind: Kind::Once,
+                value: "ADDRESS:PORT",
+                help: &[
+                    "Pages on the daemon's state are served by HTTP at this address: /,",
+                    "/metrics, /vrps.json and /validity. By default there are none.",
+                ],
+            },
+            Choice {
+                name: "log",
+                letter: None,
+                kind: Kind::Once,
+                value: "FORM",
+                help: &["The form of the lines on standard error: text or json. Default text."],
+            },
+        ],
+    },
+    Matter {
+        title: "For tests:",
+        choices: &[Choice {
+            name: "once",
+            letter: None,
+            kind: Kind::Flag,
+            value: "",
+            help: &["The daemon ends when the first router has gone."],
+        }],
+    },
+    Matter {
+        title: "Others:",
+        choices: &[
+            Choice {
+                name: "help",
+                letter: Some('h'),
+                kind: Kind::Flag,
+                value: "",
+                help: &["This text."],
+            },
+            Choice {
+                name: "version",
+                letter: Some('V'),
+                kind: Kind::Flag,
+                value: "",
+                help: &["The program's name and version."],
+            },
+        ],
+    },
+];
+
+fn argument<'a>(alloc: Global, choice: &Choice) -> Arg<'a> {
+    let mut made = Arg::new(alloc, choice.name).long(choice.name);
+    if let Some(letter) = choice.letter {
+        made = made.short(letter);
+    }
+    match choice.kind {
+        Kind::Flag => made.action(ArgAction::SetTrue),
+        Kind::Once => made.action(ArgAction::Set).value_name(choice.value),
+        Kind::Often => made.action(ArgAction::Append).value_name(choice.value),
+    }
+}
+
+fn with_choices<'a>(
+    alloc: Global,
+    command: Command<'a>,
+    choices: &[Choice],
+) -> Result<Command<'a>, AllocError> {
+    let mut made = command;
+    for choice in choices {
+        made = made.arg(argument(alloc, choice))?;
+    }
+    Ok(made)
+}
+
+/// The command line of the daemon.
+pub(crate) fn command_line<'a>(alloc: Global) -> Result<Command<'a>, AllocError> {
+    let mut made = Command::new(alloc, "rpkirtrd")
+        .no_binary_name(true)
+        .disable_help_flag(true)
+        .disable_version_flag(true);
+    for matter in &MATTERS {
+        made = with_choices(alloc, made, matter.choices)?;
+    }
+    Ok(made)
+}

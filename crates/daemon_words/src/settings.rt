@@ -1,0 +1,43 @@
+//! What a run is asked for.
+use daemon_parts::LogForm;
+use rtr_ends::Timing;
+use std::net::SocketAddr;
+
+/// What a run of the daemon is asked for.
+#[derive(Drop)]
+pub struct Settings {
+    /// Files that validators write.
+    pub vrps: Vec<String>,
+    /// Directories that are publication points.
+    pub points: Vec<String>,
+    /// A file of local exceptions (RFC 8416).
+    pub slurm: Option<String>,
+    /// Where routers are awaited: at one address at least.
+    pub listen: Vec<SocketAddr>,
+    /// The session in version 1 of the protocol, or `None`: the daemon makes it.
+    pub session: Option<u16>,
+    /// The session in version 0, or `None`: the daemon makes it.
+    pub session0: Option<u16>,
+    /// The serial of the first version, or `None`: the daemon makes it.
+    pub start: Option<u32>,
+    /// How many versions are kept.
+    pub keep: u32,
+    /// The intervals that routers are told.
+    pub timing: Timing,
+    /// How many seconds there are between two looks at the files.
+    pub check: u32,
+    /// How old in seconds what a file has may be, or `None`: as old as it is.
+    pub max_age: Option<u64>,
+    /// Whether the daemon ends where a file is older.
+    pub stop_when_old: bool,
+    /// How many clients there may be at once.
+    pub clients: usize,
+    /// After how many seconds a client to which nothing could be written is closed.
+    pub stall: u32,
+    /// Where the status page is, if it is wanted.
+    pub status: Option<SocketAddr>,
+    /// The form of the log's lines.
+    pub log: LogForm,
+    /// Whether the daemon ends when the first client has gone.
+    pub once: bool,
+}

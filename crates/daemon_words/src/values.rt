@@ -1,0 +1,159 @@
+//! The values of options.
+use crate::fault::{Wanted, WordsFault};
+use clap::ArgMatches;
+use daemon_parts::LogForm;
+use std::alloc::Global;
+use std::net::SocketAddr;
+
+/// The fault of an option whose value is not what is wanted.
+fn wrong(alloc: Global, option: &'static str, value: &str, wanted: Wanted) -> WordsFault {
+    match String::from_str(alloc, value) {
+        Ok(value) => WordsFault::Value {
+            option,
+            value,
+            wanted,
+        },
+        Err(_) => WordsFault::Memory,
+    }
+}
+
+/// The number that a text writes in decimal digits without a sign or a leading zero.
+fn decimal(text: &str) -> Option<u64> {
+    match text.as_bytes() {
+        [b'+', ..] => None,
+        [b'0', _, ..] => None,
+        _ => text.parse::<u64>().ok(),
+    }
+}
+
+/// The number from `least` to `most` behind an option, or `None` where the option is left out.
+pub(crate) fn number(
+    alloc: Global,
+    found: &ArgMatches<'_>,
+    option: &'static str,
+    least: u64,
+    most: u64,
+) -> Result<Option<u64>, WordsFault> {
+    let Some(text) = found.get_str(option) else {
+        return Ok(None);
+    };
+    match decimal(text) {
+        Some(number) if least <= number && number <= most => Ok(Some(number)),
+        _ => Err(wrong(alloc, option, text, Wanted::Number { least, most })),
+    }
+}
+
+/// The number from `least` to `most` behind an option, or `default` where the option is left out.
+pub(crate) fn number_or(
+    alloc: Global,
+    found: &ArgMatches<'_>,
+    option: &'static str,
+    least: u32,
+    most: u32,
+    default: u32,
+) -> Result<u32, WordsFault> {
+    match number(alloc, found, option, u64::from(least), u64::from(most))? {
+        Some(number) => Ok(number as u32),
+        None => Ok(default),
+    }
+}
+
+/// The number of 32 bits behind an option, or `None` where the option is left out.
+pub(crate) fn number_32(
+    alloc: Global,
+    found: &ArgMatches<'_>,
+    option: &'static str,
+) -> Result<Option<u32>, WordsFault> {
+    match number(alloc, found, option, 0, 4_294_967_295)? {
+        Some(number) => Ok(Some(number as u32)),
+        None => Ok(None),
+    }
+}
+
+/// The number of 16 bits behind an option, or `None` where the option is left out.
+pub(crate) fn number_16(
+    alloc: Global,
+    found: &ArgMatches<'_>,
+    option: &'static str,
+) -> Result<Option<u16>, WordsFault> {
+    match number(alloc, found, option, 0, 65_535)? {
+        Some(number) => Ok(Some(number as u16)),
+        None => Ok(None),
+    }
+}
+
+/// The text behind an option, if the option is there.
+pub(crate) fn text(
+    alloc: Global,
+    found: &ArgMatches<'_>,
+    option: &str,
+) -> Result<Option<String>, WordsFault> {
+    match found.get_str(option) {
+        Some(text) => Ok(Some(String::from_str(alloc, text)?)),
+        None => Ok(None),
+    }
+}
+
+/// The texts behind an option, in their order.
+pub(crate) fn texts(
+    alloc: Global,
+    found: &ArgMatches<'_>,
+    option: &str,
+) -> Result<Vec<String>, WordsFault> {
+    let mut all = Vec::new(alloc);
+    for text in found.get_strs(option).unwrap_or_default() {
+        if all.push(String::from_str(alloc, text)?).is_err() {
+            return Err(WordsFault::Memory);
+        }
+    }
+    Ok(all)
+}
+
+/// The address that a text behind an option writes.
+fn address_in(alloc: Global, option: &'static str, text: &str) -> Result<SocketAddr, WordsFault> {
+    match text.parse::<SocketAddr>() {
+        Ok(address) => Ok(address),
+        Err(_) => Err(wrong(alloc, option, text, Wanted::Address)),
+    }
+}
+
+/// The address behind an option, if the option is there.
+pub(crate) fn address(
+    alloc: Global,
+    found: &ArgMatches<'_>,
+    option: &'static str,
+) -> Result<Option<SocketAddr>, WordsFault> {
+    match found.get_str(option) {
+        Some(text) => Ok(Some(address_in(alloc, option, text)?)),
+        None => Ok(None),
+    }
+}
+
+/// The addresses behind an option, in their order.
+pub(crate) fn addresses(
+    alloc: Global,
+    found: &ArgMatches<'_>,
+    option: &'static str,
+) -> Result<Vec<SocketAddr>, WordsFault> {
+    let mut all = Vec::new(alloc);
+    for text in found.get_strs(option).unwrap_or_default() {
+        if all.push(address_in(alloc, option, text)?).is_err() {
+            return Err(WordsFault::Memory);
+        }
+    }
+    Ok(all)
+}
+
+/// The form of the log behind an option, or text where the option is left out.
+pub(crate) fn log_form(
+    alloc: Global,
+    found: &ArgMatches<'_>,
+    option: &'static str,
+) -> Result<LogForm, WordsFault> {
+    match found.get_str(option) {
+        None => Ok(LogForm::Text),
+        Some("text") => Ok(LogForm::Text),
+        Some("json") => Ok(LogForm::Json),
+        Some(text) => Err(wrong(alloc, option, text, Wanted::LogForm)),
+    }
+}

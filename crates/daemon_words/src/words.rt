@@ -1,0 +1,137 @@
+//! What the words ask for.
+use crate::fault::WordsFault;
+use crate::help::{help, version};
+use crate::options::command_line;
+use crate::settings::Settings;
+use crate::values::{
+    address, addresses, log_form, number, number_16, number_32, number_or, text, texts,
+};
+use clap::error::ErrorKind;
+use clap::{ArgMatches, Error};
+use rtr_ends::Timing;
+use std::alloc::Global;
+use std::net::{IpAddr, Ipv4Addr, SocketAddr};
+
+/// What the words of the command line ask for.
+#[derive(Drop)]
+pub enum Asked {
+    /// A run under these settings.
+    Serve(Settings),
+    /// The help, without a newline at its end.
+    Help(String),
+    /// The program's name and version, without a newline at its end.
+    Version(String),
+}
+
+/// The port for routers (RFC 8210 section 13), of which this daemon takes that which needs no privilege.
+const PORT: u16 = 3323;
+
+/// Why the words do not parse, in the first lines of what the parser says of them.
+fn unclear(alloc: Global, error: &Error) -> Result<String, WordsFault> {
+    let all = format!(in alloc; "{error}")?;
+    let first = match all.as_str().split_once("\n\nUsage") {
+        Some((first, _)) => first,
+        None => all.as_str(),
+    };
+    let told = first.strip_prefix("error: ").unwrap_or(first);
+    Ok(String::from_str(alloc, told.trim_end())?)
+}
+
+fn fault_of(alloc: Global, error: &Error) -> WordsFault {
+    if error.kind() == ErrorKind::OutOfMemory {
+        return WordsFault::Memory;
+    }
+    match unclear(alloc, error) {
+        Ok(told) => WordsFault::Unclear(told),
+        Err(fault) => fault,
+    }
+}
+
+/// The intervals that routers are told (RFC 8210 section 6).
+fn timing(alloc: Global, found: &ArgMatches<'_>) -> Result<Timing, WordsFault> {
+    let refresh = number_or(alloc, found, "refresh", 1, 86_400, 3600)?;
+    let retry = number_or(alloc, found, "retry", 1, 7200, 600)?;
+    let expire = number_or(alloc, found, "expire", 600, 172_800, 7200)?;
+    match Timing::new(refresh, retry, expire) {
+        Ok(timing) => Ok(timing),
+        Err(_) => Err(WordsFault::Expire {
+            expire,
+            refresh,
+            retry,
+        }),
+    }
+}
+
+/// Where routers are awaited.
+fn listen(alloc: Global, found: &ArgMatches<'_>) -> Result<Vec<SocketAddr>, WordsFault> {
+    let mut all = addresses(alloc, found, "listen")?;
+    if all.is_empty() {
+        let default = SocketAddr::new(IpAddr::V4(Ipv4Addr::LOCALHOST), PORT);
+        if all.push(default).is_err() {
+            return Err(WordsFault::Memory);
+        }
+    }
+    Ok(all)
+}
+
+/// What is served: one file or directory at least.
+#[derive(Drop)]
+struct Served {
+    vrps: Vec<String>,
+    points: Vec<String>,
+}
+
+fn to_serve(alloc: Global, found: &ArgMatches<'_>) -> Result<Served, WordsFault> {
+    let vrps = texts(alloc, found, "vrps")?;
+    let points = texts(alloc, found, "points")?;
+    if vrps.is_empty() && points.is_empty() {
+        return Err(WordsFault::NoSource);
+    }
+    Ok(Served { vrps, points })
+}
+
+/// The settings of a run.
+fn settings(alloc: Global, found: &ArgMatches<'_>) -> Result<Settings, WordsFault> {
+    let Served { vrps, points } = to_serve(alloc, found)?;
+    let max_age = number(alloc, found, "max-age", 1, 4_294_967_295)?;
+    let stop_when_old = found.get_flag("stop-when-old");
+    if stop_when_old && max_age.is_none() {
+        return Err(WordsFault::NoAge);
+    }
+    Ok(Settings {
+        vrps,
+        points,
+        slurm: text(alloc, found, "slurm")?,
+        listen: listen(alloc, found)?,
+        session: number_16(alloc, found, "session")?,
+        session0: number_16(alloc, found, "session0")?,
+        start: number_32(alloc, found, "start")?,
+        keep: number_or(alloc, found, "keep", 1, 65_536, 16)?,
+        timing: timing(alloc, found)?,
+        check: number_or(alloc, found, "check", 1, 4_294_967_295, 60)?,
+        max_age,
+        stop_when_old,
+        clients: number_or(alloc, found, "clients", 1, 4_294_967_295, 256)? as usize,
+        stall: number_or(alloc, found, "stall", 1, 4_294_967_295, 120)?,
+        status: address(alloc, found, "status")?,
+        log: log_form(alloc, found, "log")?,
+        once: found.get_flag("once"),
+    })
+}
+
+/// What these words ask for, which stand behind the program's name. `--help` and `--version` go before all other options that
+/// parse.
+pub fn read_words(alloc: Global, words: &[String]) -> Result<Asked, WordsFault> {
+    let command = command_line(alloc)?;
+    let found = match command.try_get_matches_from(words) {
+        Ok(found) => found,
+        Err(error) => return Err(fault_of(alloc, &error)),
+    };
+    if found.get_flag("help") {
+        return Ok(Asked::Help(help(alloc)?));
+    }
+    if found.get_flag("version") {
+        return Ok(Asked::Version(version(alloc)?));
+    }
+    Ok(Asked::Serve(settings(alloc, &found)?))
+}
