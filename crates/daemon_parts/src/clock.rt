@@ -1,26 +1,44 @@
 //! The time of a line of the log.
-use std::io::{self, Write};
+ghost use Rattle.std.specs.Prelude.{◌≡◌, ◌<◌, ◌≤◌, ◌+◌, ◌-◌};
+ghost use Rattle.der_lite.specs.Moments.{days_of_month, decimals, is_leap, told_moment};
+ghost use Rattle.der_lite.specs.Seconds.{days_of_months, days_of_year, days_of_years};
+ghost use Rattle.daemon_parts.specs.Clock.{IsAt, time_text};
 
 /// The last second of the year 9999.
 const LAST: u64 = 253_402_300_799;
 
-/// A date in the Gregorian calendar.
+/// The days from the beginning of 1970 to the end of 9999.
+const DAYS: u64 = 2_932_897;
+
+/// A date with a time of day in UTC.
 #[derive(Clone, Copy)]
-struct Date {
-    year: u64,
-    month: u64,
-    day: u64,
+pub(crate) struct Civil {
+    pub(crate) year: u16,
+    pub(crate) month: u16,
+    pub(crate) day: u16,
+    pub(crate) hour: u16,
+    pub(crate) minute: u16,
+    pub(crate) second: u16,
 }
 
-fn is_leap(year: u64) -> bool {
+/// Whether a year has a 29 February: every fourth has, but of the centuries only every fourth.
+fn is_leap(year: u16) -> bool
+    ensures { result ≡ is_leap year }
+{
     year % 4 == 0 && (year % 100 != 0 || year % 400 == 0)
 }
 
-fn days_of_year(year: u64) -> u64 {
+/// How many days a year has.
+fn days_of_year(year: u16) -> u64
+    ensures { result ≡ days_of_year year }
+{
     if is_leap(year) { 366 } else { 365 }
 }
 
-fn days_of_month(year: u64, month: u64) -> u64 {
+/// How many days a month has; a month is a number from 1 to 12.
+fn days_of_month(year: u16, month: u16) -> u64
+    ensures { result ≡ days_of_month year month }
+{
     match month {
         2 => { if is_leap(year) { 29 } else { 28 } }
         4 | 6 | 9 | 11 => 30,
@@ -29,12 +47,17 @@ fn days_of_month(year: u64, month: u64) -> u64 {
 }
 
 /// The year in which the day lies that comes so many days after the first of 1970, and how many days of that year come before it.
-fn year_of(days: u64) -> (u64, u64) {
+fn year_of(days: u64) -> (u16, u64)
+    requires { days < DAYS }
+    ensures year { (1970 ≤ result.0) × (result.0 ≤ 9999) }
+    ensures days { days ≡ days_of_years (result.0 - 1970) + result.1 }
+    ensures within { result.1 < days_of_year result.0 }
+{
     let mut rest = days;
-    for year in 1970..9999 {
-        let length = days_of_year(year);
+    for count in 0..8029 {
+        let length = days_of_year(1970 + count);
         if rest < length {
-            return (year, rest);
+            return (1970 + count, rest);
         }
         rest -= length;
     }
@@ -42,37 +65,59 @@ fn year_of(days: u64) -> (u64, u64) {
 }
 
 /// The month of a year in which the day lies that comes so many days after its first, and how many days of that month come before it.
-fn month_of(year: u64, days: u64) -> (u64, u64) {
+fn month_of(year: u16, days: u64) -> (u16, u64)
+    requires { days < days_of_year year }
+    ensures month { (1 ≤ result.0) × (result.0 ≤ 12) }
+    ensures days { days ≡ days_of_months year (result.0 - 1) + result.1 }
+    ensures within { result.1 < days_of_month year result.0 }
+{
     let mut rest = days;
-    for month in 1..12 {
-        let length = days_of_month(year, month);
+    for count in 0..11 {
+        let length = days_of_month(year, count + 1);
         if rest < length {
-            return (month, rest);
+            return (count + 1, rest);
         }
         rest -= length;
     }
     (12, rest)
 }
 
-fn date_of(days: u64) -> Date {
-    let (year, rest) = year_of(days);
-    let (month, before) = month_of(year, rest);
-    Date {
+/// The moment so many seconds after the beginning of 1970; after the year 9999 its last second.
+pub(crate) fn civil_at(seconds: u64) -> Civil
+    ensures { IsAt (told_moment result.year result.month result.day result.hour result.minute result.second) seconds }
+{
+    let told = seconds.min(LAST);
+    let (year, days) = year_of(told / 86_400);
+    let (month, before) = month_of(year, days);
+    Civil {
         year,
         month,
-        day: before + 1,
+        day: before as u16 + 1,
+        hour: (told / 3600 % 24) as u16,
+        minute: (told / 60 % 60) as u16,
+        second: (told % 60) as u16,
     }
 }
 
-/// Writes the moment so many seconds after the beginning of 1970 as `YYYY-MM-DDTHH:MM:SSZ` (RFC 3339 section 5.6). A moment
-/// after the year 9999 is written as its last second.
-pub(crate) fn write_time<W: Write>(out: &mut W, seconds: u64) -> io::Result<()> {
-    let seconds = seconds.min(LAST);
-    let date = date_of(seconds / 86_400);
-    let (hour, minute, second) = (seconds / 3600 % 24, seconds / 60 % 60, seconds % 60);
-    write!(
-        out,
-        "{:04}-{:02}-{:02}T{hour:02}:{minute:02}:{second:02}Z",
-        date.year, date.month, date.day
-    )
+/// The last two decimal digits of a number.
+fn decimals(number: u16) -> [u8; 2]
+    ensures { result ≡ decimals 2 number }
+{
+    [b'0' + (number / 10 % 10) as u8, b'0' + (number % 10) as u8]
+}
+
+/// The text of a moment, `YYYY-MM-DDTHH:MM:SSZ` (RFC 3339 section 5.6).
+pub(crate) fn time_text(civil: &Civil) -> [u8; 20]
+    ensures { result ≡ time_text (told_moment civil.now.year civil.now.month civil.now.day civil.now.hour civil.now.minute civil.now.second) }
+{
+    let [y1, y2] = decimals(civil.year / 100);
+    let [y3, y4] = decimals(civil.year % 100);
+    let [m1, m2] = decimals(civil.month);
+    let [d1, d2] = decimals(civil.day);
+    let [h1, h2] = decimals(civil.hour);
+    let [n1, n2] = decimals(civil.minute);
+    let [s1, s2] = decimals(civil.second);
+    [
+        y1, y2, y3, y4, b'-', m1, m2, b'-', d1, d2, b'T', h1, h2, b':', n1, n2, b':', s1, s2, b'Z',
+    ]
 }

@@ -1,5 +1,5 @@
 //! The lines of a log.
-use crate::clock::write_time;
+use crate::clock::{civil_at, time_text};
 use crate::event::{Event, Pair, Value};
 use std::io::{self, Write};
 use std::net::SocketAddr;
@@ -102,7 +102,7 @@ fn write_text_line<W: Write>(
     word: &str,
     pairs: &[Pair<'_>],
 ) -> io::Result<()> {
-    write_time(out, seconds)?;
+    out.write_all(&time_text(&civil_at(seconds)))?;
     write!(out, " {word}")?;
     for pair in pairs {
         write!(out, " {}=", pair.key)?;
@@ -118,7 +118,7 @@ fn write_json_line<W: Write>(
     pairs: &[Pair<'_>],
 ) -> io::Result<()> {
     out.write_all(b"{\"time\":\"")?;
-    write_time(out, seconds)?;
+    out.write_all(&time_text(&civil_at(seconds)))?;
     write!(out, "\",\"event\":\"{word}\"")?;
     for pair in pairs {
         write!(out, ",\"{}\":", pair.key)?;

@@ -1,0 +1,6 @@
+pub mod Names
+pub mod NameRows
+pub mod Runs
+pub mod RunRows
+pub mod Clock
+pub mod ClockRows
