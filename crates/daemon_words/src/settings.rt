@@ -1,4 +1,6 @@
 //! What a run is asked for.
+ghost use Rattle.std.specs.Prelude.{◌≡◌, ◌≤◌, ◌+◌, true, IsSome, vec_len};
+
 use daemon_parts::LogForm;
 use rtr_ends::Timing;
 use std::net::SocketAddr;
@@ -40,4 +42,14 @@ pub struct Settings {
     pub log: LogForm,
     /// Whether the daemon ends when the first client has gone.
     pub once: bool,
+
+    // What every run is asked for: a source at least, an address at least, and numbers in their ranges.
+    ghost has_source: { 1 ≤ vec_len vrps + vec_len points },
+    ghost listens: { 1 ≤ vec_len listen },
+    ghost keeps_from: { 1 ≤ keep },
+    ghost keeps_to: { keep ≤ 65536 },
+    ghost looks: { 1 ≤ check },
+    ghost serves: { 1 ≤ clients },
+    ghost waits: { 1 ≤ stall },
+    ghost ages: { stop_when_old ≡ true → IsSome max_age },
 }

@@ -1,4 +1,6 @@
 //! The values of options.
+ghost use Rattle.std.specs.Prelude.{◌≤◌, IfOk, IfSome};
+
 use crate::fault::{Wanted, WordsFault};
 use clap::ArgMatches;
 use daemon_parts::LogForm;
@@ -33,7 +35,9 @@ pub(crate) fn number(
     option: &'static str,
     least: u64,
     most: u64,
-) -> Result<Option<u64>, WordsFault> {
+) -> Result<Option<u64>, WordsFault>
+    ensures { IfOk result (λ found. IfSome found (λ n. (least ≤ n) × (n ≤ most))) }
+{
     let Some(text) = found.get_str(option) else {
         return Ok(None);
     };
@@ -51,11 +55,15 @@ pub(crate) fn number_or(
     least: u32,
     most: u32,
     default: u32,
-) -> Result<u32, WordsFault> {
-    match number(alloc, found, option, u64::from(least), u64::from(most))? {
-        Some(number) => Ok(number as u32),
-        None => Ok(default),
-    }
+) -> Result<u32, WordsFault>
+    requires { (least ≤ default) × (default ≤ most) }
+    ensures { IfOk result (λ n. (least ≤ n) × (n ≤ most)) }
+{
+    let found = number(alloc, found, option, u64::from(least), u64::from(most))?;
+    let Some(number) = found else {
+        return Ok(default);
+    };
+    Ok(number as u32)
 }
 
 /// The number of 32 bits behind an option, or `None` where the option is left out.
@@ -64,10 +72,11 @@ pub(crate) fn number_32(
     found: &ArgMatches<'_>,
     option: &'static str,
 ) -> Result<Option<u32>, WordsFault> {
-    match number(alloc, found, option, 0, 4_294_967_295)? {
-        Some(number) => Ok(Some(number as u32)),
-        None => Ok(None),
-    }
+    let found = number(alloc, found, option, 0, 4_294_967_295)?;
+    let Some(number) = found else {
+        return Ok(None);
+    };
+    Ok(Some(number as u32))
 }
 
 /// The number of 16 bits behind an option, or `None` where the option is left out.
@@ -76,10 +85,11 @@ pub(crate) fn number_16(
     found: &ArgMatches<'_>,
     option: &'static str,
 ) -> Result<Option<u16>, WordsFault> {
-    match number(alloc, found, option, 0, 65_535)? {
-        Some(number) => Ok(Some(number as u16)),
-        None => Ok(None),
-    }
+    let found = number(alloc, found, option, 0, 65_535)?;
+    let Some(number) = found else {
+        return Ok(None);
+    };
+    Ok(Some(number as u16))
 }
 
 /// The text behind an option, if the option is there.

@@ -1,4 +1,6 @@
 //! What the words ask for.
+ghost use Rattle.std.specs.Prelude.{◌≡◌, ◌≤◌, ◌+◌, true, IfOk, IsSome, vec_len};
+
 use crate::fault::WordsFault;
 use crate::help::{help, version};
 use crate::options::command_line;
@@ -63,7 +65,9 @@ fn timing(alloc: Global, found: &ArgMatches<'_>) -> Result<Timing, WordsFault> {
 }
 
 /// Where routers are awaited.
-fn listen(alloc: Global, found: &ArgMatches<'_>) -> Result<Vec<SocketAddr>, WordsFault> {
+fn listen(alloc: Global, found: &ArgMatches<'_>) -> Result<Vec<SocketAddr>, WordsFault>
+    ensures { IfOk result (λ all. 1 ≤ vec_len all) }
+{
     let mut all = addresses(alloc, found, "listen")?;
     if all.is_empty() {
         let default = SocketAddr::new(IpAddr::V4(Ipv4Addr::LOCALHOST), PORT);
@@ -79,6 +83,7 @@ fn listen(alloc: Global, found: &ArgMatches<'_>) -> Result<Vec<SocketAddr>, Word
 struct Served {
     vrps: Vec<String>,
     points: Vec<String>,
+    ghost has_source: { 1 ≤ vec_len vrps + vec_len points },
 }
 
 fn to_serve(alloc: Global, found: &ArgMatches<'_>) -> Result<Served, WordsFault> {
@@ -90,14 +95,33 @@ fn to_serve(alloc: Global, found: &ArgMatches<'_>) -> Result<Served, WordsFault>
     Ok(Served { vrps, points })
 }
 
-/// The settings of a run.
-fn settings(alloc: Global, found: &ArgMatches<'_>) -> Result<Settings, WordsFault> {
-    let Served { vrps, points } = to_serve(alloc, found)?;
+/// How old what is served may be, and whether the daemon ends where it is older.
+#[derive(Clone, Copy)]
+struct MaxAge {
+    max_age: Option<u64>,
+    stop_when_old: bool,
+    ghost ages: { stop_when_old ≡ true → IsSome max_age },
+}
+
+fn age(alloc: Global, found: &ArgMatches<'_>) -> Result<MaxAge, WordsFault> {
     let max_age = number(alloc, found, "max-age", 1, 4_294_967_295)?;
     let stop_when_old = found.get_flag("stop-when-old");
     if stop_when_old && max_age.is_none() {
         return Err(WordsFault::NoAge);
     }
+    Ok(MaxAge {
+        max_age,
+        stop_when_old,
+    })
+}
+
+/// The settings of a run.
+fn settings(alloc: Global, found: &ArgMatches<'_>) -> Result<Settings, WordsFault> {
+    let Served { vrps, points } = to_serve(alloc, found)?;
+    let MaxAge {
+        max_age,
+        stop_when_old,
+    } = age(alloc, found)?;
     Ok(Settings {
         vrps,
         points,
