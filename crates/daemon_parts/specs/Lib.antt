@@ -4,3 +4,5 @@ pub mod Runs
 pub mod RunRows
 pub mod Clock
 pub mod ClockRows
+pub mod Entries
+pub mod Lines

@@ -1,4 +1,12 @@
 //! The lines of a log.
+ghost use Rattle.std.specs.Prelude.{◌≡◌, ◌<◌, ◌/◌, ◌%◌, ◌∷◌, ◌++◌, [], true, codes, map, OnOk};
+ghost use Rattle.std.specs.Char.{digit_char, is_control};
+ghost use Rattle.std.specs.Io.KnownBytes.{Appends};
+ghost use Rattle.std.specs.List.{flat_map, list_all};
+ghost use Rattle.std.specs.Str.{chars};
+ghost use Rattle.daemon_parts.specs.Entries.{Text, entries_of, entry, of_number, of_text, at, spoken, told_pair, told_value, word_of};
+ghost use Rattle.daemon_parts.specs.Lines.{TellsEvent, end_text, entry_text, escaped, head_text, told_char, is_plain, is_plain_byte, json_entry, json_value, line_text, plain_entry, plain_value, quoted};
+
 use crate::clock::{civil_at, time_text};
 use crate::event::{Event, Pair, Value};
 use std::io::{self, Write};
@@ -13,81 +21,164 @@ pub enum LogForm {
     Json,
 }
 
-fn text<'a>(key: &'static str, value: &'a str) -> Pair<'a> {
+fn text<'a>(key: &'static str, value: &'a str) -> Pair<'a>
+    ensures { told_pair result ≡ of_text key.now value.now }
+{
     Pair {
         key,
         value: Value::Text(value),
     }
 }
 
-fn number<'a>(key: &'static str, value: u64) -> Pair<'a> {
+fn number<'a>(key: &'static str, value: u64) -> Pair<'a>
+    ensures { told_pair result ≡ of_number key.now value }
+{
     Pair {
         key,
         value: Value::Number(value),
     }
 }
 
-fn address<'a>(value: &SocketAddr) -> Pair<'a> {
+fn address<'a>(value: &SocketAddr) -> Pair<'a>
+    ensures { told_pair result ≡ at value.now }
+{
     Pair {
         key: "address",
         value: Value::Address(*value),
     }
 }
 
-fn version<'a>(value: Option<u8>) -> Pair<'a> {
+fn spoken<'a>(version: Option<u8>) -> Value<'a>
+    ensures { told_value result ≡ spoken version }
+{
+    match version {
+        None => Value::Nothing,
+        Some(version) => Value::Number(u64::from(version)),
+    }
+}
+
+fn version<'a>(value: Option<u8>) -> Pair<'a>
+    ensures { told_pair result ≡ entry (codes "version") (spoken value) }
+{
     Pair {
         key: "version",
-        value: match value {
-            None => Value::Nothing,
-            Some(version) => Value::Number(u64::from(version)),
-        },
+        value: spoken(value),
     }
+}
+
+/// The hexadecimal digit of a number below 16.
+fn hex_digit(number: u32) -> u8
+    requires { number < 16 }
+    ensures { result ≡ digit_char number }
+{
+    if number < 10 {
+        b'0' + number as u8
+    } else {
+        b'a' + (number - 10) as u8
+    }
+}
+
+/// Writes a control character by its number.
+fn write_control<W: Write>(out: &mut W, character: char) -> io::Result<()>
+    requires { is_control character ≡ true }
+    ensures { OnOk result (Appends (W.contents out.old) (W.contents out.new)
+        (codes "\\u00" ++ digit_char (character / 16) ∷ digit_char (character % 16) ∷ [])) }
+{
+    let code = character as u32;
+    let digits = [hex_digit(code / 16), hex_digit(code % 16)];
+    out.write_all(b"\\u00")?;
+    out.write_all(&digits)
+}
+
+/// Writes a character that needs no backslash: a control character by its number, and any other as it is.
+fn write_told_char<W: Write>(out: &mut W, character: char) -> io::Result<()>
+    ensures { OnOk result (Appends (W.contents out.old) (W.contents out.new) (told_char character)) }
+{
+    if character.is_control() {
+        return write_control(out, character);
+    }
+    write!(out, "{character}")
 }
 
 /// Writes a character of a text in quotes: a quote and a backslash behind a backslash, and a control character by its number
 /// (RFC 8259 section 7).
-fn write_char<W: Write>(out: &mut W, character: char) -> io::Result<()> {
-    match character {
-        '"' => out.write_all(b"\\\""),
-        '\\' => out.write_all(b"\\\\"),
-        '\n' => out.write_all(b"\\n"),
-        '\r' => out.write_all(b"\\r"),
-        '\t' => out.write_all(b"\\t"),
-        c if c.is_control() => write!(out, "\\u{:04x}", c as u32),
-        c => write!(out, "{c}"),
+fn write_char<W: Write>(out: &mut W, character: char) -> io::Result<()>
+    ensures { OnOk result (Appends (W.contents out.old) (W.contents out.new) (escaped character)) }
+{
+    if character == '"' {
+        return out.write_all(b"\\\"");
     }
+    if character == '\\' {
+        return out.write_all(b"\\\\");
+    }
+    write_told_char(out, character)
 }
 
-/// Writes a text in quotes.
-fn write_quoted<W: Write>(out: &mut W, text: &str) -> io::Result<()> {
-    out.write_all(b"\"")?;
+/// Writes a text, as it stands in quotes.
+fn write_escaped<W: Write>(out: &mut W, text: &str) -> io::Result<()>
+    ensures { OnOk result (Appends (W.contents out.old) (W.contents out.new) (flat_map escaped (chars text.now))) }
+{
     for character in text.chars() {
         write_char(out, character)?;
     }
+    Ok(())
+}
+
+/// Writes a text in quotes.
+#[tactic(auto, unfolding(crate::specs::Lines::quoted))]
+fn write_quoted<W: Write>(out: &mut W, text: &str) -> io::Result<()>
+    ensures { OnOk result (Appends (W.contents out.old) (W.contents out.new) (quoted text.now)) }
+{
+    out.write_all(b"\"")?;
+    write_escaped(out, text)?;
     out.write_all(b"\"")
 }
 
 /// Whether a byte stands in a text that needs no quotes.
-fn is_plain_byte(byte: u8) -> bool {
-    b'!' <= byte && byte <= b'~' && byte != b'"' && byte != b'=' && byte != b'\\'
+fn is_plain_byte(byte: u8) -> bool
+    ensures { result ≡ is_plain_byte byte }
+{
+    33 <= byte && byte <= 126 && !(byte == b'"' || byte == b'=' || byte == b'\\')
+}
+
+/// Whether each byte stands in a text that needs no quotes.
+fn are_plain(bytes: &[u8]) -> bool
+    ensures { result ≡ list_all is_plain_byte bytes.now }
+{
+    bytes.iter().all(|&byte| is_plain_byte(byte))
 }
 
 /// Whether a text needs no quotes in a line of `key=value`.
-fn is_plain(text: &str) -> bool {
-    !text.is_empty() && text.as_bytes().iter().all(|&byte| is_plain_byte(byte))
+fn is_plain(text: &str) -> bool
+    ensures { result ≡ is_plain text.now }
+{
+    !text.is_empty() && are_plain(text.as_bytes())
 }
 
-fn write_text_value<W: Write>(out: &mut W, value: &Value<'_>) -> io::Result<()> {
+/// Writes a text, in quotes where it needs them.
+fn write_plain_text<W: Write>(out: &mut W, text: &str) -> io::Result<()>
+    ensures { OnOk result (Appends (W.contents out.old) (W.contents out.new) (plain_value (Text text.now))) }
+{
+    if is_plain(text) {
+        return out.write_all(text.as_bytes());
+    }
+    write_quoted(out, text)
+}
+
+fn write_plain_value<W: Write>(out: &mut W, value: &Value<'_>) -> io::Result<()>
+    ensures { OnOk result (Appends (W.contents out.old) (W.contents out.new) (plain_value (told_value value.now))) }
+{
     match value {
         Value::Nothing => out.write_all(b"none"),
         Value::Number(number) => write!(out, "{number}"),
         Value::Address(address) => write!(out, "{address}"),
-        Value::Text(text) if is_plain(text) => out.write_all(text.as_bytes()),
-        Value::Text(text) => write_quoted(out, text),
+        Value::Text(text) => write_plain_text(out, text),
     }
 }
 
-fn write_json_value<W: Write>(out: &mut W, value: &Value<'_>) -> io::Result<()> {
+fn write_json_value<W: Write>(out: &mut W, value: &Value<'_>) -> io::Result<()>
+    ensures { OnOk result (Appends (W.contents out.old) (W.contents out.new) (json_value (told_value value.now))) }
+{
     match value {
         Value::Nothing => out.write_all(b"null"),
         Value::Number(number) => write!(out, "{number}"),
@@ -96,58 +187,98 @@ fn write_json_value<W: Write>(out: &mut W, value: &Value<'_>) -> io::Result<()> 
     }
 }
 
-fn write_text_line<W: Write>(
-    out: &mut W,
-    seconds: u64,
-    word: &str,
-    pairs: &[Pair<'_>],
-) -> io::Result<()> {
-    out.write_all(&time_text(&civil_at(seconds)))?;
-    write!(out, " {word}")?;
-    for pair in pairs {
-        write!(out, " {}=", pair.key)?;
-        write_text_value(out, &pair.value)?;
-    }
-    out.write_all(b"\n")
+fn write_plain_pair<W: Write>(out: &mut W, pair: &Pair<'_>) -> io::Result<()>
+    ensures { OnOk result (Appends (W.contents out.old) (W.contents out.new) (plain_entry (told_pair pair.now))) }
+{
+    write!(out, " {}=", pair.key)?;
+    write_plain_value(out, &pair.value)
 }
 
-fn write_json_line<W: Write>(
-    out: &mut W,
-    seconds: u64,
-    word: &str,
-    pairs: &[Pair<'_>],
-) -> io::Result<()> {
+fn write_json_pair<W: Write>(out: &mut W, pair: &Pair<'_>) -> io::Result<()>
+    ensures { OnOk result (Appends (W.contents out.old) (W.contents out.new) (json_entry (told_pair pair.now))) }
+{
+    write!(out, ",\"{}\":", pair.key)?;
+    write_json_value(out, &pair.value)
+}
+
+/// Writes a value under its key.
+fn write_pair<W: Write>(out: &mut W, form: LogForm, pair: &Pair<'_>) -> io::Result<()>
+    ensures { OnOk result (Appends (W.contents out.old) (W.contents out.new) (entry_text form (told_pair pair.now))) }
+{
+    match form {
+        LogForm::Text => write_plain_pair(out, pair),
+        LogForm::Json => write_json_pair(out, pair),
+    }
+}
+
+fn write_pairs<W: Write>(out: &mut W, form: LogForm, pairs: &[Pair<'_>]) -> io::Result<()>
+    ensures { OnOk result (Appends (W.contents out.old) (W.contents out.new) (flat_map (entry_text form) (map told_pair pairs.now))) }
+{
+    for pair in pairs {
+        write_pair(out, form, pair)?;
+    }
+    Ok(())
+}
+
+fn write_plain_head<W: Write>(out: &mut W, time: &[u8], word: &str) -> io::Result<()>
+    ensures { OnOk result (Appends (W.contents out.old) (W.contents out.new) (head_text LogForm.Text time.now word.now)) }
+{
+    out.write_all(time)?;
+    write!(out, " {word}")
+}
+
+fn write_json_head<W: Write>(out: &mut W, time: &[u8], word: &str) -> io::Result<()>
+    ensures { OnOk result (Appends (W.contents out.old) (W.contents out.new) (head_text LogForm.Json time.now word.now)) }
+{
     out.write_all(b"{\"time\":\"")?;
-    out.write_all(&time_text(&civil_at(seconds)))?;
-    write!(out, "\",\"event\":\"{word}\"")?;
-    for pair in pairs {
-        write!(out, ",\"{}\":", pair.key)?;
-        write_json_value(out, &pair.value)?;
-    }
-    out.write_all(b"}\n")
+    out.write_all(time)?;
+    write!(out, "\",\"event\":\"{word}\"")
 }
 
+/// Writes the beginning of a line.
+fn write_head<W: Write>(out: &mut W, form: LogForm, time: &[u8], word: &str) -> io::Result<()>
+    ensures { OnOk result (Appends (W.contents out.old) (W.contents out.new) (head_text form time.now word.now)) }
+{
+    match form {
+        LogForm::Text => write_plain_head(out, time, word),
+        LogForm::Json => write_json_head(out, time, word),
+    }
+}
+
+/// Writes the end of a line.
+fn write_end<W: Write>(out: &mut W, form: LogForm) -> io::Result<()>
+    ensures { OnOk result (Appends (W.contents out.old) (W.contents out.new) (end_text form)) }
+{
+    match form {
+        LogForm::Text => out.write_all(b"\n"),
+        LogForm::Json => out.write_all(b"}\n"),
+    }
+}
+
+/// Writes a line: a word with its values, at a time.
 fn write_line<W: Write>(
     out: &mut W,
     form: LogForm,
-    seconds: u64,
+    time: &[u8],
     word: &str,
     pairs: &[Pair<'_>],
-) -> io::Result<()> {
-    match form {
-        LogForm::Text => write_text_line(out, seconds, word, pairs),
-        LogForm::Json => write_json_line(out, seconds, word, pairs),
-    }
+) -> io::Result<()>
+    ensures { OnOk result (Appends (W.contents out.old) (W.contents out.new) (line_text form time.now word.now (map told_pair pairs.now))) }
+{
+    write_head(out, form, time, word)?;
+    write_pairs(out, form, pairs)?;
+    write_end(out, form)
 }
 
-/// Writes the line of an event that happened so many seconds after the beginning of 1970. It takes no memory of its own; a writer without
-/// room of its own is called for each piece of the line.
-pub fn write_event<W: Write>(
+/// Writes the line of an event at this time.
+fn write_event_at<W: Write>(
     out: &mut W,
     form: LogForm,
-    seconds: u64,
+    time: &[u8],
     event: &Event<'_>,
-) -> io::Result<()> {
+) -> io::Result<()>
+    ensures { OnOk result (Appends (W.contents out.old) (W.contents out.new) (line_text form time.now (word_of event.now) (entries_of event.now))) }
+{
     match event {
         Event::Started {
             session,
@@ -156,7 +287,7 @@ pub fn write_event<W: Write>(
         } => write_line(
             out,
             form,
-            seconds,
+            time,
             "started",
             &[
                 number("session", u64::from(*session)),
@@ -165,21 +296,15 @@ pub fn write_event<W: Write>(
             ],
         ),
         Event::Limited { clients } => {
-            write_line(
-                out,
-                form,
-                seconds,
-                "limited",
-                &[number("clients", *clients)],
-            )
+            write_line(out, form, time, "limited", &[number("clients", *clients)])
         }
         Event::Listening { address: at } => {
-            write_line(out, form, seconds, "listening", &[address(at)])
+            write_line(out, form, time, "listening", &[address(at)])
         }
-        Event::Status { address: at } => write_line(out, form, seconds, "status", &[address(at)]),
-        Event::Ready => write_line(out, form, seconds, "ready", &[]),
+        Event::Status { address: at } => write_line(out, form, time, "status", &[address(at)]),
+        Event::Ready => write_line(out, form, time, "ready", &[]),
         Event::ClientCame { address: at } => {
-            write_line(out, form, seconds, "client-came", &[address(at)])
+            write_line(out, form, time, "client-came", &[address(at)])
         }
         Event::ClientGone {
             address: at,
@@ -187,11 +312,11 @@ pub fn write_event<W: Write>(
             version: spoken,
             read,
             written,
-            seconds: stay,
+            seconds,
         } => write_line(
             out,
             form,
-            seconds,
+            time,
             "client-gone",
             &[
                 address(at),
@@ -199,21 +324,21 @@ pub fn write_event<W: Write>(
                 version(*spoken),
                 number("read", *read),
                 number("written", *written),
-                number("seconds", *stay),
+                number("seconds", *seconds),
             ],
         ),
-        Event::Stalled { address: at } => write_line(out, form, seconds, "stalled", &[address(at)]),
+        Event::Stalled { address: at } => write_line(out, form, time, "stalled", &[address(at)]),
         Event::Full {
             address: at,
             clients,
         } => write_line(
             out,
             form,
-            seconds,
+            time,
             "full",
             &[address(at), number("clients", *clients)],
         ),
-        Event::NoDescriptor => write_line(out, form, seconds, "no-descriptor", &[]),
+        Event::NoDescriptor => write_line(out, form, time, "no-descriptor", &[]),
         Event::Published {
             session,
             serial,
@@ -224,7 +349,7 @@ pub fn write_event<W: Write>(
         } => write_line(
             out,
             form,
-            seconds,
+            time,
             "published",
             &[
                 number("session", u64::from(*session)),
@@ -238,42 +363,56 @@ pub fn write_event<W: Write>(
         Event::Refused { file, reason } => write_line(
             out,
             form,
-            seconds,
+            time,
             "refused",
             &[text("file", file), text("reason", reason)],
         ),
-        Event::Taken { file } => write_line(out, form, seconds, "taken", &[text("file", file)]),
+        Event::Taken { file } => write_line(out, form, time, "taken", &[text("file", file)]),
         Event::Old { file, age } => write_line(
             out,
             form,
-            seconds,
+            time,
             "old",
             &[text("file", file), number("age", *age)],
         ),
         Event::Fresh { file, age } => write_line(
             out,
             form,
-            seconds,
+            time,
             "fresh",
             &[text("file", file), number("age", *age)],
         ),
         Event::Expired { file, entries } => write_line(
             out,
             form,
-            seconds,
+            time,
             "expired",
             &[text("file", file), number("entries", *entries)],
         ),
-        Event::Memory { what } => write_line(out, form, seconds, "memory", &[text("what", what)]),
+        Event::Memory { what } => write_line(out, form, time, "memory", &[text("what", what)]),
         Event::Failed { what, reason } => write_line(
             out,
             form,
-            seconds,
+            time,
             "failed",
             &[text("what", what), text("reason", reason)],
         ),
         Event::Stopped { reason } => {
-            write_line(out, form, seconds, "stopped", &[text("reason", reason)])
+            write_line(out, form, time, "stopped", &[text("reason", reason)])
         }
     }
+}
+
+/// Writes the line of an event that happened so many seconds after the beginning of 1970. It takes no memory of its own; a writer without
+/// room of its own is called for each piece of the line.
+pub fn write_event<W: Write>(
+    out: &mut W,
+    form: LogForm,
+    seconds: u64,
+    event: &Event<'_>,
+) -> io::Result<()>
+    ensures { OnOk result (TellsEvent (W.contents out.old) (W.contents out.new) form seconds event.now) }
+{
+    let time = time_text(&civil_at(seconds));
+    write_event_at(out, form, &time, event)
 }

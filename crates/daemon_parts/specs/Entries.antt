@@ -1,0 +1,93 @@
+-- What an event is told by: a word, and values under their keys.
+use Rattle.std.specs.Prelude.{ℕ, List, [], ◌∷◌, codes, Option, None, Some}
+use Rattle.std.specs.declared.net.socket_addr.SocketAddr.{SocketAddr}
+use Rattle.daemon_parts.specs.declared.event.Event.{Event}
+use Rattle.daemon_parts.specs.declared.event.Event.TheVariants as event
+use Rattle.daemon_parts.specs.declared.event.Value.{Value}
+use Rattle.daemon_parts.specs.declared.event.Value.TheVariants as value
+use Rattle.daemon_parts.specs.declared.event.Pair.{Pair}
+
+-- a value: nothing, a number, an address with a port, or a text
+pub data Told : Type 0 where
+  Nothing : Told
+  Number : (n : ℕ) → Told
+  Address : (a : SocketAddr) → Told
+  Text : (s : List ℕ) → Told
+
+-- a value under its key
+pub record Entry : Type 0 where
+  pub key : List ℕ
+  pub value : Told
+
+abbrev pub entry : List ℕ → Told → Entry
+entry key told = record { key = key; value = told }
+
+-- what a value of the program tells
+abbrev pub told_value : Value → Told
+told_value value.Nothing = Nothing
+told_value (value.Number n) = Number n
+told_value (value.Address a) = Address a
+told_value (value.Text s) = Text s.now
+
+abbrev pub told_pair : Pair → Entry
+told_pair p = entry p.key.now (told_value p.value)
+
+-- the version of the protocol that a client spoke, if any
+abbrev pub spoken : Option ℕ → Told
+spoken None = Nothing
+spoken (Some version) = Number version
+
+abbrev pub at : SocketAddr → Entry
+at address = entry (codes "address") (Address address)
+
+abbrev pub of_number : List ℕ → ℕ → Entry
+of_number key n = entry key (Number n)
+
+abbrev pub of_text : List ℕ → List ℕ → Entry
+of_text key s = entry key (Text s)
+
+abbrev pub word_of : Event → List ℕ
+word_of (event.Started session session0 serial) = codes "started"
+word_of (event.Limited clients) = codes "limited"
+word_of (event.Listening address) = codes "listening"
+word_of (event.Status address) = codes "status"
+word_of event.Ready = codes "ready"
+word_of (event.ClientCame address) = codes "client-came"
+word_of (event.ClientGone address why version read written seconds) = codes "client-gone"
+word_of (event.Stalled address) = codes "stalled"
+word_of (event.Full address clients) = codes "full"
+word_of event.NoDescriptor = codes "no-descriptor"
+word_of (event.Published session serial announced withdrawn records milliseconds) = codes "published"
+word_of (event.Refused file reason) = codes "refused"
+word_of (event.Taken file) = codes "taken"
+word_of (event.Old file age) = codes "old"
+word_of (event.Fresh file age) = codes "fresh"
+word_of (event.Expired file entries) = codes "expired"
+word_of (event.Memory what) = codes "memory"
+word_of (event.Failed what reason) = codes "failed"
+word_of (event.Stopped reason) = codes "stopped"
+
+abbrev pub entries_of : Event → List Entry
+entries_of (event.Started session session0 serial) = of_number (codes "session") session ∷ of_number (codes "session0") session0 ∷ of_number (codes "serial") serial ∷ []
+entries_of (event.Limited clients) = of_number (codes "clients") clients ∷ []
+entries_of (event.Listening address) = at address ∷ []
+entries_of (event.Status address) = at address ∷ []
+entries_of event.Ready = []
+entries_of (event.ClientCame address) = at address ∷ []
+entries_of (event.ClientGone address why version read written seconds) =
+    at address ∷ of_text (codes "why") why.now ∷ entry (codes "version") (spoken version)
+    ∷ of_number (codes "read") read ∷ of_number (codes "written") written ∷ of_number (codes "seconds") seconds ∷ []
+entries_of (event.Stalled address) = at address ∷ []
+entries_of (event.Full address clients) = at address ∷ of_number (codes "clients") clients ∷ []
+entries_of event.NoDescriptor = []
+entries_of (event.Published session serial announced withdrawn records milliseconds) =
+    of_number (codes "session") session ∷ of_number (codes "serial") serial ∷ of_number (codes "announced") announced
+    ∷ of_number (codes "withdrawn") withdrawn ∷ of_number (codes "records") records ∷ of_number (codes "ms") milliseconds ∷ []
+entries_of (event.Refused file reason) = of_text (codes "file") file.now ∷ of_text (codes "reason") reason.now ∷ []
+entries_of (event.Taken file) = of_text (codes "file") file.now ∷ []
+entries_of (event.Old file age) = of_text (codes "file") file.now ∷ of_number (codes "age") age ∷ []
+entries_of (event.Fresh file age) = of_text (codes "file") file.now ∷ of_number (codes "age") age ∷ []
+entries_of (event.Expired file entries) = of_text (codes "file") file.now ∷ of_number (codes "entries") entries ∷ []
+entries_of (event.Memory what) = of_text (codes "what") what.now ∷ []
+entries_of (event.Failed what reason) = of_text (codes "what") what.now ∷ of_text (codes "reason") reason.now ∷ []
+entries_of (event.Stopped reason) = of_text (codes "reason") reason.now ∷ []
