@@ -7,29 +7,257 @@ use std::test::Fail;
 /// 2026-11-25T18:40:00Z.
 const MOMENT: u64 = 1_795_632_000;
 
-/// Whether an event is told so, in both forms.
-fn tells(alloc: Global, event: &Event<'_>, text: &str, json: &str) -> Result<bool, Fail> {
+/// The line of an event.
+fn line_of(alloc: Global, form: LogForm, seconds: u64, event: &Event<'_>) -> Result<Vec<u8>, Fail> {
     let mut line = Vec::new(alloc);
-    write_event(&mut line, LogForm::Text, MOMENT, event)?;
-    let mut object = Vec::new(alloc);
-    write_event(&mut object, LogForm::Json, MOMENT, event)?;
-    Ok(line.as_slice() == text.as_bytes() && object.as_slice() == json.as_bytes())
+    write_event(&mut line, form, seconds, event)?;
+    Ok(line)
+}
+
+/// Whether an event is told so at 2026-11-25T18:40:00Z, in both forms: by a word, and by values, which stand behind the time and the word.
+fn tells(
+    alloc: Global,
+    event: &Event<'_>,
+    word: &str,
+    plain: &str,
+    json: &str,
+) -> Result<bool, Fail> {
+    let told = format!(in alloc; "2026-11-25T18:40:00Z {word}{plain}\n")?;
+    let object = format!(in alloc;
+        "{{\"time\":\"2026-11-25T18:40:00Z\",\"event\":\"{word}\"{json}}}\n"
+    )?;
+    Ok(
+        line_of(alloc, LogForm::Text, MOMENT, event)?.as_slice() == told.as_bytes()
+            && line_of(alloc, LogForm::Json, MOMENT, event)?.as_slice() == object.as_bytes(),
+    )
+}
+
+fn address() -> SocketAddr {
+    SocketAddr::new(IpAddr::V4(Ipv4Addr::new(192, 0, 2, 1)), 40_000)
+}
+
+/// Events, and what is told of them: the word, and the values in both forms.
+type Told = (Event<'static>, &'static str, &'static str, &'static str);
+
+/// The events of the daemon and of its files.
+fn daemon_events() -> [Told; 8] {
+    [
+        (
+            Event::Started {
+                session: 4660,
+                session0: 65_535,
+                serial: 4_294_967_295,
+            },
+            "started",
+            " session=4660 session0=65535 serial=4294967295",
+            ",\"session\":4660,\"session0\":65535,\"serial\":4294967295",
+        ),
+        (
+            Event::Limited { clients: 100 },
+            "limited",
+            " clients=100",
+            ",\"clients\":100",
+        ),
+        (Event::Ready, "ready", "", ""),
+        (Event::NoDescriptor, "no-descriptor", "", ""),
+        (
+            Event::Published {
+                session: 4660,
+                serial: 5,
+                announced: 3,
+                withdrawn: 0,
+                records: 3,
+                milliseconds: 12,
+            },
+            "published",
+            " session=4660 serial=5 announced=3 withdrawn=0 records=3 ms=12",
+            ",\"session\":4660,\"serial\":5,\"announced\":3,\"withdrawn\":0,\"records\":3,\"ms\":12",
+        ),
+        (
+            Event::Memory { what: "publish" },
+            "memory",
+            " what=publish",
+            ",\"what\":\"publish\"",
+        ),
+        (
+            Event::Failed {
+                what: "accept",
+                reason: "",
+            },
+            "failed",
+            " what=accept reason=\"\"",
+            ",\"what\":\"accept\",\"reason\":\"\"",
+        ),
+        (
+            Event::Stopped {
+                reason: "the first router has gone",
+            },
+            "stopped",
+            " reason=\"the first router has gone\"",
+            ",\"reason\":\"the first router has gone\"",
+        ),
+    ]
+}
+
+/// The events of files, with names that break no line.
+fn file_events() -> [Told; 6] {
+    [
+        (
+            Event::Refused {
+                file: "/var/db/vrps.json",
+                reason: "not JSON (fault 1)",
+            },
+            "refused",
+            " file=/var/db/vrps.json reason=\"not JSON (fault 1)\"",
+            ",\"file\":\"/var/db/vrps.json\",\"reason\":\"not JSON (fault 1)\"",
+        ),
+        (
+            Event::Refused {
+                file: "a\nb",
+                reason: "\"\\",
+            },
+            "refused",
+            " file=\"a\\u000ab\" reason=\"\\\"\\\\\"",
+            ",\"file\":\"a\\u000ab\",\"reason\":\"\\\"\\\\\"",
+        ),
+        (
+            Event::Taken {
+                file: "Gr\u{fc}n\u{85}",
+            },
+            "taken",
+            " file=\"Gr\u{fc}n\\u0085\"",
+            ",\"file\":\"Gr\u{fc}n\\u0085\"",
+        ),
+        (
+            Event::Old {
+                file: "a=b",
+                age: 86_401,
+            },
+            "old",
+            " file=\"a=b\" age=86401",
+            ",\"file\":\"a=b\",\"age\":86401",
+        ),
+        (
+            Event::Fresh { file: "a", age: 0 },
+            "fresh",
+            " file=a age=0",
+            ",\"file\":\"a\",\"age\":0",
+        ),
+        (
+            Event::Expired {
+                file: "a",
+                entries: 18_446_744_073_709_551_615,
+            },
+            "expired",
+            " file=a entries=18446744073709551615",
+            ",\"file\":\"a\",\"entries\":18446744073709551615",
+        ),
+    ]
+}
+
+/// The events of clients.
+fn client_events() -> [Told; 7] {
+    let at = address();
+    let v6 = SocketAddr::new(IpAddr::V6(Ipv6Addr::LOCALHOST), 3323);
+    [
+        (
+            Event::Listening { address: v6 },
+            "listening",
+            " address=[::1]:3323",
+            ",\"address\":\"[::1]:3323\"",
+        ),
+        (
+            Event::Status { address: v6 },
+            "status",
+            " address=[::1]:3323",
+            ",\"address\":\"[::1]:3323\"",
+        ),
+        (
+            Event::ClientCame { address: at },
+            "client-came",
+            " address=192.0.2.1:40000",
+            ",\"address\":\"192.0.2.1:40000\"",
+        ),
+        (
+            Event::ClientGone {
+                address: at,
+                why: "peer closed",
+                version: Some(1),
+                read: 8,
+                written: 60,
+                seconds: 3600,
+            },
+            "client-gone",
+            " address=192.0.2.1:40000 why=\"peer closed\" version=1 read=8 written=60 seconds=3600",
+            ",\"address\":\"192.0.2.1:40000\",\"why\":\"peer closed\",\"version\":1,\"read\":8,\"written\":60,\"seconds\":3600",
+        ),
+        (
+            Event::ClientGone {
+                address: at,
+                why: "truncated",
+                version: None,
+                read: 0,
+                written: 0,
+                seconds: 0,
+            },
+            "client-gone",
+            " address=192.0.2.1:40000 why=truncated version=none read=0 written=0 seconds=0",
+            ",\"address\":\"192.0.2.1:40000\",\"why\":\"truncated\",\"version\":null,\"read\":0,\"written\":0,\"seconds\":0",
+        ),
+        (
+            Event::Stalled { address: at },
+            "stalled",
+            " address=192.0.2.1:40000",
+            ",\"address\":\"192.0.2.1:40000\"",
+        ),
+        (
+            Event::Full {
+                address: at,
+                clients: 256,
+            },
+            "full",
+            " address=192.0.2.1:40000 clients=256",
+            ",\"address\":\"192.0.2.1:40000\",\"clients\":256",
+        ),
+    ]
+}
+
+/// Whether each of these events is told as it should be.
+fn all_are_told(alloc: Global, events: &[Told]) -> Result<bool, Fail> {
+    for (event, word, plain, json) in events {
+        if !tells(alloc, event, word, plain, json)? {
+            return Ok(false);
+        }
+    }
+    Ok(true)
 }
 
 #[test]
-fn a_version_is_told(rt: HostRuntime) -> Result<(), Fail> {
-    let event = Event::Published {
-        session: 4660,
-        serial: 5,
-        announced: 3,
-        withdrawn: 0,
-        records: 3,
-        milliseconds: 12,
-    };
-    let text =
-        "2026-11-25T18:40:00Z published session=4660 serial=5 announced=3 withdrawn=0 records=3 ms=12\n";
-    let json =
-        "{\"time\":\"2026-11-25T18:40:00Z\",\"event\":\"published\",\"session\":4660,\"serial\":5,\"announced\":3,\"withdrawn\":0,\"records\":3,\"ms\":12}\n";
-    assert!(rt; tells(rt.alloc(), &event, text, json)?);
+fn events_are_told(rt: HostRuntime) -> Result<(), Fail> {
+    assert!(rt; all_are_told(rt.alloc(), &daemon_events())?);
+    assert!(rt; all_are_told(rt.alloc(), &file_events())?);
+    assert!(rt; all_are_told(rt.alloc(), &client_events())?);
+    Ok(())
+}
+
+/// Seconds since 1970, and their time.
+const TIMES: &[(u64, &str)] = &[
+    (0, "1970-01-01T00:00:00Z ready\n"),
+    (951_782_399, "2000-02-28T23:59:59Z ready\n"),
+    (951_782_400, "2000-02-29T00:00:00Z ready\n"),
+    (1_709_251_199, "2024-02-29T23:59:59Z ready\n"),
+    (1_709_251_200, "2024-03-01T00:00:00Z ready\n"),
+    (4_107_542_399, "2100-02-28T23:59:59Z ready\n"),
+    (4_107_542_400, "2100-03-01T00:00:00Z ready\n"),
+    (253_402_300_799, "9999-12-31T23:59:59Z ready\n"),
+    (18_446_744_073_709_551_615, "9999-12-31T23:59:59Z ready\n"),
+];
+
+#[test]
+fn times_are_told(rt: HostRuntime) -> Result<(), Fail> {
+    for &(seconds, line) in TIMES {
+        let told = line_of(rt.alloc(), LogForm::Text, seconds, &Event::Ready)?;
+        assert!(rt; told.as_slice() == line.as_bytes());
+    }
     Ok(())
 }

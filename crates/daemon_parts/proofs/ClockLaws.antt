@@ -1,6 +1,6 @@
 -- Days of years and months, and the text of a moment.
 use Rattle.std.proofs.lemmas.Bool.Decides.{nat_tests}
-use Rattle.std.proofs.Common.{nat_le, ◌&&◌, ◌≡◌, ℕ, suc, ◌+◌, ◌-◌, ◌*◌, ◌/◌, ◌%◌, ◌<◌, ◌≤◌, ◌∷◌, [], ◌++◌, true, false, Bool, if◌then◌else◌, arith, refl, ap, add-one}
+use Rattle.std.proofs.Common.{nat_le, ◌&&◌, ◌≡◌, ℕ, ◌+◌, ◌*◌, ◌/◌, ◌%◌, ◌≤◌, ◌∷◌, [], ◌++◌, true, false, Bool, if◌then◌else◌, arith, refl, add-one}
 use Rattle.der_lite.specs.Moments.{CivilMoment, decimals, days_of_month, is_leap, is_moment}
 use Rattle.der_lite.specs.Seconds.{days_of_year, days_of_years, days_of_months}
 use Rattle.daemon_parts.specs.Clock.{time_text}

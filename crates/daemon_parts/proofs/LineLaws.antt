@@ -1,5 +1,5 @@
 -- Characters of a text in quotes.
-use Rattle.std.proofs.Common.{◌≡◌, ℕ, ◌/◌, ◌%◌, Bool, true, false, ◌||◌, ◌==◌, if◌then◌else◌, ◌∷◌, [], ◌++◌, codes, List, encode_utf8, ap, arith, rules}
+use Rattle.std.proofs.Common.{◌≡◌, ℕ, ◌/◌, ◌%◌, Bool, true, false, ◌||◌, ◌==◌, if◌then◌else◌, ◌∷◌, [], ◌++◌, codes, encode_utf8, ap, arith}
 use Rattle.std.proofs.lemmas.Bool.Decides.{nat_tests}
 use Rattle.std.specs.Char.{digit_char, is_control}
 use Rattle.daemon_parts.specs.Lines.{told_char, escaped}

@@ -1,10 +1,10 @@
 -- Serials stay behind the clock, so those of a run that started later are later.
-use Rattle.std.proofs.Common.{◌≡◌, ℕ, zero, suc, ◌+◌, ◌-◌, ◌%◌, ◌^◌, ◌<◌, ◌≤◌, true, nat_lt, List, [], ◌∷◌, length, All, None, Some, arith, subst, sym, ◌∙◌}
+use Rattle.std.proofs.Common.{◌≡◌, ℕ, zero, suc, ◌+◌, ◌-◌, ◌^◌, ◌<◌, ◌≤◌, true, nat_lt, List, [], ◌∷◌, length, All, None, Some, arith, subst, sym}
 use Rattle.std.proofs.lemmas.Bool.Decides.{nat_tests}
 use Rattle.vrps.specs.Serial.{serial_at, is_before}
 use Rattle.vrps.proofs.SetVersions.{is_before_newer}
 use Rattle.daemon_parts.specs.Names.{first_serial}
-use Rattle.daemon_parts.specs.Runs.{ArePaced, Run, IsRun, WaitsASecond, serial_in, IsLater, WithinHalf, RestartIsLater, RestartAtOnceIsLater}
+use Rattle.daemon_parts.specs.Runs.{ArePaced, RestartIsLater, RestartAtOnceIsLater}
 
 -- ---- moments of a list
 

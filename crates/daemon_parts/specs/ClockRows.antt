@@ -1,7 +1,7 @@
 -- Times, worked out.
 use Rattle.std.specs.Prelude.{◌≡◌, codes, refl}
 use Rattle.der_lite.specs.Moments.{told_moment, is_moment}
-use Rattle.der_lite.specs.Seconds.{seconds_of, days_of_years, days_of_months}
+use Rattle.der_lite.specs.Seconds.{days_of_years, days_of_months}
 use Rattle.daemon_parts.specs.Clock.{IsAt, time_text, last_second}
 
 beginning : time_text (told_moment 1970 1 1 0 0 0) ≡ codes "1970-01-01T00:00:00Z"

@@ -6,3 +6,4 @@ pub mod Clock
 pub mod ClockRows
 pub mod Entries
 pub mod Lines
+pub mod LineRows

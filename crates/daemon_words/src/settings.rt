@@ -6,7 +6,7 @@ use rtr_ends::Timing;
 use std::net::SocketAddr;
 
 /// What a run of the daemon is asked for.
-#[derive(Drop)]
+#[derive(Debug, Drop)]
 pub struct Settings {
     /// Files that validators write.
     pub vrps: Vec<String>,

@@ -15,7 +15,7 @@ use std::alloc::Global;
 use std::net::{IpAddr, Ipv4Addr, SocketAddr};
 
 /// What the words of the command line ask for.
-#[derive(Drop)]
+#[derive(Debug, Drop)]
 pub enum Asked {
     /// A run under these settings.
     Serve(Settings),

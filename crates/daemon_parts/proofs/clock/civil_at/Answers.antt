@@ -1,6 +1,5 @@
-use Rattle.std.proofs.Common.{◌≡◌, ◌+◌, ◌/◌, ◌%◌, min, arith}
+use Rattle.std.proofs.Common.{◌+◌, ◌/◌, ◌%◌, arith}
 use Rattle.der_lite.specs.Moments.{told_moment}
-use Rattle.daemon_parts.specs.Clock.{IsAt}
 use Rattle.daemon_parts.proofs.ClockLaws.{real_from, parts_of}
 use Rattle.daemon_parts.proofs.clock.civil_at.Goals as goal
 

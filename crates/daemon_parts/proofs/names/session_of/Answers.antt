@@ -1,4 +1,4 @@
-use Rattle.std.proofs.Common.{◌≡◌, ◌++◌, ◌∙◌, ◌+◌, ◌*◌, List, ℕ, [], ap}
+use Rattle.std.proofs.Common.{◌≡◌, ◌++◌, ◌∙◌, [], ap}
 use Rattle.sha2.specs.Sha256.{sha256}
 use Rattle.daemon_parts.specs.Names.{session_of, part_bytes, front_of, joined}
 use Rattle.daemon_parts.proofs.names.session_of.Goals as goal
