@@ -1,5 +1,22 @@
 //! What the daemon `rpkirtrd` is made of beside its server: the names of its versions over restarts ([`first_serial`], [`session_of`],
 //! [`session0_of`]), the pace of its versions ([`Pace`]), and the lines of its log ([`Event`], [`write_event`]).
+//!
+//! For example, where `rt` is the runtime that `main` is handed:
+//!
+//! ```rust
+//! use daemon_parts::{Event, LogForm, Pace, first_serial, write_event};
+//!
+//! let now = 1_795_632_000;
+//! assert!(rt; first_serial(now) == 1_795_632_000);
+//! let mut pace = Pace::new();
+//! pace.published(now);
+//! assert!(rt; !pace.may_publish(now));
+//! assert!(rt; pace.may_publish(now + 1));
+//! let mut log = Vec::new(rt.alloc());
+//! let event = Event::Taken { file: "vrps.json" };
+//! write_event(&mut log, LogForm::Text, now, &event)?;
+//! assert!(rt; log.as_slice() == b"2026-11-25T18:40:00Z taken file=vrps.json\n".as_slice());
+//! ```
 #![tactic(auto)]
 
 mod clock;

@@ -4,6 +4,10 @@
 #[cfg(test)]
 mod command_parts_example;
 #[cfg(test)]
+mod daemon_parts_example;
+#[cfg(test)]
+mod daemon_words_example;
+#[cfg(test)]
 mod der_lite_example;
 #[cfg(test)]
 mod exports_example;
