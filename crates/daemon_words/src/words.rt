@@ -28,14 +28,26 @@ pub enum Asked {
 /// The port for routers (RFC 8210 section 13), of which this daemon takes that which needs no privilege.
 const PORT: u16 = 3323;
 
+/// What stands in what the parser says before the usage.
+fn before_usage(text: &str) -> &str {
+    match text.split_once("\n\nUsage") {
+        Some((before, _)) => before,
+        None => text,
+    }
+}
+
+/// The same without the word with which it begins.
+fn without_word(text: &str) -> &str {
+    match text.strip_prefix("error: ") {
+        Some(rest) => rest,
+        None => text,
+    }
+}
+
 /// Why the words do not parse, in the first lines of what the parser says of them.
 fn unclear(alloc: Global, error: &Error) -> Result<String, WordsFault> {
     let all = format!(in alloc; "{error}")?;
-    let first = match all.as_str().split_once("\n\nUsage") {
-        Some((first, _)) => first,
-        None => all.as_str(),
-    };
-    let told = first.strip_prefix("error: ").unwrap_or(first);
+    let told = without_word(before_usage(all.as_str()));
     Ok(String::from_str(alloc, told.trim_end())?)
 }
 
