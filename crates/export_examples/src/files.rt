@@ -1,6 +1,6 @@
 //! Files as validators and RTR tools write them.
 use example_values::sets::{Rows, set_of};
-use exports::{Export, read_export};
+use exports::{Export, read_export, read_export_until};
 use std::alloc::Global;
 use std::test::Fail;
 
@@ -114,6 +114,61 @@ fn an_entry_counts_before_its_expiry(rt: HostRuntime) -> Result<(), Fail> {
     assert!(rt; counts(rt.alloc(), text, NOW - 1)? == (1, 0));
     assert!(rt; counts(rt.alloc(), text, NOW)? == (0, 1));
     assert!(rt; counts(rt.alloc(), text, NOW + 1)? == (0, 1));
+    Ok(())
+}
+
+/// Whether what a text exports at a moment is read the same with its end, and ends then.
+fn ends(alloc: Global, text: &[u8], now: u64, until: Option<u64>) -> Result<bool, Fail> {
+    let one = read_export(alloc, text, now)?;
+    let same = read_export_until(alloc, text, now)?;
+    Ok(
+        same.until == until
+            && same.export.set.as_slice() == one.set.as_slice()
+            && same.export.expired == one.expired
+            && same.export.built == one.built,
+    )
+}
+
+#[test]
+fn an_export_ends_with_the_first_of_its_entries(rt: HostRuntime) -> Result<(), Fail> {
+    let text = br#"{"metadata":{"generated":1700000000},"roas":[
+        {"asn":1,"prefix":"10.0.0.0/8","maxLength":8,"expires":1700000007},
+        {"asn":2,"prefix":"10.0.0.0/8","maxLength":8,"expires":1700000000},
+        {"asn":3,"prefix":"10.0.0.0/8","maxLength":8},
+        {"asn":4,"prefix":"10.0.0.0/8","maxLength":8,"expires":1700000003},
+        {"asn":5,"prefix":"10.0.0.0/8","maxLength":8,"expires":1},
+        {"asn":6,"prefix":"10.0.0.0/8","maxLength":8,"expires":1700000005}]}"#;
+    let told = [
+        (0, Some(1)),
+        (1, Some(NOW)),
+        (NOW - 1, Some(NOW)),
+        (NOW, Some(NOW + 3)),
+        (NOW + 2, Some(NOW + 3)),
+        (NOW + 3, Some(NOW + 5)),
+        (NOW + 6, Some(NOW + 7)),
+        (NOW + 7, None),
+    ];
+    for (now, until) in told {
+        assert!(rt; ends(rt.alloc(), text, now, until)?);
+    }
+    Ok(())
+}
+
+#[test]
+fn an_export_without_expiry_does_not_end(rt: HostRuntime) -> Result<(), Fail> {
+    let list = br#"[{"asn":1,"prefix":"10.0.0.0/8","maxLength":8}]"#;
+    assert!(rt; ends(rt.alloc(), list, NOW, None)?);
+    assert!(rt; ends(rt.alloc(), b"{\"roas\":[]}", NOW, None)?);
+    Ok(())
+}
+
+/// Read as a whole, as a number of it has a point, and at the last second that there is.
+#[test]
+fn the_last_second_is_an_end(rt: HostRuntime) -> Result<(), Fail> {
+    let text =
+        br#"{"x":1.5,"roas":[{"asn":1,"prefix":"10.0.0.0/8","maxLength":8,"expires":18446744073709551615}]}"#;
+    assert!(rt; ends(rt.alloc(), text, NOW, Some(u64::MAX))?);
+    assert!(rt; ends(rt.alloc(), text, u64::MAX, None)?);
     Ok(())
 }
 

@@ -1,13 +1,14 @@
 -- The entries of an array, one after the other.
-use Rattle.std.proofs.Common.{◌≡◌, ℕ, suc, ◌+◌, ◌≤◌, ◌++◌, cond, List, [], ◌∷◌, length, append_assoc, append-nil, map, refl, sym, ap, ◌∙◌, subst, arith, Some, inl}
-use Rattle.std.specs.Prelude.{filter, not}
+use Rattle.std.proofs.Common.{◌≡◌, ℕ, suc, ◌+◌, ◌≤◌, ◌++◌, cond, List, [], ◌∷◌, length, append_assoc, append-nil, map, refl, sym, ap, ◌∙◌, subst, arith, Option, Some, None, inl}
+use Rattle.std.specs.Prelude.{filter, filter_map, not}
 use Rattle.std.proofs.lemmas.List.{map-append, length-append}
-use Rattle.std.proofs.lemmas.List.Elements.{filter-append}
+use Rattle.std.proofs.lemmas.List.Elements.{filter-append, filter_map-append}
 use Rattle.std.proofs.lemmas.List.Sums.{count_by-le-length, sum_by-append}
 use Rattle.serde_json.specs.Data.{Data, Items, no_items, item}
 use Rattle.exports.specs.Entry.{AreEntries, FailsAt, IsEntry, IsNoEntry, counts_at, current, expired}
 use Rattle.exports.specs.Export.{Lists, lasting}
 use Rattle.exports.specs.Found.{Gathers}
+use Rattle.exports.specs.Until.{IsFirst, endings}
 use Rattle.exports.specs.declared.entry.Listed.{Listed}
 use Rattle.exports.specs.declared.gathered.Gathered.{Gathered}
 use Rattle.prefixes.specs.Payload.{Payload}
@@ -41,15 +42,19 @@ current-append now es fs = ap (map (λ e. e.payload)) (filter-append (counts_at 
 pub expired-append : (now : ℕ) (es fs : List Listed) → expired now (es ++ fs) ≡ expired now es + expired now fs
 expired-append now es fs = sum_by-append (λ e. cond (not (counts_at now e)) 1 0) es fs
 
+pub endings-append : (now : ℕ) (es fs : List Listed) → endings now (es ++ fs) ≡ endings now es ++ endings now fs
+endings-append now es fs = ap (filter_map (λ e. e.expires)) (filter-append (counts_at now) es fs) ∙ filter_map-append (λ e. e.expires) (filter (counts_at now) es) (filter (counts_at now) fs)
+
 -- No more entries do not count than there are.
 pub expired-le : (now : ℕ) (es : List Listed) → expired now es ≤ length es
 expired-le now es = count_by-le-length (λ e. not (counts_at now e)) es
 
 pub gather_more : (now : ℕ) (es : List Listed) (e : Listed) (g h : Gathered) → Gathers now es g → h.records.items ≡ g.records.items ++ current now (e ∷ []) → h.expired ≡ g.expired + expired now (e ∷ [])
-    → Gathers now (es ++ e ∷ []) h
-gather_more now es e g h so_far records count = record {
+    → ((ts : List ℕ) → IsFirst ts g.until → IsFirst (ts ++ endings now (e ∷ [])) h.until) → Gathers now (es ++ e ∷ []) h
+gather_more now es e g h so_far records count ends = record {
   records = records ∙ ap (λ vs. vs ++ current now (e ∷ [])) so_far.records ∙ sym (current-append now es (e ∷ []));
   expired = count ∙ ap (λ n. n + expired now (e ∷ [])) so_far.expired ∙ sym (expired-append now es (e ∷ []));
+  until = subst (λ ts. IsFirst ts h.until) (sym (endings-append now es (e ∷ []))) (ends (endings now es) so_far.until);
 }
 
 -- ---- entries without expiry
@@ -62,13 +67,22 @@ expired-lasting : (now : ℕ) (vs : List Payload) → expired now (map lasting v
 expired-lasting now [] = refl
 expired-lasting now (v ∷ vs) = expired-lasting now vs
 
+endings-lasting : (now : ℕ) (vs : List Payload) → endings now (map lasting vs) ≡ []
+endings-lasting now [] = refl
+endings-lasting now (v ∷ vs) = endings-lasting now vs
+
+first_of_none : (ts : List ℕ) (until : Option ℕ) → until ≡ None → ts ≡ [] → IsFirst ts until
+first_of_none ts None h none = none
+first_of_none ts (Some t) h none = absurd (cc)
+
 -- What was gathered of a payload list are its entries.
-pub gather_list : (d : Data) (ds : Items) (now : ℕ) (g : Gathered) → Some ds ≡ as_array d → lists.AreEntries ds g.records.items → g.expired ≡ 0 → (es : List Listed) × Lists d es × Gathers now es g
-gather_list d ds now g array are none = (
+pub gather_list : (d : Data) (ds : Items) (now : ℕ) (g : Gathered) → Some ds ≡ as_array d → lists.AreEntries ds g.records.items → g.expired ≡ 0 → g.until ≡ None → (es : List Listed) × Lists d es × Gathers now es g
+gather_list d ds now g array are none for_ever = (
   map lasting g.records.items,
   inl (record { items = ds; is_array = sym array; payloads = g.records.items; listed = are; entries_are = refl }),
-  record { records = sym (current-lasting now g.records.items); expired = none ∙ sym (expired-lasting now g.records.items) },
+  record {
+    records = sym (current-lasting now g.records.items);
+    expired = none ∙ sym (expired-lasting now g.records.items);
+    until = first_of_none (endings now (map lasting g.records.items)) g.until for_ever (endings-lasting now g.records.items);
+  },
 )
-
-pub gather_none : (now : ℕ) (g : Gathered) → g.records.items ≡ [] → g.expired ≡ 0 → Gathers now [] g
-gather_none now g records count = record { records = records; expired = count }

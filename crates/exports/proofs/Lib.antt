@@ -1,5 +1,6 @@
 pub mod Texts
 pub mod Items
+pub mod Ends
 pub mod Times
 pub mod PlainSteps
 pub mod PlainParts
@@ -7,3 +8,4 @@ pub mod PlainWhole
 pub mod FaultRows
 pub mod Once
 pub mod Outcomes
+pub mod Later

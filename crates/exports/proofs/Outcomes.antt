@@ -22,7 +22,7 @@ use Rattle.exports.specs.declared.fault.ExportFault.TheVariants.{NotJson, NoRoas
 use Rattle.exports.proofs.Once.{none_fails, one_entries, one_fails}
 use Rattle.exports.proofs.Times.{plain_time}
 
-one_value : (bytes : List ℕ) (d e : Data) → Reads bytes d → Reads bytes e → d ≡ e
+pub one_value : (bytes : List ℕ) (d e : Data) → Reads bytes d → Reads bytes e → d ≡ e
 one_value bytes d e h k = one_some d e (json.read bytes) h.1 k.1
 
 -- ---- the moment
@@ -63,7 +63,7 @@ one_of_roas one d es fs h k =
     let items = one_some k.items h.items (roas d) k.roas_are h.roas_are in
     one_entries one h.items es fs h.entries (subst (λ ds. AreEntries ds fs) items k.entries)
 
-one_lists : OneReading → (d : Data) (es fs : List Listed) → Lists d es → Lists d fs → es ≡ fs
+pub one_lists : OneReading → (d : Data) (es fs : List Listed) → Lists d es → Lists d fs → es ≡ fs
 one_lists one d es fs (inl h) (inl k) = one_of_list one d es fs h k
 one_lists one d es fs (inl h) (inr k) = not_both d h.items k.items h.is_array k.roas_are
 one_lists one d es fs (inr h) (inl k) = not_both d k.items h.items k.is_array h.roas_are

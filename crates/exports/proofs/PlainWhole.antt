@@ -78,6 +78,6 @@ gathered_some now d (Some g) h = (h.0, inr h.1, h.2)
 pub tells_parts : (text : List ℕ) (now : ℕ) (p : Parts) → (ms : Members) × (read text ≡ Some (object ms)) × HasParts now ms p → (d : Data) × (read text ≡ Some d) × TellsParts now d p
 tells_parts text now p h = (object h.0, h.1, record { gathered = gathered_some now (object h.0) p.gathered h.2.gathered; built = h.2.built })
 
-pub tells_list : (text : List ℕ) (now : ℕ) (g : Gathered) → g.expired ≡ 0 → (ds : Items) × (read text ≡ Some (array ds)) × lists.AreEntries ds g.records.items
+pub tells_list : (text : List ℕ) (now : ℕ) (g : Gathered) → g.expired ≡ 0 → g.until ≡ None → (ds : Items) × (read text ≡ Some (array ds)) × lists.AreEntries ds g.records.items
     → (d : Data) × (read text ≡ Some d) × TellsParts now d (record { gathered = Some g; built = None })
-tells_list text now g none h = (array h.0, h.1, record { gathered = gather_list (array h.0) h.0 now g refl h.2 none; built = λ t e m says. absurd (cc) })
+tells_list text now g none for_ever h = (array h.0, h.1, record { gathered = gather_list (array h.0) h.0 now g refl h.2 none for_ever; built = λ t e m says. absurd (cc) })

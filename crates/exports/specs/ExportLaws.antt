@@ -1,7 +1,9 @@
 -- What bytes are at a moment is one thing.
-use Rattle.std.specs.Prelude.{◌≡◌, ℕ, List}
+use Rattle.std.specs.Prelude.{◌≡◌, ◌↔◌, ℕ, ◌≤◌, List}
 use Rattle.exports.specs.Export.{HasFault, IsExport}
+use Rattle.exports.specs.Until.{IsBefore, IsExportUntil}
 use Rattle.exports.specs.declared.export.Export.{Export}
+use Rattle.exports.specs.declared.export.ExportUntil.{ExportUntil}
 use Rattle.exports.specs.declared.fault.ExportFault.{ExportFault}
 use Rattle.exports.specs.declared.fault.ExportFault.TheVariants.{Memory}
 
@@ -17,3 +19,7 @@ NoFaultOfExports = (bytes : List ℕ) (now : ℕ) (x : Export) (fault : ExportFa
 abbrev pub OneFault : Type 0
 OneFault =
     (bytes : List ℕ) (now : ℕ) (f g : ExportFault) → HasFault bytes now f → HasFault bytes now g → ¬ (f ≡ Memory) → ¬ (g ≡ Memory) → f ≡ g
+
+-- Bytes are the same export just until its end.
+abbrev pub SameUntil : Type 0
+SameUntil = (bytes : List ℕ) (now : ℕ) (x : ExportUntil) → IsExportUntil bytes now x → (t : ℕ) → now ≤ t → (IsExport bytes t x.export ↔ IsBefore t x.until)

@@ -1,7 +1,8 @@
 -- Exports, worked out.
-use Rattle.std.specs.Prelude.{◌≡◌, ℕ, List, [], ◌∷◌, true, false, Option, Some, None, option_and_then, codes, refl}
+use Rattle.std.specs.Prelude.{◌≡◌, ℕ, ◌≤◌, List, [], ◌∷◌, true, false, Option, Some, None, option_and_then, codes, refl}
 use Rattle.std.specs.Fmt.{digits}
-use Rattle.std.proofs.Common.{inl, inr, lit<}
+use Rattle.std.proofs.Common.{inl, inr, lit<, lit≤}
+use Rattle.std.proofs.lemmas.List.Elements.{All-cons, All-nil}
 use Rattle.serde_json.specs.Data.{Data, null, number, string, object, unsigned, no_items, item, no_members, member}
 use Rattle.serde_json.specs.Read as json
 use Rattle.serde_json.proofs.OnLiterals.{serde_json_on_literals}
@@ -11,6 +12,7 @@ use Rattle.prefixes.specs.declared.prefix.IpPrefix.TheVariants.{V4}
 use Rattle.exports.specs.Built.{IsBuilt, SaysTime, buildtime, generated, time_text}
 use Rattle.exports.specs.Entry.{FailsAt, IsNoEntry, SaysAsn, current, expired, is_after, said}
 use Rattle.exports.specs.Export.{roas}
+use Rattle.exports.specs.Until.{IsBefore, IsFirst, endings}
 use Rattle.exports.specs.declared.entry.Listed.{Listed}
 use Rattle.exports.specs.declared.fault.EntryFault.TheVariants as faults
 
@@ -41,6 +43,28 @@ those_that_count = refl
 
 those_that_do_not : expired 100 three ≡ 1
 those_that_do_not = refl
+
+-- ---- until when an export stays what it is
+
+-- of the entries that count at 100 one ends at 101, and one never
+ends_then : endings 100 three ≡ 101 ∷ []
+ends_then = refl
+
+ends_first : IsFirst (endings 100 three) (Some 101)
+ends_first = ((0, lit< tt, refl), All-cons (λ s. 101 ≤ s) 101 [] (lit≤ tt) (All-nil (λ s. 101 ≤ s)))
+
+-- of those that count at 40 the first ends at 100
+ends_before : endings 40 three ≡ 100 ∷ 101 ∷ []
+ends_before = refl
+
+ends_never : IsFirst (endings 101 three) None
+ends_never = refl
+
+before_its_end : IsBefore 100 (Some 101)
+before_its_end = lit< tt
+
+without_end : IsBefore 18446744073709551615 None
+without_end = tt
 
 -- ---- what a text holds
 

@@ -5,6 +5,7 @@ use Rattle.prefixes.specs.Payload.{Payload}
 use Rattle.payload_lists.specs.PayloadList as lists
 use Rattle.exports.specs.Entry.{FailsAt, Said, current, expired}
 use Rattle.exports.specs.Export.{IsList, roas}
+use Rattle.exports.specs.Until.{IsFirst, endings}
 use Rattle.exports.specs.declared.entry.Found.{Found}
 use Rattle.exports.specs.declared.entry.Listed.{Listed}
 use Rattle.exports.specs.declared.gathered.Gathered.{Gathered}
@@ -25,6 +26,7 @@ said_by f = record {
 pub record Gathers (now : ℕ) (es : List Listed) (g : Gathered) : Type 0 where
   pub records : g.records.items ≡ current now es
   pub expired : g.expired ≡ expired now es
+  pub until : IsFirst (endings now es) g.until
 
 -- What is wrong with the items, where they are no entries
 abbrev pub ItemsFail : Items → ExportFault → Type 0

@@ -2,6 +2,7 @@ pub mod Faults
 pub mod Built
 pub mod Entry
 pub mod Export
+pub mod Until
 pub mod Found
 pub mod PlainForm
 pub mod ExportRows

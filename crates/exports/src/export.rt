@@ -1,11 +1,12 @@
 //! Exports, read from JSON.
-ghost use Rattle.std.specs.Prelude.{◌≡◌, ◌<◌, ◌≤◌, List, Some, IfOk, IfErr, IfSome, OnErr, Err};
+ghost use Rattle.std.specs.Prelude.{◌≡◌, ◌<◌, ◌≤◌, ℕ, List, Some, None, IfOk, IfErr, IfSome, OnErr, Err};
 ghost use Rattle.serde_json.specs.View.{view, items_view};
 ghost use Rattle.vrps.specs.VrpSet.{set_of, size};
 ghost use Rattle.payload_lists.specs.PayloadList.{AreEntries};
 ghost use Rattle.exports.specs.Export.{HasFault, IsExport, Lists};
 ghost use Rattle.exports.specs.Found.{Gathers, ListFails, ValueFails};
 ghost use Rattle.exports.specs.PlainForm.{TellsParts};
+ghost use Rattle.exports.specs.Until.{IsBefore, IsExportUntil};
 ghost use Rattle.serde_json.specs.Data.{Data};
 ghost use Rattle.serde_json.specs.Read.{read};
 ghost use Rattle.exports.specs.declared.entry.Listed.{Listed as Entry};
@@ -33,6 +34,16 @@ pub struct Export {
     pub built: Option<u64>,
 }
 
+/// What a validator exported, at a moment, and until when it stays so.
+#[derive(Debug, Drop)]
+pub struct ExportUntil {
+    /// The export at the moment. It is the same at each later one before `until`.
+    pub export: Export,
+    /// The least `expires` of the entries that count, in seconds since 1970: then one of them counts no more. Where none of them has
+    /// one, the export stays what it is.
+    pub until: Option<u64>,
+}
+
 /// The set of these records, if they are not too many.
 fn set_from(records: Vec<Vrp>) -> Result<VrpSet, ExportFault>
     ensures ok { IfOk result (λ s. (s ≡ set_of records.items) × (size s ≤ 16777215)) }
@@ -49,14 +60,11 @@ fn set_from(records: Vec<Vrp>) -> Result<VrpSet, ExportFault>
 
 /// Gathers the payloads of a payload list.
 fn gather_list(alloc: Global, list: &[Value]) -> Result<Gathered, ExportFault>
-    ensures ok { IfOk result (λ g. AreEntries (items_view list.now) g.records.items × (g.expired ≡ 0)) }
+    ensures ok { IfOk result (λ g. AreEntries (items_view list.now) g.records.items × (g.expired ≡ 0) × (g.until ≡ None)) }
     ensures fault { IfErr result (λ fault. ListFails (items_view list.now) fault) }
 {
     match records_of(alloc, list) {
-        Ok(records) => Ok(Gathered {
-            records,
-            expired: 0,
-        }),
+        Ok(records) => Ok(Gathered::lasting(records)),
         Err(ListFault::NoList) => Err(ExportFault::NoRoas),
         Err(ListFault::Memory) => Err(ExportFault::Memory),
     }
@@ -77,23 +85,28 @@ fn gather_any(alloc: Global, value: &Value, now: u64) -> Result<Gathered, Export
 }
 
 /// The export of what was gathered.
-fn export_of(gathered: Gathered, built: Option<u64>) -> Result<Export, ExportFault>
-    ensures set { IfOk result (λ x. (x.set ≡ set_of gathered.records.items) × (size x.set ≤ 16777215)) }
-    ensures rest { IfOk result (λ x. (x.expired ≡ gathered.expired) × (x.built ≡ built)) }
+fn export_of(gathered: Gathered, built: Option<u64>) -> Result<ExportUntil, ExportFault>
+    ensures set { IfOk result (λ x. (x.export.set ≡ set_of gathered.records.items) × (size x.export.set ≤ 16777215)) }
+    ensures rest { IfOk result (λ x. (x.export.expired ≡ gathered.expired) × (x.export.built ≡ built) × (x.until ≡ gathered.until)) }
     ensures too_many { OnErr result ((result ≡ Err ExportFault.TooMany) × (16777215 < size (set_of gathered.records.items))) }
 {
-    let Gathered { records, expired } = gathered;
+    let Gathered {
+        records,
+        expired,
+        until,
+    } = gathered;
     let set = set_from(records)?;
-    Ok(Export {
+    let export = Export {
         set,
         expired,
         built,
-    })
+    };
+    Ok(ExportUntil { export, until })
 }
 
 /// The export of a text in any form, read as a whole.
-fn read_any(alloc: Global, bytes: &[u8], now: u64) -> Result<Export, ExportFault>
-    ensures ok { IfOk result (λ export. IsExport bytes.now now export) }
+fn read_any(alloc: Global, bytes: &[u8], now: u64) -> Result<ExportUntil, ExportFault>
+    ensures ok { IfOk result (λ x. IsExportUntil bytes.now now x) }
     ensures fault { IfErr result (λ fault. HasFault bytes.now now fault) }
 {
     let value = match Value::from_slice(alloc, bytes) {
@@ -111,10 +124,7 @@ fn gather_plain(alloc: Global, text: &str, now: u64) -> Result<Option<Parts>, Al
 {
     match plain_list(alloc, text) {
         Ok(Some(records)) => Ok(Some(Parts {
-            gathered: Some(Gathered {
-                records,
-                expired: 0,
-            }),
+            gathered: Some(Gathered::lasting(records)),
             built: None,
         })),
         Ok(None) => plain_export(alloc, text, now),
@@ -124,8 +134,8 @@ fn gather_plain(alloc: Global, text: &str, now: u64) -> Result<Option<Parts>, Al
 }
 
 /// The export of a text in its plain form.
-fn read_plain(alloc: Global, text: &str, now: u64) -> Result<Option<Export>, ExportFault>
-    ensures ok { IfOk result (λ found. IfSome found (λ export. IsExport text.now now export)) }
+fn read_plain(alloc: Global, text: &str, now: u64) -> Result<Option<ExportUntil>, ExportFault>
+    ensures ok { IfOk result (λ found. IfSome found (λ x. IsExportUntil text.now now x)) }
     ensures fault { IfErr result (λ fault. HasFault text.now now fault) }
 {
     let Some(parts) = gather_plain(alloc, text, now)? else {
@@ -150,6 +160,19 @@ fn read_plain(alloc: Global, text: &str, now: u64) -> Result<Option<Export>, Exp
 /// are, in the order of their numbers; where there is one, nothing was taken.
 pub fn read_export(alloc: Global, bytes: &[u8], now: u64) -> Result<Export, ExportFault>
     ensures ok { IfOk result (λ export. IsExport bytes.now now export) }
+    ensures fault { IfErr result (λ fault. HasFault bytes.now now fault) }
+{
+    match read_export_until(alloc, bytes, now) {
+        Ok(ExportUntil { export, until: _ }) => Ok(export),
+        Err(fault) => Err(fault),
+    }
+}
+
+/// The export that these bytes are at a moment, as [`read_export`] reads it, and the second until which they are the same one: from that
+/// second on an entry does not count that counts now. Before it they need not be read again.
+pub fn read_export_until(alloc: Global, bytes: &[u8], now: u64) -> Result<ExportUntil, ExportFault>
+    ensures ok { IfOk result (λ x. IsExportUntil bytes.now now x) }
+    ensures lasts { IfOk result (λ x. (t : ℕ) → now ≤ t → IsBefore t x.until → IsExport bytes.now t x.export) }
     ensures fault { IfErr result (λ fault. HasFault bytes.now now fault) }
 {
     if let Ok(text) = str::from_utf8(bytes) {

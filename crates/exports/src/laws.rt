@@ -1,5 +1,5 @@
 //! Laws of exports. The functions do nothing: each states a law, which is proved.
-ghost use Rattle.exports.specs.ExportLaws.{NoFaultOfExports, OneExport, OneFault};
+ghost use Rattle.exports.specs.ExportLaws.{NoFaultOfExports, OneExport, OneFault, SameUntil};
 
 use prefixes::laws::one_reading;
 
@@ -20,6 +20,13 @@ pub fn no_fault_of_exports()
 /// Bytes that are no export have one fault: the first.
 pub fn one_fault()
     ensures { OneFault }
+{
+    one_reading();
+}
+
+/// What bytes are an export of at a moment they are at each later one before its end, and at none from then on.
+pub fn same_until()
+    ensures { SameUntil }
 {
     one_reading();
 }

@@ -24,5 +24,5 @@ mod gathered;
 pub mod laws;
 mod plain;
 
-pub use export::{Export, read_export};
+pub use export::{Export, ExportUntil, read_export, read_export_until};
 pub use fault::{EntryFault, ExportFault};

@@ -217,10 +217,7 @@ fn gather_entries(
 ) -> Result<Option<Gathered>, AllocError>
     ensures { IfOk result (λ found. IfSome found (λ g. ReadsEntries now reader.old reader.new g)) }
 {
-    let mut gathered = Gathered {
-        records: Vec::new(alloc),
-        expired: 0,
-    };
+    let mut gathered = Gathered::new(alloc);
     while !reader.take_end_array() {
         if gathered.is_full() {
             return Ok(None);

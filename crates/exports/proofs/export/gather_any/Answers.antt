@@ -1,4 +1,4 @@
-use Rattle.std.proofs.Common.{◌≡◌, ℕ, List, Some, Result, Ok, Err, ◌∙◌, ap}
+use Rattle.std.proofs.Common.{◌≡◌, ℕ, List, Some, None, Result, Ok, Err, ◌∙◌, ap}
 use Rattle.std.specs.Prelude.{IfOk}
 use Rattle.serde_json.specs.Data.{Data, Items}
 use Rattle.serde_json.specs.Find.{as_array}
@@ -12,10 +12,10 @@ use Rattle.exports.specs.declared.gathered.Gathered.{Gathered}
 use Rattle.exports.proofs.Items as items
 use Rattle.exports.proofs.export.gather_any.Goals as goal
 
-of_list : (d : Data) (ds : Items) (now : ℕ) (r : Result Gathered ExportFault) → Some ds ≡ as_array d → IfOk r (λ g. lists.AreEntries ds g.records.items × (g.expired ≡ 0))
+of_list : (d : Data) (ds : Items) (now : ℕ) (r : Result Gathered ExportFault) → Some ds ≡ as_array d → IfOk r (λ g. lists.AreEntries ds g.records.items × (g.expired ≡ 0) × (g.until ≡ None))
     → IfOk r (λ g. (es : List Listed) × Lists d es × Gathers now es g)
 of_list d ds now (Err e) array h = tt
-of_list d ds now (Ok g) array h = items.gather_list d ds now g array h.0 h.1
+of_list d ds now (Ok g) array h = items.gather_list d ds now g array h.0 h.1 h.2
 
 pub returns-in-Some-clause-ok : goal.returns-in-Some-clause-ok
 returns-in-Some-clause-ok c =

@@ -1,4 +1,4 @@
-use Rattle.std.proofs.Common.{◌≡◌, Some, refl, subst}
+use Rattle.std.proofs.Common.{◌≡◌, Some, sym, subst}
 use Rattle.std.specs.Prelude.{IfSome}
 use Rattle.serde_json.specs.Data.{Items, array}
 use Rattle.serde_json.specs.Read.{read}
@@ -10,7 +10,8 @@ use Rattle.exports.proofs.export.gather_plain.Goals as goal
 pub returns-in-Ok-Some : goal.returns-in-Ok-Some
 returns-in-Ok-Some c =
     let listed = subst (λ o. IfSome o (λ vs. (ds : Items) × (read c.args.text.now ≡ Some (array ds)) × AreEntries ds vs.items)) c.in-Ok-Some.field-0-is c.in-Ok-Some.ensures.ok in
-    tells_list c.args.text.now c.args.now (record { records = c.in-Ok-Some.records; expired = 0 }) refl listed
+    let gathered = subst (λ vs. (ds : Items) × (read c.args.text.now ≡ Some (array ds)) × AreEntries ds vs.items) (sym c.lasting.ensures.0) listed in
+    tells_list c.args.text.now c.args.now c.lasting.result c.lasting.ensures.1 c.lasting.ensures.2 gathered
 
 pub returns-in-Ok-None : goal.returns-in-Ok-None
 returns-in-Ok-None c = each_found c.plain_export.result (λ parts. tells_parts c.args.text.now c.args.now parts) c.plain_export.ensures

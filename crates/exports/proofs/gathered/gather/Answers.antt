@@ -1,9 +1,12 @@
-use Rattle.std.proofs.Common.{◌≡◌, ◌+◌, ◌++◌, ◌∷◌, [], drop, subst, arith}
+use Rattle.std.proofs.Common.{◌≡◌, ◌+◌, ◌++◌, ◌∷◌, [], drop, refl, subst, arith}
 use Rattle.std.proofs.lemmas.List.{drop_all, length-append}
 use Rattle.serde_json.specs.View.{items_view, view}
-use Rattle.exports.proofs.Items.{SoFar, finish, gather_more, step, stop}
+use Rattle.exports.proofs.Items.{SoFar, begin, finish, gather_more, step, stop}
 use Rattle.payload_lists.proofs.Entries.{next_item}
 use Rattle.exports.proofs.gathered.gather.Goals as goal
+
+pub loop-index-init : goal.loop-index-init
+loop-index-init c = ([], begin (items_view c.args.list.now), refl, c.new-gathered.ensures c.args.now)
 
 pub returns-in-Err-clause-fault : goal.returns-in-Err-clause-fault
 returns-in-Err-clause-fault c =
@@ -22,7 +25,7 @@ loop-index-preserved c =
       step (items_view c.args.list.now) (items_view (drop (c.loop-index.index + 1) c.args.list.now)) (view c.index-list-index.result) so_far.0 c.in-Ok.listed
           (subst (λ ds. SoFar (items_view c.args.list.now) ds so_far.0) left so_far.1) c.in-Ok.ensures.ok,
       omega (arith, length-append so_far.0 one, so_far.2),
-      gather_more c.args.now so_far.0 c.in-Ok.listed c.loop-index.gathered c.add.new.self so_far.3 c.in_ok-add.ensures.records c.in_ok-add.ensures.expired,
+      gather_more c.args.now so_far.0 c.in-Ok.listed c.loop-index.gathered c.add.new.self so_far.3 c.in_ok-add.ensures.records c.in_ok-add.ensures.expired c.in_ok-add.ensures.until,
     )
 
 pub returns-clause-ok : goal.returns-clause-ok

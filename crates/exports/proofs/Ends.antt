@@ -1,0 +1,133 @@
+-- The first second at which an entry that counts ends, and that nothing changes before it.
+use Rattle.std.proofs.Common.{◌≡◌, ℕ, ◌+◌, ◌<◌, ◌≤◌, ◌++◌, cond, Bool, true, false, nat_lt, List, [], ◌∷◌, Option, Some, None, Result, Ok, Err, refl, sym, ap, ap₂, subst, ◌∙◌, arith}
+use Rattle.std.specs.Prelude.{All, IfOk, IfSome, filter, filter_map, map, min, not}
+use Rattle.std.specs.List.{cons_option}
+use Rattle.std.proofs.lemmas.Bool.Decides.{nat_tests}
+use Rattle.std.proofs.lemmas.List.Elements.{All-append, All-cons, All-nil, All-tail, All-weaker, Contains-append_left, Contains-append_right}
+use Rattle.std.proofs.lemmas.List.Sums.{sum_by-cons}
+use Rattle.prefixes.proofs.Basics.{lt_true}
+use Rattle.serde_json.specs.Data.{Data}
+use Rattle.serde_json.specs.Read.{read}
+use Rattle.std.specs.Str.{IsUtf8}
+use Rattle.exports.specs.PlainForm.{TellsParts}
+use Rattle.exports.specs.declared.plain.Parts.{Parts}
+use Rattle.vrps.specs.VrpSet.{set_of, size}
+use Rattle.exports.specs.Built.{IsBuilt, buildtime, generated}
+use Rattle.exports.specs.Entry.{counts_at, expired, is_after}
+use Rattle.exports.specs.Export.{IsExport, Lists, Reads}
+use Rattle.exports.specs.Found.{Gathers}
+use Rattle.exports.specs.Until.{IsBefore, IsExportUntil, IsFirst, endings}
+use Rattle.exports.specs.declared.entry.Listed.{Listed}
+use Rattle.exports.specs.declared.export.ExportUntil.{ExportUntil}
+use Rattle.exports.specs.declared.fault.ExportFault.{ExportFault}
+use Rattle.exports.specs.declared.gathered.Gathered.{Gathered}
+
+-- ---- the first of two lists of seconds
+
+first_left : (ts us : List ℕ) (s t : ℕ) → s ≤ t → IsFirst ts (Some s) → IsFirst us (Some t) → IsFirst (ts ++ us) (Some s)
+first_left ts us s t le h k = (Contains-append_left ts us s h.0, All-append (λ x. s ≤ x) ts us h.1 (All-weaker (λ x. t ≤ x) (λ x. s ≤ x) (λ x far. omega (arith, le, far)) us k.1))
+
+first_right : (ts us : List ℕ) (s t : ℕ) → t ≤ s → IsFirst ts (Some s) → IsFirst us (Some t) → IsFirst (ts ++ us) (Some t)
+first_right ts us s t le h k = (Contains-append_right ts us t k.0, All-append (λ x. t ≤ x) ts us (All-weaker (λ x. s ≤ x) (λ x. t ≤ x) (λ x far. omega (arith, le, far)) ts h.1) k.1)
+
+pub first_of_both : (ts us : List ℕ) (s t m : ℕ) → m ≡ min s t → IsFirst ts (Some s) → IsFirst us (Some t) → IsFirst (ts ++ us) (Some m)
+first_of_both ts us s t m is h k = by_test (nat_lt s t) refl
+  where
+    by_test : (b : Bool) → nat_lt s t ≡ b → IsFirst (ts ++ us) (Some m)
+    by_test true is_less = let same : s ≡ m = grind (arith, nat_tests) in subst (λ x. IsFirst (ts ++ us) (Some x)) same (first_left ts us s t (grind (arith, nat_tests)) h k)
+    by_test false is_less = let same : t ≡ m = grind (arith, nat_tests) in subst (λ x. IsFirst (ts ++ us) (Some x)) same (first_right ts us s t (grind (arith, nat_tests)) h k)
+
+first_of_one : (end : Option ℕ) → IsFirst (cons_option end []) end
+first_of_one None = refl
+first_of_one (Some t) = ((0, omega arith, refl), All-cons (λ x. t ≤ x) t [] (omega arith) (All-nil (λ x. t ≤ x)))
+
+-- The first of an entry that counts is its expiry, and of one that does not there is none.
+pub ends_of_one : (now : ℕ) (e : Listed) → true ≡ counts_at now e → IsFirst (endings now (e ∷ [])) e.expires
+ends_of_one now e counts = subst (λ b. IsFirst (filter_map (λ x. x.expires) (cond b (e ∷ []) [])) e.expires) counts (first_of_one e.expires)
+
+-- ---- before that second nothing changes
+
+-- The seconds of one entry more
+pub endings-cons : (now : ℕ) (e : Listed) (es : List Listed) → endings now (e ∷ es) ≡ cond (counts_at now e) (cons_option e.expires (endings now es)) (endings now es)
+endings-cons now e es = by_count (counts_at now e)
+  where
+    by_count : (b : Bool) → filter_map (λ x. x.expires) (cond b (e ∷ filter (counts_at now) es) (filter (counts_at now) es)) ≡ cond b (cons_option e.expires (endings now es)) (endings now es)
+    by_count true = refl
+    by_count false = refl
+
+-- An entry counts then as it does now, and the others end later too.
+abbrev Still : ℕ → ℕ → Option ℕ → List ℕ → Type 0
+Still now t end rest = (is_after t end ≡ is_after now end) × All (λ s. t < s) rest
+
+still : (now t : ℕ) (end : Option ℕ) (rest : List ℕ) → now ≤ t → All (λ s. t < s) (cond (is_after now end) (cons_option end rest) rest) → Still now t end rest
+still now t None rest later all = (refl, all)
+still now t (Some s) rest later all = by_test (nat_lt now s) refl all
+  where
+    by_test : (b : Bool) → nat_lt now s ≡ b → All (λ s. t < s) (cond b (s ∷ rest) rest) → (nat_lt t s ≡ nat_lt now s) × All (λ s. t < s) rest
+    by_test true is all = (lt_true t s (all 0 0 (omega arith)) ∙ sym is, All-tail (λ s. t < s) s rest all)
+    by_test false is all = let no : nat_lt t s ≡ false = grind (arith, nat_tests) in (no ∙ sym is, all)
+
+kept : (now t : ℕ) (es : List Listed) → now ≤ t → All (λ s. t < s) (endings now es) → (filter (counts_at t) es ≡ filter (counts_at now) es) × (expired t es ≡ expired now es)
+kept now t [] later all = (refl, refl)
+kept now t (e ∷ es) later all =
+    let head = still now t e.expires (endings now es) later (subst (λ ts. All (λ s. t < s) ts) (endings-cons now e es) all) in
+    let rest = kept now t es later head.1 in (
+      ap₂ (λ b xs. cond b (e ∷ xs) xs) head.0 rest.0,
+      sum_by-cons (λ x. cond (not (counts_at t x)) 1 0) e es ∙ ap₂ (λ b n. cond (not b) 1 0 + n) head.0 rest.1 ∙ sym (sum_by-cons (λ x. cond (not (counts_at now x)) 1 0) e es),
+    )
+
+all_after : (t : ℕ) (until : Option ℕ) (ts : List ℕ) → IsFirst ts until → IsBefore t until → All (λ s. t < s) ts
+all_after t None ts none before = subst (λ us. All (λ s. t < s) us) (sym none) (All-nil (λ s. t < s))
+all_after t (Some end) ts first before = All-weaker (λ s. end ≤ s) (λ s. t < s) (λ s far. omega (arith, before, far)) ts first.1
+
+-- At each second before the first end the bytes are the same export.
+pub lasts : (bytes : List ℕ) (now : ℕ) (x : ExportUntil) → IsExportUntil bytes now x → (t : ℕ) → now ≤ t → IsBefore t x.until → IsExport bytes t x.export
+lasts bytes now x is t later before =
+    let same = kept now t is.export.entries later (all_after t x.until (endings now is.export.entries) is.until before) in
+    record {
+      value = is.export.value;
+      reads = is.export.reads;
+      entries = is.export.entries;
+      lists = is.export.lists;
+      set_is = is.export.set_is ∙ ap (λ es. set_of (map (λ e. e.payload) es)) (sym same.0);
+      within_limit = is.export.within_limit;
+      expired_is = is.export.expired_is ∙ sym same.1;
+      built_is = is.export.built_is;
+    }
+
+pub if_lasts : (bytes : List ℕ) (now : ℕ) (r : Result ExportUntil ExportFault) → IfOk r (λ x. IsExportUntil bytes now x)
+    → IfOk r (λ x. (t : ℕ) → now ≤ t → IsBefore t x.until → IsExport bytes t x.export)
+if_lasts bytes now (Ok x) h = lasts bytes now x h
+if_lasts bytes now (Err e) h = tt
+
+-- ---- an export of what was gathered
+
+pub record Made (g : Gathered) (built : Option ℕ) (x : ExportUntil) : Type 0 where
+  pub set : (x.export.set ≡ set_of g.records.items) × (size x.export.set ≤ 16777215)
+  pub rest : (x.export.expired ≡ g.expired) × (x.export.built ≡ built) × (x.until ≡ g.until)
+
+pub is_made : (bytes : List ℕ) (now : ℕ) (d : Data) (g : Gathered) (built : Option ℕ) (x : ExportUntil) → Reads bytes d → (es : List Listed) × Lists d es × Gathers now es g → IsBuilt (generated d) (buildtime d) built → Made g built x → IsExportUntil bytes now x
+is_made bytes now d g built x reads found is made = record {
+  export = record {
+    value = d;
+    reads = reads;
+    entries = found.0;
+    lists = found.1;
+    set_is = made.set.0 ∙ ap set_of found.2.records;
+    within_limit = made.set.1;
+    expired_is = made.rest.0 ∙ found.2.expired;
+    built_is = subst (λ b. IsBuilt (generated d) (buildtime d) b) (sym made.rest.1) is;
+  };
+  until = subst (λ end. IsFirst (endings now found.0) end) (sym made.rest.2) found.2.until;
+}
+
+-- What was gathered of a text in its plain form
+pub of_parts : (text : List ℕ) (now : ℕ) (o : Option Parts) (p : Parts) (g : Gathered) (x : ExportUntil) → IsUtf8 text → IfSome o (λ parts. (d : Data) × (read text ≡ Some d) × TellsParts now d parts) → o ≡ Some p → p.gathered ≡ Some g → Made g p.built x → IsExportUntil text now x
+of_parts text now o p g x utf8 told is has made =
+    let parts = subst (λ o. IfSome o (λ parts. (d : Data) × (read text ≡ Some d) × TellsParts now d parts)) is told in
+    is_made text now parts.0 g p.built x (utf8, parts.1) (subst (λ o. IfSome o (λ g. (es : List Listed) × Lists parts.0 es × Gathers now es g)) has parts.2.gathered) parts.2.built made
+
+pub if_made : (bytes : List ℕ) (now : ℕ) (d : Data) (g : Gathered) (built : Option ℕ) (r : Result ExportUntil ExportFault) → Reads bytes d → (es : List Listed) × Lists d es × Gathers now es g → IsBuilt (generated d) (buildtime d) built
+    → IfOk r (λ x. (x.export.set ≡ set_of g.records.items) × (size x.export.set ≤ 16777215)) → IfOk r (λ x. (x.export.expired ≡ g.expired) × (x.export.built ≡ built) × (x.until ≡ g.until)) → IfOk r (λ x. IsExportUntil bytes now x)
+if_made bytes now d g built (Ok x) reads found is set rest = is_made bytes now d g built x reads found is (record { set = set; rest = rest })
+if_made bytes now d g built (Err e) reads found is set rest = tt

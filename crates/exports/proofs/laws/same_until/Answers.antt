@@ -1,0 +1,5 @@
+use Rattle.exports.proofs.Later as later
+use Rattle.exports.proofs.laws.same_until.Goals as goal
+
+pub returns : goal.returns
+returns c = later.same_until c.one_reading.ensures
