@@ -5,7 +5,9 @@ pub mod Times
 pub mod PlainSteps
 pub mod PlainParts
 pub mod PlainWhole
+pub mod Ascii
 pub mod FaultRows
+pub mod FileRows
 pub mod Once
 pub mod Outcomes
 pub mod Later

@@ -106,6 +106,15 @@ built_then = refl
 time_written : time_text (told_moment 2024 2 29 23 59 59) ≡ codes "2024-02-29T23:59:59Z"
 time_written = refl
 
+-- a number is no time of building, and metadata that are no object say nothing
+built_as_number : in_text buildtime (codes "{\"metadata\":{\"buildtime\":1709251199}}") ≡ None
+unfolding serde_json_on_literals
+built_as_number = refl
+
+no_metadata : (in_text generated (codes "{\"metadata\":[]}") ≡ None) × (in_text buildtime (codes "{\"metadata\":7}") ≡ None)
+unfolding serde_json_on_literals
+no_metadata = (refl, refl)
+
 -- the first of the two that is there
 generated_first : IsBuilt (Some 7) (Some (codes "2024-02-29T23:59:59Z")) (Some 7)
 generated_first = refl
@@ -143,6 +152,27 @@ as_text = (lit< tt, (codes "AS64496", refl, inr refl))
 as_text_alone : SaysAsn (said (only_as (string (codes "4294967295")))) 4294967295
 unfolding digits
 as_text_alone = (lit< tt, (codes "4294967295", refl, inl refl))
+
+as_greatest : SaysAsn (said (only_as (string (codes "AS4294967295")))) 4294967295
+unfolding digits
+as_greatest = (lit< tt, (codes "AS4294967295", refl, inr refl))
+
+as_zero : SaysAsn (said (only_as (string (codes "AS0")))) 0
+unfolding digits
+as_zero = (lit< tt, (codes "AS0", refl, inr refl))
+
+-- of a key that stands twice the last, whether a number or a text
+number_last : in_text (λ d. (said d).asn_number) (codes "{\"asn\":\"AS1\",\"asn\":2}") ≡ Some 2
+unfolding serde_json_on_literals
+number_last = refl
+
+text_last : in_text (λ d. (said d).asn_text) (codes "{\"asn\":1,\"asn\":\"AS2\"}") ≡ Some (codes "AS2")
+unfolding serde_json_on_literals
+text_last = refl
+
+no_number_then : in_text (λ d. (said d).asn_number) (codes "{\"asn\":1,\"asn\":\"AS2\"}") ≡ None
+unfolding serde_json_on_literals
+no_number_then = refl
 
 -- what is no object
 not_an_object : IsNoEntry null faults.NoObject
