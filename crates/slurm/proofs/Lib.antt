@@ -5,3 +5,4 @@ pub mod Arranging
 pub mod Walking
 pub mod Readings
 pub mod SlurmRows
+pub mod ExampleRows

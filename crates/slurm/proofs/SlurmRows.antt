@@ -1,13 +1,19 @@
 -- Worked rows: RFC 8416 sections 3.3.1 and 3.4.1, and each fault of an entry and of a file.
 use Rattle.std.specs.Prelude.{◌≡◌, ℕ, true, false, List, [], Option, Some, None, Ok, Err, codes, refl, negsuc}
+use Rattle.std.specs.Fmt.{digits}
+use Rattle.std.proofs.Common.{◌∷◌, subst, arith, inl, inr, lit<, lit≤}
 use Rattle.serde_json.specs.Data.{Data, null, number, string, array, object, unsigned, negative, Items, no_items, item, Members, no_members, member}
-use Rattle.prefixes.specs.Payload.{Payload}
+use Rattle.prefixes.specs.Address.{IsPrefix}
+use Rattle.prefixes.specs.Payload.{Payload, block_of, width_of}
+use Rattle.prefixes.specs.Text.{PrefixText, Says}
+use Rattle.prefixes.proofs.Spelling.{one_reading}
+use Rattle.payload_lists.proofs.Entries.{one_some}
 use Rattle.prefixes.specs.declared.prefix.IpPrefix.{IpPrefix}
 use Rattle.prefixes.specs.declared.prefix.IpPrefix.TheVariants.{V4, V6}
-use Rattle.slurm.specs.Entries.{assertion_asn, filter_asn, max_len_of}
+use Rattle.slurm.specs.Entries.{ReadsAssertion, ReadsEntries, ReadsFilter, ReadsObject, assertion_asn, filter_asn, max_len_of}
 use Rattle.slurm.specs.Exceptions.{is_filtered, matches}
 use Rattle.slurm.specs.Faults.{slurm_fault_number}
-use Rattle.slurm.specs.SlurmFile.{arrays_of}
+use Rattle.slurm.specs.SlurmFile.{Arrays, ReadsArrays, arrays_of}
 use Rattle.slurm.specs.declared.fault.EntryFault.TheVariants as why
 use Rattle.slurm.specs.declared.fault.SlurmArray.TheVariants as arrays
 use Rattle.slurm.specs.declared.fault.SlurmFault.TheVariants as fault
@@ -108,6 +114,61 @@ row_maximum : (max_len_of (object (prefix text no_members)) 24 ≡ Some 24) × (
     × (max_len_of (object (member (codes "maxPrefixLength") (string (codes "24")) no_members)) 24 ≡ None)
 row_maximum = (refl, refl, refl)
 
+-- an entry of an AS and a prefix
+abbrev of_text : Data → Members → Data
+of_text d ms = object (asn (number (unsigned 1)) (prefix d ms))
+
+-- A host bit: no text of a prefix, in a filter or an assertion
+host_bit : (p : IpPrefix) → ¬ (PrefixText p (codes "192.0.2.1/24"))
+unfolding digits
+host_bit p h = let same = one_reading (codes "192.0.2.1/24") p (V4 (record { addr = 3221225985; len = 24 })) h.says says in bits (subst (λ q. IsPrefix (width_of q) (block_of q)) same h.is_prefix)
+  where
+    says : Says (V4 (record { addr = 3221225985; len = 24 })) (codes "192.0.2.1/24")
+    says = record { address = codes "192.0.2.1"; is_address = (lit< tt, refl); three_digits = lit< tt; text_is = refl }
+
+    bits : IsPrefix 32 (record { addr = 3221225985; len = 24 }) → ⊥
+    bits k = absurd (omega (arith, k.no_host_bits))
+
+row_host_bit : ReadsFilter (object (prefix (string (codes "192.0.2.1/24")) no_members)) (Err why.Prefix) × ReadsAssertion (of_text (string (codes "192.0.2.1/24")) no_members) (Err why.Prefix)
+row_host_bit = (
+  (refl, refl, λ p h. host_bit p (subst (λ t. PrefixText p t) (one_some h.0 (codes "192.0.2.1/24") (Some (codes "192.0.2.1/24")) h.1 refl) h.2)),
+  λ p h. host_bit p (subst (λ t. PrefixText p t) (one_some h.0 (codes "192.0.2.1/24") (Some (codes "192.0.2.1/24")) h.1 refl) h.2),
+)
+
+-- no text, and no prefix at all
+row_no_text : ReadsFilter (object (prefix (number (unsigned 3)) no_members)) (Err why.Prefix) × ReadsAssertion (object (asn (number (unsigned 1)) no_members)) (Err why.Prefix)
+row_no_text = ((refl, refl, λ p h. absurd (cc)), λ p h. absurd (cc))
+
+-- The comment is judged before the prefix.
+row_comment_first : filter_asn (of_text (number (unsigned 3)) (comment (number (unsigned 2)) no_members)) ≡ Err why.Comment
+row_comment_first = refl
+
+net_text : PrefixText net (codes "192.0.2.0/24")
+unfolding digits
+net_text = record {
+  is_prefix = record { in_family = lit≤ tt; address = lit< tt; no_host_bits = omega arith };
+  says = record { address = codes "192.0.2.0"; is_address = (lit< tt, refl); three_digits = lit< tt; text_is = refl };
+}
+
+abbrev up_to : Data → Data
+up_to d = of_text text (member (codes "maxPrefixLength") d no_members)
+
+-- a maximum below the length, over the width, and one that is a text
+row_no_maximum : ReadsAssertion (up_to (number (unsigned 23))) (Err why.MaxLength) × ReadsAssertion (up_to (number (unsigned 33))) (Err why.MaxLength) × ReadsAssertion (up_to (string (codes "24"))) (Err why.MaxLength)
+row_no_maximum = (
+  (net, (codes "192.0.2.0/24", refl, net_text), λ m h. let is : 23 ≡ m = one_some 23 m (Some 23) refl h.0 in absurd (omega (arith, is, h.1))),
+  (net, (codes "192.0.2.0/24", refl, net_text), λ m h. let is : 33 ≡ m = one_some 33 m (Some 33) refl h.0 in absurd (omega (arith, is, h.2))),
+  (net, (codes "192.0.2.0/24", refl, net_text), λ m h. absurd (cc)),
+)
+
+-- with its own maximum, and without one
+row_own_maximum : ReadsAssertion (up_to (number (unsigned 32))) (Ok (record { prefix = net; max_len = 32; asn = 1 })) × ReadsAssertion (of_text text no_members) (Ok (record { prefix = net; max_len = 24; asn = 1 }))
+row_own_maximum = ((refl, (codes "192.0.2.0/24", refl, net_text), (refl, lit≤ tt, lit≤ tt)), (refl, (codes "192.0.2.0/24", refl, net_text), (refl, lit≤ tt, lit≤ tt)))
+
+-- on BGPsec any object, and nothing else
+row_object : ReadsObject (object (member (codes "SKI") (number (unsigned 7)) no_members)) (Ok tt) × ReadsObject (string (codes "SKI")) (Err why.NoObject)
+row_object = (refl, refl)
+
 -- ---- files (section 3.2)
 
 abbrev pair : List ℕ → Data → List ℕ → Data → Data
@@ -139,11 +200,40 @@ row_members : (arrays_of none ≡ Err (fault.Members objects.File)) × (arrays_o
     × (arrays_of (file (number (unsigned 1)) (object no_members) null) ≡ Err (fault.Members objects.Filters)) × (arrays_of (file (number (unsigned 1)) (filters null null) null) ≡ Err (fault.Members objects.Assertions))
 row_members = (refl, refl, refl, refl)
 
+-- Another member is told before another version, and one of the filters' object before its arrays.
+row_more : (arrays_of (object (member (codes "slurmVersion") (number (unsigned 2)) (member (codes "validationOutputFilters") none (member (codes "locallyAddedAssertions") none (member (codes "more") null no_members))))) ≡ Err (fault.Members objects.File))
+    × (arrays_of (file (number (unsigned 1)) (object (member (codes "prefixFilters") null (member (codes "bgpsecFilters") null (member (codes "more") null no_members)))) (assertions null null)) ≡ Err (fault.Members objects.Filters))
+    × (arrays_of (file (number (unsigned 1)) (filters null null) (object (member (codes "prefixAssertions") null (member (codes "bgpsecAssertions") null (member (codes "more") null no_members))))) ≡ Err (fault.Members objects.Assertions))
+row_more = (refl, refl, refl)
+
+-- An array that is none is told before an entry of another.
+row_array_first : arrays_of (file (number (unsigned 1)) (filters (array one_item) (array one_item)) (assertions (array one_item) null)) ≡ Err (fault.NoArray arrays.BgpsecAssertions)
+row_array_first = refl
+
 row_arrays : (arrays_of (file (number (unsigned 1)) (filters null null) (assertions null null)) ≡ Err (fault.NoArray arrays.PrefixFilters))
     × (arrays_of (file (number (unsigned 1)) (filters none null) (assertions null null)) ≡ Err (fault.NoArray arrays.BgpsecFilters))
     × (arrays_of (file (number (unsigned 1)) (filters none none) (assertions null null)) ≡ Err (fault.NoArray arrays.PrefixAssertions))
     × (arrays_of (file (number (unsigned 1)) (filters none none) (assertions none null)) ≡ Err (fault.NoArray arrays.BgpsecAssertions))
 row_arrays = (refl, refl, refl, refl)
+
+-- Of two arrays with a wrong entry the first is told, with the index of its first one.
+abbrev arrays_with : Items → Items → Arrays
+arrays_with filters keys = record { prefix_filters = filters; bgpsec_filters = keys; prefix_assertions = keys; bgpsec_assertions = keys }
+
+abbrev of_as_1 : Data
+of_as_1 = object (asn (number (unsigned 1)) no_members)
+
+abbrev second_wrong : Items
+second_wrong = item of_as_1 (item null no_items)
+
+the_second : ReadsEntries ReadsFilter arrays.PrefixFilters second_wrong (Err (fault.Entry arrays.PrefixFilters 1 why.NoObject))
+the_second = (refl, record { before = of_as_1 ∷ []; entry = null; after = []; parts = refl; index_is = refl; values = filter None (Some 1) ∷ []; are_read = ((refl, refl), tt); fault = refl })
+
+no_key : ReadsEntries ReadsObject arrays.BgpsecFilters one_item (Err (fault.Entry arrays.BgpsecFilters 0 why.NoObject))
+no_key = (refl, record { before = []; entry = null; after = []; parts = refl; index_is = refl; values = []; are_read = tt; fault = refl })
+
+row_entries : ReadsArrays (arrays_with second_wrong one_item) (Err (fault.Entry arrays.PrefixFilters 1 why.NoObject)) × ReadsArrays (arrays_with no_items one_item) (Err (fault.Entry arrays.BgpsecFilters 0 why.NoObject))
+row_entries = (inl the_second, inr ([], tt, inl no_key))
 
 row_numbers : (slurm_fault_number fault.NotJson ≡ 1) × (slurm_fault_number (fault.Members objects.File) ≡ 2) × (slurm_fault_number fault.Version ≡ 3) × (slurm_fault_number (fault.NoArray arrays.PrefixFilters) ≡ 4)
     × (slurm_fault_number (fault.Entry arrays.PrefixFilters 0 why.Asn) ≡ 5) × (slurm_fault_number fault.TooMany ≡ 6) × (slurm_fault_number fault.Memory ≡ 7)
