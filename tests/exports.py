@@ -168,7 +168,8 @@ def outcome(now, text):
     current = {record for record, expires in entries if expires is None or expires > now}
     built = built_of(value)
     expired = sum(not (expires is None or expires > now) for _, expires in entries)
-    return f"{expired} {'-' if built is None else built} [{','.join(map(written, sorted(current)))}]"
+    until = min((expires for _, expires in entries if expires is not None and expires > now), default="-")
+    return f"{expired} {'-' if built is None else built} {until} [{','.join(map(written, sorted(current)))}]"
 
 
 # ---- cases at random

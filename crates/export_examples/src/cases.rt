@@ -1,5 +1,5 @@
 //! What comes of the cases in a file: `tests/exports.py` makes them at random, and compares this with what it reads itself.
-use exports::read_export;
+use exports::{ExportUntil, read_export_until};
 use payload_lists::write_list;
 use std::alloc::Global;
 use std::io::Write;
@@ -9,16 +9,23 @@ use std::{fs, io, str};
 /// The file, in the folder where the tests run: on each line a moment, a blank, and a text in hexadecimal digits.
 const CASES: &str = "exports.cases";
 
-/// What comes of a text at a moment: how many entries have expired, when it was made and the payload list; or the fault and its text.
+/// A second, or `-`.
+fn second(alloc: Global, second: Option<u64>) -> Result<String, Fail> {
+    match second {
+        Some(second) => Ok(format!(in alloc; "{second}")?),
+        None => Ok(format!(in alloc; "-")?),
+    }
+}
+
+/// What comes of a text at a moment: how many entries have expired, when it was made, until when it stays so and the payload list; or the
+/// fault and its text.
 fn outcome(alloc: Global, now: u64, text: &[u8]) -> Result<String, Fail> {
-    match read_export(alloc, text, now) {
-        Ok(export) => {
+    match read_export_until(alloc, text, now) {
+        Ok(ExportUntil { export, until }) => {
             let list = write_list(alloc, export.set.as_slice())?;
-            let expired = export.expired;
-            match export.built {
-                Some(second) => Ok(format!(in alloc; "{expired} {second} {list}")?),
-                None => Ok(format!(in alloc; "{expired} - {list}")?),
-            }
+            let built = second(alloc, export.built)?;
+            let end = second(alloc, until)?;
+            Ok(format!(in alloc; "{} {built} {end} {list}", export.expired)?)
         }
         Err(fault) => Ok(format!(in alloc; "fault {}: {fault}", fault.number())?),
     }
