@@ -18,6 +18,15 @@ use vrps::{Published, Serial, VersionStore, VrpSet};
 #[derive(Clone, Copy, Debug, PartialEq, Eq)]
 pub struct Client(Conn);
 
+impl Client {
+    /// The number itself: that of its connection at the cache.
+    pub fn number(self) -> usize
+        ensures { result ≡ self.0.0 }
+    {
+        self.0.number()
+    }
+}
+
 /// Why a stream was not admitted. The numbers are fixed.
 #[derive(Clone, Copy, Debug, PartialEq, Eq, Error)]
 pub enum AdmitFault {
@@ -164,6 +173,16 @@ impl<S: VersionStore, T: Stream + Drop> Server<S, T> {
         ensures { (p : Past) → ShowsServer S.holds T.remaining T.contents p self.now → result ≡ clients_in self.now.slots.items }
     {
         self.count
+    }
+
+    /// A client's stream, where there is such a client.
+    pub fn stream(&self, client: Client) -> Option<&T>
+        ensures { option_map (λ stream. stream.now) result ≡ option_map (λ slot. slot.stream) (slot_at self.now.slots.items client.0.0) }
+    {
+        match self.slots.get(client.0.number())? {
+            None => None,
+            Some(slot) => Some(&slot.stream),
+        }
     }
 
     /// How many bytes went over a client's stream since it came, where there is such a client.

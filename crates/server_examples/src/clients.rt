@@ -94,11 +94,13 @@ fn clients_come_and_go(rt: HostRuntime) -> Result<(), Fail> {
     let first = admitted(&mut server, line(alloc, query.as_slice(), PLAIN, &out)?)?;
     let second = admitted(&mut server, line(alloc, query.as_slice(), PLAIN, &out)?)?;
     assert!(rt; first != second && server.clients() == 2);
+    assert!(rt; first.number() == 0 && second.number() == 1);
     let third = server.admit(line(alloc, query.as_slice(), PLAIN, &out)?);
     assert!(rt; third == Err(AdmitFault::TooManyClients));
     assert!(rt; AdmitFault::TooManyClients.number() == 1 && AdmitFault::Memory.number() == 2);
     server.drop_client(first);
     assert!(rt; server.clients() == 1 && server.serve(first, 9) == None);
+    assert!(rt; server.stream(first).is_none() && server.stream(second).is_some());
     let again = admitted(&mut server, line(alloc, query.as_slice(), PLAIN, &out)?)?;
     assert!(rt; again == first && server.clients() == 2);
     assert!(rt; server.serve(second, 0) == Some(Turn::Busy));
