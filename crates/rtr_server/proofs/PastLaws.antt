@@ -79,7 +79,7 @@ module _ (c : ℕ) (m : CacheState) (l : Life) (lives : ℕ → Option Life) (wa
 abbrev calls_of : ℕ → ℕ → Intervals → List ClientStep → ClientState → List CacheCall
 calls_of c keep t [] s = []
 calls_of c keep t (HandsIn wanting ∷ steps) s = Receive c wanting (steps_after keep t steps s).unread ∷ calls_of c keep t steps s
-calls_of c keep t (Pulls ∷ steps) s = Pull c 32768 ∷ calls_of c keep t steps s
+calls_of c keep t (Pulls most ∷ steps) s = Pull c most ∷ calls_of c keep t steps s
 calls_of c keep t (Notifies ∷ steps) s = Notify c ∷ calls_of c keep t steps s
 calls_of c keep t (Reads bytes ∷ steps) s = calls_of c keep t steps s
 calls_of c keep t (Writes count ∷ steps) s = calls_of c keep t steps s
@@ -87,7 +87,7 @@ calls_of c keep t (Writes count ∷ steps) s = calls_of c keep t steps s
 are_on : (c keep : ℕ) (t : Intervals) (steps : List ClientStep) (s : ClientState) → AllByRecursion (IsOn c) (calls_of c keep t steps s)
 are_on c keep t [] s = tt
 are_on c keep t (HandsIn wanting ∷ steps) s = (refl, are_on c keep t steps s)
-are_on c keep t (Pulls ∷ steps) s = (refl, are_on c keep t steps s)
+are_on c keep t (Pulls most ∷ steps) s = (refl, are_on c keep t steps s)
 are_on c keep t (Notifies ∷ steps) s = (refl, are_on c keep t steps s)
 are_on c keep t (Reads bytes ∷ steps) s = are_on c keep t steps s
 are_on c keep t (Writes count ∷ steps) s = are_on c keep t steps s
@@ -95,7 +95,7 @@ are_on c keep t (Writes count ∷ steps) s = are_on c keep t steps s
 are_lawful : (c keep : ℕ) (t : Intervals) (steps : List ClientStep) (s : ClientState) (rest : List CacheCall) → MaySteps keep t steps s → AllByRecursion IsCacheCall rest → AllByRecursion IsCacheCall (calls_of c keep t steps s ++ rest)
 are_lawful c keep t [] s rest may all = all
 are_lawful c keep t (HandsIn wanting ∷ steps) s rest may all = (may.0.0, are_lawful c keep t steps s rest may.1 all)
-are_lawful c keep t (Pulls ∷ steps) s rest may all = (tt, are_lawful c keep t steps s rest may.1 all)
+are_lawful c keep t (Pulls most ∷ steps) s rest may all = (tt, are_lawful c keep t steps s rest may.1 all)
 are_lawful c keep t (Notifies ∷ steps) s rest may all = (tt, are_lawful c keep t steps s rest may.1 all)
 are_lawful c keep t (Reads bytes ∷ steps) s rest may all = are_lawful c keep t steps s rest may.1 all
 are_lawful c keep t (Writes count ∷ steps) s rest may all = are_lawful c keep t steps s rest may.1 all
@@ -128,13 +128,13 @@ module _ (c : ℕ) (start : CacheState) (rest : List CacheCall) (l : Life) (s : 
       let cached : n.cache ≡ a.serving.cache = h.cache ∙ sym now ∙ sym (cache_is m.keep m.timing steps s) in
       step c m l (life rest start) (awaits rest start) n (life (calls_after steps) start) (awaits (calls_after steps) start) (awaits (calls_after steps) start) a after.unread after.unwritten after.owed after.carried
       (λ o. (conn_takes n.keep n.timing n.cache wanting a.unread o).machine.conn) (Takes wanting a.unread) (λ i. (conn_takes (h.keep i) (h.timing i) (cached i) wanting a.unread a.serving.conn).machine.conn) h.owed (λ d other. refl) h
-  follows (Pulls ∷ steps) =
+  follows (Pulls most ∷ steps) =
       let h = follows steps in
       let a = steps_after m.keep m.timing steps s in
       let n = ran (calls_after steps) start in
-      let after = client_after m.keep m.timing Pulls a in
+      let after = client_after m.keep m.timing (Pulls most) a in
       step c m l (life rest start) (awaits rest start) n (life (calls_after steps) start) (awaits (calls_after steps) start) (awaits (calls_after steps) start) a after.unread after.unwritten after.owed after.carried
-      (conn_pulled n.keep n.timing 32768) (Gives 32768) (λ i. conn_pulled (h.keep i) (h.timing i) 32768 a.serving.conn) h.owed (λ d other. refl) h
+      (conn_pulled n.keep n.timing most) (Gives most) (λ i. conn_pulled (h.keep i) (h.timing i) most a.serving.conn) h.owed (λ d other. refl) h
   follows (Notifies ∷ steps) =
       let h = follows steps in
       let a = steps_after m.keep m.timing steps s in

@@ -8,7 +8,7 @@ use Rattle.vrps.specs.Instance.{Instance}
 use Rattle.rtr_pdu.specs.Payloads.{AreBytes}
 use Rattle.rtr_pdu.specs.Unit.{MAX_UNIT_LEN}
 use Rattle.rtr_ends.specs.Cache.{Conn, Gives, Notifies as Notified, Serving, Takes, can_notify, conn_notified, conn_pulled, conn_takes, is_none, serve}
-use Rattle.rtr_ends.specs.CacheState.{CacheState, GivesBytes, ShowsCache, ShowsSlot, TakesPiece, can_notify_at, conn_consumed, due_at, given, is_open_at, is_wanted_at, notified, peer_at, with_conn}
+use Rattle.rtr_ends.specs.CacheState.{CacheState, GivesBytes, ShowsCache, ShowsSlot, TakesPiece, can_notify_at, conn_consumed, due_at, is_open_at, is_wanted_at, notified, peer_at, with_conn}
 use Rattle.rtr_ends.specs.Peer.{is_wanted_by_peer}
 use Rattle.rtr_ends.specs.ServeStream.{is_within}
 use Rattle.rtr_ends.specs.Timing.{Intervals}
@@ -17,8 +17,8 @@ use Rattle.rtr_ends.specs.declared.cache.Conn.{Conn as Number}
 use Rattle.rtr_ends.proofs.CacheStateLaws.{with_conn_at}
 use Rattle.rtr_ends.proofs.ServeStreamLaws.{drop_none, none_taken, pulled_is}
 use Rattle.rtr_ends.proofs.TableLaws.{false_true}
-use Rattle.prefixes.proofs.Basics.{eq_of}
-use Rattle.rtr_server.specs.Streams.{EmptiesSo, FillsSo, PullsInto, moved_count}
+use Rattle.prefixes.proofs.Basics.{eq_of, not_eq_of}
+use Rattle.rtr_server.specs.Streams.{EmptiesSo, FillsSo, IsRoom, PullsInto, moved_count, room_of}
 use Rattle.rtr_server.specs.Turns.{Anyhow, ClientState, ClientStep, EndsSo, Flow, Goes, GoesFrom, GoesOrEnds, HandsIn, HasRoom, IsIdle, IsOver, IsSettled, IsToWrite, MaySettle, MayStep, MaySteps, NoneDue, Notifies, Pulls, Reads, StandsSo, Writes, WritesFrom, and_read, and_written, after_read, after_write, can_be_told, capped, client_after, client_of, consumed_of, settles, steps_after}
 use Rattle.rtr_server.specs.declared.stream.Moved.{Moved}
 use Rattle.rtr_server.specs.declared.stream.Moved.TheVariants.{Bytes, Waits, Interrupted, Failed}
@@ -41,7 +41,7 @@ may_both keep t (step ∷ more) steps s h k = (subst (MayStep keep t step) (sym 
 pub cache_is : (keep : ℕ) (t : Intervals) (steps : List ClientStep) (s : ClientState) → (steps_after keep t steps s).serving.cache ≡ s.serving.cache
 cache_is keep t [] s = refl
 cache_is keep t (HandsIn wanting ∷ steps) s = cache_is keep t steps s
-cache_is keep t (Pulls ∷ steps) s = cache_is keep t steps s
+cache_is keep t (Pulls most ∷ steps) s = cache_is keep t steps s
 cache_is keep t (Notifies ∷ steps) s = cache_is keep t steps s
 cache_is keep t (Reads bytes ∷ steps) s = cache_is keep t steps s
 cache_is keep t (Writes count ∷ steps) s = cache_is keep t steps s
@@ -54,10 +54,11 @@ room_kept keep t (HandsIn wanting ∷ steps) s may h =
     let a = steps_after keep t steps s in
     let l = length-drop (consumed_of keep t wanting a.unread a.serving) a.unread in
     record { unread = omega (arith, l, k.unread); unwritten = k.unwritten }
-room_kept keep t (Pulls ∷ steps) s may h =
+room_kept keep t (Pulls most ∷ steps) s may h =
     let k = room_kept keep t steps s may.1 h in
-    let l = length-take 32768 (steps_after keep t steps s).serving.conn.state.due in
-    record { unread = k.unread; unwritten = omega (arith, l) }
+    let l = length-take most (steps_after keep t steps s).serving.conn.state.due in
+    let r = may.0.1.fits in
+    record { unread = k.unread; unwritten = omega (arith, l, r) }
 room_kept keep t (Notifies ∷ steps) s may h = let k = room_kept keep t steps s may.1 h in record { unread = k.unread; unwritten = k.unwritten }
 room_kept keep t (Reads bytes ∷ steps) s may h = let k = room_kept keep t steps s may.1 h in record { unread = may.0.1; unwritten = k.unwritten }
 room_kept keep t (Writes count ∷ steps) s may h =
@@ -71,12 +72,12 @@ none_of most [] some none = refl
 none_of zero (b ∷ due) some none = absurd (omega (arith, some))
 none_of (suc most) (b ∷ due) some none = cc
 
-due_pulled : (due : List ℕ) → take 32768 due ≡ [] → drop (min 32768 (length due)) due ≡ []
-due_pulled due none = ap (drop (min 32768 (length due))) (none_of 32768 due (omega arith) none) ∙ drop_none (min 32768 (length due))
+due_pulled : (most : ℕ) (due : List ℕ) → 0 < most → take most due ≡ [] → drop (min most (length due)) due ≡ []
+due_pulled most due some none = ap (drop (min most (length due))) (none_of most due some none) ∙ drop_none (min most (length due))
 
-none_left : (keep : ℕ) (t : Intervals) (o : Conn) → take 32768 o.state.due ≡ [] → (conn_pulled keep t 32768 o).state.due ≡ []
+none_left : (keep : ℕ) (t : Intervals) (most : ℕ) (o : Conn) → 0 < most → take most o.state.due ≡ [] → (conn_pulled keep t most o).state.due ≡ []
 unfolding conn_pulled
-none_left keep t o none = due_pulled o.state.due none
+none_left keep t most o some none = due_pulled most o.state.due some none
 
 not_notified : (keep : ℕ) (t : Intervals) (i : Instance) (o : Conn) → can_notify i o ≡ false → conn_notified keep t i o ≡ o
 unfolding conn_notified
@@ -300,24 +301,24 @@ module _ {S T : Type 0} (holds : ℕ → Instance → S → Type 0) (remaining c
       → GoesFrom holds remaining contents Anyhow old cache (record old { unwritten = new }) after NoneDue
   pulls old new cache after nothing pulled m s before had stands is flow =
       let p = pulled m stands.shows in
-      let now : Serving = serve m.keep m.timing (Gives 32768) s in
+      let now : Serving = serve m.keep m.timing (Gives p.most) s in
       let with_bytes : List ℕ → ClientState = λ bs. record { serving = now; unread = old.unread; unwritten = bs; owed = old.is_owed; carried = old.carried } in
-      let bytes_are : new ≡ take 32768 s.conn.state.due = p.0 ∙ ap (λ a. take 32768 (due_at a)) stands.at in
+      let bytes_are : new ≡ take p.most s.conn.state.due = p.bytes_are ∙ ap (λ a. take p.most (due_at a)) stands.at in
       record {
-        steps = Pulls ∷ [];
-        may = (nothing, tt);
+        steps = Pulls p.most ∷ [];
+        may = ((nothing, p.room), tt);
         now = now;
         leads = ap with_bytes (sym bytes_are);
-        shows = set_known holds (conn_pulled m.keep m.timing 32768) m old.conn.0 s.conn now.conn after stands.at refl p.1;
+        shows = set_known holds (conn_pulled m.keep m.timing p.most) m old.conn.0 s.conn now.conn after stands.at refl p.shows;
         flow = record {
           read = flow.read;
           written = flow.written;
-          given = ap (λ x. x ++ take 32768 s.conn.state.due) (flow.given ∙ ap (λ x. flow.written ++ x) nothing ∙ append-nil flow.written) ∙ ap (λ x. flow.written ++ x) (sym bytes_are);
+          given = ap (λ x. x ++ take p.most s.conn.state.due) (flow.given ∙ ap (λ x. flow.written ++ x) nothing ∙ append-nil flow.written) ∙ ap (λ x. flow.written ++ x) (sym bytes_are);
           out = flow.out;
           all_read = flow.all_read;
           all_written = flow.all_written;
         };
-        so = λ none. none_left m.keep m.timing s.conn (sym bytes_are ∙ none);
+        so = λ none. none_left m.keep m.timing p.most s.conn p.room.some (sym bytes_are ∙ none);
       }
 
   -- the router is notified, if it can be
@@ -441,11 +442,21 @@ writes remaining contents old new stream moved turn empties keeps turn_is carrie
     ends Interrupted h = tt
     ends Failed h = still h.1
 
--- What is pulled into a whole buffer
-pub pulls_into : {S : Type 0} (holds : ℕ → Instance → S → Type 0) (m : CacheState) (c : ℕ) (out : List ℕ) (count : ℕ) (now : List ℕ) (new : Cache S) → length out ≡ 32768 → GivesBytes holds m c out count now new
-    → (take (count - 0) (drop 0 now) ≡ take 32768 (due_at (m.at c))) × ShowsCache holds (given 32768 c m) new
-pulls_into holds m c out count now new len g =
-    let e : count - 0 ≡ count = omega arith in (
-      ap (λ n. take n now) e ∙ pulled_is (due_at (m.at c)) out count now _ g.gives ∙ ap (λ n. take n (due_at (m.at c))) len,
-      subst (λ n. ShowsCache holds (given n c m) new) len g.shows,
-    )
+-- What is pulled into a room
+pub pulls_into : {S : Type 0} (holds : ℕ → Instance → S → Type 0) (m : CacheState) (c : ℕ) (out : List ℕ) (count : ℕ) (now : List ℕ) (new : Cache S) → IsRoom (length out) → GivesBytes holds m c out count now new
+    → PullsInto holds m c (take (count - 0) (drop 0 now)) new
+pulls_into holds m c out count now new room g =
+    let e : count - 0 ≡ count = omega arith in record {
+      most = length out;
+      room = room;
+      bytes_are = ap (λ n. take n now) e ∙ pulled_is (due_at (m.at c)) out count now _ g.gives;
+      shows = g.shows;
+    }
+
+-- A small room that is there, or a large one, is one.
+pub room_is : (small large : List ℕ) → 0 < length small → length small ≤ 32768 → length large ≤ 32768 → IsRoom (length (room_of small large))
+room_is small large some fits more = by_test (length large == 0) refl
+  where
+    by_test : (b : Bool) → (length large == 0) ≡ b → IsRoom (length (if b then small else large))
+    by_test true is = record { some = some; fits = fits }
+    by_test false is = let n = not_eq_of (length large) 0 is in record { some = to_write large (λ none. n (ap (λ x. length x) none)); fits = more }

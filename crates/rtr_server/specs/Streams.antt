@@ -1,5 +1,5 @@
 -- What the calls of a stream that does not wait do to its bytes, where those are known.
-use Rattle.std.specs.Prelude.{◌≡◌, ℕ, ◌<◌, ◌≤◌, List, [], ◌++◌, length, take, drop, Option, Some, None, ⊤}
+use Rattle.std.specs.Prelude.{◌≡◌, ℕ, ◌<◌, ◌≤◌, ◌==◌, List, [], ◌++◌, length, take, drop, Option, Some, None, if◌then◌else◌, ⊤}
 use Rattle.std.specs.Io.KnownBytes.{Appends, Consumes, IsAtEnd, Keeps}
 use Rattle.std.specs.declared.io.ErrorKind.{ErrorKind}
 use Rattle.std.specs.declared.io.ErrorKind.TheVariants.{WouldBlock}
@@ -64,6 +64,18 @@ EmptiesSo had has Waits old new = Keeps had has × (new ≡ old)
 EmptiesSo had has Interrupted old new = Keeps had has × (new ≡ old)
 EmptiesSo had has Failed old new = Keeps had has × (new ≡ old)
 
+-- the large room, where there is one, else the small one
+abbrev pub room_of : List ℕ → List ℕ → List ℕ
+room_of small large = if length large == 0 then small else large
+
+-- Room for so many bytes: there is some, and no more than 32,768.
+pub record IsRoom (most : ℕ) : Type 0 where
+  pub some : 0 < most
+  pub fits : most ≤ 32768
+
 -- What is due is pulled into an empty buffer, as far as there is room.
-abbrev pub PullsInto : {S : Type 0} → (ℕ → Instance → S → Type 0) → CacheState → ℕ → List ℕ → Cache S → Type 0
-PullsInto holds m c unwritten new = (unwritten ≡ take 32768 (due_at (m.at c))) × ShowsCache holds (given 32768 c m) new
+pub record PullsInto {S : Type 0} (holds : ℕ → Instance → S → Type 0) (m : CacheState) (c : ℕ) (unwritten : List ℕ) (new : Cache S) : Type 0 where
+  pub most : ℕ
+  pub room : IsRoom most
+  pub bytes_are : unwritten ≡ take most (due_at (m.at c))
+  pub shows : ShowsCache holds (given most c m) new

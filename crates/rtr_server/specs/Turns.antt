@@ -13,7 +13,7 @@ use Rattle.rtr_ends.specs.Connection.{Connection}
 use Rattle.rtr_ends.specs.Peer.{is_wanted_by_peer}
 use Rattle.rtr_ends.specs.Timing.{Intervals}
 use Rattle.rtr_ends.specs.declared.cache.Cache.{Cache}
-use Rattle.rtr_server.specs.Streams.{Logged}
+use Rattle.rtr_server.specs.Streams.{IsRoom, Logged}
 use Rattle.rtr_server.specs.declared.stream.Moved.{Moved}
 use Rattle.rtr_server.specs.declared.stream.Moved.TheVariants.{Bytes, Waits, Interrupted, Failed}
 use Rattle.rtr_server.specs.declared.turn.Carried.{Carried}
@@ -33,11 +33,11 @@ pub record ClientState : Type 0 where
   pub owed : Bool
   pub carried : Carried
 
--- What is done for a client: what was read is handed in, where memory is wanting at this PDU of it, if at any; what is due is pulled; its
--- router is notified; these bytes are read of its stream; so many are written to it.
+-- What is done for a client: what was read is handed in, where memory is wanting at this PDU of it, if at any; of what is due so many bytes
+-- are pulled at most; its router is notified; these bytes are read of its stream; so many are written to it.
 pub data ClientStep : Type 0 where
   HandsIn : (wanting : Option ℕ) → ClientStep
-  Pulls : ClientStep
+  Pulls : (most : ℕ) → ClientStep
   Notifies : ClientStep
   Reads : (bytes : List ℕ) → ClientStep
   Writes : (count : ℕ) → ClientStep
@@ -68,7 +68,7 @@ client_after keep t (HandsIn wanting) s = record s {
   serving = serve keep t (Takes wanting s.unread) s.serving;
   unread = drop (consumed_of keep t wanting s.unread s.serving) s.unread;
 }
-client_after keep t Pulls s = record s { serving = serve keep t (Gives 32768) s.serving; unwritten = take 32768 s.serving.conn.state.due }
+client_after keep t (Pulls most) s = record s { serving = serve keep t (Gives most) s.serving; unwritten = take most s.serving.conn.state.due }
 client_after keep t Notifies s = record s { serving = serve keep t Notified s.serving; owed = s.owed && not (can_be_told s.serving) }
 client_after keep t (Reads bytes) s = record s { unread = bytes; carried = and_read (length bytes) s.carried }
 client_after keep t (Writes count) s = client_wrote count s
@@ -113,11 +113,11 @@ abbrev pub IsWanted : ℕ → Intervals → ClientState → ℕ → Type 0
 IsWanted keep t s unit = is_wanted_by_peer keep t s.serving.cache s.serving.conn s.unread unit ≡ true
 
 -- When a step may be taken: nothing is handed in or read while anything is due, to be written, or owed and could be sent; nothing is read
--- before all that was read is consumed; nothing is pulled before all that was pulled is written; and no router is notified that is owed
--- no notify.
+-- before all that was read is consumed; nothing is pulled before all that was pulled is written, and then as far as there is room; and no
+-- router is notified that is owed no notify.
 abbrev pub MayStep : ℕ → Intervals → ClientStep → ClientState → Type 0
 MayStep keep t (HandsIn wanting) s = AreBytes s.unread × IsSettled s × IfSome wanting (IsWanted keep t s)
-MayStep keep t Pulls s = s.unwritten ≡ []
+MayStep keep t (Pulls most) s = (s.unwritten ≡ []) × IsRoom most
 MayStep keep t Notifies s = s.owed ≡ true
 MayStep keep t (Reads bytes) s = IsIdle s × (length bytes ≤ MAX_UNIT_LEN)
 MayStep keep t (Writes count) s = IsToWrite s

@@ -2,12 +2,13 @@
 ghost use Rattle.std.specs.Prelude.{◌≡◌, ◌↔◌, ◌∷◌, ◌≤◌, [], IsTrue, length, drop};
 ghost use Rattle.std.specs.Io.KnownBytes.{Keeps};
 ghost use Rattle.rtr_pdu.specs.Payloads.{AreBytes};
-ghost use Rattle.rtr_ends.specs.CacheState.{CacheState, ShowsCache, TakesPiece};
-ghost use Rattle.rtr_server.specs.Streams.{EmptiesSo, FillsSo, Logged, PullsInto};
+ghost use Rattle.rtr_ends.specs.CacheState.{CacheState, GivesBytes, ShowsCache, TakesPiece};
+ghost use Rattle.rtr_server.specs.Streams.{EmptiesSo, FillsSo, Logged, PullsInto, room_of};
 
 use crate::stream::{Moved, Stream};
 use rtr_ends::{Cache, Conn};
 use rtr_pdu::MAX_UNIT_LEN;
+use std::alloc::Global;
 use std::marker::Model;
 use vrps::VersionStore;
 
@@ -88,32 +89,45 @@ fn hand_piece<S: VersionStore>(cache: &mut Cache<S>, conn: Conn, piece: &[u8]) -
     cache.receive(conn, piece)
 }
 
-/// What was pulled and is not written.
+/// How many bytes the small room has.
+const SMALL_ROOM: usize = 1024;
+
+/// How many bytes the large room has.
+const LARGE_ROOM: usize = 32768;
+
+/// What was pulled and is not written. It lies in a small room; while an answer goes out that fills that, in a large one, if there is memory
+/// for it. So a client to which nothing is due has no large room.
 #[derive(Debug, Drop)]
 pub(crate) struct Unwritten {
-    bytes: [u8; 32768],
+    alloc: Global,
+    small: [u8; SMALL_ROOM],
+    /// The large room, or nothing.
+    large: Vec<u8>,
     from: usize,
     to: usize,
 }
 
 impl Model for Unwritten {
-    ghost use Rattle.std.specs.Prelude.{ℕ, List, ◌≤◌, ◌-◌, take, drop};
+    ghost use Rattle.std.specs.Prelude.{ℕ, List, ◌≤◌, ◌-◌, length, take, drop};
+    ghost use Rattle.rtr_server.specs.Streams.{room_of};
 
     ghost Value = { List ℕ };
 
-    ghost view = { λ u. take (u.to - u.from) (drop u.from u.bytes) };
+    ghost view = { λ u. take (u.to - u.from) (drop u.from (room_of u.small u.large.items)) };
 
-    ghost invariant = { λ u. (u.from ≤ u.to) × (u.to ≤ 32768) };
+    ghost invariant = { λ u. (u.from ≤ u.to) × (u.to ≤ length (room_of u.small u.large.items)) × (length u.large.items ≤ 32768) };
 }
 
 #[tactic(auto, using(crate::proofs::Windows::moved_on))]
 impl Unwritten {
     /// Nothing was pulled yet.
-    pub(crate) fn new() -> Unwritten
+    pub(crate) fn new(alloc: Global) -> Unwritten
         ensures { result ≡ [] }
     {
         Unwritten {
-            bytes: [0; 32768],
+            alloc,
+            small: [0; SMALL_ROOM],
+            large: Vec::new(alloc),
             from: 0,
             to: 0,
         }
@@ -126,13 +140,38 @@ impl Unwritten {
         self.from == self.to
     }
 
-    /// Pulls what is due, where nothing is left to write.
+    /// Asks for the large room, where what was pulled last filled the small one.
+    fn make_room(&mut self)
+        requires { self.old ≡ [] }
+        ensures { self.new ≡ [] }
+    {
+        if self.to == SMALL_ROOM && self.large.is_empty() {
+            self.large = large_room(self.alloc);
+        }
+        self.from = 0;
+        self.to = 0;
+    }
+
+    /// Gives the large room back, where nothing is left of what was pulled.
+    fn give_back(&mut self)
+        ensures { self.new ≡ self.old }
+    {
+        if self.from == self.to {
+            self.large = Vec::new(self.alloc);
+            self.from = 0;
+            self.to = 0;
+        }
+    }
+
+    /// Pulls what is due, where nothing is left to write, as far as there is room.
     pub(crate) fn pull<S: VersionStore>(&mut self, cache: &mut Cache<S>, conn: Conn)
         requires { self.old ≡ [] }
         ensures { (m : CacheState) → ShowsCache S.holds m cache.old → PullsInto S.holds m conn.0 self.new cache.new }
     {
+        self.make_room();
         self.from = 0;
-        self.to = cache.pull(conn, &mut self.bytes);
+        self.to = pull_into(&mut self.small, &mut self.large, cache, conn);
+        self.give_back();
     }
 
     /// Writes of it what the stream takes in one call.
@@ -141,10 +180,51 @@ impl Unwritten {
         ensures keeps { Keeps (T.remaining stream.old) (T.remaining stream.new) }
         ensures logs { Logged (result ∷ []) (T.answers stream.old) (T.answers stream.new) }
     {
-        let moved = stream.write(&self.bytes[self.from..self.to]);
+        let room = room_at_hand(&self.small, &self.large);
+        let moved = stream.write(&room[self.from..self.to]);
         if let Moved::Bytes(n) = moved {
             self.from += n;
         }
         moved
+    }
+}
+
+/// A large room, or nothing where memory is wanting.
+fn large_room(alloc: Global) -> Vec<u8>
+    ensures { length result.items ≤ 32768 }
+{
+    match vec![in alloc; 0; LARGE_ROOM] {
+        Ok(room) => room,
+        Err(_) => Vec::new(alloc),
+    }
+}
+
+/// The large room, where there is one, else the small one.
+fn room_at_hand<'a>(small: &'a [u8; SMALL_ROOM], large: &'a Vec<u8>) -> &'a [u8]
+    ensures { result.now ≡ room_of small.now large.now.items }
+{
+    if large.is_empty() {
+        small
+    } else {
+        large.as_slice()
+    }
+}
+
+/// Pulls what is due into the large room, where there is one, else into the small one.
+fn pull_into<S: VersionStore>(
+    small: &mut [u8; SMALL_ROOM],
+    large: &mut Vec<u8>,
+    cache: &mut Cache<S>,
+    conn: Conn,
+) -> usize
+    ensures gives { (m : CacheState) → ShowsCache S.holds m cache.old → GivesBytes S.holds m conn.0 (room_of small.old large.old.items) result (room_of small.new large.new.items) cache.new }
+    ensures within { result ≤ length (room_of small.old large.old.items) }
+    ensures room { length (room_of small.new large.new.items) ≡ length (room_of small.old large.old.items) }
+    ensures large { length large.new.items ≡ length large.old.items }
+{
+    if large.is_empty() {
+        cache.pull(conn, small)
+    } else {
+        cache.pull(conn, large.as_mut_slice())
     }
 }

@@ -271,7 +271,7 @@ fn put_at<T: Stream + Drop>(
 {
     let number = conn.number();
     grow(slots, number)?;
-    let slot = Box::new(alloc, Slot::new(stream, conn))?;
+    let slot = Box::new(alloc, Slot::new(alloc, stream, conn))?;
     slots[number] = Some(slot);
     Ok(())
 }

@@ -5,6 +5,7 @@ ghost use Rattle.rtr_server.specs.Turns.{Anyhow, AnswersTurn, AnswersStep, EndsS
 use crate::pieces::{Unread, Unwritten};
 use crate::stream::{Moved, Stream};
 use rtr_ends::{Cache, Conn};
+use std::alloc::Global;
 use vrps::VersionStore;
 
 /// How a client went.
@@ -68,14 +69,14 @@ pub(crate) enum Next {
 
 impl<T: Stream> Slot<T> {
     /// A client that has just come.
-    pub(crate) fn new(stream: T, conn: Conn) -> Slot<T>
+    pub(crate) fn new(alloc: Global, stream: T, conn: Conn) -> Slot<T>
         ensures { result ≡ record { stream = stream; conn = conn; unread = []; unwritten = []; is_owed = false; carried = record { read = 0; written = 0 } } }
     {
         Slot {
             stream,
             conn,
             unread: Unread::new(),
-            unwritten: Unwritten::new(),
+            unwritten: Unwritten::new(alloc),
             is_owed: false,
             carried: Carried {
                 read: 0,

@@ -35,7 +35,7 @@ fn an_idle_client_is_notified_at_once(rt: HostRuntime) -> Result<(), Fail> {
     Ok(())
 }
 
-/// A set whose answer passes what is pulled at once: 2,000 records, 20 bytes each.
+/// A set whose answer passes what is pulled at once, also into the large room: 2,000 records, 20 bytes each.
 fn many(alloc: Global) -> Result<VrpSet, Fail> {
     let prefix = IpPrefix::parse("192.0.2.0/24")?;
     let mut list = Vec::new(alloc);
@@ -59,8 +59,8 @@ fn a_client_in_an_answer_is_notified_right_behind_it(rt: HostRuntime) -> Result<
         ..PLAIN
     };
     let client = admitted(&mut server, line_of(asked.clone()?, slow, &out)?)?;
-    // One read and two writes: the rest of 32,768 bytes is left to write, and more is due.
-    assert!(rt; server.serve(client, 3) == Some(Turn::Busy) && len_of(&out) == 2000);
+    // One read and three writes, of what the small room had, and of the large one: its rest is left to write, and more is due.
+    assert!(rt; server.serve(client, 4) == Some(Turn::Busy) && len_of(&out) == 1024 + 1000);
     server.publish(set_of(alloc, &[V])?)?;
     assert!(rt; more(&asked, bytes(RESET_QUERY).as_slice()));
     assert!(rt; server.serve(client, 999) == Some(Turn::WaitsToRead));
