@@ -1,4 +1,6 @@
 pub mod AnswerLogs
+pub mod CountingLaws
+pub mod CountingRows
 pub mod MemoryLaws
 pub mod NoticeLaws
 pub mod PastLaws

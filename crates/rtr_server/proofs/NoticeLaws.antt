@@ -16,7 +16,7 @@ use Rattle.rtr_ends.specs.CacheState.{CacheCall, CacheState, IsCacheCall, Life, 
 use Rattle.rtr_ends.specs.declared.cache.Cache.{Cache}
 use Rattle.prefixes.proofs.Basics.{eq_of, eq_true}
 use Rattle.rtr_server.specs.Clients.{IsNotice, KeepsOthers, NotifiesAt, NotifiesBelow, OwesSo, Past, PublishesSo, ShowsClient, awaits, can_be_sent, can_be_told_of, made, notified_below, notified_one, present, slot_at}
-use Rattle.rtr_server.specs.Turns.{capped}
+use Rattle.rtr_server.specs.Counting.{capped, counted}
 use Rattle.rtr_server.specs.declared.turn.Slot.{Slot}
 
 module _ {S T A : Type 0} (holds : ℕ → Instance → S → Type 0) (start : List (Option (Box (Slot T) A))) (first : Cache S) where
@@ -296,6 +296,8 @@ module _ {T A : Type 0} (remaining contents : T → Option (List ℕ)) (p : Past
               out = h.1.out;
               all_read = h.1.all_read ∙ ap (λ came. capped (length (came ++ x.unread))) (sym k.came);
               all_written = h.1.all_written;
+              all_received = h.1.all_received ∙ ap (λ came. counted came) (sym k.came);
+              all_sent = h.1.all_sent;
             },
             refl,
             record { unread = h.3.unread; unwritten = h.3.unwritten },

@@ -19,11 +19,11 @@ use Rattle.rtr_ends.proofs.CacheStateLaws.{with_conn_at}
 use Rattle.rtr_ends.proofs.LifeLaws.{each_is_served}
 use Rattle.prefixes.proofs.Basics.{eq_of, eq_self, not_eq_of}
 use Rattle.rtr_server.specs.Clients.{Admits, Becomes, ClientIsServed, EachClientIsServed, GoesOnAfter, IsCounted, IsOn, KeepsAll, KeepsOthers, Leaves, OwesSo, Past, PublishesNew, PublishesSo, PublishesTo, Serves, ShowsClient, ShowsServer, Turned, and_calls, awaits, can_be_sent, clients_in, made, notified_below, present, slot_at}
-use Rattle.rtr_server.specs.Turns.{Anyhow, ClientState, ClientStep, EndsSo, Flow, GoesFrom, HandsIn, HasRoom, MaySteps, Notifies, Pulls, Reads, StandsSo, Writes, and_read, client_after, client_of, steps_after}
+use Rattle.rtr_server.specs.Turns.{Anyhow, ClientState, ClientStep, EndsSo, Flow, GoesFrom, HandsIn, HasRoom, MaySteps, Notifies, Pulls, Reads, StandsSo, Writes, and_read, client_after, client_of, no_traffic, steps_after}
 use Rattle.rtr_server.specs.declared.server.Server.{Server}
 use Rattle.rtr_server.specs.declared.stream.Moved.{Moved}
-use Rattle.rtr_server.specs.declared.turn.Carried.{Carried}
 use Rattle.rtr_server.specs.declared.turn.Slot.{Slot}
+use Rattle.rtr_server.specs.declared.turn.Traffic.{Traffic}
 use Rattle.rtr_server.specs.declared.turn.Turn.{Turn}
 use Rattle.rtr_server.specs.declared.turn.Turn.TheVariants.{Busy, Gone, WaitsToRead, WaitsToWrite}
 use Rattle.rtr_server.proofs.NoticeLaws as notices
@@ -43,11 +43,11 @@ pub record Follows (c : ℕ) (m : CacheState) (l : Life) (lives : ℕ → Option
 
 module _ (c : ℕ) (m : CacheState) (l : Life) (lives : ℕ → Option Life) (waits : ℕ → Bool) where
   -- one call more
-  step : (now : CacheState) (now_lives : ℕ → Option Life) (now_waits later_waits : ℕ → Bool) (s : ClientState) (unread unwritten : List ℕ) (owed : Bool) (carried : Carried) (f : Conn → Conn) (call : ConnCall) → f s.serving.conn ≡ (serve m.keep m.timing call s.serving).conn
+  step : (now : CacheState) (now_lives : ℕ → Option Life) (now_waits later_waits : ℕ → Bool) (s : ClientState) (unread unwritten : List ℕ) (owed : Bool) (traffic : Traffic) (f : Conn → Conn) (call : ConnCall) → f s.serving.conn ≡ (serve m.keep m.timing call s.serving).conn
       → later_waits c ≡ owed → ((d : ℕ) → (d == c) ≡ false → later_waits d ≡ now_waits d) → Follows c m l lives waits now now_lives now_waits s
       → Follows c m l lives waits (with_conn c (option_map f (now.at c)) now) (λ d. if d == c then option_map (serves now.keep now.timing call) (now_lives d) else now_lives d) later_waits
-      (record { serving = serve m.keep m.timing call s.serving; unread = unread; unwritten = unwritten; owed = owed; carried = carried })
-  step now now_lives now_waits later_waits s unread unwritten owed carried f call acts own_waits other_waits h = record {
+      (record { serving = serve m.keep m.timing call s.serving; unread = unread; unwritten = unwritten; owed = owed; traffic = traffic })
+  step now now_lives now_waits later_waits s unread unwritten owed traffic f call acts own_waits other_waits h = record {
     keep = h.keep;
     timing = h.timing;
     cache = h.cache;
@@ -61,9 +61,9 @@ module _ (c : ℕ) (m : CacheState) (l : Life) (lives : ℕ → Option Life) (wa
   }
 
   -- a call of the stream
-  same : (now : CacheState) (now_lives : ℕ → Option Life) (now_waits : ℕ → Bool) (s : ClientState) (unread unwritten : List ℕ) (carried : Carried) → Follows c m l lives waits now now_lives now_waits s
-      → Follows c m l lives waits now now_lives now_waits (record { serving = s.serving; unread = unread; unwritten = unwritten; owed = s.owed; carried = carried })
-  same now now_lives now_waits s unread unwritten carried h = record {
+  same : (now : CacheState) (now_lives : ℕ → Option Life) (now_waits : ℕ → Bool) (s : ClientState) (unread unwritten : List ℕ) (traffic : Traffic) → Follows c m l lives waits now now_lives now_waits s
+      → Follows c m l lives waits now now_lives now_waits (record { serving = s.serving; unread = unread; unwritten = unwritten; owed = s.owed; traffic = traffic })
+  same now now_lives now_waits s unread unwritten traffic h = record {
     keep = h.keep;
     timing = h.timing;
     cache = h.cache;
@@ -126,14 +126,14 @@ module _ (c : ℕ) (start : CacheState) (rest : List CacheCall) (l : Life) (s : 
       let n = ran (calls_after steps) start in
       let after = client_after m.keep m.timing (HandsIn wanting) a in
       let cached : n.cache ≡ a.serving.cache = h.cache ∙ sym now ∙ sym (cache_is m.keep m.timing steps s) in
-      step c m l (life rest start) (awaits rest start) n (life (calls_after steps) start) (awaits (calls_after steps) start) (awaits (calls_after steps) start) a after.unread after.unwritten after.owed after.carried
+      step c m l (life rest start) (awaits rest start) n (life (calls_after steps) start) (awaits (calls_after steps) start) (awaits (calls_after steps) start) a after.unread after.unwritten after.owed after.traffic
       (λ o. (conn_takes n.keep n.timing n.cache wanting a.unread o).machine.conn) (Takes wanting a.unread) (λ i. (conn_takes (h.keep i) (h.timing i) (cached i) wanting a.unread a.serving.conn).machine.conn) h.owed (λ d other. refl) h
   follows (Pulls most ∷ steps) =
       let h = follows steps in
       let a = steps_after m.keep m.timing steps s in
       let n = ran (calls_after steps) start in
       let after = client_after m.keep m.timing (Pulls most) a in
-      step c m l (life rest start) (awaits rest start) n (life (calls_after steps) start) (awaits (calls_after steps) start) (awaits (calls_after steps) start) a after.unread after.unwritten after.owed after.carried
+      step c m l (life rest start) (awaits rest start) n (life (calls_after steps) start) (awaits (calls_after steps) start) (awaits (calls_after steps) start) a after.unread after.unwritten after.owed after.traffic
       (conn_pulled n.keep n.timing most) (Gives most) (λ i. conn_pulled (h.keep i) (h.timing i) most a.serving.conn) h.owed (λ d other. refl) h
   follows (Notifies ∷ steps) =
       let h = follows steps in
@@ -142,16 +142,16 @@ module _ (c : ℕ) (start : CacheState) (rest : List CacheCall) (l : Life) (s : 
       let after = client_after m.keep m.timing Notifies a in
       let cached : n.cache ≡ a.serving.cache = h.cache ∙ sym now ∙ sym (cache_is m.keep m.timing steps s) in
       let waited : ℕ → Bool → Bool = λ d b. if b then awaits (calls_after steps) start d && not (can_notify_at n.cache (n.at c)) else awaits (calls_after steps) start d in
-      step c m l (life rest start) (awaits rest start) n (life (calls_after steps) start) (awaits (calls_after steps) start) (awaits (Notify c ∷ calls_after steps) start) a after.unread after.unwritten after.owed after.carried
+      step c m l (life rest start) (awaits rest start) n (life (calls_after steps) start) (awaits (calls_after steps) start) (awaits (Notify c ∷ calls_after steps) start) a after.unread after.unwritten after.owed after.traffic
       (conn_notified n.keep n.timing n.cache) Notified (λ i. conn_notified (h.keep i) (h.timing i) (cached i) a.serving.conn)
       (ap (waited c) (eq_self c) ∙ (λ i. h.owed i && not (can_notify_at (cached i) (h.at i)))) (λ d other. ap (waited d) other) h
   follows (Reads bytes ∷ steps) =
       let a = steps_after m.keep m.timing steps s in
-      same c m l (life rest start) (awaits rest start) (ran (calls_after steps) start) (life (calls_after steps) start) (awaits (calls_after steps) start) a bytes a.unwritten (and_read (length bytes) a.carried) (follows steps)
+      same c m l (life rest start) (awaits rest start) (ran (calls_after steps) start) (life (calls_after steps) start) (awaits (calls_after steps) start) a bytes a.unwritten (and_read (length bytes) a.traffic) (follows steps)
   follows (Writes count ∷ steps) =
       let a = steps_after m.keep m.timing steps s in
       let after = client_after m.keep m.timing (Writes count) a in
-      same c m l (life rest start) (awaits rest start) (ran (calls_after steps) start) (life (calls_after steps) start) (awaits (calls_after steps) start) a a.unread after.unwritten after.carried (follows steps)
+      same c m l (life rest start) (awaits rest start) (ran (calls_after steps) start) (life (calls_after steps) start) (awaits (calls_after steps) start) a a.unread after.unwritten after.traffic (follows steps)
 
 -- A cache that shows a state shows each that is the same.
 pub shows_same : {S : Type 0} (holds : ℕ → Instance → S → Type 0) (a b : CacheState) (cache : Cache S) → b.keep ≡ a.keep → b.timing ≡ a.timing → b.cache ≡ a.cache → ((d : ℕ) → b.at d ≡ a.at d) → ShowsCache holds a cache → ShowsCache holds b cache
@@ -387,7 +387,7 @@ module _ {S T : Type 0} (holds : ℕ → Instance → S → Type 0) (remaining c
     -- A client came.
     pub admits_past : (stream : T) → clients_in old.slots.items < p.most → KeepsOthers c.0 old.slots.items new.slots.items → new.most ≡ old.most → new.count ≡ old.count + 1
         → (slot_at old.slots.items c.0 ≡ None → clients_in new.slots.items ≡ clients_in old.slots.items + 1)
-        → slot_at new.slots.items c.0 ≡ Some (record { stream = stream; conn = c; unread = []; unwritten = []; is_owed = false; carried = record { read = 0; written = 0 } })
+        → slot_at new.slots.items c.0 ≡ Some (record { stream = stream; conn = c; unread = []; unwritten = []; is_owed = false; traffic = no_traffic })
         → ShowsCache holds (with_conn c.0 (Some (new_conn (present p).cache)) (present p)) new.cache
         → Admits holds remaining contents p stream c.0 old new
     admits_past stream room others most count more placed cache = record {
@@ -409,7 +409,7 @@ module _ {S T : Type 0} (holds : ℕ → Instance → S → Type 0) (remaining c
         by_test d true e =
             subst (λ x. ShowsClient remaining contents (record { before = remaining stream; had = contents stream }) d
             (Some (record { opened = (present p).cache; serving = serving (present p).keep (present p).timing (present p).cache [] })) false x) (sym (ap (slot_at new.slots.items) (eq_of d c.0 e) ∙ placed))
-            (sym (eq_of d c.0 e), record { read = Consumes-nil (remaining stream); written = []; given = refl; out = Appends-nil (contents stream); all_read = refl; all_written = refl }, refl, record { unread = omega arith; unwritten = omega arith })
+            (sym (eq_of d c.0 e), record { read = Consumes-nil (remaining stream); written = []; given = refl; out = Appends-nil (contents stream); all_read = refl; all_written = refl; all_received = refl; all_sent = refl }, refl, record { unread = omega arith; unwritten = omega arith })
         by_test d false e = subst (λ x. ShowsClient remaining contents (p.begun d) d (life p.calls (made p) d) (awaits p.calls (made p) d) x) (sym (others d (not_eq_of d c.0 e))) (shows.each d)
 
 -- Each client is served.

@@ -7,8 +7,8 @@ use Rattle.vrps.specs.Instance.{Instance}
 use Rattle.rtr_ends.specs.CacheState.{CacheState, ShowsCache, joined, with_conn}
 use Rattle.rtr_ends.specs.declared.cache.Cache.{Cache}
 use Rattle.rtr_ends.proofs.TableLaws.{false_true}
-use Rattle.prefixes.proofs.Basics.{set_same}
-use Rattle.rtr_server.specs.Clients.{KeepsAll, Serves, TakesTurn, Turned, clients_in, is_gone, slot_at, slot_value}
+use Rattle.prefixes.proofs.Basics.{set_other, set_same}
+use Rattle.rtr_server.specs.Clients.{KeepsAll, KeepsOthers, Serves, TakesTurn, Turned, clients_in, is_gone, slot_at, slot_value}
 use Rattle.rtr_server.specs.declared.stream.Moved.{Moved}
 use Rattle.rtr_server.specs.declared.turn.Slot.{Slot}
 use Rattle.rtr_server.specs.declared.turn.Turn.{Turn}
@@ -18,8 +18,12 @@ use Rattle.rtr_server.specs.declared.turn.Turn.TheVariants.{Busy, Gone, WaitsToR
 slot_is : {T A : Type 0} (slots : List (Option (Box (Slot T) A))) (n : ℕ) (cell : Option (Box (Slot T) A)) (b : Box (Slot T) A) → n < length slots → cell ≡ get_or slots n cell → cell ≡ Some b → slot_at slots n ≡ Some b.value
 slot_is slots n cell b low at is = ap (λ s. slot_value (joined s)) (slice_get-get_or slots n cell low ∙ ap (λ x. Some x) (sym at ∙ is))
 
-slot_set : {T A : Type 0} (slots : List (Option (Box (Slot T) A))) (n : ℕ) (b : Box (Slot T) A) → n < length slots → slot_at (slice_set slots n (Some b)) n ≡ Some b.value
+pub slot_set : {T A : Type 0} (slots : List (Option (Box (Slot T) A))) (n : ℕ) (b : Box (Slot T) A) → n < length slots → slot_at (slice_set slots n (Some b)) n ≡ Some b.value
 slot_set slots n b low = ap (λ s. slot_value (joined s)) (set_same slots n (Some b) low)
+
+-- A place is set, and no other.
+pub set_others : {T A : Type 0} (slots : List (Option (Box (Slot T) A))) (n : ℕ) (b : Box (Slot T) A) → KeepsOthers n slots (slice_set slots n (Some b))
+set_others slots n b = λ d other. ap (λ s. slot_value (joined s)) (set_other slots n d (Some b) other)
 
 -- an empty place more
 pub push_none : {T A : Type 0} (slots : List (Option (Box (Slot T) A))) → KeepsAll slots (slots ++ None ∷ [])

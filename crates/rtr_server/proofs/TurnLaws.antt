@@ -18,13 +18,15 @@ use Rattle.rtr_ends.proofs.CacheStateLaws.{with_conn_at}
 use Rattle.rtr_ends.proofs.ServeStreamLaws.{drop_none, none_taken, pulled_is}
 use Rattle.rtr_ends.proofs.TableLaws.{false_true}
 use Rattle.prefixes.proofs.Basics.{eq_of, not_eq_of}
+use Rattle.rtr_server.specs.Counting.{Counted, capped, counted, counted_on, none_counted}
 use Rattle.rtr_server.specs.Streams.{EmptiesSo, FillsSo, IsRoom, PullsInto, moved_count, room_of}
-use Rattle.rtr_server.specs.Turns.{Anyhow, ClientState, ClientStep, EndsSo, Flow, Goes, GoesFrom, GoesOrEnds, HandsIn, HasRoom, IsIdle, IsOver, IsSettled, IsToWrite, MaySettle, MayStep, MaySteps, NoneDue, Notifies, Pulls, Reads, StandsSo, Writes, WritesFrom, and_read, and_written, after_read, after_write, can_be_told, capped, client_after, client_of, consumed_of, settles, steps_after}
+use Rattle.rtr_server.proofs.CountingLaws.{counted_both}
+use Rattle.rtr_server.specs.Turns.{Anyhow, ClientState, ClientStep, EndsSo, Flow, Goes, GoesFrom, GoesOrEnds, HandsIn, HasRoom, IsIdle, IsOver, IsSettled, IsToWrite, MaySettle, MayStep, MaySteps, NoneDue, Notifies, Pulls, Reads, StandsSo, Writes, WritesFrom, and_read, and_written, after_read, after_write, and_received, can_be_told, client_after, client_of, consumed_of, settles, steps_after}
 use Rattle.rtr_server.specs.declared.stream.Moved.{Moved}
 use Rattle.rtr_server.specs.declared.stream.Moved.TheVariants.{Bytes, Waits, Interrupted, Failed}
-use Rattle.rtr_server.specs.declared.turn.Carried.{Carried}
 use Rattle.rtr_server.specs.declared.turn.Gone.TheVariants.{PeerClosed, Truncated, WriteFailed}
 use Rattle.rtr_server.specs.declared.turn.Slot.{Slot}
+use Rattle.rtr_server.specs.declared.turn.Traffic.{Traffic}
 use Rattle.rtr_server.specs.declared.turn.Turn.{Turn}
 use Rattle.rtr_server.specs.declared.turn.Turn.TheVariants.{Gone}
 
@@ -103,8 +105,8 @@ to_write (b ∷ bytes) h = omega arith
 pub same_owed : {T : Type 0} (old new : Slot T) (bytes : List ℕ) → new ≡ record old { unwritten = bytes } → new.is_owed ≡ old.is_owed
 same_owed old new bytes e = ap (λ x. x.is_owed) e
 
-pub same_stream : {T : Type 0} {A : Type 0} (f : T → A) (old new : Slot T) (bytes : List ℕ) → new ≡ record old { unread = bytes } → f new.stream ≡ f old.stream
-same_stream f old new bytes e = ap (λ x. f x.stream) e
+pub same_stream : {T : Type 0} {A : Type 0} (f : T → A) (old new : Slot T) (bytes : List ℕ) (traffic : Traffic) → new ≡ record old { unread = bytes; traffic = traffic } → f new.stream ≡ f old.stream
+same_stream f old new bytes traffic e = ap (λ x. f x.stream) e
 
 module _ {S : Type 0} (holds : ℕ → Instance → S → Type 0) where
   -- what is set twice is what it was set to last
@@ -131,11 +133,18 @@ module _ {S : Type 0} (holds : ℕ → Instance → S → Type 0) where
 more_counted : (count more all now : ℕ) → count ≡ capped all → now ≡ all + more → capped (count + more) ≡ capped now
 more_counted count more all now e is = omega (arith, e, is)
 
-pub read_more : (c : Carried) (now more count : ℕ) → now ≡ capped (c.read + more) → more ≡ count → record c { read = now } ≡ and_read count c
-read_more c now more count e is = let f : ℕ → Carried = λ n. record c { read = n } in ap f (e ∙ ap (λ k. capped (c.read + k)) is)
+pub read_more : (t : Traffic) (now more count : ℕ) → now ≡ capped (t.carried.read + more) → more ≡ count → record t { carried = record t.carried { read = now } } ≡ and_read count t
+read_more t now more count e is = let f : ℕ → Traffic = λ n. record t { carried = record t.carried { read = n } } in ap f (e ∙ ap (λ k. capped (t.carried.read + k)) is)
 
-pub written_more : (c : Carried) (now more count : ℕ) → now ≡ capped (c.written + more) → more ≡ count → record c { written = now } ≡ and_written count c
-written_more c now more count e is = let f : ℕ → Carried = λ n. record c { written = n } in ap f (e ∙ ap (λ k. capped (c.written + k)) is)
+pub received_more : (t : Traffic) (received : Counted) (bytes : List ℕ) → received ≡ counted_on t.received bytes → record t { received = received } ≡ and_received bytes t
+received_more t received bytes counts = let f : Counted → Traffic = λ c. record t { received = c } in ap f counts
+
+pub written_more : (t : Traffic) (now more count : ℕ) (sent : Counted) (bytes : List ℕ) → now ≡ capped (t.carried.written + more) → more ≡ count → sent ≡ counted_on t.sent bytes
+    → record t { carried = record t.carried { written = now }; sent = sent } ≡ and_written count bytes t
+written_more t now more count sent bytes e is counts =
+    let f : ℕ → Counted → Traffic = λ n c. record t { carried = record t.carried { written = n }; sent = c } in
+    let n = e ∙ ap (λ k. capped (t.carried.written + k)) is in
+    λ i. f (n i) (counts i)
 
 -- as many bytes came as were answered
 filled_count : (b l : Option (List ℕ)) (moved : Moved) (unread : List ℕ) → FillsSo b l moved unread → length unread ≡ moved_count moved
@@ -145,18 +154,20 @@ filled_count b l Interrupted unread h = ap (λ bs. length bs) h.1
 filled_count b l Failed unread h = ap (λ bs. length bs) h.1
 
 -- bytes are read
-reads_on : (before left after had has still : Option (List ℕ)) (s : Serving) (old unread unwritten : List ℕ) (owed : Bool) (carried : Carried) (moved : Moved) → old ≡ []
-    → Flow before left had has (record { serving = s; unread = old; unwritten = unwritten; owed = owed; carried = carried }) → FillsSo left after moved unread → Keeps has still
-    → Flow before after had still (record { serving = s; unread = unread; unwritten = unwritten; owed = owed; carried = and_read (length unread) carried })
-reads_on before left after had has still s old unread unwritten owed carried moved nothing flow fills keeps =
+reads_on : (before left after had has still : Option (List ℕ)) (s : Serving) (old unread unwritten : List ℕ) (owed : Bool) (traffic : Traffic) (moved : Moved) → old ≡ []
+    → Flow before left had has (record { serving = s; unread = old; unwritten = unwritten; owed = owed; traffic = traffic }) → FillsSo left after moved unread → Keeps has still
+    → Flow before after had still (record { serving = s; unread = unread; unwritten = unwritten; owed = owed; traffic = and_read (length unread) traffic })
+reads_on before left after had has still s old unread unwritten owed traffic moved nothing flow fills keeps =
     record {
       read = by_moved moved fills;
       written = flow.written;
       given = flow.given;
       out = Appends-kept had has still flow.written flow.out keeps;
-      all_read = more_counted carried.read (length unread) (length (s.came ++ old)) (length (s.came ++ unread)) flow.all_read
+      all_read = more_counted traffic.carried.read (length unread) (length (s.came ++ old)) (length (s.came ++ unread)) flow.all_read
           (length-append s.came unread ∙ ap (λ n. n + length unread) (sym (ap (λ x. length (s.came ++ x)) nothing ∙ ap (λ x. length x) (append-nil s.came))));
       all_written = flow.all_written;
+      all_received = flow.all_received;
+      all_sent = flow.all_sent;
     }
   where
     came : Consumes before left s.came
@@ -172,33 +183,37 @@ reads_on before left after had has still s old unread unwritten owed carried mov
     by_moved Failed h = none h.0 h.1
 
 -- bytes are written
-writes_on : (before left still had has wrote : Option (List ℕ)) (s : Serving) (unread old new : List ℕ) (owed : Bool) (carried : Carried) (moved : Moved)
-    → Flow before left had has (record { serving = s; unread = unread; unwritten = old; owed = owed; carried = carried }) → EmptiesSo has wrote moved old new → Keeps left still
-    → Flow before still had wrote (record { serving = s; unread = unread; unwritten = new; owed = owed; carried = and_written (moved_count moved) carried })
-writes_on before left still had has wrote s unread old new owed carried moved flow empties keeps = by_moved moved empties
+writes_on : (before left still had has wrote : Option (List ℕ)) (s : Serving) (unread old new : List ℕ) (owed : Bool) (traffic : Traffic) (moved : Moved)
+    → Flow before left had has (record { serving = s; unread = unread; unwritten = old; owed = owed; traffic = traffic }) → EmptiesSo has wrote moved old new → Keeps left still
+    → Flow before still had wrote (record { serving = s; unread = unread; unwritten = new; owed = owed; traffic = and_written (moved_count moved) (take (moved_count moved) old) traffic })
+writes_on before left still had has wrote s unread old new owed traffic moved flow empties keeps = by_moved moved empties
   where
     came : Consumes before still (s.came ++ unread)
     came = Consumes-kept before left still (s.came ++ unread) flow.read keeps
 
-    none : Keeps has wrote → new ≡ old → Flow before still had wrote (record { serving = s; unread = unread; unwritten = new; owed = owed; carried = and_written 0 carried })
+    none : Keeps has wrote → new ≡ old → Flow before still had wrote (record { serving = s; unread = unread; unwritten = new; owed = owed; traffic = and_written 0 (take 0 old) traffic })
     none kept is = record {
       read = came;
       written = flow.written;
       given = flow.given ∙ ap (λ x. flow.written ++ x) (sym is);
       out = Appends-kept had has wrote flow.written flow.out kept;
       all_read = flow.all_read;
-      all_written = more_counted carried.written 0 (length flow.written) (length flow.written) flow.all_written (omega arith);
+      all_written = more_counted traffic.carried.written 0 (length flow.written) (length flow.written) flow.all_written (omega arith);
+      all_received = flow.all_received;
+      all_sent = flow.all_sent;
     }
 
-    by_moved : (moved : Moved) → EmptiesSo has wrote moved old new → Flow before still had wrote (record { serving = s; unread = unread; unwritten = new; owed = owed; carried = and_written (moved_count moved) carried })
+    by_moved : (moved : Moved) → EmptiesSo has wrote moved old new → Flow before still had wrote (record { serving = s; unread = unread; unwritten = new; owed = owed; traffic = and_written (moved_count moved) (take (moved_count moved) old) traffic })
     by_moved (Bytes n) h = record {
       read = came;
       written = flow.written ++ take n old;
       given = flow.given ∙ ap (λ x. flow.written ++ x) (sym (ap (λ x. take n old ++ x) h.1 ∙ take-append-drop n old)) ∙ sym (append_assoc flow.written (take n old) new);
       out = Appends-trans had has wrote flow.written (take n old) flow.out h.0;
       all_read = flow.all_read;
-      all_written = more_counted carried.written n (length flow.written) (length (flow.written ++ take n old)) flow.all_written
+      all_written = more_counted traffic.carried.written n (length flow.written) (length (flow.written ++ take n old)) flow.all_written
           (length-append flow.written (take n old) ∙ ap (λ k. length flow.written + k) (length-take-le n old h.2));
+      all_received = flow.all_received;
+      all_sent = ap (λ c. counted_on c (take n old)) flow.all_sent ∙ sym (counted_both none_counted flow.written (take n old));
     }
     by_moved Waits h = none h.0 h.1
     by_moved Interrupted h = none h.0 h.1
@@ -261,17 +276,17 @@ module _ {S T : Type 0} (holds : ℕ → Instance → S → Type 0) (remaining c
   stays P old cache m s before had stands is flow = record { steps = []; may = tt; now = s; leads = refl; shows = set_same holds m old.conn.0 (Some s.conn) cache stands.at stands.shows; flow = flow; so = is }
 
   -- bytes are handed in
-  pub takes : (old : Slot T) (rest : List ℕ) (cache after : Cache S) (count : ℕ) → 0 < length old.unread → rest ≡ drop count old.unread → AreBytes old.unread
+  pub takes : (old : Slot T) (rest : List ℕ) (traffic : Traffic) (cache after : Cache S) (count : ℕ) → 0 < length old.unread → rest ≡ drop count old.unread → traffic ≡ and_received (take count old.unread) old.traffic → AreBytes old.unread
       → ((m : CacheState) → ShowsCache holds m cache → TakesPiece holds m old.conn.0 old.unread count after)
-      → GoesFrom holds remaining contents IsSettled old cache (record old { unread = rest }) after (λ s. count ≡ 0 → IsOver s)
-  takes old rest cache after count some rest_is bytes took m s before had stands settled flow =
+      → GoesFrom holds remaining contents IsSettled old cache (record old { unread = rest; traffic = traffic }) after (λ s. count ≡ 0 → IsOver s)
+  takes old rest traffic cache after count some rest_is traffic_is bytes took m s before had stands settled flow =
       let t = took m stands.shows in
       let same = sym stands.now in
       let unread = old.unread in
       let F : Conn → Conn = λ o. (conn_takes m.keep m.timing m.cache t.wanting unread o).machine.conn in
       let now : Serving = serve m.keep m.timing (Takes t.wanting unread) s in
-      let left : ℕ → ClientState = λ n. record { serving = now; unread = drop n unread; unwritten = old.unwritten; owed = old.is_owed; carried = old.carried } in
-      let whole : List ℕ → ClientState = λ bs. record { serving = now; unread = bs; unwritten = old.unwritten; owed = old.is_owed; carried = old.carried } in
+      let left : ℕ → ClientState = λ n. record { serving = now; unread = drop n unread; unwritten = old.unwritten; owed = old.is_owed; traffic = and_received (take n unread) old.traffic } in
+      let whole : List ℕ → Traffic → ClientState = λ bs t. record { serving = now; unread = bs; unwritten = old.unwritten; owed = old.is_owed; traffic = t } in
       let is : count ≡ consumed_of m.keep m.timing t.wanting unread s =
       t.result_is ∙ ap (conn_consumed t.wanting unread m) stands.at ∙ ap (λ i. length unread - length (conn_takes m.keep m.timing i t.wanting unread s.conn).rest) same in
       let whole_is : ((s.came ++ take (consumed_of m.keep m.timing t.wanting unread s) unread) ++ rest) ≡ s.came ++ unread =
@@ -281,15 +296,17 @@ module _ {S T : Type 0} (holds : ℕ → Instance → S → Type 0) (remaining c
         steps = HandsIn t.wanting ∷ [];
         may = ((bytes, settled, subst (λ i. IfSome t.wanting (λ unit. is_wanted_by_peer m.keep m.timing i s.conn unread unit ≡ true)) same (subst (λ o. IfSome t.wanting (λ unit. is_wanted_at unread m o unit ≡ true)) stands.at t.wanted)), tt);
         now = now;
-        leads = ap left (sym is) ∙ ap whole (sym rest_is);
+        leads = ap left (sym is) ∙ (λ i. whole (sym rest_is i) (sym traffic_is i));
         shows = set_known holds F m old.conn.0 s.conn now.conn after stands.at (ap (λ i. (conn_takes m.keep m.timing i t.wanting unread s.conn).machine.conn) same) t.shows;
         flow = record {
           read = subst (Consumes before (remaining old.stream)) (sym whole_is) flow.read;
           written = flow.written;
           given = flow.given;
           out = flow.out;
-          all_read = flow.all_read ∙ ap (λ x. capped (length x)) (sym whole_is);
-          all_written = flow.all_written;
+          all_read = ap (λ (x : Traffic). x.carried.read) traffic_is ∙ flow.all_read ∙ ap (λ x. capped (length x)) (sym whole_is);
+          all_written = ap (λ (x : Traffic). x.carried.written) traffic_is ∙ flow.all_written;
+          all_received = ap (λ (x : Traffic). x.received) traffic_is ∙ ap (λ c. counted_on c (take count unread)) flow.all_received ∙ sym (counted_both none_counted s.came (take count unread)) ∙ ap (λ n. counted (s.came ++ take n unread)) is;
+          all_sent = ap (λ (x : Traffic). x.sent) traffic_is ∙ flow.all_sent;
         };
         so = λ none.
             let n = none_taken m.keep m.timing s.cache t.wanting unread s.conn settled.none_due (sym none ∙ is) in
@@ -302,7 +319,7 @@ module _ {S T : Type 0} (holds : ℕ → Instance → S → Type 0) (remaining c
   pulls old new cache after nothing pulled m s before had stands is flow =
       let p = pulled m stands.shows in
       let now : Serving = serve m.keep m.timing (Gives p.most) s in
-      let with_bytes : List ℕ → ClientState = λ bs. record { serving = now; unread = old.unread; unwritten = bs; owed = old.is_owed; carried = old.carried } in
+      let with_bytes : List ℕ → ClientState = λ bs. record { serving = now; unread = old.unread; unwritten = bs; owed = old.is_owed; traffic = old.traffic } in
       let bytes_are : new ≡ take p.most s.conn.state.due = p.bytes_are ∙ ap (λ a. take p.most (due_at a)) stands.at in
       record {
         steps = Pulls p.most ∷ [];
@@ -317,6 +334,8 @@ module _ {S T : Type 0} (holds : ℕ → Instance → S → Type 0) (remaining c
           out = flow.out;
           all_read = flow.all_read;
           all_written = flow.all_written;
+          all_received = flow.all_received;
+          all_sent = flow.all_sent;
         };
         so = λ none. none_left m.keep m.timing p.most s.conn p.room.some (sym bytes_are ∙ none);
       }
@@ -328,7 +347,7 @@ module _ {S T : Type 0} (holds : ℕ → Instance → S → Type 0) (remaining c
   notifies old sent cache after nothing owed told m s before had stands due flow =
       let n = told m stands.shows in
       let now : Serving = serve m.keep m.timing Notified s in
-      let with_owed : Bool → ClientState = λ b. record { serving = now; unread = old.unread; unwritten = old.unwritten; owed = b; carried = old.carried } in
+      let with_owed : Bool → ClientState = λ b. record { serving = now; unread = old.unread; unwritten = old.unwritten; owed = b; traffic = old.traffic } in
       let is : sent ≡ can_be_told s = n.0 ∙ ap (can_notify_at m.cache) stands.at ∙ ap (λ i. can_notify i s.conn) (sym stands.now) in
       record {
         steps = Notifies ∷ [];
@@ -336,11 +355,11 @@ module _ {S T : Type 0} (holds : ℕ → Instance → S → Type 0) (remaining c
         now = now;
         leads = ap with_owed (ap (λ b. b && not (can_be_told s)) owed ∙ ap not (sym is));
         shows = set_known holds (conn_notified m.keep m.timing m.cache) m old.conn.0 s.conn now.conn after stands.at (ap (λ i. conn_notified m.keep m.timing i s.conn) (sym stands.now)) n.1;
-        flow = record { read = flow.read; written = flow.written; given = flow.given; out = flow.out; all_read = flow.all_read; all_written = flow.all_written };
+        flow = record { read = flow.read; written = flow.written; given = flow.given; out = flow.out; all_read = flow.all_read; all_written = flow.all_written; all_received = flow.all_received; all_sent = flow.all_sent };
         so = by_sent m.keep m.timing s sent is (due nothing);
       }
     where
-      by_sent : (keep : ℕ) (t : Intervals) (s : Serving) (sent : Bool) → sent ≡ can_be_told s → s.conn.state.due ≡ [] → settles sent (record { serving = serve keep t Notified s; unread = old.unread; unwritten = old.unwritten; owed = not sent; carried = old.carried })
+      by_sent : (keep : ℕ) (t : Intervals) (s : Serving) (sent : Bool) → sent ≡ can_be_told s → s.conn.state.due ≡ [] → settles sent (record { serving = serve keep t Notified s; unread = old.unread; unwritten = old.unwritten; owed = not sent; traffic = old.traffic })
       by_sent keep t s true is none = refl
       by_sent keep t s false is none =
           let same = not_notified keep t s.cache s.conn (sym is) in
@@ -360,28 +379,28 @@ module _ {S T : Type 0} (holds : ℕ → Instance → S → Type 0) (remaining c
   -- bytes are read
   pub reads : (old : Slot T) (unread : List ℕ) (stream : T) (cache : Cache S) (moved : Moved) (within : Bool) (turn : Option Turn) → FillsSo (remaining old.stream) (remaining stream) moved unread → Keeps (contents old.stream) (contents stream)
       → ((m : CacheState) → ShowsCache holds m cache → within ≡ is_within (m.at old.conn.0)) → turn ≡ after_read moved within → length unread ≤ MAX_UNIT_LEN
-      → (carried : Carried) → carried ≡ and_read (moved_count moved) old.carried
-      → GoesFrom holds remaining contents IsIdle old cache (record old { stream = stream; unread = unread; carried = carried }) cache (GoesOrEnds turn (remaining stream))
-  reads old unread stream cache moved within turn fills keeps looks turn_is room carried carried_is m s before had stands idle flow =
+      → (traffic : Traffic) → traffic ≡ and_read (moved_count moved) old.traffic
+      → GoesFrom holds remaining contents IsIdle old cache (record old { stream = stream; unread = unread; traffic = traffic }) cache (GoesOrEnds turn (remaining stream))
+  reads old unread stream cache moved within turn fills keeps looks turn_is room traffic traffic_is m s before had stands idle flow =
       record {
         steps = Reads unread ∷ [];
         may = ((idle, room), tt);
         now = s;
-        leads = ap with_count counted;
+        leads = ap with_count so_counted;
         shows = set_same holds m old.conn.0 (Some s.conn) cache stands.at stands.shows;
-        flow = subst (λ c. Flow before (remaining stream) had (contents stream) (with_count c)) counted
-            (reads_on before (remaining old.stream) (remaining stream) had (contents old.stream) (contents stream) s old.unread unread old.unwritten old.is_owed old.carried moved idle.all_consumed flow fills keeps);
+        flow = subst (λ c. Flow before (remaining stream) had (contents stream) (with_count c)) so_counted
+            (reads_on before (remaining old.stream) (remaining stream) had (contents old.stream) (contents stream) s old.unread unread old.unwritten old.is_owed old.traffic moved idle.all_consumed flow fills keeps);
         so = subst (λ o. GoesOrEnds o (remaining stream) now) (sym turn_is) (ends moved fills);
       }
     where
-      with_count : Carried → ClientState
-      with_count c = record { serving = s; unread = unread; unwritten = old.unwritten; owed = old.is_owed; carried = c }
+      with_count : Traffic → ClientState
+      with_count c = record { serving = s; unread = unread; unwritten = old.unwritten; owed = old.is_owed; traffic = c }
 
       now : ClientState
-      now = with_count carried
+      now = with_count traffic
 
-      counted : and_read (length unread) old.carried ≡ carried
-      counted = ap (λ n. and_read n old.carried) (filled_count (remaining old.stream) (remaining stream) moved unread fills) ∙ sym carried_is
+      so_counted : and_read (length unread) old.traffic ≡ traffic
+      so_counted = ap (λ n. and_read n old.traffic) (filled_count (remaining old.stream) (remaining stream) moved unread fills) ∙ sym traffic_is
 
       stays_idle : unread ≡ [] → IsIdle now
       stays_idle none = record { settled = record { all_written = idle.settled.all_written; none_due = idle.settled.none_due; told = idle.settled.told }; all_consumed = none; goes_on = idle.goes_on }
@@ -412,22 +431,22 @@ module _ {S T : Type 0} (holds : ℕ → Instance → S → Type 0) (remaining c
 -- bytes are written
 pub writes : {T : Type 0} (remaining contents : T → Option (List ℕ)) (old : Slot T) (new : List ℕ) (stream : T) (moved : Moved) (turn : Option Turn) → EmptiesSo (contents old.stream) (contents stream) moved old.unwritten new
     → Keeps (remaining old.stream) (remaining stream) → turn ≡ after_write moved
-    → (carried : Carried) → carried ≡ and_written (moved_count moved) old.carried
-    → WritesFrom remaining contents IsToWrite old (record old { stream = stream; unwritten = new; carried = carried }) (GoesOrEnds turn (remaining stream))
-writes remaining contents old new stream moved turn empties keeps turn_is carried carried_is s before had some flow =
+    → (traffic : Traffic) → traffic ≡ and_written (moved_count moved) (take (moved_count moved) old.unwritten) old.traffic
+    → WritesFrom remaining contents IsToWrite old (record old { stream = stream; unwritten = new; traffic = traffic }) (GoesOrEnds turn (remaining stream))
+writes remaining contents old new stream moved turn empties keeps turn_is traffic traffic_is s before had some flow =
     record {
       count = moved_count moved;
-      leads = ap (λ bs. with_both bs (and_written (moved_count moved) old.carried)) (written_is (contents old.stream) (contents stream) moved old.unwritten new empties) ∙ ap (with_both new) (sym carried_is);
-      flow = subst (λ c. Flow before (remaining stream) had (contents stream) (with_both new c)) (sym carried_is)
-          (writes_on before (remaining old.stream) (remaining stream) had (contents old.stream) (contents stream) s old.unread old.unwritten new old.is_owed old.carried moved flow empties keeps);
+      leads = ap (λ bs. with_both bs (and_written (moved_count moved) (take (moved_count moved) old.unwritten) old.traffic)) (written_is (contents old.stream) (contents stream) moved old.unwritten new empties) ∙ ap (with_both new) (sym traffic_is);
+      flow = subst (λ c. Flow before (remaining stream) had (contents stream) (with_both new c)) (sym traffic_is)
+          (writes_on before (remaining old.stream) (remaining stream) had (contents old.stream) (contents stream) s old.unread old.unwritten new old.is_owed old.traffic moved flow empties keeps);
       so = subst (λ o. GoesOrEnds o (remaining stream) (with_bytes new)) (sym turn_is) (ends moved empties);
     }
   where
-    with_both : List ℕ → Carried → ClientState
-    with_both bs c = record { serving = s; unread = old.unread; unwritten = bs; owed = old.is_owed; carried = c }
+    with_both : List ℕ → Traffic → ClientState
+    with_both bs c = record { serving = s; unread = old.unread; unwritten = bs; owed = old.is_owed; traffic = c }
 
     with_bytes : List ℕ → ClientState
-    with_bytes bs = with_both bs carried
+    with_bytes bs = with_both bs traffic
 
     still : new ≡ old.unwritten → 0 < length new
     still is = subst (λ (x : List ℕ). 0 < length x) (sym is) some

@@ -5,6 +5,7 @@ use Rattle.rtr_ends.specs.Cache.{Serving}
 use Rattle.rtr_ends.specs.CacheState.{CacheCall, CacheState, Close, Notify, Open, Pull}
 use Rattle.rtr_ends.specs.Timing.{Intervals}
 use Rattle.rtr_server.specs.Clients.{admit_fault_number, awaits}
+use Rattle.rtr_server.specs.Counting.{none_counted}
 use Rattle.rtr_server.specs.Streams.{moved_by}
 use Rattle.rtr_server.specs.Turns.{Reads, ToldSo, Writes, FitsBudget, after_read, after_write, steps_after}
 use Rattle.rtr_server.specs.declared.server.AdmitFault.TheVariants as faults
@@ -34,8 +35,8 @@ told = (refl, refl, omega arith, refl)
 
 module _ (keep : ℕ) (t : Intervals) (s : Serving) where
   -- three bytes are left to be written, and two of them are; five come
-  steps : steps_after keep t (Reads (5 ∷ []) ∷ Writes 2 ∷ []) (record { serving = s; unread = []; unwritten = 1 ∷ 2 ∷ 3 ∷ []; owed = true; carried = record { read = 8; written = 40 } })
-      ≡ record { serving = s; unread = 5 ∷ []; unwritten = 3 ∷ []; owed = true; carried = record { read = 9; written = 42 } }
+  steps : steps_after keep t (Reads (5 ∷ []) ∷ Writes 2 ∷ []) (record { serving = s; unread = []; unwritten = 1 ∷ 2 ∷ 3 ∷ []; owed = true; traffic = record { carried = record { read = 8; written = 40 }; received = none_counted; sent = none_counted } })
+      ≡ record { serving = s; unread = 5 ∷ []; unwritten = 3 ∷ []; owed = true; traffic = record { carried = record { read = 9; written = 42 }; received = none_counted; sent = record none_counted { front = 1 ∷ 2 ∷ []; came = 2 } } }
   steps = refl
 
 -- A router that has just come awaits nothing, whatever was before; nor does another call make one await.

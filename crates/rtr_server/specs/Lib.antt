@@ -1,3 +1,4 @@
 pub mod Clients
+pub mod Counting
 pub mod Streams
 pub mod Turns

@@ -1,5 +1,5 @@
 -- What is done for one client, step by step, and how its turn ends (RFC 8210 sections 5, 7, 8 and 12).
-use Rattle.std.specs.Prelude.{◌≡◌, ◌⊎◌, ℕ, ◌+◌, ◌-◌, ◌^◌, min, ◌<◌, ◌≤◌, ◌==◌, Bool, true, false, not, ◌&&◌, List, [], ◌∷◌, ◌++◌, length, take, drop, Option, Some, None, IfSome, if◌then◌else◌, ⊤}
+use Rattle.std.specs.Prelude.{◌≡◌, ◌⊎◌, ℕ, ◌+◌, ◌-◌, ◌<◌, ◌≤◌, ◌==◌, Bool, true, false, not, ◌&&◌, List, [], ◌∷◌, ◌++◌, length, take, drop, Option, Some, None, IfSome, if◌then◌else◌, ⊤}
 use Rattle.std.specs.Io.KnownBytes.{Appends, Consumes, IsAtEnd}
 use Rattle.vrps.specs.Instance.{Instance}
 use Rattle.rtr_pdu.specs.Code.{INTERNAL_ERROR}
@@ -13,25 +13,26 @@ use Rattle.rtr_ends.specs.Connection.{Connection}
 use Rattle.rtr_ends.specs.Peer.{is_wanted_by_peer}
 use Rattle.rtr_ends.specs.Timing.{Intervals}
 use Rattle.rtr_ends.specs.declared.cache.Cache.{Cache}
+use Rattle.rtr_server.specs.Counting.{capped, counted, counted_on, none_counted}
 use Rattle.rtr_server.specs.Streams.{IsRoom, Logged}
 use Rattle.rtr_server.specs.declared.stream.Moved.{Moved}
 use Rattle.rtr_server.specs.declared.stream.Moved.TheVariants.{Bytes, Waits, Interrupted, Failed}
-use Rattle.rtr_server.specs.declared.turn.Carried.{Carried}
 use Rattle.rtr_server.specs.declared.turn.Gone.TheVariants.{CacheEnded, PeerClosed, ReadFailed, Truncated, WriteFailed}
 use Rattle.rtr_server.specs.declared.turn.Next.{Next}
 use Rattle.rtr_server.specs.declared.turn.Next.TheVariants.{Nothing, Read, Write}
 use Rattle.rtr_server.specs.declared.turn.Slot.{Slot}
+use Rattle.rtr_server.specs.declared.turn.Traffic.{Traffic}
 use Rattle.rtr_server.specs.declared.turn.Turn.{Turn}
 use Rattle.rtr_server.specs.declared.turn.Turn.TheVariants.{Busy, Gone, WaitsToRead, WaitsToWrite}
 
 -- A client: its connection, what was read of its stream and is not consumed, what was pulled and is not written, and whether it is owed
--- a notify, and how many bytes went over its stream
+-- a notify, and what is counted of it
 pub record ClientState : Type 0 where
   pub serving : Serving
   pub unread : List ℕ
   pub unwritten : List ℕ
   pub owed : Bool
-  pub carried : Carried
+  pub traffic : Traffic
 
 -- What is done for a client: what was read is handed in, where memory is wanting at this PDU of it, if at any; of what is due so many bytes
 -- are pulled at most; its router is notified; these bytes are read of its stream; so many are written to it.
@@ -50,27 +51,31 @@ consumed_of keep t wanting piece s = length piece - length (conn_takes keep t s.
 abbrev pub can_be_told : Serving → Bool
 can_be_told s = can_notify s.cache s.conn
 
--- a count of 64 bits
-abbrev pub capped : ℕ → ℕ
-capped n = min n (2 ^ 64 - 1)
+-- What is counted of a client that has just come
+abbrev pub no_traffic : Traffic
+no_traffic = record { carried = record { read = 0; written = 0 }; received = none_counted; sent = none_counted }
 
-abbrev pub and_read : ℕ → Carried → Carried
-and_read count c = record c { read = capped (c.read + count) }
+abbrev pub and_read : ℕ → Traffic → Traffic
+and_read count t = record t { carried = record t.carried { read = capped (t.carried.read + count) } }
 
-abbrev pub and_written : ℕ → Carried → Carried
-and_written count c = record c { written = capped (c.written + count) }
+abbrev pub and_received : List ℕ → Traffic → Traffic
+and_received bytes t = record t { received = counted_on t.received bytes }
+
+abbrev pub and_written : ℕ → List ℕ → Traffic → Traffic
+and_written count bytes t = record t { carried = record t.carried { written = capped (t.carried.written + count) }; sent = counted_on t.sent bytes }
 
 abbrev pub client_wrote : ℕ → ClientState → ClientState
-client_wrote count s = record s { unwritten = drop count s.unwritten; carried = and_written count s.carried }
+client_wrote count s = record s { unwritten = drop count s.unwritten; traffic = and_written count (take count s.unwritten) s.traffic }
 
 abbrev pub client_after : ℕ → Intervals → ClientStep → ClientState → ClientState
 client_after keep t (HandsIn wanting) s = record s {
   serving = serve keep t (Takes wanting s.unread) s.serving;
   unread = drop (consumed_of keep t wanting s.unread s.serving) s.unread;
+  traffic = and_received (take (consumed_of keep t wanting s.unread s.serving) s.unread) s.traffic;
 }
 client_after keep t (Pulls most) s = record s { serving = serve keep t (Gives most) s.serving; unwritten = take most s.serving.conn.state.due }
 client_after keep t Notifies s = record s { serving = serve keep t Notified s.serving; owed = s.owed && not (can_be_told s.serving) }
-client_after keep t (Reads bytes) s = record s { unread = bytes; carried = and_read (length bytes) s.carried }
+client_after keep t (Reads bytes) s = record s { unread = bytes; traffic = and_read (length bytes) s.traffic }
 client_after keep t (Writes count) s = client_wrote count s
 
 -- All that was pulled is written, nothing is due, and no notify is owed that can be sent.
@@ -148,18 +153,21 @@ MaySteps keep t [] s = ⊤
 MaySteps keep t (step ∷ steps) s = MayStep keep t step (steps_after keep t steps s) × MaySteps keep t steps s
 
 -- What was read of the stream since it came is what its connection consumed, and then the bytes that are not consumed; what was pulled
--- is what was written to it, and then the bytes that are not written; and so many are counted.
+-- is what was written to it, and then the bytes that are not written; so many are counted; and the PDUs that are counted are those of what
+-- its connection consumed, and of what was written.
 pub record Flow (before left had has : Option (List ℕ)) (s : ClientState) : Type 0 where
   pub read : Consumes before left (s.serving.came ++ s.unread)
   pub written : List ℕ
   pub given : s.serving.given ≡ written ++ s.unwritten
   pub out : Appends had has written
-  pub all_read : s.carried.read ≡ capped (length (s.serving.came ++ s.unread))
-  pub all_written : s.carried.written ≡ capped (length written)
+  pub all_read : s.traffic.carried.read ≡ capped (length (s.serving.came ++ s.unread))
+  pub all_written : s.traffic.carried.written ≡ capped (length written)
+  pub all_received : s.traffic.received ≡ counted s.serving.came
+  pub all_sent : s.traffic.sent ≡ counted written
 
 -- what a slot is, with this connection
 abbrev pub client_of : {T : Type 0} → Serving → Slot T → ClientState
-client_of s slot = record { serving = s; unread = slot.unread; unwritten = slot.unwritten; owed = slot.is_owed; carried = slot.carried }
+client_of s slot = record { serving = s; unread = slot.unread; unwritten = slot.unwritten; owed = slot.is_owed; traffic = slot.traffic }
 
 -- The cache shows this state, where this is the connection under the number.
 pub record StandsSo {S : Type 0} (holds : ℕ → Instance → S → Type 0) (m : CacheState) (c : ℕ) (s : Serving) (cache : Cache S) : Type 0 where

@@ -26,8 +26,10 @@ pub mod laws;
 mod pieces;
 mod server;
 mod stream;
+mod tally;
 mod turn;
 
 pub use server::{AdmitFault, Client, Server};
 pub use stream::{Duplex, Moved, Stream};
+pub use tally::Pdus;
 pub use turn::{Carried, Gone, Turn};

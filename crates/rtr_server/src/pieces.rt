@@ -1,11 +1,13 @@
 //! What was read of a stream and is not consumed, and what was pulled and is not written.
-ghost use Rattle.std.specs.Prelude.{◌≡◌, ◌↔◌, ◌∷◌, ◌≤◌, [], IsTrue, length, drop};
+ghost use Rattle.std.specs.Prelude.{◌≡◌, ◌↔◌, ◌∷◌, ◌≤◌, [], IsTrue, length, take, drop};
 ghost use Rattle.std.specs.Io.KnownBytes.{Keeps};
 ghost use Rattle.rtr_pdu.specs.Payloads.{AreBytes};
 ghost use Rattle.rtr_ends.specs.CacheState.{CacheState, GivesBytes, ShowsCache, TakesPiece};
-ghost use Rattle.rtr_server.specs.Streams.{EmptiesSo, FillsSo, Logged, PullsInto, room_of};
+ghost use Rattle.rtr_server.specs.Streams.{EmptiesSo, FillsSo, Logged, PullsInto, moved_count, room_of};
+ghost use Rattle.rtr_server.specs.Counting.{counted_on};
 
 use crate::stream::{Moved, Stream};
+use crate::tally::{Tally, count};
 use rtr_ends::{Cache, Conn};
 use rtr_pdu::MAX_UNIT_LEN;
 use std::alloc::Global;
@@ -67,14 +69,21 @@ impl Unread {
         moved
     }
 
-    /// Hands it in, and answers how many bytes were consumed.
-    pub(crate) fn hand_in<S: VersionStore>(&mut self, cache: &mut Cache<S>, conn: Conn) -> usize
+    /// Hands it in, counts what was consumed, and answers how many bytes that is.
+    pub(crate) fn hand_in<S: VersionStore>(
+        &mut self,
+        cache: &mut Cache<S>,
+        conn: Conn,
+        received: &mut Tally,
+    ) -> usize
         ensures takes { (m : CacheState) → ShowsCache S.holds m cache.old → TakesPiece S.holds m conn.0 self.old result cache.new }
         ensures rest { self.new ≡ drop result self.old }
         ensures within { result ≤ length self.old }
         ensures bytes { AreBytes self.old }
+        ensures counts { received.new ≡ counted_on received.old (take result self.old) }
     {
         let taken = hand_piece(cache, conn, &self.bytes[self.from..self.to]);
+        count(received, &self.bytes[self.from..self.from + taken]);
         self.from += taken;
         taken
     }
@@ -174,17 +183,18 @@ impl Unwritten {
         self.give_back();
     }
 
-    /// Writes of it what the stream takes in one call.
-    pub(crate) fn write<T: Stream>(&mut self, stream: &mut T) -> Moved
+    /// Writes of it what the stream takes in one call, and counts that.
+    pub(crate) fn write<T: Stream>(&mut self, stream: &mut T, sent: &mut Tally) -> Moved
         ensures empties { EmptiesSo (T.contents stream.old) (T.contents stream.new) result self.old self.new }
         ensures keeps { Keeps (T.remaining stream.old) (T.remaining stream.new) }
         ensures logs { Logged (result ∷ []) (T.answers stream.old) (T.answers stream.new) }
+        ensures counts { sent.new ≡ counted_on sent.old (take (moved_count result) self.old) }
     {
         let room = room_at_hand(&self.small, &self.large);
         let moved = stream.write(&room[self.from..self.to]);
-        if let Moved::Bytes(n) = moved {
-            self.from += n;
-        }
+        let gone = moved.count() as usize;
+        count(sent, &room[self.from..self.from + gone]);
+        self.from += gone;
         moved
     }
 }

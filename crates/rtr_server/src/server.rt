@@ -3,10 +3,12 @@ ghost use Rattle.std.specs.Prelude.{◌≡◌, ◌+◌, ◌<◌, ℕ, false, tru
 ghost use Rattle.vrps.specs.Instance.{Instance, IsInstance, versions};
 ghost use Rattle.vrps.specs.Stores.{newest};
 ghost use Rattle.rtr_ends.specs.Timing.{Intervals};
-ghost use Rattle.rtr_ends.specs.CacheState.{CacheCall, CacheState, ShowsCache, version_at, with_conn, without_conns};
+ghost use Rattle.rtr_ends.specs.CacheState.{CacheCall, CacheState, ShowsCache, joined, version_at, with_conn, without_conns};
 ghost use Rattle.rtr_server.specs.Clients.{AdmitsTo, Begun, GoesOnAfter, IsCounted, KeepsAll, KeepsOthers, NotifiesAt, NotifiesBelow, Past, PublishesSo, PublishesTo, Serves, ShowsServer, TakesTurn, admit_fault_number, clients_in, is_gone, present, slot_at};
+ghost use Rattle.rtr_server.specs.Turns.{no_traffic};
 
 use crate::stream::Stream;
+use crate::tally::Pdus;
 use crate::turn::{Carried, Slot, Turn};
 use rtr_ends::{Cache, Conn};
 use rtr_pdu::Version;
@@ -187,11 +189,43 @@ impl<S: VersionStore, T: Stream + Drop> Server<S, T> {
 
     /// How many bytes went over a client's stream since it came, where there is such a client.
     pub fn carried(&self, client: Client) -> Option<Carried>
-        ensures { result ≡ option_map (λ slot. slot.carried) (slot_at self.now.slots.items client.0.0) }
+        ensures { result ≡ option_map (λ slot. slot.traffic.carried) (slot_at self.now.slots.items client.0.0) }
     {
         match self.slots.get(client.0.number())? {
             None => None,
-            Some(slot) => Some(slot.carried),
+            Some(slot) => Some(slot.traffic.carried),
+        }
+    }
+
+    /// The PDUs that came from a client, by type, where there is such a client: those of which its connection consumed as many bytes as their
+    /// headers tell. One in which a fault shows behind its header is among them.
+    pub fn received(&self, client: Client) -> Option<Pdus>
+        ensures { result ≡ option_map (λ slot. slot.traffic.received.pdus) (slot_at self.now.slots.items client.0.0) }
+    {
+        match self.slots.get(client.0.number())? {
+            None => None,
+            Some(slot) => Some(slot.traffic.received.pdus()),
+        }
+    }
+
+    /// The PDUs that were sent to a client, by type, where there is such a client: those that were written whole to its stream.
+    pub fn sent(&self, client: Client) -> Option<Pdus>
+        ensures { result ≡ option_map (λ slot. slot.traffic.sent.pdus) (slot_at self.now.slots.items client.0.0) }
+    {
+        match self.slots.get(client.0.number())? {
+            None => None,
+            Some(slot) => Some(slot.traffic.sent.pdus()),
+        }
+    }
+
+    /// The serial of the last End of Data (RFC 8210 section 5.8) that was sent to a client: of the version that its router has, where it took
+    /// all of its answers.
+    pub fn last_serial(&self, client: Client) -> Option<Serial>
+        ensures { result ≡ joined (option_map (λ slot. slot.traffic.sent.serial) (slot_at self.now.slots.items client.0.0)) }
+    {
+        match self.slots.get(client.0.number())? {
+            None => None,
+            Some(slot) => slot.traffic.sent.serial(),
         }
     }
 
@@ -264,7 +298,7 @@ fn put_at<T: Stream + Drop>(
     stream: T,
 ) -> Result<(), AllocError>
     ensures others { KeepsOthers conn.0 slots.old.items slots.new.items }
-    ensures placed { IfOk result (λ _. slot_at slots.new.items conn.0 ≡ Option.Some (record { stream = stream; conn = conn; unread = []; unwritten = []; is_owed = false; carried = record { read = 0; written = 0 } })) }
+    ensures placed { IfOk result (λ _. slot_at slots.new.items conn.0 ≡ Option.Some (record { stream = stream; conn = conn; unread = []; unwritten = []; is_owed = false; traffic = no_traffic })) }
     ensures kept { IfErr result (λ _. KeepsAll slots.old.items slots.new.items) }
     ensures more { IfOk result (λ _. slot_at slots.old.items conn.0 ≡ Option.None → clients_in slots.new.items ≡ clients_in slots.old.items + 1) }
     ensures same { IfErr result (λ _. clients_in slots.new.items ≡ clients_in slots.old.items) }

@@ -1,9 +1,10 @@
 //! One turn of a client.
-ghost use Rattle.std.specs.Prelude.{◌≡◌, ◌<◌, ◌≤◌, [], false, drop, length};
-ghost use Rattle.rtr_server.specs.Turns.{Anyhow, AnswersTurn, AnswersStep, EndsSo, GoesFrom, GoesOrEnds, IsIdle, IsOver, IsSettled, IsToWrite, MaySettle, NoneDue, StandsFor, WritesFrom, after_read, after_write, settles};
+ghost use Rattle.std.specs.Prelude.{◌≡◌, ◌<◌, ◌≤◌, [], false, drop, length, take};
+ghost use Rattle.rtr_server.specs.Turns.{Anyhow, AnswersTurn, AnswersStep, EndsSo, GoesFrom, GoesOrEnds, IsIdle, IsOver, IsSettled, IsToWrite, MaySettle, NoneDue, StandsFor, WritesFrom, after_read, after_write, and_received, no_traffic, settles};
 
 use crate::pieces::{Unread, Unwritten};
 use crate::stream::{Moved, Stream};
+use crate::tally::Tally;
 use rtr_ends::{Cache, Conn};
 use std::alloc::Global;
 use vrps::VersionStore;
@@ -45,7 +46,31 @@ pub struct Carried {
     pub written: u64,
 }
 
-/// A client: its stream, its connection, what is between them, whether it is owed a notify, and how many bytes went.
+/// What is counted of a client: the bytes that went over its stream, the PDUs of what its connection consumed, and those of what was written.
+#[derive(Debug, Drop)]
+pub(crate) struct Traffic {
+    pub(crate) carried: Carried,
+    pub(crate) received: Tally,
+    pub(crate) sent: Tally,
+}
+
+impl Traffic {
+    /// Nothing went yet.
+    fn new() -> Traffic
+        ensures { result ≡ no_traffic }
+    {
+        Traffic {
+            carried: Carried {
+                read: 0,
+                written: 0,
+            },
+            received: Tally::new(),
+            sent: Tally::new(),
+        }
+    }
+}
+
+/// A client: its stream, its connection, what is between them, whether it is owed a notify, and what is counted of it.
 #[derive(Debug, Drop)]
 pub(crate) struct Slot<T> {
     pub(crate) stream: T,
@@ -53,7 +78,7 @@ pub(crate) struct Slot<T> {
     pub(crate) unread: Unread,
     pub(crate) unwritten: Unwritten,
     pub(crate) is_owed: bool,
-    pub(crate) carried: Carried,
+    pub(crate) traffic: Traffic,
 }
 
 /// What is to be done with the stream next.
@@ -70,7 +95,7 @@ pub(crate) enum Next {
 impl<T: Stream> Slot<T> {
     /// A client that has just come.
     pub(crate) fn new(alloc: Global, stream: T, conn: Conn) -> Slot<T>
-        ensures { result ≡ record { stream = stream; conn = conn; unread = []; unwritten = []; is_owed = false; carried = record { read = 0; written = 0 } } }
+        ensures { result ≡ record { stream = stream; conn = conn; unread = []; unwritten = []; is_owed = false; traffic = no_traffic } }
     {
         Slot {
             stream,
@@ -78,10 +103,7 @@ impl<T: Stream> Slot<T> {
             unread: Unread::new(),
             unwritten: Unwritten::new(alloc),
             is_owed: false,
-            carried: Carried {
-                read: 0,
-                written: 0,
-            },
+            traffic: Traffic::new(),
         }
     }
 
@@ -142,11 +164,12 @@ impl<T: Stream> Slot<T> {
     fn take<S: VersionStore>(&mut self, cache: &mut Cache<S>) -> usize
         requires { 0 < length self.old.unread }
         ensures goes { GoesFrom S.holds T.remaining T.contents IsSettled self.old cache.old self.new cache.new (λ s. result ≡ 0 → IsOver s) }
-        ensures rest { self.new ≡ record self.old { unread = drop result self.old.unread } }
+        ensures rest { self.new ≡ record self.old { unread = drop result self.old.unread; traffic = and_received (take result self.old.unread) self.old.traffic } }
         ensures conn { self.new.conn ≡ self.old.conn }
         ensures within { result ≤ length self.old.unread }
     {
-        self.unread.hand_in(cache, self.conn)
+        self.unread
+            .hand_in(cache, self.conn, &mut self.traffic.received)
     }
 
     /// Hands in what was read, as far as nothing becomes due, and says what is to be done next.
@@ -183,7 +206,7 @@ impl<T: Stream> Slot<T> {
     {
         let is_within = cache.is_within_unit(self.conn);
         let moved = self.unread.read(&mut self.stream);
-        self.carried.read = self.carried.read.saturating_add(moved.count());
+        self.traffic.carried.read = self.traffic.carried.read.saturating_add(moved.count());
         after_read(moved, is_within)
     }
 
@@ -193,8 +216,10 @@ impl<T: Stream> Slot<T> {
         ensures conn { self.new.conn ≡ self.old.conn }
         ensures answers { AnswersStep result (T.answers self.old.stream) (T.answers self.new.stream) }
     {
-        let moved = self.unwritten.write(&mut self.stream);
-        self.carried.written = self.carried.written.saturating_add(moved.count());
+        let moved = self
+            .unwritten
+            .write(&mut self.stream, &mut self.traffic.sent);
+        self.traffic.carried.written = self.traffic.carried.written.saturating_add(moved.count());
         after_write(moved)
     }
 

@@ -5,12 +5,13 @@ use crate::lines::{
 use example_values::hex::bytes;
 use example_values::sets::V;
 use example_values::units::{ANSWER, RESET_QUERY};
-use rtr_pdu::Version;
+use rtr_pdu::{Kind, Version};
 use rtr_server::{AdmitFault, Carried, Client, Gone, Server, Turn};
 use std::alloc::Global;
 use std::io::ErrorKind;
 use std::process::Abort;
 use std::test::Fail;
+use vrps::Serial;
 
 const TWO_QUERIES: &str = "01 02 0000 00000008 | 01 02 0000 00000008";
 
@@ -18,6 +19,9 @@ const TWO_QUERIES: &str = "01 02 0000 00000008 | 01 02 0000 00000008";
 const TWO_ANSWERS: &str =
     "01 03 1234 00000008 | 01 04 0000 00000014 01 18 18 00 c0000200 0000fbf0 | 01 07 1234 00000018 00000005 00000e10 00000258 00001c20
     | 01 03 1234 00000008 | 01 04 0000 00000014 01 18 18 00 c0000200 0000fbf0 | 01 07 1234 00000018 00000005 00000e10 00000258 00001c20";
+
+/// A Reset Query in version 0.
+const QUERY_0: &str = "00 02 0000 00000008";
 
 /// Serves a client to its end, in turns of so many calls.
 fn end_of(server: &mut Memory, client: Client, budget: u32) -> Option<Turn> {
@@ -113,6 +117,40 @@ fn clients_come_and_go(rt: HostRuntime) -> Result<(), Fail> {
         written: 52,
     };
     assert!(rt; server.carried(second) == Some(carried));
+    Ok(())
+}
+
+/// How many PDUs of a type came from a client, and how many were sent to it.
+fn counts(server: &Memory, client: Client, kind: Kind) -> Option<(u64, u64)> {
+    let received = server.received(client)?.of(kind);
+    let sent = server.sent(client)?.of(kind);
+    Some((received, sent))
+}
+
+#[test]
+fn pdus_are_counted_in_both_versions(rt: HostRuntime) -> Result<(), Fail> {
+    let alloc = rt.alloc();
+    let out = shared(alloc, &[])?;
+    let mut server = Server::new(alloc, cache_of(alloc, &[V])?, 2);
+    let cut = Manner { size: 7, ..PLAIN };
+    let newer = admitted(
+        &mut server,
+        line(alloc, bytes(TWO_QUERIES).as_slice(), cut, &out)?,
+    )?;
+    let older = admitted(
+        &mut server,
+        line(alloc, bytes(QUERY_0).as_slice(), cut, &out)?,
+    )?;
+    assert!(rt; server.last_serial(newer).is_none());
+    for (client, answers) in [(newer, 2), (older, 1)] {
+        assert!(rt; server.serve(client, 99) == Some(Turn::WaitsToRead));
+        assert!(rt; counts(&server, client, Kind::ResetQuery) == Some((answers, 0)));
+        assert!(rt; counts(&server, client, Kind::CacheResponse) == Some((0, answers)));
+        assert!(rt; counts(&server, client, Kind::Ipv4Prefix) == Some((0, answers)));
+        assert!(rt; counts(&server, client, Kind::EndOfData) == Some((0, answers)));
+        assert!(rt; counts(&server, client, Kind::ErrorReport) == Some((0, 0)));
+        assert!(rt; server.last_serial(client) == Some(Serial(5)));
+    }
     Ok(())
 }
 

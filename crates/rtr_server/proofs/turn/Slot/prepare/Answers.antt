@@ -41,5 +41,5 @@ loop-self-preserved g c = record {
       (laws.so_then g.S.VersionStore.holds g.T.Stream.remaining g.T.Stream.contents Anyhow MaySettle IsSettled c.args.self.now c.fill.new.self c.args.cache.now c.fill.new.cache (λ s settled. settled (c.if-not-is_empty.ensures.0 refl))
       (laws.then_on g.S.VersionStore.holds g.T.Stream.remaining g.T.Stream.contents Anyhow Anyhow MaySettle c.args.self.now c.loop-self.self c.fill.new.self c.args.cache.now c.loop-self.cache c.fill.new.cache c.loop-self.invariant.conn c.loop-self.invariant.goes c.fill.ensures.goes))
       (laws.so_then g.S.VersionStore.holds g.T.Stream.remaining g.T.Stream.contents IsSettled (λ s. c.take.result ≡ 0 → IsOver s) Anyhow c.fill.new.self c.take.new.self c.fill.new.cache c.take.new.cache (λ s over. tt) c.take.ensures.goes);
-  answers = laws.same_stream g.T.Stream.answers c.fill.new.self c.take.new.self _ c.take.ensures.rest ∙ c.fill.ensures.answers ∙ c.loop-self.invariant.answers;
+  answers = laws.same_stream g.T.Stream.answers c.fill.new.self c.take.new.self _ _ c.take.ensures.rest ∙ c.fill.ensures.answers ∙ c.loop-self.invariant.answers;
 }

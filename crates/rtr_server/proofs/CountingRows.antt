@@ -1,0 +1,43 @@
+-- What is counted of bytes, worked out.
+use Rattle.std.specs.Prelude.{◌≡◌, ℕ, ◌+◌, List, [], ◌∷◌, ◌++◌, take, Some, None, refl}
+use Rattle.rtr_pdu.specs.Unit.{unit_bytes}
+use Rattle.rtr_pdu.specs.declared.kind.Kind.TheVariants as kinds
+use Rattle.rtr_pdu.specs.declared.unit.Unit.TheVariants.{SerialNotify, EndOfData, EndOfData0}
+use Rattle.rtr_pdu.specs.declared.version.Version.TheVariants.{V0, V1}
+use Rattle.rtr_server.specs.Counting.{capped, count_of, counted}
+use Rattle.rtr_server.specs.declared.tally.Pdus.{Pdus}
+
+-- the counts of types 0 to 4 and 6 to 10
+abbrev these : List ℕ → Pdus
+these counts = record { counts = counts }
+
+-- An End of Data of version 1 has 24 bytes, and its serial stands behind the header.
+end_of_data : counted (unit_bytes V1 (EndOfData 0x1234 5 3600 600 7200)) ≡ record { pdus = these (0 ∷ 0 ∷ 0 ∷ 0 ∷ 0 ∷ 0 ∷ 0 ∷ 1 ∷ 0 ∷ 0 ∷ 0 ∷ []); serial = Some (record { 0 = 5 }); front = []; came = 0 }
+end_of_data = refl
+
+-- One of version 0 has 12.
+end_of_data_0 : counted (unit_bytes V0 (EndOfData0 0x1234 0xfffffffe)) ≡ record { pdus = these (0 ∷ 0 ∷ 0 ∷ 0 ∷ 0 ∷ 0 ∷ 0 ∷ 1 ∷ 0 ∷ 0 ∷ 0 ∷ []); serial = Some (record { 0 = 0xfffffffe }); front = []; came = 0 }
+end_of_data_0 = refl
+
+-- A PDU is counted at its last byte, and its first twelve are kept until then.
+cut_off : counted (take 23 (unit_bytes V1 (EndOfData 0x1234 5 3600 600 7200))) ≡ record { pdus = these (0 ∷ 0 ∷ 0 ∷ 0 ∷ 0 ∷ 0 ∷ 0 ∷ 0 ∷ 0 ∷ 0 ∷ 0 ∷ []); serial = None; front = 1 ∷ 7 ∷ 0x12 ∷ 0x34 ∷ 0 ∷ 0 ∷ 0 ∷ 24 ∷ 0 ∷ 0 ∷ 0 ∷ 5 ∷ []; came = 23 }
+cut_off = refl
+
+-- The last End of Data tells the serial; a Serial Notify tells none.
+three : counted (unit_bytes V0 (EndOfData0 7 5) ++ unit_bytes V0 (SerialNotify 7 6) ++ unit_bytes V0 (EndOfData0 7 9)) ≡ record { pdus = these (1 ∷ 0 ∷ 0 ∷ 0 ∷ 0 ∷ 0 ∷ 0 ∷ 2 ∷ 0 ∷ 0 ∷ 0 ∷ []); serial = Some (record { 0 = 9 }); front = []; came = 0 }
+three = refl
+
+-- A number above ten is no type and is not counted, and as many bytes as its header tells are passed over; a header that tells less than a
+-- header stands alone.
+no_types : (counted (1 ∷ 11 ∷ 0 ∷ 0 ∷ 0 ∷ 0 ∷ 0 ∷ 9 ∷ 2 ∷ [])).pdus ≡ these (0 ∷ 0 ∷ 0 ∷ 0 ∷ 0 ∷ 0 ∷ 0 ∷ 0 ∷ 0 ∷ 0 ∷ 0 ∷ [])
+no_types = refl
+
+short : (counted (1 ∷ 2 ∷ 0 ∷ 0 ∷ 0 ∷ 0 ∷ 0 ∷ 0 ∷ 1 ∷ 2 ∷ 0 ∷ 0 ∷ 0 ∷ 0 ∷ 0 ∷ 8 ∷ [])).pdus ≡ these (0 ∷ 0 ∷ 2 ∷ 0 ∷ 0 ∷ 0 ∷ 0 ∷ 0 ∷ 0 ∷ 0 ∷ 0 ∷ [])
+short = refl
+
+-- Counts stop at the greatest number of 64 bits.
+stops : (capped (18446744073709551615 + 1) ≡ 18446744073709551615) × (capped 18446744073709551615 ≡ 18446744073709551615) × (capped (2 + 1) ≡ 3)
+stops = (refl, refl, refl)
+
+places : count_of (these (10 ∷ 11 ∷ 12 ∷ 13 ∷ 14 ∷ 15 ∷ 16 ∷ 17 ∷ 18 ∷ 19 ∷ 20 ∷ [])) kinds.Ipv6Prefix ≡ 16
+places = refl

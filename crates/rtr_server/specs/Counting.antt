@@ -1,0 +1,67 @@
+-- How many PDUs of each type went one way, as their headers tell it (RFC 6810 section 5, RFC 8210 section 5).
+use Rattle.std.specs.Prelude.{ℕ, ◌+◌, ◌-◌, ◌^◌, min, max, ◌&&◌, nat_le, List, [], ◌∷◌, ◌++◌, take, replicate, slice_index, slice_set, Option, Some, None, if◌then◌else◌}
+use Rattle.vrps.specs.declared.serial.Serial.{Serial}
+use Rattle.rtr_pdu.specs.Kind.{type_number}
+use Rattle.rtr_pdu.specs.Reading.{number_at}
+use Rattle.rtr_pdu.specs.Stream.{is_kind, length_of, type_of}
+use Rattle.rtr_pdu.specs.declared.kind.Kind.{Kind}
+use Rattle.rtr_pdu.specs.declared.kind.Kind.TheVariants as kinds
+use Rattle.rtr_server.specs.declared.tally.Pdus.{Pdus}
+
+-- a count of 64 bits
+abbrev pub capped : ℕ → ℕ
+capped n = min n (2 ^ 64 - 1)
+
+-- how many PDUs of a type
+abbrev pub count_of : Pdus → Kind → ℕ
+count_of pdus kind = slice_index pdus.counts (type_number kind)
+
+-- So many more of the type with this number. Numbers above ten stand for no type, and are not counted.
+abbrev pub and_pdus : ℕ → ℕ → Pdus → Pdus
+and_pdus count type pdus = record { counts = slice_set pdus.counts type (capped (slice_index pdus.counts type + count)) }
+
+-- one more
+abbrev pub and_pdu : ℕ → Pdus → Pdus
+and_pdu type pdus = and_pdus 1 type pdus
+
+-- What was counted of bytes: their PDUs by type; the serial that the last End of Data tells; and of the PDU that stands last and has not come
+-- whole its first twelve bytes and how many came
+pub record Counted : Type 0 where
+  pub pdus : Pdus
+  pub serial : Option Serial
+  pub front : List ℕ
+  pub came : ℕ
+
+abbrev pub none_counted : Counted
+none_counted = record { pdus = record { counts = replicate 11 0 }; serial = None; front = []; came = 0 }
+
+-- How many bytes a PDU has whose first bytes are these: as many as its header tells, and a header has eight.
+abbrev pub told_len : List ℕ → ℕ
+told_len front = max (length_of front) 8
+
+-- An End of Data tells the serial of its version right behind its header (RFC 6810 section 5.8, RFC 8210 section 5.8).
+abbrev pub serial_after : List ℕ → ℕ → Option Serial → Option Serial
+serial_after front len last = if is_kind kinds.EndOfData front && nat_le 12 len then Some (record { 0 = number_at 4 8 front }) else last
+
+-- A PDU of these first bytes has come whole, and has so many.
+abbrev pub and_whole : List ℕ → ℕ → Counted → Counted
+and_whole front len c = record { pdus = and_pdu (type_of front) c.pdus; serial = serial_after front len c.serial; front = []; came = 0 }
+
+-- So many PDUs of another type than End of Data have come whole.
+abbrev pub and_many : ℕ → ℕ → Counted → Counted
+and_many count type c = record { pdus = and_pdus count type c.pdus; serial = c.serial; front = []; came = 0 }
+
+-- the next byte
+abbrev pub and_byte : Counted → ℕ → Counted
+and_byte c b =
+    let front = take 12 (c.front ++ b ∷ []) in
+    let came = capped (c.came + 1) in
+    if nat_le 8 came && nat_le (told_len front) came then and_whole front came c else record c { front = front; came = came }
+
+abbrev pub counted_on : Counted → List ℕ → Counted
+counted_on c [] = c
+counted_on c (b ∷ bytes) = counted_on (and_byte c b) bytes
+
+-- What is counted of bytes
+abbrev pub counted : List ℕ → Counted
+counted bytes = counted_on none_counted bytes

@@ -1,0 +1,270 @@
+//! How many PDUs of each type went one way, as their headers tell it (RFC 6810 section 5, RFC 8210 section 5).
+ghost use Rattle.std.specs.Prelude.{◌≡◌, ◌+◌, ◌≤◌, ◌<◌, ◌-◌, ◌++◌, ◌∷◌, [], ◌&&◌, IfSome, length, min, take, drop, nat_le, nat_lt, slice_set, if◌then◌else◌, true};
+ghost use Rattle.rtr_pdu.specs.Stream.{length_of, type_of};
+ghost use Rattle.rtr_server.specs.Counting.{Counted, and_byte, and_many, and_pdu, and_pdus, and_whole, capped, count_of, counted_on, none_counted, serial_after, told_len};
+
+use byteorder::{BigEndian, ByteOrder};
+use rtr_pdu::Kind;
+use std::marker::Model;
+use vrps::Serial;
+
+/// How many PDUs of each type went one way, told by their headers (RFC 6810 section 5, RFC 8210 section 5). Counts stop at `u64::MAX`.
+#[derive(Clone, Copy, Debug, PartialEq, Eq)]
+pub struct Pdus {
+    /// By the numbers from 0 to 10 that may stand for a type in a header. Five stands for none.
+    counts: [u64; 11],
+}
+
+impl Pdus {
+    /// None.
+    pub(crate) fn none() -> Pdus
+        ensures { result ≡ none_counted.pdus }
+    {
+        Pdus { counts: [0; 11] }
+    }
+
+    /// How many PDUs of this type.
+    pub fn of(&self, kind: Kind) -> u64
+        ensures { result ≡ count_of self.now kind }
+    {
+        self.counts[usize::from(kind.number())]
+    }
+
+    /// Counts so many more of the type with this number. Numbers above ten stand for no type, and are not counted.
+    fn add(&mut self, kind: u8, count: u64)
+        ensures { self.new ≡ and_pdus count kind self.old }
+    {
+        let place = usize::from(kind);
+        if place < self.counts.len() {
+            self.counts[place] = self.counts[place].saturating_add(count);
+        }
+    }
+}
+
+/// The first bytes of a PDU that say what is counted: its header, and the serial of an End of Data.
+const FRONT: usize = 12;
+
+/// What was counted of bytes that went one way. Of a PDU that has not come whole it keeps the first bytes and how many came.
+#[derive(Debug, Drop)]
+pub(crate) struct Tally {
+    pdus: Pdus,
+    serial: Option<Serial>,
+    front: [u8; FRONT],
+    came: u64,
+}
+
+impl Model for Tally {
+    ghost use Rattle.std.specs.Prelude.{take};
+    ghost use Rattle.rtr_server.specs.Counting.{Counted};
+
+    ghost Value = { Counted };
+
+    ghost view = { λ t. record { pdus = t.pdus; serial = t.serial; front = take t.came t.front; came = t.came } };
+}
+
+impl Tally {
+    /// Nothing went yet.
+    pub(crate) fn new() -> Tally
+        ensures { result ≡ none_counted }
+    {
+        Tally {
+            pdus: Pdus::none(),
+            serial: None,
+            front: [0; FRONT],
+            came: 0,
+        }
+    }
+
+    /// The PDUs.
+    pub(crate) fn pdus(&self) -> Pdus
+        ensures { result ≡ self.now.pdus }
+    {
+        self.pdus
+    }
+
+    /// The serial that the last End of Data told.
+    pub(crate) fn serial(&self) -> Option<Serial>
+        ensures { result ≡ self.now.serial }
+    {
+        self.serial
+    }
+
+    /// A byte more came of the PDU that stands last.
+    fn grow(&mut self, byte: u8)
+        ensures { self.new ≡ record self.old { front = take 12 (self.old.front ++ byte ∷ []); came = capped (self.old.came + 1) } }
+    {
+        put(&mut self.front, self.came, byte);
+        self.came = self.came.saturating_add(1);
+    }
+
+    /// Whether it has come whole.
+    fn is_whole(&self) -> bool
+        ensures { result ≡ (nat_le 8 self.now.came && nat_le (told_len self.now.front) self.now.came) }
+    {
+        self.came >= 8 && self.came >= told_len(first(&self.front, self.came))
+    }
+
+    /// Counts it.
+    fn end(&mut self)
+        requires { 8 ≤ self.old.came }
+        ensures { self.new ≡ and_whole self.old.front self.old.came self.old }
+    {
+        let front = first(&self.front, self.came);
+        note(&mut self.pdus, &mut self.serial, front, self.came);
+        self.came = 0;
+    }
+
+    /// Counts a byte.
+    fn take(&mut self, byte: u8)
+        ensures { self.new ≡ and_byte self.old byte }
+    {
+        self.grow(byte);
+        if self.is_whole() {
+            self.end();
+        }
+    }
+
+    /// Counts a PDU that stands whole in front of these bytes, where nothing came of another.
+    fn add(&mut self, piece: &[u8], len: usize)
+        requires none { self.old.came ≡ 0 }
+        requires header { 8 ≤ length piece.now }
+        requires whole { len ≤ length piece.now }
+        ensures { self.new ≡ and_whole piece.now len self.old }
+    {
+        note(&mut self.pdus, &mut self.serial, piece, len as u64);
+        self.came = 0;
+    }
+
+    /// Counts so many PDUs of a type, where nothing came of another. It is none of End of Data, whose serial counts.
+    fn add_run(&mut self, kind: u8, count: u64)
+        ensures { self.new ≡ and_many count kind self.old }
+    {
+        self.pdus.add(kind, count);
+        self.came = 0;
+    }
+
+    /// Counts the PDU that stands whole in front of these bytes, and those behind it that are like it, and answers what is left.
+    fn pass<'a>(&mut self, piece: &'a [u8], len: usize) -> &'a [u8]
+        requires none { self.old.came ≡ 0 }
+        requires front { self.old.front ≡ [] }
+        requires told { len ≡ told_len piece.now }
+        requires header { 8 ≤ length piece.now }
+        requires whole { len ≤ length piece.now }
+        ensures counts { counted_on self.old piece.now ≡ counted_on self.new result.now }
+        ensures less { length result.now < length piece.now }
+    {
+        let kind = piece[1];
+        if kind == 7 {
+            self.add(piece, len);
+            return &piece[len..];
+        }
+        let (count, rest) = run_of(piece, len);
+        self.add_run(kind, count);
+        rest
+    }
+
+    /// Counts the PDUs in front, where the first is there whole, else a byte, and answers what is left.
+    fn next<'a>(&mut self, piece: &'a [u8]) -> &'a [u8]
+        requires { 0 < length piece.now }
+        ensures counts { counted_on self.old piece.now ≡ counted_on self.new result.now }
+        ensures less { length result.now < length piece.now }
+    {
+        if self.came == 0 {
+            if let Some(len) = whole_in_front(piece) {
+                return self.pass(piece, len);
+            }
+        }
+        self.take(piece[0]);
+        &piece[1..]
+    }
+}
+
+/// Counts bytes that went.
+pub(crate) fn count(tally: &mut Tally, piece: &[u8])
+    ensures { tally.new ≡ counted_on tally.old piece.now }
+{
+    let mut rest = piece;
+    while !rest.is_empty() {
+        rest = tally.next(rest);
+    }
+}
+
+/// Counts a PDU of these first bytes, which has so many.
+fn note(pdus: &mut Pdus, serial: &mut Option<Serial>, front: &[u8], len: u64)
+    requires header { 8 ≤ length front.now }
+    requires room { 12 ≤ len → 12 ≤ length front.now }
+    ensures pdus { pdus.new ≡ and_pdu (type_of front.now) pdus.old }
+    ensures serial { serial.new ≡ serial_after front.now len serial.old }
+{
+    let kind = front[1];
+    pdus.add(kind, 1);
+    if kind == 7 && len >= 12 {
+        *serial = Some(Serial(BigEndian::read_u32(&front[8..])));
+    }
+}
+
+/// Puts the next byte of a PDU of which so many came to its first ones, if it is one of these.
+fn put(front: &mut [u8; FRONT], came: u64, byte: u8)
+    ensures { front.new ≡ (if nat_lt came 12 then slice_set front.old came byte else front.old) }
+{
+    if came < FRONT as u64 {
+        front[came as usize] = byte;
+    }
+}
+
+/// The first bytes of a PDU of which so many came.
+fn first(front: &[u8; FRONT], came: u64) -> &[u8]
+    ensures value { result.now ≡ take came front.now }
+    ensures len { length result.now ≡ min 12 came }
+{
+    &front[..FRONT.min(came as usize)]
+}
+
+/// How many bytes a PDU has whose first bytes are these.
+fn told_len(front: &[u8]) -> u64
+    requires { 8 ≤ length front.now }
+    ensures { result ≡ told_len front.now }
+{
+    u64::from(BigEndian::read_u32(&front[4..])).max(8)
+}
+
+/// Whether a PDU of this length and type, whose header tells this number, stands whole in front of these bytes.
+fn is_alike(bytes: &[u8], len: usize, kind: u8, told: u32) -> bool
+    requires { 8 ≤ len }
+    ensures fits { result ≡ true → len ≤ length bytes.now }
+    ensures kind { result ≡ true → type_of bytes.now ≡ kind }
+    ensures told { result ≡ true → length_of bytes.now ≡ told }
+{
+    bytes.len() >= len && bytes[1] == kind && BigEndian::read_u32(&bytes[4..]) == told
+}
+
+/// How many PDUs of the type and length of the first stand one behind the other in front of these bytes, and what is left behind them.
+fn run_of(piece: &[u8], len: usize) -> (u64, &[u8])
+    requires told { len ≡ told_len piece.now }
+    requires header { 8 ≤ length piece.now }
+    requires whole { len ≤ length piece.now }
+    requires kind { ¬ (type_of piece.now ≡ 7) }
+    ensures counts { (c : Counted) → c.front ≡ [] → c.came ≡ 0 → counted_on c piece.now ≡ counted_on (and_many result.0 (type_of piece.now) c) result.1.now }
+    ensures less { length result.1.now < length piece.now }
+{
+    let kind = piece[1];
+    let told = BigEndian::read_u32(&piece[4..]);
+    let mut rest = &piece[len..];
+    let mut count = 1;
+    while is_alike(rest, len, kind, told) {
+        rest = &rest[len..];
+        count += 1;
+    }
+    (count, rest)
+}
+
+/// How many bytes the PDU in front has, where all of it is there.
+fn whole_in_front(piece: &[u8]) -> Option<usize>
+    ensures { IfSome result (λ len. (len ≡ told_len piece.now) × (8 ≤ length piece.now) × (len ≤ length piece.now)) }
+{
+    if piece.len() < 8 {
+        return None;
+    }
+    let len = told_len(piece) as usize;
+    if len <= piece.len() { Some(len) } else { None }
+}
