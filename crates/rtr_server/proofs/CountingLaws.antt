@@ -119,20 +119,20 @@ whole_same front rest c h =
     λ i. counts (twelve ℕ type_of 8 (omega arith) type_of-append front rest h i) (serial_same front rest c.serial h i)
 
 -- a PDU of which the front came
-abbrev coming : List ℕ → Counted → Counted
+abbrev pub coming : List ℕ → Counted → Counted
 coming front c = record c { front = take 12 front; came = length front }
 
-abbrev comes_to : List ℕ → ℕ → Counted → Counted
+abbrev pub comes_to : List ℕ → ℕ → Counted → Counted
 comes_to front came c = if nat_le 8 came && nat_le (told_len front) came then and_whole front came c else record c { front = front; came = came }
 
 -- the next byte of it
-one_more : (front : List ℕ) (b : ℕ) (c : Counted) → length front + 1 < 2 ^ 64 → and_byte (coming front c) b ≡ comes_to (take 12 (front ++ b ∷ [])) (length (front ++ b ∷ [])) c
+pub one_more : (front : List ℕ) (b : ℕ) (c : Counted) → length front + 1 < 2 ^ 64 → and_byte (coming front c) b ≡ comes_to (take 12 (front ++ b ∷ [])) (length (front ++ b ∷ [])) c
 one_more front b c low =
     let l = length-append front (b ∷ []) in
     let n : capped (length front + 1) ≡ length (front ++ b ∷ []) = omega (arith, l, low) in
     λ i. comes_to (more_front front b i) (n i) c
 
-not_yet : (front rest : List ℕ) (c : Counted) → length front < told_len (front ++ rest) → comes_to (take 12 front) (length front) c ≡ coming front c
+pub not_yet : (front rest : List ℕ) (c : Counted) → length front < told_len (front ++ rest) → comes_to (take 12 front) (length front) c ≡ coming front c
 not_yet front rest c low = by_test (nat_le 8 (length front)) refl
   where
     by_test : (t : Bool) → nat_le 8 (length front) ≡ t → (if t && nat_le (told_len (take 12 front)) (length front) then and_whole (take 12 front) (length front) c else coming front c) ≡ coming front c

@@ -7,4 +7,5 @@ pub mod PastLaws
 pub mod PlaceLaws
 pub mod TurnLaws
 pub mod TurnRows
+pub mod UnitCounts
 pub mod Windows

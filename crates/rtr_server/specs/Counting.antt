@@ -1,9 +1,14 @@
 -- How many PDUs of each type went one way, as their headers tell it (RFC 6810 section 5, RFC 8210 section 5).
-use Rattle.std.specs.Prelude.{ℕ, ◌+◌, ◌-◌, ◌^◌, min, max, ◌&&◌, nat_le, List, [], ◌∷◌, ◌++◌, take, replicate, slice_index, slice_set, Option, Some, None, if◌then◌else◌}
+use Rattle.std.specs.Prelude.{ℕ, ◌+◌, ◌-◌, ◌^◌, min, max, ◌&&◌, nat_le, List, [], ◌∷◌, ◌++◌, take, replicate, slice_index, slice_set, Option, Some, None, if◌then◌else◌, ◌≡◌, suc, ◌==◌, false}
 use Rattle.vrps.specs.declared.serial.Serial.{Serial}
+use Rattle.prefixes.specs.declared.prefix.IpPrefix.{IpPrefix}
+use Rattle.prefixes.specs.declared.prefix.IpPrefix.TheVariants.{V4, V6}
+use Rattle.rtr_pdu.specs.declared.unit.Unit.{Unit}
+use Rattle.rtr_pdu.specs.declared.unit.Unit.TheVariants.{SerialNotify, SerialQuery, ResetQuery, CacheResponse, Prefix, EndOfData, EndOfData0, CacheReset, RouterKey, ErrorReport}
+use Rattle.rtr_pdu.specs.declared.version.Version.{Version}
 use Rattle.rtr_pdu.specs.Kind.{type_number}
 use Rattle.rtr_pdu.specs.Reading.{number_at}
-use Rattle.rtr_pdu.specs.Stream.{is_kind, length_of, type_of}
+use Rattle.rtr_pdu.specs.Stream.{AreRead, IsPartial, is_kind, length_of, type_of}
 use Rattle.rtr_pdu.specs.declared.kind.Kind.{Kind}
 use Rattle.rtr_pdu.specs.declared.kind.Kind.TheVariants as kinds
 use Rattle.rtr_server.specs.declared.tally.Pdus.{Pdus}
@@ -65,3 +70,43 @@ counted_on c (b ∷ bytes) = counted_on (and_byte c b) bytes
 -- What is counted of bytes
 abbrev pub counted : List ℕ → Counted
 counted bytes = counted_on none_counted bytes
+
+abbrev pub kind_of_prefix : IpPrefix → Kind
+kind_of_prefix (V4 p) = kinds.Ipv4Prefix
+kind_of_prefix (V6 p) = kinds.Ipv6Prefix
+
+-- The type of a unit
+abbrev pub kind_of : Unit → Kind
+kind_of (SerialNotify session serial) = kinds.SerialNotify
+kind_of (SerialQuery session serial) = kinds.SerialQuery
+kind_of ResetQuery = kinds.ResetQuery
+kind_of (CacheResponse session) = kinds.CacheResponse
+kind_of (Prefix announce v) = kind_of_prefix v.prefix
+kind_of (EndOfData session serial refresh retry expire) = kinds.EndOfData
+kind_of (EndOfData0 session serial) = kinds.EndOfData
+kind_of CacheReset = kinds.CacheReset
+kind_of (RouterKey k) = kinds.RouterKey
+kind_of (ErrorReport r) = kinds.ErrorReport
+
+-- how many of these units are of a type
+abbrev pub units_of : Kind → List Unit → ℕ
+units_of kind [] = 0
+units_of kind (u ∷ units) = if type_number (kind_of u) == type_number kind then suc (units_of kind units) else units_of kind units
+
+-- The serial that an End of Data tells; other units tell none.
+abbrev pub end_serial : Unit → Option Serial → Option Serial
+end_serial (EndOfData session serial refresh retry expire) last = Some (record { 0 = serial })
+end_serial (EndOfData0 session serial) last = Some (record { 0 = serial })
+end_serial u last = last
+
+-- the serial that the last End of Data among these units tells, if there is one
+abbrev pub last_serial : Option Serial → List Unit → Option Serial
+last_serial last [] = last
+last_serial last (u ∷ units) = last_serial (end_serial u last) units
+
+-- What is counted of bytes that are read as these units, with the beginning of one more: of each type as many as there are, and the serial of
+-- the last End of Data.
+abbrev pub CountsUnits : Type 0
+CountsUnits =
+    (version : Version) (units : List Unit) (front rest : List ℕ) → AreRead version false units front → IsPartial version rest →
+    ((kind : Kind) → count_of (counted (front ++ rest)).pdus kind ≡ capped (units_of kind units)) × ((counted (front ++ rest)).serial ≡ last_serial None units)

@@ -1,5 +1,6 @@
 //! Laws of the definitions and of servers. These functions do nothing: their contracts are the laws.
 ghost use Rattle.rtr_server.specs.Clients.{EachClientIsServed};
+ghost use Rattle.rtr_server.specs.Counting.{CountsUnits};
 ghost use Rattle.rtr_server.specs.Turns.{MemoryEnds};
 
 use crate::server::Server;
@@ -16,4 +17,10 @@ pub fn each_client_is_served<S: VersionStore, T: Stream>(server: &Server<S, T>)
 /// Where memory is wanting at a client's PDU, its connection ends, with an Error Report of code 1 (RFC 8210 section 12).
 pub fn memory_ends_its_client()
     ensures { MemoryEnds }
+{}
+
+/// What is counted of bytes that are read as units, and of the beginning of one more, are these units: of each type as many as there are, and
+/// the serial that the last End of Data among them tells.
+pub fn counts_units()
+    ensures { CountsUnits }
 {}
