@@ -66,6 +66,8 @@ def queried(parts, refusals):
 OPENED = "open\n"
 NO_DATA = units("010a00020000001800000008", RESET, "00000000")
 CHANGES = [units(RESPONSE, V_UNIT[:4]) + OPENED, units(ANSWER[20:]) + OPENED] + 2 * [units(RESPONSE, W_UNIT, end(6)) + OPENED]
+SERVED = units(RESPONSE, W_UNIT, end(6)) + "WaitsToRead\n"
+REPORTED = units("010a0001000000100000000000000000") + "Gone(CacheEnded)\n"
 RUNS = {
     "payload_runs::decode_one_prefix": once(V),
     "payload_runs::decode_ipv6": once(IPV6),
@@ -108,6 +110,8 @@ RUNS = {
     "end_runs::answer_without_data": once(NO_DATA + OPENED),
     "end_runs::commit_an_answer": ("Idle 1 4660 5\n", ["Ended(Memory) 0\nIdle 1 4660 5\n"]),
     "end_runs::commit_a_change": ("Idle 2 4660 6\n", ["Ended(Memory) 1 4660 5\nIdle 2 4660 6\n"]),
+    "server_runs::serve_serial_queries": (2 * SERVED, [WANT + 2 * SERVED, REPORTED + SERVED, SERVED + REPORTED]),
+    "server_runs::serve_a_long_answer": ("1232\n", []),
     "feed_runs::judge_a_route": once("valid\n" + units("0103000100000008", V_UNIT, "010700010000001800000000", end(5)[24:])),
     "world_runs::catch_up": told_before("empty\n", answer="caught up\n4660 5 1\n"),
     "world_runs::catch_up_after_a_restart": told_before("4660 5 1\n", "empty\n", answer="caught up\n8738 9 0\n"),

@@ -54,7 +54,7 @@ fn published(
     Ok(())
 }
 
-fn twice(alloc: Global, rows: &[(&str, u8, u32)]) -> Result<[VrpSet; 2], Fail> {
+pub(crate) fn twice(alloc: Global, rows: &[(&str, u8, u32)]) -> Result<[VrpSet; 2], Fail> {
     Ok([set_of(alloc, rows)?, set_of(alloc, rows)?])
 }
 

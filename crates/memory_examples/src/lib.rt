@@ -14,6 +14,8 @@ mod free_runs;
 #[cfg(test)]
 mod payload_runs;
 #[cfg(test)]
+mod server_runs;
+#[cfg(test)]
 mod set_runs;
 #[cfg(test)]
 mod slurm_runs;
