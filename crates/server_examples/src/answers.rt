@@ -1,0 +1,95 @@
+//! A line that keeps what its calls answered, so that what a turn says of the calls that it made can be seen.
+ghost use Rattle.std.specs.Prelude.{◌∷◌, []};
+ghost use Rattle.rtr_server.specs.Streams.{Logged};
+ghost use Rattle.server_examples.specs.Told.{told};
+
+use crate::lines::{Line, Manner, PLAIN, cache_of, line, shared};
+use example_values::hex::bytes;
+use example_values::sets::V;
+use example_values::units::RESET_QUERY;
+use rtr_server::{Client, Moved, Server, Stream, Turn};
+use std::process::Abort;
+use std::test::Fail;
+use vrps::VersionLog;
+
+/// A stream, and what its calls answered.
+#[derive(Drop)]
+pub(crate) struct Kept<T> {
+    stream: T,
+    answers: Vec<Moved>,
+    /// Memory for one of them was wanting.
+    is_lost: bool,
+}
+
+/// Keeps an answer.
+fn note(answers: &mut Vec<Moved>, is_lost: &mut bool, answer: Moved)
+    ensures { Logged (answer ∷ []) (told is_lost.old answers.old.items) (told is_lost.new answers.new.items) }
+{
+    if answers.push(answer).is_err() {
+        *is_lost = true;
+    }
+}
+
+impl<T: Stream> Stream for Kept<T> {
+    ghost use Rattle.server_examples.specs.Told.{told};
+
+    ghost remaining = { λ k. T.remaining k.stream };
+
+    ghost contents = { λ k. T.contents k.stream };
+
+    ghost answers = { λ k. told k.is_lost k.answers.items };
+
+    fn read(&mut self, buf: &mut [u8]) -> Moved {
+        let answer = self.stream.read(buf);
+        note(&mut self.answers, &mut self.is_lost, answer);
+        answer
+    }
+
+    fn write(&mut self, buf: &[u8]) -> Moved {
+        let answer = self.stream.write(buf);
+        note(&mut self.answers, &mut self.is_lost, answer);
+        answer
+    }
+}
+
+type Watched = Server<VersionLog, Kept<Line>>;
+
+/// How many calls of a client's stream were made, and what the last of them answered.
+fn calls(server: &Watched, client: Client) -> Option<(usize, Option<Moved>)> {
+    let answers = &server.stream(client)?.answers;
+    Some((answers.len(), answers.as_slice().last().copied()))
+}
+
+/// The first turn of a client, of so many calls at most: it is Busy after exactly as many, or it waits, as its last call said.
+fn turns_well(server: &mut Watched, client: Client, budget: u32) -> bool {
+    let most = budget as usize;
+    let turn = server.serve(client, budget);
+    match (turn, calls(server, client)) {
+        (Some(Turn::Busy), Some((count, _))) => count == most,
+        (Some(Turn::WaitsToRead), Some((count, last))) => {
+            count <= most && last == Some(Moved::Waits)
+        }
+        _ => false,
+    }
+}
+
+#[test]
+fn a_turn_makes_as_many_calls_as_it_may(rt: HostRuntime) -> Result<(), Fail> {
+    let alloc = rt.alloc();
+    for budget in 0..16 {
+        let out = shared(alloc, &[])?;
+        let slow = Manner { size: 7, ..PLAIN };
+        let stream = line(alloc, bytes(RESET_QUERY).as_slice(), slow, &out)?;
+        let answers = Vec::new(alloc);
+        let mut server = Server::new(alloc, cache_of(alloc, &[V])?, 1);
+        match server.admit(Kept {
+            stream,
+            answers,
+            is_lost: false,
+        }) {
+            Err(_) => return Err(Fail::from("not admitted")),
+            Ok(client) => assert!(rt; turns_well(&mut server, client, budget)),
+        }
+    }
+    Ok(())
+}
