@@ -1,0 +1,110 @@
+-- What is served: what all sources have together, with local exceptions.
+use Rattle.std.specs.Prelude.{◌≡◌, ◌⊎◌, ℕ, nat_lt, replicate, slice_set, Bool, false, not, ◌&&◌, ◌||◌, List, [], ◌∷◌, Option, Some, None, Result, Ok, Err}
+use Rattle.std.specs.List.{list_any}
+use Rattle.der_lite.specs.Moments.{CivilMoment}
+use Rattle.prefixes.specs.Payload.{Payload}
+use Rattle.vrps.specs.VrpSet.{VrpSet, empty, has, set_of, union}
+use Rattle.exports.specs.Export.{HasFault}
+use Rattle.exports.specs.Until.{IsExportUntil}
+use Rattle.exports.specs.declared.export.ExportUntil.{ExportUntil}
+use Rattle.exports.specs.declared.fault.ExportFault.{ExportFault}
+use Rattle.points.specs.InUse.{Points, Lists}
+use Rattle.slurm.specs.Exceptions.{excepted, exceptions_of, is_filtered}
+use Rattle.slurm.specs.SlurmFile.{ReadsSlurm}
+use Rattle.slurm.specs.declared.fault.SlurmFault.{SlurmFault}
+use Rattle.slurm.specs.declared.fault.SlurmFault.TheVariants.{Memory}
+use Rattle.slurm.specs.declared.filter.Slurm.{Slurm}
+use Rattle.sources.specs.declared.listed.Listed.{Listed}
+use Rattle.sources.specs.declared.sources.Sources.{Sources}
+
+-- a set, and what was taken last of each of these files
+abbrev pub with_lists : VrpSet → List Listed → VrpSet
+with_lists s [] = s
+with_lists s (l ∷ ls) = with_lists (union s l.set) ls
+
+-- with local exceptions, where there are any
+abbrev pub excepted_by : Option Slurm → VrpSet → VrpSet
+excepted_by None s = s
+excepted_by (Some e) s = excepted (exceptions_of e) s
+
+-- The payloads that publication points have in use at a moment, and those of files, with local exceptions
+pub record IsServed (points : Points) (lists : List Listed) (exceptions : Option Slurm) (now : CivilMoment) (t : VrpSet) : Type 0 where
+  pub used : List Payload
+  pub in_use : Lists used points now
+  pub is : t ≡ excepted_by exceptions (with_lists (set_of used) lists)
+
+-- some file says the payload
+abbrev pub is_listed : List Listed → Payload → Bool
+is_listed ls v = list_any (λ l. has l.set v) ls
+
+-- local exceptions leave the payload out
+abbrev pub is_left_out : Option Slurm → Payload → Bool
+is_left_out None v = false
+is_left_out (Some e) v = is_filtered e.filters.items v
+
+-- local exceptions say the payload
+abbrev pub is_asserted : Option Slurm → Payload → Bool
+is_asserted None v = false
+is_asserted (Some e) v = has e.assertions v
+
+-- A payload is served exactly where it is in use at a publication point or a file says it, and local exceptions do not leave it out; or they
+-- say it.
+pub record HasServed (points : Points) (lists : List Listed) (exceptions : Option Slurm) (now : CivilMoment) (t : VrpSet) : Type 0 where
+  pub used : List Payload
+  pub in_use : Lists used points now
+  pub those : (v : Payload) → has t v ≡ (((has (set_of used) v || is_listed lists v) && not (is_left_out exceptions v)) || is_asserted exceptions v)
+
+-- What was taken of a file is its export at the moment, and until when it stays so.
+pub record IsTaken (bytes : List ℕ) (now : ℕ) (expired : ℕ) (l : Listed) : Type 0 where
+  pub read : ExportUntil
+  pub is : IsExportUntil bytes now read
+  pub set_is : l.set ≡ read.export.set
+  pub until_is : l.until ≡ read.until
+  pub built_is : l.built ≡ read.export.built
+  pub expired_is : expired ≡ read.export.expired
+
+-- An export is taken whole, or nothing changes.
+abbrev pub TakesExport : List ℕ → ℕ → ℕ → Result ℕ ExportFault → List Listed → List Listed → Type 0
+TakesExport bytes now i (Ok expired) old new = (l : Listed) × IsTaken bytes now expired l × (new ≡ slice_set old i l)
+TakesExport bytes now i (Err fault) old new = HasFault bytes now fault × (new ≡ old)
+
+-- Local exceptions are taken whole, or nothing changes.
+abbrev pub TakesSlurm : List ℕ → Result (Unit {0}) SlurmFault → Option Slurm → Option Slurm → Type 0
+TakesSlurm bytes (Ok u) old new = (e : Slurm) × ReadsSlurm bytes (Ok (exceptions_of e)) × (new ≡ Some e)
+TakesSlurm bytes (Err fault) old new = (fault ≡ Memory ⊎ ReadsSlurm bytes (Err fault)) × (new ≡ old)
+
+-- nothing of a file yet
+abbrev pub nothing : Listed
+nothing = record { set = empty; until = None; built = None }
+
+-- nothing of so many files
+abbrev pub none_taken : ℕ → List Listed
+none_taken n = replicate n nothing
+
+-- a moment has come
+abbrev pub has_come : ℕ → Option ℕ → Bool
+has_come now None = false
+has_come now (Some until) = not (nat_lt now until)
+
+-- a payload of a file that counted when it was taken does not count at the moment
+abbrev pub is_over : ℕ → Option Listed → Bool
+is_over now None = false
+is_over now (Some l) = has_come now l.until
+
+-- when the export of a file was made
+abbrev pub built_at : Option Listed → Option ℕ
+built_at None = None
+built_at (Some l) = l.built
+
+-- what these sources have at a moment
+abbrev pub ServesAt : Sources → CivilMoment → VrpSet → Type 0
+ServesAt s now t = IsServed s.repository s.lists.items s.exceptions now t
+
+-- What is taken of an export, and of local exceptions, by the sources
+abbrev pub ExportTaken : List ℕ → ℕ → ℕ → Result ℕ ExportFault → Sources → Sources → Type 0
+ExportTaken bytes now i result old new =
+    TakesExport bytes now i result old.lists.items new.lists.items × (new.exceptions ≡ old.exceptions) × (new.repository ≡ old.repository)
+
+abbrev pub SlurmTaken : List ℕ → Result (Unit {0}) SlurmFault → Sources → Sources → Type 0
+SlurmTaken bytes result old new =
+    TakesSlurm bytes result old.exceptions new.exceptions × (new.lists ≡ old.lists) × (new.repository ≡ old.repository)
