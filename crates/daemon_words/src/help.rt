@@ -21,11 +21,9 @@ no signal reloads, as the files are followed.
 Statuses: 0 the run has ended well; 1 a file was refused; 2 the words are wrong;
 3 a file or a socket failed; 4 out of memory.
 
-Example: a cache for the routers of a network, beside rpki-client, with its
-state at http://127.0.0.1:9323/
+Example: a cache for the routers of a network, beside rpki-client.
 
-  rpkirtrd --vrps /var/db/rpki-client/json --listen [::]:3323 \\
-      --max-age 86400 --status 127.0.0.1:9323
+  rpkirtrd --vrps /var/db/rpki-client/json --listen [::]:3323 --max-age 86400
 ";
 
 /// The text of `--version`.

@@ -213,8 +213,8 @@ pub(crate) static MATTERS: [Matter; 7] = [
                 kind: Kind::Once,
                 value: "ADDRESS:PORT",
                 help: &[
-                    "Pages on the daemon's state are served by HTTP at this address: /,",
-                    "/metrics, /vrps.json and /validity. By default there are none.",
+                    "An address for pages on the daemon's state. This version has no such pages",
+                    "yet, and refuses to start with this option.",
                 ],
             },
             Choice {
