@@ -1,0 +1,200 @@
+-- What leads from one service to another.
+use Rattle.std.specs.Prelude.{◌≡◌, ℕ, ◌==◌, Bool, true, false, List, [], ◌∷◌, ◌++◌, Option, Some, None, Result, Ok, Err, refl, if◌then◌else◌, ⊤}
+use Rattle.std.proofs.Common.{ap, sym, subst, ◌∙◌, length}
+use Rattle.std.specs.List.{AllByRecursion}
+use Rattle.std.specs.declared.alloc.AllocError.{AllocError}
+use Rattle.std.proofs.lemmas.List.{append_assoc}
+use Rattle.vrps.specs.Instance.{Instance, NumberedSet, versions, versions_from}
+use Rattle.vrps.specs.Store.{is_current, is_same, published}
+use Rattle.vrps.specs.Stores.{newest}
+use Rattle.vrps.specs.Serial.{serial_at}
+use Rattle.vrps.specs.VrpSet.{VrpSet}
+use Rattle.vrps.specs.declared.store.Published.{Published}
+use Rattle.vrps.specs.declared.store.Published.TheVariants.{New, Unchanged}
+use Rattle.vrps.proofs.SetVersions.{same_exactly}
+use Rattle.rtr_ends.specs.CacheState.{CacheCall, CacheState, Close, Notify, Open, Publish, Pull, Receive, cache_called, ran}
+use Rattle.rtr_server.specs.Clients.{AdmitsTo, GoesOnAfter, IsNotice, IsOn, Past, PublishesTo, ShowsServer, and_calls, made, present}
+use Rattle.rtr_server.specs.declared.server.AdmitFault.{AdmitFault}
+use Rattle.rtr_server.specs.declared.server.AdmitFault.TheVariants.{Memory, TooManyClients}
+use Rattle.rtr_server.specs.declared.server.Client.{Client}
+use Rattle.rtr_server.specs.declared.server.Server.{Server}
+use Rattle.rtr_server.specs.declared.turn.Turn.{Turn}
+use Rattle.rtr_server.specs.declared.turn.Turn.TheVariants.{Busy, Gone, WaitsToRead, WaitsToWrite}
+use Rattle.sources.specs.declared.sources.Sources.{Sources}
+use Rattle.rtr_daemon.specs.Serving.{GoesOn, IsLater, IsNewest, IsNewestAt, IsServedAt, Issues, ShowsService}
+use Rattle.rtr_daemon.specs.declared.service.Service.{Service}
+
+-- Nothing more was called.
+pub no_later : (p : Past) → IsLater p p
+no_later p = record { more = []; calls = refl; keep = refl; timing = refl; first = refl; most = refl }
+
+pub later_on : (p q r : Past) → IsLater p q → IsLater q r → IsLater p r
+later_on p q r a b = record {
+  more = b.more ++ a.more;
+  calls = b.calls ∙ ap (λ l. b.more ++ l) a.calls ∙ sym (append_assoc b.more a.more p.calls);
+  keep = b.keep ∙ a.keep;
+  timing = b.timing ∙ a.timing;
+  first = b.first ∙ a.first;
+  most = b.most ∙ a.most;
+}
+
+-- Parts of a daemon's work, one after the other
+pub then_on : {S T : Type 0} (holds : ℕ → Instance → S → Type 0) (remaining contents : T → Option (List ℕ)) (a b c : Service S T) → GoesOn holds remaining contents a b → GoesOn holds remaining contents b c → GoesOn holds remaining contents a c
+then_on holds remaining contents a b c f g p h =
+    let one = f p h in
+    let two = g one.0 one.2 in
+    (two.0, later_on p one.0 two.0 one.1 two.1, two.2)
+
+pub stays : {S T : Type 0} (holds : ℕ → Instance → S → Type 0) (remaining contents : T → Option (List ℕ)) (a : Service S T) → GoesOn holds remaining contents a a
+stays holds remaining contents a p h = (p, no_later p, h)
+
+-- a call that publishes nothing
+abbrev PublishesNone : CacheCall → Type 0
+PublishesNone (Publish set) = ⊥
+PublishesNone (Open c) = ⊤
+PublishesNone (Close c) = ⊤
+PublishesNone (Receive c wanting piece) = ⊤
+PublishesNone (Pull c most) = ⊤
+PublishesNone (Notify c) = ⊤
+
+one_keeps : (call : CacheCall) (m : CacheState) → PublishesNone call → (cache_called call m).cache ≡ m.cache
+one_keeps (Publish set) m h = absurd h
+one_keeps (Open c) m h = refl
+one_keeps (Close c) m h = refl
+one_keeps (Receive c wanting piece) m h = refl
+one_keeps (Pull c most) m h = refl
+one_keeps (Notify c) m h = refl
+
+-- Calls that publish nothing leave what is published.
+all_keep : (calls rest : List CacheCall) (m : CacheState) → AllByRecursion PublishesNone calls → (ran (calls ++ rest) m).cache ≡ (ran rest m).cache
+all_keep [] rest m h = refl
+all_keep (call ∷ calls) rest m h = one_keeps call (ran (calls ++ rest) m) h.0 ∙ all_keep calls rest m h.1
+
+on_none : (c : ℕ) (calls : List CacheCall) → AllByRecursion (IsOn c) calls → AllByRecursion PublishesNone calls
+on_none c [] h = tt
+on_none c (Receive d wanting piece ∷ calls) h = (tt, on_none c calls h.1)
+on_none c (Pull d most ∷ calls) h = (tt, on_none c calls h.1)
+on_none c (Notify d ∷ calls) h = (tt, on_none c calls h.1)
+on_none c (Publish set ∷ calls) h = absurd h.0
+on_none c (Open d ∷ calls) h = absurd h.0
+on_none c (Close d ∷ calls) h = absurd h.0
+
+notice_none : (calls : List CacheCall) → AllByRecursion IsNotice calls → AllByRecursion PublishesNone calls
+notice_none [] h = tt
+notice_none (Notify d ∷ calls) h = (tt, notice_none calls h.1)
+notice_none (Receive d wanting piece ∷ calls) h = absurd h.0
+notice_none (Pull d most ∷ calls) h = absurd h.0
+notice_none (Publish set ∷ calls) h = absurd h.0
+notice_none (Open d ∷ calls) h = absurd h.0
+notice_none (Close d ∷ calls) h = absurd h.0
+
+-- the same calls more, which publish nothing
+more_calls : (more : List CacheCall) (p : Past) → IsLater p (and_calls more p)
+more_calls more p = record { more = more; calls = refl; keep = refl; timing = refl; first = refl; most = refl }
+
+-- A server went on by a turn of a client: nothing was published.
+pub served_on : {S T : Type 0} (holds : ℕ → Instance → S → Type 0) (remaining contents : T → Option (List ℕ)) (p : Past) (c : ℕ) (turn : Option Turn) (new : Server S T) → GoesOnAfter holds remaining contents p c turn new
+    → (q : Past) × IsLater p q × ShowsServer holds remaining contents q new × ((present q).cache ≡ (present p).cache)
+served_on holds remaining contents p c None new h = (p, no_later p, h, refl)
+served_on holds remaining contents p c (Some (Gone how)) new h = (_, more_calls (Close c ∷ h.0) p, h.2, all_keep (Close c ∷ h.0) p.calls (made p) (tt, on_none c h.0 h.1))
+served_on holds remaining contents p c (Some Busy) new h = (_, more_calls h.0 p, h.2, all_keep h.0 p.calls (made p) (on_none c h.0 h.1))
+served_on holds remaining contents p c (Some WaitsToRead) new h = (_, more_calls h.0 p, h.2, all_keep h.0 p.calls (made p) (on_none c h.0 h.1))
+served_on holds remaining contents p c (Some WaitsToWrite) new h = (_, more_calls h.0 p, h.2, all_keep h.0 p.calls (made p) (on_none c h.0 h.1))
+
+by_new : (set : VrpSet) (i : Instance) → is_current i.sets set ≡ false → newest (versions (published set i)) ≡ Some (record { serial = serial_at i.start (length i.sets); set = set })
+by_new set i h = ap (λ b. newest (versions (if b then i else record i { sets = set ∷ i.sets }))) h
+
+-- The newest of some versions is of this set.
+pub record NewestIs (set : VrpSet) (found : Option NumberedSet) : Type 0 where
+  pub version : NumberedSet
+  pub is : found ≡ Some version
+  pub set_is : version.set ≡ set
+
+by_same : (set : VrpSet) (start : ℕ) (sets : List VrpSet) → is_current sets set ≡ true → NewestIs set (newest (versions_from start sets))
+by_same set start [] h = absurd (cc)
+by_same set start (now ∷ older) h = record { version = record { serial = serial_at start (length older); set = now }; is = refl; set_is = (same_exactly now set).0 h }
+
+-- what became of a set that was published: it is that of the newest version, or nothing changed
+abbrev pub Published_is : VrpSet → Result Published AllocError → Past → Past → Type 0
+Published_is set (Ok x) p q = NewestIs set (newest (versions (present q).cache))
+Published_is set (Err e) p q = (present q).cache ≡ (present p).cache
+
+pub published_on : {S T : Type 0} (holds : ℕ → Instance → S → Type 0) (remaining contents : T → Option (List ℕ)) (p : Past) (set : VrpSet) (result : Result Published AllocError) (old new : Server S T) → PublishesTo holds remaining contents p set result old new
+    → (q : Past) × IsLater p q × ShowsServer holds remaining contents q new × Published_is set result p q
+published_on holds remaining contents p set (Ok (New serial)) old new h =
+    let cached : (present (record p { calls = h.notices ++ Publish set ∷ p.calls })).cache ≡ published set (present p).cache =
+    all_keep h.notices (Publish set ∷ p.calls) (made p) (notice_none h.notices h.are) in (
+      record p { calls = h.notices ++ Publish set ∷ p.calls },
+      record { more = h.notices ++ Publish set ∷ []; calls = sym (append_assoc h.notices (Publish set ∷ []) p.calls); keep = refl; timing = refl; first = refl; most = refl },
+      h.shows,
+      record { version = record { serial = serial_at (present p).cache.start (length (present p).cache.sets); set = set }; is = ap (λ i. newest (versions i)) cached ∙ by_new set (present p).cache h.differs; set_is = refl },
+    )
+published_on holds remaining contents p set (Ok Unchanged) old new h = (p, no_later p, h.1, by_same set (present p).cache.start (present p).cache.sets h.0)
+published_on holds remaining contents p set (Err e) old new h = (p, no_later p, h.0, refl)
+
+-- Something became owed.
+pub owed_on : {S T : Type 0} (holds : ℕ → Instance → S → Type 0) (remaining contents : T → Option (List ℕ)) (old new : Service S T) → new.server ≡ old.server → new.is_owed ≡ true → GoesOn holds remaining contents old new
+owed_on holds remaining contents old new same owed p h =
+    (p, no_later p, record { server = subst (λ s. ShowsServer holds remaining contents p s) (sym same) h.server; newest = λ e. absurd (let never : true ≡ false = sym owed ∙ e in cc) })
+
+-- The sources have what they had.
+pub record SameSources (old new : Sources) : Type 0 where
+  pub lists : new.lists.items ≡ old.lists.items
+  pub exceptions : new.exceptions ≡ old.exceptions
+  pub repository : new.repository ≡ old.repository
+
+same_newest : (i : Instance) (a b : Sources) → SameSources a b → IsNewest i a → IsNewest i b
+same_newest i a b e (now, h) = (
+  now,
+  record {
+    version = h.version;
+    is = h.is;
+    served = record { at = h.served.at; seconds = h.served.seconds; served = rw (e.lists, e.exceptions, e.repository) h.served.served };
+  },
+)
+
+-- Nothing became of the sources.
+pub same_on : {S T : Type 0} (holds : ℕ → Instance → S → Type 0) (remaining contents : T → Option (List ℕ)) (old new : Service S T) → new.server ≡ old.server → new.is_owed ≡ old.is_owed → SameSources old.sources new.sources → GoesOn holds remaining contents old new
+same_on holds remaining contents old new same owed sources p h =
+    (p, no_later p, record { server = subst (λ s. ShowsServer holds remaining contents p s) (sym same) h.server; newest = λ e. same_newest (present p).cache old.sources new.sources sources (h.newest (sym owed ∙ e)) })
+
+-- The server went on, and nothing was published.
+pub server_on : {S T : Type 0} (holds : ℕ → Instance → S → Type 0) (remaining contents : T → Option (List ℕ)) (old new : Service S T) → new.sources ≡ old.sources → new.is_owed ≡ old.is_owed
+    → ((p : Past) → ShowsServer holds remaining contents p old.server → (q : Past) × IsLater p q × ShowsServer holds remaining contents q new.server × ((present q).cache ≡ (present p).cache)) → GoesOn holds remaining contents old new
+server_on holds remaining contents old new same owed goes p h =
+    let on = goes p h.server in
+    (on.0, on.1, record { server = on.2; newest = λ e. subst (λ i. IsNewest i new.sources) (sym on.3) (subst (λ s. IsNewest (present p).cache s) (sym same) (h.newest (sym owed ∙ e))) })
+
+-- A stream was admitted, or not: nothing was published.
+pub admitted_on : {S T : Type 0} (holds : ℕ → Instance → S → Type 0) (remaining contents : T → Option (List ℕ)) (p : Past) (stream : T) (result : Result Client AdmitFault) (old new : Server S T) → ShowsServer holds remaining contents p old
+    → AdmitsTo holds remaining contents p stream result old new → (q : Past) × IsLater p q × ShowsServer holds remaining contents q new × ((present q).cache ≡ (present p).cache)
+admitted_on holds remaining contents p stream (Ok client) old new is h =
+    (_, record { more = Open client.0.0 ∷ []; calls = refl; keep = refl; timing = refl; first = refl; most = refl }, h.shows, refl)
+admitted_on holds remaining contents p stream (Err TooManyClients) old new is h = (p, no_later p, subst (λ s. ShowsServer holds remaining contents p s) (sym h.1) is, refl)
+admitted_on holds remaining contents p stream (Err Memory) old new is h = (p, no_later p, h.1, refl)
+
+-- A client was dropped.
+pub dropped_on : {S T : Type 0} (holds : ℕ → Instance → S → Type 0) (remaining contents : T → Option (List ℕ)) (p : Past) (c : ℕ) (new : Server S T) → ShowsServer holds remaining contents (record p { calls = Close c ∷ p.calls }) new
+    → (q : Past) × IsLater p q × ShowsServer holds remaining contents q new × ((present q).cache ≡ (present p).cache)
+dropped_on holds remaining contents p c new h = (_, record { more = Close c ∷ []; calls = refl; keep = refl; timing = refl; first = refl; most = refl }, h, refl)
+
+newest_served : (now : ℕ) (s : Sources) (set : VrpSet) (i : Instance) → IsServedAt now s set → NewestIs set (newest (versions i)) → IsNewestAt now i s
+newest_served now s set i h n = record { version = n.version; is = n.is; served = subst (λ t. IsServedAt now s t) (sym n.set_is) h }
+
+-- What the sources have was published.
+pub issues : {S T : Type 0} (holds : ℕ → Instance → S → Type 0) (remaining contents : T → Option (List ℕ)) (old new : Service S T) (now : ℕ) (set : VrpSet) (x : Published) → IsServedAt now old.sources set → new.sources ≡ old.sources
+    → ((p : Past) → ShowsServer holds remaining contents p old.server → PublishesTo holds remaining contents p set (Ok x) old.server new.server) → Issues holds remaining contents now old new
+issues holds remaining contents old new now set x served same publishes p h =
+    let on = published_on holds remaining contents p set (Ok x) old.server new.server (publishes p h) in
+    (on.0, on.1, on.2, newest_served now new.sources set (present on.0).cache (subst (λ s. IsServedAt now s set) (sym same) served) on.3)
+
+pub issued_on : {S T : Type 0} (holds : ℕ → Instance → S → Type 0) (remaining contents : T → Option (List ℕ)) (old new : Service S T) (now : ℕ) → Issues holds remaining contents now old new → GoesOn holds remaining contents old new
+issued_on holds remaining contents old new now h p is =
+    let on = h p is.server in
+    (on.0, on.1, record { server = on.2; newest = λ e. (now, on.3) })
+
+-- Memory was wanting, and nothing was published.
+pub unissued_on : {S T : Type 0} (holds : ℕ → Instance → S → Type 0) (remaining contents : T → Option (List ℕ)) (old new : Service S T) (set : VrpSet) (error : AllocError) → new.sources ≡ old.sources → new.is_owed ≡ old.is_owed
+    → ((p : Past) → ShowsServer holds remaining contents p old.server → PublishesTo holds remaining contents p set (Err error) old.server new.server) → GoesOn holds remaining contents old new
+unissued_on holds remaining contents old new set error same owed publishes =
+    server_on holds remaining contents old new same owed (λ p is. published_on holds remaining contents p set (Err error) old.server new.server (publishes p is))

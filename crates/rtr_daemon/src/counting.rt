@@ -1,0 +1,58 @@
+//! What changes from one set to another.
+use prefixes::Vrp;
+use std::cmp::Ordering;
+use vrps::VrpSet;
+
+/// How many records come and go.
+#[derive(Clone, Copy, Debug, PartialEq, Eq)]
+pub(crate) struct Counts {
+    pub(crate) announced: u64,
+    pub(crate) withdrawn: u64,
+}
+
+/// How many records come and go from one set to another. Both are walked once, side by side.
+pub(crate) fn compared(before: Option<&VrpSet>, after: &VrpSet) -> Counts {
+    match before {
+        None => Counts {
+            announced: after.len() as u64,
+            withdrawn: 0,
+        },
+        Some(before) => differences(before.as_slice(), after.as_slice()),
+    }
+}
+
+fn differences(before: &[Vrp], after: &[Vrp]) -> Counts {
+    let (mut old, mut new) = (before, after);
+    let mut found = Counts {
+        announced: 0,
+        withdrawn: 0,
+    };
+    for _record in 0..before.len().saturating_add(after.len()) {
+        match (old, new) {
+            ([gone, older @ ..], [come, newer @ ..]) => match gone.cmp(come) {
+                Ordering::Less => {
+                    found.withdrawn = found.withdrawn.saturating_add(1);
+                    old = older;
+                }
+                Ordering::Greater => {
+                    found.announced = found.announced.saturating_add(1);
+                    new = newer;
+                }
+                Ordering::Equal => {
+                    old = older;
+                    new = newer;
+                }
+            },
+            _ => return with_rest(found, old, new),
+        }
+    }
+    with_rest(found, old, new)
+}
+
+/// The counts with what is left of one list when the other is walked.
+fn with_rest(found: Counts, old: &[Vrp], new: &[Vrp]) -> Counts {
+    Counts {
+        announced: found.announced.saturating_add(new.len() as u64),
+        withdrawn: found.withdrawn.saturating_add(old.len() as u64),
+    }
+}

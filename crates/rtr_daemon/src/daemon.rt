@@ -1,0 +1,363 @@
+//! The daemon: what is ready is served, and what is due by the clock is done.
+use crate::arrivals::Gates;
+use crate::following::{Followed, Look, Source};
+use crate::guests::Guests;
+use crate::looking::{Offering, offer, take};
+use crate::refusal::{Refusal, StartFault};
+use crate::service::{Issue, Service};
+use crate::surroundings::{Disk, Journal, Ports, Time};
+use daemon_parts::{Event, Pace};
+use rtr_server::{Server, Stream};
+use sources::Sources;
+use std::alloc::{AllocError, Global};
+use std::io;
+use vrps::{Published, VersionStore};
+
+/// How long a turn waits at most where something is due soon, in milliseconds.
+const SOON: u64 = 1000;
+
+/// The names of a cache's versions: its session in version 1 of the protocol, that in version 0, and the serial of the first.
+#[derive(Clone, Copy, Debug, PartialEq, Eq)]
+pub struct Names {
+    /// The session in version 1.
+    pub session: u16,
+    /// The session in version 0.
+    pub session0: u16,
+    /// The serial of the first version.
+    pub serial: u32,
+}
+
+/// From where comes what is served.
+#[derive(Debug, Drop)]
+pub struct Paths {
+    /// Exports of validators.
+    pub files: Vec<String>,
+    /// Local exceptions.
+    pub slurm: Option<String>,
+    /// Directories that are publication points.
+    pub points: Vec<String>,
+}
+
+/// What a daemon is to do when.
+#[derive(Clone, Copy, Debug, PartialEq, Eq)]
+pub struct Plan {
+    /// How often files are looked at, in milliseconds.
+    pub check: u64,
+    /// How long a client may take nothing, in milliseconds.
+    pub stall: u64,
+    /// Up to which age an export is not old, in seconds.
+    pub max_age: Option<u64>,
+    /// Whether the daemon ends where one is old.
+    pub stops_when_old: bool,
+    /// Whether it ends when the first client has gone.
+    pub once: bool,
+    /// How many gates there are.
+    pub gates: usize,
+}
+
+/// Why a daemon has come to its end.
+#[derive(Clone, Copy, Debug, PartialEq, Eq)]
+pub enum End {
+    /// The one client that it was for has gone.
+    Once,
+    /// An export is older than it may be.
+    Old,
+}
+
+/// A cache that goes on: its clients, the files that it follows, and what is due when.
+#[derive(Debug, Drop)]
+pub struct Daemon<S, T> {
+    pub(crate) alloc: Global,
+    pub(crate) plan: Plan,
+    names: Names,
+    pub(crate) service: Service<S, T>,
+    pub(crate) guests: Guests,
+    pub(crate) gates: Gates,
+    pub(crate) files: Vec<Followed>,
+    pub(crate) points: Vec<Offering>,
+    pace: Pace,
+    /// Whether a version was published.
+    is_ready: bool,
+    /// Whether a client has gone.
+    pub(crate) has_parted: bool,
+    /// Whether an export is older than it may be.
+    pub(crate) is_old: bool,
+    /// When files are to be looked at next, in milliseconds of the steady clock.
+    next_check: u64,
+    /// When something else is to be done next: clients that cannot be written to are looked at, or what is owed is published.
+    next_round: u64,
+}
+
+impl<S: VersionStore + Drop, T: Stream + Drop> Daemon<S, T> {
+    /// A daemon over a server to whose cache nothing was published. It reads all files, and tells the first that it cannot take. The first version is published
+    /// in a later second than this, and no router is taken in before.
+    pub fn open<W: Disk + Time>(
+        alloc: Global,
+        plan: Plan,
+        names: Names,
+        server: Server<S, T>,
+        sources: Paths,
+        world: &mut W,
+    ) -> Result<Daemon<S, T>, StartFault> {
+        let now = world.seconds();
+        let millis = world.millis();
+        let Paths {
+            files,
+            slurm,
+            points,
+        } = sources;
+        let mut service = match Sources::new(alloc, files.len()) {
+            Ok(sources) => Service::new(server, sources),
+            Err(_) => return Err(StartFault::memory()),
+        };
+        let Ok(mut followed) = all_followed(alloc, files, slurm) else {
+            return Err(StartFault::memory());
+        };
+        let Ok(mut offered) = all_offered(alloc, points) else {
+            return Err(StartFault::memory());
+        };
+        read_all(&mut followed, &mut service, alloc, now, world)?;
+        read_points(&mut offered, &mut service, alloc, now, world)?;
+        let Ok(gates) = Gates::new(alloc, plan.gates) else {
+            return Err(StartFault::memory());
+        };
+        Ok(Daemon {
+            alloc,
+            plan,
+            names,
+            service,
+            guests: Guests::new(alloc),
+            gates,
+            files: followed,
+            points: offered,
+            pace: Pace::after(now),
+            is_ready: false,
+            has_parted: false,
+            is_old: false,
+            next_check: millis.saturating_add(plan.check),
+            next_round: millis,
+        })
+    }
+
+    /// One turn: it waits until something is ready or due, and does it. It answers why the daemon is to end, where it is.
+    pub fn turn<W: Ports<T> + Disk + Time + Journal>(
+        &mut self,
+        world: &mut W,
+    ) -> io::Result<Option<End>> {
+        let wait = self.wait(world.millis());
+        world.wait(wait)?;
+        self.take_ready(world);
+        if self.is_ready {
+            self.accept_waiting(world);
+        }
+        self.serve_all(world);
+        self.do_what_is_due(world);
+        Ok(self.end())
+    }
+
+    /// How long the next turn may wait, in milliseconds.
+    fn wait(&self, now: u64) -> u64 {
+        if !self.guests.is_idle() || (self.is_ready && self.gates.has_waiting()) {
+            return 0;
+        }
+        let left = self.next_check.saturating_sub(now);
+        if self.service.is_owed() || self.guests.has_blocked() {
+            return left.min(self.next_round.saturating_sub(now));
+        }
+        left
+    }
+
+    /// Looks at the files, closes those that take nothing, and publishes, where it is time for that.
+    fn do_what_is_due<W: Disk + Time + Journal>(&mut self, world: &mut W) {
+        let now = world.millis();
+        if now >= self.next_check {
+            self.next_check = now.saturating_add(self.plan.check);
+            self.next_round = now;
+            self.gates.has_room();
+            self.follow_all(world);
+            self.offer_all(world);
+            self.judge_ages(world);
+        }
+        if now >= self.next_round {
+            self.next_round = now.saturating_add(SOON);
+            self.drop_stalled(world);
+            self.publish_owed(world);
+        }
+    }
+
+    /// Publishes what is owed, where the last version is of an earlier second.
+    fn publish_owed<W: Time + Journal>(&mut self, world: &mut W) {
+        let now = world.seconds();
+        if !self.service.is_owed() {
+            return;
+        }
+        if !self.pace.may_publish(now) {
+            return;
+        }
+        let began = world.millis();
+        match self.service.publish(now) {
+            Ok(issue) => self.note_issue(issue, now, began, world),
+            Err(refusal) => self.note_failure(&refusal, now, world),
+        }
+    }
+
+    /// Notes what was published, and has all routers told.
+    fn note_issue<W: Time + Journal>(&mut self, issue: Issue, now: u64, began: u64, world: &mut W) {
+        let Published::New(serial) = issue.published else {
+            return;
+        };
+        self.pace.published(now);
+        self.guests.wake_all();
+        let milliseconds = world.millis().saturating_sub(began);
+        world.tell(
+            now,
+            &Event::Published {
+                session: self.names.session,
+                serial: serial.0,
+                announced: issue.announced,
+                withdrawn: issue.withdrawn,
+                records: issue.records,
+                milliseconds,
+            },
+        );
+        if !self.is_ready {
+            self.is_ready = true;
+            world.tell(now, &Event::Ready);
+        }
+    }
+
+    /// Tells that nothing could be published. It is tried again when files are looked at next.
+    fn note_failure<W: Journal>(&mut self, refusal: &Refusal, now: u64, world: &mut W) {
+        self.next_round = self.next_check;
+        if let Ok(reason) = refusal.to_string(self.alloc) {
+            world.tell(
+                now,
+                &Event::Failed {
+                    what: "publication",
+                    reason: reason.as_str(),
+                },
+            );
+        }
+    }
+
+    /// Tells which exports are older than they may be, and which are not any more.
+    fn judge_ages<W: Time + Journal>(&mut self, world: &mut W) {
+        let Some(most) = self.plan.max_age else {
+            return;
+        };
+        let now = world.seconds();
+        for file in self.files.iter_mut() {
+            if let Source::Export(number) = file.source {
+                if let Some(built) = self.service.sources().built(number) {
+                    let age = now.saturating_sub(built);
+                    if file.is_aged(age > most) {
+                        tell_age(file.path.as_str(), age, most, now, world);
+                    }
+                    self.is_old = self.is_old || age > most;
+                }
+            }
+        }
+    }
+
+    /// Why the daemon is to end, where it is.
+    fn end(&self) -> Option<End> {
+        if self.plan.once && self.has_parted {
+            return Some(End::Once);
+        }
+        if self.plan.stops_when_old && self.is_old {
+            return Some(End::Old);
+        }
+        None
+    }
+
+    /// The server.
+    pub fn server(&self) -> &Server<S, T> {
+        self.service.server()
+    }
+}
+
+/// Tells that an export is older than it may be, or is not any more.
+fn tell_age<W: Journal>(file: &str, age: u64, most: u64, now: u64, world: &mut W) {
+    if age > most {
+        world.tell(now, &Event::Old { file, age });
+    } else {
+        world.tell(now, &Event::Fresh { file, age });
+    }
+}
+
+/// The files that are followed: exports, and then local exceptions, if there are any.
+fn all_followed(
+    alloc: Global,
+    files: Vec<String>,
+    slurm: Option<String>,
+) -> Result<Vec<Followed>, AllocError> {
+    let mut followed = Vec::new(alloc);
+    for path in files {
+        let source = Source::Export(followed.len());
+        followed.push(Followed::new(path, source))?;
+    }
+    if let Some(path) = slurm {
+        followed.push(Followed::new(path, Source::Slurm))?;
+    }
+    Ok(followed)
+}
+
+fn all_offered(alloc: Global, points: Vec<String>) -> Result<Vec<Offering>, AllocError> {
+    let mut offered = Vec::new(alloc);
+    for path in points {
+        offered.push(Offering::new(path))?;
+    }
+    Ok(offered)
+}
+
+/// Reads each file, and takes it.
+fn read_all<S: VersionStore, T: Stream + Drop, W: Disk>(
+    files: &mut Vec<Followed>,
+    service: &mut Service<S, T>,
+    alloc: Global,
+    now: u64,
+    world: &mut W,
+) -> Result<(), StartFault> {
+    for file in files.iter_mut() {
+        if let Err(refusal) = read_one(file, service, now, world) {
+            return Err(StartFault::of(file.path.as_str(), alloc, refusal));
+        }
+    }
+    Ok(())
+}
+
+/// Reads a file, and takes it. What changes while it is read is read again, a few times.
+fn read_one<S: VersionStore, T: Stream + Drop, W: Disk>(
+    file: &mut Followed,
+    service: &mut Service<S, T>,
+    now: u64,
+    world: &mut W,
+) -> Result<(), Refusal> {
+    for _time in 0..16u8 {
+        match file.look(world, false) {
+            Look::Same | Look::RefusedBefore => {}
+            Look::Failed(error) => return Err(Refusal::Device(error)),
+            Look::Read(stamp, bytes) => {
+                take(service, file.source, bytes.as_slice(), now)?;
+                let _ = file.take(stamp);
+                return Ok(());
+            }
+        }
+    }
+    Err(Refusal::Changing)
+}
+
+fn read_points<S: VersionStore, T: Stream + Drop, W: Disk>(
+    points: &mut Vec<Offering>,
+    service: &mut Service<S, T>,
+    alloc: Global,
+    now: u64,
+    world: &mut W,
+) -> Result<(), StartFault> {
+    for point in points.iter_mut() {
+        if let Err(refusal) = offer(service, point.path.as_str(), alloc, now, world) {
+            return Err(StartFault::of(point.path.as_str(), alloc, refusal));
+        }
+    }
+    Ok(())
+}

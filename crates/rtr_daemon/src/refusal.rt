@@ -1,0 +1,76 @@
+//! Why something was not taken.
+use exports::ExportFault;
+use points::PointFault;
+use slurm::SlurmFault;
+use std::alloc::Global;
+use std::io;
+use thiserror::Error;
+use vrps::SetFault;
+
+/// Why a file was not taken, or nothing was published.
+#[derive(Debug, Drop, Error)]
+pub enum Refusal {
+    /// It cannot be read.
+    #[error("it cannot be read: {0}")]
+    Device(io::Error),
+    /// It is no export.
+    #[error("{0}")]
+    Export(ExportFault),
+    /// It holds no local exceptions.
+    #[error("{0}")]
+    Slurm(SlurmFault),
+    /// Its publication point does not take it.
+    #[error("{0}")]
+    Point(PointFault),
+    /// All sources together have too much, or memory was wanting for them.
+    #[error("{0}")]
+    Set(SetFault),
+    /// It changed again and again while it was read.
+    #[error("it changes while it is read")]
+    Changing,
+    /// The clock tells no moment of the years 1970 to 9999.
+    #[error("the clock is not between the years 1970 and 9999")]
+    Clock,
+}
+
+impl Refusal {
+    /// The status with which a program ends for it: 3 where a file cannot be read, 4 where memory was wanting, and else 1.
+    pub fn status(&self) -> u8 {
+        match self {
+            Refusal::Device(error) if error.kind() == io::ErrorKind::OutOfMemory => 4,
+            Refusal::Device(_) | Refusal::Changing => 3,
+            Refusal::Export(ExportFault::Memory)
+            | Refusal::Slurm(SlurmFault::Memory)
+            | Refusal::Point(PointFault::Memory)
+            | Refusal::Set(SetFault::Memory) => 4,
+            _ => 1,
+        }
+    }
+}
+
+/// Why a daemon does not start: a file, if it was one, and what of it.
+#[derive(Debug, Drop)]
+pub struct StartFault {
+    /// The file.
+    pub path: Option<String>,
+    /// What of it.
+    pub refusal: Refusal,
+}
+
+impl StartFault {
+    /// Out of memory.
+    pub fn memory() -> StartFault {
+        StartFault {
+            path: None,
+            refusal: Refusal::Set(SetFault::Memory),
+        }
+    }
+
+    /// What of a file.
+    pub(crate) fn of(path: &str, alloc: Global, refusal: Refusal) -> StartFault {
+        StartFault {
+            path: String::from_str(alloc, path).ok(),
+            refusal,
+        }
+    }
+}

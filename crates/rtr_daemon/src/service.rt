@@ -1,0 +1,205 @@
+//! A server, what it serves from, and whether a version is owed.
+ghost use Rattle.std.specs.Prelude.{◌≡◌, false, IfErr, IfOk, Option};
+ghost use Rattle.rtr_server.specs.Clients.{AdmitsTo, KeepsOthers, Past, Serves, ShowsServer, slot_at};
+ghost use Rattle.sources.specs.Served.{ExportTaken, SlurmTaken};
+ghost use Rattle.rtr_daemon.specs.Serving.{GoesOn, IsServedAt, Issues, KeepsSources, ShowsService, TakesSo};
+
+use crate::counting::compared;
+use crate::refusal::Refusal;
+use exports::ExportFault;
+use payload_commands::Directory;
+use points::{Offered, PointFault};
+use rtr_server::{AdmitFault, Client, Server, Stream, Turn};
+use slurm::SlurmFault;
+use sources::{Sources, moment_at};
+use std::alloc::Global;
+use vrps::{Published, SetFault, VersionStore, VrpSet};
+
+/// A server, and the sources of what it serves.
+#[derive(Debug, Drop)]
+pub struct Service<S, T> {
+    server: Server<S, T>,
+    sources: Sources,
+    /// Whether the sources changed since the last publication.
+    is_owed: bool,
+}
+
+impl<S: VersionStore, T: Stream + Drop> Service<S, T> {
+    /// A service of a server to whose cache nothing was published.
+    pub fn new(server: Server<S, T>, sources: Sources) -> Service<S, T>
+        ensures { (p : Past) → ShowsServer S.holds T.remaining T.contents p server → ShowsService S.holds T.remaining T.contents p result }
+    {
+        Service {
+            server,
+            sources,
+            is_owed: true,
+        }
+    }
+
+    /// The server.
+    pub fn server(&self) -> &Server<S, T>
+        ensures { result.now ≡ self.now.server }
+    {
+        &self.server
+    }
+
+    /// The sources.
+    pub fn sources(&self) -> &Sources
+        ensures { result.now ≡ self.now.sources }
+    {
+        &self.sources
+    }
+
+    /// Whether the sources changed since the last publication.
+    pub fn is_owed(&self) -> bool
+        ensures { result ≡ self.now.is_owed }
+    {
+        self.is_owed
+    }
+
+    /// One turn of a client.
+    pub fn serve(&mut self, client: Client, budget: u32) -> Option<Turn>
+        ensures goes { GoesOn S.holds T.remaining T.contents self.old self.new }
+        ensures others { KeepsOthers client.0.0 self.old.server.slots.items self.new.server.slots.items }
+        ensures serves { Serves S.holds T.remaining T.contents T.answers budget client.0.0 (slot_at self.old.server.slots.items client.0.0) self.old.server.cache result (slot_at self.new.server.slots.items client.0.0) self.new.server.cache }
+        ensures rest { KeepsSources self.old self.new }
+    {
+        self.server.serve(client, budget)
+    }
+
+    /// Admits a client.
+    pub fn admit(&mut self, stream: T) -> Result<Client, AdmitFault>
+        ensures goes { GoesOn S.holds T.remaining T.contents self.old self.new }
+        ensures admits { (p : Past) → ShowsServer S.holds T.remaining T.contents p self.old.server → AdmitsTo S.holds T.remaining T.contents p stream result self.old.server self.new.server }
+        ensures rest { KeepsSources self.old self.new }
+    {
+        self.server.admit(stream)
+    }
+
+    /// Drops a client.
+    pub fn drop_client(&mut self, client: Client)
+        ensures goes { GoesOn S.holds T.remaining T.contents self.old self.new }
+        ensures others { KeepsOthers client.0.0 self.old.server.slots.items self.new.server.slots.items }
+        ensures gone { slot_at self.new.server.slots.items client.0.0 ≡ Option.None }
+        ensures rest { KeepsSources self.old self.new }
+    {
+        self.server.drop_client(client)
+    }
+
+    /// Whether a payload of a file that counted has expired since it was taken.
+    pub fn has_expired(&self, file: usize, now: u64) -> bool {
+        self.sources.has_expired(file, now)
+    }
+
+    /// Takes the export of a file, where it is one, and answers how many of its entries had expired.
+    pub fn take_export(&mut self, file: usize, bytes: &[u8], now: u64) -> Result<u64, ExportFault>
+        ensures goes { GoesOn S.holds T.remaining T.contents self.old self.new }
+        ensures takes { TakesSo result self.old self.new }
+        ensures export { ExportTaken bytes.now now file result self.old.sources self.new.sources }
+    {
+        if file >= self.sources.files() {
+            return Err(ExportFault::Memory);
+        }
+        let expired = self.sources.take_export(file, bytes, now)?;
+        self.is_owed = true;
+        Ok(expired)
+    }
+
+    /// Takes local exceptions, where the bytes are some.
+    pub fn take_slurm(&mut self, bytes: &[u8]) -> Result<(), SlurmFault>
+        ensures goes { GoesOn S.holds T.remaining T.contents self.old self.new }
+        ensures takes { TakesSo result self.old self.new }
+        ensures exceptions { SlurmTaken bytes.now result self.old.sources self.new.sources }
+    {
+        self.sources.take_slurm(bytes)?;
+        self.is_owed = true;
+        Ok(())
+    }
+
+    /// Offers what a directory holds to the publication point of its name, at a moment in seconds since 1970.
+    pub fn offer(
+        &mut self,
+        directory: &Directory<'_>,
+        alloc: Global,
+        now: u64,
+    ) -> Result<Offered, Refusal>
+        ensures goes { GoesOn S.holds T.remaining T.contents self.old self.new }
+        ensures rest { self.new.server ≡ self.old.server }
+    {
+        let Some(moment) = moment_at(now) else {
+            return Err(Refusal::Clock);
+        };
+        let Ok(files) = directory.files(alloc) else {
+            return Err(Refusal::Point(PointFault::Memory));
+        };
+        self.is_owed = true;
+        match self.sources.offer(
+            directory.name(),
+            directory.manifest(),
+            files.as_slice(),
+            moment,
+        ) {
+            Ok(offered) => Ok(offered),
+            Err(fault) => Err(Refusal::Point(fault)),
+        }
+    }
+
+    /// The set that the sources have at a moment in seconds since 1970.
+    fn served(&self, now: u64) -> Result<VrpSet, Refusal>
+        ensures { IfOk result (λ set. IsServedAt now self.now.sources set) }
+    {
+        let Some(moment) = moment_at(now) else {
+            return Err(Refusal::Clock);
+        };
+        match self.sources.served(moment) {
+            Ok(set) => Ok(set),
+            Err(fault) => Err(Refusal::Set(fault)),
+        }
+    }
+
+    /// Publishes what the sources have at a moment in seconds since 1970. Where that cannot be had it stays owed, and what is served stays.
+    pub fn publish(&mut self, now: u64) -> Result<Issue, Refusal>
+        ensures goes { GoesOn S.holds T.remaining T.contents self.old self.new }
+        ensures issues { IfOk result (λ _. Issues S.holds T.remaining T.contents now self.old self.new) }
+        ensures done { IfOk result (λ _. self.new.is_owed ≡ false) }
+        ensures undone { IfErr result (λ _. self.new.is_owed ≡ self.old.is_owed) }
+        ensures sources { self.new.sources ≡ self.old.sources }
+    {
+        let set = self.served(now)?;
+        let counts = compared(self.set(), &set);
+        let records = set.len() as u64;
+        match self.server.publish(set) {
+            Err(_) => Err(Refusal::Set(SetFault::Memory)),
+            Ok(published) => {
+                self.is_owed = false;
+                Ok(Issue {
+                    published,
+                    announced: counts.announced,
+                    withdrawn: counts.withdrawn,
+                    records,
+                })
+            }
+        }
+    }
+
+    /// The set that is served.
+    fn set(&self) -> Option<&VrpSet> {
+        match self.server.current() {
+            Some((_serial, set)) => Some(set),
+            None => None,
+        }
+    }
+}
+
+/// What was published.
+#[derive(Clone, Copy, Debug, PartialEq, Eq)]
+pub struct Issue {
+    /// The version, where it is a new one.
+    pub published: Published,
+    /// How many records it announces.
+    pub announced: u64,
+    /// How many records it withdraws.
+    pub withdrawn: u64,
+    /// How many records it has.
+    pub records: u64,
+}

@@ -1,0 +1,143 @@
+//! Serving clients.
+use crate::daemon::Daemon;
+use crate::surroundings::{Journal, Ports, Ready, Time};
+use daemon_parts::Event;
+use rtr_pdu::Version;
+use rtr_server::{Carried, Client, Gone, Stream, Turn};
+use vrps::VersionStore;
+
+/// How many calls of its stream a client has in one turn.
+const BUDGET: u32 = 8;
+
+/// How many things that are ready are looked at in one turn.
+const READY: usize = 65_536;
+
+/// What is known of a client: how many bytes went, and the version in which it speaks.
+#[derive(Clone, Copy)]
+struct Seen {
+    carried: Option<Carried>,
+    version: Option<Version>,
+}
+
+impl<S: VersionStore, T: Stream + Drop> Daemon<S, T> {
+    /// Notes what is ready.
+    pub(crate) fn take_ready<W: Ports<T>>(&mut self, world: &mut W) {
+        for _ready in 0..READY {
+            match world.next() {
+                None => return,
+                Some(Ready::Gate(gate)) => self.gates.note(gate, true),
+                Some(Ready::Line(line)) => self.guests.wake(line),
+            }
+        }
+    }
+
+    /// Serves each client that is to be served, once.
+    pub(crate) fn serve_all<W: Time + Journal>(&mut self, world: &mut W) {
+        for _client in 0..self.guests.waiting() {
+            if let Some((line, client)) = self.guests.next() {
+                self.serve(line, client, world);
+            }
+        }
+    }
+
+    /// A turn of a client, call by call, and what was known of it before the last one, which moves no byte where the client has gone by it.
+    fn turn_of(&mut self, client: Client) -> (Option<Turn>, Seen) {
+        let mut seen = self.seen(client);
+        for _call in 0..BUDGET {
+            match self.service.serve(client, 1) {
+                Some(Turn::Busy) => seen = self.seen(client),
+                turn => return (turn, seen),
+            }
+        }
+        (Some(Turn::Busy), seen)
+    }
+
+    /// What is known of a client.
+    fn seen(&self, client: Client) -> Seen {
+        let server = self.service.server();
+        Seen {
+            carried: server.carried(client),
+            version: server.version(client),
+        }
+    }
+
+    /// One turn of a client.
+    fn serve<W: Time + Journal>(&mut self, line: usize, client: Client, world: &mut W) {
+        let (turn, seen) = self.turn_of(client);
+        match turn {
+            None => {}
+            Some(Turn::Gone(how)) => self.part(line, why(how), seen, world),
+            Some(turn) => {
+                if let Some(carried) = self.seen(client).carried {
+                    self.guests.note(line, turn, carried, world.millis());
+                }
+                if turn == Turn::Busy {
+                    self.guests.wake(line);
+                }
+            }
+        }
+    }
+
+    /// Parts from a client that has gone.
+    fn part<W: Time + Journal>(&mut self, line: usize, why: &str, seen: Seen, world: &mut W) {
+        let Some(guest) = self.guests.remove(line) else {
+            return;
+        };
+        let carried = seen.carried.unwrap_or(guest.carried);
+        self.gates.has_room();
+        self.has_parted = true;
+        let stayed = world.millis().saturating_sub(guest.came) / 1000;
+        let now = world.seconds();
+        world.tell(
+            now,
+            &Event::ClientGone {
+                address: guest.address,
+                why,
+                version: seen.version.map(number_of),
+                read: carried.read,
+                written: carried.written,
+                seconds: stayed,
+            },
+        );
+    }
+
+    /// Drops the clients to which nothing could be written for too long.
+    pub(crate) fn drop_stalled<W: Time + Journal>(&mut self, world: &mut W) {
+        let now = world.millis();
+        let Ok(lines) = self.guests.stalled(self.alloc, now, self.plan.stall) else {
+            return;
+        };
+        for line in lines {
+            self.drop_line(line, world);
+        }
+    }
+
+    fn drop_line<W: Time + Journal>(&mut self, line: usize, world: &mut W) {
+        let Some((client, address)) = self.guests.at(line) else {
+            return;
+        };
+        let seen = self.seen(client);
+        self.service.drop_client(client);
+        let now = world.seconds();
+        world.tell(now, &Event::Stalled { address });
+        self.part(line, "stalled", seen, world);
+    }
+}
+
+/// The word for how a client went.
+fn why(how: Gone) -> &'static str {
+    match how {
+        Gone::PeerClosed => "closed",
+        Gone::Truncated => "truncated",
+        Gone::CacheEnded => "ended",
+        Gone::ReadFailed => "read-failed",
+        Gone::WriteFailed => "write-failed",
+    }
+}
+
+fn number_of(version: Version) -> u8 {
+    match version {
+        Version::V0 => 0,
+        Version::V1 => 1,
+    }
+}

@@ -1,0 +1,86 @@
+//! What a daemon sees of its surroundings: sockets, files, the time, and a journal. Each has two ends: the system's, and one in memory.
+use daemon_parts::Event;
+use payload_commands::Directory;
+use std::io;
+use std::net::SocketAddr;
+
+/// Something that may be ready.
+#[derive(Clone, Copy, Debug, PartialEq, Eq)]
+pub enum Ready {
+    /// At this gate a connection may wait.
+    Gate(usize),
+    /// On the line of this number bytes may have come, or there may be room again.
+    Line(usize),
+}
+
+/// What came at a gate.
+#[derive(Debug, Drop)]
+pub enum Accepted<L> {
+    /// A connection. No other line has had its number.
+    Line {
+        /// The connection, whose calls do not wait.
+        line: L,
+        /// The number by which it is told to be ready.
+        number: usize,
+        /// Where it comes from.
+        address: SocketAddr,
+    },
+    /// None waits.
+    Waits,
+    /// One that was given up before it was taken; another may wait.
+    Again,
+    /// One may wait, and cannot be taken now, for want of descriptors or memory at the system.
+    NoRoom,
+}
+
+/// The sockets, whose connections are such streams.
+pub trait Ports<L> {
+    /// Waits until something is ready, for so many milliseconds at most.
+    fn wait(&mut self, millis: u64) -> io::Result<()>;
+
+    /// The next of what is ready since.
+    fn next(&mut self) -> Option<Ready>;
+
+    /// Takes a connection at a gate.
+    fn accept(&mut self, gate: usize) -> Accepted<L>;
+}
+
+/// What tells one state of a file from another.
+#[derive(Clone, Copy, Debug, PartialEq, Eq)]
+pub struct Stamp {
+    /// Its size in bytes.
+    pub len: u64,
+    /// Its place on the disk.
+    pub inode: u64,
+    /// When its content changed, in seconds since 1970 and nanoseconds.
+    pub modified: (i64, i64),
+    /// When it changed there in any way.
+    pub changed: (i64, i64),
+}
+
+/// The files.
+pub trait Disk {
+    /// How a file looks now.
+    fn stamp(&mut self, path: &str) -> io::Result<Stamp>;
+
+    /// What it holds.
+    fn read(&mut self, path: &str) -> io::Result<Vec<u8>>;
+
+    /// What a directory holds that is offered to a publication point.
+    fn directory<'a>(&mut self, path: &'a str) -> io::Result<Directory<'a>>;
+}
+
+/// The time.
+pub trait Time {
+    /// Seconds since 1970, by the clock.
+    fn seconds(&mut self) -> u64;
+
+    /// Milliseconds of a clock that never goes back.
+    fn millis(&mut self) -> u64;
+}
+
+/// The log.
+pub trait Journal {
+    /// Writes a line. What cannot be written is lost.
+    fn tell(&mut self, seconds: u64, event: &Event<'_>);
+}
