@@ -30,6 +30,8 @@ mod prefixes_example;
 #[cfg(test)]
 mod rtr_commands_example;
 #[cfg(test)]
+mod rtr_daemon_example;
+#[cfg(test)]
 mod rtr_ends_example;
 #[cfg(test)]
 mod rtr_pdu_example;
@@ -39,6 +41,8 @@ mod rtr_server_example;
 mod rtr_world_example;
 #[cfg(test)]
 mod slurm_example;
+#[cfg(test)]
+mod sources_example;
 #[cfg(test)]
 mod values;
 #[cfg(test)]

@@ -1,5 +1,20 @@
 //! What a cache serves, from where it comes: exports of validators, publication points, and local exceptions. [`Sources`] keeps what was
 //! taken last of each, and makes one set of them.
+//!
+//! For example, where `rt` is the runtime that `main` is handed:
+//!
+//! ```rust
+//! use sources::{Sources, moment_at};
+//!
+//! let mut sources = Sources::new(rt.alloc(), 1)?;
+//! let text = br#"[{"asn":64496,"prefix":"192.0.2.0/24","maxLength":24}]"#;
+//! sources.take_export(0, text, 1_700_000_000)?;
+//! let Some(now) = moment_at(1_700_000_000) else {
+//!     return Err(Fail::from("no moment"));
+//! };
+//! let set = sources.served(now)?;
+//! assert!(rt; set.len() == 1);
+//! ```
 #![tactic(auto)]
 
 mod clock;
