@@ -1,5 +1,7 @@
 #!/usr/bin/env python3
-"""Proves and builds the program, and tells on standard error what it is at.
+"""Proves and builds a program, `rpkirtr` or the one that is named, and tells on standard error what it is at.
+
+usage: tools/build.py [rpkirtr | rpkirtrd]
 
 Its libraries are proved side by side, each as soon as those below it stand, and then the program. What stands already is taken as it
 is. It tells how long a crate took last time: that is kept in its out/, and tools/took.txt has what it took where these figures were last
@@ -18,7 +20,9 @@ from concurrent.futures import FIRST_COMPLETED, ThreadPoolExecutor, wait
 from kit import RT
 
 TOP = os.path.realpath(f"{os.path.dirname(os.path.abspath(__file__))}/..")
-PROGRAM = f"{TOP}/crates/rpkirtr"
+
+# The programs, with the words that each is run with, as no command only builds one, and what it answers then.
+PROGRAMS = {"rpkirtr": ([], "rpkirtr: bad words"), "rpkirtrd": (["--version"], "rpkirtrd ")}
 TOOK = f"{TOP}/tools/took.txt"
 
 # How many seconds pass at most without a word.
@@ -32,7 +36,7 @@ NEAR = 0.8
 
 
 def tell(text):
-    print(f"run: {text}", file=sys.stderr, flush=True)
+    print(f"build: {text}", file=sys.stderr, flush=True)
 
 
 def why(lines):
@@ -58,10 +62,10 @@ def prove_library(crate, jobs):
 
 def build_program(crate, jobs):
     """Proves the program over its libraries, and builds it. Returns whether that went well, and what was said."""
-    # There is no command that only builds a program: it is run without words, which it refuses.
-    words = ["rt", "run", "--jobs", str(jobs)]
+    own, answer = PROGRAMS[crate.name]
+    words = ["rt", "run", "--jobs", str(jobs), "--", *own]
     ran = subprocess.run(words, cwd=crate.folder, stdin=subprocess.DEVNULL, stdout=subprocess.PIPE, stderr=subprocess.STDOUT, errors="replace")
-    return f"{crate.name}: bad words" in ran.stdout, ran.stdout
+    return answer in ran.stdout, ran.stdout
 
 
 class Build:
@@ -134,10 +138,14 @@ class Build:
         return well
 
 
-def main():
+def main(words):
+    name = words[0] if words else "rpkirtr"
+    if len(words) > 1 or name not in PROGRAMS:
+        print("usage: tools/build.py [rpkirtr | rpkirtrd]", file=sys.stderr)
+        return 1
     RT.rtlib.guarded()
-    build = Build(RT.rtlib.crates_below(PROGRAM))
-    tell(f"proving and building the program, {len(build.crates)} crates; on four cores this takes some minutes the first time")
+    build = Build(RT.rtlib.crates_below(f"{TOP}/crates/{name}"))
+    tell(f"proving and building {name}, {len(build.crates)} crates; on four cores this takes some minutes the first time")
     held = RT.rtlib.lock(build.crates)
     for it in build.crates:
         RT.rtlib.stop_on_links(it.folder)
@@ -149,4 +157,4 @@ def main():
 
 
 if __name__ == "__main__":
-    sys.exit(main())
+    sys.exit(main(sys.argv[1:]))

@@ -1,0 +1,28 @@
+//! The daemon: it reads its words, opens its sockets, and serves turn by turn.
+#![tactic(auto)]
+
+mod host;
+mod line;
+mod names;
+mod running;
+
+use running::{out_of_memory, run_words};
+use std::process::ExitCode;
+use std::{env, io};
+
+/// Reads the words, runs them with the standard streams, and exits with the status.
+fn main(rt: HostRuntime) -> ExitCode {
+    let mut out = rt.stdout();
+    let mut err = rt.stderr();
+    let status = match own_words(&rt) {
+        Ok(words) => run_words(&rt, words.as_slice(), &mut out, &mut err),
+        Err(e) if e.kind() == io::ErrorKind::OutOfMemory => out_of_memory(&mut err),
+        Err(_) => 2,
+    };
+    ExitCode::from(status)
+}
+
+fn own_words(rt: &HostRuntime) -> io::Result<Vec<String>> {
+    let words = env::args(rt)?.skip(1).collect(rt.alloc())?;
+    Ok(words)
+}

@@ -1,0 +1,237 @@
+//! Running the daemon.
+use crate::host::{Host, HostFault};
+use crate::line::Line;
+use crate::names::names_of;
+use daemon_parts::Event;
+use daemon_words::{Asked, Settings, WordsFault, read_words};
+use rtr_daemon::{Daemon, End, Journal, Names, Paths, Plan, StartFault, Time};
+use rtr_ends::Cache;
+use rtr_server::Server;
+use std::alloc::{AllocError, Global};
+use std::io::{self, ErrorKind, Write};
+use std::net::Net;
+use std::rt::Files;
+use std::time::Clock;
+use vrps::VersionLog;
+
+/// How many descriptors the daemon keeps for itself.
+const OWN_DESCRIPTORS: usize = 16;
+
+/// Tells that memory is wanting, with the status.
+pub fn out_of_memory<E: Write>(err: &mut E) -> u8 {
+    let _ = writeln!(err, "rpkirtrd: out of memory");
+    4
+}
+
+/// Does what the words ask for, and answers the status: 0 done, 1 refused input, 2 the words do not parse, 3 a file, a socket or an output
+/// failed, 4 out of memory.
+pub fn run_words<R: Files + Net + Clock + AllocGlobal + Clone + Drop, O: Write, E: Write>(
+    rt: &R,
+    words: &[String],
+    out: &mut O,
+    err: &mut E,
+) -> u8 {
+    match read_words(rt.alloc(), words) {
+        Ok(Asked::Help(text)) | Ok(Asked::Version(text)) => print(text.as_str(), out),
+        Ok(Asked::Serve(settings)) => {
+            if settings.status.is_some() {
+                no_pages(err)
+            } else {
+                serve(rt, settings, err)
+            }
+        }
+        Err(WordsFault::Memory) => out_of_memory(err),
+        Err(fault) => {
+            let _ = writeln!(err, "rpkirtrd: {fault}\nTry rpkirtrd --help.");
+            2
+        }
+    }
+}
+
+/// Tells that there are no pages on the daemon's state, with the status.
+fn no_pages<E: Write>(err: &mut E) -> u8 {
+    let _ = writeln!(
+        err,
+        "rpkirtrd: --status: this version has no pages on its state; leave the option out"
+    );
+    2
+}
+
+/// Prints a text and a newline, with the status.
+fn print<O: Write>(text: &str, out: &mut O) -> u8 {
+    if writeln!(out, "{text}").is_err() {
+        return 3;
+    }
+    0
+}
+
+/// Opens the sockets, reads the files, and serves.
+fn serve<R: Files + Net + Clock + AllocGlobal + Clone + Drop, E: Write>(
+    rt: &R,
+    settings: Settings,
+    err: &mut E,
+) -> u8 {
+    match Host::open(rt, err, settings.log, settings.listen.as_slice()) {
+        Err(fault) => refuse_sockets(&fault, err),
+        Ok(mut host) => match open(rt, settings, &mut host) {
+            Err(fault) => refuse_start(&fault, &mut host),
+            Ok(daemon) => go_on(daemon, &mut host),
+        },
+    }
+}
+
+fn refuse_sockets<E: Write>(fault: &HostFault, err: &mut E) -> u8 {
+    let status = if fault.error.kind() == ErrorKind::OutOfMemory {
+        4
+    } else {
+        3
+    };
+    let _ = match &fault.address {
+        Some(address) => writeln!(err, "rpkirtrd: cannot listen at {address}: {}", fault.error),
+        None => writeln!(err, "rpkirtrd: no sockets can be had: {}", fault.error),
+    };
+    status
+}
+
+/// The daemon of these words, with its files read.
+fn open<R: Files + Net + Clock + AllocGlobal + Clone + Drop, E: Write>(
+    rt: &R,
+    settings: Settings,
+    host: &mut Host<'_, R, E>,
+) -> Result<Daemon<VersionLog, Line>, StartFault> {
+    let alloc = rt.alloc();
+    let start = host.seconds();
+    let Ok(names) = names_of(rt, &settings, start) else {
+        return Err(StartFault::memory());
+    };
+    let most = client_limit(settings.clients, start, host);
+    let plan = plan_of(&settings);
+    let Ok(server) = server_of(alloc, &settings, names, most) else {
+        return Err(StartFault::memory());
+    };
+    tell_start(names, start, host);
+    let Settings {
+        vrps,
+        points,
+        slurm,
+        ..
+    } = settings;
+    let paths = Paths {
+        files: vrps,
+        slurm,
+        points,
+    };
+    Daemon::open(alloc, plan, names, server, paths, host)
+}
+
+/// A server of a new cache.
+fn server_of(
+    alloc: Global,
+    settings: &Settings,
+    names: Names,
+    most: usize,
+) -> Result<Server<VersionLog, Line>, AllocError> {
+    let store = VersionLog::new(alloc, names.session, names.serial, settings.keep)?;
+    let cache = Cache::new_both(alloc, store, names.session0, settings.timing);
+    Ok(Server::new(alloc, cache, most))
+}
+
+fn plan_of(settings: &Settings) -> Plan {
+    Plan {
+        check: u64::from(settings.check) * 1000,
+        stall: u64::from(settings.stall) * 1000,
+        max_age: settings.max_age,
+        stops_when_old: settings.stop_when_old,
+        once: settings.once,
+        gates: settings.listen.len(),
+    }
+}
+
+/// How many clients there may be: as many as are asked for, and as the system gives descriptors.
+fn client_limit<J: Journal>(asked: usize, now: u64, journal: &mut J) -> usize {
+    let most = descriptors().saturating_sub(OWN_DESCRIPTORS).max(1);
+    if asked > most {
+        journal.tell(
+            now,
+            &Event::Limited {
+                clients: most as u64,
+            },
+        );
+    }
+    asked.min(most)
+}
+
+/// How many descriptors the system gives this process.
+fn descriptors() -> usize {
+    let mut limit = libc::types::rlimit {
+        rlim_cur: 1024,
+        rlim_max: 1024,
+    };
+    if libc::getrlimit(libc::RLIMIT_NOFILE, &mut limit) != 0 {
+        return 1024;
+    }
+    usize::try_from(limit.rlim_cur).unwrap_or(usize::MAX)
+}
+
+fn tell_start<J: Journal>(names: Names, now: u64, journal: &mut J) {
+    journal.tell(
+        now,
+        &Event::Started {
+            session: names.session,
+            session0: names.session0,
+            serial: names.serial,
+        },
+    );
+}
+
+/// Tells why there is no start, with the status.
+fn refuse_start<R: Files + Net + Clock + AllocGlobal, E: Write>(
+    fault: &StartFault,
+    host: &mut Host<'_, R, E>,
+) -> u8 {
+    host.refuse(fault);
+    fault.refusal.status()
+}
+
+/// Serves until there is an end.
+fn go_on<R: Files + Net + Clock + AllocGlobal + Clone + Drop, E: Write>(
+    daemon: Daemon<VersionLog, Line>,
+    host: &mut Host<'_, R, E>,
+) -> u8 {
+    let mut daemon = daemon;
+    for _turn in 0..u64::MAX {
+        match daemon.turn(host) {
+            Ok(None) => {}
+            Ok(Some(end)) => return stop(end, host),
+            Err(error) => return fail(&error, host),
+        }
+    }
+    0
+}
+
+/// Tells why the daemon ends, with the status.
+fn stop<W: Time + Journal>(end: End, world: &mut W) -> u8 {
+    let (status, reason) = match end {
+        End::Once => (0, "the client has gone"),
+        End::Old => (1, "an export is older than --max-age"),
+    };
+    let now = world.seconds();
+    world.tell(now, &Event::Stopped { reason });
+    status
+}
+
+/// Tells that waiting failed, with the status.
+fn fail<W: Time + Journal>(error: &io::Error, world: &mut W) -> u8 {
+    let now = world.seconds();
+    world.tell(
+        now,
+        &Event::Stopped {
+            reason: "the system does not tell what is ready",
+        },
+    );
+    if error.kind() == ErrorKind::OutOfMemory {
+        4
+    } else {
+        3
+    }
+}
