@@ -1,0 +1,475 @@
+#!/usr/bin/env python3
+"""The daemon over sockets of this machine: what it serves, what it follows, what it refuses, and a soak.
+
+usage: tests/daemon.py PROGRAM [--seconds N] [--seed N]
+
+Routers stand here. What is waited for is a line of the daemon's log or bytes of a connection, never a time. The soak changes the list as
+long as it is told to, while clients come, go, stop reading and send rubbish; then each one that is left must hold the last list. It exits
+with 1 where something differs, and says what."""
+import argparse
+import contextlib
+import ipaddress
+import json
+import os
+import queue
+import random
+import re
+import socket
+import struct
+import subprocess
+import sys
+import tempfile
+import threading
+import time
+
+# How long anything that must come may take, in seconds.
+PATIENCE = 30
+
+NOTIFY, SERIAL_QUERY, RESET_QUERY, RESPONSE, IPV4, IPV6, END, CACHE_RESET, ERROR = 0, 1, 2, 3, 4, 6, 7, 8, 10
+
+FIRST = [("192.0.2.0/24", 24, 64496), ("198.51.100.0/24", 26, 64497), ("2001:db8::/32", 48, 64498)]
+SECOND = [("192.0.2.0/24", 25, 64496), ("2001:db8::/32", 48, 64498)]
+
+program, failed = "", 0
+
+
+def differs(what, found, wanted):
+    global failed
+    if found != wanted:
+        failed += 1
+        print(f"{what}: {found} in place of {wanted}"[:2000], flush=True)
+
+
+def text_of(records):
+    return json.dumps([{"prefix": prefix, "maxLength": most, "asn": asn} for prefix, most, asn in records])
+
+
+def put(path, text):
+    """Replaces a file at once, as validators do."""
+    with open(f"{path}.new", "w") as it:
+        it.write(text)
+    os.replace(f"{path}.new", path)
+
+
+class Daemon:
+    """The daemon in the background. Its log is read line by line."""
+
+    def __init__(self, *words, limit=None):
+        before = (lambda: limit_descriptors(limit)) if limit else None
+        self.ran = subprocess.Popen([program, *words], stdin=subprocess.DEVNULL, stdout=subprocess.PIPE, stderr=subprocess.PIPE, preexec_fn=before)
+        self.lines, self.said, self.address = queue.Queue(), [], None
+        threading.Thread(target=self.read, daemon=True).start()
+
+    def read(self):
+        for line in self.ran.stderr:
+            self.lines.put(line.decode().rstrip("\n"))
+        self.lines.put(None)
+
+    def wait(self, word, **values):
+        """The next line of that event with these values, as a table."""
+        end = time.time() + PATIENCE
+        while (left := end - time.time()) > 0:
+            try:
+                line = self.lines.get(timeout=left)
+            except queue.Empty:
+                break
+            if line is None:
+                break
+            self.said.append(line)
+            found = told(line)
+            if found.get("event") == word and all(found.get(key) == str(it) for key, it in values.items()):
+                return found
+        raise SystemExit(f"no line {word} {values} of the daemon in {PATIENCE} seconds, but:\n" + "\n".join(self.said[-20:]))
+
+    def listens(self):
+        """Waits until it is ready, and returns the port at which it listens."""
+        at = self.wait("listening")["address"]
+        self.wait("ready")
+        return int(at.rpartition(":")[2])
+
+    def end(self):
+        """Ends it, and returns its status."""
+        self.ran.terminate()
+        return self.ran.wait(PATIENCE)
+
+    def status(self):
+        return self.ran.wait(PATIENCE)
+
+
+def limit_descriptors(most):
+    import resource
+
+    resource.setrlimit(resource.RLIMIT_NOFILE, (most, most))
+
+
+def told(line):
+    """The time, the event and the values of a line of the log in text."""
+    parts = re.match(r"(\S+) (\S+)(.*)", line)
+    if not parts:
+        return {}
+    values = {key: it[1:-1] if it.startswith('"') else it for key, it in re.findall(r' ([\w-]+)=("(?:[^"\\]|\\.)*"|\S*)', parts[3])}
+    return {"time": parts[1], "event": parts[2], **values}
+
+
+@contextlib.contextmanager
+def running(*words, limit=None):
+    it = Daemon(*words, limit=limit)
+    try:
+        yield it
+    finally:
+        if it.ran.poll() is None:
+            it.ran.kill()
+        it.ran.wait()
+
+
+class Router:
+    """A router's connection, and the table that it keeps by what it was sent."""
+
+    def __init__(self, port, version=1, family=socket.AF_INET):
+        self.socket = socket.socket(family)
+        self.socket.settimeout(PATIENCE)
+        self.socket.connect(("::1" if family == socket.AF_INET6 else "127.0.0.1", port))
+        self.version, self.held = version, b""
+        self.session = self.serial = None
+        self.table = set()
+
+    def close(self):
+        self.socket.close()
+
+    def receive(self, count):
+        while len(self.held) < count:
+            piece = self.socket.recv(65536)
+            if not piece:
+                raise EOFError
+            self.held += piece
+        found, self.held = self.held[:count], self.held[count:]
+        return found
+
+    def unit(self):
+        """The next PDU: its type, the field at 2, and what follows the header."""
+        version, kind, field, length = struct.unpack("!BBHI", self.receive(8))
+        return kind, field, self.receive(length - 8)
+
+    def send(self, kind, field, rest=b""):
+        self.socket.sendall(struct.pack("!BBHI", self.version, kind, field, 8 + len(rest)) + rest)
+
+    def ask(self):
+        """Asks for what is new, takes the answer, and returns how it began."""
+        if self.session is None:
+            self.send(RESET_QUERY, 0)
+        else:
+            self.send(SERIAL_QUERY, self.session, struct.pack("!I", self.serial))
+        return self.answer()
+
+    def answer(self):
+        kind, field, rest = self.unit()
+        while kind == NOTIFY:
+            kind, field, rest = self.unit()
+        if kind == CACHE_RESET:
+            self.session = None
+            return CACHE_RESET
+        if kind == ERROR:
+            return ERROR, field
+        is_whole, session = self.session is None, field
+        table = set() if is_whole else set(self.table)
+        while True:
+            kind, field, rest = self.unit()
+            if kind == END:
+                self.session, self.serial, self.table = session, struct.unpack("!I", rest[:4])[0], table
+                return RESPONSE
+            if kind in (IPV4, IPV6):
+                take(table, kind, rest)
+
+    def wait_notify(self):
+        """Waits for a notify, and returns its serial."""
+        while True:
+            kind, _, rest = self.unit()
+            if kind == NOTIFY:
+                return struct.unpack("!I", rest)[0]
+
+    def catch_up(self):
+        """Asks until what it has is what the cache has."""
+        while self.ask() == CACHE_RESET:
+            pass
+        return self.table
+
+
+def take(table, kind, rest):
+    """Announces or withdraws a record."""
+    flags, length, most, _ = rest[:4]
+    width = 4 if kind == IPV4 else 16
+    address, asn = ipaddress.ip_address(rest[4 : 4 + width]), struct.unpack("!I", rest[4 + width :])[0]
+    record = f"{address}/{length}", most, asn
+    if flags & 1:
+        if record in table:
+            raise ValueError(f"{record} is announced twice")
+        table.add(record)
+    else:
+        table.remove(record)
+
+
+def words_and_starts():
+    """What is said to words, and to files and addresses that cannot be had."""
+    def ran(*words):
+        it = subprocess.run([program, *words], stdin=subprocess.DEVNULL, stdout=subprocess.PIPE, stderr=subprocess.PIPE, timeout=PATIENCE)
+        return it.returncode, it.stdout.decode(), it.stderr.decode()
+
+    status, out, err = ran("--help")
+    differs("--help", (status, err, "Usage: rpkirtrd" in out, "--vrps FILE" in out), (0, "", True, True))
+    status, out, err = ran("--version")
+    differs("--version", (status, bool(re.fullmatch(r"rpkirtrd \d+\.\d+\.\d+\n", out)), err), (0, True, ""))
+    for words in ["", "--vrps list.json --check 0", "--vrps list.json --keep 65537", "--vrps list.json --once --once", "--vrps list.json --listen 127.0.0.1", "list.json"]:
+        status, out, err = ran(*words.split())
+        differs(words, (status, out, err.startswith("rpkirtrd: ")), (2, "", True))
+    free = "--listen 127.0.0.1:0 --vrps"
+    status, out, err = ran(*free.split(), "nothing.json")
+    differs("a file that is not there", (status, "nothing.json" in err), (3, True))
+    put("bad.json", '{"roas": [{"asn": 64496, "prefix": "192.0.2.0/24", "maxLength": 24}, {"asn": "AS01", "prefix": "192.0.2.0/24", "maxLength": 24}]}')
+    status, out, err = ran(*free.split(), "bad.json")
+    differs("a file that is refused", (status, "bad.json: entry 1 of roas cannot be read: asn is no AS number" in err), (1, True))
+    with socket.create_server(("127.0.0.1", 0)) as taken:
+        at = f"127.0.0.1:{taken.getsockname()[1]}"
+        status, out, err = ran("--listen", at, "--vrps", "list.json")
+        differs("an address that is in use", (status, at in err), (3, True))
+
+
+def tables():
+    """The whole table in both versions, and a change without a new connection."""
+    put("list.json", text_of(FIRST))
+    with running("--vrps", "list.json", "--listen", "127.0.0.1:0", "--session", "4660", "--session0", "4661", "--start", "5", "--check", "1", "--keep", "2") as daemon:
+        port = daemon.listens()
+        one, zero = Router(port), Router(port, version=0)
+        for router, session in (one, 4660), (zero, 4661):
+            differs("the first answer", (router.ask(), router.session, router.serial, router.table), (RESPONSE, session, 5, set(FIRST)))
+        raw = Router(port)
+        raw.send(RESET_QUERY, 0)
+        wanted = "0103123400000008" + "010400000000001401181800c00002000000fbf0" + "010400000000001401181a00c63364000000fbf1"
+        wanted += "01060000000000200120300020010db80000000000000000000000000000fbf2" + "01071234000000180000000500000e100000025800001c20"
+        differs("the bytes of an answer", raw.receive(len(wanted) // 2).hex(), wanted)
+        put("list.json", text_of(SECOND))
+        differs("what is published", daemon.wait("published", serial=6)["announced"], "1")
+        for router in one, zero:
+            differs("the notify", router.wait_notify(), 6)
+            differs("the change", (router.ask(), router.serial, router.table), (RESPONSE, 6, set(SECOND)))
+        for serial in range(7, 10):
+            put("list.json", text_of(FIRST if serial % 2 else SECOND))
+            daemon.wait("published", serial=serial)
+        differs("a serial that is not kept", (raw_serial(port, 4660, 5), raw_serial(port, 4660, 7)), (CACHE_RESET, RESPONSE))
+        differs("the end by a signal", daemon.end(), -15)
+
+
+def raw_serial(port, session, serial):
+    router = Router(port)
+    router.session, router.serial, router.table = session, serial, set(FIRST) | set(SECOND)
+    router.send(SERIAL_QUERY, session, struct.pack("!I", serial))
+    return router.unit()[0]
+
+
+def refused_files():
+    """Files that cannot be taken leave what is served, are told once at their second look, and are taken again."""
+    put("list.json", text_of(FIRST))
+    with running("--vrps", "list.json", "--listen", "127.0.0.1:0", "--check", "1") as daemon:
+        port = daemon.listens()
+        for text in "[{", "", '{"roas": 1}':
+            put("list.json", text)
+            daemon.wait("refused", file="list.json")
+            differs("what is served meanwhile", Router(port).catch_up(), set(FIRST))
+            put("list.json", text_of(FIRST))
+            daemon.wait("taken", file="list.json")
+        os.remove("list.json")
+        daemon.wait("refused", file="list.json")
+        os.mkdir("list.json")
+        os.rmdir("list.json")
+        put("list.json", text_of(SECOND))
+        daemon.wait("taken", file="list.json")
+        daemon.wait("published", records=2)
+        differs("what is served behind", Router(port).catch_up(), set(SECOND))
+        refusals = [it for it in daemon.said if " refused " in it]
+        differs("how often a refusal is told", len(refusals), 4)
+
+
+def sources():
+    """Several files, local exceptions, and entries that expire."""
+    put("list.json", text_of(FIRST))
+    until = int(time.time()) + 4
+    export = {"metadata": {"generated": until}, "roas": [{"asn": "AS64500", "prefix": "203.0.113.0/24", "maxLength": 24, "ta": "x", "expires": until}]}
+    put("export.json", json.dumps(export))
+    slurm = {
+        "slurmVersion": 1,
+        "validationOutputFilters": {"prefixFilters": [{"asn": 64497}], "bgpsecFilters": []},
+        "locallyAddedAssertions": {"prefixAssertions": [{"asn": 64501, "prefix": "10.0.0.0/8", "maxPrefixLength": 9}], "bgpsecAssertions": []},
+    }
+    put("slurm.json", json.dumps(slurm))
+    kept = {it for it in FIRST if it[2] != 64497} | {("10.0.0.0/8", 9, 64501)}
+    with running("--vrps", "list.json", "--vrps", "export.json", "--slurm", "slurm.json", "--listen", "[::1]:0", "--listen", "127.0.0.1:0", "--check", "1") as daemon:
+        port = int(daemon.wait("listening")["address"].rpartition(":")[2])
+        daemon.wait("ready")
+        router = Router(port, family=socket.AF_INET6)
+        differs("all sources", router.catch_up(), kept | {("203.0.113.0/24", 24, 64500)})
+        daemon.wait("published", withdrawn=1)
+        router.wait_notify()
+        differs("an entry that has expired", router.catch_up(), kept)
+        put("slurm.json", "{}")
+        daemon.wait("refused", file="slurm.json")
+        slurm["validationOutputFilters"]["prefixFilters"] = []
+        put("slurm.json", json.dumps(slurm))
+        daemon.wait("published", announced=1)
+        router.wait_notify()
+        differs("other exceptions", router.catch_up(), kept | set(FIRST))
+
+
+def restarts():
+    """A restart keeps the session, and no serial comes again; a router keeps its table until it has the new one."""
+    put("list.json", text_of(FIRST))
+    names = []
+    for records in FIRST, SECOND, FIRST:
+        put("list.json", text_of(records))
+        with running("--vrps", "list.json", "--listen", "127.0.0.1:0", "--check", "1") as daemon:
+            started = daemon.wait("started")
+            port = daemon.listens()
+            router = Router(port)
+            if names:
+                router.session, router.serial = names[-1]
+                differs("a serial from before the restart", router.ask(), CACHE_RESET)
+            router.catch_up()
+            differs("the table behind a restart", router.table, set(records))
+            names.append((router.session, router.serial))
+            differs("the session told", int(started["session"]), router.session)
+            daemon.end()
+    differs("the sessions", len({session for session, _ in names}), 1)
+    serials = [serial for _, serial in names]
+    differs("the serials", serials, sorted(set(serials)))
+
+
+def limits():
+    """Too many clients, clients that take nothing, rubbish, and a daemon for one client."""
+    many = [(f"{ipaddress.ip_address(10 * 2**24 + 256 * it)}/24", 24, 64496) for it in range(60000)]
+    put("list.json", text_of(many))
+    with running("--vrps", "list.json", "--listen", "127.0.0.1:0", "--clients", "2", "--stall", "1", "--check", "1") as daemon:
+        port = daemon.listens()
+        slow = socket.socket()
+        slow.setsockopt(socket.SOL_SOCKET, socket.SO_RCVBUF, 4096)
+        slow.connect(("127.0.0.1", port))
+        slow.sendall(bytes.fromhex("0102000000000008"))
+        daemon.wait("client-came")
+        other = Router(port)
+        daemon.wait("client-came")
+        third = Router(port)
+        daemon.wait("full")
+        differs("a client too many", third.socket.recv(100), b"")
+        daemon.wait("stalled")
+        daemon.wait("client-gone", why="stalled")
+        differs("a client beside one that reads nothing", len(other.catch_up()), len(many))
+        rubbish = Router(port)
+        rubbish.socket.sendall(b"GET / HTTP/1.0\r\n\r\n")
+        kind, code, _ = rubbish.unit()
+        differs("the answer to rubbish", (kind, code), (ERROR, 4))
+        differs("its end", rubbish.socket.recv(100), b"")
+        daemon.wait("client-gone", why="ended")
+        differs("a client beside rubbish", other.ask(), RESPONSE)
+        slow.close()
+    with running("--vrps", "list.json", "--listen", "127.0.0.1:0", "--once", "--log", "json") as daemon:
+        lines = []
+        while not lines or json.loads(lines[-1])["event"] != "ready":
+            lines.append(daemon.lines.get(timeout=PATIENCE))
+        port = int(next(json.loads(it)["address"] for it in lines if json.loads(it)["event"] == "listening").rpartition(":")[2])
+        with contextlib.closing(Router(port)) as router:
+            differs("a daemon for one client", len(router.catch_up()), len(many))
+        differs("its end", daemon.status(), 0)
+
+
+def full_descriptors():
+    """Connections that wait for descriptors are taken as soon as there are some."""
+    put("list.json", text_of(FIRST))
+    with running("--vrps", "list.json", "--listen", "127.0.0.1:0", "--check", "1", limit=24) as daemon:
+        most = int(daemon.wait("limited")["clients"])
+        differs("the clients that descriptors allow", most, 8)
+        port = daemon.listens()
+        routers = [Router(port) for _ in range(most)]
+        for router in routers:
+            differs("a router within the limit", router.catch_up(), set(FIRST))
+        last = Router(port)
+        daemon.wait("full")
+        differs("one too many", last.socket.recv(100), b"")
+        routers.pop().close()
+        daemon.wait("client-gone")
+        differs("one more behind", Router(port).catch_up(), set(FIRST))
+
+
+class Crowd:
+    """Clients that come, go, stop reading and send rubbish, while the list changes."""
+
+    def __init__(self, port, seed):
+        self.port, self.random = port, random.Random(seed)
+        self.routers, self.lazy, self.came = [], [], 0
+
+    def step(self):
+        """Something of what clients do."""
+        what = self.random.random()
+        if len(self.routers) < 50 and what < 0.5:
+            self.routers.append(Router(self.port, version=self.random.randrange(2)))
+            self.came += 1
+        elif self.routers and what < 0.6:
+            self.routers.pop(self.random.randrange(len(self.routers))).close()
+        elif what < 0.65:
+            self.rubbish()
+        elif what < 0.7 and len(self.lazy) < 5:
+            it = Router(self.port)
+            it.send(RESET_QUERY, 0)
+            self.lazy.append(it)
+        elif self.routers:
+            self.random.choice(self.routers).catch_up()
+
+    def rubbish(self):
+        with contextlib.suppress(OSError), contextlib.closing(Router(self.port)) as it:
+            it.socket.sendall(self.random.randbytes(self.random.randrange(1, 100)))
+            it.socket.shutdown(socket.SHUT_WR)
+            while it.socket.recv(65536):
+                pass
+
+
+def soak(seconds, seed):
+    """Changes the list as long as it may, and compares all tables then."""
+    pool = [(f"{ipaddress.ip_address(10 * 2**24 + 256 * it)}/24", 24, 64496 + it % 7) for it in range(3000)]
+    choice = random.Random(seed)
+    put("list.json", text_of(pool[:1000]))
+    with running("--vrps", "list.json", "--listen", "127.0.0.1:0", "--check", "1", "--keep", "4") as daemon:
+        port = daemon.listens()
+        crowd, versions, end = Crowd(port, seed), 0, time.time() + seconds
+        records = pool[:1000]
+        while time.time() < end:
+            records = choice.sample(pool, choice.randrange(500, 1500))
+            put("list.json", text_of(records))
+            daemon.wait("published", records=len(records))
+            versions += 1
+            for _ in range(20):
+                crowd.step()
+        for router in crowd.routers:
+            differs(f"a table at the end (seed {seed})", router.catch_up() == set(records), True)
+        differs("the daemon at the end", daemon.ran.poll(), None)
+        print(f"soak: {versions} versions, {crowd.came} routers came, {len(crowd.routers)} hold the last list", flush=True)
+
+
+def main():
+    global program
+    words = argparse.ArgumentParser()
+    words.add_argument("program")
+    words.add_argument("--seconds", type=float, default=20)
+    words.add_argument("--seed", type=int, default=random.randrange(2**32))
+    given = words.parse_args()
+    program = os.path.abspath(given.program)
+    with tempfile.TemporaryDirectory() as folder:
+        os.chdir(folder)
+        put("list.json", text_of(FIRST))
+        for part in words_and_starts, tables, refused_files, sources, restarts, limits, full_descriptors:
+            began = time.time()
+            part()
+            print(f"{part.__name__}: {time.time() - began:.1f} s", flush=True)
+        soak(given.seconds, given.seed)
+        os.chdir("/")
+    print(f"{failed} failed" if failed else "all as wanted")
+    sys.exit(1 if failed else 0)
+
+
+if __name__ == "__main__":
+    main()
