@@ -1,7 +1,7 @@
 //! A connection of a socket.
 use mio::net::TcpStream;
 use rtr_server::{Moved, Stream};
-use std::io::{self, ErrorKind, Read, Write};
+use std::io::{ErrorKind, Read, Write};
 use std::os::fd::AsRawFd;
 
 /// How many bytes the system keeps for a router that does not read, before it would wait.
@@ -40,15 +40,6 @@ fn is_bounded(stream: &TcpStream) -> bool {
     status == 0
 }
 
-/// What an error of a socket says.
-fn moved_of(error: &io::Error) -> Moved {
-    match error.kind() {
-        ErrorKind::WouldBlock => Moved::Waits,
-        ErrorKind::Interrupted => Moved::Interrupted,
-        _ => Moved::Failed,
-    }
-}
-
 impl Stream for Line {
     ghost use Rattle.std.specs.Prelude.{Option};
 
@@ -61,14 +52,22 @@ impl Stream for Line {
     fn read(&mut self, buf: &mut [u8]) -> Moved {
         match self.stream.read(buf) {
             Ok(n) => Moved::Bytes(n),
-            Err(error) => moved_of(&error),
+            Err(error) => match error.kind() {
+                ErrorKind::WouldBlock => Moved::Waits,
+                ErrorKind::Interrupted => Moved::Interrupted,
+                _ => Moved::Failed,
+            },
         }
     }
 
     fn write(&mut self, buf: &[u8]) -> Moved {
         match self.stream.write(buf) {
             Ok(n) => Moved::Bytes(n),
-            Err(error) => moved_of(&error),
+            Err(error) => match error.kind() {
+                ErrorKind::WouldBlock => Moved::Waits,
+                ErrorKind::Interrupted => Moved::Interrupted,
+                _ => Moved::Failed,
+            },
         }
     }
 }

@@ -138,8 +138,8 @@ fn server_of(
 
 fn plan_of(settings: &Settings) -> Plan {
     Plan {
-        check: u64::from(settings.check) * 1000,
-        stall: u64::from(settings.stall) * 1000,
+        check: u64::from(settings.check).saturating_mul(1000),
+        stall: u64::from(settings.stall).saturating_mul(1000),
         max_age: settings.max_age,
         stops_when_old: settings.stop_when_old,
         once: settings.once,
