@@ -325,8 +325,9 @@ def restarts():
     for records in FIRST, SECOND, FIRST:
         put("list.json", text_of(records))
         with running("--vrps", "list.json", "--listen", "127.0.0.1:0", "--check", "1") as daemon:
+            port = int(daemon.wait("listening")["address"].rpartition(":")[2])
             started = daemon.wait("started")
-            port = daemon.listens()
+            daemon.wait("ready")
             router = Router(port)
             if names:
                 router.session, router.serial = names[-1]
@@ -382,9 +383,10 @@ def full_descriptors():
     """Connections that wait for descriptors are taken as soon as there are some."""
     put("list.json", text_of(FIRST))
     with running("--vrps", "list.json", "--listen", "127.0.0.1:0", "--check", "1", limit=24) as daemon:
+        port = int(daemon.wait("listening")["address"].rpartition(":")[2])
         most = int(daemon.wait("limited")["clients"])
         differs("the clients that descriptors allow", most, 8)
-        port = daemon.listens()
+        daemon.wait("ready")
         routers = [Router(port) for _ in range(most)]
         for router in routers:
             differs("a router within the limit", router.catch_up(), set(FIRST))

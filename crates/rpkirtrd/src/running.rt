@@ -57,9 +57,10 @@ fn no_pages<E: Write>(err: &mut E) -> u8 {
     2
 }
 
-/// Prints a text and a newline, with the status.
+/// Prints a text, with a newline at its end, with the status.
 fn print<O: Write>(text: &str, out: &mut O) -> u8 {
-    if writeln!(out, "{text}").is_err() {
+    let newline = if text.ends_with('\n') { "" } else { "\n" };
+    if write!(out, "{text}{newline}").is_err() {
         return 3;
     }
     0
