@@ -58,7 +58,7 @@ fn push_choices(text: &mut String, choices: &[Choice]) -> Result<(), AllocError>
     Ok(())
 }
 
-/// The text of `--help`, without the newline at its end.
+/// The text of `--help`.
 pub(crate) fn help(alloc: Global) -> Result<String, AllocError> {
     let mut text = String::from_str(alloc, HEAD)?;
     for matter in &MATTERS {

@@ -19,9 +19,9 @@ use std::net::{IpAddr, Ipv4Addr, SocketAddr};
 pub enum Asked {
     /// A run under these settings.
     Serve(Settings),
-    /// The help, without a newline at its end.
+    /// The help.
     Help(String),
-    /// The program's name and version, without a newline at its end.
+    /// The program's name and version.
     Version(String),
 }
 
