@@ -1,12 +1,13 @@
 #!/usr/bin/env python3
 """Real peers over loopback: routers that ask our cache, caches that our router asks, and validators of the same signed objects.
 
-usage: tests/peers.py PROGRAM
+usage: tests/peers.py PROGRAM DAEMON
 
 For each peer that is installed its own view of its table is read and compared with the list that was served: after a Reset Query, after
 the cache was started again with the next serial and another list, after it was started with another session, and, where the peer is the
 cache, after it changed its list. Validators are given a small repository that is signed here; what is taken out of its objects is handed
-to `payloads`, which must give the same. It prints a
+to `payloads`, which must give the same. Behind these all routers at once hold what the daemon serves, and what it serves when its file has
+changed, on the connections that they have; and a router keeps its table while the daemon is started again. It prints a
 table of what was tried, and exits with 1 where a view differs. All is bounded in time, on ports of 127.0.0.1 that the system chose."""
 import contextlib
 import ipaddress
@@ -170,10 +171,10 @@ protocol rpki cache {{
 
 
 @contextlib.contextmanager
-def bird(port):
-    name = write("bird.conf", BIRD.format(port=port))
-    with running("bird", "-f", "-c", name, "-s", "bird.ctl", "-P", "bird.pid"):
-        tables = lambda: "".join(said("birdc", "-s", "bird.ctl", "show", "route", "table", it) for it in ("r4", "r6"))
+def bird(port, own="bird"):
+    name = write(f"{own}.conf", BIRD.format(port=port))
+    with running("bird", "-f", "-c", name, "-s", f"{own}.ctl", "-P", f"{own}.pid"):
+        tables = lambda: "".join(said("birdc", "-s", f"{own}.ctl", "show", "route", "table", it) for it in ("r4", "r6"))
         yield lambda: records_in(r"(?m)^(\S+)/(\d+)-(\d+) AS(\d+)", tables())
 
 
@@ -223,6 +224,10 @@ def openbgpd(port):
             return (int(found[1]), int(found[2])) if found else None
 
         yield view
+
+
+def second_bird(port):
+    return bird(port, "second")
 
 
 def counted(records):
@@ -372,8 +377,84 @@ ROUTERS = {
 }
 
 
-def main(program):
-    ours, rows = Ours(os.path.abspath(program)), []
+# ---- the daemon
+
+
+def put(records):
+    """Replaces the daemon's file at once, as validators do."""
+    os.replace(write("daemon.new", exported(records)), "daemon.json")
+
+
+def awaited_log(word, count):
+    """Waits until the daemon's log has so many lines of this event, and returns the values of the last one."""
+    end = time.time() + PATIENCE
+    while time.time() < end:
+        with open("rpkirtrd.log") as it:
+            lines = [line for line in it if f" {word} " in line or line.rstrip().endswith(f" {word}")]
+        if len(lines) >= count:
+            return dict(re.findall(r"(\S+)=(\S+)", lines[-1]))
+        time.sleep(0.1)
+    raise SystemExit(f"the daemon's log has no {count} lines {word}")
+
+
+def came():
+    with open("rpkirtrd.log") as it:
+        return sum(" client-came " in line for line in it)
+
+
+def followed(program):
+    """All routers at once: what each holds of the first list, and of the next on the connection that it has; and whether one keeps its table
+    while the daemon is started again."""
+    put(FIRST)
+    port, rows = free_port(), {}
+    words = [program, "--vrps", "daemon.json", "--listen", f"127.0.0.1:{port}", "--check", "1"]
+    with contextlib.ExitStack() as stack:
+        with running(*words):
+            awaited_log("ready", 1)
+            views = {name: (stack.enter_context(peer(port)), counts) for name, (_, command, peer, counts) in DAEMON_ROUTERS.items() if shutil.which(command)}
+            for name, (view, counts) in views.items():
+                rows[name] = [compared(name, view, FIRST, counts)]
+            stay = {name: it for name, it in views.items() if name not in ASKS_ONCE}
+            before = came()
+            put(SECOND)
+            awaited_log("published", 2)
+            for name, (view, counts) in stay.items():
+                rows[name].append(compared(name, view, SECOND, counts))
+            if came() != before:
+                print(f"{came() - before} routers connected again")
+                rows = {name: [*row, "DIFFERS"] for name, row in rows.items()}
+            for name, (view, counts) in views.items():
+                if name in ASKS_ONCE:
+                    rows[name].append(compared(name, view, SECOND, counts))
+        if "bird" in views:
+            rows["bird"].append(restarted(words, views["bird"][0]))
+    return rows
+
+
+def restarted(words, view):
+    """Whether a router holds its table all the time while the daemon is started again, and comes over to its next list."""
+    shown, begun = [], time.time()
+    with running(*words):
+        put(FIRST)
+        while time.time() < begun + PATIENCE:
+            shown.append(view())
+            if shown[-1] == sorted(FIRST):
+                break
+            time.sleep(0.2)
+    if shown[-1] == sorted(FIRST) and all(it in (sorted(FIRST), sorted(SECOND)) for it in shown):
+        return "agrees"
+    print(f"bird while the daemon is started again: {[it for it in shown if it not in (sorted(FIRST), sorted(SECOND))][:1]}, at last {shown[-1]}")
+    return "DIFFERS"
+
+
+DAEMON_ROUTERS = {**ROUTERS, "second bird": ("bird2", "bird", second_bird, False)}
+
+# These connect anew each time.
+ASKS_ONCE = {"rtrclient", "rtrdump", "rtrdump v0"}
+
+
+def main(program, daemon):
+    ours, rows, daemon = Ours(os.path.abspath(program)), [], os.path.abspath(daemon)
     with tempfile.TemporaryDirectory() as folder:
         os.chmod(folder, 0o755)
         os.chdir(folder)
@@ -395,11 +476,15 @@ def main(program):
             rows.append(("rpki-client", "validator", rpki_client(ours), "-", "-"))
         else:
             print("skipped: rpki-client is not installed")
+        together = followed(daemon)
         os.chdir("/")
     for row in [("peer", "is a", "first table", "next serial", "new session"), *rows]:
         print("".join(f"{it:<14}" for it in row).rstrip())
-    return 1 if any("DIFFERS" in row for row in rows) else 0
+    print("all at once, by the daemon: the first list, the next one on the same connection, a restart")
+    for name, row in together.items():
+        print("".join(f"{it:<14}" for it in (name, *row)).rstrip())
+    return 1 if any("DIFFERS" in row for row in [*rows, *together.values()]) else 0
 
 
 if __name__ == "__main__":
-    sys.exit(main(sys.argv[1]))
+    sys.exit(main(*sys.argv[1:]))

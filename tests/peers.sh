@@ -12,4 +12,5 @@ elif [ $# -gt 0 ]; then
 fi
 "$top/run" roa /dev/null >/dev/null 2>&1
 [ $? -eq 1 ] || exit 1
-exec timeout 300 python3 "$top/tests/peers.py" "$top/crates/rpkirtr/out/rpkirtr"
+"$top/rpkirtrd" --version >/dev/null || exit 1
+exec timeout 600 python3 "$top/tests/peers.py" "$top/crates/rpkirtr/out/rpkirtr" "$top/crates/rpkirtrd/out/rpkirtrd"
