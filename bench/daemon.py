@@ -4,8 +4,8 @@
 usage: bench/daemon.py DAEMON [RECORDS]
 
 With 500,000 records, or as many as are said: 100 routers that connect at once until each has the table; 1,000 idle routers, and what each
-takes of memory; a version of 1,000 changes, from the first notify until each of these has it; 10 routers beside 100 that read a byte a
-second. All routers stand in one process, so what they take is in each wall time; the processor time is the server's own. StayRTR is asked by
+takes of memory; a version of 1,000 changes, from the first notify until each of these has it; 10 routers beside 100 that read one byte
+and no more. All routers stand in one process, so what they take is in each wall time; the processor time is the server's own. StayRTR is asked by
 one router. It prints a table in Markdown."""
 import os
 import resource
@@ -143,7 +143,7 @@ def main(daemon, count=500_000):
             it.setsockopt(socket.SOL_SOCKET, socket.SO_RCVBUF, 4096)
             it.sendall(measure.RESET)
             it.recv(1)
-        rows.append(("10 at once beside 100 that read a byte a second", pair(at_once(ours.pid, port, 10, len(data))), ""))
+        rows.append(("10 at once beside 100 that read a byte and no more", pair(at_once(ours.pid, port, 10, len(data))), ""))
         for it in slow:
             it.close()
         time.sleep(1)
