@@ -1,9 +1,9 @@
 -- Bytes that are counted, PDU by PDU and byte by byte.
-use Rattle.std.specs.Prelude.{◌≡◌, ℕ, ◌-◌, ◌+◌, ◌<◌, ◌≤◌, ◌^◌, ◌==◌, Bool, true, false, nat_le, nat_lt, ◌&&◌, List, [], ◌∷◌, ◌++◌, length, take, drop, max, slice_index, slice_set, Option, Some, if◌then◌else◌, refl}
+use Rattle.std.specs.Prelude.{◌≡◌, ℕ, ◌-◌, ◌+◌, ◌*◌, ◌<◌, ◌≤◌, ◌^◌, ◌==◌, Bool, true, false, nat_le, nat_lt, ◌&&◌, List, [], ◌∷◌, ◌++◌, length, take, drop, max, slice_index, slice_set, Option, Some, if◌then◌else◌, refl}
 use Rattle.std.proofs.Common.{zero, suc, sym, ap, ◌∙◌, arith, append_assoc, inl, inr}
 use Rattle.std.proofs.lemmas.Bool.{cases_lt}
 use Rattle.byteorder.specs.Numbers.{big_from-append}
-use Rattle.std.proofs.lemmas.List.{length-append, length-take, length-take-le, take-append-drop, take-append-le, take_all, take_more_set, drop-append-le, length-drop}
+use Rattle.std.proofs.lemmas.List.{length-append, length-take, length-take-le, take-append-drop, take-append-le, take_all, take_more_set, drop-append-le, drop-drop, length-drop}
 use Rattle.std.proofs.Math.Seq.{take-append_seam}
 use Rattle.std.proofs.lemmas.Bool.Decides.{nat_tests}
 use Rattle.prefixes.proofs.Basics.{eq_of}
@@ -15,6 +15,7 @@ use Rattle.rtr_pdu.specs.declared.kind.Kind.TheVariants as kinds
 use Rattle.vrps.specs.declared.serial.Serial.{Serial}
 use Rattle.rtr_server.specs.declared.tally.Pdus.{Pdus}
 use Rattle.rtr_server.specs.Counting.{Counted, and_byte, and_many, and_pdu, and_pdus, and_whole, capped, counted_on, serial_after, told_len}
+use Rattle.rtr_server.specs.Runs.{ShowsHeader, length_in, type_in}
 
 -- the first bytes, with the next one among them or behind them
 front_put : (front : List ℕ) (came b : ℕ) → length front ≡ 12 → take (capped (came + 1)) (if nat_lt came 12 then slice_set front came b else front) ≡ take 12 (take came front ++ b ∷ [])
@@ -194,10 +195,6 @@ shorter piece len told fits =
     let e = eight (length_of piece) len (sym told) in
     omega (arith, l, k, e, fits)
 
--- the length that is told behind a header that tells the same number
-pub told_alike : (len n : ℕ) (piece rest : List ℕ) → len ≡ told_len piece → n ≡ length_of piece → length_of rest ≡ n → len ≡ told_len rest
-told_alike len n piece rest told at_first here = told ∙ ap (λ k. max k 8) (sym at_first ∙ sym here)
-
 -- no End of Data
 other_serial : (bytes : List ℕ) (len : ℕ) (last : Option Serial) → ¬ (type_of bytes ≡ 7) → serial_after bytes len last ≡ last
 other_serial bytes len last other = by_test (type_of bytes == 7) refl
@@ -227,8 +224,30 @@ one_run c piece len none zero_came is fits low other =
     let of : Option Serial → Counted = λ serial. record { pdus = and_pdus 1 (type_of piece) c.pdus; serial = serial; front = []; came = 0 } in
     whole_counts c piece len none zero_came is fits low ∙ ap (λ s. counted_on (of s) (drop len piece)) (other_serial piece len c.serial other)
 
--- and one more
-pub more_run : (c : Counted) (piece rest : List ℕ) (len n type : ℕ) → len ≡ told_len rest → len ≤ length rest → len < 2 ^ 64 → type_of rest ≡ type → ¬ (type ≡ 7) → counted_on c piece ≡ counted_on (and_many n type c) rest
-    → counted_on c piece ≡ counted_on (and_many (n + 1) type c) (drop len rest)
-more_run c piece rest len n type is fits low same other so_far =
-    so_far ∙ whole_counts (and_many n type c) rest len refl refl is fits low ∙ ap (λ x. counted_on x (drop len rest)) (many_more rest len n type c same other)
+-- one more of a run, at a place
+pub passes_at : (bytes : List ℕ) (head len from to n more : ℕ) (c : Counted) → len ≡ max (length_in head) 8 → ¬ (type_in head ≡ 7) → to ≡ from + len → to ≤ length bytes → more ≡ n + 1 → ShowsHeader head (drop from bytes)
+    → counted_on (and_many n (type_in head) c) (drop from bytes) ≡ counted_on (and_many more (type_in head) c) (drop to bytes)
+passes_at bytes head len from to n more c told other next fits one shows =
+    let l = length-drop from bytes in
+    let told_here : len ≡ told_len (drop from bytes) = told ∙ ap (λ k. max k 8) (sym shows.1) in
+    whole_counts (and_many n (type_in head) c) (drop from bytes) len refl refl told_here (omega (arith, l, next, fits)) (omega (arith, told))
+    ∙ ap (λ x. counted_on x (drop len (drop from bytes))) (many_more (drop from bytes) len n (type_in head) c shows.0 other)
+    ∙ ap (counted_on (and_many (n + 1) (type_in head) c)) (drop-drop len from bytes)
+    ∙ (λ i. counted_on (and_many (sym one i) (type_in head) c) (drop (sym next i) bytes))
+
+pub passes_one : (bytes : List ℕ) (head len n : ℕ) (c : Counted) → len ≡ max (length_in head) 8 → ¬ (type_in head ≡ 7) → len ≤ length bytes → ShowsHeader head bytes
+    → counted_on (and_many n (type_in head) c) bytes ≡ counted_on (and_many (n + 1) (type_in head) c) (drop len bytes)
+passes_one bytes head len n c told other fits shows = passes_at bytes head len 0 len n (n + 1) c told other (omega arith) fits refl shows
+
+pub passes_four : (bytes : List ℕ) (head len n : ℕ) (c : Counted) → len ≡ max (length_in head) 8 → ¬ (type_in head ≡ 7) → 4 * len ≤ length bytes
+    → ShowsHeader head bytes → ShowsHeader head (drop len bytes) → ShowsHeader head (drop (2 * len) bytes) → ShowsHeader head (drop (3 * len) bytes)
+    → counted_on (and_many n (type_in head) c) bytes ≡ counted_on (and_many (n + 4) (type_in head) c) (drop (4 * len) bytes)
+passes_four bytes head len n c told other fits first second third fourth =
+    passes_at bytes head len 0 len n (n + 1) c told other (omega arith) (omega (arith, fits)) refl first
+    ∙ passes_at bytes head len len (2 * len) (n + 1) (n + 2) c told other (omega arith) (omega (arith, fits)) (omega arith) second
+    ∙ passes_at bytes head len (2 * len) (3 * len) (n + 2) (n + 3) c told other (omega arith) (omega (arith, fits)) (omega arith) third
+    ∙ passes_at bytes head len (3 * len) (4 * len) (n + 3) (n + 4) c told other (omega arith) fits (omega arith) fourth
+
+-- Two equal numbers are one header, and two equal lists show one.
+pub shows_as : (head other : ℕ) (bytes same : List ℕ) → head ≡ other → bytes ≡ same → ShowsHeader head bytes → ShowsHeader other same
+shows_as head other bytes same heads is shows = (ap type_of (sym is) ∙ shows.0 ∙ ap type_in heads, ap length_of (sym is) ∙ shows.1 ∙ ap length_in heads)

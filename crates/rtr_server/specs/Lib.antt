@@ -1,4 +1,5 @@
 pub mod Clients
 pub mod Counting
+pub mod Runs
 pub mod Streams
 pub mod Turns

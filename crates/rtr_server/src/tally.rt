@@ -1,7 +1,8 @@
 //! How many PDUs of each type went one way, as their headers tell it (RFC 6810 section 5, RFC 8210 section 5).
-ghost use Rattle.std.specs.Prelude.{◌≡◌, ◌+◌, ◌≤◌, ◌<◌, ◌-◌, ◌++◌, ◌∷◌, [], ◌&&◌, IfSome, length, min, take, drop, nat_le, nat_lt, slice_set, if◌then◌else◌, true};
-ghost use Rattle.rtr_pdu.specs.Stream.{length_of, type_of};
+ghost use Rattle.std.specs.Prelude.{◌≡◌, ◌+◌, ◌≤◌, ◌<◌, ◌-◌, ◌*◌, ◌^◌, ◌++◌, ◌∷◌, [], ◌&&◌, IfSome, length, max, min, take, drop, nat_le, nat_lt, slice_set, if◌then◌else◌, true};
+ghost use Rattle.rtr_pdu.specs.Stream.{type_of};
 ghost use Rattle.rtr_server.specs.Counting.{Counted, and_byte, and_many, and_pdu, and_pdus, and_whole, capped, count_of, counted_on, none_counted, serial_after, told_len};
+ghost use Rattle.rtr_server.specs.Runs.{PassesMany, ShowsHeader, length_in, type_in};
 
 use byteorder::{BigEndian, ByteOrder};
 use rtr_pdu::Kind;
@@ -228,17 +229,81 @@ fn told_len(front: &[u8]) -> u64
     u64::from(BigEndian::read_u32(&front[4..])).max(8)
 }
 
-/// Whether a PDU of this length and type, whose header tells this number, stands whole in front of these bytes.
-fn is_alike(bytes: &[u8], len: usize, kind: u8, told: u32) -> bool
-    requires { 8 ≤ len }
-    ensures fits { result ≡ true → len ≤ length bytes.now }
-    ensures kind { result ≡ true → type_of bytes.now ≡ kind }
-    ensures told { result ≡ true → length_of bytes.now ≡ told }
+/// The header in front of these bytes, as the number of its 64 bits.
+fn header(bytes: &[u8]) -> u64
+    requires { 8 ≤ length bytes.now }
+    ensures { ShowsHeader result bytes.now }
 {
-    bytes.len() >= len && bytes[1] == kind && BigEndian::read_u32(&bytes[4..]) == told
+    BigEndian::read_u64(bytes)
 }
 
-/// How many PDUs of the type and length of the first stand one behind the other in front of these bytes, and what is left behind them.
+/// Whether this header stands at a place of these bytes.
+fn shows_at(bytes: &[u8], at: usize, head: u64) -> bool
+    requires { at + 8 ≤ length bytes.now }
+    ensures { result ≡ true → ShowsHeader head (drop at bytes.now) }
+{
+    header(&bytes[at..]) == head
+}
+
+/// Whether a PDU of this length and this header stands whole in front of these bytes.
+fn is_alike(bytes: &[u8], len: usize, head: u64) -> bool
+    requires { 8 ≤ len }
+    ensures fits { result ≡ true → len ≤ length bytes.now }
+    ensures shows { result ≡ true → ShowsHeader head bytes.now }
+{
+    bytes.len() >= len && shows_at(bytes, 0, head)
+}
+
+/// Whether four of them stand there.
+fn are_four(bytes: &[u8], len: usize, head: u64) -> bool
+    requires least { 8 ≤ len }
+    requires most { len < 2 ^ 32 }
+    ensures fits { result ≡ true → 4 * len ≤ length bytes.now }
+    ensures first { result ≡ true → ShowsHeader head bytes.now }
+    ensures second { result ≡ true → ShowsHeader head (drop len bytes.now) }
+    ensures third { result ≡ true → ShowsHeader head (drop (2 * len) bytes.now) }
+    ensures fourth { result ≡ true → ShowsHeader head (drop (3 * len) bytes.now) }
+{
+    bytes.len() >= 4 * len
+        && shows_at(bytes, 0, head)
+        && shows_at(bytes, len, head)
+        && shows_at(bytes, 2 * len, head)
+        && shows_at(bytes, 3 * len, head)
+}
+
+/// How many PDUs of this length and this header stand in front of these bytes, by fours, and what is left behind them.
+fn fours_of(piece: &[u8], len: usize, head: u64) -> (u64, &[u8])
+    requires told { len ≡ max (length_in head) 8 }
+    requires kind { ¬ (type_in head ≡ 7) }
+    ensures passes { PassesMany (type_in head) result.0 piece.now result.1.now }
+    ensures less { result.0 + length result.1.now ≤ length piece.now }
+{
+    let mut rest = piece;
+    let mut count = 0;
+    while are_four(rest, len, head) {
+        rest = &rest[4 * len..];
+        count += 4;
+    }
+    (count, rest)
+}
+
+/// How many of them stand there one by one, and what is left behind them.
+fn ones_of(piece: &[u8], len: usize, head: u64) -> (u64, &[u8])
+    requires told { len ≡ max (length_in head) 8 }
+    requires kind { ¬ (type_in head ≡ 7) }
+    ensures passes { PassesMany (type_in head) result.0 piece.now result.1.now }
+    ensures less { result.0 + length result.1.now ≤ length piece.now }
+{
+    let mut rest = piece;
+    let mut count = 0;
+    while is_alike(rest, len, head) {
+        rest = &rest[len..];
+        count += 1;
+    }
+    (count, rest)
+}
+
+/// How many PDUs of the header of the first stand one behind the other in front of these bytes, and what is left behind them.
 fn run_of(piece: &[u8], len: usize) -> (u64, &[u8])
     requires told { len ≡ told_len piece.now }
     requires header { 8 ≤ length piece.now }
@@ -247,15 +312,10 @@ fn run_of(piece: &[u8], len: usize) -> (u64, &[u8])
     ensures counts { (c : Counted) → c.front ≡ [] → c.came ≡ 0 → counted_on c piece.now ≡ counted_on (and_many result.0 (type_of piece.now) c) result.1.now }
     ensures less { length result.1.now < length piece.now }
 {
-    let kind = piece[1];
-    let told = BigEndian::read_u32(&piece[4..]);
-    let mut rest = &piece[len..];
-    let mut count = 1;
-    while is_alike(rest, len, kind, told) {
-        rest = &rest[len..];
-        count += 1;
-    }
-    (count, rest)
+    let head = header(piece);
+    let (fours, rest) = fours_of(&piece[len..], len, head);
+    let (ones, rest) = ones_of(rest, len, head);
+    (1 + fours + ones, rest)
 }
 
 /// How many bytes the PDU in front has, where all of it is there.

@@ -1,0 +1,20 @@
+use Rattle.std.proofs.Common.{◌≡◌, ◌∙◌, ◌+◌, ap, arith, length, sym}
+use Rattle.std.proofs.lemmas.List.{length-drop}
+use Rattle.rtr_server.specs.Counting.{and_many, counted_on}
+use Rattle.rtr_server.specs.Runs.{type_in}
+use Rattle.rtr_server.proofs.CountingLaws as laws
+use Rattle.rtr_server.proofs.tally.ones_of.Goals as goal
+
+pub loop-rest-preserved : goal.loop-rest-preserved
+loop-rest-preserved c =
+    let yes = c.loop-rest-test.true in
+    let fits = c.is_alike.ensures.fits yes in
+    let whole = laws.behind c.args.len c.loop-rest.rest.now in
+    let l = ap (λ x. length x) whole in
+    let k = length-drop c.args.len c.loop-rest.rest.now in record {
+      passes = λ n x.
+          let more : n + c.loop-rest.count + 1 ≡ n + (c.loop-rest.count + 1) = omega arith in
+          c.loop-rest.invariant.passes n x ∙ laws.passes_one c.loop-rest.rest.now c.args.head c.args.len (n + c.loop-rest.count) x c.requires.told c.requires.kind fits (c.is_alike.ensures.shows yes)
+          ∙ (λ i. counted_on (and_many (more i) (type_in c.args.head) x) (sym whole i));
+      few = omega (arith, l, k, fits, c.requires.told, c.loop-rest.invariant.few);
+    }
