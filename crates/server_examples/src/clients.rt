@@ -3,7 +3,7 @@ use crate::lines::{
     Manner, Memory, PLAIN, Shared, admitted, cache_of, is_front, is_list, len_of, line, shared,
 };
 use example_values::hex::bytes;
-use example_values::sets::V;
+use example_values::sets::{V, set_of};
 use example_values::units::{ANSWER, RESET_QUERY};
 use rtr_pdu::{Kind, Version};
 use rtr_server::{AdmitFault, Carried, Client, Gone, Server, Turn};
@@ -150,6 +150,69 @@ fn pdus_are_counted_in_both_versions(rt: HostRuntime) -> Result<(), Fail> {
         assert!(rt; counts(&server, client, Kind::EndOfData) == Some((0, answers)));
         assert!(rt; counts(&server, client, Kind::ErrorReport) == Some((0, 0)));
         assert!(rt; server.last_serial(client) == Some(Serial(5)));
+    }
+    Ok(())
+}
+
+/// Five records and more of each family, one behind the other.
+const RUNS: [(&str, u8, u32); 11] = [
+    ("192.0.2.0/28", 28, 64496),
+    ("192.0.2.16/28", 28, 64496),
+    ("192.0.2.32/28", 28, 64496),
+    ("192.0.2.48/28", 28, 64496),
+    ("192.0.2.64/28", 28, 64496),
+    ("192.0.2.80/28", 28, 64496),
+    ("2001:db8::/48", 48, 64496),
+    ("2001:db8:1::/48", 48, 64496),
+    ("2001:db8:2::/48", 48, 64496),
+    ("2001:db8:3::/48", 48, 64496),
+    ("2001:db8:4::/48", 48, 64496),
+];
+
+/// The same, but for five and one that others take the place of.
+const OTHER_RUNS: [(&str, u8, u32); 11] = [
+    ("192.0.2.0/28", 28, 64496),
+    ("198.51.100.0/28", 28, 64496),
+    ("198.51.100.16/28", 28, 64496),
+    ("198.51.100.32/28", 28, 64496),
+    ("198.51.100.48/28", 28, 64496),
+    ("198.51.100.64/28", 28, 64496),
+    ("2001:db8:1::/48", 48, 64496),
+    ("2001:db8:2::/48", 48, 64496),
+    ("2001:db8:3::/48", 48, 64496),
+    ("2001:db8:4::/48", 48, 64496),
+    ("2001:db8:5::/48", 48, 64496),
+];
+
+/// How many PDUs for IPv4 and IPv6, and how many End of Data, are counted as sent to a router that asks for all and for a difference, where
+/// its line takes so many bytes at a call.
+fn sent_by_pieces(
+    alloc: Global,
+    query: &[u8],
+    size: usize,
+) -> Result<Option<(u64, u64, u64)>, Fail> {
+    let out = shared(alloc, &[])?;
+    let mut server = Server::new(alloc, cache_of(alloc, &RUNS)?, 1);
+    server.publish(set_of(alloc, &OTHER_RUNS)?)?;
+    let manner = Manner { size, ..PLAIN };
+    let client = admitted(&mut server, line(alloc, query, manner, &out)?)?;
+    let _last = server.serve(client, 9999);
+    let Some(sent) = server.sent(client) else {
+        return Ok(None);
+    };
+    let ends = sent.of(Kind::EndOfData);
+    Ok(Some((sent.of(Kind::Ipv4Prefix), sent.of(Kind::Ipv6Prefix), ends)))
+}
+
+#[test]
+fn runs_are_counted_wherever_they_are_cut(rt: HostRuntime) -> Result<(), Fail> {
+    let alloc = rt.alloc();
+    let newer = bytes("01 02 0000 00000008 | 01 01 1234 0000000c 00000005");
+    let older = bytes("00 02 0000 00000008 | 00 01 1234 0000000c 00000005");
+    for query in [newer.as_slice(), older.as_slice()] {
+        for size in 1..610 {
+            assert!(rt; sent_by_pieces(alloc, query, size)? == Some((16, 7, 2)));
+        }
     }
     Ok(())
 }
