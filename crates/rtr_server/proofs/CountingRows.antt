@@ -1,11 +1,14 @@
 -- What is counted of bytes, worked out.
 use Rattle.std.specs.Prelude.{◌≡◌, ℕ, ◌+◌, List, [], ◌∷◌, ◌++◌, take, Some, None, refl}
+use Rattle.std.proofs.Common.{arith}
 use Rattle.rtr_pdu.specs.Unit.{unit_bytes}
 use Rattle.rtr_pdu.specs.declared.kind.Kind.TheVariants as kinds
-use Rattle.rtr_pdu.specs.declared.unit.Unit.TheVariants.{SerialNotify, EndOfData, EndOfData0}
+use Rattle.rtr_pdu.specs.declared.unit.Unit.TheVariants.{SerialNotify, ResetQuery, EndOfData, EndOfData0}
 use Rattle.rtr_pdu.specs.declared.version.Version.TheVariants.{V0, V1}
 use Rattle.rtr_server.specs.Counting.{capped, count_of, counted}
+use Rattle.rtr_server.specs.Runs.{PassesMany, ShowsHeader, length_in, type_in}
 use Rattle.rtr_server.specs.declared.tally.Pdus.{Pdus}
+use Rattle.rtr_server.proofs.CountingLaws.{passes_one}
 
 -- the counts of types 0 to 4 and 6 to 10
 abbrev these : List ℕ → Pdus
@@ -41,3 +44,14 @@ stops = (refl, refl, refl)
 
 places : count_of (these (10 ∷ 11 ∷ 12 ∷ 13 ∷ 14 ∷ 15 ∷ 16 ∷ 17 ∷ 18 ∷ 19 ∷ 20 ∷ [])) kinds.Ipv6Prefix ≡ 16
 places = refl
+
+-- The header of an IPv4 Prefix tells type 4 and 20 bytes (RFC 8210 section 5.6), that of an End of Data type 7 and 24 bytes (section 5.8).
+headers : (type_in 0x0104000000000014 ≡ 4) × (length_in 0x0104000000000014 ≡ 20) × (type_in 0x0107123400000018 ≡ 7) × (length_in 0x0107123400000018 ≡ 24)
+headers = (refl, refl, refl, refl)
+
+shown : ShowsHeader 0x0107123400000018 (unit_bytes V1 (EndOfData 0x1234 5 3600 600 7200))
+shown = (refl, refl)
+
+-- A Reset Query is one of a run of its type.
+one_passes : PassesMany 2 1 (unit_bytes V1 ResetQuery ++ 1 ∷ []) (1 ∷ [])
+one_passes = λ n c. passes_one (unit_bytes V1 ResetQuery ++ 1 ∷ []) 0x0102000000000008 8 n c refl (λ e. absurd (omega (arith, e))) (omega arith) (refl, refl)
