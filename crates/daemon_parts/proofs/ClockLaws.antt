@@ -1,9 +1,10 @@
 -- Days of years and months, and the text of a moment.
 use Rattle.std.proofs.lemmas.Bool.Decides.{nat_tests}
-use Rattle.std.proofs.Common.{nat_le, ◌&&◌, ◌≡◌, ℕ, ◌+◌, ◌*◌, ◌/◌, ◌%◌, ◌≤◌, ◌∷◌, [], ◌++◌, true, false, Bool, if◌then◌else◌, arith, refl, add-one}
-use Rattle.der_lite.specs.Moments.{CivilMoment, decimals, days_of_month, is_leap, is_moment}
+use Rattle.std.proofs.Common.{nat_le, ◌&&◌, ◌≡◌, ℕ, ◌+◌, ◌*◌, ◌/◌, ◌%◌, ◌≤◌, ◌∷◌, [], ◌++◌, true, false, Bool, if◌then◌else◌, slice_index_or, arith, refl, add-one, List, Option, subst, sym, ◌∙◌}
+use Rattle.der_lite.specs.Moments.{CivilMoment, decimals, days_of_month, is_leap, is_moment, moment_digits, moment_in, moment_text}
 use Rattle.der_lite.specs.Seconds.{days_of_year, days_of_years, days_of_months}
-use Rattle.daemon_parts.specs.Clock.{time_text}
+use Rattle.der_lite.proofs.MomentLaws.{text_found}
+use Rattle.daemon_parts.specs.Clock.{IsAt, IsMomentAt, last_second, time_text}
 
 -- one year and one month more
 pub years_more : (count : ℕ) → days_of_years (count + 1) ≡ days_of_years count + days_of_year (1970 + count)
@@ -63,3 +64,18 @@ real_from m a b c d e f g h k =
 -- Days, hours, minutes and seconds make up the number that they were taken of.
 pub parts_of : (n : ℕ) → ((n / 86400 * 24 + n / 3600 % 24) * 60 + n / 60 % 60) * 60 + n % 60 ≡ n
 parts_of n = omega arith
+
+-- the bytes of a text of a moment that are no marks between its numbers
+abbrev pub without_marks : List ℕ → List ℕ
+without_marks text =
+    slice_index_or text 0 0 ∷ slice_index_or text 1 0 ∷ slice_index_or text 2 0 ∷ slice_index_or text 3 0 ∷ slice_index_or text 5 0 ∷ slice_index_or text 6 0 ∷ slice_index_or text 8 0 ∷ slice_index_or text 9 0
+    ∷ slice_index_or text 11 0 ∷ slice_index_or text 12 0 ∷ slice_index_or text 14 0 ∷ slice_index_or text 15 0 ∷ slice_index_or text 17 0 ∷ slice_index_or text 18 0 ∷ slice_index_or text 19 0 ∷ []
+
+pub marks_dropped : (m : CivilMoment) → without_marks (time_text m) ≡ moment_text m
+unfolding time_text moment_text moment_digits
+marks_dropped m = refl
+
+-- The moment that is read from the text of the one at a second is at that second.
+pub found_at : (m : CivilMoment) (seconds : ℕ) (found : Option CivilMoment) → IsAt m seconds → seconds ≤ last_second → found ≡ moment_in (moment_text m) → IsMomentAt seconds found
+found_at m seconds found is_at within e =
+    subst (IsMomentAt seconds) (sym (e ∙ text_found m is_at.real)) (within, is_at.real, omega (arith, is_at.counted, within))

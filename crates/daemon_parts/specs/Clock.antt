@@ -1,5 +1,5 @@
--- The time of a line of the log, in the form of RFC 3339 section 5.6.
-use Rattle.std.specs.Prelude.{◌≡◌, ℕ, true, min, List, ◌++◌, codes}
+-- The moments of a clock that counts seconds, and the time of a line of the log in the form of RFC 3339 section 5.6.
+use Rattle.std.specs.Prelude.{◌≡◌, ◌<◌, ◌≤◌, ℕ, true, min, List, ◌++◌, codes, Option, None, Some}
 use Rattle.der_lite.specs.Moments.{CivilMoment, decimals, is_moment}
 use Rattle.der_lite.specs.Seconds.{seconds_of}
 
@@ -11,6 +11,11 @@ last_second = 253402300799
 pub record IsAt (m : CivilMoment) (seconds : ℕ) : Type 0 where
   pub real : is_moment m ≡ true
   pub counted : seconds_of m ≡ min seconds last_second
+
+-- The moment that is so many seconds after the beginning of 1970: there is one up to the end of the year 9999, and none later.
+abbrev pub IsMomentAt : ℕ → Option CivilMoment → Type 0
+IsMomentAt seconds (Some m) = (seconds ≤ last_second) × (is_moment m ≡ true) × (seconds_of m ≡ seconds)
+IsMomentAt seconds None = last_second < seconds
 
 -- YYYY-MM-DDTHH:MM:SSZ
 unfoldable pub time_text : CivilMoment → List ℕ

@@ -1,11 +1,14 @@
 -- What an event is told by: a word, and values under their keys.
 use Rattle.std.specs.Prelude.{ℕ, List, [], ◌∷◌, codes, Option, None, Some}
 use Rattle.std.specs.declared.net.socket_addr.SocketAddr.{SocketAddr}
+use Rattle.daemon_parts.specs.declared.event.Departure.{Departure}
 use Rattle.daemon_parts.specs.declared.event.Event.{Event}
 use Rattle.daemon_parts.specs.declared.event.Event.TheVariants as event
-use Rattle.daemon_parts.specs.declared.event.Value.{Value}
-use Rattle.daemon_parts.specs.declared.event.Value.TheVariants as value
-use Rattle.daemon_parts.specs.declared.event.Pair.{Pair}
+use Rattle.daemon_parts.specs.declared.event.Publication.{Publication}
+use Rattle.daemon_parts.specs.declared.event.VersionNames.{VersionNames}
+use Rattle.daemon_parts.specs.declared.entries.Value.{Value}
+use Rattle.daemon_parts.specs.declared.entries.Value.TheVariants as value
+use Rattle.daemon_parts.specs.declared.entries.Pair.{Pair}
 
 -- a value: nothing, a number, an address with a port, or a text
 pub data Told : Type 0 where
@@ -46,18 +49,35 @@ of_number key n = entry key (Number n)
 abbrev pub of_text : List ℕ → List ℕ → Entry
 of_text key s = entry key (Text s)
 
+-- what is told of the names of versions,
+abbrev pub name_entries : VersionNames → List Entry
+name_entries n = of_number (codes "session") n.session ∷ of_number (codes "session0") n.session0 ∷ of_number (codes "serial") n.serial ∷ []
+
+-- of a client that has gone,
+abbrev pub departure_entries : Departure → List Entry
+departure_entries d =
+    at d.address ∷ of_text (codes "why") d.why.now ∷ entry (codes "version") (spoken d.version)
+    ∷ of_number (codes "read") d.read ∷ of_number (codes "written") d.written ∷ of_number (codes "seconds") d.seconds ∷ []
+
+-- and of a version that is published
+abbrev pub publication_entries : Publication → List Entry
+publication_entries p =
+    of_number (codes "session") p.session ∷ of_number (codes "serial") p.serial ∷ of_number (codes "announced") p.announced
+    ∷ of_number (codes "withdrawn") p.withdrawn ∷ of_number (codes "records") p.records ∷ of_number (codes "ms") p.milliseconds ∷ []
+
+-- the word of an event,
 abbrev pub word_of : Event → List ℕ
-word_of (event.Started session session0 serial) = codes "started"
+word_of (event.Started names) = codes "started"
 word_of (event.Limited clients) = codes "limited"
 word_of (event.Listening address) = codes "listening"
 word_of (event.Status address) = codes "status"
 word_of event.Ready = codes "ready"
 word_of (event.ClientCame address) = codes "client-came"
-word_of (event.ClientGone address why version read written seconds) = codes "client-gone"
+word_of (event.ClientGone departure) = codes "client-gone"
 word_of (event.Stalled address) = codes "stalled"
 word_of (event.Full address clients) = codes "full"
 word_of event.NoDescriptor = codes "no-descriptor"
-word_of (event.Published session serial announced withdrawn records milliseconds) = codes "published"
+word_of (event.Published publication) = codes "published"
 word_of (event.Refused file reason) = codes "refused"
 word_of (event.Taken file) = codes "taken"
 word_of (event.Old file age) = codes "old"
@@ -67,22 +87,19 @@ word_of (event.Memory what) = codes "memory"
 word_of (event.Failed what reason) = codes "failed"
 word_of (event.Stopped reason) = codes "stopped"
 
+-- and its values
 abbrev pub entries_of : Event → List Entry
-entries_of (event.Started session session0 serial) = of_number (codes "session") session ∷ of_number (codes "session0") session0 ∷ of_number (codes "serial") serial ∷ []
+entries_of (event.Started names) = name_entries names
 entries_of (event.Limited clients) = of_number (codes "clients") clients ∷ []
 entries_of (event.Listening address) = at address ∷ []
 entries_of (event.Status address) = at address ∷ []
 entries_of event.Ready = []
 entries_of (event.ClientCame address) = at address ∷ []
-entries_of (event.ClientGone address why version read written seconds) =
-    at address ∷ of_text (codes "why") why.now ∷ entry (codes "version") (spoken version)
-    ∷ of_number (codes "read") read ∷ of_number (codes "written") written ∷ of_number (codes "seconds") seconds ∷ []
+entries_of (event.ClientGone departure) = departure_entries departure
 entries_of (event.Stalled address) = at address ∷ []
 entries_of (event.Full address clients) = at address ∷ of_number (codes "clients") clients ∷ []
 entries_of event.NoDescriptor = []
-entries_of (event.Published session serial announced withdrawn records milliseconds) =
-    of_number (codes "session") session ∷ of_number (codes "serial") serial ∷ of_number (codes "announced") announced
-    ∷ of_number (codes "withdrawn") withdrawn ∷ of_number (codes "records") records ∷ of_number (codes "ms") milliseconds ∷ []
+entries_of (event.Published publication) = publication_entries publication
 entries_of (event.Refused file reason) = of_text (codes "file") file.now ∷ of_text (codes "reason") reason.now ∷ []
 entries_of (event.Taken file) = of_text (codes "file") file.now ∷ []
 entries_of (event.Old file age) = of_text (codes "file") file.now ∷ of_number (codes "age") age ∷ []

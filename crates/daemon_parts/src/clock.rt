@@ -1,8 +1,10 @@
-//! The time of a line of the log.
+//! The calendar: the moments of a clock that counts seconds, and the time of a line of the log.
 ghost use Rattle.std.specs.Prelude.{◌≡◌, ◌<◌, ◌≤◌, ◌+◌, ◌-◌};
-ghost use Rattle.der_lite.specs.Moments.{days_of_month, decimals, is_leap, told_moment};
+ghost use Rattle.der_lite.specs.Moments.{days_of_month, decimals, is_leap, moment_text, told_moment};
 ghost use Rattle.der_lite.specs.Seconds.{days_of_months, days_of_year, days_of_years};
-ghost use Rattle.daemon_parts.specs.Clock.{IsAt, time_text};
+ghost use Rattle.daemon_parts.specs.Clock.{IsAt, IsMomentAt, time_text};
+
+use der_lite::Moment;
 
 /// The last second of the year 9999.
 const LAST: u64 = 253_402_300_799;
@@ -120,4 +122,44 @@ pub(crate) fn time_text(civil: &Civil) -> [u8; 20]
     [
         y1, y2, y3, y4, b'-', m1, m2, b'-', d1, d2, b'T', h1, h2, b':', n1, n2, b':', s1, s2, b'Z',
     ]
+}
+
+/// The text of a moment without marks between its numbers, `YYYYMMDDHHMMSSZ` (X.690 section 11.7).
+fn short_text(civil: &Civil) -> [u8; 15]
+    ensures { result ≡ moment_text (told_moment civil.now.year civil.now.month civil.now.day civil.now.hour civil.now.minute civil.now.second) }
+{
+    let [
+        y1,
+        y2,
+        y3,
+        y4,
+        _,
+        m1,
+        m2,
+        _,
+        d1,
+        d2,
+        _,
+        h1,
+        h2,
+        _,
+        n1,
+        n2,
+        _,
+        s1,
+        s2,
+        z,
+    ] = time_text(civil);
+    [y1, y2, y3, y4, m1, m2, d1, d2, h1, h2, n1, n2, s1, s2, z]
+}
+
+/// The moment so many seconds after the beginning of 1970, where days have 86,400; `None` after the last second of the year 9999, which is
+/// 253,402,300,799.
+pub fn moment_at(seconds: u64) -> Option<Moment>
+    ensures { IsMomentAt seconds result }
+{
+    if seconds > LAST {
+        return None;
+    }
+    Moment::from_text(&short_text(&civil_at(seconds)))
 }

@@ -1,115 +1,144 @@
 //! What a daemon tells in its log.
 use std::net::SocketAddr;
 
+/// The names of the versions of a run (RFC 8210 section 5.1).
+#[derive(Clone, Copy, Debug, PartialEq, Eq)]
+pub struct VersionNames {
+    /// The session in version 1 of the protocol.
+    pub session: u16,
+    /// The session in version 0.
+    pub session0: u16,
+    /// The serial of the first version.
+    pub serial: u32,
+}
+
+/// How a client went, and what there was of it.
+#[derive(Clone, Copy, Debug, PartialEq, Eq)]
+pub struct Departure<'a> {
+    /// The client's address and port.
+    pub address: SocketAddr,
+    /// Why it went, in a few words.
+    pub why: &'a str,
+    /// The version of the protocol that it spoke, 0 or 1, or `None`: it sent no whole header.
+    pub version: Option<u8>,
+    /// How many bytes it sent.
+    pub read: u64,
+    /// How many bytes it was sent.
+    pub written: u64,
+    /// How many seconds it was there.
+    pub seconds: u64,
+}
+
+/// What a version is called, what it changes, and what it took.
+#[derive(Clone, Copy, Debug, PartialEq, Eq)]
+pub struct Publication {
+    /// The session in version 1 of the protocol.
+    pub session: u16,
+    /// The version's serial.
+    pub serial: u32,
+    /// How many records it has that the version before did not have.
+    pub announced: u64,
+    /// How many records it does not have that the version before had.
+    pub withdrawn: u64,
+    /// How many records it has.
+    pub records: u64,
+    /// How many milliseconds it took to make it.
+    pub milliseconds: u64,
+}
+
 /// What happened. Each event is one line of the log: a word, and values under their keys.
-#[derive(Clone, Copy)]
+#[derive(Clone, Copy, Debug, PartialEq, Eq)]
 pub enum Event<'a> {
     /// `started`: the daemon starts, and its versions have these names.
-    Started {
-        session: u16,
-        session0: u16,
-        serial: u32,
-    },
-    /// `limited`: the system's limit of descriptors allows so many clients, fewer than were asked for.
+    Started(VersionNames),
+    /// `limited`: the system's limit of descriptors allows fewer clients than were asked for.
     Limited {
+        /// How many clients there may be at once.
         clients: u64,
     },
-    /// `listening`: routers are awaited at this address.
+    /// `listening`: routers are awaited at an address.
     Listening {
+        /// The address and the port.
         address: SocketAddr,
     },
-    /// `status`: the status page is at this address.
+    /// `status`: the status page is at an address.
     Status {
+        /// The address and the port.
         address: SocketAddr,
     },
     /// `ready`: the first version is published.
     Ready,
     /// `client-came`: a client has connected.
     ClientCame {
+        /// The client's address and port.
         address: SocketAddr,
     },
-    /// `client-gone`: a client is not there any more. It spoke this version of the protocol, if any, sent and was sent so many bytes,
-    /// and was there for so many seconds.
-    ClientGone {
-        address: SocketAddr,
-        why: &'a str,
-        version: Option<u8>,
-        read: u64,
-        written: u64,
-        seconds: u64,
-    },
+    /// `client-gone`: a client is not there any more.
+    ClientGone(Departure<'a>),
     /// `stalled`: nothing could be written to a client for too long, so it is closed.
     Stalled {
+        /// The client's address and port.
         address: SocketAddr,
     },
-    /// `full`: a client was closed at once, as so many are there.
+    /// `full`: a client was closed at once, as there are as many as there may be.
     Full {
+        /// The address and the port of the client that was closed.
         address: SocketAddr,
+        /// How many clients are there.
         clients: u64,
     },
-    /// `no-descriptor`: the system has no descriptor left for what waits.
+    /// `no-descriptor`: the system has no descriptor left for a client that waits.
     NoDescriptor,
-    /// `published`: a version is served from now on. It announces and withdraws so many records, has so many, and was made in so many
-    /// milliseconds.
-    Published {
-        session: u16,
-        serial: u32,
-        announced: u64,
-        withdrawn: u64,
-        records: u64,
-        milliseconds: u64,
-    },
-    /// `refused`: a file cannot be taken, for this reason; what is served stays.
+    /// `published`: a version is served from now on.
+    Published(Publication),
+    /// `refused`: a file or a publication point cannot be taken; what is served stays.
     Refused {
+        /// The path of the file or of the directory.
         file: &'a str,
+        /// Why, in words.
         reason: &'a str,
     },
-    /// `taken`: a file that was refused is taken again.
+    /// `taken`: a file or a publication point that was refused is taken again.
     Taken {
+        /// The path of the file or of the directory.
         file: &'a str,
     },
-    /// `old`: what a file has was made so many seconds ago, which is more than it may be.
+    /// `old`: what a file has was made longer ago than it may be.
     Old {
+        /// The path of the file.
         file: &'a str,
+        /// How many seconds ago it was made.
         age: u64,
     },
     /// `fresh`: what a file has is no longer old.
     Fresh {
+        /// The path of the file.
         file: &'a str,
+        /// How many seconds ago it was made.
         age: u64,
     },
-    /// `expired`: so many entries of a file have expired since it was read.
+    /// `expired`: entries of a file had expired when it was read, and do not count.
     Expired {
+        /// The path of the file.
         file: &'a str,
+        /// How many of its entries had expired.
         entries: u64,
     },
-    /// `memory`: memory was wanting for this.
+    /// `memory`: memory was wanting.
     Memory {
+        /// What it was wanted for, in a few words.
         what: &'a str,
     },
-    /// `failed`: the system refused this, for this reason.
+    /// `failed`: the system refused something.
     Failed {
+        /// What it refused, in a few words.
         what: &'a str,
+        /// Why, in words.
         reason: &'a str,
     },
-    /// `stopped`: the daemon ends, for this reason.
+    /// `stopped`: the daemon ends.
     Stopped {
+        /// Why, in words.
         reason: &'a str,
     },
-}
-
-/// A value of an event.
-#[derive(Clone, Copy)]
-pub(crate) enum Value<'a> {
-    Nothing,
-    Number(u64),
-    Address(SocketAddr),
-    Text(&'a str),
-}
-
-/// A value under its key.
-#[derive(Clone, Copy)]
-pub(crate) struct Pair<'a> {
-    pub(crate) key: &'static str,
-    pub(crate) value: Value<'a>,
 }

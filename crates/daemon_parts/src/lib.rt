@@ -1,5 +1,6 @@
 //! What the daemon `rpkirtrd` is made of beside its server: the names of its versions over restarts ([`first_serial`], [`session_of`],
-//! [`session0_of`]), the pace of its versions ([`Pace`]), and the lines of its log ([`Event`], [`write_event`]).
+//! [`session0_of`]), the pace of its versions ([`Pace`]), the moments of its clock ([`moment_at`]), and the lines of its log ([`Event`],
+//! [`write_event`]).
 //!
 //! For example, where `rt` is the runtime that `main` is handed:
 //!
@@ -20,13 +21,15 @@
 #![tactic(auto)]
 
 mod clock;
+mod entries;
 mod event;
 pub mod laws;
 mod line;
 mod names;
 mod pace;
 
-pub use event::Event;
+pub use clock::moment_at;
+pub use event::{Departure, Event, Publication, VersionNames};
 pub use line::{LogForm, write_event};
 pub use names::{first_serial, session_of, session0_of};
 pub use pace::Pace;

@@ -4,13 +4,15 @@ ghost use Rattle.std.specs.Char.{digit_char, is_control};
 ghost use Rattle.std.specs.Io.KnownBytes.{Appends};
 ghost use Rattle.std.specs.List.{flat_map, list_all};
 ghost use Rattle.std.specs.Str.{chars};
-ghost use Rattle.daemon_parts.specs.Entries.{Text, entries_of, entry, of_number, of_text, at, spoken, told_pair, told_value, word_of};
+ghost use Rattle.daemon_parts.specs.Entries.{Text, entries_of, told_pair, told_value, word_of};
 ghost use Rattle.daemon_parts.specs.Lines.{TellsEvent, end_text, entry_text, escaped, head_text, told_char, is_plain, is_plain_byte, json_entry, json_value, line_text, plain_entry, plain_value, quoted};
 
 use crate::clock::{civil_at, time_text};
-use crate::event::{Event, Pair, Value};
+use crate::entries::{
+    Pair, Value, address, departure_pairs, name_pairs, number, publication_pairs, text, word_of,
+};
+use crate::event::Event;
 use std::io::{self, Write};
-use std::net::SocketAddr;
 
 /// The form of a log's lines.
 #[derive(Clone, Copy, Debug, PartialEq, Eq)]
@@ -19,51 +21,6 @@ pub enum LogForm {
     Text,
     /// An object with `time`, `event` and the values.
     Json,
-}
-
-fn text<'a>(key: &'static str, value: &'a str) -> Pair<'a>
-    ensures { told_pair result ≡ of_text key.now value.now }
-{
-    Pair {
-        key,
-        value: Value::Text(value),
-    }
-}
-
-fn number<'a>(key: &'static str, value: u64) -> Pair<'a>
-    ensures { told_pair result ≡ of_number key.now value }
-{
-    Pair {
-        key,
-        value: Value::Number(value),
-    }
-}
-
-fn address<'a>(value: &SocketAddr) -> Pair<'a>
-    ensures { told_pair result ≡ at value.now }
-{
-    Pair {
-        key: "address",
-        value: Value::Address(*value),
-    }
-}
-
-fn spoken<'a>(version: Option<u8>) -> Value<'a>
-    ensures { told_value result ≡ spoken version }
-{
-    match version {
-        None => Value::Nothing,
-        Some(version) => Value::Number(u64::from(version)),
-    }
-}
-
-fn version<'a>(value: Option<u8>) -> Pair<'a>
-    ensures { told_pair result ≡ entry (codes "version") (spoken value) }
-{
-    Pair {
-        key: "version",
-        value: spoken(value),
-    }
 }
 
 /// The hexadecimal digit of a number below 16.
@@ -255,19 +212,41 @@ fn write_end<W: Write>(out: &mut W, form: LogForm) -> io::Result<()>
     }
 }
 
-/// Writes a line: a word with its values, at a time.
-fn write_line<W: Write>(
-    out: &mut W,
-    form: LogForm,
-    time: &[u8],
-    word: &str,
-    pairs: &[Pair<'_>],
-) -> io::Result<()>
-    ensures { OnOk result (Appends (W.contents out.old) (W.contents out.new) (line_text form time.now word.now (map told_pair pairs.now))) }
+/// Writes the values of an event under their keys.
+fn write_values<W: Write>(out: &mut W, form: LogForm, event: &Event<'_>) -> io::Result<()>
+    ensures { OnOk result (Appends (W.contents out.old) (W.contents out.new) (flat_map (entry_text form) (entries_of event.now))) }
 {
-    write_head(out, form, time, word)?;
-    write_pairs(out, form, pairs)?;
-    write_end(out, form)
+    match event {
+        Event::Ready | Event::NoDescriptor => Ok(()),
+        Event::Started(names) => write_pairs(out, form, &name_pairs(names)),
+        Event::ClientGone(departure) => write_pairs(out, form, &departure_pairs(departure)),
+        Event::Published(publication) => write_pairs(out, form, &publication_pairs(publication)),
+        Event::Listening { address: at }
+        | Event::Status { address: at }
+        | Event::ClientCame { address: at }
+        | Event::Stalled { address: at } => write_pairs(out, form, &[address(at)]),
+        Event::Limited { clients } => write_pairs(out, form, &[number("clients", *clients)]),
+        Event::Full {
+            address: at,
+            clients,
+        } => { write_pairs(out, form, &[address(at), number("clients", *clients)]) }
+        Event::Taken { file } => write_pairs(out, form, &[text("file", file)]),
+        Event::Refused { file, reason } => {
+            write_pairs(out, form, &[text("file", file), text("reason", reason)])
+        }
+        Event::Old { file, age } | Event::Fresh { file, age } => {
+            write_pairs(out, form, &[text("file", file), number("age", *age)])
+        }
+        Event::Expired {
+            file,
+            entries: count,
+        } => { write_pairs(out, form, &[text("file", file), number("entries", *count)]) }
+        Event::Memory { what } => write_pairs(out, form, &[text("what", what)]),
+        Event::Failed { what, reason } => {
+            write_pairs(out, form, &[text("what", what), text("reason", reason)])
+        }
+        Event::Stopped { reason } => write_pairs(out, form, &[text("reason", reason)]),
+    }
 }
 
 /// Writes the line of an event at this time.
@@ -279,128 +258,9 @@ fn write_event_at<W: Write>(
 ) -> io::Result<()>
     ensures { OnOk result (Appends (W.contents out.old) (W.contents out.new) (line_text form time.now (word_of event.now) (entries_of event.now))) }
 {
-    match event {
-        Event::Started {
-            session,
-            session0,
-            serial,
-        } => write_line(
-            out,
-            form,
-            time,
-            "started",
-            &[
-                number("session", u64::from(*session)),
-                number("session0", u64::from(*session0)),
-                number("serial", u64::from(*serial)),
-            ],
-        ),
-        Event::Limited { clients } => {
-            write_line(out, form, time, "limited", &[number("clients", *clients)])
-        }
-        Event::Listening { address: at } => {
-            write_line(out, form, time, "listening", &[address(at)])
-        }
-        Event::Status { address: at } => write_line(out, form, time, "status", &[address(at)]),
-        Event::Ready => write_line(out, form, time, "ready", &[]),
-        Event::ClientCame { address: at } => {
-            write_line(out, form, time, "client-came", &[address(at)])
-        }
-        Event::ClientGone {
-            address: at,
-            why,
-            version: spoken,
-            read,
-            written,
-            seconds,
-        } => write_line(
-            out,
-            form,
-            time,
-            "client-gone",
-            &[
-                address(at),
-                text("why", why),
-                version(*spoken),
-                number("read", *read),
-                number("written", *written),
-                number("seconds", *seconds),
-            ],
-        ),
-        Event::Stalled { address: at } => write_line(out, form, time, "stalled", &[address(at)]),
-        Event::Full {
-            address: at,
-            clients,
-        } => write_line(
-            out,
-            form,
-            time,
-            "full",
-            &[address(at), number("clients", *clients)],
-        ),
-        Event::NoDescriptor => write_line(out, form, time, "no-descriptor", &[]),
-        Event::Published {
-            session,
-            serial,
-            announced,
-            withdrawn,
-            records,
-            milliseconds,
-        } => write_line(
-            out,
-            form,
-            time,
-            "published",
-            &[
-                number("session", u64::from(*session)),
-                number("serial", u64::from(*serial)),
-                number("announced", *announced),
-                number("withdrawn", *withdrawn),
-                number("records", *records),
-                number("ms", *milliseconds),
-            ],
-        ),
-        Event::Refused { file, reason } => write_line(
-            out,
-            form,
-            time,
-            "refused",
-            &[text("file", file), text("reason", reason)],
-        ),
-        Event::Taken { file } => write_line(out, form, time, "taken", &[text("file", file)]),
-        Event::Old { file, age } => write_line(
-            out,
-            form,
-            time,
-            "old",
-            &[text("file", file), number("age", *age)],
-        ),
-        Event::Fresh { file, age } => write_line(
-            out,
-            form,
-            time,
-            "fresh",
-            &[text("file", file), number("age", *age)],
-        ),
-        Event::Expired { file, entries } => write_line(
-            out,
-            form,
-            time,
-            "expired",
-            &[text("file", file), number("entries", *entries)],
-        ),
-        Event::Memory { what } => write_line(out, form, time, "memory", &[text("what", what)]),
-        Event::Failed { what, reason } => write_line(
-            out,
-            form,
-            time,
-            "failed",
-            &[text("what", what), text("reason", reason)],
-        ),
-        Event::Stopped { reason } => {
-            write_line(out, form, time, "stopped", &[text("reason", reason)])
-        }
-    }
+    write_head(out, form, time, word_of(event))?;
+    write_values(out, form, event)?;
+    write_end(out, form)
 }
 
 /// Writes the line of an event that happened so many seconds after the beginning of 1970. It takes no memory of its own; a writer without

@@ -1,0 +1,130 @@
+//! What an event is told by: a word, and values under their keys.
+ghost use Rattle.std.specs.Prelude.{◌≡◌, codes, map};
+ghost use Rattle.daemon_parts.specs.Entries.{at, departure_entries, entry, name_entries, of_number, of_text, publication_entries, spoken, told_pair, told_value, word_of};
+
+use crate::event::{Departure, Event, Publication, VersionNames};
+use std::net::SocketAddr;
+
+/// A value of an event.
+#[derive(Clone, Copy, Debug)]
+pub(crate) enum Value<'a> {
+    Nothing,
+    Number(u64),
+    Address(SocketAddr),
+    Text(&'a str),
+}
+
+/// A value under its key.
+#[derive(Clone, Copy, Debug)]
+pub(crate) struct Pair<'a> {
+    pub(crate) key: &'static str,
+    pub(crate) value: Value<'a>,
+}
+
+pub(crate) fn text<'a>(key: &'static str, value: &'a str) -> Pair<'a>
+    ensures { told_pair result ≡ of_text key.now value.now }
+{
+    Pair {
+        key,
+        value: Value::Text(value),
+    }
+}
+
+pub(crate) fn number<'a>(key: &'static str, value: u64) -> Pair<'a>
+    ensures { told_pair result ≡ of_number key.now value }
+{
+    Pair {
+        key,
+        value: Value::Number(value),
+    }
+}
+
+pub(crate) fn address<'a>(value: &SocketAddr) -> Pair<'a>
+    ensures { told_pair result ≡ at value.now }
+{
+    Pair {
+        key: "address",
+        value: Value::Address(*value),
+    }
+}
+
+fn spoken<'a>(version: Option<u8>) -> Value<'a>
+    ensures { told_value result ≡ spoken version }
+{
+    match version {
+        None => Value::Nothing,
+        Some(version) => Value::Number(u64::from(version)),
+    }
+}
+
+fn version<'a>(value: Option<u8>) -> Pair<'a>
+    ensures { told_pair result ≡ entry (codes "version") (spoken value) }
+{
+    Pair {
+        key: "version",
+        value: spoken(value),
+    }
+}
+
+pub(crate) fn name_pairs<'a>(names: &VersionNames) -> [Pair<'a>; 3]
+    ensures { map told_pair result ≡ name_entries names.now }
+{
+    [
+        number("session", u64::from(names.session)),
+        number("session0", u64::from(names.session0)),
+        number("serial", u64::from(names.serial)),
+    ]
+}
+
+pub(crate) fn departure_pairs<'a>(departure: &Departure<'a>) -> [Pair<'a>; 6]
+    ensures { map told_pair result ≡ departure_entries departure.now }
+{
+    [
+        address(&departure.address),
+        text("why", departure.why),
+        version(departure.version),
+        number("read", departure.read),
+        number("written", departure.written),
+        number("seconds", departure.seconds),
+    ]
+}
+
+pub(crate) fn publication_pairs<'a>(publication: &Publication) -> [Pair<'a>; 6]
+    ensures { map told_pair result ≡ publication_entries publication.now }
+{
+    [
+        number("session", u64::from(publication.session)),
+        number("serial", u64::from(publication.serial)),
+        number("announced", publication.announced),
+        number("withdrawn", publication.withdrawn),
+        number("records", publication.records),
+        number("ms", publication.milliseconds),
+    ]
+}
+
+/// The word of an event.
+pub(crate) fn word_of(event: &Event<'_>) -> &'static str
+    ensures { result.now ≡ word_of event.now }
+{
+    match event {
+        Event::Started(_) => "started",
+        Event::Limited { .. } => "limited",
+        Event::Listening { .. } => "listening",
+        Event::Status { .. } => "status",
+        Event::Ready => "ready",
+        Event::ClientCame { .. } => "client-came",
+        Event::ClientGone(_) => "client-gone",
+        Event::Stalled { .. } => "stalled",
+        Event::Full { .. } => "full",
+        Event::NoDescriptor => "no-descriptor",
+        Event::Published(_) => "published",
+        Event::Refused { .. } => "refused",
+        Event::Taken { .. } => "taken",
+        Event::Old { .. } => "old",
+        Event::Fresh { .. } => "fresh",
+        Event::Expired { .. } => "expired",
+        Event::Memory { .. } => "memory",
+        Event::Failed { .. } => "failed",
+        Event::Stopped { .. } => "stopped",
+    }
+}
