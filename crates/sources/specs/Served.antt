@@ -1,5 +1,5 @@
 -- What is served: what all sources have together, with local exceptions.
-use Rattle.std.specs.Prelude.{◌≡◌, ◌⊎◌, ℕ, nat_lt, replicate, slice_set, Bool, false, not, ◌&&◌, ◌||◌, List, [], ◌∷◌, Option, Some, None, Result, Ok, Err}
+use Rattle.std.specs.Prelude.{◌≡◌, ◌⊎◌, ◌<◌, ◌≤◌, ℕ, nat_lt, length, replicate, slice_set, Bool, false, not, ◌&&◌, ◌||◌, List, [], ◌∷◌, Option, Some, None, Result, Ok, Err}
 use Rattle.std.specs.List.{list_any}
 use Rattle.der_lite.specs.Moments.{CivilMoment}
 use Rattle.prefixes.specs.Payload.{Payload}
@@ -7,13 +7,14 @@ use Rattle.vrps.specs.VrpSet.{VrpSet, empty, has, set_of, union}
 use Rattle.exports.specs.Export.{HasFault}
 use Rattle.exports.specs.Until.{IsExportUntil}
 use Rattle.exports.specs.declared.export.ExportUntil.{ExportUntil}
-use Rattle.exports.specs.declared.fault.ExportFault.{ExportFault}
 use Rattle.points.specs.InUse.{Points, Lists}
 use Rattle.slurm.specs.Exceptions.{excepted, exceptions_of, is_filtered}
 use Rattle.slurm.specs.SlurmFile.{ReadsSlurm}
 use Rattle.slurm.specs.declared.fault.SlurmFault.{SlurmFault}
 use Rattle.slurm.specs.declared.fault.SlurmFault.TheVariants.{Memory}
 use Rattle.slurm.specs.declared.filter.Slurm.{Slurm}
+use Rattle.sources.specs.declared.fault.TakeFault.{TakeFault}
+use Rattle.sources.specs.declared.fault.TakeFault.TheVariants.{NoSuchFile, Export}
 use Rattle.sources.specs.declared.listed.Listed.{Listed}
 use Rattle.sources.specs.declared.sources.Sources.{Sources}
 
@@ -63,10 +64,11 @@ pub record IsTaken (bytes : List ℕ) (now : ℕ) (expired : ℕ) (l : Listed) :
   pub built_is : l.built ≡ read.export.built
   pub expired_is : expired ≡ read.export.expired
 
--- An export is taken whole, or nothing changes.
-abbrev pub TakesExport : List ℕ → ℕ → ℕ → Result ℕ ExportFault → List Listed → List Listed → Type 0
-TakesExport bytes now i (Ok expired) old new = (l : Listed) × IsTaken bytes now expired l × (new ≡ slice_set old i l)
-TakesExport bytes now i (Err fault) old new = HasFault bytes now fault × (new ≡ old)
+-- The export of a file is taken whole; or there is no such file, or no export, and nothing changes.
+abbrev pub TakesExport : List ℕ → ℕ → ℕ → Result ℕ TakeFault → List Listed → List Listed → Type 0
+TakesExport bytes now i (Ok expired) old new = (i < length old) × ((l : Listed) × IsTaken bytes now expired l × (new ≡ slice_set old i l))
+TakesExport bytes now i (Err NoSuchFile) old new = (length old ≤ i) × (new ≡ old)
+TakesExport bytes now i (Err (Export fault)) old new = (i < length old) × HasFault bytes now fault × (new ≡ old)
 
 -- Local exceptions are taken whole, or nothing changes.
 abbrev pub TakesSlurm : List ℕ → Result (Unit {0}) SlurmFault → Option Slurm → Option Slurm → Type 0
@@ -101,7 +103,7 @@ abbrev pub ServesAt : Sources → CivilMoment → VrpSet → Type 0
 ServesAt s now t = IsServed s.repository s.lists.items s.exceptions now t
 
 -- What is taken of an export, and of local exceptions, by the sources
-abbrev pub ExportTaken : List ℕ → ℕ → ℕ → Result ℕ ExportFault → Sources → Sources → Type 0
+abbrev pub ExportTaken : List ℕ → ℕ → ℕ → Result ℕ TakeFault → Sources → Sources → Type 0
 ExportTaken bytes now i result old new =
     TakesExport bytes now i result old.lists.items new.lists.items × (new.exceptions ≡ old.exceptions) × (new.repository ≡ old.repository)
 

@@ -4,23 +4,23 @@
 //! For example, where `rt` is the runtime that `main` is handed:
 //!
 //! ```rust
-//! use sources::{Sources, moment_at};
+//! use der_lite::Moment;
+//! use sources::{Sources, TakeFault};
 //!
 //! let mut sources = Sources::new(rt.alloc(), 1)?;
 //! let text = br#"[{"asn":64496,"prefix":"192.0.2.0/24","maxLength":24}]"#;
 //! sources.take_export(0, text, 1_700_000_000)?;
-//! let Some(now) = moment_at(1_700_000_000) else {
-//!     return Err(Fail::from("no moment"));
-//! };
+//! assert!(rt; sources.take_export(1, text, 1_700_000_000) == Err(TakeFault::NoSuchFile));
+//! let now = Moment::parse("20231114221320Z").ok_or("no moment")?;
 //! let set = sources.served(now)?;
 //! assert!(rt; set.len() == 1);
 //! ```
 #![tactic(auto)]
 
-mod clock;
+mod fault;
 mod listed;
 mod sources;
 
-pub use clock::moment_at;
+pub use fault::TakeFault;
 pub use listed::Listed;
 pub use sources::Sources;

@@ -1,14 +1,15 @@
 //! Sources, and the set that is made of them.
-ghost use Rattle.std.specs.Prelude.{◌≡◌, ◌<◌, IfOk, IfSome, None, length, slice_get};
+ghost use Rattle.std.specs.Prelude.{◌≡◌, IfOk, IfSome, None, length, slice_get};
 ghost use Rattle.vrps.specs.VrpSet.{union};
 ghost use Rattle.points.specs.Answers.{told_by, NewExactly, BecomesAt};
 ghost use Rattle.points.specs.InUse.{accepted_at, no_points};
 ghost use Rattle.points.specs.Offers.{Acceptable, Judged};
 ghost use Rattle.sources.specs.Served.{HasServed, IsServed, TakesExport, TakesSlurm, built_at, is_over, none_taken, with_lists};
 
+use crate::fault::TakeFault;
 use crate::listed::Listed;
 use der_lite::Moment;
-use exports::{Export, ExportFault, ExportUntil, read_export_until};
+use exports::{Export, ExportUntil, read_export_until};
 use points::{FileIn, Offered, PointFault, Repository};
 use slurm::{Slurm, SlurmFault, apply, read_slurm};
 use std::alloc::{AllocError, Global};
@@ -67,13 +68,15 @@ impl Sources {
         }
     }
 
-    /// Takes the export of a file, as it is at a moment in seconds since 1970, and answers how many of its entries did not count any more. Where it
-    /// is none nothing changes.
-    pub fn take_export(&mut self, file: usize, bytes: &[u8], now: u64) -> Result<u64, ExportFault>
-        requires { file < length self.old.lists.items }
+    /// Takes the export of a file, counted from 0, as it is at a moment in seconds since 1970, and answers how many of its entries did not count any
+    /// more. Where there is no such file, or the bytes give no export, nothing changes.
+    pub fn take_export(&mut self, file: usize, bytes: &[u8], now: u64) -> Result<u64, TakeFault>
         ensures lists { TakesExport bytes.now now file result self.old.lists.items self.new.lists.items }
         ensures rest { (self.new.exceptions ≡ self.old.exceptions) × (self.new.repository ≡ self.old.repository) }
     {
+        if file >= self.lists.len() {
+            return Err(TakeFault::NoSuchFile);
+        }
         let read = read_export_until(self.alloc, bytes, now)?;
         let (list, expired) = listed_of(read);
         self.lists[file] = list;

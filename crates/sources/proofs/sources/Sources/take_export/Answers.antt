@@ -1,7 +1,10 @@
-use Rattle.std.proofs.Common.{refl}
+use Rattle.std.proofs.Common.{refl, arith}
+use Rattle.sources.specs.Served.{IsTaken}
 use Rattle.sources.proofs.sources.Sources.take_export.Goals as goal
 
 pub returns-clause-lists : goal.returns-clause-lists
 returns-clause-lists c =
     let so = c.listed_of-list.ensures in
-    (_, record { read = c.in_ok-read.read; is = c.in_ok-read.ensures.ok; set_is = so.0; until_is = so.1; built_is = so.2; expired_is = so.3 }, refl)
+    let taken : IsTaken c.args.bytes.now c.args.now c.listed_of-list.result.1 c.listed_of-list.result.0 =
+    record { read = c.in_ok-read.read; is = c.in_ok-read.ensures.ok; set_is = so.0; until_is = so.1; built_is = so.2; expired_is = so.3 } in
+    (omega (arith, c.if-file-len.false), (_, taken, refl))
