@@ -13,22 +13,25 @@ pub enum Wanted {
         /// The greatest one.
         most: u64,
     },
-    /// An IP address with a port.
+    /// An IP address with a port: one of version 6 in brackets, and the port in decimal digits without a leading zero.
     #[error("an address with a port, as 192.0.2.1:3323 or [2001:db8::1]:3323,")]
     Address,
+    /// The path of a file or of a directory, which has a character at least.
+    #[error("a path")]
+    Path,
     /// A form of the log.
     #[error("text or json")]
     LogForm,
 }
 
-/// Why words ask for nothing. The text says which option is at fault, what is wrong with its value, and what would be right.
+/// Why words ask for nothing. The text says which option is at fault, what stands behind it, in quotes, and what would be right.
 #[derive(Debug, Drop, Error)]
 pub enum WordsFault {
     /// A word that no option takes, an option without its value, or one twice that may stand once.
     #[error("{0}")]
     Unclear(String),
     /// The value of an option is not what is wanted.
-    #[error("--{option} {value}: {wanted} is wanted")]
+    #[error("--{option} {value:?}: {wanted} is wanted")]
     Value {
         /// The option's name.
         option: &'static str,

@@ -18,10 +18,11 @@ the start ends the daemon; later it is reported, and what is served stays.
 The daemon keeps nothing on disk. SIGTERM and SIGINT end it, and so does SIGHUP:
 no signal reloads, as the files are followed.
 
-Statuses: 0 the run has ended well; 1 a file was refused; 2 the words are wrong;
-3 a file or a socket failed; 4 out of memory.
+The status is 0 where the run has ended well, 1 where a file was refused or is
+too old, 2 where the words are wrong, 3 where a file or a socket failed, and 4
+where memory was wanting.
 
-Example: a cache for the routers of a network, beside rpki-client.
+This is a cache for the routers of a network, beside rpki-client:
 
   rpkirtrd --vrps /var/db/rpki-client/json --listen [::]:3323 --max-age 86400
 ";

@@ -8,6 +8,8 @@ pub(crate) enum Kind {
     Flag,
     /// Once at most, with a value.
     Once,
+    /// Once at most, with a number.
+    Number,
     /// As often as is wanted, each time with a value.
     Often,
 }
@@ -37,8 +39,8 @@ pub(crate) static MATTERS: [Matter; 7] = [
                 kind: Kind::Often,
                 value: "FILE",
                 help: &[
-                    "A file that a validator writes: the JSON of rpki-client, Routinator, FORT,",
-                    "StayRTR or rtrdump, or a payload list. May stand several times.",
+                    "FILE is what a validator writes: the JSON of rpki-client, Routinator,",
+                    "FORT, StayRTR or rtrdump, or a payload list. It may stand several times.",
                 ],
             },
             Choice {
@@ -47,8 +49,8 @@ pub(crate) static MATTERS: [Matter; 7] = [
                 kind: Kind::Often,
                 value: "DIR",
                 help: &[
-                    "A directory that holds a publication point, with the payloads of its",
-                    "manifest and of its ROAs. May stand several times.",
+                    "DIR is a publication point: it holds manifest.der, the published objects",
+                    "in objects/, and what they hold in contents/. It may stand several times.",
                 ],
             },
             Choice {
@@ -56,26 +58,28 @@ pub(crate) static MATTERS: [Matter; 7] = [
                 letter: None,
                 kind: Kind::Once,
                 value: "FILE",
-                help: &["A file of local exceptions (RFC 8416), which are applied to all records."],
+                help: &["FILE has local exceptions (RFC 8416), which are applied to all records."],
             },
             Choice {
                 name: "check",
                 letter: None,
-                kind: Kind::Once,
+                kind: Kind::Number,
                 value: "SECONDS",
                 help: &[
                     "The files are looked at every so many seconds, and read again where they",
-                    "have changed. Routers are notified no more often. At least 1; default 60.",
+                    "have changed or where an entry has expired. Routers are notified no more",
+                    "often. The number is from 1 to 4294967295; the default is 60.",
                 ],
             },
             Choice {
                 name: "max-age",
                 letter: None,
-                kind: Kind::Once,
+                kind: Kind::Number,
                 value: "SECONDS",
                 help: &[
-                    "A file whose data were made longer ago is reported as old. What is served",
-                    "stays. At least 1; by default no file is old.",
+                    "A file whose data were made longer ago is reported as old, and what is",
+                    "served stays. The number is from 1 to 4294967295; by default no file is",
+                    "old.",
                 ],
             },
             Choice {
@@ -84,8 +88,8 @@ pub(crate) static MATTERS: [Matter; 7] = [
                 kind: Kind::Flag,
                 value: "",
                 help: &[
-                    "The daemon ends where a file is older than --max-age allows, so that",
-                    "routers let the records expire.",
+                    "The daemon ends as soon as a file is older than --max-age allows, so that",
+                    "routers let the records expire. It wants --max-age beside it.",
                 ],
             },
         ],
@@ -99,29 +103,31 @@ pub(crate) static MATTERS: [Matter; 7] = [
                 kind: Kind::Often,
                 value: "ADDRESS:PORT",
                 help: &[
-                    "An address and a port to listen on, as 192.0.2.1:3323 or [::1]:3323. May",
-                    "stand several times; default 127.0.0.1:3323. [::]:PORT takes IPv4 too, so",
-                    "0.0.0.0:PORT beside it is refused as in use.",
+                    "The daemon listens at this address, as 192.0.2.1:3323 or [::1]:3323. It",
+                    "may stand several times; the default is 127.0.0.1:3323. Port 0 is one that",
+                    "is free. [::]:PORT takes IPv4 too, so 0.0.0.0:PORT beside it is refused as",
+                    "in use.",
                 ],
             },
             Choice {
                 name: "clients",
                 letter: None,
-                kind: Kind::Once,
+                kind: Kind::Number,
                 value: "NUMBER",
                 help: &[
-                    "So many routers may be connected at once; one more is closed. The system's",
-                    "limit of descriptors may allow fewer. At least 1; default 256.",
+                    "So many routers may be connected at once, and one more is closed at once.",
+                    "The system's limit of descriptors, less 16, may allow fewer. The number is",
+                    "from 1 to 4294967295; the default is 256.",
                 ],
             },
             Choice {
                 name: "stall",
                 letter: None,
-                kind: Kind::Once,
+                kind: Kind::Number,
                 value: "SECONDS",
                 help: &[
-                    "A router to which nothing could be written for so long is closed. At least",
-                    "1; default 120.",
+                    "A router to which nothing could be written for so long is closed. The",
+                    "number is from 1 to 4294967295; the default is 120.",
                 ],
             },
         ],
@@ -132,43 +138,44 @@ pub(crate) static MATTERS: [Matter; 7] = [
             Choice {
                 name: "session",
                 letter: None,
-                kind: Kind::Once,
+                kind: Kind::Number,
                 value: "NUMBER",
                 help: &[
-                    "The session in version 1 of the protocol, from 0 to 65535. By default it",
-                    "is made of the machine's id, the addresses and the files, so a restart",
-                    "keeps it.",
+                    "This is the session in version 1 of the protocol, from 0 to 65535. By",
+                    "default it is made of /etc/machine-id, the addresses and the paths of the",
+                    "files, so a restart keeps it.",
                 ],
             },
             Choice {
                 name: "session0",
                 letter: None,
-                kind: Kind::Once,
+                kind: Kind::Number,
                 value: "NUMBER",
                 help: &[
-                    "The session in version 0, from 0 to 65535. By default it is made of the",
-                    "time of the start, so each start has another.",
+                    "This is the session in version 0, from 0 to 65535. By default it is made",
+                    "of the time of the start: it changes every 4 seconds, and comes again",
+                    "after three days.",
                 ],
             },
             Choice {
                 name: "start",
                 letter: None,
-                kind: Kind::Once,
+                kind: Kind::Number,
                 value: "NUMBER",
                 help: &[
-                    "The serial of the first version, from 0 to 4294967295. By default it is",
-                    "the time of the start in seconds since 1970, so serials go on after a",
-                    "restart, and no router drops what it has.",
+                    "This is the serial of the first version, from 0 to 4294967295. By default",
+                    "it is the time of the start in seconds since 1970, so serials go on after",
+                    "a restart, and no router drops what it has.",
                 ],
             },
             Choice {
                 name: "keep",
                 letter: None,
-                kind: Kind::Once,
+                kind: Kind::Number,
                 value: "NUMBER",
                 help: &[
                     "So many versions are kept, and a router that has one of them is sent the",
-                    "changes alone. From 1 to 65536; default 16.",
+                    "changes alone. The number is from 1 to 65536; the default is 16.",
                 ],
             },
         ],
@@ -179,27 +186,31 @@ pub(crate) static MATTERS: [Matter; 7] = [
             Choice {
                 name: "refresh",
                 letter: None,
-                kind: Kind::Once,
+                kind: Kind::Number,
                 value: "SECONDS",
-                help: &["A router asks again after so long. From 1 to 86400; default 3600."],
+                help: &[
+                    "A router asks again after so long. The number is from 1 to 86400; the",
+                    "default is 3600.",
+                ],
             },
             Choice {
                 name: "retry",
                 letter: None,
-                kind: Kind::Once,
+                kind: Kind::Number,
                 value: "SECONDS",
                 help: &[
-                    "After a failure it tries again after so long. From 1 to 7200; default 600.",
+                    "A router tries again so long after a failure. The number is from 1 to",
+                    "7200; the default is 600.",
                 ],
             },
             Choice {
                 name: "expire",
                 letter: None,
-                kind: Kind::Once,
+                kind: Kind::Number,
                 value: "SECONDS",
                 help: &[
-                    "It drops what it has after so long without news. From 600 to 172800, and",
-                    "more than both others; default 7200.",
+                    "A router drops what it has after so long without news. The number is from",
+                    "600 to 172800, and more than both others; the default is 7200.",
                 ],
             },
         ],
@@ -213,8 +224,8 @@ pub(crate) static MATTERS: [Matter; 7] = [
                 kind: Kind::Once,
                 value: "ADDRESS:PORT",
                 help: &[
-                    "An address for pages on the daemon's state. This version has no such pages",
-                    "yet, and refuses to start with this option.",
+                    "Pages on the daemon's state are at this address. This version has no such",
+                    "pages yet, and refuses to start with this option.",
                 ],
             },
             Choice {
@@ -222,7 +233,10 @@ pub(crate) static MATTERS: [Matter; 7] = [
                 letter: None,
                 kind: Kind::Once,
                 value: "FORM",
-                help: &["The form of the lines on standard error: text or json. Default text."],
+                help: &[
+                    "FORM is how the lines on standard error are written: text or json. The",
+                    "default is text.",
+                ],
             },
         ],
     },
@@ -244,14 +258,14 @@ pub(crate) static MATTERS: [Matter; 7] = [
                 letter: Some('h'),
                 kind: Kind::Flag,
                 value: "",
-                help: &["This text."],
+                help: &["This text is printed."],
             },
             Choice {
                 name: "version",
                 letter: Some('V'),
                 kind: Kind::Flag,
                 value: "",
-                help: &["The program's name and version."],
+                help: &["The program's name and version are printed."],
             },
         ],
     },
@@ -265,6 +279,10 @@ fn argument<'a>(alloc: Global, choice: &Choice) -> Arg<'a> {
     match choice.kind {
         Kind::Flag => made.action(ArgAction::SetTrue),
         Kind::Once => made.action(ArgAction::Set).value_name(choice.value),
+        Kind::Number => made
+            .action(ArgAction::Set)
+            .value_name(choice.value)
+            .allow_negative_numbers(true),
         Kind::Often => made.action(ArgAction::Append).value_name(choice.value),
     }
 }

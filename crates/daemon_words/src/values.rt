@@ -92,38 +92,55 @@ pub(crate) fn number_16(
     Ok(Some(number as u16))
 }
 
-/// The text behind an option, if the option is there.
-pub(crate) fn text(
+/// The path that a text behind an option writes.
+fn path_in(alloc: Global, option: &'static str, text: &str) -> Result<String, WordsFault> {
+    if text.is_empty() {
+        return Err(wrong(alloc, option, text, Wanted::Path));
+    }
+    Ok(String::from_str(alloc, text)?)
+}
+
+/// The path behind an option, if the option is there.
+pub(crate) fn path(
     alloc: Global,
     found: &ArgMatches<'_>,
-    option: &str,
+    option: &'static str,
 ) -> Result<Option<String>, WordsFault> {
     match found.get_str(option) {
-        Some(text) => Ok(Some(String::from_str(alloc, text)?)),
+        Some(text) => Ok(Some(path_in(alloc, option, text)?)),
         None => Ok(None),
     }
 }
 
-/// The texts behind an option, in their order.
-pub(crate) fn texts(
+/// The paths behind an option, in their order.
+pub(crate) fn paths(
     alloc: Global,
     found: &ArgMatches<'_>,
-    option: &str,
+    option: &'static str,
 ) -> Result<Vec<String>, WordsFault> {
     let mut all = Vec::new(alloc);
     for text in found.get_strs(option).unwrap_or_default() {
-        if all.push(String::from_str(alloc, text)?).is_err() {
+        if all.push(path_in(alloc, option, text)?).is_err() {
             return Err(WordsFault::Memory);
         }
     }
     Ok(all)
 }
 
+/// The address that a text writes, with a port in decimal digits without a leading zero.
+fn socket_address(text: &str) -> Option<SocketAddr> {
+    let (_, port) = text.rsplit_once(':')?;
+    if decimal(port).is_none() {
+        return None;
+    }
+    text.parse::<SocketAddr>().ok()
+}
+
 /// The address that a text behind an option writes.
 fn address_in(alloc: Global, option: &'static str, text: &str) -> Result<SocketAddr, WordsFault> {
-    match text.parse::<SocketAddr>() {
-        Ok(address) => Ok(address),
-        Err(_) => Err(wrong(alloc, option, text, Wanted::Address)),
+    match socket_address(text) {
+        Some(address) => Ok(address),
+        None => Err(wrong(alloc, option, text, Wanted::Address)),
     }
 }
 

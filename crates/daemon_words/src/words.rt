@@ -6,7 +6,7 @@ use crate::help::{help, version};
 use crate::options::command_line;
 use crate::settings::Settings;
 use crate::values::{
-    address, addresses, log_form, number, number_16, number_32, number_or, text, texts,
+    address, addresses, log_form, number, number_16, number_32, number_or, path, paths,
 };
 use clap::error::ErrorKind;
 use clap::{ArgMatches, Error};
@@ -99,8 +99,8 @@ struct Served {
 }
 
 fn to_serve(alloc: Global, found: &ArgMatches<'_>) -> Result<Served, WordsFault> {
-    let vrps = texts(alloc, found, "vrps")?;
-    let points = texts(alloc, found, "points")?;
+    let vrps = paths(alloc, found, "vrps")?;
+    let points = paths(alloc, found, "points")?;
     if vrps.is_empty() && points.is_empty() {
         return Err(WordsFault::NoSource);
     }
@@ -137,7 +137,7 @@ fn settings(alloc: Global, found: &ArgMatches<'_>) -> Result<Settings, WordsFaul
     Ok(Settings {
         vrps,
         points,
-        slurm: text(alloc, found, "slurm")?,
+        slurm: path(alloc, found, "slurm")?,
         listen: listen(alloc, found)?,
         session: number_16(alloc, found, "session")?,
         session0: number_16(alloc, found, "session0")?,
