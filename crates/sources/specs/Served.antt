@@ -64,11 +64,15 @@ pub record IsTaken (bytes : List ℕ) (now : ℕ) (expired : ℕ) (l : Listed) :
   pub built_is : l.built ≡ read.export.built
   pub expired_is : expired ≡ read.export.expired
 
--- The export of a file is taken whole; or there is no such file, or no export, and nothing changes.
+-- Why an export is not taken: there is no such file, or its bytes have a fault.
+abbrev pub IsRefused : List ℕ → ℕ → ℕ → List Listed → TakeFault → Type 0
+IsRefused bytes now i lists NoSuchFile = length lists ≤ i
+IsRefused bytes now i lists (Export fault) = (i < length lists) × HasFault bytes now fault
+
+-- The export of a file is taken whole, or nothing changes.
 abbrev pub TakesExport : List ℕ → ℕ → ℕ → Result ℕ TakeFault → List Listed → List Listed → Type 0
 TakesExport bytes now i (Ok expired) old new = (i < length old) × ((l : Listed) × IsTaken bytes now expired l × (new ≡ slice_set old i l))
-TakesExport bytes now i (Err NoSuchFile) old new = (length old ≤ i) × (new ≡ old)
-TakesExport bytes now i (Err (Export fault)) old new = (i < length old) × HasFault bytes now fault × (new ≡ old)
+TakesExport bytes now i (Err fault) old new = IsRefused bytes now i old fault × (new ≡ old)
 
 -- Local exceptions are taken whole, or nothing changes.
 abbrev pub TakesSlurm : List ℕ → Result (Unit {0}) SlurmFault → Option Slurm → Option Slurm → Type 0
