@@ -1,5 +1,6 @@
 //! The values of options.
 ghost use Rattle.std.specs.Prelude.{◌≤◌, IfOk, IfSome};
+ghost use Rattle.daemon_words.specs.Decimals.{ReadsBetween, ReadsNumber};
 
 use crate::fault::{Wanted, WordsFault};
 use clap::ArgMatches;
@@ -20,11 +21,35 @@ fn wrong(alloc: Global, option: &'static str, value: &str, wanted: Wanted) -> Wo
 }
 
 /// The number that a text writes in decimal digits without a sign or a leading zero.
-fn decimal(text: &str) -> Option<u64> {
-    match text.as_bytes() {
-        [b'+', ..] => None,
-        [b'0', _, ..] => None,
-        _ => text.parse::<u64>().ok(),
+fn decimal(text: &str) -> Option<u64>
+    ensures { ReadsNumber text.now result }
+{
+    let bytes = text.as_bytes();
+    if bytes.is_empty() || bytes[0] == b'+' {
+        return None;
+    }
+    if bytes[0] == b'0' && bytes.len() > 1 {
+        return None;
+    }
+    match text.parse::<u64>() {
+        Ok(number) => Some(number),
+        Err(_) => None,
+    }
+}
+
+/// The number from `least` to `most` that a text behind an option writes.
+fn number_in(
+    alloc: Global,
+    option: &'static str,
+    text: &str,
+    least: u64,
+    most: u64,
+) -> Result<u64, WordsFault>
+    ensures { ReadsBetween least most text.now result }
+{
+    match decimal(text) {
+        Some(number) if least <= number && number <= most => Ok(number),
+        _ => Err(wrong(alloc, option, text, Wanted::Number { least, most })),
     }
 }
 
@@ -38,12 +63,9 @@ pub(crate) fn number(
 ) -> Result<Option<u64>, WordsFault>
     ensures { IfOk result (λ found. IfSome found (λ n. (least ≤ n) × (n ≤ most))) }
 {
-    let Some(text) = found.get_str(option) else {
-        return Ok(None);
-    };
-    match decimal(text) {
-        Some(number) if least <= number && number <= most => Ok(Some(number)),
-        _ => Err(wrong(alloc, option, text, Wanted::Number { least, most })),
+    match found.get_str(option) {
+        Some(text) => Ok(Some(number_in(alloc, option, text, least, most)?)),
+        None => Ok(None),
     }
 }
 
