@@ -1,5 +1,5 @@
 //! Lines of the log, in both forms.
-use daemon_parts::{Event, LogForm, write_event};
+use daemon_parts::{Departure, Event, LogForm, Publication, VersionNames, write_event};
 use std::alloc::Global;
 use std::net::{IpAddr, Ipv4Addr, Ipv6Addr, SocketAddr};
 use std::test::Fail;
@@ -43,11 +43,11 @@ type Told = (Event<'static>, &'static str, &'static str, &'static str);
 fn daemon_events() -> [Told; 8] {
     [
         (
-            Event::Started {
+            Event::Started(VersionNames {
                 session: 4660,
                 session0: 65_535,
                 serial: 4_294_967_295,
-            },
+            }),
             "started",
             " session=4660 session0=65535 serial=4294967295",
             ",\"session\":4660,\"session0\":65535,\"serial\":4294967295",
@@ -61,17 +61,17 @@ fn daemon_events() -> [Told; 8] {
         (Event::Ready, "ready", "", ""),
         (Event::NoDescriptor, "no-descriptor", "", ""),
         (
-            Event::Published {
+            Event::Published(Publication {
                 session: 4660,
                 serial: 5,
                 announced: 3,
-                withdrawn: 0,
-                records: 3,
+                withdrawn: 1,
+                records: 7,
                 milliseconds: 12,
-            },
+            }),
             "published",
-            " session=4660 serial=5 announced=3 withdrawn=0 records=3 ms=12",
-            ",\"session\":4660,\"serial\":5,\"announced\":3,\"withdrawn\":0,\"records\":3,\"ms\":12",
+            " session=4660 serial=5 announced=3 withdrawn=1 records=7 ms=12",
+            ",\"session\":4660,\"serial\":5,\"announced\":3,\"withdrawn\":1,\"records\":7,\"ms\":12",
         ),
         (
             Event::Memory { what: "publish" },
@@ -179,27 +179,27 @@ fn client_events() -> [Told; 7] {
             ",\"address\":\"192.0.2.1:40000\"",
         ),
         (
-            Event::ClientGone {
+            Event::ClientGone(Departure {
                 address: at,
                 why: "peer closed",
                 version: Some(1),
                 read: 8,
                 written: 60,
                 seconds: 3600,
-            },
+            }),
             "client-gone",
             " address=192.0.2.1:40000 why=\"peer closed\" version=1 read=8 written=60 seconds=3600",
             ",\"address\":\"192.0.2.1:40000\",\"why\":\"peer closed\",\"version\":1,\"read\":8,\"written\":60,\"seconds\":3600",
         ),
         (
-            Event::ClientGone {
+            Event::ClientGone(Departure {
                 address: at,
                 why: "truncated",
                 version: None,
                 read: 0,
                 written: 0,
                 seconds: 0,
-            },
+            }),
             "client-gone",
             " address=192.0.2.1:40000 why=truncated version=none read=0 written=0 seconds=0",
             ",\"address\":\"192.0.2.1:40000\",\"why\":\"truncated\",\"version\":null,\"read\":0,\"written\":0,\"seconds\":0",

@@ -34,7 +34,14 @@ const LINES: &[(&str, &str)] = &[
         "--vrps a --listen 192.0.2.1:323 --listen [::]:3323",
         "listen: [192.0.2.1:323, [::]:3323],",
     ),
+    ("--vrps a --listen 127.0.0.1:0", "listen: [127.0.0.1:0],"),
+    (
+        "--vrps a --listen [2001:db8::1]:65535",
+        "listen: [[2001:db8::1]:65535],",
+    ),
     ("--vrps a --session 0", "session: Some(0),"),
+    ("--vrps a --session0 0", "session0: Some(0),"),
+    ("--vrps a --start 0", "start: Some(0),"),
     ("--vrps a --session 65535", "session: Some(65535),"),
     ("--vrps a --session0 65535", "session0: Some(65535),"),
     ("--vrps a --start 4294967295", "start: Some(4294967295),"),
@@ -65,6 +72,9 @@ const LINES: &[(&str, &str)] = &[
         "Usage: rpkirtrd (--vrps FILE | --points DIR).. [OPTION]..\n",
     ),
     ("-h --once", "Usage: rpkirtrd "),
+    ("--help --keep 0", "Usage: rpkirtrd "),
+    ("--version --help", "Usage: rpkirtrd "),
+    ("--version --vrps a", "rpkirtrd 0.9.0"),
     ("--version", "rpkirtrd 0.9.0"),
     ("-V", "rpkirtrd 0.9.0"),
 ];
@@ -90,31 +100,51 @@ const REFUSED: &[(&str, &str)] = &[
     ),
     (
         "--vrps a --keep 0",
-        "--keep 0: a number from 1 to 65536 is wanted",
+        "--keep \"0\": a number from 1 to 65536 is wanted",
     ),
     (
         "--vrps a --keep 65537",
-        "--keep 65537: a number from 1 to 65536 is wanted",
+        "--keep \"65537\": a number from 1 to 65536 is wanted",
     ),
     (
         "--vrps a --keep 016",
-        "--keep 016: a number from 1 to 65536 is wanted",
+        "--keep \"016\": a number from 1 to 65536 is wanted",
     ),
     (
         "--vrps a --keep +16",
-        "--keep +16: a number from 1 to 65536 is wanted",
+        "--keep \"+16\": a number from 1 to 65536 is wanted",
     ),
     (
         "--vrps a --keep=-16",
-        "--keep -16: a number from 1 to 65536 is wanted",
+        "--keep \"-16\": a number from 1 to 65536 is wanted",
+    ),
+    (
+        "--vrps a --keep -16",
+        "--keep \"-16\": a number from 1 to 65536 is wanted",
+    ),
+    (
+        "--vrps a --keep=",
+        "--keep \"\": a number from 1 to 65536 is wanted",
+    ),
+    (
+        "--vrps a --keep 16s",
+        "--keep \"16s\": a number from 1 to 65536 is wanted",
+    ),
+    (
+        "--vrps a --session 00",
+        "--session \"00\": a number from 0 to 65535 is wanted",
+    ),
+    (
+        "--vrps a --start -0",
+        "--start \"-0\": a number from 0 to 4294967295 is wanted",
     ),
     (
         "--vrps a --keep 0x10",
-        "--keep 0x10: a number from 1 to 65536 is wanted",
+        "--keep \"0x10\": a number from 1 to 65536 is wanted",
     ),
     (
         "--vrps a --keep 18446744073709551616",
-        "--keep 18446744073709551616: a number from 1 to 65536 is wanted",
+        "--keep \"18446744073709551616\": a number from 1 to 65536 is wanted",
     ),
     (
         "--vrps a --keep 1 --keep 2",
@@ -125,28 +155,51 @@ const REFUSED: &[(&str, &str)] = &[
         "the argument '--once' cannot be used multiple times",
     ),
     (
+        "--vrps a --slurm s --slurm s",
+        "the argument '--slurm <FILE>' cannot be used multiple times",
+    ),
+    ("--vrps=", "--vrps \"\": a path is wanted"),
+    ("--vrps a --points=", "--points \"\": a path is wanted"),
+    ("--vrps a --slurm=", "--slurm \"\": a path is wanted"),
+    (
         "--vrps a --session 65536",
-        "--session 65536: a number from 0 to 65535 is wanted",
+        "--session \"65536\": a number from 0 to 65535 is wanted",
     ),
     (
         "--vrps a --session0 65536",
-        "--session0 65536: a number from 0 to 65535 is wanted",
+        "--session0 \"65536\": a number from 0 to 65535 is wanted",
     ),
     (
         "--vrps a --start 4294967296",
-        "--start 4294967296: a number from 0 to 4294967295 is wanted",
+        "--start \"4294967296\": a number from 0 to 4294967295 is wanted",
     ),
     (
         "--vrps a --refresh 86401",
-        "--refresh 86401: a number from 1 to 86400 is wanted",
+        "--refresh \"86401\": a number from 1 to 86400 is wanted",
+    ),
+    (
+        "--vrps a --refresh 0",
+        "--refresh \"0\": a number from 1 to 86400 is wanted",
+    ),
+    (
+        "--vrps a --retry 0",
+        "--retry \"0\": a number from 1 to 7200 is wanted",
     ),
     (
         "--vrps a --retry 7201",
-        "--retry 7201: a number from 1 to 7200 is wanted",
+        "--retry \"7201\": a number from 1 to 7200 is wanted",
     ),
     (
         "--vrps a --expire 599",
-        "--expire 599: a number from 600 to 172800 is wanted",
+        "--expire \"599\": a number from 600 to 172800 is wanted",
+    ),
+    (
+        "--vrps a --expire 172801",
+        "--expire \"172801\": a number from 600 to 172800 is wanted",
+    ),
+    (
+        "--vrps a --retry 7200",
+        "--expire 7200: a number above --refresh (3600) and --retry (7200) is wanted",
     ),
     (
         "--vrps a --refresh 7200",
@@ -154,11 +207,11 @@ const REFUSED: &[(&str, &str)] = &[
     ),
     (
         "--vrps a --check 0",
-        "--check 0: a number from 1 to 4294967295 is wanted",
+        "--check \"0\": a number from 1 to 4294967295 is wanted",
     ),
     (
         "--vrps a --max-age 0",
-        "--max-age 0: a number from 1 to 4294967295 is wanted",
+        "--max-age \"0\": a number from 1 to 4294967295 is wanted",
     ),
     (
         "--vrps a --stop-when-old",
@@ -166,29 +219,102 @@ const REFUSED: &[(&str, &str)] = &[
     ),
     (
         "--vrps a --clients 0",
-        "--clients 0: a number from 1 to 4294967295 is wanted",
+        "--clients \"0\": a number from 1 to 4294967295 is wanted",
     ),
     (
         "--vrps a --stall 0",
-        "--stall 0: a number from 1 to 4294967295 is wanted",
+        "--stall \"0\": a number from 1 to 4294967295 is wanted",
+    ),
+    (
+        "--vrps a --check 4294967296",
+        "--check \"4294967296\": a number from 1 to 4294967295 is wanted",
+    ),
+    (
+        "--vrps a --max-age 4294967296",
+        "--max-age \"4294967296\": a number from 1 to 4294967295 is wanted",
+    ),
+    (
+        "--vrps a --clients 4294967296",
+        "--clients \"4294967296\": a number from 1 to 4294967295 is wanted",
+    ),
+    (
+        "--vrps a --stall 4294967296",
+        "--stall \"4294967296\": a number from 1 to 4294967295 is wanted",
     ),
     (
         "--vrps a --listen localhost:323",
-        "--listen localhost:323: an address with a port, as 192.0.2.1:3323 or [2001:db8::1]:3323, is wanted",
+        "--listen \"localhost:323\": an address with a port, as 192.0.2.1:3323 or [2001:db8::1]:3323, is wanted",
+    ),
+    (
+        "--vrps a --listen=::1:3323",
+        "--listen \"::1:3323\": an address with a port, as 192.0.2.1:3323 or [2001:db8::1]:3323, is wanted",
+    ),
+    (
+        "--vrps a --listen=[::1]",
+        "--listen \"[::1]\": an address with a port, as 192.0.2.1:3323 or [2001:db8::1]:3323, is wanted",
+    ),
+    (
+        "--vrps a --listen=127.0.0.1",
+        "--listen \"127.0.0.1\": an address with a port, as 192.0.2.1:3323 or [2001:db8::1]:3323, is wanted",
+    ),
+    (
+        "--vrps a --listen=127.0.0.1:",
+        "--listen \"127.0.0.1:\": an address with a port, as 192.0.2.1:3323 or [2001:db8::1]:3323, is wanted",
+    ),
+    (
+        "--vrps a --listen=127.0.0.1:65536",
+        "--listen \"127.0.0.1:65536\": an address with a port, as 192.0.2.1:3323 or [2001:db8::1]:3323, is wanted",
+    ),
+    (
+        "--vrps a --listen=127.0.0.1:03323",
+        "--listen \"127.0.0.1:03323\": an address with a port, as 192.0.2.1:3323 or [2001:db8::1]:3323, is wanted",
+    ),
+    (
+        "--vrps a --listen=127.0.0.1:+3323",
+        "--listen \"127.0.0.1:+3323\": an address with a port, as 192.0.2.1:3323 or [2001:db8::1]:3323, is wanted",
+    ),
+    (
+        "--vrps a --listen=:3323",
+        "--listen \":3323\": an address with a port, as 192.0.2.1:3323 or [2001:db8::1]:3323, is wanted",
+    ),
+    (
+        "--vrps a --listen=",
+        "--listen \"\": an address with a port, as 192.0.2.1:3323 or [2001:db8::1]:3323, is wanted",
     ),
     (
         "--vrps a --listen ::1",
-        "--listen ::1: an address with a port, as 192.0.2.1:3323 or [2001:db8::1]:3323, is wanted",
+        "--listen \"::1\": an address with a port, as 192.0.2.1:3323 or [2001:db8::1]:3323, is wanted",
     ),
     (
         "--vrps a --status 9323",
-        "--status 9323: an address with a port, as 192.0.2.1:3323 or [2001:db8::1]:3323, is wanted",
+        "--status \"9323\": an address with a port, as 192.0.2.1:3323 or [2001:db8::1]:3323, is wanted",
     ),
-    ("--vrps a --log xml", "--log xml: text or json is wanted"),
+    (
+        "--vrps a --log xml",
+        "--log \"xml\": text or json is wanted",
+    ),
     (
         "--vrps",
         "a value is required for '--vrps <FILE>' but none was supplied",
     ),
+    (
+        "--vrps --points d",
+        "a value is required for '--vrps <FILE>' but none was supplied",
+    ),
+    (
+        "--vrps a --keep --once",
+        "a value is required for '--keep <NUMBER>' but none was supplied",
+    ),
+    (
+        "--vrps a --vrp b",
+        "unexpected argument '--vrp' found\n\n  tip: a similar argument exists: '--vrps'",
+    ),
+    ("--vrps a -x", "unexpected argument '-x' found"),
+    (
+        "--vrps a --once=yes",
+        "unexpected value 'yes' for '--once' found; no more were expected",
+    ),
+    ("--vrps a -- b", "unexpected argument 'b' found"),
     ("--vrps a b", "unexpected argument 'b' found"),
     ("--vrps a --reload", "unexpected argument '--reload' found"),
 ];
@@ -202,29 +328,50 @@ fn lines_are_refused(rt: HostRuntime) -> Result<(), Fail> {
     Ok(())
 }
 
-/// The options, and what stands behind them.
-const OPTIONS: &[&str] = &[
-    "--vrps FILE",
-    "--points DIR",
-    "--slurm FILE",
-    "--listen ADDRESS:PORT",
-    "--session NUMBER",
-    "--session0 NUMBER",
-    "--start NUMBER",
-    "--keep NUMBER",
-    "--refresh SECONDS",
-    "--retry SECONDS",
-    "--expire SECONDS",
-    "--check SECONDS",
-    "--max-age SECONDS",
-    "--stop-when-old",
-    "--clients NUMBER",
-    "--stall SECONDS",
-    "--status ADDRESS:PORT",
-    "--log FORM",
-    "--once",
-    "-h, --help",
-    "-V, --version",
+/// The options with what stands behind them, and what the help says of their bounds and of what stands in their place.
+const OPTIONS: &[(&str, &str)] = &[
+    ("--vrps FILE", "may stand several times."),
+    ("--points DIR", "may stand several times."),
+    ("--slurm FILE", "RFC 8416"),
+    (
+        "--check SECONDS",
+        "from 1 to 4294967295; the default is 60.",
+    ),
+    (
+        "--max-age SECONDS",
+        "from 1 to 4294967295; by default no file is old.",
+    ),
+    ("--stop-when-old", "It wants --max-age beside it."),
+    (
+        "--listen ADDRESS:PORT",
+        "the default is 127.0.0.1:3323. Port 0 is one that is free. [::]:PORT takes IPv4 too, so 0.0.0.0:PORT beside it is refused as in use.",
+    ),
+    (
+        "--clients NUMBER",
+        "from 1 to 4294967295; the default is 256.",
+    ),
+    (
+        "--stall SECONDS",
+        "from 1 to 4294967295; the default is 120.",
+    ),
+    ("--session NUMBER", "from 0 to 65535. By default"),
+    ("--session0 NUMBER", "from 0 to 65535. By default"),
+    ("--start NUMBER", "from 0 to 4294967295. By default"),
+    ("--keep NUMBER", "from 1 to 65536; the default is 16."),
+    ("--refresh SECONDS", "from 1 to 86400; the default is 3600."),
+    ("--retry SECONDS", "from 1 to 7200; the default is 600."),
+    (
+        "--expire SECONDS",
+        "from 600 to 172800, and more than both others; the default is 7200.",
+    ),
+    (
+        "--status ADDRESS:PORT",
+        "refuses to start with this option.",
+    ),
+    ("--log FORM", "text or json. The default is text."),
+    ("--once", "when the first router has gone."),
+    ("-h, --help", "printed."),
+    ("-V, --version", "printed."),
 ];
 
 /// Whether each line of a text has at most 80 columns, and none ends in a blank.
@@ -233,13 +380,24 @@ fn fits_a_screen(text: &str) -> bool {
         .all(|line| line.len() <= 80 && !line.ends_with(' '))
 }
 
+/// What the help says of an option, in one line.
+fn said_of(alloc: Global, help: &str, option: &str) -> Result<String, Fail> {
+    let head = format!(in alloc; "\n  {option}\n")?;
+    let (_, behind) = help.split_once(head.as_str()).ok_or("no such option")?;
+    let mut said = String::new(alloc);
+    for line in behind.lines().take_while(|line| line.starts_with("      ")) {
+        write!(said, "{} ", line.trim())?;
+    }
+    Ok(said)
+}
+
 #[test]
 fn help_names_each_option(rt: HostRuntime) -> Result<(), Fail> {
     let help = answer_to(rt.alloc(), "--help")?;
     assert!(rt; fits_a_screen(help.as_str()));
-    for option in OPTIONS {
-        let line = format!(in rt.alloc(); "\n  {option}\n      ")?;
-        assert!(rt; help.as_str().contains(line.as_str()), "{option}");
+    for &(option, part) in OPTIONS {
+        let said = said_of(rt.alloc(), help.as_str(), option)?;
+        assert!(rt; said.as_str().contains(part), "{option}: {said}");
     }
     Ok(())
 }
