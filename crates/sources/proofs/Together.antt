@@ -1,10 +1,10 @@
 -- What is made of several sets.
-use Rattle.std.specs.Prelude.{◌≡◌, ◌≤◌, ◌⊎◌, ℕ, Bool, true, false, not, ◌&&◌, ◌||◌, List, [], ◌∷◌, Option, Some, None, Result, Ok, Err, refl, length}
-use Rattle.std.proofs.Common.{arith, inl, inr, ap, sym, ◌∙◌, subst, IfOk}
+use Rattle.std.specs.Prelude.{◌≡◌, ◌≤◌, ℕ, Bool, true, false, not, ◌&&◌, ◌||◌, List, [], ◌∷◌, Option, Some, None, Result, Ok, Err, refl, length}
+use Rattle.std.proofs.Common.{arith, inl, inr, ap, sym, ◌∙◌, IfOk}
 use Rattle.std.specs.List.{list_any}
 use Rattle.der_lite.specs.Moments.{CivilMoment}
 use Rattle.prefixes.specs.Payload.{Payload}
-use Rattle.points.specs.InUse.{Points, Lists}
+use Rattle.points.specs.InUse.{Points}
 use Rattle.vrps.specs.VrpSet.{VrpSet, empty, has, listing, set_of, size, union, without}
 use Rattle.vrps.specs.declared.set.SetFault.{SetFault}
 use Rattle.vrps.proofs.Listed.{size_of_listing}
