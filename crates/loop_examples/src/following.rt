@@ -1,8 +1,9 @@
 //! A daemon follows its files.
 use crate::stage::Stage;
 use crate::wires::{Wire, is_list, shared, wire};
+use daemon_parts::VersionNames;
 use example_values::hex::bytes;
-use rtr_daemon::{Daemon, Names, Paths, Plan};
+use rtr_daemon::{Daemon, Paths, Plan};
 use rtr_ends::{Cache, Timing};
 use rtr_server::Server;
 use std::alloc::Global;
@@ -29,7 +30,7 @@ const PLAN: Plan = Plan {
 fn opened(alloc: Global, plan: Plan, stage: &mut Stage) -> Result<Daemon<VersionLog, Wire>, Fail> {
     let store = VersionLog::new(alloc, 4660, 5, 4)?;
     let cache = Cache::new(alloc, store, Timing::default());
-    let names = Names {
+    let names = VersionNames {
         session: 4660,
         session0: 4660,
         serial: 5,

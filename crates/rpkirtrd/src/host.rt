@@ -17,6 +17,9 @@ use std::time::{Clock, Duration, Instant, SystemTime, UNIX_EPOCH};
 /// How many events one wait gives at most.
 const EVENTS: usize = 1024;
 
+/// How many bytes of a line of the log find room without more memory.
+const LINE_ROOM: usize = 4096;
+
 /// The number of the first line; gates have those below.
 const FIRST_LINE: usize = 65_536;
 
@@ -70,13 +73,13 @@ impl<'a, R: Files + Net + Clock + AllocGlobal, E: Write> Host<'a, R, E> {
             form,
             poll,
             events: Events::with_capacity(rt.alloc(), EVENTS).map_err(io::Error::from)?,
-            ready: VecDeque::new(rt.alloc()),
+            ready: VecDeque::with_capacity(rt.alloc(), EVENTS).map_err(io::Error::from)?,
             listeners: Vec::new(rt.alloc()),
             next_line: FIRST_LINE,
             began: Instant::now(rt)?,
             seconds: 0,
             millis: 0,
-            text: Vec::new(rt.alloc()),
+            text: Vec::with_capacity(rt.alloc(), LINE_ROOM).map_err(io::Error::from)?,
         };
         for address in addresses {
             if let Err(error) = host.listen(*address) {
@@ -133,8 +136,9 @@ impl<'a, R: Clock + AllocGlobal, E: Write> Time for Host<'a, R, E> {
 impl<'a, R: Clock + AllocGlobal, E: Write> Journal for Host<'a, R, E> {
     fn tell(&mut self, seconds: u64, event: &Event<'_>) {
         self.text.clear();
-        let _ = write_event(&mut self.text, self.form, seconds, event);
-        let _ = self.err.write_all(self.text.as_slice());
+        if write_event(&mut self.text, self.form, seconds, event).is_ok() {
+            let _ = self.err.write_all(self.text.as_slice());
+        }
     }
 }
 

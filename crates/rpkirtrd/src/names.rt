@@ -1,9 +1,9 @@
 //! The names of the versions that are served.
-use daemon_parts::{first_serial, session_of, session0_of};
+use daemon_parts::{VersionNames, first_serial, session_of, session0_of};
 use daemon_words::Settings;
-use rtr_daemon::Names;
 use std::alloc::{AllocError, Global};
 use std::fs;
+use std::io::ErrorKind;
 use std::net::SocketAddr;
 use std::rt::Files;
 
@@ -15,8 +15,8 @@ pub fn names_of<R: Files + AllocGlobal>(
     rt: &R,
     settings: &Settings,
     start: u64,
-) -> Result<Names, AllocError> {
-    Ok(Names {
+) -> Result<VersionNames, AllocError> {
+    Ok(VersionNames {
         session: match settings.session {
             Some(session) => session,
             None => own_session(rt, settings)?,
@@ -31,6 +31,7 @@ fn own_session<R: Files + AllocGlobal>(rt: &R, settings: &Settings) -> Result<u1
     let alloc = rt.alloc();
     let machine = match fs::read(rt, MACHINE_ID) {
         Ok(bytes) => bytes,
+        Err(e) if e.kind() == ErrorKind::OutOfMemory => return Err(AllocError),
         Err(_) => Vec::new(alloc),
     };
     let listen = addresses_text(alloc, settings.listen.as_slice())?;

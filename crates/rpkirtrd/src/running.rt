@@ -2,9 +2,9 @@
 use crate::host::{Host, HostFault};
 use crate::line::Line;
 use crate::names::names_of;
-use daemon_parts::Event;
+use daemon_parts::{Event, VersionNames};
 use daemon_words::{Asked, Settings, WordsFault, read_words};
-use rtr_daemon::{Daemon, End, Journal, Names, Paths, Plan, StartFault, Time};
+use rtr_daemon::{Daemon, End, Journal, Paths, Plan, StartFault, Time};
 use rtr_ends::Cache;
 use rtr_server::Server;
 use std::alloc::{AllocError, Global};
@@ -129,7 +129,7 @@ fn open<R: Files + Net + Clock + AllocGlobal + Clone + Drop, E: Write>(
 fn server_of(
     alloc: Global,
     settings: &Settings,
-    names: Names,
+    names: VersionNames,
     most: usize,
 ) -> Result<Server<VersionLog, Line>, AllocError> {
     let store = VersionLog::new(alloc, names.session, names.serial, settings.keep)?;
@@ -174,15 +174,8 @@ fn descriptors() -> usize {
     usize::try_from(limit.rlim_cur).unwrap_or(usize::MAX)
 }
 
-fn tell_start<J: Journal>(names: Names, now: u64, journal: &mut J) {
-    journal.tell(
-        now,
-        &Event::Started {
-            session: names.session,
-            session0: names.session0,
-            serial: names.serial,
-        },
-    );
+fn tell_start<J: Journal>(names: VersionNames, now: u64, journal: &mut J) {
+    journal.tell(now, &Event::Started(names));
 }
 
 /// Tells why there is no start, with the status.

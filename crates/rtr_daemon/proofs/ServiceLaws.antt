@@ -21,7 +21,7 @@ use Rattle.rtr_server.specs.declared.server.Server.{Server}
 use Rattle.rtr_server.specs.declared.turn.Turn.{Turn}
 use Rattle.rtr_server.specs.declared.turn.Turn.TheVariants.{Busy, Gone, WaitsToRead, WaitsToWrite}
 use Rattle.sources.specs.declared.sources.Sources.{Sources}
-use Rattle.rtr_daemon.specs.Serving.{GoesOn, IsLater, IsNewest, IsNewestAt, IsServedAt, Issues, ShowsService}
+use Rattle.rtr_daemon.specs.Serving.{GoesOn, IsLater, IsNewest, IsNewestAt, IsServedAt, Issues, SameSources, ShowsService}
 use Rattle.rtr_daemon.specs.declared.service.Service.{Service}
 
 -- Nothing more was called.
@@ -136,12 +136,6 @@ published_on holds remaining contents p set (Err e) old new h = (p, no_later p, 
 pub owed_on : {S T : Type 0} (holds : ℕ → Instance → S → Type 0) (remaining contents : T → Option (List ℕ)) (old new : Service S T) → new.server ≡ old.server → new.is_owed ≡ true → GoesOn holds remaining contents old new
 owed_on holds remaining contents old new same owed p h =
     (p, no_later p, record { server = subst (λ s. ShowsServer holds remaining contents p s) (sym same) h.server; newest = λ e. absurd (let never : true ≡ false = sym owed ∙ e in cc) })
-
--- The sources have what they had.
-pub record SameSources (old new : Sources) : Type 0 where
-  pub lists : new.lists.items ≡ old.lists.items
-  pub exceptions : new.exceptions ≡ old.exceptions
-  pub repository : new.repository ≡ old.repository
 
 same_newest : (i : Instance) (a b : Sources) → SameSources a b → IsNewest i a → IsNewest i b
 same_newest i a b e (now, h) = (

@@ -1,5 +1,5 @@
 -- What a service serves, and what leads from one service to another.
-use Rattle.std.specs.Prelude.{◌≡◌, ℕ, false, true, List, ◌++◌, Option, Some, None, Result, Ok, Err}
+use Rattle.std.specs.Prelude.{◌≡◌, ◌⊎◌, ℕ, false, true, List, ◌++◌, Option, Some, None, Result, Ok, Err}
 use Rattle.der_lite.specs.Moments.{CivilMoment}
 use Rattle.der_lite.specs.Seconds.{seconds_of}
 use Rattle.vrps.specs.Instance.{Instance, NumberedSet, versions}
@@ -7,8 +7,11 @@ use Rattle.vrps.specs.Stores.{newest}
 use Rattle.vrps.specs.VrpSet.{VrpSet}
 use Rattle.rtr_ends.specs.CacheState.{CacheCall}
 use Rattle.rtr_server.specs.Clients.{Past, ShowsServer, present}
-use Rattle.sources.specs.Served.{ServesAt}
+use Rattle.sources.specs.Served.{ExportTaken, ServesAt, SlurmTaken}
 use Rattle.sources.specs.declared.sources.Sources.{Sources}
+use Rattle.rtr_daemon.specs.declared.following.Source.{Source}
+use Rattle.rtr_daemon.specs.declared.following.Source.TheVariants.{Export, Slurm}
+use Rattle.rtr_daemon.specs.declared.refusal.Refusal.{Refusal}
 use Rattle.rtr_daemon.specs.declared.service.Service.{Service}
 
 -- The same server later: its cache was made so, and these calls more were made on it.
@@ -60,3 +63,23 @@ abbrev pub Issues : {S T : Type 0} → (ℕ → Instance → S → Type 0) → (
 Issues holds remaining contents now old new =
     (p : Past) → ShowsServer holds remaining contents p old.server
     → (q : Past) × IsLater p q × ShowsServer holds remaining contents q new.server × IsNewestAt now (present q).cache new.sources
+
+-- To a server to which this past led, and to the service over it, a later past leads.
+abbrev pub LeadsToService : {S T : Type 0} → (ℕ → Instance → S → Type 0) → (T → Option (List ℕ)) → (T → Option (List ℕ)) → Past → Service S T → Type 0
+LeadsToService holds remaining contents p service = (q : Past) × IsLater p q × ShowsService holds remaining contents q service
+
+-- The sources have what they had.
+pub record SameSources (old new : Sources) : Type 0 where
+  pub lists : new.lists.items ≡ old.lists.items
+  pub exceptions : new.exceptions ≡ old.exceptions
+  pub repository : new.repository ≡ old.repository
+
+-- What a file holds was taken for what the file is, at a moment; or it was refused, and nothing changed.
+abbrev pub TakenAs : Source → List ℕ → ℕ → Result ℕ Refusal → Sources → Sources → Type 0
+TakenAs (Export file) bytes now (Ok expired) old new = ExportTaken bytes now file (Ok expired) old new
+TakenAs Slurm bytes now (Ok expired) old new = SlurmTaken bytes (Ok tt) old new
+TakenAs source bytes now (Err refusal) old new = SameSources old new
+
+-- After a look at a file the sources have what they had, or some bytes were taken for what the file is.
+abbrev pub Follows : Source → ℕ → Sources → Sources → Type 0
+Follows source now old new = SameSources old new ⊎ ((bytes : List ℕ) × (expired : ℕ) × TakenAs source bytes now (Ok expired) old new)

@@ -1,4 +1,7 @@
 //! Gates at which connections come.
+ghost use Rattle.std.specs.Prelude.{◌≡◌};
+ghost use Rattle.rtr_daemon.specs.Serving.{GoesOn};
+
 use crate::daemon::Daemon;
 use crate::surroundings::{Accepted, Journal, Ports, Time};
 use daemon_parts::Event;
@@ -55,29 +58,43 @@ impl Gates {
 }
 
 impl<S: VersionStore, T: Stream + Drop> Daemon<S, T> {
-    /// Takes the connections that wait at the gates.
-    pub(crate) fn accept_waiting<W: Ports<T> + Time + Journal>(&mut self, world: &mut W) {
+    /// Takes the connections that wait at the gates, once a version is published.
+    pub(crate) fn accept_waiting<W: Ports<T> + Time + Journal>(&mut self, world: &mut W)
+        ensures { GoesOn S.holds T.remaining T.contents self.old.service self.new.service }
+    {
+        if !self.is_ready {
+            return;
+        }
         for gate in 0..self.gates.waits.len() {
             self.accept_at(gate, world);
         }
     }
 
     /// Takes connections at a gate, as long as some wait there.
-    fn accept_at<W: Ports<T> + Time + Journal>(&mut self, gate: usize, world: &mut W) {
+    fn accept_at<W: Ports<T> + Time + Journal>(&mut self, gate: usize, world: &mut W)
+        ensures { GoesOn S.holds T.remaining T.contents self.old.service self.new.service }
+    {
         for _connection in 0..AT_ONCE {
             if !self.gates.is_waiting(gate) {
                 return;
             }
-            match world.accept(gate) {
-                Accepted::Line {
-                    line,
-                    number,
-                    address,
-                } => self.admit(line, number, address, world),
-                Accepted::Waits => self.gates.note(gate, false),
-                Accepted::Again => {}
-                Accepted::NoRoom => self.note_full(world),
-            }
+            self.accept_one(gate, world);
+        }
+    }
+
+    /// Takes a connection at a gate, if one waits there.
+    fn accept_one<W: Ports<T> + Time + Journal>(&mut self, gate: usize, world: &mut W)
+        ensures { GoesOn S.holds T.remaining T.contents self.old.service self.new.service }
+    {
+        match world.accept(gate) {
+            Accepted::Line {
+                line,
+                number,
+                address,
+            } => self.admit(line, number, address, world),
+            Accepted::Waits => self.gates.note(gate, false),
+            Accepted::Again => {}
+            Accepted::NoRoom => self.note_full(world),
         }
     }
 
@@ -88,7 +105,9 @@ impl<S: VersionStore, T: Stream + Drop> Daemon<S, T> {
         line: usize,
         address: SocketAddr,
         world: &mut W,
-    ) {
+    )
+        ensures { GoesOn S.holds T.remaining T.contents self.old.service self.new.service }
+    {
         let now = world.seconds();
         match self.service.admit(stream) {
             Err(AdmitFault::TooManyClients) => {
@@ -112,7 +131,9 @@ impl<S: VersionStore, T: Stream + Drop> Daemon<S, T> {
     }
 
     /// Notes that there is no room for connections, and tells it.
-    fn note_full<W: Time + Journal>(&mut self, world: &mut W) {
+    fn note_full<W: Time + Journal>(&mut self, world: &mut W)
+        ensures { self.new.service ≡ self.old.service }
+    {
         self.gates.is_full = true;
         let now = world.seconds();
         world.tell(now, &Event::NoDescriptor);

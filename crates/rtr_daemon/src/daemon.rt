@@ -1,12 +1,16 @@
 //! The daemon: what is ready is served, and what is due by the clock is done.
+ghost use Rattle.std.specs.Prelude.{◌≡◌, IfOk};
+ghost use Rattle.rtr_server.specs.Clients.{Past, ShowsServer};
+ghost use Rattle.rtr_daemon.specs.Serving.{Follows, GoesOn, LeadsToService};
+
 use crate::arrivals::Gates;
 use crate::following::{Followed, Look, Source};
 use crate::guests::Guests;
-use crate::looking::{Offering, offer, take};
+use crate::looking::{Offering, offer, take, tell_expired};
 use crate::refusal::{Refusal, StartFault};
 use crate::service::{Issue, Service};
 use crate::surroundings::{Disk, Journal, Ports, Time};
-use daemon_parts::{Event, Pace};
+use daemon_parts::{Event, Pace, Publication, VersionNames};
 use rtr_server::{Server, Stream};
 use sources::Sources;
 use std::alloc::{AllocError, Global};
@@ -15,17 +19,6 @@ use vrps::{Published, VersionStore};
 
 /// How long a turn waits at most where something is due soon, in milliseconds.
 const SOON: u64 = 1000;
-
-/// The names of a cache's versions: its session in version 1 of the protocol, that in version 0, and the serial of the first.
-#[derive(Clone, Copy, Debug, PartialEq, Eq)]
-pub struct Names {
-    /// The session in version 1.
-    pub session: u16,
-    /// The session in version 0.
-    pub session0: u16,
-    /// The serial of the first version.
-    pub serial: u32,
-}
 
 /// From where comes what is served.
 #[derive(Debug, Drop)]
@@ -69,7 +62,7 @@ pub enum End {
 pub struct Daemon<S, T> {
     pub(crate) alloc: Global,
     pub(crate) plan: Plan,
-    names: Names,
+    names: VersionNames,
     pub(crate) service: Service<S, T>,
     pub(crate) guests: Guests,
     pub(crate) gates: Gates,
@@ -77,7 +70,7 @@ pub struct Daemon<S, T> {
     pub(crate) points: Vec<Offering>,
     pace: Pace,
     /// Whether a version was published.
-    is_ready: bool,
+    pub(crate) is_ready: bool,
     /// Whether a client has gone.
     pub(crate) has_parted: bool,
     /// Whether an export is older than it may be.
@@ -89,16 +82,18 @@ pub struct Daemon<S, T> {
 }
 
 impl<S: VersionStore + Drop, T: Stream + Drop> Daemon<S, T> {
-    /// A daemon over a server to whose cache nothing was published. It reads all files, and tells the first that it cannot take. The first version is published
-    /// in a later second than this, and no router is taken in before.
-    pub fn open<W: Disk + Time>(
+    /// A daemon over a server to whose cache nothing was published. It reads all files, and answers the first that it cannot take. The first version is
+    /// published in a later second than this, and no router is taken in before.
+    pub fn open<W: Disk + Time + Journal>(
         alloc: Global,
         plan: Plan,
-        names: Names,
+        names: VersionNames,
         server: Server<S, T>,
         sources: Paths,
         world: &mut W,
-    ) -> Result<Daemon<S, T>, StartFault> {
+    ) -> Result<Daemon<S, T>, StartFault>
+        ensures { IfOk result (λ daemon. (p : Past) → ShowsServer S.holds T.remaining T.contents p server → LeadsToService S.holds T.remaining T.contents p daemon.service) }
+    {
         let now = world.seconds();
         let millis = world.millis();
         let Paths {
@@ -121,7 +116,7 @@ impl<S: VersionStore + Drop, T: Stream + Drop> Daemon<S, T> {
         let Ok(gates) = Gates::new(alloc, plan.gates) else {
             return Err(StartFault::memory());
         };
-        Ok(Daemon {
+        let mut daemon = Daemon {
             alloc,
             plan,
             names,
@@ -136,20 +131,22 @@ impl<S: VersionStore + Drop, T: Stream + Drop> Daemon<S, T> {
             is_old: false,
             next_check: millis.saturating_add(plan.check),
             next_round: millis,
-        })
+        };
+        daemon.judge_ages(world);
+        Ok(daemon)
     }
 
     /// One turn: it waits until something is ready or due, and does it. It answers why the daemon is to end, where it is.
     pub fn turn<W: Ports<T> + Disk + Time + Journal>(
         &mut self,
         world: &mut W,
-    ) -> io::Result<Option<End>> {
+    ) -> io::Result<Option<End>>
+        ensures { GoesOn S.holds T.remaining T.contents self.old.service self.new.service }
+    {
         let wait = self.wait(world.millis());
         world.wait(wait)?;
         self.take_ready(world);
-        if self.is_ready {
-            self.accept_waiting(world);
-        }
+        self.accept_waiting(world);
         self.serve_all(world);
         self.do_what_is_due(world);
         Ok(self.end())
@@ -167,26 +164,46 @@ impl<S: VersionStore + Drop, T: Stream + Drop> Daemon<S, T> {
         left
     }
 
-    /// Looks at the files, closes those that take nothing, and publishes, where it is time for that.
-    fn do_what_is_due<W: Disk + Time + Journal>(&mut self, world: &mut W) {
+    /// Does what is due by the clock.
+    fn do_what_is_due<W: Disk + Time + Journal>(&mut self, world: &mut W)
+        ensures { GoesOn S.holds T.remaining T.contents self.old.service self.new.service }
+    {
         let now = world.millis();
-        if now >= self.next_check {
-            self.next_check = now.saturating_add(self.plan.check);
-            self.next_round = now;
-            self.gates.has_room();
-            self.follow_all(world);
-            self.offer_all(world);
-            self.judge_ages(world);
+        self.check(now, world);
+        self.go_round(now, world);
+    }
+
+    /// Looks at the files, where it is time for that.
+    fn check<W: Disk + Time + Journal>(&mut self, now: u64, world: &mut W)
+        ensures { GoesOn S.holds T.remaining T.contents self.old.service self.new.service }
+    {
+        if now < self.next_check {
+            return;
         }
-        if now >= self.next_round {
-            self.next_round = now.saturating_add(SOON);
-            self.drop_stalled(world);
-            self.publish_owed(world);
+        self.next_check = now.saturating_add(self.plan.check);
+        self.next_round = now;
+        self.gates.has_room();
+        self.follow_all(world);
+        self.offer_all(world);
+        self.judge_ages(world);
+    }
+
+    /// Closes those that take nothing, and publishes, where it is time for that.
+    fn go_round<W: Time + Journal>(&mut self, now: u64, world: &mut W)
+        ensures { GoesOn S.holds T.remaining T.contents self.old.service self.new.service }
+    {
+        if now < self.next_round {
+            return;
         }
+        self.next_round = now.saturating_add(SOON);
+        self.drop_stalled(world);
+        self.publish_owed(world);
     }
 
     /// Publishes what is owed, where the last version is of an earlier second.
-    fn publish_owed<W: Time + Journal>(&mut self, world: &mut W) {
+    fn publish_owed<W: Time + Journal>(&mut self, world: &mut W)
+        ensures { GoesOn S.holds T.remaining T.contents self.old.service self.new.service }
+    {
         let now = world.seconds();
         if !self.service.is_owed() {
             return;
@@ -202,7 +219,9 @@ impl<S: VersionStore + Drop, T: Stream + Drop> Daemon<S, T> {
     }
 
     /// Notes what was published, and has all routers told.
-    fn note_issue<W: Time + Journal>(&mut self, issue: Issue, now: u64, began: u64, world: &mut W) {
+    fn note_issue<W: Time + Journal>(&mut self, issue: Issue, now: u64, began: u64, world: &mut W)
+        ensures { self.new.service ≡ self.old.service }
+    {
         let Published::New(serial) = issue.published else {
             return;
         };
@@ -211,14 +230,14 @@ impl<S: VersionStore + Drop, T: Stream + Drop> Daemon<S, T> {
         let milliseconds = world.millis().saturating_sub(began);
         world.tell(
             now,
-            &Event::Published {
+            &Event::Published(Publication {
                 session: self.names.session,
                 serial: serial.0,
                 announced: issue.announced,
                 withdrawn: issue.withdrawn,
                 records: issue.records,
                 milliseconds,
-            },
+            }),
         );
         if !self.is_ready {
             self.is_ready = true;
@@ -227,7 +246,9 @@ impl<S: VersionStore + Drop, T: Stream + Drop> Daemon<S, T> {
     }
 
     /// Tells that nothing could be published. It is tried again when files are looked at next.
-    fn note_failure<W: Journal>(&mut self, refusal: &Refusal, now: u64, world: &mut W) {
+    fn note_failure<W: Journal>(&mut self, refusal: &Refusal, now: u64, world: &mut W)
+        ensures { self.new.service ≡ self.old.service }
+    {
         self.next_round = self.next_check;
         if let Ok(reason) = refusal.to_string(self.alloc) {
             world.tell(
@@ -241,21 +262,15 @@ impl<S: VersionStore + Drop, T: Stream + Drop> Daemon<S, T> {
     }
 
     /// Tells which exports are older than they may be, and which are not any more.
-    fn judge_ages<W: Time + Journal>(&mut self, world: &mut W) {
+    fn judge_ages<W: Time + Journal>(&mut self, world: &mut W)
+        ensures { self.new.service ≡ self.old.service }
+    {
         let Some(most) = self.plan.max_age else {
             return;
         };
         let now = world.seconds();
-        for file in self.files.iter_mut() {
-            if let Source::Export(number) = file.source {
-                if let Some(built) = self.service.sources().built(number) {
-                    let age = now.saturating_sub(built);
-                    if file.is_aged(age > most) {
-                        tell_age(file.path.as_str(), age, most, now, world);
-                    }
-                    self.is_old = self.is_old || age > most;
-                }
-            }
+        if is_any_old(&mut self.files, self.service.sources(), most, now, world) {
+            self.is_old = true;
         }
     }
 
@@ -273,6 +288,35 @@ impl<S: VersionStore + Drop, T: Stream + Drop> Daemon<S, T> {
     /// The server.
     pub fn server(&self) -> &Server<S, T> {
         self.service.server()
+    }
+}
+
+/// Whether an export is older than so many seconds. Of each it is told where that is news.
+fn is_any_old<W: Journal>(
+    files: &mut Vec<Followed>,
+    sources: &Sources,
+    most: u64,
+    now: u64,
+    world: &mut W,
+) -> bool {
+    let mut is_old = false;
+    for file in files.iter_mut() {
+        if let Some(built) = built_of(file.source, sources) {
+            let age = now.saturating_sub(built);
+            if file.is_aged(age > most) {
+                tell_age(file.path.as_str(), age, most, now, world);
+            }
+            is_old = is_old || age > most;
+        }
+    }
+    is_old
+}
+
+/// When what a file has was made, where it says so.
+fn built_of(source: Source, sources: &Sources) -> Option<u64> {
+    match source {
+        Source::Export(number) => sources.built(number),
+        Source::Slurm => None,
     }
 }
 
@@ -311,36 +355,42 @@ fn all_offered(alloc: Global, points: Vec<String>) -> Result<Vec<Offering>, Allo
 }
 
 /// Reads each file, and takes it.
-fn read_all<S: VersionStore, T: Stream + Drop, W: Disk>(
+fn read_all<S: VersionStore, T: Stream + Drop, W: Disk + Journal>(
     files: &mut Vec<Followed>,
     service: &mut Service<S, T>,
     alloc: Global,
     now: u64,
     world: &mut W,
-) -> Result<(), StartFault> {
+) -> Result<(), StartFault>
+    ensures { GoesOn S.holds T.remaining T.contents service.old service.new }
+{
     for file in files.iter_mut() {
-        if let Err(refusal) = read_one(file, service, now, world) {
-            return Err(StartFault::of(file.path.as_str(), alloc, refusal));
+        match read_one(file, service, now, world) {
+            Ok(expired) => tell_expired(file.path.as_str(), expired, now, world),
+            Err(refusal) => return Err(StartFault::of(file.path.as_str(), alloc, refusal)),
         }
     }
     Ok(())
 }
 
-/// Reads a file, and takes it. What changes while it is read is read again, a few times.
+/// Reads a file, takes it, and answers how many of its entries had expired. What changes while it is read is read again, a few times.
 fn read_one<S: VersionStore, T: Stream + Drop, W: Disk>(
     file: &mut Followed,
     service: &mut Service<S, T>,
     now: u64,
     world: &mut W,
-) -> Result<(), Refusal> {
+) -> Result<u64, Refusal>
+    ensures goes { GoesOn S.holds T.remaining T.contents service.old service.new }
+    ensures follows { Follows file.old.source now service.old.sources service.new.sources }
+{
     for _time in 0..16u8 {
         match file.look(world, false) {
             Look::Same | Look::RefusedBefore => {}
             Look::Failed(error) => return Err(Refusal::Device(error)),
             Look::Read(stamp, bytes) => {
-                take(service, file.source, bytes.as_slice(), now)?;
+                let expired = take(service, file.source, bytes.as_slice(), now)?;
                 let _ = file.take(stamp);
-                return Ok(());
+                return Ok(expired);
             }
         }
     }
@@ -353,7 +403,9 @@ fn read_points<S: VersionStore, T: Stream + Drop, W: Disk>(
     alloc: Global,
     now: u64,
     world: &mut W,
-) -> Result<(), StartFault> {
+) -> Result<(), StartFault>
+    ensures { GoesOn S.holds T.remaining T.contents service.old service.new }
+{
     for point in points.iter_mut() {
         if let Err(refusal) = offer(service, point.path.as_str(), alloc, now, world) {
             return Err(StartFault::of(point.path.as_str(), alloc, refusal));

@@ -34,7 +34,7 @@ mod service;
 mod serving;
 mod surroundings;
 
-pub use daemon::{Daemon, End, Names, Paths, Plan};
+pub use daemon::{Daemon, End, Paths, Plan};
 pub use refusal::{Refusal, StartFault};
 pub use service::{Issue, Service};
 pub use surroundings::{Accepted, Disk, Journal, Ports, Ready, Stamp, Time};

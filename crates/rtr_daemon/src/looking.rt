@@ -1,4 +1,7 @@
 //! Looking at the files, and taking what is new.
+ghost use Rattle.std.specs.Prelude.{◌≡◌};
+ghost use Rattle.rtr_daemon.specs.Serving.{Follows, GoesOn, TakenAs, TakesSo};
+
 use crate::daemon::Daemon;
 use crate::following::{Followed, Look, Source};
 use crate::refusal::Refusal;
@@ -52,24 +55,28 @@ pub(crate) enum News {
     Nothing,
     /// Why it was refused.
     Refused,
-    /// That it is taken again, after a refusal that was told.
-    TakenAgain,
+    /// It was taken: whether after a refusal that was told, and how many of its entries had expired.
+    Taken { again: bool, expired: u64 },
 }
 
-/// Takes what a file holds.
+/// Takes what a file holds, and answers how many of its entries had expired.
 pub(crate) fn take<S: VersionStore, T: Stream + Drop>(
     service: &mut Service<S, T>,
     source: Source,
     bytes: &[u8],
     now: u64,
-) -> Result<(), Refusal> {
+) -> Result<u64, Refusal>
+    ensures goes { GoesOn S.holds T.remaining T.contents service.old service.new }
+    ensures takes { TakesSo result service.old service.new }
+    ensures taken { TakenAs source bytes.now now result service.old.sources service.new.sources }
+{
     match source {
         Source::Export(file) => match service.take_export(file, bytes, now) {
-            Ok(_expired) => Ok(()),
+            Ok(expired) => Ok(expired),
             Err(fault) => Err(Refusal::Export(fault)),
         },
         Source::Slurm => match service.take_slurm(bytes) {
-            Ok(()) => Ok(()),
+            Ok(()) => Ok(0),
             Err(fault) => Err(Refusal::Slurm(fault)),
         },
     }
@@ -82,7 +89,10 @@ pub(crate) fn offer<S: VersionStore, T: Stream + Drop, W: Disk>(
     alloc: Global,
     now: u64,
     world: &mut W,
-) -> Result<Offered, Refusal> {
+) -> Result<Offered, Refusal>
+    ensures goes { GoesOn S.holds T.remaining T.contents service.old service.new }
+    ensures server { service.new.server ≡ service.old.server }
+{
     match world.directory(path) {
         Err(error) => Err(Refusal::Device(error)),
         Ok(directory) => service.offer(&directory, alloc, now),
@@ -102,15 +112,12 @@ fn has_expired<S: VersionStore, T: Stream + Drop>(
 }
 
 /// Notes whether what a file holds was taken, and answers what is to be told.
-fn note(file: &mut Followed, stamp: Stamp, taken: Result<(), Refusal>) -> News {
+fn note(file: &mut Followed, stamp: Stamp, taken: Result<u64, Refusal>) -> News {
     match taken {
-        Ok(()) => {
-            if file.take(stamp) {
-                News::TakenAgain
-            } else {
-                News::Nothing
-            }
-        }
+        Ok(expired) => News::Taken {
+            again: file.take(stamp),
+            expired,
+        },
         Err(refusal) => news_if(file.refuse(Some(stamp), refusal)),
     }
 }
@@ -129,7 +136,11 @@ fn follow<S: VersionStore, T: Stream + Drop, W: Disk>(
     service: &mut Service<S, T>,
     now: u64,
     world: &mut W,
-) -> News {
+) -> News
+    ensures goes { GoesOn S.holds T.remaining T.contents service.old service.new }
+    ensures server { service.new.server ≡ service.old.server }
+    ensures follows { Follows file.old.source now service.old.sources service.new.sources }
+{
     let anew = has_expired(service, file.source, now);
     match file.look(world, anew) {
         Look::Same => News::Nothing,
@@ -144,35 +155,53 @@ fn follow<S: VersionStore, T: Stream + Drop, W: Disk>(
 
 impl<S: VersionStore, T: Stream + Drop> Daemon<S, T> {
     /// Looks at all files.
-    pub(crate) fn follow_all<W: Disk + Time + Journal>(&mut self, world: &mut W) {
-        for file in self.files.iter_mut() {
-            let now = world.seconds();
-            match follow(file, &mut self.service, now, world) {
-                News::Nothing => {}
-                News::TakenAgain => world.tell(
-                    now,
-                    &Event::Taken {
-                        file: file.path.as_str(),
-                    },
-                ),
-                News::Refused => tell_refused(self.alloc, file, now, world),
-            }
-        }
+    pub(crate) fn follow_all<W: Disk + Time + Journal>(&mut self, world: &mut W)
+        ensures goes { GoesOn S.holds T.remaining T.contents self.old.service self.new.service }
+        ensures server { self.new.service.server ≡ self.old.service.server }
+    {
+        follow_each(&mut self.files, &mut self.service, self.alloc, world);
     }
 
     /// Offers all directories.
-    pub(crate) fn offer_all<W: Disk + Time + Journal>(&mut self, world: &mut W) {
-        for point in self.points.iter_mut() {
-            let now = world.seconds();
-            let offered = offer(
-                &mut self.service,
-                point.path.as_str(),
-                self.alloc,
-                now,
-                world,
-            );
-            note_offer(self.alloc, point, offered, now, world);
-        }
+    pub(crate) fn offer_all<W: Disk + Time + Journal>(&mut self, world: &mut W)
+        ensures goes { GoesOn S.holds T.remaining T.contents self.old.service self.new.service }
+        ensures server { self.new.service.server ≡ self.old.service.server }
+    {
+        offer_each(&mut self.points, &mut self.service, self.alloc, world);
+    }
+}
+
+/// Looks at each file, takes what is new, and tells what came of it.
+fn follow_each<S: VersionStore, T: Stream + Drop, W: Disk + Time + Journal>(
+    files: &mut Vec<Followed>,
+    service: &mut Service<S, T>,
+    alloc: Global,
+    world: &mut W,
+)
+    ensures goes { GoesOn S.holds T.remaining T.contents service.old service.new }
+    ensures server { service.new.server ≡ service.old.server }
+{
+    for file in files.iter_mut() {
+        let now = world.seconds();
+        let news = follow(file, service, now, world);
+        tell_news(alloc, file, news, now, world);
+    }
+}
+
+/// Offers each directory, and tells what came of it.
+fn offer_each<S: VersionStore, T: Stream + Drop, W: Disk + Time + Journal>(
+    points: &mut Vec<Offering>,
+    service: &mut Service<S, T>,
+    alloc: Global,
+    world: &mut W,
+)
+    ensures goes { GoesOn S.holds T.remaining T.contents service.old service.new }
+    ensures server { service.new.server ≡ service.old.server }
+{
+    for point in points.iter_mut() {
+        let now = world.seconds();
+        let offered = offer(service, point.path.as_str(), alloc, now, world);
+        note_offer(alloc, point, offered, now, world);
     }
 }
 
@@ -200,6 +229,28 @@ fn note_offer<W: Journal>(
                 tell_refusal(alloc, point.path.as_str(), &refusal, now, world);
             }
         }
+    }
+}
+
+/// Tells what came of a look at a file.
+fn tell_news<W: Journal>(alloc: Global, file: &Followed, news: News, now: u64, world: &mut W) {
+    let path = file.path.as_str();
+    match news {
+        News::Nothing => {}
+        News::Refused => tell_refused(alloc, file, now, world),
+        News::Taken { again, expired } => {
+            if again {
+                world.tell(now, &Event::Taken { file: path });
+            }
+            tell_expired(path, expired, now, world);
+        }
+    }
+}
+
+/// Tells how many entries of a file had expired when it was read, where some had.
+pub(crate) fn tell_expired<W: Journal>(file: &str, entries: u64, now: u64, world: &mut W) {
+    if entries > 0 {
+        world.tell(now, &Event::Expired { file, entries });
     }
 }
 

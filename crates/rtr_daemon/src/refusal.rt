@@ -2,6 +2,7 @@
 use exports::ExportFault;
 use points::PointFault;
 use slurm::SlurmFault;
+use sources::TakeFault;
 use std::alloc::Global;
 use std::io;
 use thiserror::Error;
@@ -15,7 +16,7 @@ pub enum Refusal {
     Device(io::Error),
     /// It is no export.
     #[error("{0}")]
-    Export(ExportFault),
+    Export(TakeFault),
     /// It holds no local exceptions.
     #[error("{0}")]
     Slurm(SlurmFault),
@@ -39,7 +40,7 @@ impl Refusal {
         match self {
             Refusal::Device(error) if error.kind() == io::ErrorKind::OutOfMemory => 4,
             Refusal::Device(_) | Refusal::Changing => 3,
-            Refusal::Export(ExportFault::Memory)
+            Refusal::Export(TakeFault::Export(ExportFault::Memory))
             | Refusal::Slurm(SlurmFault::Memory)
             | Refusal::Point(PointFault::Memory)
             | Refusal::Set(SetFault::Memory) => 4,

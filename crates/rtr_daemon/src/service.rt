@@ -6,12 +6,12 @@ ghost use Rattle.rtr_daemon.specs.Serving.{GoesOn, IsServedAt, Issues, KeepsSour
 
 use crate::counting::compared;
 use crate::refusal::Refusal;
-use exports::ExportFault;
+use daemon_parts::moment_at;
 use payload_commands::Directory;
 use points::{Offered, PointFault};
 use rtr_server::{AdmitFault, Client, Server, Stream, Turn};
 use slurm::SlurmFault;
-use sources::{Sources, moment_at};
+use sources::{Sources, TakeFault};
 use std::alloc::Global;
 use vrps::{Published, SetFault, VersionStore, VrpSet};
 
@@ -92,14 +92,11 @@ impl<S: VersionStore, T: Stream + Drop> Service<S, T> {
     }
 
     /// Takes the export of a file, where it is one, and answers how many of its entries had expired.
-    pub fn take_export(&mut self, file: usize, bytes: &[u8], now: u64) -> Result<u64, ExportFault>
+    pub fn take_export(&mut self, file: usize, bytes: &[u8], now: u64) -> Result<u64, TakeFault>
         ensures goes { GoesOn S.holds T.remaining T.contents self.old self.new }
         ensures takes { TakesSo result self.old self.new }
         ensures export { ExportTaken bytes.now now file result self.old.sources self.new.sources }
     {
-        if file >= self.sources.files() {
-            return Err(ExportFault::Memory);
-        }
         let expired = self.sources.take_export(file, bytes, now)?;
         self.is_owed = true;
         Ok(expired)

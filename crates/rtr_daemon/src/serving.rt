@@ -1,7 +1,10 @@
 //! Serving clients.
+ghost use Rattle.std.specs.Prelude.{◌≡◌};
+ghost use Rattle.rtr_daemon.specs.Serving.{GoesOn};
+
 use crate::daemon::Daemon;
 use crate::surroundings::{Journal, Ports, Ready, Time};
-use daemon_parts::Event;
+use daemon_parts::{Departure, Event};
 use rtr_pdu::Version;
 use rtr_server::{Carried, Client, Gone, Stream, Turn};
 use vrps::VersionStore;
@@ -21,7 +24,9 @@ struct Seen {
 
 impl<S: VersionStore, T: Stream + Drop> Daemon<S, T> {
     /// Notes what is ready.
-    pub(crate) fn take_ready<W: Ports<T>>(&mut self, world: &mut W) {
+    pub(crate) fn take_ready<W: Ports<T>>(&mut self, world: &mut W)
+        ensures { self.new.service ≡ self.old.service }
+    {
         for _ready in 0..READY {
             match world.next() {
                 None => return,
@@ -32,16 +37,27 @@ impl<S: VersionStore, T: Stream + Drop> Daemon<S, T> {
     }
 
     /// Serves each client that is to be served, once.
-    pub(crate) fn serve_all<W: Time + Journal>(&mut self, world: &mut W) {
+    pub(crate) fn serve_all<W: Time + Journal>(&mut self, world: &mut W)
+        ensures { GoesOn S.holds T.remaining T.contents self.old.service self.new.service }
+    {
         for _client in 0..self.guests.waiting() {
-            if let Some((line, client)) = self.guests.next() {
-                self.serve(line, client, world);
-            }
+            self.serve_next(world);
+        }
+    }
+
+    /// Serves the client that is to be served next.
+    fn serve_next<W: Time + Journal>(&mut self, world: &mut W)
+        ensures { GoesOn S.holds T.remaining T.contents self.old.service self.new.service }
+    {
+        if let Some((line, client)) = self.guests.next() {
+            self.serve(line, client, world);
         }
     }
 
     /// A turn of a client, call by call, and what was known of it before the last one, which moves no byte where the client has gone by it.
-    fn turn_of(&mut self, client: Client) -> (Option<Turn>, Seen) {
+    fn turn_of(&mut self, client: Client) -> (Option<Turn>, Seen)
+        ensures { GoesOn S.holds T.remaining T.contents self.old.service self.new.service }
+    {
         let mut seen = self.seen(client);
         for _call in 0..BUDGET {
             match self.service.serve(client, 1) {
@@ -62,7 +78,9 @@ impl<S: VersionStore, T: Stream + Drop> Daemon<S, T> {
     }
 
     /// One turn of a client.
-    fn serve<W: Time + Journal>(&mut self, line: usize, client: Client, world: &mut W) {
+    fn serve<W: Time + Journal>(&mut self, line: usize, client: Client, world: &mut W)
+        ensures { GoesOn S.holds T.remaining T.contents self.old.service self.new.service }
+    {
         let (turn, seen) = self.turn_of(client);
         match turn {
             None => {}
@@ -79,7 +97,9 @@ impl<S: VersionStore, T: Stream + Drop> Daemon<S, T> {
     }
 
     /// Parts from a client that has gone.
-    fn part<W: Time + Journal>(&mut self, line: usize, why: &str, seen: Seen, world: &mut W) {
+    fn part<W: Time + Journal>(&mut self, line: usize, why: &str, seen: Seen, world: &mut W)
+        ensures { self.new.service ≡ self.old.service }
+    {
         let Some(guest) = self.guests.remove(line) else {
             return;
         };
@@ -90,19 +110,21 @@ impl<S: VersionStore, T: Stream + Drop> Daemon<S, T> {
         let now = world.seconds();
         world.tell(
             now,
-            &Event::ClientGone {
+            &Event::ClientGone(Departure {
                 address: guest.address,
                 why,
                 version: seen.version.map(number_of),
                 read: carried.read,
                 written: carried.written,
                 seconds: stayed,
-            },
+            }),
         );
     }
 
     /// Drops the clients to which nothing could be written for too long.
-    pub(crate) fn drop_stalled<W: Time + Journal>(&mut self, world: &mut W) {
+    pub(crate) fn drop_stalled<W: Time + Journal>(&mut self, world: &mut W)
+        ensures { GoesOn S.holds T.remaining T.contents self.old.service self.new.service }
+    {
         let now = world.millis();
         let Ok(lines) = self.guests.stalled(self.alloc, now, self.plan.stall) else {
             return;
@@ -112,7 +134,9 @@ impl<S: VersionStore, T: Stream + Drop> Daemon<S, T> {
         }
     }
 
-    fn drop_line<W: Time + Journal>(&mut self, line: usize, world: &mut W) {
+    fn drop_line<W: Time + Journal>(&mut self, line: usize, world: &mut W)
+        ensures { GoesOn S.holds T.remaining T.contents self.old.service self.new.service }
+    {
         let Some((client, address)) = self.guests.at(line) else {
             return;
         };

@@ -1,0 +1,6 @@
+use Rattle.rtr_daemon.proofs.ServiceLaws.{then_on}
+use Rattle.rtr_daemon.proofs.daemon.Daemon.accept_at.Goals as goal
+
+pub loop-connection-preserved : goal.loop-connection-preserved
+loop-connection-preserved g c =
+    then_on g.S.VersionStore.holds g.T.Stream.remaining g.T.Stream.contents c.args.self.now.service c.loop-connection.self.service c.accept_one.new.self.service c.loop-connection.invariant c.accept_one.ensures
