@@ -22,3 +22,7 @@ unfoldable pub time_text : CivilMoment → List ℕ
 time_text m =
     decimals 4 m.year ++ codes "-" ++ decimals 2 m.month ++ codes "-" ++ decimals 2 m.day
     ++ codes "T" ++ decimals 2 m.hour ++ codes ":" ++ decimals 2 m.minute ++ codes ":" ++ decimals 2 m.second ++ codes "Z"
+
+-- The text of that moment
+abbrev pub IsTimeOf : ℕ → List ℕ → Type 0
+IsTimeOf seconds text = (m : CivilMoment) × IsAt m seconds × (text ≡ time_text m)

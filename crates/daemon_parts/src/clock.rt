@@ -2,7 +2,7 @@
 ghost use Rattle.std.specs.Prelude.{◌≡◌, ◌<◌, ◌≤◌, ◌+◌, ◌-◌};
 ghost use Rattle.der_lite.specs.Moments.{days_of_month, decimals, is_leap, moment_text, told_moment};
 ghost use Rattle.der_lite.specs.Seconds.{days_of_months, days_of_year, days_of_years};
-ghost use Rattle.daemon_parts.specs.Clock.{IsAt, IsMomentAt, time_text};
+ghost use Rattle.daemon_parts.specs.Clock.{IsAt, IsMomentAt, IsTimeOf, time_text};
 
 use der_lite::Moment;
 
@@ -162,4 +162,12 @@ pub fn moment_at(seconds: u64) -> Option<Moment>
         return None;
     }
     Moment::from_text(&short_text(&civil_at(seconds)))
+}
+
+/// The time so many seconds after the beginning of 1970, as `YYYY-MM-DDTHH:MM:SSZ` (RFC 3339 section 5.6); after the year 9999 its last
+/// second.
+pub fn time_at(seconds: u64) -> [u8; 20]
+    ensures { IsTimeOf seconds result }
+{
+    time_text(&civil_at(seconds))
 }

@@ -28,7 +28,7 @@ mod line;
 mod names;
 mod pace;
 
-pub use clock::moment_at;
+pub use clock::{moment_at, time_at};
 pub use event::{Departure, Event, Publication, VersionNames};
 pub use line::{LogForm, write_event};
 pub use names::{first_serial, session_of, session0_of};
