@@ -1,0 +1,20 @@
+-- Characters of texts from outside, as they stand in other text.
+use Rattle.std.specs.Prelude.{ℕ, List, ◌==◌, if◌then◌else◌, codes, encode_utf8}
+
+-- A character of a text in HTML: those that could begin or end something else stand as references (the HTML Standard, section 13.1.4).
+unfoldable pub html_char : ℕ → List ℕ
+html_char c =
+    if c == 38 then codes "&amp;"
+    else if c == 60 then codes "&lt;"
+    else if c == 62 then codes "&gt;"
+    else if c == 34 then codes "&quot;"
+    else if c == 39 then codes "&#39;"
+    else encode_utf8 c
+
+-- A character of the value of a label: a backslash, a quote and a newline stand behind a backslash (Prometheus, text-based format).
+unfoldable pub label_char : ℕ → List ℕ
+label_char c =
+    if c == 92 then codes "\\\\"
+    else if c == 34 then codes "\\\""
+    else if c == 10 then codes "\\n"
+    else encode_utf8 c

@@ -1,0 +1,5 @@
+pub mod Kinds
+pub mod Query
+pub mod Validity
+pub mod ValidityText
+pub mod Escapes

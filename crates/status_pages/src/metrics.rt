@@ -1,0 +1,296 @@
+//! What a cache is, in the text form of Prometheus.
+
+use crate::status::{FileStatus, PduCounts, Status, Traffic};
+use crate::text::write_label;
+use std::io::{self, Write};
+
+/// Writes what a metric is: its help and its type.
+fn write_head<W: Write>(out: &mut W, name: &str, kind: &str, help: &str) -> io::Result<()> {
+    writeln!(out, "# HELP {name} {help}")?;
+    writeln!(out, "# TYPE {name} {kind}")
+}
+
+/// Writes a metric of one value.
+fn write_one<W: Write>(
+    out: &mut W,
+    name: &str,
+    kind: &str,
+    help: &str,
+    value: u64,
+) -> io::Result<()> {
+    write_head(out, name, kind, help)?;
+    writeln!(out, "{name} {value}")
+}
+
+/// Writes a metric of one value where there is one.
+fn write_any<W: Write>(out: &mut W, name: &str, help: &str, value: Option<u64>) -> io::Result<()> {
+    match value {
+        None => Ok(()),
+        Some(value) => write_one(out, name, "gauge", help, value),
+    }
+}
+
+/// Writes a metric of two values under the words of one label.
+fn write_two<W: Write>(
+    out: &mut W,
+    name: &str,
+    label: &str,
+    first: (&str, u64),
+    second: (&str, u64),
+) -> io::Result<()> {
+    let (word, value) = first;
+    writeln!(out, "{name}{{{label}=\"{word}\"}} {value}")?;
+    let (word, value) = second;
+    writeln!(out, "{name}{{{label}=\"{word}\"}} {value}")
+}
+
+/// What the program is, and since when it runs.
+fn write_program<W: Write>(out: &mut W, status: &Status) -> io::Result<()> {
+    write_head(
+        out,
+        "rpkirtrd_build_info",
+        "gauge",
+        "The version of the program; the value is 1.",
+    )?;
+    out.write_all(b"rpkirtrd_build_info{version=\"")?;
+    write_label(out, status.version)?;
+    out.write_all(b"\"} 1\n")?;
+    write_one(
+        out,
+        "rpkirtrd_start_time_seconds",
+        "gauge",
+        "When the program started, in seconds since 1970.",
+        status.started,
+    )
+}
+
+/// What is served.
+fn write_served<W: Write>(out: &mut W, status: &Status) -> io::Result<()> {
+    write_head(out, "rpkirtrd_vrps", "gauge", "Records that are served.")?;
+    write_two(
+        out,
+        "rpkirtrd_vrps",
+        "family",
+        ("ipv4", status.ipv4),
+        ("ipv6", status.ipv6),
+    )?;
+    write_any(
+        out,
+        "rpkirtrd_serial",
+        "The serial of the version that is served.",
+        status.serial.map(u64::from),
+    )?;
+    write_head(
+        out,
+        "rpkirtrd_session",
+        "gauge",
+        "The session, by the version of the protocol.",
+    )?;
+    write_two(
+        out,
+        "rpkirtrd_session",
+        "version",
+        ("0", u64::from(status.session0)),
+        ("1", u64::from(status.session)),
+    )?;
+    write_any(
+        out,
+        "rpkirtrd_last_change_timestamp_seconds",
+        "When the version that is served was published, in seconds since 1970.",
+        status.changes.last().map(|change| change.at),
+    )
+}
+
+/// How often, and how fast, files were taken.
+fn write_reloads<W: Write>(out: &mut W, status: &Status) -> io::Result<()> {
+    write_head(
+        out,
+        "rpkirtrd_reloads_total",
+        "counter",
+        "Times that a file was read, by whether it was taken.",
+    )?;
+    write_two(
+        out,
+        "rpkirtrd_reloads_total",
+        "result",
+        ("taken", status.reloads_taken),
+        ("refused", status.reloads_refused),
+    )?;
+    let Some(milliseconds) = status.reload_milliseconds else {
+        return Ok(());
+    };
+    write_head(
+        out,
+        "rpkirtrd_reload_seconds",
+        "gauge",
+        "How long it took to take what came last.",
+    )?;
+    let (seconds, rest) = (milliseconds / 1000, milliseconds % 1000);
+    writeln!(out, "rpkirtrd_reload_seconds {seconds}.{rest:03}")
+}
+
+/// Which number of a file is told.
+#[derive(Clone, Copy, PartialEq, Eq)]
+enum Told {
+    Age,
+    Taken,
+    Refused,
+    Old,
+    Expired,
+}
+
+/// The number of a file, if it has one.
+fn told_of(file: &FileStatus, now: u64, what: Told) -> Option<u64> {
+    match what {
+        Told::Age => file.built.map(|built| now.saturating_sub(built)),
+        Told::Taken => file.taken,
+        Told::Refused => Some(u64::from(file.refusal.is_some())),
+        Told::Old => Some(u64::from(file.is_old)),
+        Told::Expired => Some(file.expired),
+    }
+}
+
+/// Writes a metric with a value for each file that has one.
+fn write_of_files<W: Write>(
+    out: &mut W,
+    status: &Status,
+    name: &str,
+    help: &str,
+    what: Told,
+) -> io::Result<()> {
+    write_head(out, name, "gauge", help)?;
+    for file in &status.files {
+        if let Some(value) = told_of(file, status.now, what) {
+            write!(out, "{name}{{file=\"")?;
+            write_label(out, &file.path)?;
+            writeln!(out, "\"}} {value}")?;
+        }
+    }
+    Ok(())
+}
+
+/// What is known of the files.
+fn write_files<W: Write>(out: &mut W, status: &Status) -> io::Result<()> {
+    write_of_files(
+        out,
+        status,
+        "rpkirtrd_export_age_seconds",
+        "How long ago what was taken last of a file was made, as far as it says so.",
+        Told::Age,
+    )?;
+    write_of_files(
+        out,
+        status,
+        "rpkirtrd_file_taken_timestamp_seconds",
+        "When a file was taken last, in seconds since 1970.",
+        Told::Taken,
+    )?;
+    write_of_files(
+        out,
+        status,
+        "rpkirtrd_file_refused",
+        "Whether a file is refused, 1, or not, 0.",
+        Told::Refused,
+    )?;
+    write_of_files(
+        out,
+        status,
+        "rpkirtrd_file_old",
+        "Whether what a file has is older than it may be, 1, or not, 0.",
+        Told::Old,
+    )?;
+    write_of_files(
+        out,
+        status,
+        "rpkirtrd_file_expired_entries",
+        "Entries of a file that have expired.",
+        Told::Expired,
+    )
+}
+
+/// How many clients there are.
+fn write_clients<W: Write>(out: &mut W, status: &Status) -> io::Result<()> {
+    write_one(
+        out,
+        "rpkirtrd_clients",
+        "gauge",
+        "Routers that are connected.",
+        status.clients.len() as u64,
+    )?;
+    write_one(
+        out,
+        "rpkirtrd_clients_max",
+        "gauge",
+        "Routers that may be connected at once.",
+        status.client_limit,
+    )?;
+    write_one(
+        out,
+        "rpkirtrd_connections_total",
+        "counter",
+        "Routers that were taken in since the start.",
+        status.clients_ever,
+    )
+}
+
+/// The types of PDUs with how many there were.
+fn listed(pdus: &PduCounts) -> [(&'static str, u64); 10] {
+    [
+        ("serial_notify", pdus.serial_notify),
+        ("serial_query", pdus.serial_query),
+        ("reset_query", pdus.reset_query),
+        ("cache_response", pdus.cache_response),
+        ("ipv4_prefix", pdus.ipv4_prefix),
+        ("ipv6_prefix", pdus.ipv6_prefix),
+        ("end_of_data", pdus.end_of_data),
+        ("cache_reset", pdus.cache_reset),
+        ("router_key", pdus.router_key),
+        ("error_report", pdus.error_report),
+    ]
+}
+
+/// Writes the PDUs that went one way.
+fn write_pdus<W: Write>(out: &mut W, direction: &str, traffic: &Traffic) -> io::Result<()> {
+    for (kind, count) in listed(&traffic.pdus) {
+        writeln!(
+            out,
+            "rpkirtrd_pdus_total{{type=\"{kind}\",direction=\"{direction}\"}} {count}"
+        )?;
+    }
+    Ok(())
+}
+
+/// What went over the connections.
+fn write_traffic<W: Write>(out: &mut W, status: &Status) -> io::Result<()> {
+    write_head(
+        out,
+        "rpkirtrd_pdus_total",
+        "counter",
+        "PDUs of all routers since the start, by type and direction.",
+    )?;
+    write_pdus(out, "received", &status.received)?;
+    write_pdus(out, "sent", &status.sent)?;
+    write_head(
+        out,
+        "rpkirtrd_bytes_total",
+        "counter",
+        "Bytes of all routers since the start, by direction.",
+    )?;
+    write_two(
+        out,
+        "rpkirtrd_bytes_total",
+        "direction",
+        ("received", status.received.bytes),
+        ("sent", status.sent.bytes),
+    )
+}
+
+/// Writes what a cache is in the text form of Prometheus, version 0.0.4.
+pub fn write_metrics<W: Write>(out: &mut W, status: &Status) -> io::Result<()> {
+    write_program(out, status)?;
+    write_served(out, status)?;
+    write_files(out, status)?;
+    write_reloads(out, status)?;
+    write_clients(out, status)?;
+    write_traffic(out, status)
+}

@@ -1,0 +1,101 @@
+//! The size of the table over the last versions, as a picture.
+ghost use Rattle.std.specs.Prelude.{◌≤◌};
+
+use crate::status::ChangeStatus;
+use crate::text::write_grouped;
+use std::io::{self, Write};
+
+/// How wide and how high the picture is, in units of its own.
+const WIDTH: u64 = 1000;
+
+const HEIGHT: u64 = 200;
+
+/// What is left free above and below the line.
+const MARGIN: u64 = 20;
+
+/// The fewest and the most records that a version had.
+#[derive(Clone, Copy, Debug, PartialEq, Eq)]
+struct Range {
+    least: u64,
+    most: u64,
+}
+
+/// The range of some versions; that of none is 0.
+fn range_of(changes: &[ChangeStatus]) -> Range {
+    let mut least = u64::MAX;
+    let mut most = 0;
+    for change in changes {
+        least = least.min(change.records);
+        most = most.max(change.records);
+    }
+    Range {
+        least: least.min(most),
+        most,
+    }
+}
+
+/// The share of a span that `part` is of `whole`. Of a whole of nothing it is the half.
+fn scaled(span: u64, part: u64, whole: u64) -> u64
+    ensures { result ≤ span }
+{
+    let product = u128::from(span) * u128::from(part);
+    let share = product
+        .checked_div(u128::from(whole))
+        .unwrap_or(u128::from(span / 2));
+    u64::try_from(share).unwrap_or(span).min(span)
+}
+
+/// How far down the line is for so many records.
+fn height_of(range: &Range, records: u64) -> u64 {
+    let room = HEIGHT - 2 * MARGIN;
+    let above = range.most.saturating_sub(records);
+    MARGIN + scaled(room, above, range.most.saturating_sub(range.least))
+}
+
+/// Writes the line: a step for each version.
+fn write_steps<W: Write>(out: &mut W, changes: &[ChangeStatus]) -> io::Result<()> {
+    let range = range_of(changes);
+    let count = changes.len() as u64;
+    for (index, change) in changes.iter().enumerate() {
+        let begin = scaled(WIDTH, index as u64, count);
+        let end = scaled(WIDTH, (index as u64).saturating_add(1), count);
+        let down = height_of(&range, change.records);
+        let word = if index == 0 { "M" } else { "L" };
+        write!(out, "{word}{begin} {down}H{end}")?;
+    }
+    Ok(())
+}
+
+/// Writes what the picture shows, in words.
+fn write_words<W: Write>(
+    out: &mut W,
+    first: &ChangeStatus,
+    last: &ChangeStatus,
+    changes: &[ChangeStatus],
+) -> io::Result<()> {
+    let range = range_of(changes);
+    write!(out, "From serial {} to {}: ", first.serial, last.serial)?;
+    write_grouped(out, first.records)?;
+    out.write_all(b" records at first, ")?;
+    write_grouped(out, last.records)?;
+    out.write_all(b" at last, at least ")?;
+    write_grouped(out, range.least)?;
+    out.write_all(b", at most ")?;
+    write_grouped(out, range.most)?;
+    out.write_all(b".")
+}
+
+/// Writes the picture with what it shows in words beside it.
+pub(crate) fn write_picture<W: Write>(out: &mut W, changes: &[ChangeStatus]) -> io::Result<()> {
+    let (Some(first), Some(last)) = (changes.first(), changes.last()) else {
+        return out.write_all(b"<p>No version has been published yet.</p>\n");
+    };
+    write!(
+        out,
+        "<figure><svg role=\"img\" aria-labelledby=\"sizes\" viewBox=\"0 0 {WIDTH} {HEIGHT}\" preserveAspectRatio=\"none\"><path d=\""
+    )?;
+    write_steps(out, changes)?;
+    out.write_all(b"\"/></svg>\n<figcaption id=\"sizes\" class=\"dim\">")?;
+    write_words(out, first, last, changes)?;
+    out.write_all(b"</figcaption></figure>\n")
+}

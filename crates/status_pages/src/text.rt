@@ -1,0 +1,116 @@
+//! Text inside other text, numbers and times.
+ghost use Rattle.std.specs.Prelude.{◌≡◌, OnOk};
+ghost use Rattle.std.specs.Io.KnownBytes.{Appends};
+ghost use Rattle.std.specs.List.{flat_map};
+ghost use Rattle.std.specs.Str.{chars};
+ghost use Rattle.status_pages.specs.Escapes.{html_char, label_char};
+
+use daemon_parts::time_at;
+use std::io::{self, Write};
+
+/// Writes a character of a text in HTML, where `&`, `<`, `>` and quotes stand as references.
+#[tactic(auto, unfolding(crate::specs::Escapes::html_char))]
+fn write_html_char<W: Write>(out: &mut W, character: char) -> io::Result<()>
+    ensures { OnOk result (Appends (W.contents out.old) (W.contents out.new) (html_char character)) }
+{
+    match character {
+        '&' => out.write_all(b"&amp;"),
+        '<' => out.write_all(b"&lt;"),
+        '>' => out.write_all(b"&gt;"),
+        '"' => out.write_all(b"&quot;"),
+        '\'' => out.write_all(b"&#39;"),
+        _ => write!(out, "{character}"),
+    }
+}
+
+/// Writes a text as HTML, in an element or in a quoted attribute.
+pub(crate) fn write_html<W: Write>(out: &mut W, text: &str) -> io::Result<()>
+    ensures { OnOk result (Appends (W.contents out.old) (W.contents out.new) (flat_map html_char (chars text.now))) }
+{
+    for character in text.chars() {
+        write_html_char(out, character)?;
+    }
+    Ok(())
+}
+
+/// Writes a character of the value of a label of Prometheus.
+#[tactic(auto, unfolding(crate::specs::Escapes::label_char))]
+fn write_label_char<W: Write>(out: &mut W, character: char) -> io::Result<()>
+    ensures { OnOk result (Appends (W.contents out.old) (W.contents out.new) (label_char character)) }
+{
+    match character {
+        '\\' => out.write_all(b"\\\\"),
+        '"' => out.write_all(b"\\\""),
+        '\n' => out.write_all(b"\\n"),
+        _ => write!(out, "{character}"),
+    }
+}
+
+/// Writes a text as the value of a label of Prometheus, without its quotes.
+pub(crate) fn write_label<W: Write>(out: &mut W, text: &str) -> io::Result<()>
+    ensures { OnOk result (Appends (W.contents out.old) (W.contents out.new) (flat_map label_char (chars text.now))) }
+{
+    for character in text.chars() {
+        write_label_char(out, character)?;
+    }
+    Ok(())
+}
+
+/// The powers of 1,000 below 2^64, the greatest first.
+const THOUSANDS: [u64; 7] = [
+    1_000_000_000_000_000_000,
+    1_000_000_000_000_000,
+    1_000_000_000_000,
+    1_000_000_000,
+    1_000_000,
+    1000,
+    1,
+];
+
+/// Writes a number in groups of three digits with narrow blanks between them.
+pub(crate) fn write_grouped<W: Write>(out: &mut W, number: u64) -> io::Result<()> {
+    let mut has_begun = false;
+    for power in THOUSANDS {
+        let group = number.checked_div(power).unwrap_or_default() % 1000;
+        if has_begun {
+            write!(out, "\u{202f}{group:03}")?;
+        } else if group > 0 || power == 1 {
+            write!(out, "{group}")?;
+            has_begun = true;
+        }
+    }
+    Ok(())
+}
+
+/// Writes how long ago a moment was: in seconds, minutes, hours or days, none of them begun.
+pub(crate) fn write_ago<W: Write>(out: &mut W, now: u64, moment: u64) -> io::Result<()> {
+    let seconds = now.saturating_sub(moment);
+    let (number, unit) = match seconds {
+        0..=119 => (seconds, "s"),
+        120..=7199 => (seconds / 60, "min"),
+        7200..=172_799 => (seconds / 3600, "h"),
+        _ => (seconds / 86_400, "d"),
+    };
+    write_grouped(out, number)?;
+    write!(out, "\u{202f}{unit} ago")
+}
+
+/// Writes a moment in UTC for people, and for machines in the element's attribute.
+pub(crate) fn write_time<W: Write>(out: &mut W, moment: u64) -> io::Result<()> {
+    let time = time_at(moment);
+    out.write_all(b"<time datetime=\"")?;
+    out.write_all(&time)?;
+    out.write_all(b"\">")?;
+    out.write_all(&time[..10])?;
+    out.write_all(b" ")?;
+    out.write_all(&time[11..19])?;
+    out.write_all(b"</time>")
+}
+
+/// Writes a moment, and how long ago it was.
+pub(crate) fn write_since<W: Write>(out: &mut W, now: u64, moment: u64) -> io::Result<()> {
+    write_time(out, moment)?;
+    out.write_all(b" <span class=\"dim\">")?;
+    write_ago(out, now, moment)?;
+    out.write_all(b"</span>")
+}

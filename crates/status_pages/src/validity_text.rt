@@ -1,0 +1,263 @@
+//! What is told of a route, as JSON.
+ghost use Rattle.std.specs.Prelude.{◌≡◌, OnOk};
+ghost use Rattle.std.specs.Io.KnownBytes.{Appends};
+ghost use Rattle.std.specs.List.{flat_map};
+ghost use Rattle.status_pages.specs.ValidityText.{TellsValidity, after_comma, beginning, description, ending, is_as_other, joined_vrps, judged_text, last_list, listed, lists_text, middle, origin_text, prefix_text, reason_text, route_text, state_text, state_word, validity_text, vrp_text, vrps_text};
+
+use crate::validity::Validity;
+use daemon_parts::time_at;
+use prefixes::{IpPrefix, Route, Vrp};
+use std::io::{self, Write};
+use vrps::OriginState;
+
+/// Writes a record.
+#[tactic(auto, unfolding(crate::specs::ValidityText::vrp_text))]
+fn write_vrp<W: Write>(out: &mut W, vrp: &Vrp) -> io::Result<()>
+    ensures { OnOk result (Appends (W.contents out.old) (W.contents out.new) (vrp_text vrp.now)) }
+{
+    let (asn, prefix, max_len) = (vrp.asn(), vrp.prefix(), vrp.max_len());
+    write!(
+        out,
+        "{{\"asn\":\"AS{asn}\",\"prefix\":\"{prefix}\",\"max_length\":\"{max_len}\"}}"
+    )
+}
+
+/// Writes a comma and a record.
+fn write_after_comma<W: Write>(out: &mut W, vrp: &Vrp) -> io::Result<()>
+    ensures { OnOk result (Appends (W.contents out.old) (W.contents out.new) (after_comma vrp.now)) }
+{
+    out.write_all(b",")?;
+    write_vrp(out, vrp)
+}
+
+/// Writes records, each behind a comma.
+fn write_more<W: Write>(out: &mut W, records: &[Vrp]) -> io::Result<()>
+    ensures { OnOk result (Appends (W.contents out.old) (W.contents out.new) (flat_map after_comma records.now)) }
+{
+    for vrp in records {
+        write_after_comma(out, vrp)?;
+    }
+    Ok(())
+}
+
+/// Writes records with commas between them.
+fn write_joined<W: Write>(out: &mut W, records: &[Vrp]) -> io::Result<()>
+    ensures { OnOk result (Appends (W.contents out.old) (W.contents out.new) (joined_vrps records.now)) }
+{
+    let Some((first, others)) = records.split_first() else {
+        return Ok(());
+    };
+    write_vrp(out, first)?;
+    write_more(out, others)
+}
+
+/// Writes records as an array.
+#[tactic(auto, unfolding(crate::specs::ValidityText::vrps_text))]
+fn write_vrps<W: Write>(out: &mut W, records: &[Vrp]) -> io::Result<()>
+    ensures { OnOk result (Appends (W.contents out.old) (W.contents out.new) (vrps_text records.now)) }
+{
+    out.write_all(b"[")?;
+    write_joined(out, records)?;
+    out.write_all(b"]")
+}
+
+/// Writes the origin of a route.
+#[tactic(auto, unfolding(crate::specs::ValidityText::origin_text))]
+fn write_origin<W: Write>(out: &mut W, origin: Option<u32>) -> io::Result<()>
+    ensures { OnOk result (Appends (W.contents out.old) (W.contents out.new) (origin_text origin)) }
+{
+    match origin {
+        None => out.write_all(b"NONE"),
+        Some(asn) => write!(out, "AS{asn}"),
+    }
+}
+
+/// Writes the prefix of a route.
+#[tactic(auto, unfolding(crate::specs::ValidityText::prefix_text))]
+fn write_prefix<W: Write>(out: &mut W, prefix: &IpPrefix) -> io::Result<()>
+    ensures { OnOk result (Appends (W.contents out.old) (W.contents out.new) (prefix_text prefix.now)) }
+{
+    write!(out, "\",\"prefix\":\"{prefix}\"}}")
+}
+
+/// Writes a route.
+#[tactic(auto, unfolding(crate::specs::ValidityText::route_text))]
+fn write_route<W: Write>(out: &mut W, route: &Route) -> io::Result<()>
+    ensures { OnOk result (Appends (W.contents out.old) (W.contents out.new) (route_text route.now)) }
+{
+    out.write_all(b"{\"origin_asn\":\"")?;
+    write_origin(out, route.origin)?;
+    write_prefix(out, &route.prefix)
+}
+
+/// The word for a state.
+fn word_of(state: OriginState) -> &'static str
+    ensures { result.now ≡ state_word state }
+{
+    match state {
+        OriginState::Valid => "valid",
+        OriginState::Invalid => "invalid",
+        OriginState::NotFound => "not-found",
+    }
+}
+
+/// Why a route is invalid, as a member of the object, if it is.
+fn reason_of(state: OriginState, has_other_as: bool) -> &'static str
+    ensures { result.now ≡ reason_text state has_other_as }
+{
+    match state {
+        OriginState::Valid | OriginState::NotFound => "",
+        OriginState::Invalid => if has_other_as {
+            "\"reason\":\"as\","
+        } else {
+            "\"reason\":\"length\","
+        },
+    }
+}
+
+/// What the state means.
+fn description_of(state: OriginState, has_other_as: bool) -> &'static str
+    ensures { result.now ≡ description state has_other_as }
+{
+    match state {
+        OriginState::Valid => "At least one VRP Matches the Route Prefix",
+        OriginState::NotFound => "No VRP Covers the Route Prefix",
+        OriginState::Invalid => if has_other_as {
+            "At least one VRP Covers the Route Prefix, but no VRP ASN matches the route origin ASN"
+        } else {
+            "At least one VRP Covers the Route Prefix, but the Route Prefix length is greater than the maximum length allowed by VRP(s) matching this route origin ASN"
+        },
+    }
+}
+
+/// Writes a state, with its reason and what it means.
+#[tactic(auto, unfolding(crate::specs::ValidityText::state_text))]
+fn write_state<W: Write>(out: &mut W, state: OriginState, has_other_as: bool) -> io::Result<()>
+    ensures { OnOk result (Appends (W.contents out.old) (W.contents out.new) (state_text state has_other_as)) }
+{
+    let word = word_of(state);
+    let reason = reason_of(state, has_other_as);
+    let description = description_of(state, has_other_as);
+    write!(
+        out,
+        "{{\"state\":\"{word}\",{reason}\"description\":\"{description}\""
+    )
+}
+
+/// Writes records under a key.
+#[tactic(auto, unfolding(crate::specs::ValidityText::listed))]
+fn write_listed<W: Write>(out: &mut W, key: &str, records: &[Vrp]) -> io::Result<()>
+    ensures { OnOk result (Appends (W.contents out.old) (W.contents out.new) (listed key.now records.now)) }
+{
+    out.write_all(key.as_bytes())?;
+    write_vrps(out, records)
+}
+
+/// Writes the last of the three lists.
+#[tactic(auto, unfolding(crate::specs::ValidityText::last_list))]
+fn write_last_list<W: Write>(out: &mut W, too_short: &[Vrp]) -> io::Result<()>
+    ensures { OnOk result (Appends (W.contents out.old) (W.contents out.new) (last_list too_short.now)) }
+{
+    write_listed(out, ",\"unmatched_length\":", too_short)?;
+    out.write_all(b"}}")
+}
+
+/// Writes the three lists.
+#[tactic(auto, unfolding(crate::specs::ValidityText::lists_text))]
+fn write_lists<W: Write>(
+    out: &mut W,
+    matched: &[Vrp],
+    other_as: &[Vrp],
+    too_short: &[Vrp],
+) -> io::Result<()>
+    ensures { OnOk result (Appends (W.contents out.old) (W.contents out.new) (lists_text matched.now other_as.now too_short.now)) }
+{
+    write_listed(out, ",\"VRPs\":{\"matched\":", matched)?;
+    write_listed(out, ",\"unmatched_as\":", other_as)?;
+    write_last_list(out, too_short)
+}
+
+/// Whether some record is of another AS.
+fn is_as_other(other_as: &[Vrp]) -> bool
+    ensures { result ≡ is_as_other other_as.now }
+{
+    !other_as.is_empty()
+}
+
+/// Writes what is judged of a route.
+#[tactic(auto, unfolding(crate::specs::ValidityText::judged_text))]
+fn write_judged<W: Write>(
+    out: &mut W,
+    state: OriginState,
+    matched: &[Vrp],
+    other_as: &[Vrp],
+    too_short: &[Vrp],
+) -> io::Result<()>
+    ensures { OnOk result (Appends (W.contents out.old) (W.contents out.new) (judged_text state matched.now other_as.now too_short.now)) }
+{
+    write_state(out, state, is_as_other(other_as))?;
+    write_lists(out, matched, other_as, too_short)
+}
+
+/// Writes the beginning: the route.
+#[tactic(auto, unfolding(crate::specs::ValidityText::beginning))]
+fn write_beginning<W: Write>(out: &mut W, route: &Route) -> io::Result<()>
+    ensures { OnOk result (Appends (W.contents out.old) (W.contents out.new) (beginning route.now)) }
+{
+    out.write_all(b"{\"validated_route\":{\"route\":")?;
+    write_route(out, route)?;
+    out.write_all(b",\"validity\":")
+}
+
+/// Writes the middle: what is told of the route.
+#[tactic(auto, unfolding(crate::specs::ValidityText::middle))]
+fn write_middle<W: Write>(out: &mut W, validity: &Validity) -> io::Result<()>
+    ensures { OnOk result (Appends (W.contents out.old) (W.contents out.new) (middle validity.now)) }
+{
+    write_judged(
+        out,
+        validity.state,
+        &validity.matched,
+        &validity.unmatched_as,
+        &validity.unmatched_length,
+    )
+}
+
+/// Writes the end: the time.
+#[tactic(auto, unfolding(crate::specs::ValidityText::ending))]
+fn write_ending<W: Write>(out: &mut W, time: &[u8]) -> io::Result<()>
+    ensures { OnOk result (Appends (W.contents out.old) (W.contents out.new) (ending time.now)) }
+{
+    out.write_all(b"},\"generatedTime\":\"")?;
+    out.write_all(time)?;
+    out.write_all(b"\"}")
+}
+
+/// Writes the whole, at a time.
+#[tactic(auto, unfolding(crate::specs::ValidityText::validity_text))]
+fn write_validity_at<W: Write>(
+    out: &mut W,
+    route: &Route,
+    validity: &Validity,
+    time: &[u8],
+) -> io::Result<()>
+    ensures { OnOk result (Appends (W.contents out.old) (W.contents out.new) (validity_text route.now validity.now time.now)) }
+{
+    write_beginning(out, route)?;
+    write_middle(out, validity)?;
+    write_ending(out, time)
+}
+
+/// Writes what is told of a route, in the form of the call `/api/v1/validity` of Routinator, compact and without a newline. `now` is when it
+/// is told, in seconds since 1970.
+pub fn write_validity<W: Write>(
+    out: &mut W,
+    route: &Route,
+    validity: &Validity,
+    now: u64,
+) -> io::Result<()>
+    ensures { OnOk result (TellsValidity (W.contents out.old) (W.contents out.new) route.now validity.now now) }
+{
+    let time = time_at(now);
+    write_validity_at(out, route, validity, &time)
+}
