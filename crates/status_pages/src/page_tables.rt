@@ -102,7 +102,7 @@ fn write_change<W: Write>(out: &mut W, now: u64, change: &ChangeStatus) -> io::R
 /// Writes the table of the last versions, the newest first.
 pub(crate) fn write_changes<W: Write>(out: &mut W, status: &Status) -> io::Result<()> {
     if status.changes.is_empty() {
-        return Ok(());
+        return out.write_all(b"<p>There are none yet.</p>\n");
     }
     write_heads(
         out,

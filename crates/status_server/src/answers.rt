@@ -1,0 +1,155 @@
+//! The answers to requests.
+ghost use Rattle.std.specs.Prelude.{IsTrue};
+ghost use Rattle.http_header.specs.FieldValue.{is_visible_text};
+
+use crate::told::Told;
+use bytes::{BufMut, Bytes};
+use http::header::{
+    ALLOW, CACHE_CONTROL, CONTENT_SECURITY_POLICY, CONTENT_TYPE, X_CONTENT_TYPE_OPTIONS,
+};
+use http::{HeaderValue, Request, StatusCode};
+use http_server::{Response, Service};
+use prefixes::Route;
+use status_pages::{QueryFault, read_query, write_metrics, write_page, write_validity};
+use std::alloc::{AllocError, Global};
+
+/// What may be asked for.
+#[derive(Clone, Copy, Debug, PartialEq, Eq)]
+enum Page {
+    Status,
+    Metrics,
+    List,
+    Validity,
+}
+
+/// What is at a path.
+fn page_at(path: &str) -> Option<Page> {
+    match path {
+        "/" => Some(Page::Status),
+        "/metrics" => Some(Page::Metrics),
+        "/vrps.json" => Some(Page::List),
+        "/validity" => Some(Page::Validity),
+        _ => None,
+    }
+}
+
+/// Adds the headers of all answers: what the body is, that it is not kept, and that it is nothing else.
+fn add_headers(response: &mut Response, kind: &'static str) -> Result<(), AllocError>
+    requires { IsTrue (is_visible_text kind.now) }
+{
+    response.add_header(CONTENT_TYPE, HeaderValue::from_static(kind))?;
+    response.add_header(CACHE_CONTROL, HeaderValue::from_static("no-store"))?;
+    response.add_header(X_CONTENT_TYPE_OPTIONS, HeaderValue::from_static("nosniff"))
+}
+
+/// Answers with a refusal, and with what the asker can do.
+fn refuse(response: &mut Response, status: StatusCode, text: &[u8]) -> Result<(), AllocError> {
+    response.status = status;
+    add_headers(response, "text/plain; charset=utf-8")?;
+    response.body.put_slice(text)
+}
+
+/// What answers requests: what a cache tells.
+#[derive(Drop)]
+pub(crate) struct Answers<'a, S> {
+    pub(crate) alloc: Global,
+    pub(crate) told: &'a mut S,
+}
+
+impl<S: Told> Answers<'_, S> {
+    /// The page for people.
+    fn page(&mut self, response: &mut Response) -> Result<(), AllocError> {
+        let status = self.told.status()?;
+        let mut text = Vec::new(self.alloc);
+        if write_page(&mut text, &status).is_err() {
+            return Err(AllocError);
+        }
+        add_headers(response, "text/html; charset=utf-8")?;
+        let policy =
+            "default-src 'none'; style-src 'unsafe-inline'; base-uri 'none'; form-action 'none'; frame-ancestors 'none'";
+        response.add_header(CONTENT_SECURITY_POLICY, HeaderValue::from_static(policy))?;
+        response.body.put_slice(&text)
+    }
+
+    /// The metrics.
+    fn metrics(&mut self, response: &mut Response) -> Result<(), AllocError> {
+        let status = self.told.status()?;
+        let mut text = Vec::new(self.alloc);
+        if write_metrics(&mut text, &status).is_err() {
+            return Err(AllocError);
+        }
+        add_headers(response, "text/plain; version=0.0.4; charset=utf-8")?;
+        response.body.put_slice(&text)
+    }
+
+    /// The payload list.
+    fn list(&mut self, response: &mut Response) -> Result<(), AllocError> {
+        let list = self.told.list()?;
+        add_headers(response, "application/json; charset=utf-8")?;
+        response.body.push(list)
+    }
+
+    /// What is told of a route.
+    fn validity(&mut self, route: &Route, response: &mut Response) -> Result<(), AllocError> {
+        let validity = self.told.validity(route)?;
+        let now = self.told.now();
+        let mut text = Vec::new(self.alloc);
+        if write_validity(&mut text, route, &validity, now).is_err() {
+            return Err(AllocError);
+        }
+        add_headers(response, "application/json; charset=utf-8")?;
+        response.body.put_slice(&text)
+    }
+
+    /// What is told of the route for which a query asks.
+    fn query(&mut self, query: &str, response: &mut Response) -> Result<(), AllocError> {
+        match read_query(self.alloc, query) {
+            Ok(route) => self.validity(&route, response),
+            Err(QueryFault::Memory) => Err(AllocError),
+            Err(fault) => {
+                let text = format!(in self.alloc; "{fault}\n")?;
+                refuse(response, StatusCode::BAD_REQUEST, text.as_bytes())
+            }
+        }
+    }
+
+    /// Answers a request.
+    fn answer(
+        &mut self,
+        request: &Request<Bytes>,
+        response: &mut Response,
+    ) -> Result<(), AllocError> {
+        let Some(page) = page_at(request.uri().path()) else {
+            let text = b"there are /, /metrics, /vrps.json and /validity\n";
+            return refuse(response, StatusCode::NOT_FOUND, text);
+        };
+        let method = request.method().as_str();
+        if method != "GET" && method != "HEAD" {
+            response.add_header(ALLOW, HeaderValue::from_static("GET, HEAD"))?;
+            let text = b"only GET and HEAD are answered\n";
+            return refuse(response, StatusCode::METHOD_NOT_ALLOWED, text);
+        }
+        match page {
+            Page::Status => self.page(response),
+            Page::Metrics => self.metrics(response),
+            Page::List => self.list(response),
+            Page::Validity => self.query(request.uri().query().unwrap_or(""), response),
+        }
+    }
+}
+
+impl<S: Told> Service for Answers<'_, S> {
+    ghost answers = { λ old request response new. Unit {0} };
+
+    fn call(
+        &mut self,
+        request: &Request<Bytes>,
+        response: &mut Response,
+    ) -> Result<(), AllocError> {
+        if self.answer(request, response).is_err() {
+            response.clear();
+            response.status = StatusCode::SERVICE_UNAVAILABLE;
+        }
+        Ok(())
+    }
+}
