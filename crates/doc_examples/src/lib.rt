@@ -44,6 +44,10 @@ mod slurm_example;
 #[cfg(test)]
 mod sources_example;
 #[cfg(test)]
+mod status_pages_example;
+#[cfg(test)]
+mod status_server_example;
+#[cfg(test)]
 mod values;
 #[cfg(test)]
 mod vrps_example;

@@ -3,3 +3,4 @@ pub mod ValidityRows
 pub mod Written
 pub mod AsnTexts
 pub mod Queries
+pub mod TextRows

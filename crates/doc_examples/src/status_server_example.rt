@@ -1,0 +1,36 @@
+use status_server::{VISIT_MILLIS, Visitors};
+use std::hash::RandomState;
+use std::io;
+use std::io::{ErrorKind, Read, Write};
+use std::test::Fail;
+
+/// A stream on which nothing comes.
+#[derive(Drop)]
+struct Silent;
+
+impl Read for Silent {
+    fn read(&mut self, _buf: &mut [u8]) -> io::Result<usize> {
+        Err(io::Error::from(ErrorKind::WouldBlock))
+    }
+}
+
+impl Write for Silent {
+    fn write(&mut self, buf: &[u8]) -> io::Result<usize> {
+        Ok(buf.len())
+    }
+
+    fn flush(&mut self) -> io::Result<()> {
+        Ok(())
+    }
+}
+
+#[test]
+fn a_visitor_has_30_seconds(rt: HostRuntime) -> Result<(), Fail> {
+    let mut visitors = Visitors::new(rt.alloc(), RandomState::new(&rt)?);
+    visitors.admit(7, Silent, 0)?;
+    visitors.expire(VISIT_MILLIS - 1);
+    assert!(rt; visitors.has(7));
+    visitors.expire(VISIT_MILLIS);
+    assert!(rt; visitors.is_empty());
+    Ok(())
+}
