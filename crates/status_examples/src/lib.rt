@@ -1,0 +1,18 @@
+//! Examples of what a cache tells of itself, which are the tests of the public items of `status_pages` and `status_server`. They stand apart, as
+//! a crate with tests is proved twice.
+#![tactic(auto)]
+
+#[cfg(test)]
+mod metrics;
+#[cfg(test)]
+mod pages;
+#[cfg(test)]
+mod queries;
+#[cfg(test)]
+mod validities;
+#[cfg(test)]
+mod values;
+#[cfg(test)]
+mod visits;
+#[cfg(test)]
+mod wires;

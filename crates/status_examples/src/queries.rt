@@ -1,0 +1,95 @@
+//! Queries for the state of a route.
+use prefixes::{IpPrefix, PrefixFault, Route};
+use status_pages::{QueryFault, read_query};
+use std::test::Fail;
+
+#[test]
+fn queries_that_ask_for_a_route(rt: HostRuntime) -> Result<(), Fail> {
+    let v4 = Route {
+        prefix: IpPrefix::parse("192.0.2.0/24")?,
+        origin: Some(64496),
+    };
+    let v6 = Route {
+        prefix: IpPrefix::parse("2001:db8::/32")?,
+        origin: Some(4_294_967_295),
+    };
+    let table = [
+        ("asn=64496&prefix=192.0.2.0/24", v4),
+        ("prefix=192.0.2.0/24&asn=64496", v4),
+        ("asn=AS64496&prefix=192.0.2.0%2F24", v4),
+        ("asn=AS4294967295&prefix=2001%3adb8%3A%3a%2f32", v6),
+        ("%61sn=4294967295&prefix=2001:DB8::/32", v6),
+    ];
+    for (query, route) in table {
+        assert!(rt; read_query(rt.alloc(), query) == Ok(route), "{query}");
+    }
+    Ok(())
+}
+
+/// Queries that ask for none, and why.
+const REFUSED: &[(&str, QueryFault)] = &[
+    ("", QueryFault::Keys),
+    ("asn=64496", QueryFault::Keys),
+    ("prefix=192.0.2.0/24", QueryFault::Keys),
+    ("asn=64496&asn=64496", QueryFault::Keys),
+    ("asn=64496&prefix=192.0.2.0/24&asn=64496", QueryFault::Keys),
+    (
+        "asn=64496&prefix=192.0.2.0/24&format=json",
+        QueryFault::Keys,
+    ),
+    ("ASN=64496&prefix=192.0.2.0/24", QueryFault::Keys),
+    ("asn=&prefix=192.0.2.0/24", QueryFault::Asn),
+    ("asn=as64496&prefix=192.0.2.0/24", QueryFault::Asn),
+    ("asn=064496&prefix=192.0.2.0/24", QueryFault::Asn),
+    ("asn=4294967296&prefix=192.0.2.0/24", QueryFault::Asn),
+    ("asn=+64496&prefix=192.0.2.0/24", QueryFault::Asn),
+    ("asn=none&prefix=x", QueryFault::Asn),
+    (
+        "asn=64496&prefix=192.0.2.0",
+        QueryFault::Prefix(PrefixFault::BadText),
+    ),
+    (
+        "asn=64496&prefix=192.0.2.0/33",
+        QueryFault::Prefix(PrefixFault::TooLong),
+    ),
+    (
+        "asn=64496&prefix=192.0.2.1/24",
+        QueryFault::Prefix(PrefixFault::HostBits),
+    ),
+    (
+        "asn=64496&prefix=192.0.2.0%2",
+        QueryFault::Prefix(PrefixFault::BadText),
+    ),
+    (
+        "asn=64496&prefix=%ff",
+        QueryFault::Prefix(PrefixFault::BadText),
+    ),
+];
+
+#[test]
+fn queries_that_ask_for_none(rt: HostRuntime) -> Result<(), Fail> {
+    for &(query, fault) in REFUSED {
+        assert!(rt; read_query(rt.alloc(), query) == Err(fault), "{query}");
+    }
+    Ok(())
+}
+
+#[test]
+fn faults_say_what_to_write(rt: HostRuntime) -> Result<(), Fail> {
+    let text = format!(in rt.alloc(); "{}", QueryFault::Keys)?;
+    assert!(rt;
+        text.as_str()
+            == "write ?asn=NUMBER&prefix=PREFIX, each of the two keys once and no other, as in ?asn=64496&prefix=192.0.2.0/24"
+    );
+    let text = format!(in rt.alloc(); "{}", QueryFault::Asn)?;
+    assert!(rt;
+        text.as_str()
+            == "write the AS number under asn in decimal digits, from 0 to 4294967295, with AS before it or without"
+    );
+    let text = format!(in rt.alloc(); "{}", QueryFault::Prefix(PrefixFault::HostBits))?;
+    assert!(rt;
+        text.as_str()
+            == "write an IPv4 or IPv6 prefix under prefix, as 192.0.2.0/24 or 2001:db8::/32: a bit behind the prefix length is set (fault 2)"
+    );
+    Ok(())
+}

@@ -1,0 +1,200 @@
+//! Visitors over streams in memory.
+use crate::values::{NOW, small};
+use crate::wires::{Shared, Wire, has, is_list, shared};
+use bytes::Bytes;
+use prefixes::{Asn, IpPrefix, Route, Vrp};
+use status_pages::{Status, Validity};
+use status_server::{AdmitFault, MAX_VISITORS, Told, VISIT_MILLIS, Visit, Visitors};
+use std::alloc::{AllocError, Global};
+use std::hash::RandomState;
+use std::test::Fail;
+use vrps::{OriginIndex, VrpSet};
+
+/// A cache that has one record.
+#[derive(Drop)]
+struct Small {
+    alloc: Global,
+    index: OriginIndex,
+}
+
+impl Told for Small {
+    fn now(&mut self) -> u64 {
+        NOW
+    }
+
+    fn status(&mut self) -> Result<Status, AllocError> {
+        small(self.alloc)
+    }
+
+    fn list(&mut self) -> Result<Bytes, AllocError> {
+        Ok(Bytes::from_static(b"[]"))
+    }
+
+    fn validity(&mut self, route: &Route) -> Result<Validity, AllocError> {
+        Validity::of_route(self.alloc, &self.index, route)
+    }
+}
+
+fn told(alloc: Global) -> Result<Small, Fail> {
+    let mut list = Vec::new(alloc);
+    list.push(Vrp::new(IpPrefix::parse("192.0.2.0/24")?, 24, Asn(64496))?)?;
+    let index = OriginIndex::over(alloc, &VrpSet::from_list(list)?)?;
+    Ok(Small { alloc, index })
+}
+
+/// What comes of one visitor that sends this, at so many bytes a call, and what it is sent.
+fn visit(rt: &HostRuntime, request: &[u8], piece: usize) -> Result<(Option<Visit>, Shared), Fail> {
+    let output = shared(rt.alloc(), b"")?;
+    let wire = Wire::of(&shared(rt.alloc(), request)?, &output, piece)?;
+    let mut visitors = Visitors::new(rt.alloc(), RandomState::new(rt)?);
+    visitors.admit(7, wire, 0)?;
+    let mut told = told(rt.alloc())?;
+    let visit = visitors.serve(7, &mut told, 100_000);
+    Ok((visit, output))
+}
+
+/// A request, and what the answer begins with, and has in it.
+type Answer = (&'static str, &'static str, &'static str);
+
+const ANSWERS: &[Answer] = &[
+    (
+        "GET / HTTP/1.1\r\nHost: a\r\n\r\n",
+        "HTTP/1.1 200 OK\r\ncontent-type: text/html; charset=utf-8\r\ncache-control: no-store\r\nx-content-type-options: nosniff\r\ncontent-security-policy: default-src 'none'; style-src 'unsafe-inline'; base-uri 'none'; form-action 'none'; frame-ancestors 'none'\r\n",
+        "<!doctype html>",
+    ),
+    (
+        "GET /metrics HTTP/1.1\r\nHost: a\r\n\r\n",
+        "HTTP/1.1 200 OK\r\ncontent-type: text/plain; version=0.0.4; charset=utf-8\r\ncache-control: no-store\r\nx-content-type-options: nosniff\r\n",
+        "\nrpkirtrd_serial 1795653120\n",
+    ),
+    (
+        "GET /vrps.json HTTP/1.1\r\nHost: a\r\n\r\n",
+        "HTTP/1.1 200 OK\r\ncontent-type: application/json; charset=utf-8\r\n",
+        "\r\n\r\n[]",
+    ),
+    (
+        "HEAD /vrps.json HTTP/1.1\r\nHost: a\r\n\r\n",
+        "HTTP/1.1 200 OK\r\ncontent-type: application/json; charset=utf-8\r\n",
+        "content-length: 2\r\n\r\n",
+    ),
+    (
+        "GET /validity?asn=64496&prefix=192.0.2.0/24 HTTP/1.1\r\nHost: a\r\n\r\n",
+        "HTTP/1.1 200 OK\r\ncontent-type: application/json; charset=utf-8\r\n",
+        "{\"validated_route\":{\"route\":{\"origin_asn\":\"AS64496\",\"prefix\":\"192.0.2.0/24\"},\"validity\":{\"state\":\"valid\",",
+    ),
+    (
+        "GET /validity HTTP/1.1\r\nHost: a\r\n\r\n",
+        "HTTP/1.1 400 Bad Request\r\ncontent-type: text/plain; charset=utf-8\r\n",
+        "\r\n\r\nwrite ?asn=NUMBER&prefix=PREFIX, each of the two keys once and no other, as in ?asn=64496&prefix=192.0.2.0/24\n",
+    ),
+    (
+        "GET /status HTTP/1.1\r\nHost: a\r\n\r\n",
+        "HTTP/1.1 404 Not Found\r\ncontent-type: text/plain; charset=utf-8\r\n",
+        "\r\n\r\nthere are /, /metrics, /vrps.json and /validity\n",
+    ),
+    (
+        "POST /metrics HTTP/1.1\r\nHost: a\r\ncontent-length: 0\r\n\r\n",
+        "HTTP/1.1 405 Method Not Allowed\r\nallow: GET, HEAD\r\ncontent-type: text/plain; charset=utf-8\r\n",
+        "\r\n\r\nonly GET and HEAD are answered\n",
+    ),
+];
+
+#[test]
+fn requests_are_answered(rt: HostRuntime) -> Result<(), Fail> {
+    for &(request, begin, part) in ANSWERS {
+        let (came, output) = visit(&rt, request.as_bytes(), 4096)?;
+        assert!(rt; came == Some(Visit::Waits), "{request}");
+        assert!(rt; has(rt.alloc(), &output, begin, part)?, "{request}");
+        let (came, slow) = visit(&rt, request.as_bytes(), 1)?;
+        assert!(rt; came == Some(Visit::Waits), "{request}");
+        assert!(rt; is_list(&slow, &output), "{request}");
+    }
+    Ok(())
+}
+
+/// Requests that end a visit, and what the answer begins with.
+const ENDS: &[(&str, &str)] = &[
+    (
+        "GET /vrps.json HTTP/1.1\r\nHost: a\r\nconnection: close\r\n\r\n",
+        "HTTP/1.1 200 OK\r\n",
+    ),
+    ("no request\r\n\r\n", "HTTP/1.1 400 Bad Request\r\n"),
+    (
+        "POST /metrics HTTP/1.1\r\nHost: a\r\ncontent-length: 1025\r\n\r\n",
+        "HTTP/1.1 413 Payload Too Large\r\n",
+    ),
+];
+
+#[test]
+fn visits_end(rt: HostRuntime) -> Result<(), Fail> {
+    for &(request, begin) in ENDS {
+        let (came, output) = visit(&rt, request.as_bytes(), 4096)?;
+        assert!(rt; came == Some(Visit::Gone), "{request}");
+        assert!(rt; has(rt.alloc(), &output, begin, "\r\n")?, "{request}");
+    }
+    let mut long = Vec::new(rt.alloc());
+    long.extend_from_slice(b"GET /")?;
+    for _letter in 0..9000 {
+        long.push(b'a')?;
+    }
+    let (came, output) = visit(&rt, &long, 4096)?;
+    assert!(rt; came == Some(Visit::Gone));
+    assert!(rt; has(rt.alloc(), &output, "HTTP/1.1 414 URI Too Long\r\n", "\r\n")?);
+    Ok(())
+}
+
+#[test]
+fn requests_behind_one_another(rt: HostRuntime) -> Result<(), Fail> {
+    let twice = b"GET /vrps.json HTTP/1.1\r\nHost: a\r\n\r\nHEAD /a HTTP/1.1\r\nHost: a\r\n\r\n";
+    let (came, output) = visit(&rt, twice, 4096)?;
+    assert!(rt; came == Some(Visit::Waits));
+    assert!(rt;
+        has(
+            rt.alloc(),
+            &output,
+            "HTTP/1.1 200 OK\r\n",
+            "\r\n\r\n[]HTTP/1.1 404 Not Found\r\n"
+        )?
+    );
+    Ok(())
+}
+
+#[test]
+fn a_turn_is_bounded(rt: HostRuntime) -> Result<(), Fail> {
+    let request = b"GET / HTTP/1.1\r\nHost: a\r\n\r\n";
+    let output = shared(rt.alloc(), b"")?;
+    let wire = Wire::of(&shared(rt.alloc(), request)?, &output, 1)?;
+    let mut visitors = Visitors::new(rt.alloc(), RandomState::new(&rt)?);
+    let mut told = told(rt.alloc())?;
+    assert!(rt; visitors.serve(7, &mut told, 8) == None);
+    visitors.admit(7, wire, 0)?;
+    assert!(rt; visitors.serve(7, &mut told, 0) == Some(Visit::Busy));
+    assert!(rt; visitors.serve(7, &mut told, 27) == Some(Visit::Busy));
+    assert!(rt; is_list(&output, &shared(rt.alloc(), b"")?));
+    assert!(rt; visitors.serve(7, &mut told, 1) == Some(Visit::Busy));
+    assert!(rt; is_list(&output, &shared(rt.alloc(), b"H")?));
+    Ok(())
+}
+
+#[test]
+fn so_many_visitors_and_so_long(rt: HostRuntime) -> Result<(), Fail> {
+    let input = shared(rt.alloc(), b"")?;
+    let output = shared(rt.alloc(), b"")?;
+    let mut visitors = Visitors::new(rt.alloc(), RandomState::new(&rt)?);
+    assert!(rt; visitors.is_empty());
+    for line in 0..MAX_VISITORS {
+        visitors.admit(line, Wire::of(&input, &output, 1)?, line as u64)?;
+    }
+    assert!(rt; visitors.len() == MAX_VISITORS);
+    let late = visitors.admit(MAX_VISITORS, Wire::of(&input, &output, 1)?, 64);
+    assert!(rt; late == Err(AdmitFault::TooManyVisitors));
+    visitors.expire(VISIT_MILLIS - 1);
+    assert!(rt; visitors.len() == MAX_VISITORS);
+    visitors.expire(VISIT_MILLIS);
+    assert!(rt; !visitors.has(0));
+    assert!(rt; visitors.has(1));
+    assert!(rt; visitors.len() == MAX_VISITORS - 1);
+    visitors.admit(0, Wire::of(&input, &output, 1)?, VISIT_MILLIS)?;
+    assert!(rt; visitors.has(0));
+    Ok(())
+}
