@@ -39,29 +39,32 @@ const CASES: &[Case] = &[
     ),
 ];
 
-/// The state of a case's route, and how long its three lists are.
-fn judged(
-    alloc: Global,
+/// Whether the state is this, and the three lists are so long.
+fn is_told(validity: &Validity, state: OriginState, lists: &[usize; 3]) -> bool {
+    validity.state == state
+        && validity.matched.len() == lists[0]
+        && validity.unmatched_length.len() == lists[1]
+        && validity.unmatched_as.len() == lists[2]
+}
+
+/// Whether this is told of a route.
+fn is_judged<R: AllocGlobal>(
+    rt: &R,
     text: &str,
     origin: Option<u32>,
-) -> Result<(OriginState, [usize; 3]), Fail> {
-    let index = index(alloc)?;
-    let validity = Validity::of_route(alloc, &index, &route(text, origin)?)?;
-    let lists = [
-        validity.matched.len(),
-        validity.unmatched_length.len(),
-        validity.unmatched_as.len(),
-    ];
-    Ok((validity.state, lists))
+    state: OriginState,
+    lists: &[usize; 3],
+) -> Result<bool, Fail> {
+    let index = index(rt.alloc())?;
+    let route = route(text, origin)?;
+    let validity = Validity::of_route(rt.alloc(), &index, &route)?;
+    Ok(is_told(&validity, state, lists))
 }
 
 #[test]
 fn records_are_told_by_kind(rt: HostRuntime) -> Result<(), Fail> {
     for &(text, origin, state, lists) in CASES {
-        assert!(rt;
-            judged(rt.alloc(), text, origin)? == (state, lists),
-            "{text}"
-        );
+        assert!(rt; is_judged(&rt, text, origin, state, &lists)?, "{text}");
     }
     covering_is_parted();
     Ok(())
