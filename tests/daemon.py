@@ -1,13 +1,18 @@
 #!/usr/bin/env python3
 """The daemon over sockets of this machine: what it serves, what it follows, what it refuses, and a soak.
 
-usage: tests/daemon.py PROGRAM [--seconds N] [--seed N]
+usage: tests/daemon.py PROGRAM [--seconds N] [--seed N] [--shim FILE]
 
 Routers stand here. What is waited for is a line of the daemon's log or bytes of a connection, never a time. The soak changes the list as
-long as it is told to, while clients come, go, stop reading and send rubbish; then each one that is left must hold the last list. It exits
-with 1 where something differs, and says what."""
+long as it is told to, while clients come, go, stop reading and send rubbish; then each one that is left must hold the last list. With a
+shim, which is what tests/refusing.c was compiled to, each request for memory of a daemon is refused in turn. It exits with 1 where
+something differs, and says what."""
 import argparse
+import concurrent.futures
 import contextlib
+import datetime
+import hashlib
+import http.client
 import ipaddress
 import json
 import os
@@ -22,6 +27,8 @@ import tempfile
 import threading
 import time
 
+from der import element
+
 # How long anything that must come may take, in seconds.
 PATIENCE = 30
 
@@ -30,7 +37,7 @@ NOTIFY, SERIAL_QUERY, RESET_QUERY, RESPONSE, IPV4, IPV6, END, CACHE_RESET, ERROR
 FIRST = [("192.0.2.0/24", 24, 64496), ("198.51.100.0/24", 26, 64497), ("2001:db8::/32", 48, 64498)]
 SECOND = [("192.0.2.0/24", 25, 64496), ("2001:db8::/32", 48, 64498)]
 
-program, failed = "", 0
+program, shim, failed = "", None, 0
 
 
 def differs(what, found, wanted):
@@ -54,9 +61,11 @@ def put(path, text):
 class Daemon:
     """The daemon in the background. Its log is read line by line."""
 
-    def __init__(self, *words, limit=None):
+    def __init__(self, *words, limit=None, env=None, told=None):
         before = (lambda: limit_descriptors(limit)) if limit else None
-        self.ran = subprocess.Popen([program, *words], stdin=subprocess.DEVNULL, stdout=subprocess.PIPE, stderr=subprocess.PIPE, preexec_fn=before)
+        streams = {"stdin": subprocess.DEVNULL, "stdout": subprocess.PIPE, "stderr": subprocess.PIPE}
+        more = {"env": {**os.environ, **env}, "pass_fds": [told]} if env else {}
+        self.ran = subprocess.Popen([program, *words], **streams, **more, preexec_fn=before)
         self.lines, self.said, self.address = queue.Queue(), [], None
         threading.Thread(target=self.read, daemon=True).start()
 
@@ -65,8 +74,8 @@ class Daemon:
             self.lines.put(line.decode().rstrip("\n"))
         self.lines.put(None)
 
-    def wait(self, word, **values):
-        """The next line of that event with these values, as a table."""
+    def find(self, word, **values):
+        """The next line of that event with these values, as a table, or nothing where its log ends before or PATIENCE does."""
         end = time.time() + PATIENCE
         while (left := end - time.time()) > 0:
             try:
@@ -79,6 +88,13 @@ class Daemon:
             found = told(line)
             if found.get("event") == word and all(found.get(key) == str(it) for key, it in values.items()):
                 return found
+        return None
+
+    def wait(self, word, **values):
+        """The next line of that event with these values, as a table."""
+        found = self.find(word, **values)
+        if found:
+            return found
         raise SystemExit(f"no line {word} {values} of the daemon in {PATIENCE} seconds, but:\n" + "\n".join(self.said[-20:]))
 
     def listens(self):
@@ -112,8 +128,8 @@ def told(line):
 
 
 @contextlib.contextmanager
-def running(*words, limit=None):
-    it = Daemon(*words, limit=limit)
+def running(*words, **how):
+    it = Daemon(*words, **how)
     try:
         yield it
     finally:
@@ -278,14 +294,266 @@ def refused_files():
             daemon.wait("taken", file="list.json")
         os.remove("list.json")
         daemon.wait("refused", file="list.json")
+        put("list.json", text_of(FIRST))
+        daemon.wait("taken", file="list.json")
+        os.remove("list.json")
         os.mkdir("list.json")
+        daemon.wait("refused", file="list.json")
+        differs("what is served with a folder in its place", Router(port).catch_up(), set(FIRST))
         os.rmdir("list.json")
         put("list.json", text_of(SECOND))
         daemon.wait("taken", file="list.json")
         daemon.wait("published", records=2)
         differs("what is served behind", Router(port).catch_up(), set(SECOND))
         refusals = [it for it in daemon.said if " refused " in it]
-        differs("how often a refusal is told", len(refusals), 4)
+        differs("how often a refusal is told", len(refusals), 5)
+
+
+def roa_of(asn, records):
+    """The payload of a ROA for IPv4 records, which ascend."""
+    addresses = b""
+    for prefix, most in records:
+        network = ipaddress.ip_network(prefix)
+        octets = network.network_address.packed[: (network.prefixlen + 7) // 8]
+        bits = element(3, bytes([-network.prefixlen % 8]) + octets)
+        addresses += element(48, bits if most == network.prefixlen else bits + element(2, bytes([most])))
+    family = element(48, element(4, b"\0\1") + element(48, addresses))
+    return element(48, element(2, asn.to_bytes(asn.bit_length() // 8 + 1, "big")) + element(48, family))
+
+
+def manifest_of(number, begin, end, files):
+    """The payload of a manifest of this number, from one second to another, that lists these files."""
+    times = b"".join(element(24, datetime.datetime.fromtimestamp(it, datetime.timezone.utc).strftime("%Y%m%d%H%M%SZ").encode()) for it in (begin, end))
+    listed = b"".join(element(48, element(22, name.encode()) + element(3, b"\0" + hashlib.sha256(content).digest())) for name, content in files.items())
+    return element(48, element(2, bytes([number])) + times + element(6, bytes.fromhex("608648016503040201")) + element(48, listed))
+
+
+def put_point(number, until, asn, records, is_spoiled=False):
+    """Replaces the publication point: a manifest of this number up to a second, and one ROA, which stands for the object around it too."""
+    roa = roa_of(asn, records)
+    now = int(time.time())
+    for folder in "point.new/objects", "point.new/contents":
+        os.makedirs(folder)
+        with open(f"{folder}/a.roa", "wb") as it:
+            it.write(roa)
+    with open("point.new/manifest.der", "wb") as it:
+        it.write(manifest_of(number, now - 60 + number, until, {"a.roa": roa + b"x" if is_spoiled else roa}))
+    if os.path.exists("point"):
+        os.rename("point", f"point.{time.time_ns()}")
+    os.rename("point.new", "point")
+
+
+def points():
+    """A publication point beside a file: what it takes is served, what it refuses leaves what it holds, and what it holds leaves in its time."""
+    put("list.json", text_of(FIRST[2:]))
+    hour = int(time.time()) + 3600
+    put_point(1, hour, 64496, [("192.0.2.0/24", 24)])
+    with running("--points", "point", "--vrps", "list.json", "--listen", "127.0.0.1:0", "--check", "1") as daemon:
+        router = Router(daemon.listens())
+        differs("a point and a file", router.catch_up(), {*FIRST[2:], ("192.0.2.0/24", 24, 64496)})
+        put_point(2, hour, 64496, [("192.0.2.0/24", 25), ("198.51.100.0/24", 24)])
+        daemon.wait("published", announced=2, withdrawn=1, records=3)
+        router.wait_notify()
+        second = {*FIRST[2:], ("192.0.2.0/24", 25, 64496), ("198.51.100.0/24", 24, 64496)}
+        differs("the next manifest", router.catch_up(), second)
+        put_point(1, hour, 64496, [("192.0.2.0/24", 24)])
+        differs("an older manifest", daemon.wait("refused", file="point")["reason"].startswith("the manifest"), True)
+        put_point(3, hour, 64496, [("192.0.2.0/24", 26)])
+        daemon.wait("taken", file="point")
+        daemon.wait("published", records=2)
+        put_point(4, hour, 64496, [("192.0.2.0/24", 24)], is_spoiled=True)
+        daemon.wait("refused", file="point")
+        third = {*FIRST[2:], ("192.0.2.0/24", 26, 64496)}
+        differs("a point whose file does not hash", router.catch_up(), third)
+        put_point(5, int(time.time()) + 4, 64496, [("192.0.2.0/24", 24)])
+        daemon.wait("taken", file="point")
+        daemon.wait("published", announced=1, withdrawn=1)
+        daemon.wait("published", withdrawn=1, records=1)
+        differs("a point whose time is over", router.catch_up(), set(FIRST[2:]))
+    status = subprocess.run([program, "--points", "nowhere", "--listen", "127.0.0.1:0"], stdin=subprocess.DEVNULL, capture_output=True, timeout=PATIENCE)
+    differs("a point that is not there", (status.returncode, b"nowhere" in status.stderr), (3, True))
+
+
+def got(port, target, method="GET"):
+    """The status, the headers and the body of an answer."""
+    with contextlib.closing(http.client.HTTPConnection("127.0.0.1", port, timeout=PATIENCE)) as it:
+        it.request(method, target)
+        answer = it.getresponse()
+        return answer.status, dict(answer.getheaders()), answer.read().decode()
+
+
+def metrics_of(port):
+    """The metrics by their names and labels."""
+    lines = got(port, "/metrics")[2].splitlines()
+    return {name: float(value) for name, value in (it.rsplit(" ", 1) for it in lines if not it.startswith("#"))}
+
+
+def state_of(prefix, asn, records):
+    """The state of a route by RFC 6811 section 2, and the covering records in their three kinds."""
+    route, kinds = ipaddress.ip_network(prefix), {"matched": [], "unmatched_as": [], "unmatched_length": []}
+    for text, most, origin in records:
+        network = ipaddress.ip_network(text)
+        if network.version == route.version and route.subnet_of(network):
+            kind = "unmatched_length" if route.prefixlen > most else "matched" if origin == asn != 0 else "unmatched_as"
+            kinds[kind].append((text, most, origin))
+    state = "valid" if kinds["matched"] else "invalid" if any(kinds.values()) else "not-found"
+    return state, {kind: sorted(found) for kind, found in kinds.items()}
+
+
+def validity(port, prefix, asn):
+    """What the page says of a route, in the same form."""
+    status, _, body = got(port, f"/validity?asn={asn}&prefix={prefix.replace('/', '%2F')}")
+    told = json.loads(body)["validated_route"]["validity"] if status == 200 else None
+    found = lambda it: (it["prefix"], int(it["max_length"]), int(it["asn"].removeprefix("AS")))
+    return told and (told["state"], {kind: sorted(map(found, them)) for kind, them in told["VRPs"].items()})
+
+
+def raw_answer(port, *pieces):
+    """What comes of bytes that are sent in pieces, until the daemon closes."""
+    with contextlib.closing(socket.create_connection(("127.0.0.1", port), PATIENCE)) as it:
+        for piece in pieces:
+            it.sendall(piece)
+        with contextlib.suppress(OSError):
+            it.shutdown(socket.SHUT_WR)
+        found = b""
+        with contextlib.suppress(OSError):
+            while piece := it.recv(65536):
+                found += piece
+        return found
+
+
+def pages():
+    """The pages on the daemon's state, and visitors of all kinds beside routers."""
+    near = [(f"192.0.{it}.0/24", 24 + it % 3, 64496 + it % 5) for it in range(8)] + [("192.0.0.0/16", 20, 64496), ("192.0.2.0/24", 26, 0), ("2001:db8::/32", 48, 64498)]
+    put("list.json", text_of(near))
+    words = ["--vrps", "list.json", "--listen", "127.0.0.1:0", "--check", "1", "--session", "4660", "--start", "5", "--status", "127.0.0.1:0"]
+    with running(*words) as daemon:
+        at = int(daemon.wait("listening")["address"].rpartition(":")[2])
+        port = int(daemon.wait("status")["address"].rpartition(":")[2])
+        daemon.wait("ready")
+        routers = [Router(at), Router(at, version=0)]
+        for router in routers:
+            router.catch_up()
+        told = metrics_of(port)
+        wanted = {'rpkirtrd_vrps{family="ipv4"}': 10, 'rpkirtrd_vrps{family="ipv6"}': 1, "rpkirtrd_serial": 5, "rpkirtrd_session": 4660, "rpkirtrd_clients": 2}
+        wanted |= {'rpkirtrd_pdus_total{type="reset_query",direction="received"}': 2, 'rpkirtrd_pdus_total{type="ipv4_prefix",direction="sent"}': 20}
+        differs("the metrics", {name: told.get(name) for name in wanted}, wanted)
+        routers.pop().close()
+        daemon.wait("client-gone")
+        told = metrics_of(port)
+        differs("the metrics behind a client", (told["rpkirtrd_clients"], told['rpkirtrd_pdus_total{type="ipv4_prefix",direction="sent"}']), (1, 20))
+        listed = json.loads(got(port, "/vrps.json")[2])
+        differs("the payload list", {(it["prefix"], it["maxLength"], it["asn"]) for it in listed}, set(near))
+        choice = random.Random(7)
+        for _ in range(200):
+            length = choice.randrange(16, 29)
+            prefix = str(ipaddress.ip_network((0xC0000000 | choice.randrange(8) << 8 | choice.randrange(256), length), strict=False))
+            asn = choice.choice([0, 64496, 64497, 64499])
+            differs(f"the state of {prefix} {asn}", validity(port, prefix, asn), state_of(prefix, asn, near))
+        page = got(port, "/")
+        differs("the page", (page[0], page[1]["Content-Type"], "4660" in page[2], "<script" in page[2]), (200, "text/html; charset=utf-8", True, False))
+        for target, method, status in ("/nothing", "GET", 404), ("/metrics", "POST", 405), ("/validity?asn=1", "GET", 400), ("/metrics", "HEAD", 200):
+            differs(f"{method} {target}", got(port, target, method)[0], status)
+        strange_visitors(port)
+        crowded(at, port, daemon)
+        put("list.json", text_of(near[:5]))
+        daemon.wait("published", serial=6)
+        differs("the next payload list", len(json.loads(got(port, "/vrps.json")[2])), 5)
+        differs("the metrics of the next version", metrics_of(port)["rpkirtrd_serial"], 6)
+
+
+def strange_visitors(port):
+    """Requests that are cut, huge, slow, none at all, or one behind the other."""
+    differs("a request that is cut", raw_answer(port, b"GET /metrics HT"), b"")
+    huge = raw_answer(port, b"GET /" + b"x" * 20000 + b" HTTP/1.1\r\nHost: x\r\n\r\n")
+    differs("a request that is huge", huge[:12] in (b"HTTP/1.1 414", b"HTTP/1.1 431", b"HTTP/1.1 400", b""), True)
+    differs("rubbish", raw_answer(port, bytes(range(128, 256)))[:12] in (b"HTTP/1.1 400", b""), True)
+    request = b"GET /nothing HTTP/1.1\r\nHost: x\r\n\r\n"
+    differs("three requests at once", raw_answer(port, request * 3).count(b"HTTP/1.1 404"), 3)
+    differs("a request byte by byte", raw_answer(port, *(request[it : it + 1] for it in range(len(request)))).count(b"HTTP/1.1 404"), 1)
+    silent = [socket.create_connection(("127.0.0.1", port), PATIENCE) for _ in range(80)]
+    differs("visitors too many", sum(is_closed(it) for it in silent), 16)
+    for it in silent:
+        it.close()
+    end = time.time() + PATIENCE
+    while time.time() < end:
+        with contextlib.suppress(OSError, http.client.HTTPException):
+            if got(port, "/metrics")[0] == 200:
+                return
+    differs("a visitor behind these", "closed", "answered")
+
+
+def is_closed(it):
+    """Whether the other end has closed the connection, a second being time enough."""
+    it.settimeout(0.02)
+    try:
+        return it.recv(1) == b""
+    except TimeoutError:
+        return False
+    except OSError:
+        return True
+
+
+def asked_anew(router):
+    """How many records a router has that asks for all of them three times."""
+    for _ in range(3):
+        router.session = None
+        router.ask()
+    return len(router.table)
+
+
+def crowded(at, port, daemon):
+    """A thousand requests while a hundred routers ask for the table again and again."""
+    routers = [Router(at) for _ in range(100)]
+    with concurrent.futures.ThreadPoolExecutor(8) as visitors, concurrent.futures.ThreadPoolExecutor(8) as crowd:
+        answers = [visitors.submit(got, port, choice) for choice in ["/metrics", "/", "/vrps.json", "/validity?asn=64496&prefix=192.0.2.0/24"] * 250]
+        tables = [crowd.submit(asked_anew, router) for router in routers]
+        differs("the answers of a crowd", {it.result()[0] for it in answers}, {200})
+        differs("the tables beside a crowd", {it.result() for it in tables}, {11})
+    for router in routers:
+        router.close()
+    for _ in routers:
+        daemon.wait("client-gone")
+
+
+def refused_memory():
+    """Each request for memory of a daemon refused in turn: it does not start, for want of memory, or its router holds the first list and
+    then the next one, at most a connection later."""
+    with concurrent.futures.ThreadPoolExecutor(16) as pool:
+        numbers, ended = iter(range(1, 5000)), 0
+        for found in iter(lambda: list(pool.map(refused_once, [next(numbers) for _ in range(64)])), None):
+            ended += sum(found)
+            if not all(found):
+                break
+    print(f"refused_memory: {ended} requests, each refused", flush=True)
+
+
+def refused_once(number):
+    """A daemon of which this request is refused. It answers whether one was."""
+    name = f"memory-{number}.json"
+    put(name, text_of(FIRST))
+    with tempfile.TemporaryFile() as told:
+        env = {"LD_PRELOAD": shim, "REFUSE": str(number), "TOLD": str(told.fileno())}
+        with running("--vrps", name, "--listen", "127.0.0.1:0", "--check", "1", "--session", "4660", env=env, told=told.fileno()) as daemon:
+            at = daemon.find("listening")
+            if at is None or daemon.find("ready") is None:
+                differs(f"request {number}: the end", (daemon.status(), "out of memory" in "".join(daemon.said[-1:])), (4, True))
+            else:
+                port = int(at["address"].rpartition(":")[2])
+                differs(f"request {number}: the first list", held(port), set(FIRST))
+                put(name, text_of(SECOND))
+                daemon.wait("published", records=len(SECOND))
+                differs(f"request {number}: the next list", held(port), set(SECOND))
+        return os.fstat(told.fileno()).st_size > 0
+
+
+def held(port):
+    """What a router holds that comes again where it was closed, or was sent an Error Report."""
+    for _ in range(3):
+        with contextlib.suppress(OSError, EOFError), contextlib.closing(Router(port)) as router:
+            if router.ask() == RESPONSE:
+                return router.table
+    return None
 
 
 def sources():
@@ -453,17 +721,19 @@ def soak(seconds, seed):
 
 
 def main():
-    global program
+    global program, shim
     words = argparse.ArgumentParser()
     words.add_argument("program")
     words.add_argument("--seconds", type=float, default=20)
     words.add_argument("--seed", type=int, default=random.randrange(2**32))
+    words.add_argument("--shim")
     given = words.parse_args()
-    program = os.path.abspath(given.program)
+    program, shim = os.path.abspath(given.program), given.shim and os.path.abspath(given.shim)
     with tempfile.TemporaryDirectory() as folder:
         os.chdir(folder)
         put("list.json", text_of(FIRST))
-        for part in words_and_starts, tables, refused_files, sources, restarts, limits, full_descriptors:
+        parts = [words_and_starts, tables, refused_files, sources, points, pages, restarts, limits, full_descriptors]
+        for part in [*parts, *([refused_memory] if shim else [])]:
             began = time.time()
             part()
             print(f"{part.__name__}: {time.time() - began:.1f} s", flush=True)

@@ -1,6 +1,16 @@
 #!/usr/bin/env bash
-# The daemon over sockets, with a soak of twenty seconds: tests/daemon.py has the routers.
+# The daemon over sockets, with a soak of twenty seconds: tests/daemon.py has the routers. Where there is a C compiler, each request for memory
+# of a daemon is refused in turn.
 set -u
 top=$(cd "$(dirname "${BASH_SOURCE[0]}")/.." && pwd) || exit 1
+folder=$(mktemp -d) || exit 1
+trap 'rm -rf "$folder"' EXIT
 "$top/rpkirtrd" --version >/dev/null || exit 1
-timeout 300 python3 "$top/tests/daemon.py" "$top/crates/rpkirtrd/out/rpkirtrd"
+shim=()
+if command -v cc >/dev/null 2>&1; then
+    cc -O2 -Wall -Wextra -Werror -shared -fPIC -o "$folder/refusing.so" "$top/tests/refusing.c" -ldl || exit 1
+    shim=(--shim "$folder/refusing.so")
+elif [ -n "${CI:-}" ]; then
+    exit 1
+fi
+timeout 300 python3 "$top/tests/daemon.py" "$top/crates/rpkirtrd/out/rpkirtrd" "${shim[@]}"
