@@ -364,10 +364,7 @@ const OPTIONS: &[(&str, &str)] = &[
         "--expire SECONDS",
         "from 600 to 172800, and more than both others; the default is 7200.",
     ),
-    (
-        "--status ADDRESS:PORT",
-        "refuses to start with this option.",
-    ),
+    ("--status ADDRESS:PORT", "option there are none."),
     ("--log FORM", "text or json. The default is text."),
     ("--once", "when the first router has gone."),
     ("-h, --help", "printed."),

@@ -27,9 +27,14 @@ This is a cache for the routers of a network, beside rpki-client:
   rpkirtrd --vrps /var/db/rpki-client/json --listen [::]:3323 --max-age 86400
 ";
 
+/// The program's version.
+pub const VERSION: &str = "0.9.0";
+
 /// The text of `--version`.
 pub(crate) fn version(alloc: Global) -> Result<String, AllocError> {
-    String::from_str(alloc, "rpkirtrd 0.9.0")
+    let mut text = String::from_str(alloc, "rpkirtrd ")?;
+    text.push_str(VERSION)?;
+    Ok(text)
 }
 
 fn push_lines(text: &mut String, lines: &[&str]) -> Result<(), AllocError> {

@@ -25,5 +25,6 @@ mod values;
 mod words;
 
 pub use fault::{Wanted, WordsFault};
+pub use help::VERSION;
 pub use settings::Settings;
 pub use words::{Asked, read_words};

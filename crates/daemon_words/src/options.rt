@@ -224,8 +224,11 @@ pub(crate) static MATTERS: [Matter; 7] = [
                 kind: Kind::Once,
                 value: "ADDRESS:PORT",
                 help: &[
-                    "Pages on the daemon's state are at this address. This version has no such",
-                    "pages yet, and refuses to start with this option.",
+                    "Pages on the daemon's state are at this address, over HTTP: / for people,",
+                    "/metrics for Prometheus, /vrps.json for the payload list, and",
+                    "/validity?asn=64496&prefix=192.0.2.0/24 for the state of a route. Nothing",
+                    "can be changed by them; keep them on a management network. Without this",
+                    "option there are none.",
                 ],
             },
             Choice {

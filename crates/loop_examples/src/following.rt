@@ -24,6 +24,7 @@ const PLAN: Plan = Plan {
     stops_when_old: false,
     once: false,
     gates: 1,
+    clients: 2,
 };
 
 /// A daemon of a list, with session 4660, whose first serial is 5.

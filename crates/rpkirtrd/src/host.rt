@@ -1,11 +1,13 @@
 //! What the daemon sees of the system: sockets over `mio`, files, clocks, and standard error.
 use crate::line::Line;
+use crate::running::refuse_sockets;
 use command_parts::read_file;
 use daemon_parts::{Event, LogForm, write_event};
 use mio::net::{TcpListener, TcpStream};
 use mio::{Events, Interest, Poll, Token};
 use payload_commands::{Directory, read_directories};
 use rtr_daemon::{Accepted, Disk, Journal, Ports, Ready, Stamp, StartFault, Time};
+use std::alloc::Global;
 use std::collections::VecDeque;
 use std::fs;
 use std::io::{self, ErrorKind, Write};
@@ -23,6 +25,21 @@ const LINE_ROOM: usize = 4096;
 /// The number of the first line; gates have those below.
 const FIRST_LINE: usize = 65_536;
 
+/// The number of the gate of visitors, the last one below the lines.
+const DESK: usize = 65_535;
+
+/// The number of the first visitor, behind all lines.
+const FIRST_VISITOR: usize = 4_611_686_018_427_387_904;
+
+/// What may be ready for the pages on the daemon's state.
+#[derive(Clone, Copy, Debug, PartialEq, Eq)]
+pub enum Call {
+    /// A visitor may wait.
+    Desk,
+    /// From the visitor of this number bytes may have come, or there may be room again.
+    Visitor(usize),
+}
+
 /// The system.
 #[derive(Drop)]
 pub struct Host<'a, R, E> {
@@ -32,8 +49,12 @@ pub struct Host<'a, R, E> {
     poll: Poll,
     events: Events,
     ready: VecDeque<Ready>,
+    calls: VecDeque<Call>,
     listeners: Vec<TcpListener>,
     next_line: usize,
+    next_visitor: usize,
+    /// How long the next wait may be for the visitors' sake, in milliseconds.
+    patience: u64,
     began: Instant,
     seconds: u64,
     millis: u64,
@@ -74,8 +95,11 @@ impl<'a, R: Files + Net + Clock + AllocGlobal, E: Write> Host<'a, R, E> {
             poll,
             events: Events::with_capacity(rt.alloc(), EVENTS).map_err(io::Error::from)?,
             ready: VecDeque::with_capacity(rt.alloc(), EVENTS).map_err(io::Error::from)?,
+            calls: VecDeque::with_capacity(rt.alloc(), EVENTS).map_err(io::Error::from)?,
             listeners: Vec::new(rt.alloc()),
             next_line: FIRST_LINE,
+            next_visitor: FIRST_VISITOR,
+            patience: u64::MAX,
             began: Instant::now(rt)?,
             seconds: 0,
             millis: 0,
@@ -92,6 +116,11 @@ impl<'a, R: Files + Net + Clock + AllocGlobal, E: Write> Host<'a, R, E> {
         Ok(host)
     }
 
+    /// Tells on standard error which socket cannot be had, with the status.
+    pub fn refuse_sockets(&mut self, fault: &HostFault) -> u8 {
+        refuse_sockets(fault, self.err)
+    }
+
     /// Tells on standard error why the daemon does not start.
     pub fn refuse(&mut self, fault: &StartFault) {
         let _ = match &fault.path {
@@ -102,16 +131,36 @@ impl<'a, R: Files + Net + Clock + AllocGlobal, E: Write> Host<'a, R, E> {
 
     /// Opens a gate, and tells where it is.
     fn listen(&mut self, address: SocketAddr) -> io::Result<()> {
-        let mut listener = TcpListener::bind(self.rt, address)?;
-        let token = Token(self.listeners.len());
-        self.poll
-            .registry()
-            .register(&mut listener, token, Interest::READABLE)?;
-        let address = listener.local_addr()?;
+        let (listener, address) = self.bind(address, Token(self.listeners.len()))?;
         self.listeners.push(listener)?;
         let now = self.seconds();
         self.tell(now, &Event::Listening { address });
         Ok(())
+    }
+
+    /// Opens the gate of visitors, and tells where it is.
+    pub fn listen_for_visitors(&mut self, address: SocketAddr) -> io::Result<TcpListener> {
+        let (listener, address) = self.bind(address, Token(DESK))?;
+        let now = self.seconds();
+        self.tell(now, &Event::Status { address });
+        Ok(listener)
+    }
+
+    /// A socket at an address, which is told under a number when connections come, and its own address.
+    fn bind(&self, address: SocketAddr, token: Token) -> io::Result<(TcpListener, SocketAddr)> {
+        let mut listener = TcpListener::bind(self.rt, address)?;
+        self.poll
+            .registry()
+            .register(&mut listener, token, Interest::READABLE)?;
+        let address = listener.local_addr()?;
+        Ok((listener, address))
+    }
+}
+
+impl<'a, R: AllocGlobal, E> Host<'a, R, E> {
+    /// The allocator.
+    pub fn alloc(&self) -> Global {
+        self.rt.alloc()
     }
 }
 
@@ -168,16 +217,19 @@ impl<'a, R: Files + AllocGlobal + Clone + Drop, E: Write> Disk for Host<'a, R, E
 
 impl<'a, R: AllocGlobal, E: Write> Ports<Line> for Host<'a, R, E> {
     fn wait(&mut self, millis: u64) -> io::Result<()> {
-        self.poll
-            .poll(&mut self.events, Some(Duration::from_millis(millis)))?;
+        let wait = Duration::from_millis(millis.min(self.patience));
+        self.poll.poll(&mut self.events, Some(wait))?;
         for event in self.events.iter() {
             let Token(token) = event.token();
-            let ready = if token < FIRST_LINE {
-                Ready::Gate(token)
+            if token == DESK {
+                self.calls.push_back(Call::Desk)?;
+            } else if token >= FIRST_VISITOR {
+                self.calls.push_back(Call::Visitor(token))?;
+            } else if token >= FIRST_LINE {
+                self.ready.push_back(Ready::Line(token))?;
             } else {
-                Ready::Line(token)
-            };
-            self.ready.push_back(ready)?;
+                self.ready.push_back(Ready::Gate(token))?;
+            }
         }
         Ok(())
     }
@@ -200,6 +252,29 @@ impl<'a, R: AllocGlobal, E: Write> Ports<Line> for Host<'a, R, E> {
 }
 
 impl<'a, R, E> Host<'a, R, E> {
+    /// The next of what is ready for the pages.
+    pub fn next_call(&mut self) -> Option<Call> {
+        self.calls.pop_front()
+    }
+
+    /// Bounds the next waits, in milliseconds.
+    pub fn wait_at_most(&mut self, millis: u64) {
+        self.patience = millis;
+    }
+
+    /// Has a visitor's connection told when it is ready, and answers its number; None where that cannot be had.
+    pub fn register_visitor(&mut self, stream: &mut TcpStream) -> Option<usize> {
+        let number = self.next_visitor;
+        self.next_visitor = number.saturating_add(1);
+        let both = Interest::READABLE | Interest::WRITABLE;
+        let registered = self.poll.registry().register(stream, Token(number), both);
+        if registered.is_ok() {
+            Some(number)
+        } else {
+            None
+        }
+    }
+
     /// Has a connection told when it is ready.
     fn take_in(&mut self, stream: TcpStream, address: SocketAddr) -> Accepted<Line> {
         let Some(mut line) = Line::of(stream) else {

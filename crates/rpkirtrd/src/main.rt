@@ -1,10 +1,12 @@
 //! The daemon: it reads its words, opens its sockets, and serves turn by turn.
 #![tactic(auto)]
 
+mod desk;
 mod host;
 mod line;
 mod names;
 mod running;
+mod shelf;
 
 use running::{out_of_memory, run_words};
 use std::process::ExitCode;

@@ -1,4 +1,5 @@
 //! Running the daemon.
+use crate::desk::Desk;
 use crate::host::{Host, HostFault};
 use crate::line::Line;
 use crate::names::names_of;
@@ -7,9 +8,12 @@ use daemon_words::{Asked, Settings, WordsFault, read_words};
 use rtr_daemon::{Daemon, End, Journal, Paths, Plan, StartFault, Time};
 use rtr_ends::Cache;
 use rtr_server::Server;
+use status_server::MAX_VISITORS;
 use std::alloc::{AllocError, Global};
+use std::hash::RandomState;
 use std::io::{self, ErrorKind, Write};
-use std::net::Net;
+use std::net::{Net, SocketAddr};
+use std::random::RandomSource;
 use std::rt::Files;
 use std::time::Clock;
 use vrps::VersionLog;
@@ -25,36 +29,20 @@ pub fn out_of_memory<E: Write>(err: &mut E) -> u8 {
 
 /// Does what the words ask for, and answers the status: 0 done, 1 refused input, 2 the words do not parse, 3 a file, a socket or an output
 /// failed, 4 out of memory.
-pub fn run_words<R: Files + Net + Clock + AllocGlobal + Clone + Drop, O: Write, E: Write>(
-    rt: &R,
-    words: &[String],
-    out: &mut O,
-    err: &mut E,
-) -> u8 {
+pub fn run_words<
+    R: Files + Net + Clock + RandomSource + AllocGlobal + Clone + Drop,
+    O: Write,
+    E: Write,
+>(rt: &R, words: &[String], out: &mut O, err: &mut E) -> u8 {
     match read_words(rt.alloc(), words) {
         Ok(Asked::Help(text)) | Ok(Asked::Version(text)) => print(text.as_str(), out),
-        Ok(Asked::Serve(settings)) => {
-            if settings.status.is_some() {
-                no_pages(err)
-            } else {
-                serve(rt, settings, err)
-            }
-        }
+        Ok(Asked::Serve(settings)) => serve(rt, settings, err),
         Err(WordsFault::Memory) => out_of_memory(err),
         Err(fault) => {
             let _ = writeln!(err, "rpkirtrd: {fault}\nTry rpkirtrd --help.");
             2
         }
     }
-}
-
-/// Tells that there are no pages on the daemon's state, with the status.
-fn no_pages<E: Write>(err: &mut E) -> u8 {
-    let _ = writeln!(
-        err,
-        "rpkirtrd: --status: this version has no pages on its state; leave the option out"
-    );
-    2
 }
 
 /// Prints a text, with a newline at its end, with the status.
@@ -67,21 +55,44 @@ fn print<O: Write>(text: &str, out: &mut O) -> u8 {
 }
 
 /// Opens the sockets, reads the files, and serves.
-fn serve<R: Files + Net + Clock + AllocGlobal + Clone + Drop, E: Write>(
+fn serve<R: Files + Net + Clock + RandomSource + AllocGlobal + Clone + Drop, E: Write>(
     rt: &R,
     settings: Settings,
     err: &mut E,
 ) -> u8 {
     match Host::open(rt, err, settings.log, settings.listen.as_slice()) {
         Err(fault) => refuse_sockets(&fault, err),
-        Ok(mut host) => match open(rt, settings, &mut host) {
-            Err(fault) => refuse_start(&fault, &mut host),
-            Ok(daemon) => go_on(daemon, &mut host),
+        Ok(mut host) => match desk_of(rt, settings.status, &mut host) {
+            Err(fault) => host.refuse_sockets(&fault),
+            Ok(desk) => match open(rt, settings, &mut host) {
+                Err(fault) => refuse_start(&fault, &mut host),
+                Ok(daemon) => go_on(daemon, desk, &mut host),
+            },
         },
     }
 }
 
-fn refuse_sockets<E: Write>(fault: &HostFault, err: &mut E) -> u8 {
+/// The desk of the pages on the daemon's state, where they are wanted at an address.
+fn desk_of<R: Files + Net + Clock + RandomSource + AllocGlobal + Clone + Drop, E: Write>(
+    rt: &R,
+    address: Option<SocketAddr>,
+    host: &mut Host<'_, R, E>,
+) -> Result<Option<Desk>, HostFault> {
+    let Some(address) = address else {
+        return Ok(None);
+    };
+    let keys = RandomState::new(rt)?;
+    match Desk::open(host, keys, address) {
+        Ok(desk) => Ok(Some(desk)),
+        Err(error) => Err(HostFault {
+            address: Some(address),
+            error,
+        }),
+    }
+}
+
+/// Tells which socket cannot be had, with the status.
+pub fn refuse_sockets<E: Write>(fault: &HostFault, err: &mut E) -> u8 {
     let status = if fault.error.kind() == ErrorKind::OutOfMemory {
         4
     } else {
@@ -95,7 +106,7 @@ fn refuse_sockets<E: Write>(fault: &HostFault, err: &mut E) -> u8 {
 }
 
 /// The daemon of these words, with its files read.
-fn open<R: Files + Net + Clock + AllocGlobal + Clone + Drop, E: Write>(
+fn open<R: Files + Net + Clock + RandomSource + AllocGlobal + Clone + Drop, E: Write>(
     rt: &R,
     settings: Settings,
     host: &mut Host<'_, R, E>,
@@ -105,8 +116,8 @@ fn open<R: Files + Net + Clock + AllocGlobal + Clone + Drop, E: Write>(
     let Ok(names) = names_of(rt, &settings, start) else {
         return Err(StartFault::memory());
     };
-    let most = client_limit(settings.clients, start, host);
-    let plan = plan_of(&settings);
+    let most = client_limit(&settings, start, host);
+    let plan = plan_of(&settings, most);
     let Ok(server) = server_of(alloc, &settings, names, most) else {
         return Err(StartFault::memory());
     };
@@ -137,7 +148,7 @@ fn server_of(
     Ok(Server::new(alloc, cache, most))
 }
 
-fn plan_of(settings: &Settings) -> Plan {
+fn plan_of(settings: &Settings, most: usize) -> Plan {
     Plan {
         check: u64::from(settings.check).saturating_mul(1000),
         stall: u64::from(settings.stall).saturating_mul(1000),
@@ -145,12 +156,22 @@ fn plan_of(settings: &Settings) -> Plan {
         stops_when_old: settings.stop_when_old,
         once: settings.once,
         gates: settings.listen.len(),
+        clients: most,
     }
 }
 
 /// How many clients there may be: as many as are asked for, and as the system gives descriptors.
-fn client_limit<J: Journal>(asked: usize, now: u64, journal: &mut J) -> usize {
-    let most = descriptors().saturating_sub(OWN_DESCRIPTORS).max(1);
+fn client_limit<J: Journal>(settings: &Settings, now: u64, journal: &mut J) -> usize {
+    let visitors = if settings.status.is_some() {
+        MAX_VISITORS
+    } else {
+        0
+    };
+    let most = descriptors()
+        .saturating_sub(OWN_DESCRIPTORS)
+        .saturating_sub(visitors)
+        .max(1);
+    let asked = settings.clients;
     if asked > most {
         journal.tell(
             now,
@@ -188,14 +209,20 @@ fn refuse_start<R: Files + Net + Clock + AllocGlobal, E: Write>(
 }
 
 /// Serves until there is an end.
-fn go_on<R: Files + Net + Clock + AllocGlobal + Clone + Drop, E: Write>(
+fn go_on<R: Files + Net + Clock + RandomSource + AllocGlobal + Clone + Drop, E: Write>(
     daemon: Daemon<VersionLog, Line>,
+    desk: Option<Desk>,
     host: &mut Host<'_, R, E>,
 ) -> u8 {
     let mut daemon = daemon;
+    let mut desk = desk;
     for _turn in 0..u64::MAX {
         match daemon.turn(host) {
-            Ok(None) => {}
+            Ok(None) => {
+                if let Some(desk) = &mut desk {
+                    desk.turn(&daemon, host);
+                }
+            }
             Ok(Some(end)) => return stop(end, host),
             Err(error) => return fail(&error, host),
         }

@@ -1,5 +1,5 @@
 //! Gates at which connections come.
-ghost use Rattle.std.specs.Prelude.{◌≡◌};
+ghost use Rattle.std.specs.Prelude.{◌≡◌, false};
 ghost use Rattle.rtr_daemon.specs.Serving.{GoesOn};
 
 use crate::daemon::Daemon;
@@ -60,7 +60,8 @@ impl Gates {
 impl<S: VersionStore, T: Stream + Drop> Daemon<S, T> {
     /// Takes the connections that wait at the gates, once a version is published.
     pub(crate) fn accept_waiting<W: Ports<T> + Time + Journal>(&mut self, world: &mut W)
-        ensures { GoesOn S.holds T.remaining T.contents self.old.service self.new.service }
+        ensures goes { GoesOn S.holds T.remaining T.contents self.old.service self.new.service }
+        ensures before { self.old.is_ready ≡ false → self.new.service ≡ self.old.service }
     {
         if !self.is_ready {
             return;
@@ -124,6 +125,7 @@ impl<S: VersionStore, T: Stream + Drop> Daemon<S, T> {
                     self.service.drop_client(client);
                     world.tell(now, &Event::Memory { what: "a client" });
                 } else {
+                    self.ledger.came();
                     world.tell(now, &Event::ClientCame { address });
                 }
             }

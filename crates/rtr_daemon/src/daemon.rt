@@ -6,6 +6,7 @@ ghost use Rattle.rtr_daemon.specs.Serving.{Follows, GoesOn, LeadsToService};
 use crate::arrivals::Gates;
 use crate::following::{Followed, Look, Source};
 use crate::guests::Guests;
+use crate::ledger::{Families, Ledger};
 use crate::looking::{Offering, offer, take, tell_expired};
 use crate::refusal::{Refusal, StartFault};
 use crate::service::{Issue, Service};
@@ -15,7 +16,7 @@ use rtr_server::{Server, Stream};
 use sources::Sources;
 use std::alloc::{AllocError, Global};
 use std::io;
-use vrps::{Published, VersionStore};
+use vrps::{Published, Serial, VersionStore};
 
 /// How long a turn waits at most where something is due soon, in milliseconds.
 const SOON: u64 = 1000;
@@ -46,6 +47,8 @@ pub struct Plan {
     pub once: bool,
     /// How many gates there are.
     pub gates: usize,
+    /// How many clients there may be at once.
+    pub clients: usize,
 }
 
 /// Why a daemon has come to its end.
@@ -62,12 +65,15 @@ pub enum End {
 pub struct Daemon<S, T> {
     pub(crate) alloc: Global,
     pub(crate) plan: Plan,
-    names: VersionNames,
+    pub(crate) names: VersionNames,
     pub(crate) service: Service<S, T>,
     pub(crate) guests: Guests,
     pub(crate) gates: Gates,
     pub(crate) files: Vec<Followed>,
     pub(crate) points: Vec<Offering>,
+    pub(crate) ledger: Ledger,
+    /// When it was opened, in seconds since 1970.
+    pub(crate) started: u64,
     pace: Pace,
     /// Whether a version was published.
     pub(crate) is_ready: bool,
@@ -116,6 +122,9 @@ impl<S: VersionStore + Drop, T: Stream + Drop> Daemon<S, T> {
         let Ok(gates) = Gates::new(alloc, plan.gates) else {
             return Err(StartFault::memory());
         };
+        let Ok(ledger) = Ledger::new(alloc) else {
+            return Err(StartFault::memory());
+        };
         let mut daemon = Daemon {
             alloc,
             plan,
@@ -125,6 +134,8 @@ impl<S: VersionStore + Drop, T: Stream + Drop> Daemon<S, T> {
             gates,
             files: followed,
             points: offered,
+            ledger,
+            started: now,
             pace: Pace::after(now),
             is_ready: false,
             has_parted: false,
@@ -226,6 +237,7 @@ impl<S: VersionStore + Drop, T: Stream + Drop> Daemon<S, T> {
             return;
         };
         self.pace.published(now);
+        self.note_version(serial, issue, now);
         self.guests.wake_all();
         let milliseconds = world.millis().saturating_sub(began);
         world.tell(
@@ -242,6 +254,16 @@ impl<S: VersionStore + Drop, T: Stream + Drop> Daemon<S, T> {
         if !self.is_ready {
             self.is_ready = true;
             world.tell(now, &Event::Ready);
+        }
+    }
+
+    /// Notes what was published for those who ask.
+    fn note_version(&mut self, serial: Serial, issue: Issue, now: u64)
+        ensures { self.new.service ≡ self.old.service }
+    {
+        if let Some((_serial, set)) = self.service.server().current() {
+            let families = Families::of(set.as_slice());
+            self.ledger.published(serial.0, now, issue, families);
         }
     }
 
@@ -389,7 +411,7 @@ fn read_one<S: VersionStore, T: Stream + Drop, W: Disk>(
             Look::Failed(error) => return Err(Refusal::Device(error)),
             Look::Read(stamp, bytes) => {
                 let expired = take(service, file.source, bytes.as_slice(), now)?;
-                let _ = file.take(stamp);
+                let _ = file.take(stamp, now, expired);
                 return Ok(expired);
             }
         }
@@ -407,8 +429,11 @@ fn read_points<S: VersionStore, T: Stream + Drop, W: Disk>(
     ensures { GoesOn S.holds T.remaining T.contents service.old service.new }
 {
     for point in points.iter_mut() {
-        if let Err(refusal) = offer(service, point.path.as_str(), alloc, now, world) {
-            return Err(StartFault::of(point.path.as_str(), alloc, refusal));
+        match offer(service, point.path.as_str(), alloc, now, world) {
+            Ok(_offered) => {
+                let _ = point.take(now);
+            }
+            Err(refusal) => return Err(StartFault::of(point.path.as_str(), alloc, refusal)),
         }
     }
     Ok(())

@@ -26,12 +26,16 @@ pub(crate) struct Followed {
     pub(crate) source: Source,
     /// How it looked when it was taken last.
     taken: Option<Stamp>,
+    /// When that was, in seconds since 1970.
+    pub(crate) taken_at: Option<u64>,
+    /// How many of its entries had expired then.
+    pub(crate) expired: u64,
     /// How it was when it was refused last, where it was not taken since.
     refused: Option<Refused>,
     /// Whether a refusal was told since it was taken.
     is_told: bool,
     /// Whether what it has is old.
-    is_old: bool,
+    pub(crate) is_old: bool,
 }
 
 /// What a look at a file gave.
@@ -53,6 +57,8 @@ impl Followed {
             path,
             source,
             taken: None,
+            taken_at: None,
+            expired: 0,
             refused: None,
             is_told: false,
             is_old: false,
@@ -69,7 +75,7 @@ impl Followed {
         if self.was_taken(before) && !anew {
             return Look::Same;
         }
-        if self.was_refused(Some(before)) {
+        if self.stays_refused(before) {
             return Look::RefusedBefore;
         }
         self.read(world, before)
@@ -91,6 +97,14 @@ impl Followed {
         self.taken == Some(stamp)
     }
 
+    /// Whether it would be refused again as it looks now. For want of memory it may be taken the next time.
+    fn stays_refused(&self, stamp: Stamp) -> bool {
+        match &self.refused {
+            Some(refused) => refused.stamp == Some(stamp) && !refused.why.is_memory(),
+            None => false,
+        }
+    }
+
     fn was_refused(&self, stamp: Option<Stamp>) -> bool {
         match &self.refused {
             Some(refused) => refused.stamp == stamp,
@@ -98,10 +112,12 @@ impl Followed {
         }
     }
 
-    /// It was taken as it looked then. It answers whether a refusal was told before.
-    pub(crate) fn take(&mut self, stamp: Stamp) -> bool {
+    /// It was taken as it looked then, and so many of its entries had expired. It answers whether a refusal was told before.
+    pub(crate) fn take(&mut self, stamp: Stamp, now: u64, expired: u64) -> bool {
         let was_told = self.is_told;
         self.taken = Some(stamp);
+        self.taken_at = Some(now);
+        self.expired = expired;
         self.refused = None;
         self.is_told = false;
         was_told
@@ -127,6 +143,14 @@ impl Followed {
         let is_news = self.is_old != is_old;
         self.is_old = is_old;
         is_news
+    }
+
+    /// Why it was refused last, where that was told.
+    pub(crate) fn told_refusal(&self) -> Option<&Refusal> {
+        if self.is_told {
+            return self.refusal();
+        }
+        None
     }
 
     /// Why it was refused last.

@@ -1,6 +1,7 @@
 //! The clients of a daemon, and which of them are to be served.
 use rtr_server::{Carried, Client, Turn};
 use std::alloc::{AllocError, Global};
+use std::collections::btree_map::Values;
 use std::collections::{BTreeMap, VecDeque};
 use std::net::SocketAddr;
 
@@ -113,6 +114,11 @@ impl Guests {
         if guest.blocked.is_some() {
             self.blocked = self.blocked.saturating_add(1);
         }
+    }
+
+    /// All of them, by the numbers of their lines.
+    pub(crate) fn iter(&self) -> Values<'_, usize, Guest> {
+        self.by_line.values()
     }
 
     /// The client of a line, and where it comes from.

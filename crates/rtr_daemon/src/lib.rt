@@ -28,11 +28,13 @@ mod counting;
 mod daemon;
 mod following;
 mod guests;
+mod ledger;
 mod looking;
 mod refusal;
 mod service;
 mod serving;
 mod surroundings;
+mod telling;
 
 pub use daemon::{Daemon, End, Paths, Plan};
 pub use refusal::{Refusal, StartFault};

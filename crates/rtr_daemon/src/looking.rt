@@ -4,6 +4,7 @@ ghost use Rattle.rtr_daemon.specs.Serving.{Follows, GoesOn, TakenAs, TakesSo};
 
 use crate::daemon::Daemon;
 use crate::following::{Followed, Look, Source};
+use crate::ledger::Ledger;
 use crate::refusal::Refusal;
 use crate::service::Service;
 use crate::surroundings::{Disk, Journal, Stamp, Time};
@@ -17,8 +18,10 @@ use vrps::VersionStore;
 #[derive(Debug, Drop)]
 pub(crate) struct Offering {
     pub(crate) path: String,
-    /// Whether it was refused at the look before.
-    is_refused: bool,
+    /// When it was taken last, or was what its point holds, in seconds since 1970.
+    pub(crate) taken_at: Option<u64>,
+    /// Why it was refused at the look before, if it was.
+    refused: Option<Refusal>,
     /// Whether that was told since it was taken.
     is_told: bool,
 }
@@ -27,23 +30,33 @@ impl Offering {
     pub(crate) fn new(path: String) -> Offering {
         Offering {
             path,
-            is_refused: false,
+            taken_at: None,
+            refused: None,
             is_told: false,
         }
     }
 
     /// It was taken, or is what its point holds. It answers whether a refusal was told before.
-    fn take(&mut self) -> bool {
+    pub(crate) fn take(&mut self, now: u64) -> bool {
         let was_told = self.is_told;
-        self.is_refused = false;
+        self.taken_at = Some(now);
+        self.refused = None;
         self.is_told = false;
         was_told
     }
 
+    /// Why it was refused, where that was told.
+    pub(crate) fn told_refusal(&self) -> Option<&Refusal> {
+        if self.is_told {
+            return self.refused.as_ref();
+        }
+        None
+    }
+
     /// It was refused. It answers whether that is to be told: where it was refused at the look before too, and that was not told yet.
-    fn refuse(&mut self) -> bool {
-        let is_news = self.is_refused && !self.is_told;
-        self.is_refused = true;
+    fn refuse(&mut self, refusal: Refusal) -> bool {
+        let is_news = self.refused.is_some() && !self.is_told;
+        self.refused = Some(refusal);
         self.is_told = self.is_told || is_news;
         is_news
     }
@@ -112,10 +125,10 @@ fn has_expired<S: VersionStore, T: Stream + Drop>(
 }
 
 /// Notes whether what a file holds was taken, and answers what is to be told.
-fn note(file: &mut Followed, stamp: Stamp, taken: Result<u64, Refusal>) -> News {
+fn note(file: &mut Followed, stamp: Stamp, taken: Result<u64, Refusal>, now: u64) -> News {
     match taken {
         Ok(expired) => News::Taken {
-            again: file.take(stamp),
+            again: file.take(stamp, now, expired),
             expired,
         },
         Err(refusal) => news_if(file.refuse(Some(stamp), refusal)),
@@ -148,7 +161,7 @@ fn follow<S: VersionStore, T: Stream + Drop, W: Disk>(
         Look::Failed(error) => news_if(file.refuse(None, Refusal::Device(error))),
         Look::Read(stamp, bytes) => {
             let taken = take(service, file.source, bytes.as_slice(), now);
-            note(file, stamp, taken)
+            note(file, stamp, taken, now)
         }
     }
 }
@@ -159,7 +172,13 @@ impl<S: VersionStore, T: Stream + Drop> Daemon<S, T> {
         ensures goes { GoesOn S.holds T.remaining T.contents self.old.service self.new.service }
         ensures server { self.new.service.server ≡ self.old.service.server }
     {
-        follow_each(&mut self.files, &mut self.service, self.alloc, world);
+        follow_each(
+            &mut self.files,
+            &mut self.service,
+            &mut self.ledger,
+            self.alloc,
+            world,
+        );
     }
 
     /// Offers all directories.
@@ -175,6 +194,7 @@ impl<S: VersionStore, T: Stream + Drop> Daemon<S, T> {
 fn follow_each<S: VersionStore, T: Stream + Drop, W: Disk + Time + Journal>(
     files: &mut Vec<Followed>,
     service: &mut Service<S, T>,
+    ledger: &mut Ledger,
     alloc: Global,
     world: &mut W,
 )
@@ -183,7 +203,9 @@ fn follow_each<S: VersionStore, T: Stream + Drop, W: Disk + Time + Journal>(
 {
     for file in files.iter_mut() {
         let now = world.seconds();
+        let began = world.millis();
         let news = follow(file, service, now, world);
+        note_news(ledger, &news, world.millis().saturating_sub(began));
         tell_news(alloc, file, news, now, world);
     }
 }
@@ -215,7 +237,7 @@ fn note_offer<W: Journal>(
 ) {
     match offered {
         Ok(_) => {
-            if point.take() {
+            if point.take(now) {
                 world.tell(
                     now,
                     &Event::Taken {
@@ -225,10 +247,19 @@ fn note_offer<W: Journal>(
             }
         }
         Err(refusal) => {
-            if point.refuse() {
-                tell_refusal(alloc, point.path.as_str(), &refusal, now, world);
+            if point.refuse(refusal) {
+                tell_point(alloc, point, now, world);
             }
         }
+    }
+}
+
+/// Counts what came of a look at a file, which took so many milliseconds.
+fn note_news(ledger: &mut Ledger, news: &News, milliseconds: u64) {
+    match news {
+        News::Nothing => {}
+        News::Refused => ledger.refused(),
+        News::Taken { .. } => ledger.took(milliseconds),
     }
 }
 
@@ -251,6 +282,13 @@ fn tell_news<W: Journal>(alloc: Global, file: &Followed, news: News, now: u64, w
 pub(crate) fn tell_expired<W: Journal>(file: &str, entries: u64, now: u64, world: &mut W) {
     if entries > 0 {
         world.tell(now, &Event::Expired { file, entries });
+    }
+}
+
+/// Tells why a publication point was refused last.
+fn tell_point<W: Journal>(alloc: Global, point: &Offering, now: u64, world: &mut W) {
+    if let Some(refusal) = &point.refused {
+        tell_refusal(alloc, point.path.as_str(), refusal, now, world);
     }
 }
 

@@ -35,6 +35,11 @@ pub enum Refusal {
 }
 
 impl Refusal {
+    /// Whether memory was wanting.
+    pub(crate) fn is_memory(&self) -> bool {
+        self.status() == 4
+    }
+
     /// The status with which a program ends for it: 3 where a file cannot be read, 4 where memory was wanting, and else 1.
     pub fn status(&self) -> u8 {
         match self {

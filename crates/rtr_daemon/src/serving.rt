@@ -4,9 +4,10 @@ ghost use Rattle.rtr_daemon.specs.Serving.{GoesOn};
 
 use crate::daemon::Daemon;
 use crate::surroundings::{Journal, Ports, Ready, Time};
+use crate::telling::with_seen;
 use daemon_parts::{Departure, Event};
 use rtr_pdu::Version;
-use rtr_server::{Carried, Client, Gone, Stream, Turn};
+use rtr_server::{Carried, Client, Gone, Pdus, Stream, Turn};
 use vrps::VersionStore;
 
 /// How many calls of its stream a client has in one turn.
@@ -15,11 +16,13 @@ const BUDGET: u32 = 8;
 /// How many things that are ready are looked at in one turn.
 const READY: usize = 65_536;
 
-/// What is known of a client: how many bytes went, and the version in which it speaks.
+/// What is known of a client: how many bytes and PDUs went, and the version in which it speaks.
 #[derive(Clone, Copy)]
-struct Seen {
-    carried: Option<Carried>,
-    version: Option<Version>,
+pub(crate) struct Seen {
+    pub(crate) carried: Option<Carried>,
+    pub(crate) received: Option<Pdus>,
+    pub(crate) sent: Option<Pdus>,
+    pub(crate) version: Option<Version>,
 }
 
 impl<S: VersionStore, T: Stream + Drop> Daemon<S, T> {
@@ -69,10 +72,12 @@ impl<S: VersionStore, T: Stream + Drop> Daemon<S, T> {
     }
 
     /// What is known of a client.
-    fn seen(&self, client: Client) -> Seen {
+    pub(crate) fn seen(&self, client: Client) -> Seen {
         let server = self.service.server();
         Seen {
             carried: server.carried(client),
+            received: server.received(client),
+            sent: server.sent(client),
             version: server.version(client),
         }
     }
@@ -106,6 +111,7 @@ impl<S: VersionStore, T: Stream + Drop> Daemon<S, T> {
         let carried = seen.carried.unwrap_or(guest.carried);
         self.gates.has_room();
         self.has_parted = true;
+        self.ledger.gone = with_seen(self.ledger.gone, &seen);
         let stayed = world.millis().saturating_sub(guest.came) / 1000;
         let now = world.seconds();
         world.tell(
@@ -159,7 +165,7 @@ fn why(how: Gone) -> &'static str {
     }
 }
 
-fn number_of(version: Version) -> u8 {
+pub(crate) fn number_of(version: Version) -> u8 {
     match version {
         Version::V0 => 0,
         Version::V1 => 1,

@@ -1,0 +1,83 @@
+//! What is made of a version at the first request for it, and shared by all that follow.
+use bytes::Bytes;
+use payload_lists::write_list;
+use prefixes::Route;
+use status_pages::Validity;
+use std::alloc::{AllocError, Global};
+use vrps::{OriginIndex, Serial, VrpSet};
+
+/// A version: its serial, and its set.
+type Version<'a> = Option<(Serial, &'a VrpSet)>;
+
+/// The payload list of a version, and the index of its routes, each as soon as it was asked for.
+#[derive(Drop)]
+pub struct Shelf {
+    alloc: Global,
+    /// The serial of which it has something.
+    serial: Option<u32>,
+    list: Option<Bytes>,
+    index: Option<OriginIndex>,
+}
+
+impl Shelf {
+    /// Nothing was asked for yet.
+    pub fn new(alloc: Global) -> Shelf {
+        Shelf {
+            alloc,
+            serial: None,
+            list: None,
+            index: None,
+        }
+    }
+
+    /// Drops what is of an older version.
+    pub fn drop_old(&mut self, version: Version<'_>) {
+        let serial = match version {
+            Some((Serial(serial), _set)) => Some(serial),
+            None => None,
+        };
+        if self.serial != serial {
+            self.serial = serial;
+            self.list = None;
+            self.index = None;
+        }
+    }
+
+    /// The payload list of the version, as text.
+    pub fn list(&mut self, version: Version<'_>) -> Result<Bytes, AllocError> {
+        self.drop_old(version);
+        if let Some(list) = &self.list {
+            return list.clone();
+        }
+        let text = match version {
+            Some((_serial, set)) => write_list(self.alloc, set.as_slice())?,
+            None => String::from_str(self.alloc, "[]")?,
+        };
+        let list = Bytes::from_string(text)?;
+        self.list = Some(list.clone()?);
+        Ok(list)
+    }
+
+    /// What the version says of a route.
+    pub fn validity(
+        &mut self,
+        version: Version<'_>,
+        route: &Route,
+    ) -> Result<Validity, AllocError> {
+        self.drop_old(version);
+        if self.index.is_none() {
+            self.index = Some(index_of(self.alloc, version)?);
+        }
+        match &self.index {
+            Some(index) => Validity::of_route(self.alloc, index, route),
+            None => Err(AllocError),
+        }
+    }
+}
+
+fn index_of(alloc: Global, version: Version<'_>) -> Result<OriginIndex, AllocError> {
+    match version {
+        Some((_serial, set)) => OriginIndex::over(alloc, set),
+        None => OriginIndex::over(alloc, &VrpSet::empty(alloc)),
+    }
+}

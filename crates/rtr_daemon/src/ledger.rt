@@ -1,0 +1,200 @@
+//! What a daemon has counted since it started.
+use crate::service::Issue;
+use prefixes::{IpPrefix, Vrp};
+use rtr_pdu::Kind;
+use rtr_server::{Carried, Pdus};
+use status_pages::{ChangeStatus, PduCounts, Traffic};
+use std::alloc::{AllocError, Global};
+use std::collections::VecDeque;
+
+/// How many versions are kept, the last ones.
+const CHANGES: usize = 64;
+
+/// How many records of each family a set has.
+#[derive(Clone, Copy, Debug, PartialEq, Eq)]
+pub(crate) struct Families {
+    pub(crate) ipv4: u64,
+    pub(crate) ipv6: u64,
+}
+
+impl Families {
+    pub(crate) fn of(records: &[Vrp]) -> Families {
+        let mut found = Families { ipv4: 0, ipv6: 0 };
+        for vrp in records {
+            match vrp.prefix() {
+                IpPrefix::V4(_) => found.ipv4 = found.ipv4.saturating_add(1),
+                IpPrefix::V6(_) => found.ipv6 = found.ipv6.saturating_add(1),
+            }
+        }
+        found
+    }
+}
+
+/// What went over connections in both directions.
+#[derive(Clone, Copy, Debug, PartialEq, Eq)]
+pub(crate) struct BothWays {
+    pub(crate) received: Traffic,
+    pub(crate) sent: Traffic,
+}
+
+impl BothWays {
+    /// Nothing.
+    pub(crate) fn none() -> BothWays {
+        BothWays {
+            received: no_traffic(),
+            sent: no_traffic(),
+        }
+    }
+
+    /// With what went over one more connection.
+    pub(crate) fn and(self, carried: Carried, received: Pdus, sent: Pdus) -> BothWays {
+        BothWays {
+            received: with(self.received, carried.read, received),
+            sent: with(self.sent, carried.written, sent),
+        }
+    }
+}
+
+/// The counts of a daemon, and its last versions.
+#[derive(Debug, Drop)]
+pub(crate) struct Ledger {
+    changes: VecDeque<ChangeStatus>,
+    /// How many records of each family are served.
+    pub(crate) families: Families,
+    /// How many clients were taken in.
+    pub(crate) clients: u64,
+    /// What went over the connections of clients that have gone.
+    pub(crate) gone: BothWays,
+    /// How many times a file was taken.
+    pub(crate) taken: u64,
+    /// How many times a refusal of a file was told.
+    pub(crate) refused: u64,
+    /// How many milliseconds it took to take what came last.
+    pub(crate) took: Option<u64>,
+}
+
+impl Ledger {
+    pub(crate) fn new(alloc: Global) -> Result<Ledger, AllocError> {
+        Ok(Ledger {
+            changes: VecDeque::with_capacity(alloc, CHANGES)?,
+            families: Families { ipv4: 0, ipv6: 0 },
+            clients: 0,
+            gone: BothWays::none(),
+            taken: 0,
+            refused: 0,
+            took: None,
+        })
+    }
+
+    /// A client was taken in.
+    pub(crate) fn came(&mut self) {
+        self.clients = self.clients.saturating_add(1);
+    }
+
+    /// A file was taken within so many milliseconds.
+    pub(crate) fn took(&mut self, milliseconds: u64) {
+        self.taken = self.taken.saturating_add(1);
+        self.took = Some(milliseconds);
+    }
+
+    /// A refusal of a file was told.
+    pub(crate) fn refused(&mut self) {
+        self.refused = self.refused.saturating_add(1);
+    }
+
+    /// A version was published, of these records. Of the versions before the last ones nothing is kept.
+    pub(crate) fn published(&mut self, serial: u32, at: u64, issue: Issue, families: Families) {
+        self.families = families;
+        if self.changes.len() >= CHANGES {
+            let _oldest = self.changes.pop_front();
+        }
+        let _ = self.changes.push_back(ChangeStatus {
+            serial,
+            at,
+            announced: issue.announced,
+            withdrawn: issue.withdrawn,
+            records: issue.records,
+        });
+    }
+
+    /// The last versions, the oldest first.
+    pub(crate) fn changes(&self, alloc: Global) -> Result<Vec<ChangeStatus>, AllocError> {
+        let mut found = Vec::with_capacity(alloc, self.changes.len())?;
+        for change in self.changes.iter() {
+            found.push(*change)?;
+        }
+        Ok(found)
+    }
+}
+
+/// How many PDUs there are of all types.
+pub(crate) fn total(pdus: Pdus) -> u64 {
+    let counts = counts_of(pdus);
+    [
+        counts.serial_notify,
+        counts.serial_query,
+        counts.reset_query,
+        counts.cache_response,
+        counts.ipv4_prefix,
+        counts.ipv6_prefix,
+        counts.end_of_data,
+        counts.cache_reset,
+        counts.router_key,
+        counts.error_report,
+    ]
+    .iter()
+    .fold(0u64, |sum, count| sum.saturating_add(*count))
+}
+
+fn counts_of(pdus: Pdus) -> PduCounts {
+    PduCounts {
+        serial_notify: pdus.of(Kind::SerialNotify),
+        serial_query: pdus.of(Kind::SerialQuery),
+        reset_query: pdus.of(Kind::ResetQuery),
+        cache_response: pdus.of(Kind::CacheResponse),
+        ipv4_prefix: pdus.of(Kind::Ipv4Prefix),
+        ipv6_prefix: pdus.of(Kind::Ipv6Prefix),
+        end_of_data: pdus.of(Kind::EndOfData),
+        cache_reset: pdus.of(Kind::CacheReset),
+        router_key: pdus.of(Kind::RouterKey),
+        error_report: pdus.of(Kind::ErrorReport),
+    }
+}
+
+fn no_traffic() -> Traffic {
+    Traffic {
+        bytes: 0,
+        pdus: PduCounts {
+            serial_notify: 0,
+            serial_query: 0,
+            reset_query: 0,
+            cache_response: 0,
+            ipv4_prefix: 0,
+            ipv6_prefix: 0,
+            end_of_data: 0,
+            cache_reset: 0,
+            router_key: 0,
+            error_report: 0,
+        },
+    }
+}
+
+/// Traffic, with so many bytes and these PDUs more.
+fn with(traffic: Traffic, bytes: u64, pdus: Pdus) -> Traffic {
+    let (old, new) = (traffic.pdus, counts_of(pdus));
+    Traffic {
+        bytes: traffic.bytes.saturating_add(bytes),
+        pdus: PduCounts {
+            serial_notify: old.serial_notify.saturating_add(new.serial_notify),
+            serial_query: old.serial_query.saturating_add(new.serial_query),
+            reset_query: old.reset_query.saturating_add(new.reset_query),
+            cache_response: old.cache_response.saturating_add(new.cache_response),
+            ipv4_prefix: old.ipv4_prefix.saturating_add(new.ipv4_prefix),
+            ipv6_prefix: old.ipv6_prefix.saturating_add(new.ipv6_prefix),
+            end_of_data: old.end_of_data.saturating_add(new.end_of_data),
+            cache_reset: old.cache_reset.saturating_add(new.cache_reset),
+            router_key: old.router_key.saturating_add(new.router_key),
+            error_report: old.error_report.saturating_add(new.error_report),
+        },
+    }
+}
