@@ -1,6 +1,7 @@
 -- What is made of several sets.
-use Rattle.std.specs.Prelude.{◌≡◌, ◌≤◌, ℕ, Bool, true, false, not, ◌&&◌, ◌||◌, List, [], ◌∷◌, Option, Some, None, Result, Ok, Err, refl, length}
-use Rattle.std.proofs.Common.{arith, inl, inr, ap, sym, ◌∙◌, IfOk}
+use Rattle.std.specs.Prelude.{◌≡◌, ◌≤◌, ◌<◌, ℕ, Bool, true, false, not, ◌&&◌, ◌||◌, List, [], ◌∷◌, Option, Some, None, Result, Ok, Err, refl, length}
+use Rattle.std.proofs.Common.{arith, inl, inr, ap, subst, sym, ◌∙◌, ◌+◌, IfOk, drop, get_or}
+use Rattle.std.proofs.lemmas.List.{drop_more}
 use Rattle.std.specs.List.{list_any}
 use Rattle.der_lite.specs.Moments.{CivilMoment}
 use Rattle.prefixes.specs.Payload.{Payload}
@@ -9,6 +10,7 @@ use Rattle.vrps.specs.VrpSet.{VrpSet, empty, has, listing, set_of, size, union, 
 use Rattle.vrps.specs.declared.set.SetFault.{SetFault}
 use Rattle.vrps.proofs.Listed.{size_of_listing}
 use Rattle.vrps.proofs.SetLaws.{has-empty, has-listing, has-union, has-without, same_set, same_vrp}
+use Rattle.vrps.proofs.Sizes.{size_le}
 use Rattle.slurm.specs.Chains.{UnlessMemory, seen}
 use Rattle.slurm.specs.Exceptions.{exceptions_of}
 use Rattle.slurm.specs.SlurmFile.{ReadsSlurm}
@@ -50,6 +52,22 @@ has-lists : (s : VrpSet) (ls : List Listed) (v : Payload) → has (with_lists s 
 has-lists s [] v = or_none (has s v)
 has-lists s (l ∷ ls) v =
     has-lists (union s l.set) ls v ∙ ap (λ b. b || is_listed ls v) (has-union s l.set v) ∙ or_both (has s v) (has l.set v) (is_listed ls v)
+
+-- What files add makes a set no smaller.
+grows : (s : VrpSet) (ls : List Listed) → size s ≤ size (with_lists s ls)
+grows s ls = size_le s (with_lists s ls) (λ q one. has-lists s ls q ∙ ap (λ b. b || is_listed ls q) one)
+
+-- A set that is over the limit is over it still with what files add.
+pub beyond : (s : VrpSet) (ls : List Listed) (t : VrpSet) → with_lists s ls ≡ t → 16777215 < size s → 16777215 < size t
+beyond s ls t is over = subst (λ x. 16777215 < size x) is (let more = grows s ls in omega (arith, more, over))
+
+-- the files that are left, at one of them
+pub from_next : (ls : List Listed) (i : ℕ) (x : Listed) → i < length ls → x ≡ get_or ls i x → drop i ls ≡ x ∷ drop (i + 1) ls
+from_next ls i x low read = drop_more ls i x low ∙ ap (λ y. y ∷ drop (i + 1) ls) (sym read)
+
+-- A fault that is handed on is the one that was told.
+pub same_fault : {T S : Type 0} (r : Result T SetFault) (q : Result S SetFault) (x y t : SetFault) → r ≡ Err x → x ≡ y → q ≡ Err y → r ≡ Err t → q ≡ Err t
+same_fault r q x y t a b d e = cc (a, b, d, e)
 
 not_excepted : (b : Bool) → b ≡ ((b && not false) || false)
 not_excepted true = refl

@@ -3,7 +3,7 @@ use Rattle.std.specs.Prelude.{◌≡◌, ◌⊎◌, ◌<◌, ◌≤◌, ℕ, nat
 use Rattle.std.specs.List.{list_any}
 use Rattle.der_lite.specs.Moments.{CivilMoment}
 use Rattle.prefixes.specs.Payload.{Payload}
-use Rattle.vrps.specs.VrpSet.{VrpSet, empty, has, set_of, union}
+use Rattle.vrps.specs.VrpSet.{VrpSet, empty, has, set_of, size, union}
 use Rattle.exports.specs.Export.{HasFault}
 use Rattle.exports.specs.Until.{IsExportUntil}
 use Rattle.exports.specs.declared.export.ExportUntil.{ExportUntil}
@@ -33,6 +33,13 @@ pub record IsServed (points : Points) (lists : List Listed) (exceptions : Option
   pub used : List Payload
   pub in_use : Lists used points now
   pub is : t ≡ excepted_by exceptions (with_lists (set_of used) lists)
+
+-- The payloads that publication points have in use at a moment and those of files are more than a set may have, or local exceptions make so
+-- many of them.
+pub record PassesLimit (points : Points) (lists : List Listed) (exceptions : Option Slurm) (now : CivilMoment) : Type 0 where
+  pub used : List Payload
+  pub in_use : Lists used points now
+  pub passes : (16777215 < size (with_lists (set_of used) lists)) ⊎ (16777215 < size (excepted_by exceptions (with_lists (set_of used) lists)))
 
 -- some file says the payload
 abbrev pub is_listed : List Listed → Payload → Bool

@@ -1,10 +1,10 @@
 //! Sources, and the set that is made of them.
-ghost use Rattle.std.specs.Prelude.{◌≡◌, IfOk, IfSome, None, length, slice_get};
-ghost use Rattle.vrps.specs.VrpSet.{union};
+ghost use Rattle.std.specs.Prelude.{◌≡◌, ◌<◌, IfOk, IfSome, IsErrOf, None, length, slice_get};
+ghost use Rattle.vrps.specs.VrpSet.{size, union};
 ghost use Rattle.points.specs.Answers.{told_by, NewExactly, BecomesAt};
 ghost use Rattle.points.specs.InUse.{accepted_at, no_points};
 ghost use Rattle.points.specs.Offers.{Acceptable, Judged};
-ghost use Rattle.sources.specs.Served.{HasServed, IsServed, TakesExport, TakesSlurm, built_at, is_over, none_taken, with_lists};
+ghost use Rattle.sources.specs.Served.{HasServed, IsServed, PassesLimit, TakesExport, TakesSlurm, built_at, is_over, none_taken, with_lists};
 
 use crate::fault::TakeFault;
 use crate::listed::Listed;
@@ -110,17 +110,20 @@ impl Sources {
     }
 
     /// The set that is served at a moment: the payloads of the files as they were taken, and those that the publication points have in use,
-    /// with the local exceptions applied. `TooMany` and `Memory` leave all as it was.
+    /// with the local exceptions applied. `TooMany` where those payloads together, or what the exceptions make of them, are more than a set
+    /// may have; `Memory` where memory for them is wanting. Both leave all as it was.
     pub fn served(&self, now: Moment) -> Result<VrpSet, SetFault>
         ensures is { IfOk result (λ t. IsServed self.now.repository self.now.lists.items self.now.exceptions now t) }
         ensures those { IfOk result (λ t. HasServed self.now.repository self.now.lists.items self.now.exceptions now t) }
+        ensures too_many { IsErrOf result SetFault.TooMany → PassesLimit self.now.repository self.now.lists.items self.now.exceptions now }
     {
         self.served_at(now)
     }
 
     /// The same by what it is made of.
     fn served_at(&self, now: Moment) -> Result<VrpSet, SetFault>
-        ensures { IfOk result (λ t. IsServed self.now.repository self.now.lists.items self.now.exceptions now t) }
+        ensures ok { IfOk result (λ t. IsServed self.now.repository self.now.lists.items self.now.exceptions now t) }
+        ensures too_many { IsErrOf result SetFault.TooMany → PassesLimit self.now.repository self.now.lists.items self.now.exceptions now }
     {
         let used = VrpSet::from_list(self.repository.payloads(now)?)?;
         let all = together(self.alloc, used, self.lists.as_slice())?;
@@ -146,7 +149,8 @@ fn listed_of(read: ExportUntil) -> (Listed, u64)
 
 /// A set, and the members of another.
 fn joined(alloc: Global, set: VrpSet, more: &VrpSet) -> Result<VrpSet, SetFault>
-    ensures { IfOk result (λ t. t ≡ union set more.now) }
+    ensures ok { IfOk result (λ t. t ≡ union set more.now) }
+    ensures too_many { IsErrOf result SetFault.TooMany → 16777215 < size (union set more.now) }
 {
     if set.is_empty() {
         return Ok(more.duplicate()?);
@@ -160,7 +164,8 @@ fn joined(alloc: Global, set: VrpSet, more: &VrpSet) -> Result<VrpSet, SetFault>
 
 /// A set, and those of files.
 fn together(alloc: Global, set: VrpSet, lists: &[Listed]) -> Result<VrpSet, SetFault>
-    ensures { IfOk result (λ t. t ≡ with_lists set lists.now) }
+    ensures ok { IfOk result (λ t. t ≡ with_lists set lists.now) }
+    ensures too_many { IsErrOf result SetFault.TooMany → 16777215 < size (with_lists set lists.now) }
 {
     let mut all = set;
     for list in lists {
