@@ -435,7 +435,7 @@ def pages():
         for router in routers:
             router.catch_up()
         told = metrics_of(port)
-        wanted = {'rpkirtrd_vrps{family="ipv4"}': 10, 'rpkirtrd_vrps{family="ipv6"}': 1, "rpkirtrd_serial": 5, "rpkirtrd_session": 4660, "rpkirtrd_clients": 2}
+        wanted = {'rpkirtrd_vrps{family="ipv4"}': 10, 'rpkirtrd_vrps{family="ipv6"}': 1, "rpkirtrd_serial": 5, 'rpkirtrd_session{version="1"}': 4660, "rpkirtrd_clients": 2}
         wanted |= {'rpkirtrd_pdus_total{type="reset_query",direction="received"}': 2, 'rpkirtrd_pdus_total{type="ipv4_prefix",direction="sent"}': 20}
         differs("the metrics", {name: told.get(name) for name in wanted}, wanted)
         routers.pop().close()

@@ -8,10 +8,11 @@ use prefixes::Route;
 use rtr_daemon::{Daemon, Time};
 use status_pages::{Status, Validity};
 use status_server::{Told, Visit, Visitors};
-use std::alloc::AllocError;
+use std::alloc::{AllocError, Global};
 use std::collections::VecDeque;
 use std::hash::RandomState;
 use std::io::Write;
+use std::mem;
 use std::net::SocketAddr;
 use std::rt::Files;
 use std::time::Clock;
@@ -19,6 +20,9 @@ use vrps::VersionLog;
 
 /// How many calls of its stream a visitor has in one turn.
 const BUDGET: u32 = 8;
+
+/// How many things that are ready are looked at in one turn.
+const CALLS: usize = 65_536;
 
 /// How many connections are taken in one turn.
 const AT_ONCE: usize = 64;
@@ -29,6 +33,7 @@ const SOON: u64 = 1000;
 /// Where visitors are received, and those that are there.
 #[derive(Drop)]
 pub struct Desk {
+    alloc: Global,
     listener: TcpListener,
     visitors: Visitors<TcpStream>,
     /// The lines of visitors that are to be served.
@@ -39,9 +44,10 @@ pub struct Desk {
 }
 
 /// What is asked of the daemon at a moment.
+#[derive(Drop)]
 struct Teller<'a> {
     daemon: &'a Daemon<VersionLog, Line>,
-    shelf: &'a mut Shelf,
+    shelf: Shelf,
     now: u64,
     millis: u64,
 }
@@ -73,6 +79,7 @@ impl Desk {
     ) -> std::io::Result<Desk> {
         let alloc = host.alloc();
         Ok(Desk {
+            alloc,
             listener: host.listen_for_visitors(address)?,
             visitors: Visitors::new(alloc, keys),
             queue: VecDeque::new(alloc),
@@ -109,10 +116,11 @@ impl Desk {
 
     /// Notes what is ready.
     fn take_calls<R, E>(&mut self, host: &mut Host<'_, R, E>) {
-        while let Some(call) = host.next_call() {
-            match call {
-                Call::Desk => self.waits = true,
-                Call::Visitor(line) => self.wake(line),
+        for _call in 0..CALLS {
+            match host.next_call() {
+                None => return,
+                Some(Call::Desk) => self.waits = true,
+                Some(Call::Visitor(line)) => self.wake(line),
             }
         }
     }
@@ -150,17 +158,24 @@ impl Desk {
         }
     }
 
-    /// Serves each visitor that is to be served, once.
+    /// Serves each visitor that is to be served, once, with what the daemon is now.
     fn serve(&mut self, daemon: &Daemon<VersionLog, Line>, now: u64, millis: u64) {
+        let shelf = mem::replace(&mut self.shelf, Shelf::new(self.alloc));
+        let mut teller = Teller {
+            daemon,
+            shelf,
+            now,
+            millis,
+        };
+        self.serve_all(&mut teller);
+        let Teller { shelf, .. } = teller;
+        self.shelf = shelf;
+    }
+
+    fn serve_all(&mut self, teller: &mut Teller<'_>) {
         for _visitor in 0..self.queue.len() {
             if let Some(line) = self.queue.pop_front() {
-                let mut teller = Teller {
-                    daemon,
-                    shelf: &mut self.shelf,
-                    now,
-                    millis,
-                };
-                if self.visitors.serve(line, &mut teller, BUDGET) == Some(Visit::Busy) {
+                if self.visitors.serve(line, teller, BUDGET) == Some(Visit::Busy) {
                     self.wake(line);
                 }
             }

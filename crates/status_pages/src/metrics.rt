@@ -107,7 +107,7 @@ fn write_reloads<W: Write>(out: &mut W, status: &Status) -> io::Result<()> {
         out,
         "rpkirtrd_reloads_total",
         "counter",
-        "Times that a file was read, by whether it was taken.",
+        "Files that were taken, and refusals of files that were reported.",
     )?;
     write_two(
         out,
