@@ -379,7 +379,7 @@ def got(port, target, method="GET"):
     with contextlib.closing(http.client.HTTPConnection("127.0.0.1", port, timeout=PATIENCE)) as it:
         it.request(method, target)
         answer = it.getresponse()
-        return answer.status, dict(answer.getheaders()), answer.read().decode()
+        return answer.status, {name.lower(): value for name, value in answer.getheaders()}, answer.read().decode()
 
 
 def metrics_of(port):
@@ -451,7 +451,7 @@ def pages():
             asn = choice.choice([0, 64496, 64497, 64499])
             differs(f"the state of {prefix} {asn}", validity(port, prefix, asn), state_of(prefix, asn, near))
         page = got(port, "/")
-        differs("the page", (page[0], page[1]["Content-Type"], "4660" in page[2], "<script" in page[2]), (200, "text/html; charset=utf-8", True, False))
+        differs("the page", (page[0], page[1]["content-type"], "4660" in page[2], "<script" in page[2]), (200, "text/html; charset=utf-8", True, False))
         for target, method, status in ("/nothing", "GET", 404), ("/metrics", "POST", 405), ("/validity?asn=1", "GET", 400), ("/metrics", "HEAD", 200):
             differs(f"{method} {target}", got(port, target, method)[0], status)
         strange_visitors(port)
@@ -464,7 +464,7 @@ def pages():
 
 def strange_visitors(port):
     """Requests that are cut, huge, slow, none at all, or one behind the other."""
-    differs("a request that is cut", raw_answer(port, b"GET /metrics HT"), b"")
+    differs("a request that is cut", raw_answer(port, b"GET /metrics HT")[:12], b"HTTP/1.1 400")
     huge = raw_answer(port, b"GET /" + b"x" * 20000 + b" HTTP/1.1\r\nHost: x\r\n\r\n")
     differs("a request that is huge", huge[:12] in (b"HTTP/1.1 414", b"HTTP/1.1 431", b"HTTP/1.1 400", b""), True)
     differs("rubbish", raw_answer(port, bytes(range(128, 256)))[:12] in (b"HTTP/1.1 400", b""), True)
