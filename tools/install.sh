@@ -1,0 +1,169 @@
+#!/usr/bin/env bash
+# Installs both programs, their manual pages, the systemd unit, the pages that a user reads, the samples and the licence: tools/install.sh
+# below /usr/local, or below another folder with --prefix. With --destdir all goes below that folder, as a package wants it. With --remove
+# what was installed there is removed again, and so are the folders that were made for it, where they are empty.
+# The status is 0 where all is done, 1 where a program is not built or nothing is installed, 2 where the words are wrong, and 3 where a file
+# or a folder failed.
+set -u
+umask 022
+export LC_ALL=C
+top=$(cd "$(dirname "${BASH_SOURCE[0]}")/.." && pwd) || exit 3
+prefix=/usr/local
+destdir=
+removes=no
+
+usage() {
+    echo 'usage: tools/install.sh [--prefix DIR] [--destdir DIR] [--remove]' >&2
+    exit 2
+}
+
+while [ $# -gt 0 ]; do
+    case $1 in
+    --prefix | --destdir)
+        [ -n "${2:-}" ] || usage
+        if [ "$1" = --prefix ]; then prefix=${2%/}; else destdir=${2%/}; fi
+        shift 2
+        ;;
+    --remove) removes=yes && shift ;;
+    *) usage ;;
+    esac
+done
+# (the unit names the prefix, and systemd reads blanks and other signs there in its own way)
+if ! [[ $prefix =~ ^(/[A-Za-z0-9._+-]+)+$ ]]; then
+    echo "install: --prefix $prefix: the path of a folder is wanted, from / on, of letters, digits and . _ + - alone" >&2
+    exit 2
+fi
+case $destdir in
+*$'\n'*) usage ;;
+esac
+
+options_file=$prefix/etc/default/rpkirtrd
+case $prefix in
+/usr | /usr/local) options_file=/etc/default/rpkirtrd ;;
+esac
+pages=$prefix/share/doc/rpkirtr
+unit=$prefix/lib/systemd/system/rpkirtrd.service
+record=$pages/installed
+made=()
+
+# Keeps what was installed and made so far: a line for each file and folder, without the destdir, each once.
+write_record() {
+    [ -d "$destdir$pages" ] || return 0
+    { [ ! -f "$destdir$record" ] || cat "$destdir$record"; [ ${#made[@]} -eq 0 ] || printf '%s\n' "${made[@]}"; } |
+        sort -u >"$destdir$record.new" && mv "$destdir$record.new" "$destdir$record"
+}
+
+fail() { # fail MESSAGE
+    echo "install: $1" >&2
+    write_record
+    exit 3
+}
+
+# Makes a folder and those above it, where they are not there.
+make_folder() { # make_folder FOLDER
+    [ -d "$destdir$1/" ] && return
+    [ -z "$1" ] || make_folder "${1%/*}"
+    mkdir "$destdir$1/" || fail "$destdir$1 could not be made"
+    made+=("folder $1/")
+}
+
+put() { # put MODE SOURCE TARGET
+    make_folder "${3%/*}"
+    install -m "$1" "$2" "$destdir$3" || fail "$destdir$3 could not be written"
+    made+=("file $3")
+}
+
+# The same for a text that names the place of the programs and of the options.
+put_unit() { # put_unit SOURCE TARGET
+    local text
+    text=$(mktemp) || fail 'no file could be made in the folder for files of a moment'
+    sed -e "s|/usr/local/bin/|$prefix/bin/|" -e "s|/etc/default/rpkirtrd|$options_file|" "$1" >"$text"
+    put 644 "$text" "$2"
+    rm -f "$text"
+}
+
+# The options are the user's: where the file is there already, it stays.
+put_options() {
+    if [ -e "$destdir$options_file" ]; then
+        cmp -s "$top/tools/rpkirtrd.default" "$destdir$options_file" || echo "kept $destdir$options_file, which was there"
+    else
+        put 644 "$top/tools/rpkirtrd.default" "$options_file"
+    fi
+}
+
+put_all() {
+    local name
+    make_folder "$pages"
+    put 755 "$top/crates/rpkirtr/out/rpkirtr" "$prefix/bin/rpkirtr"
+    put 755 "$top/crates/rpkirtrd/out/rpkirtrd" "$prefix/bin/rpkirtrd"
+    put 644 "$top/docs/man/rpkirtr.1" "$prefix/share/man/man1/rpkirtr.1"
+    put 644 "$top/docs/man/rpkirtrd.8" "$prefix/share/man/man8/rpkirtrd.8"
+    put_unit "$top/tools/rpkirtrd.service" "$unit"
+    put_options
+    for name in LICENSE README.md CHANGELOG.md SECURITY.md docs/OPERATING.md docs/COMMANDS.md docs/FORMATS.md docs/PROMISES.md; do
+        put 644 "$top/$name" "$pages/$name"
+    done
+    while IFS= read -r name; do
+        put 644 "$top/$name" "$pages/$name"
+    done < <(cd "$top" && find samples docs/figures -type f \( -path 'samples/*' -o -name 'status*' \) | sort)
+}
+
+is_built() { # is_built NAME COMMAND
+    [ -x "$top/crates/$1/out/$1" ] && return
+    echo "install: $1 is not built: $2 builds it, in $top" >&2
+    return 1
+}
+
+install_all() {
+    local built=yes
+    is_built rpkirtr ./run || built=no
+    is_built rpkirtrd './rpkirtrd --version' || built=no
+    [ $built = yes ] || exit 1
+    [ -z "$destdir" ] || make_folder ''
+    put_all
+    write_record || fail "$destdir$record could not be written"
+    echo "installed $(grep -c '^file ' "$destdir$record") files below ${destdir:-/}; $destdir$record lists them"
+    [ -n "$destdir" ] && return
+    case $prefix in
+    /usr | /usr/local) echo "next: systemctl daemon-reload && systemctl enable --now rpkirtrd (its options: $options_file)" ;;
+    *) echo "next: systemctl enable --now $unit (its options: $options_file)" ;;
+    esac
+}
+
+# Removes a file, and counts it.
+remove_file() { # remove_file FILE
+    if [ "$1" = "$options_file" ] && [ -f "$destdir$1" ] && ! cmp -s "$top/tools/rpkirtrd.default" "$destdir$1"; then
+        echo "kept $destdir$1, which was changed"
+    elif rm -f "$destdir$1"; then
+        removed=$((removed + 1))
+    else
+        echo "install: $destdir$1 could not be removed" >&2
+        return 1
+    fi
+}
+
+remove_folder() { # remove_folder FOLDER
+    [ -d "$destdir$1" ] || return 0
+    rmdir "$destdir$1" 2>/dev/null || echo "kept $destdir$1, which is not empty"
+}
+
+remove_all() {
+    local path list removed=0 status=0
+    if [ ! -f "$destdir$record" ]; then
+        echo "install: nothing is installed there: $destdir$record is not there" >&2
+        exit 1
+    fi
+    list=$(cat "$destdir$record") || fail "$destdir$record could not be read"
+    while IFS= read -r path; do
+        remove_file "$path" || status=3
+    done < <(sed -n 's|^file /|/|p' <<<"$list")
+    [ $status -eq 0 ] || exit $status
+    rm -f "$destdir$record" || fail "$destdir$record could not be removed"
+    # (the deepest folder first)
+    while IFS= read -r path; do
+        remove_folder "$path"
+    done < <(sed -n 's|^folder /|/|p' <<<"$list" | sort -r)
+    echo "removed $removed files below ${destdir:-/}"
+}
+
+if [ $removes = yes ]; then remove_all; else install_all; fi
