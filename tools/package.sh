@@ -1,0 +1,114 @@
+#!/usr/bin/env bash
+# Makes a Debian package of what tools/install.sh installs, below /usr, with dpkg-deb: tools/package.sh [FOLDER] puts it into FOLDER, or into
+# the caller's, and prints its path. Its version is the program's. It enables and starts nothing: a user does, once the options are right.
+# The status is 0 where it is made, 1 where a program is not built, 2 where the words are wrong, and 3 where a file or a command failed.
+set -u
+umask 022
+export LC_ALL=C
+top=$(cd "$(dirname "${BASH_SOURCE[0]}")/.." && pwd) || exit 3
+if [ $# -gt 1 ] || [[ ${1:-.} == -* ]]; then
+    echo 'usage: tools/package.sh [FOLDER]' >&2
+    exit 2
+fi
+fail() { # fail MESSAGE
+    echo "package: $1" >&2
+    exit 3
+}
+
+target=$(cd "${1:-.}" && pwd) || fail "${1:-.} is no folder"
+for command in dpkg dpkg-deb gzip; do
+    command -v "$command" >/dev/null 2>&1 || fail "the command $command is not on the PATH"
+done
+tree=$(mktemp -d) || fail 'no folder could be made in the folder for files of a moment'
+trap 'rm -rf "$tree"' EXIT
+chmod 755 "$tree" || fail "$tree could not be made a folder for all"
+
+bash "$top/tools/install.sh" --prefix /usr --destdir "$tree" >/dev/null || exit
+rm "$tree/usr/share/doc/rpkirtr/installed" || fail 'the list of the files could not be removed'
+told=$("$tree/usr/bin/rpkirtrd" --version)
+version=${told#rpkirtrd }
+[[ $version =~ ^[0-9][0-9.]*$ ]] || fail "rpkirtrd --version tells no version: $told"
+# (the same programs at the same commit make the same package)
+export SOURCE_DATE_EPOCH=${SOURCE_DATE_EPOCH:-$(git -C "$top" log -1 --format=%ct 2>/dev/null || date +%s)}
+
+# Makes of the tree what Debian wants of each package (Debian policy, sections 12.1, 12.5 and 12.7).
+for_debian() {
+    gzip -9n usr/share/man/man1/rpkirtr.1 usr/share/man/man8/rpkirtrd.8 &&
+        mv usr/share/doc/rpkirtr/LICENSE usr/share/doc/rpkirtr/copyright &&
+        gzip -9nc usr/share/doc/rpkirtr/CHANGELOG.md >usr/share/doc/rpkirtr/changelog.gz &&
+        mkdir DEBIAN &&
+        find etc usr -type f -exec md5sum {} + | sort -k 2 >DEBIAN/md5sums
+}
+
+cd "$tree" || fail "$tree is not there"
+size=$(du -k -s --apparent-size etc usr | awk '{ sum += $1 } END { print sum }')
+for_debian || fail 'the tree could not be made'
+architecture=$(dpkg --print-architecture) || fail 'dpkg tells no architecture'
+# (the newest version of the C library that a program names)
+glibc=$(grep -aoh 'GLIBC_2\.[0-9]*' usr/bin/rpkirtr usr/bin/rpkirtrd | sed 's/^GLIBC_//' | sort -uV | tail -n 1)
+
+cat >DEBIAN/control <<CONTROL
+Package: rpkirtr
+Version: $version
+Architecture: $architecture
+Maintainer: rpkirtr developers <rpkirtr@example.net>
+Installed-Size: $size
+Depends: libc6${glibc:+ (>= $glibc)}
+Suggests: rpki-client, bird2, stunnel4
+Section: net
+Priority: optional
+Description: proved RPKI-to-Router cache, and commands for RPKI data
+ rpkirtrd serves validated ROA payloads to routers over the RTR protocol
+ (RFC 8210, and RFC 6810), from the files that a validator such as
+ rpki-client writes. It follows these files and applies local exceptions
+ (RFC 8416). It runs under systemd as a user that systemd makes for it.
+ .
+ rpkirtr shows what ROAs and manifests say, how routes are judged (RFC 6811)
+ and what a cache sends. Both are proved against their contracts.
+CONTROL
+echo /etc/default/rpkirtrd >DEBIAN/conffiles
+
+# The unit is neither enabled nor started; where it was, it stays so, and an upgrade starts a daemon that runs anew. No user is made: the
+# unit has DynamicUser=yes. Below another root (DPKG_ROOT), and where systemd does not run, no daemon is looked for.
+cat >DEBIAN/postinst <<'POSTINST'
+#!/bin/sh
+set -e
+if [ "$1" = configure ] || [ "$1" = abort-upgrade ] || [ "$1" = abort-deconfigure ] || [ "$1" = abort-remove ]; then
+    if command -v deb-systemd-helper >/dev/null; then
+        if deb-systemd-helper debian-installed rpkirtrd.service; then
+            deb-systemd-helper unmask rpkirtrd.service >/dev/null || true
+            if deb-systemd-helper --quiet was-enabled rpkirtrd.service; then
+                deb-systemd-helper enable rpkirtrd.service >/dev/null || true
+            fi
+        fi
+        deb-systemd-helper update-state rpkirtrd.service >/dev/null || true
+    fi
+    if [ -z "${DPKG_ROOT:-}" ] && [ -d /run/systemd/system ]; then
+        systemctl --system daemon-reload >/dev/null || true
+        if [ -n "$2" ]; then
+            deb-systemd-invoke try-restart rpkirtrd.service >/dev/null || true
+        fi
+    fi
+fi
+POSTINST
+cat >DEBIAN/prerm <<'PRERM'
+#!/bin/sh
+set -e
+if [ "$1" = remove ] && [ -z "${DPKG_ROOT:-}" ] && [ -d /run/systemd/system ]; then
+    deb-systemd-invoke stop rpkirtrd.service >/dev/null || true
+fi
+PRERM
+cat >DEBIAN/postrm <<'POSTRM'
+#!/bin/sh
+set -e
+if [ "$1" = purge ] && command -v deb-systemd-helper >/dev/null; then
+    deb-systemd-helper purge rpkirtrd.service >/dev/null || true
+fi
+if [ "$1" = remove ] && [ -z "${DPKG_ROOT:-}" ] && [ -d /run/systemd/system ]; then
+    systemctl --system daemon-reload >/dev/null || true
+fi
+POSTRM
+chmod 755 DEBIAN/postinst DEBIAN/prerm DEBIAN/postrm || fail 'the tree could not be made'
+package=$target/rpkirtr_${version}_$architecture.deb
+dpkg-deb --build --root-owner-group "$tree" "$package" >/dev/null || fail "$package could not be made"
+echo "$package"
