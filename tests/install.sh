@@ -1,0 +1,151 @@
+#!/usr/bin/env bash
+# What tools/install.sh puts below a folder, that it runs there, and that nothing is left once it was removed. Where Debian's tools are, the
+# same of the package of tools/package.sh, below another root. Nothing is touched but a folder of this test.
+set -u
+export LC_ALL=C
+top=$(cd "$(dirname "${BASH_SOURCE[0]}")/.." && pwd) || exit 1
+folder=$(mktemp -d) || exit 1
+trap 'rm -rf "$folder"' EXIT
+cd "$folder" || exit 1
+"$top/run" roa /dev/null >/dev/null 2>&1
+[ $? -eq 1 ] || exit 1
+"$top/rpkirtrd" --version >/dev/null || exit 1
+# (the newest version of the changelog is the program's)
+version=$(sed -n 's/^## \[\([0-9][0-9.]*\)\].*$/\1/p' "$top/CHANGELOG.md" | head -n 1)
+
+fail() { # fail MESSAGE
+    echo "install: $1" >&2
+    exit 1
+}
+
+# The files and links below a folder are these lines.
+holds() { # holds FOLDER WANTED
+    find "$1" ! -type d | sed "s|^$1/||" | sort >found
+    sort "$2" | cmp -s - found && return
+    sort "$2" | diff - found >&2
+    fail "$1 holds other files"
+}
+
+# Both programs below a folder start, and tell what they are.
+run_both() { # run_both FOLDER
+    [ "$("$1/rpkirtrd" --version)" = "rpkirtrd $version" ] || fail "$1/rpkirtrd --version tells something else"
+    "$1/rpkirtr" 2>errors
+    [ $? -eq 2 ] && [ "$(cat errors)" = 'rpkirtr: bad words' ] || fail "$1/rpkirtr does not refuse to do nothing"
+}
+
+install_it() { # install_it STATUS WORD..
+    local wanted=$1 got
+    shift
+    bash "$top/tools/install.sh" "$@" >told 2>&1
+    got=$?
+    [ $got -eq "$wanted" ] && return
+    cat told >&2
+    fail "tools/install.sh $*: status $got"
+}
+
+# What is installed below a prefix, but for the list of it.
+wanted_files() { # wanted_files PREFIX OPTIONS
+    printf '%s\n' "$2" "$1/bin/rpkirtr" "$1/bin/rpkirtrd" "$1/lib/systemd/system/rpkirtrd.service"
+    printf "$1/share/doc/rpkirtr/%s\n" CHANGELOG.md README.md SECURITY.md docs/COMMANDS.md docs/FORMATS.md docs/OPERATING.md docs/PROMISES.md
+    (cd "$top" && find samples docs/figures/status* -type f 2>/dev/null) | sed "s|^|$1/share/doc/rpkirtr/|"
+}
+
+# Below /usr/local, where a folder was there, and stays with what it holds.
+over_others() {
+    { wanted_files usr/local etc/default/rpkirtrd
+        printf 'usr/local/share/%s\n' man/man1/rpkirtr.1 man/man8/rpkirtrd.8 doc/rpkirtr/LICENSE doc/rpkirtr/installed; } >wanted
+    mkdir -p tree/usr/local/bin && echo other >tree/usr/local/bin/other
+    install_it 0 --destdir tree
+    echo usr/local/bin/other >>wanted
+    holds tree wanted
+    run_both tree/usr/local/bin
+    cmp -s "$top/tools/rpkirtrd.service" tree/usr/local/lib/systemd/system/rpkirtrd.service || fail 'the unit below /usr/local is another'
+    # Again, over what is there, with options that were changed: they stay.
+    echo 'OPTIONS=--once' >tree/etc/default/rpkirtrd
+    install_it 0 --destdir tree/
+    holds tree wanted
+    install_it 0 --destdir tree --remove
+    printf '%s\n' usr/local/bin/other etc/default/rpkirtrd >wanted
+    holds tree wanted
+    rm tree/etc/default/rpkirtrd
+    rmdir tree/etc/default tree/etc && [ "$(find tree | sort | tr '\n' ' ')" = 'tree tree/usr tree/usr/local tree/usr/local/bin tree/usr/local/bin/other ' ] ||
+        fail 'folders are left'
+}
+
+# Below another prefix, in a folder that is made for it: nothing at all is left.
+below_another() {
+    install_it 0 --destdir other --prefix /opt/rpkirtr
+    run_both other/opt/rpkirtr/bin
+    { wanted_files opt/rpkirtr opt/rpkirtr/etc/default/rpkirtrd
+        printf 'opt/rpkirtr/share/%s\n' man/man1/rpkirtr.1 man/man8/rpkirtrd.8 doc/rpkirtr/LICENSE doc/rpkirtr/installed; } >wanted
+    holds other wanted
+    grep -q '^ExecStart=/opt/rpkirtr/bin/rpkirtrd \$OPTIONS$' other/opt/rpkirtr/lib/systemd/system/rpkirtrd.service || fail 'the unit starts another program'
+    grep -q '^EnvironmentFile=-/opt/rpkirtr/etc/default/rpkirtrd$' other/opt/rpkirtr/lib/systemd/system/rpkirtrd.service || fail 'the unit reads other options'
+    install_it 0 --prefix /opt/rpkirtr/ --destdir other --remove
+    [ ! -e other ] || fail 'something is left below another prefix'
+}
+
+# Words that are refused, and programs that are not built: nothing is made.
+refusals() {
+    install_it 1 --destdir other --remove
+    install_it 2 --prefix relative --destdir other
+    install_it 2 --destdir
+    install_it 2 --destdir other again
+    # Where nothing is built, it says what builds it, and makes nothing.
+    mkdir -p bare/tools && cp "$top/tools/install.sh" bare/tools || exit 1
+    bash bare/tools/install.sh --destdir other 2>errors
+    [ $? -eq 1 ] && grep -q 'rpkirtr is not built: ./run builds it' errors && grep -q 'rpkirtrd is not built: ./rpkirtrd --version builds it' errors ||
+        fail 'what is not built is not told'
+    [ ! -e other ] || fail 'a refusal made something'
+}
+
+# The package has the same files, of root, and its programs run.
+as_package() {
+    local package
+    mkdir root made || exit 1
+    package=$(bash "$top/tools/package.sh" made) || fail 'no package was made'
+    [ "$package" = "$folder/made/rpkirtr_${version}_$(dpkg --print-architecture).deb" ] || fail "the package is called $package"
+    [ "$(dpkg-deb --field "$package" Package Version Maintainer | tr '\n' ' ')" = \
+        "Package: rpkirtr Version: $version Maintainer: rpkirtr developers <rpkirtr@example.net> " ] || fail 'the package is described otherwise'
+    { wanted_files usr etc/default/rpkirtrd
+        printf 'usr/share/%s\n' man/man1/rpkirtr.1.gz man/man8/rpkirtrd.8.gz doc/rpkirtr/copyright doc/rpkirtr/changelog.gz; } >wanted
+    dpkg-deb --contents "$package" >contents || fail 'the package tells no contents'
+    grep -q -v ' root/root ' contents && fail 'the package has files of another user'
+    [[ $(head -n 1 contents) == 'drwxr-xr-x root/root '*' ./' ]] || fail 'the package closes the root to others'
+    dpkg-deb -x "$package" tree.deb || fail 'the package cannot be unpacked'
+    holds tree.deb wanted
+    run_both tree.deb/usr/bin
+    if [ "$(id -u)" -eq 0 ]; then
+        install_package "$package"
+    fi
+}
+
+# Installs the package below another root, over itself, and removes it. What it needs is not there, and its scripts see that other root.
+install_package() { # install_package FILE
+    local step
+    mkdir -p root/var/lib/dpkg/updates root/var/lib/dpkg/info && touch root/var/lib/dpkg/status || exit 1
+    for step in "-i $1" "-i $1" '-r rpkirtr' '-P rpkirtr'; do
+        # (the path of the package has no blanks, as mktemp made it)
+        # shellcheck disable=SC2086
+        dpkg --root="$folder/root" --log=/dev/null --force-not-root --force-script-chrootless --force-depends $step >told 2>&1 || {
+            cat told >&2
+            fail "dpkg $step failed"
+        }
+        case $step in
+        -i*)
+            (cd root && find . -path ./var -prune -o ! -type d -print | sed 's|^\./||' | sort) >found
+            sort wanted | cmp -s - found || fail 'dpkg installs other files'
+            run_both root/usr/bin
+            ;;
+        -r*) [ -e root/etc/default/rpkirtrd ] && [ ! -e root/usr ] || fail 'dpkg -r leaves something, or removes options' ;;
+        -P*) [ -z "$(find root -path root/var/lib/dpkg -prune -o ! -type d -print)" ] || fail 'dpkg -P leaves something' ;;
+        esac
+    done
+}
+
+over_others
+below_another
+refusals
+if command -v dpkg >/dev/null 2>&1 && command -v dpkg-deb >/dev/null 2>&1; then
+    as_package
+fi

@@ -1,0 +1,77 @@
+#!/usr/bin/env bash
+# The manual pages say what the programs take: each option of the daemon with its value, its range and its default, each command of the page
+# of commands with its options, in the same order and no other. Where mandoc is there, it finds nothing to warn of. The unit on the page of
+# operating is the one that is installed.
+set -u
+top=$(cd "$(dirname "${BASH_SOURCE[0]}")/.." && pwd) || exit 1
+folder=$(mktemp -d) || exit 1
+trap 'rm -rf "$folder"' EXIT
+cd "$folder" || exit 1
+failed=0
+source=$top/crates/daemon_words/src/options.rt
+program=$top/crates/rpkirtrd/out/rpkirtrd
+
+# Both files have the same lines, which are told where they differ.
+same() { # same WHAT WANTED FOUND
+    [ -s "$2" ] && cmp -s "$2" "$3" && return
+    echo "$1 differ:" >&2
+    diff "$2" "$3" >&2
+    failed=1
+}
+
+# The items of a page: `.It Fl -vrps Ar FILE` is `--vrps FILE`. Lists of other things have neither an option nor a word in capitals.
+items() { # items PAGE
+    sed -n -e 's/^\.It \(.*\)$/\1/p' "$1" | grep -E '(^| )(Fl|Ar) ' |
+        sed -e 's/Fl h , -help/-h, --help/; s/Fl V , -version/-V, --version/' -e 's/Fl -/--/g' -e 's/\(Ar\|Cm\|Op\|Oo\|Oc\) //g' -e 's/ \.\.\.$/../'
+}
+
+# The ranges and defaults that are told of each option, from lines `NAME: TEXT`.
+ranges() {
+    awk -F : '{
+        text = $0
+        while (match(text, /from [0-9]+ to [0-9]+|[Tt]he default is [^ ;,]+/)) {
+            told = tolower(substr(text, RSTART, RLENGTH))
+            sub(/\.$/, "", told)
+            print $1 ": " told
+            text = substr(text, RSTART + RLENGTH)
+        }
+    }'
+}
+
+# The options of the source, as `--help` writes them, and the texts that stand with each.
+awk -F '"' '
+    /^ *name: "/ { name = $2; letter = "" }
+    /^ *letter: Some/ { split($0, parts, "\047"); letter = "-" parts[2] ", " }
+    /^ *value: "/ { print letter "--" name ($2 == "" ? "" : " " $2) >"wanted"; text = name ":"; on = 0 }
+    /help: &\[/ { on = 1 }
+    on { for (i = 2; i <= NF; i += 2) text = text " " $i }
+    on && /\],$/ { print text >"texts"; on = 0 }' "$source"
+items "$top/docs/man/rpkirtrd.8" >found
+same "options of rpkirtrd.8 and of $source" wanted found
+awk '
+    function told() { if (name != "") print name ":" text; name = "" }
+    /^\.It Fl / { told(); name = $NF; for (i = 2; i <= NF; i++) if ($i ~ /^-[a-z]/) { name = substr($i, 2); break } text = ""; next }
+    /^\.(El|It|S[hs])/ { told(); next }
+    { line = $0; sub(/^\.[A-Z][a-z] /, "", line); text = text " " line }' "$top/docs/man/rpkirtrd.8" >page
+ranges <texts >wanted
+ranges <page >found
+same "ranges and defaults of rpkirtrd.8 and of $source" wanted found
+
+# The program that is built says the same, unless the source is newer.
+if [ -x "$program" ] && [ ! "$source" -nt "$program" ]; then
+    "$program" --help | grep -E '^  (-[a-zA-Z], )?--' | sed 's/^  //' >wanted
+    items "$top/docs/man/rpkirtrd.8" >found
+    same 'options of rpkirtrd.8 and of rpkirtrd --help' wanted found
+fi
+
+sed -n 's/^`\.\/run \([^`]*\)`:.*/\1/p' "$top/docs/COMMANDS.md" >wanted
+items "$top/docs/man/rpkirtr.1" >found
+same 'commands of rpkirtr.1 and of docs/COMMANDS.md' wanted found
+
+awk '/^```ini$/ { on = 1; next } /^```$/ { on = 0 } on' "$top/docs/OPERATING.md" >wanted
+same 'docs/OPERATING.md and tools/rpkirtrd.service' wanted "$top/tools/rpkirtrd.service"
+
+if command -v mandoc >/dev/null 2>&1; then
+    mandoc -T lint -W warning "$top/docs/man/rpkirtr.1" "$top/docs/man/rpkirtrd.8" >&2 || failed=1
+fi
+exit "$failed"
