@@ -1,7 +1,7 @@
 #!/usr/bin/env bash
 # The manual pages say what the programs take: each option of the daemon with its value, its range and its default, each command of the page
-# of commands with its options, in the same order and no other. Where mandoc is there, it finds nothing to warn of. The unit on the page of
-# operating is the one that is installed.
+# of commands with its options, in the same order and no other, and each event of the log. Where mandoc is there, it finds nothing to warn of.
+# The unit on the page of operating is the one that is installed, and the options that count without a file are told in that file.
 set -u
 top=$(cd "$(dirname "${BASH_SOURCE[0]}")/.." && pwd) || exit 1
 folder=$(mktemp -d) || exit 1
@@ -64,12 +64,19 @@ if [ -x "$program" ] && [ ! "$source" -nt "$program" ]; then
     same 'options of rpkirtrd.8 and of rpkirtrd --help' wanted found
 fi
 
+sed -n 's/^ *Event::.* => "\([a-z-]*\)",$/\1/p' "$top/crates/daemon_parts/src/entries.rt" | sort >wanted
+sed -n '/^\.Ss Log/,/^\.S[hs] [^L]/s/^\.It Cm //p' "$top/docs/man/rpkirtrd.8" | sed 's/ , /\n/' | sort >found
+same 'events of rpkirtrd.8 and of the log' wanted found
+
 sed -n 's/^`\.\/run \([^`]*\)`:.*/\1/p' "$top/docs/COMMANDS.md" >wanted
 items "$top/docs/man/rpkirtr.1" >found
 same 'commands of rpkirtr.1 and of docs/COMMANDS.md' wanted found
 
 awk '/^```ini$/ { on = 1; next } /^```$/ { on = 0 } on' "$top/docs/OPERATING.md" >wanted
 same 'docs/OPERATING.md and tools/rpkirtrd.service' wanted "$top/tools/rpkirtrd.service"
+sed -n 's/^Environment="\(OPTIONS=.*\)"$/\1/p' wanted >options
+sed -n 's/^#\(OPTIONS=\)"\(.*\)"$/\1\2/p' "$top/tools/rpkirtrd.default" >found
+same 'options of tools/rpkirtrd.service and of tools/rpkirtrd.default' options found
 
 if command -v mandoc >/dev/null 2>&1; then
     mandoc -T lint -W warning "$top/docs/man/rpkirtr.1" "$top/docs/man/rpkirtrd.8" >&2 || failed=1
