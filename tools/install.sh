@@ -76,7 +76,7 @@ put() { # put MODE SOURCE TARGET
 # The same for a text that names the place of the programs and of the options.
 put_unit() { # put_unit SOURCE TARGET
     local text
-    text=$(mktemp) || fail 'no file could be made in the folder for files of a moment'
+    text=$(mktemp) || fail 'no temporary file could be made'
     sed -e "s|/usr/local/bin/|$prefix/bin/|" -e "s|/etc/default/rpkirtrd|$options_file|" "$1" >"$text"
     put 644 "$text" "$2"
     rm -f "$text"

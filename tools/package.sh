@@ -19,7 +19,7 @@ target=$(cd "${1:-.}" && pwd) || fail "${1:-.} is no folder"
 for command in dpkg dpkg-deb gzip; do
     command -v "$command" >/dev/null 2>&1 || fail "the command $command is not on the PATH"
 done
-tree=$(mktemp -d) || fail 'no folder could be made in the folder for files of a moment'
+tree=$(mktemp -d) || fail 'no temporary folder could be made'
 trap 'rm -rf "$tree"' EXIT
 chmod 755 "$tree" || fail "$tree could not be made a folder for all"
 
