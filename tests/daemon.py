@@ -1,12 +1,12 @@
 #!/usr/bin/env python3
 """The daemon over sockets of this machine: what it serves, what it follows, what it refuses, and a soak.
 
-usage: tests/daemon.py PROGRAM [--seconds N] [--seed N] [--shim FILE]
+usage: tests/daemon.py PROGRAM [--seconds N] [--seed N] [--shim FILE] [--rpkirtr PROGRAM] [--routes N]
 
 Routers stand here. What is waited for is a line of the daemon's log or bytes of a connection, never a time. The soak changes the list as
 long as it is told to, while clients come, go, stop reading and send rubbish; then each one that is left must hold the last list. With a
-shim, which is what tests/refusing.c was compiled to, each request for memory of a daemon is refused in turn. It exits with 1 where
-something differs, and says what."""
+shim, which is what tests/refusing.c was compiled to, each request for memory of a daemon is refused in turn; with the other program, what the
+pages say of so many routes at random is compared with its command `route`. It exits with 1 where something differs, and says what."""
 import argparse
 import concurrent.futures
 import contextlib
@@ -37,7 +37,7 @@ NOTIFY, SERIAL_QUERY, RESET_QUERY, RESPONSE, IPV4, IPV6, END, CACHE_RESET, ERROR
 FIRST = [("192.0.2.0/24", 24, 64496), ("198.51.100.0/24", 26, 64497), ("2001:db8::/32", 48, 64498)]
 SECOND = [("192.0.2.0/24", 25, 64496), ("2001:db8::/32", 48, 64498)]
 
-program, shim, failed = "", None, 0
+program, shim, given, failed = "", None, None, 0
 
 
 def differs(what, found, wanted):
@@ -462,6 +462,35 @@ def pages():
         differs("the metrics of the next version", metrics_of(port)["rpkirtrd_serial"], 6)
 
 
+def routes():
+    """The states of routes at random, by the pages and by the command `route`."""
+    choice = random.Random(given.seed)
+    base = [choice.getrandbits(32) for _ in range(40)]
+    drawn = lambda: (choice.choice(base) ^ choice.getrandbits(choice.randrange(1, 16)), choice.randrange(8, 33))
+    network = lambda address, length: str(ipaddress.ip_network((address, length), strict=False))
+    records = set()
+    while len(records) < 2000:
+        address, length = drawn()
+        records.add((network(address, length), choice.randrange(length, 33), choice.choice([0, 64496, 64497, 64498])))
+    put("routes.json", text_of(sorted(records)))
+    with running("--vrps", "routes.json", "--listen", "127.0.0.1:0", "--status", "127.0.0.1:0") as daemon:
+        port = int(daemon.wait("status")["address"].rpartition(":")[2])
+        daemon.wait("ready")
+        put("list", got(port, "/vrps.json")[2])
+        asked = [(network(*drawn()), choice.choice([0, 64496, 64497, 64498])) for _ in range(given.routes)]
+        with concurrent.futures.ThreadPoolExecutor(4) as pool:
+            found = list(pool.map(lambda it: validity(port, *it)[0], asked))
+            wanted = list(pool.map(state_told, asked))
+    differs(f"states of routes (seed {given.seed})", [it for it in zip(asked, found, wanted) if it[1] != it[2]], [])
+    print(f"routes: {len(asked)}, of which {wanted.count('valid')} are valid and {wanted.count('invalid')} invalid", flush=True)
+
+
+def state_told(route):
+    """The state that the command `route` prints."""
+    words = [given.rpkirtr, "route", "--vrps", "list", route[0], str(route[1])]
+    return subprocess.run(words, stdin=subprocess.DEVNULL, capture_output=True, text=True, timeout=PATIENCE).stdout.strip()
+
+
 def strange_visitors(port):
     """Requests that are cut, huge, slow, none at all, or one behind the other."""
     differs("a request that is cut", raw_answer(port, b"GET /metrics HT")[:12], b"HTTP/1.1 400")
@@ -721,19 +750,21 @@ def soak(seconds, seed):
 
 
 def main():
-    global program, shim
+    global program, shim, given
     words = argparse.ArgumentParser()
     words.add_argument("program")
     words.add_argument("--seconds", type=float, default=20)
     words.add_argument("--seed", type=int, default=random.randrange(2**32))
     words.add_argument("--shim")
+    words.add_argument("--rpkirtr", type=os.path.abspath)
+    words.add_argument("--routes", type=int, default=300)
     given = words.parse_args()
     program, shim = os.path.abspath(given.program), given.shim and os.path.abspath(given.shim)
     with tempfile.TemporaryDirectory() as folder:
         os.chdir(folder)
         put("list.json", text_of(FIRST))
         parts = [words_and_starts, tables, refused_files, sources, points, pages, restarts, limits, full_descriptors]
-        for part in [*parts, *([refused_memory] if shim else [])]:
+        for part in [*parts, *([routes] if given.rpkirtr else []), *([refused_memory] if shim else [])]:
             began = time.time()
             part()
             print(f"{part.__name__}: {time.time() - began:.1f} s", flush=True)

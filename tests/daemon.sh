@@ -1,10 +1,12 @@
 #!/usr/bin/env bash
-# The daemon over sockets, with a soak of twenty seconds: tests/daemon.py has the routers. Where there is a C compiler, each request for memory
-# of a daemon is refused in turn.
+# The daemon over sockets, with a soak of twenty seconds: tests/daemon.py has the routers and the visitors. Where there is a C compiler, each
+# request for memory of a daemon is refused in turn.
 set -u
 top=$(cd "$(dirname "${BASH_SOURCE[0]}")/.." && pwd) || exit 1
 folder=$(mktemp -d) || exit 1
 trap 'rm -rf "$folder"' EXIT
+"$top/run" roa /dev/null >/dev/null 2>&1
+[ $? -eq 1 ] || exit 1
 "$top/rpkirtrd" --version >/dev/null || exit 1
 shim=()
 if command -v cc >/dev/null 2>&1; then
@@ -13,4 +15,4 @@ if command -v cc >/dev/null 2>&1; then
 elif [ -n "${CI:-}" ]; then
     exit 1
 fi
-timeout 300 python3 "$top/tests/daemon.py" "$top/crates/rpkirtrd/out/rpkirtrd" "${shim[@]}"
+timeout 300 python3 "$top/tests/daemon.py" "$top/crates/rpkirtrd/out/rpkirtrd" --rpkirtr "$top/crates/rpkirtr/out/rpkirtr" "${shim[@]}"
