@@ -1,6 +1,6 @@
 //! Visitors of the pages on the daemon's state.
 use crate::host::{Call, Host};
-use crate::line::Line;
+use crate::line::{Line, is_bounded};
 use crate::shelf::Shelf;
 use daemon_words::VERSION;
 use mio::net::{TcpListener, TcpStream};
@@ -151,6 +151,9 @@ impl Desk {
         host: &mut Host<'_, R, E>,
     ) {
         let mut stream = stream;
+        if !is_bounded(&stream) {
+            return;
+        }
         if let Some(line) = host.register_visitor(&mut stream) {
             if self.visitors.admit(line, stream, host.millis()).is_ok() {
                 self.wake(line);

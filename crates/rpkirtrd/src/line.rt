@@ -4,7 +4,7 @@ use rtr_server::{Moved, Stream};
 use std::io::{ErrorKind, Read, Write};
 use std::os::fd::AsRawFd;
 
-/// How many bytes the system keeps for a router that does not read, before it would wait.
+/// How many bytes the system keeps for a peer that does not read, before it would wait.
 const SEND_ROOM: i32 = 262_144;
 
 /// A connection, whose calls do not wait.
@@ -29,8 +29,8 @@ impl Line {
     }
 }
 
-/// Bounds what the system keeps of bytes that the other end has not taken.
-fn is_bounded(stream: &TcpStream) -> bool {
+/// Bounds what the system keeps of bytes that the other end has not taken, and answers whether it did.
+pub fn is_bounded(stream: &TcpStream) -> bool {
     let mut size = [0u8; 16];
     size[..4].copy_from_slice(&SEND_ROOM.to_ne_bytes());
     let fd = stream.as_raw_fd();
