@@ -523,6 +523,26 @@ def is_closed(it):
         return True
 
 
+@contextlib.contextmanager
+def silent_visitor():
+    """A visitor of a daemon's pages that says nothing: it is closed behind half a minute, which passes beside all else."""
+    put("silent.json", text_of(FIRST))
+    with running("--vrps", "silent.json", "--listen", "127.0.0.1:0", "--status", "127.0.0.1:0") as daemon:
+        port = int(daemon.wait("status")["address"].rpartition(":")[2])
+        daemon.wait("ready")
+        with contextlib.closing(socket.create_connection(("127.0.0.1", port), 60)) as it, concurrent.futures.ThreadPoolExecutor(1) as pool:
+            stayed = pool.submit(seconds_until_closed, it)
+            yield
+            differs("how long a silent visitor stays", 29 < stayed.result() < 40, True)
+
+
+def seconds_until_closed(it):
+    began = time.time()
+    with contextlib.suppress(OSError):
+        it.recv(1)
+    return time.time() - began
+
+
 def asked_anew(router):
     """How many records a router has that asks for all of them three times."""
     for _ in range(3):
@@ -764,11 +784,12 @@ def main():
         os.chdir(folder)
         put("list.json", text_of(FIRST))
         parts = [words_and_starts, tables, refused_files, sources, points, pages, restarts, limits, full_descriptors]
-        for part in [*parts, *([routes] if given.rpkirtr else []), *([refused_memory] if shim else [])]:
-            began = time.time()
-            part()
-            print(f"{part.__name__}: {time.time() - began:.1f} s", flush=True)
-        soak(given.seconds, given.seed)
+        with silent_visitor():
+            for part in [*parts, *([routes] if given.rpkirtr else []), *([refused_memory] if shim else [])]:
+                began = time.time()
+                part()
+                print(f"{part.__name__}: {time.time() - began:.1f} s", flush=True)
+            soak(given.seconds, given.seed)
         os.chdir("/")
     print(f"{failed} failed" if failed else "all as wanted")
     sys.exit(1 if failed else 0)
