@@ -3,7 +3,7 @@
 
 usage: tests/daemon.py PROGRAM [--seconds N] [--seed N] [--shim FILE] [--rpkirtr PROGRAM] [--routes N]
 
-Routers stand here. What is waited for is a line of the daemon's log or bytes of a connection, never a time. The soak changes the list as
+Routers stand here, and the parts are played side by side, each with daemons of its own. What is waited for is a line of the daemon's log or bytes of a connection, never a time. The soak changes the list as
 long as it is told to, while clients come, go, stop reading and send rubbish; then each one that is left must hold the last list. With a
 shim, which is what tests/refusing.c was compiled to, each request for memory of a daemon is refused in turn; with the other program, what the
 pages say of so many routes at random is compared with its command `route`. It exits with 1 where something differs, and says what."""
@@ -15,6 +15,7 @@ import hashlib
 import http.client
 import ipaddress
 import json
+import multiprocessing
 import os
 import queue
 import random
@@ -523,24 +524,16 @@ def is_closed(it):
         return True
 
 
-@contextlib.contextmanager
 def silent_visitor():
-    """A visitor of a daemon's pages that says nothing: it is closed behind half a minute, which passes beside all else."""
+    """A visitor of a daemon's pages that says nothing: it is closed behind half a minute."""
     put("silent.json", text_of(FIRST))
     with running("--vrps", "silent.json", "--listen", "127.0.0.1:0", "--status", "127.0.0.1:0") as daemon:
         port = int(daemon.wait("status")["address"].rpartition(":")[2])
         daemon.wait("ready")
-        with contextlib.closing(socket.create_connection(("127.0.0.1", port), 60)) as it, concurrent.futures.ThreadPoolExecutor(1) as pool:
-            stayed = pool.submit(seconds_until_closed, it)
-            yield
-            differs("how long a silent visitor stays", 29 < stayed.result() < 40, True)
-
-
-def seconds_until_closed(it):
-    began = time.time()
-    with contextlib.suppress(OSError):
-        it.recv(1)
-    return time.time() - began
+        began = time.time()
+        with contextlib.closing(socket.create_connection(("127.0.0.1", port), 60)) as it, contextlib.suppress(OSError):
+            it.recv(1)
+        differs("how long a silent visitor stays", 29 < time.time() - began < 40, True)
 
 
 def asked_anew(router):
@@ -747,8 +740,9 @@ class Crowd:
                 pass
 
 
-def soak(seconds, seed):
+def soak(seconds=None, seed=None):
     """Changes the list as long as it may, and compares all tables then."""
+    seconds, seed = seconds or given.seconds, given.seed if seed is None else seed
     pool = [(f"{ipaddress.ip_address(10 * 2**24 + 256 * it)}/24", 24, 64496 + it % 7) for it in range(3000)]
     choice = random.Random(seed)
     put("list.json", text_of(pool[:1000]))
@@ -780,19 +774,29 @@ def main():
     words.add_argument("--routes", type=int, default=300)
     given = words.parse_args()
     program, shim = os.path.abspath(given.program), given.shim and os.path.abspath(given.shim)
+    parts = [soak, silent_visitor, words_and_starts, tables, refused_files, sources, points, pages, restarts, limits, full_descriptors]
+    parts += ([routes] if given.rpkirtr else []) + ([refused_memory] if shim else [])
+    with multiprocessing.get_context("fork").Pool(len(parts)) as pool:
+        found = sum(pool.map(played, [it.__name__ for it in parts], chunksize=1))
+    print(f"{found} failed" if found else "all as wanted")
+    sys.exit(1 if found else 0)
+
+
+def played(name):
+    """Plays a part in a folder of its own, and answers how much of it differed."""
+    global failed
+    began = time.time()
     with tempfile.TemporaryDirectory() as folder:
         os.chdir(folder)
         put("list.json", text_of(FIRST))
-        parts = [words_and_starts, tables, refused_files, sources, points, pages, restarts, limits, full_descriptors]
-        with silent_visitor():
-            for part in [*parts, *([routes] if given.rpkirtr else []), *([refused_memory] if shim else [])]:
-                began = time.time()
-                part()
-                print(f"{part.__name__}: {time.time() - began:.1f} s", flush=True)
-            soak(given.seconds, given.seed)
+        try:
+            globals()[name]()
+        except (Exception, SystemExit) as fault:
+            failed += 1
+            print(f"{name}: {fault!r}".replace("\\n", "\n"), flush=True)
         os.chdir("/")
-    print(f"{failed} failed" if failed else "all as wanted")
-    sys.exit(1 if failed else 0)
+    print(f"{name}: {time.time() - began:.1f} s", flush=True)
+    return failed
 
 
 if __name__ == "__main__":

@@ -1,5 +1,5 @@
 #!/usr/bin/env bash
-# The daemon over sockets, with a soak of twenty seconds: tests/daemon.py has the routers and the visitors. Where there is a C compiler, each
+# The daemon over sockets, half a minute, with a soak of twenty seconds: tests/daemon.py has the routers and the visitors. Where there is a C compiler, each
 # request for memory of a daemon is refused in turn.
 set -u
 top=$(cd "$(dirname "${BASH_SOURCE[0]}")/.." && pwd) || exit 1
