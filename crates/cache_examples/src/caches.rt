@@ -1,4 +1,4 @@
-//! Caches over both stores of versions: the scripts, and each unit cut at each byte.
+//! Caches over both stores of versions: the scripts, and each PDU cut at each byte.
 use crate::play::{Log, cache_of, play_each, pulled};
 use crate::scripts::SCRIPTS;
 use example_values::hex::{Bytes, bytes};
@@ -36,7 +36,7 @@ const ROWS: &[Told] = &[
         "01 0a 0000 0000001c 0000000c 010122220000000c00000005 00000000",
         false,
     ),
-    // Units that no router sends.
+    // PDUs that no router sends.
     (
         "01 00 1234 0000000c 00000005",
         "01 0a 0003 0000001c 0000000c 010012340000000c00000005 00000000",

@@ -72,7 +72,7 @@ pub(crate) enum Event {
     Takes(&'static str, usize),
     /// These bytes go out first, in one piece.
     Begins(&'static str),
-    /// These units are due, and no more.
+    /// These PDUs are due, and no more.
     Sends(&'static [&'static str]),
     /// A notify is asked for, which is or is not sent.
     Notifies(bool),

@@ -14,7 +14,7 @@ pub enum ProgramFault {
     /// A file, a socket or an output failed. Status 3.
     #[error("rpkirtr: device failed")]
     Device,
-    /// Want of memory. Status 4.
+    /// Out of memory. Status 4.
     #[error("rpkirtr: out of memory")]
     Memory,
 }

@@ -124,7 +124,7 @@ pub enum Event<'a> {
         /// How many of its entries had expired.
         entries: u64,
     },
-    /// `memory`: memory was wanting.
+    /// `memory`: memory ran out.
     Memory {
         /// What it was wanted for, in a few words.
         what: &'a str,

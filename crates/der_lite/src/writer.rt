@@ -51,7 +51,7 @@ fn push_element(out: &mut Vec<u8>, tag: u8, first: &[u8], rest: &[u8]) -> Result
 ///
 /// Contents are shorter than 2^32 bytes. They are written as they are: one that is none of the
 /// element's type gives bytes that no read of a `Cursor` takes. A call answers an `AllocError` where
-/// memory is wanting, and then nothing was written.
+/// memory runs out, and then nothing was written.
 #[derive(Debug, Drop)]
 pub struct DerWriter {
     bytes: Vec<u8>,

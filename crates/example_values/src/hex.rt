@@ -1,7 +1,7 @@
 //! Bytes in hexadecimal.
 use arrayvec::ArrayVec;
 
-/// The bytes of a short payload or of a few units.
+/// The bytes of a short payload or of a few PDUs.
 pub type Bytes = ArrayVec<u8, 256>;
 
 /// The bytes that hexadecimal digits spell. What is none is passed over.

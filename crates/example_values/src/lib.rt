@@ -1,4 +1,4 @@
-//! Values that the crates of examples share: bytes from hexadecimal text, payloads of ROAs, units, and sets of payloads.
+//! Values that the crates of examples share: bytes from hexadecimal text, payloads of ROAs, PDUs, and sets of payloads.
 #![tactic(auto)]
 
 pub mod hex;

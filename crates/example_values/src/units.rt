@@ -1,7 +1,7 @@
-//! Units of the RPKI-to-Router protocol. Blanks part the fields as RFC 8210 section 5 draws them, and bars part the units.
+//! PDUs of the RPKI-to-Router protocol. Blanks part the fields as RFC 8210 section 5 draws them, and bars part the PDUs.
 use crate::hex::{Bytes, bytes};
 
-/// The bytes of these units, one after the other.
+/// The bytes of these PDUs, one after the other.
 pub fn all_of(units: &[&str]) -> Bytes {
     let mut all = Bytes::new();
     for unit in units {
@@ -10,7 +10,7 @@ pub fn all_of(units: &[&str]) -> Bytes {
     all
 }
 
-/// A unit of version 1 that is no Error Report, as it is in version 0: the End of Data has 12 bytes, without intervals (RFC 6810
+/// A PDU of version 1 that is no Error Report, as it is in version 0: the End of Data has 12 bytes, without intervals (RFC 6810
 /// section 5.8), and all others differ in the version byte alone.
 fn plain_in_0(unit: &[u8]) -> Bytes {
     let mut all = Bytes::new();
@@ -28,7 +28,7 @@ fn plain_in_0(unit: &[u8]) -> Bytes {
     all
 }
 
-/// The same, also of an Error Report, which copies a unit as that is in version 0.
+/// The same, also of an Error Report, which copies a PDU as that is in version 0.
 fn in_0(unit: &[u8]) -> Bytes {
     let copy = match (unit.get(1), unit.get(11)) {
         (Some(10), Some(&len)) if len > 0 => unit.get(12..usize::from(len).saturating_add(12)),
@@ -48,7 +48,7 @@ fn in_0(unit: &[u8]) -> Bytes {
     all
 }
 
-/// The bytes of units that are spelled in version 1, as they are in the version of this number.
+/// The bytes of PDUs that are spelled in version 1, as they are in the version of this number.
 pub fn bytes_in(version: u8, text: &str) -> Bytes {
     let mut all = Bytes::new();
     for part in text.split('|') {

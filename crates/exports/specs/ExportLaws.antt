@@ -11,11 +11,11 @@ use Rattle.exports.specs.declared.fault.ExportFault.TheVariants.{Memory}
 abbrev pub OneExport : Type 0
 OneExport = (bytes : List ℕ) (now : ℕ) (x y : Export) → IsExport bytes now x → IsExport bytes now y → x ≡ y
 
--- An export has no fault: none but want of memory can keep it from being read.
+-- An export has no fault: nothing but running out of memory can keep it from being read.
 abbrev pub NoFaultOfExports : Type 0
 NoFaultOfExports = (bytes : List ℕ) (now : ℕ) (x : Export) (fault : ExportFault) → IsExport bytes now x → HasFault bytes now fault → fault ≡ Memory
 
--- A fault that is not want of memory is one.
+-- A fault other than out of memory is one.
 abbrev pub OneFault : Type 0
 OneFault =
     (bytes : List ℕ) (now : ℕ) (f g : ExportFault) → HasFault bytes now f → HasFault bytes now g → ¬ (f ≡ Memory) → ¬ (g ≡ Memory) → f ≡ g

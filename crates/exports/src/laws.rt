@@ -10,7 +10,7 @@ pub fn one_export()
     one_reading();
 }
 
-/// Bytes that are an export, at a moment, have no fault; so `read_export` refuses them for want of memory alone.
+/// Bytes that are an export, at a moment, have no fault; so `read_export` refuses them only where memory runs out.
 pub fn no_fault_of_exports()
     ensures { NoFaultOfExports }
 {

@@ -1,4 +1,4 @@
--- Units at the front of a stream (RFC 8210 section 5).
+-- PDUs at the front of a stream (RFC 8210 section 5).
 use Rattle.std.specs.Prelude.{◌≡◌, ℕ, Bool, true, false, ◌&&◌, if◌then◌else◌, List, [], ◌∷◌, ◌++◌, drop, refl}
 use Rattle.std.proofs.Common.{sym, ap, ◌∙◌, subst, append_assoc}
 use Rattle.std.specs.List.{AllByRecursion}
@@ -12,7 +12,7 @@ use Rattle.rtr_pdu.specs.declared.version.Version.{Version}
 use Rattle.rtr_pdu.specs.declared.version.Version.TheVariants.{V1}
 use Rattle.rtr_ends.specs.Answer.{sent, sent_all}
 
--- Each unit is sent in version 1.
+-- Each PDU is sent in version 1.
 begins : (u : Unit) → (bytes : List ℕ) × (sent V1 u ≡ 1 ∷ bytes)
 begins (SerialNotify session serial) = (_, refl)
 begins (SerialQuery session serial) = (_, refl)
@@ -55,11 +55,11 @@ no_front [] back e = refl
 no_front (b ∷ front) back e = cc
 
 module _ (apart : NoBeginning) (written : WrittenIsRead) where
-  -- No unit is without a byte.
+  -- No PDU is without a byte.
   pub never_empty : (version : Version) (u : Unit) → Reads version u [] → ⊥
   never_empty version u r = let e = (apart version u ResetQuery [] (sent version ResetQuery) (sent version ResetQuery) [] r (written version ResetQuery tt refl) refl).1 in cc
 
-  -- What is read from a beginning of units as they are sent are the first of them.
+  -- What is read from a beginning of PDUs as they are sent are the first of them.
   pub read_are_first : (any : Bool) (all units : List Unit) (front back : List ℕ) → AllByRecursion (IsUnitOf V1) all → AreRead V1 any units front → front ++ back ≡ sent_all V1 all → (rest : List Unit) × (units ++ rest ≡ all)
   read_are_first any all [] front back fit read e = (all, refl)
   read_are_first any [] (u ∷ units) front back fit read e =

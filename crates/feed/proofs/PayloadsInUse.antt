@@ -22,7 +22,7 @@ use Rattle.feed.proofs.Sets.{used_members}
 pub is_used : (now : CivilMoment) (offers : List Offer) (points : Points) (vs : List Payload) (set : VrpSet) → AreTaken now no_points offers points → Lists vs points now → set ≡ set_of vs → IsUsed now offers set
 is_used now offers points vs set taken lists is = subst (IsUsed now offers) (sym is) (record { points = points; taken = taken; members = used_members vs points now lists })
 
--- They are too many, or memory was wanting.
+-- They are too many, or memory ran out.
 pub set_refused : (now : CivilMoment) (offers : List Offer) (points : Points) (vs : List Payload) (fault : SetFault) → AreTaken now no_points offers points → Lists vs points now
     → (fault ≡ sets.TooMany → 16777215 < size (set_of vs)) → IsRefused now offers (told_of_set fault)
 set_refused now offers points vs sets.TooMany taken lists many = (set_of vs, is_used now offers points vs (set_of vs) taken lists refl, many refl)

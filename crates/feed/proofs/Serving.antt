@@ -141,7 +141,7 @@ module _ (apart : NoBeginning) (written : WrittenIsRead) (keep : ℕ) (t : Inter
   first_of : (u v : Unit) (us vs : List Unit) → u ∷ us ≡ v ∷ vs → u ≡ v
   first_of u v us vs e = cc
 
-  -- What begins a unit of version 1 is of it.
+  -- What begins a PDU of version 1 is of it.
   begins_1 : (came rest more : List ℕ) → came ++ rest ≡ 1 ∷ more → (came ≡ [] → ⊥) → first_version came ≡ V1
   begins_1 [] rest more e some = absurd (some refl)
   begins_1 (b ∷ came) rest more e some = let one : b ≡ 1 = cc in ap (λ x. first_version (x ∷ came)) one

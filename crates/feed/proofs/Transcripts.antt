@@ -17,7 +17,7 @@ use Rattle.prefixes.proofs.Basics.{or_swap}
 abbrev announced : Payload → Unit
 announced v = Prefix true v
 
--- the units of the answer with these records
+-- the PDUs of the answer with these records
 abbrev pub last : Unit
 last = EndOfData 1 0 3600 600 7200
 
@@ -78,7 +78,7 @@ ends_emptied vs false k h = h
 -- ---- a beginning of the answer
 
 module _ (vs : List Payload) where
-  -- These of its units came, and so far it was kept.
+  -- These of its PDUs came, and so far it was kept.
   data Came (items : List Item) (done : List Unit) : Type 0 where
     none : done ≡ [] → kept items ≡ nothing → under_way items ≡ None → Came items done
     some : (front back : List Payload) → vs ≡ front ++ back → done ≡ CacheResponse 1 ∷ map announced front → kept items ≡ nothing → Begins front (under_way items) → Came items done
@@ -96,7 +96,7 @@ module _ (vs : List Payload) where
   ticks now items done (some front back parts is nothing_kept answer) = some front back parts is (emptied (is_over (kept items).version (later (moment items) now)) (kept items) nothing_kept) answer
   ticks now items done (all is h) = all is (ends_emptied vs (is_over (kept items).version (later (moment items) now)) (kept items) h)
 
-  -- What a unit does that comes next in the answer
+  -- What a PDU does that comes next in the answer
   record Steps (items : List Item) (u : Unit) (new : List Item) : Type 0 where
     first : u ≡ CacheResponse 1 → kept items ≡ nothing → (kept new ≡ nothing) × Begins [] (under_way new)
     next : (front : List Payload) (v : Payload) → u ≡ announced v → kept items ≡ nothing → Begins front (under_way items) → (kept new ≡ nothing) × Begins (front ++ v ∷ []) (under_way new)

@@ -77,7 +77,7 @@ pub record IsRefusedAt (now : CivilMoment) (offers : List Offer) (i : ℕ) (faul
   pub told : told_by_fault fault ≡ Some judgement
   pub judged : IsOfferJudged now points offer judgement
 
--- An offer is refused; or all were taken, and the set of the payloads in use passes the limit of a set; or memory was wanting.
+-- An offer is refused; or all were taken, and the set of the payloads in use passes the limit of a set; or memory ran out.
 abbrev pub IsRefused : CivilMoment → List Offer → FeedFault → Type 0
 IsRefused now offers (faults.Point i fault) = IsRefusedAt now offers i fault
 IsRefused now offers faults.TooMany = (set : VrpSet) × IsUsed now offers set × (16777215 < size set)

@@ -20,7 +20,7 @@ use vrps::{VersionLog, VrpSet};
 /// How many bytes go from one end to the other in a turn, at most.
 const TURN: usize = 4096;
 
-/// The laws by which units are told apart in a stream.
+/// The laws by which PDUs are told apart in a stream.
 fn know_units()
     ensures apart { NoBeginning }
     ensures written { WrittenIsRead }

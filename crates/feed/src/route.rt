@@ -24,7 +24,7 @@ pub struct Fed {
 /// its point holds is no fault. The set is published as serial 0 of session 1, with the intervals that RFC 8210 section 6 recommends.
 /// Bytes go from the router to the cache and from the cache to the router in turns of at most 4,096.
 ///
-/// The first offer that is refused decides, or that meets want of memory; then too many payloads; then want of memory.
+/// The first offer that is refused decides, or the first for which memory runs out; then too many payloads; then out of memory.
 pub fn route_from_payloads(
     alloc: Global,
     offers: &[Offer<'_>],

@@ -28,7 +28,7 @@ pub(crate) fn cache_from(alloc: Global, start: u32) -> Result<Cache<VersionLog>,
     Ok(Cache::new(alloc, log, Timing::default()))
 }
 
-/// Opens a connection, at the second try where memory was wanting.
+/// Opens a connection, at the second try where memory ran out.
 fn opened(rt: &HostRuntime, cache: &mut Cache<VersionLog>) -> Result<Conn, Fail> {
     for _try in 0..2 {
         match cache.open() {
@@ -39,7 +39,7 @@ fn opened(rt: &HostRuntime, cache: &mut Cache<VersionLog>) -> Result<Conn, Fail>
     Err(Fail::from("open"))
 }
 
-/// Publishes a set, and once more where memory was wanting.
+/// Publishes a set, and once more where memory ran out.
 fn published(
     rt: &HostRuntime,
     cache: &mut Cache<VersionLog>,

@@ -2,7 +2,7 @@ use crate::telling::{begin, tell, tell_payloads};
 use exports::{ExportFault, read_export};
 use std::test::Fail;
 
-/// Reads an export, and once more where memory was wanting, and prints what it lists.
+/// Reads an export, and once more where memory ran out, and prints what it lists.
 fn tell_export(rt: &HostRuntime, text: &[u8]) -> Result<(), Fail> {
     begin(rt.alloc())?;
     for _try in 0..2 {

@@ -1,5 +1,5 @@
 //! Runs in which requests for memory are refused: each test prints what came of its calls and what stands afterwards, and tries once more
-//! where memory was wanting. By themselves they show the answers of ample memory; `tests/memory.py` runs each with the first request
+//! where memory ran out. By themselves they show the answers of ample memory; `tests/memory.py` runs each with the first request
 //! refused, then the second, and so on, and compares what is printed.
 #![tactic(auto)]
 

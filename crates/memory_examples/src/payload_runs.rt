@@ -191,7 +191,7 @@ fn told(answer: Result<Offered, PointFault>) -> &'static str {
     }
 }
 
-/// Prints what is in use at a moment, for which memory may be wanting once.
+/// Prints what is in use at a moment, for which memory may run out once.
 fn tell_in_use(rt: &HostRuntime, repository: &Repository, now: Moment) -> Result<(), Fail> {
     for _try in 0..2 {
         match repository.payloads(now) {
@@ -205,7 +205,7 @@ fn tell_in_use(rt: &HostRuntime, repository: &Repository, now: Moment) -> Result
     Ok(())
 }
 
-/// Offers, once more where memory was wanting, and prints each time what is in use.
+/// Offers, once more where memory ran out, and prints each time what is in use.
 fn tell_offered(
     rt: &HostRuntime,
     repository: &mut Repository,

@@ -57,7 +57,7 @@ fn line(bytes: &'static [u8]) -> Duplex<Feed, Sink> {
     }
 }
 
-/// Publishes a set, and once more where memory was wanting.
+/// Publishes a set, and once more where memory ran out.
 fn published(rt: &HostRuntime, server: &mut Memory, sets: [VrpSet; 2]) -> Result<(), Fail> {
     for set in sets {
         match server.publish(set) {
@@ -68,7 +68,7 @@ fn published(rt: &HostRuntime, server: &mut Memory, sets: [VrpSet; 2]) -> Result
     Err(Fail::from("publish"))
 }
 
-/// Admits a client, at the second try where memory was wanting.
+/// Admits a client, at the second try where memory ran out.
 fn admitted(rt: &HostRuntime, server: &mut Memory, query: &'static [u8]) -> Result<Client, Fail> {
     for _try in 0..2 {
         match server.admit(line(query)) {
@@ -100,7 +100,7 @@ fn tell_served(rt: &HostRuntime, server: &mut Memory, client: Client) -> Result<
     Ok(())
 }
 
-/// Two routers ask what has changed: where memory is wanting for the change, that client ends with a report, and the other is answered.
+/// Two routers ask what has changed: where memory runs out for the change, that client ends with a report, and the other is answered.
 #[test]
 fn serve_serial_queries(rt: HostRuntime) -> Result<(), Fail> {
     let alloc = rt.alloc();

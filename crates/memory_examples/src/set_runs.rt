@@ -84,7 +84,7 @@ fn apply_what_comes_again(rt: HostRuntime) -> Result<(), Fail> {
     tell_applied(&rt, &set_of(rt.alloc(), &[])?, &set_of(rt.alloc(), &[V])?)
 }
 
-/// Publishes a set, and once more where memory was wanting, and prints what is current.
+/// Publishes a set, and once more where memory ran out, and prints what is current.
 fn tell_published(rt: &HostRuntime, log: &mut VersionLog, sets: [VrpSet; 2]) -> Result<(), Fail> {
     let mut out = rt.stdout();
     for set in sets {

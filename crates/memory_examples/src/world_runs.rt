@@ -19,7 +19,7 @@ fn on(event: SideEvent) -> Event {
     Event::On { router: 0, event }
 }
 
-/// Router 0 catches up, at the second try where memory was wanting.
+/// Router 0 catches up, at the second try where memory ran out.
 fn tell_caught_up(rt: &HostRuntime, world: &mut World) -> Result<(), Fail> {
     for _try in 0..2 {
         match world.catch_up(0) {
@@ -60,7 +60,7 @@ fn catch_up_after_a_restart(rt: HostRuntime) -> Result<(), Fail> {
     tell_caught_up(&rt, &mut world)
 }
 
-/// One event, at the second try where memory was wanting. After the want the connection is cut with nothing to arrive.
+/// One event, at the second try where memory ran out. After that the connection is cut with nothing to arrive.
 fn tell_stepped(rt: &HostRuntime, world: &mut World, event: &Event) -> Result<(), Fail> {
     for _try in 0..2 {
         match world.step(event) {

@@ -167,7 +167,7 @@ pub enum Order<'a> {
         now: &'a str,
         directories: Vec<&'a str>,
     },
-    /// The units with which the bytes of FILE begin.
+    /// The PDUs with which the bytes of FILE begin.
     Units {
         file: &'a str,
     },

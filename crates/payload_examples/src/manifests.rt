@@ -29,7 +29,7 @@ const OF_ROA: &[u8; 96] = b"\
 /// 2.16.840.1.101.3.4.2.1.
 const SHA_256: [u8; 9] = [0x60, 0x86, 0x48, 0x01, 0x65, 0x03, 0x04, 0x02, 0x01];
 
-/// The number and the offset of the first fault, if the bytes are refused. Want of memory is 0 at 0.
+/// The number and the offset of the first fault, if the bytes are refused. Out of memory is 0 at 0.
 fn fault(alloc: Global, payload: &[u8]) -> Option<(u8, usize)> {
     match decode_manifest(alloc, payload) {
         Ok(_) => None,
@@ -257,7 +257,7 @@ fn takes_numbers_of_20_bytes(rt: HostRuntime) -> Result<(), Fail> {
 
 /// Why there is no manifest of this number, these moments and files of these names, which
 /// blanks part: the number of
-/// the fault and the index. Want of memory is 0 at 0.
+/// the fault and the index. Out of memory is 0 at 0.
 fn value_fault(
     rt: &impl Abort,
     alloc: Global,

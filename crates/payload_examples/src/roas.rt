@@ -9,7 +9,7 @@ use std::alloc::Global;
 use std::process::Abort;
 use std::test::Fail;
 
-/// The number and the offset of the first fault, if the bytes are refused. Want of memory is 0 at 0.
+/// The number and the offset of the first fault, if the bytes are refused. Out of memory is 0 at 0.
 fn fault(alloc: Global, payload: &[u8]) -> Option<(u8, usize)> {
     match decode_roa(alloc, payload) {
         Ok(_) => None,

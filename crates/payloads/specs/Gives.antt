@@ -36,37 +36,37 @@ abbrev pub ListsEntries : {X V : Type 0} → (X → V → Type 0) → (V → Lis
 ListsEntries {X} {V} Is entries (Ok x) old new read = (v : V) × (read ≡ Ok v) × Is x v × Grows old new (entries v)
 ListsEntries Is entries (Err e) old new read = read ≡ Err (grammar_fault_of e)
 
--- What was read, and where the cursor stands now; or the first fault; or memory was wanting.
+-- What was read, and where the cursor stands now; or the first fault; or memory ran out.
 abbrev pub GivesOrMemory : {X V : Type 0} → (X → V) → Result X PayloadFault → Place → Result (V × Place) Fault → Type 0
 GivesOrMemory view (Ok x) new read = read ≡ Ok (view x, new)
 GivesOrMemory view (Err (At e)) new read = read ≡ Err (grammar_fault_of e)
 GivesOrMemory view (Err Memory) new read = Unit {0}
 
--- What was read to the end; or the first fault; or memory was wanting.
+-- What was read to the end; or the first fault; or memory ran out.
 abbrev pub GivesAllOrMemory : {X V : Type 0} → (X → V) → Result X PayloadFault → Result V Fault → Type 0
 GivesAllOrMemory view (Ok x) read = read ≡ Ok (view x)
 GivesAllOrMemory view (Err (At e)) read = read ≡ Err (grammar_fault_of e)
 GivesAllOrMemory view (Err Memory) read = Unit {0}
 
--- The file was read behind the others, and the cursor stands behind it; or the first fault; or memory was wanting.
+-- The file was read behind the others, and the cursor stands behind it; or the first fault; or memory ran out.
 abbrev pub ListsFile : Result (Unit {0}) PayloadFault → List ListedFile → List ListedFile → Place → Result (ListedFile × Place) Fault → Type 0
 ListsFile (Ok _) old new next read = (file : ListedFile) × (read ≡ Ok (file, next)) × (new ≡ old ++ file ∷ [])
 ListsFile (Err (At e)) old new next read = read ≡ Err (grammar_fault_of e)
 ListsFile (Err Memory) old new next read = Unit {0}
 
--- The files were read to the end; or the first fault; or memory was wanting.
+-- The files were read to the end; or the first fault; or memory ran out.
 abbrev pub ListsFiles : Result (Unit {0}) PayloadFault → List ListedFile → Result (List ListedFile) Fault → Type 0
 ListsFiles (Ok _) files read = read ≡ Ok files
 ListsFiles (Err (At e)) files read = read ≡ Err (grammar_fault_of e)
 ListsFiles (Err Memory) files read = Unit {0}
 
--- The bytes spell this manifest; or this fault is their first; or memory was wanting.
+-- The bytes spell this manifest; or this fault is their first; or memory ran out.
 abbrev pub DecodesManifest : Result ManifestValue PayloadFault → List ℕ → Type 0
 DecodesManifest (Ok manifest) bytes = ManifestSpells manifest bytes
 DecodesManifest (Err (At fault)) bytes = ManifestFaultAt bytes fault.offset (kind_number fault.kind)
 DecodesManifest (Err Memory) bytes = Unit {0}
 
--- The bytes spell this ROA; or this fault is their first; or they spell one and memory was wanting.
+-- The bytes spell this ROA; or this fault is their first; or they spell one and memory ran out.
 abbrev pub Decodes : Result RoaValue PayloadFault → List ℕ → Type 0
 Decodes (Ok roa) bytes = RoaSpells roa bytes
 Decodes (Err (At fault)) bytes = RoaFaultAt bytes fault.offset (kind_number fault.kind)

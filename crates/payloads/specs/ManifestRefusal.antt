@@ -32,7 +32,7 @@ manifest_refusal m = at_index 0 (first_of (value_rules m)) (files_refusal [] m.f
 pub record IsManifest (m : ManifestValue) : Type 0 where
   pub right : manifest_refusal m ≡ None
 
--- The manifest of this value, with which nothing is wrong; or its first fault; or memory was wanting.
+-- The manifest of this value, with which nothing is wrong; or its first fault; or memory ran out.
 abbrev pub MakesManifest : Result ManifestValue ManifestFault → ManifestValue → Type 0
 MakesManifest (Ok manifest) m = (manifest ≡ m) × (manifest_refusal m ≡ None)
 MakesManifest (Err (Value fault)) m = manifest_refusal m ≡ Some (kind_number fault.kind, fault.index)

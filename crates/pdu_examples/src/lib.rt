@@ -1,4 +1,4 @@
-//! Examples of units, which are the tests of the public items of `rtr_pdu`: values of the standards, and each public call once on its happy
+//! Examples of PDUs, which are the tests of the public items of `rtr_pdu`: values of the standards, and each public call once on its happy
 //! path. They stand apart, as a crate with tests is proved twice.
 #![tactic(auto)]
 

@@ -44,7 +44,7 @@ const ERROR_REPORT: [u8; 24] = [
     0x00, 0x00, 0x00, 0x08, 0x00, 0x00, 0x00, 0x00,
 ];
 
-/// The bytes of those of these units that there are in this version.
+/// The bytes of those of these PDUs that there are in this version.
 fn written(alloc: Global, version: Version, units: &[Unit]) -> Result<Vec<u8>, AllocError> {
     let mut bytes = Vec::new(alloc);
     let mut buffer = ArrayVec::new();
@@ -57,7 +57,7 @@ fn written(alloc: Global, version: Version, units: &[Unit]) -> Result<Vec<u8>, A
     Ok(bytes)
 }
 
-/// Whether units of this version are read from these pieces that are written as these bytes.
+/// Whether PDUs of this version are read from these pieces that are written as these bytes.
 fn are_read(
     alloc: Global,
     version: Version,
@@ -106,7 +106,7 @@ pub(crate) fn always_comes_back(
     comes_back_by_bytes(alloc, version, bytes)
 }
 
-/// The fault of the first unit, how many bytes are held then, and how many are left: at a router of this version, or at the cache.
+/// The fault of the first PDU, how many bytes are held then, and how many are left: at a router of this version, or at the cache.
 pub(crate) fn first_fault(
     router: Option<Version>,
     bytes: &[u8],
@@ -234,8 +234,8 @@ fn agreement_within_a_unit(rt: HostRuntime) {
     assert!(rt; matches!(reader.next(&mut again), Next::Fault(UnitFault::Version)));
 }
 
-/// Agreement is told when so many bytes of a notify of another version have come: it counts for this unit where its header has not come
-/// whole, and for the units after it in every case.
+/// Agreement is told when so many bytes of a notify of another version have come: it counts for this PDU where its header has not come
+/// whole, and for the PDUs after it in every case.
 #[test]
 fn agreement_at_each_byte(rt: HostRuntime) {
     let mut notify = SERIAL_NOTIFY;
@@ -303,7 +303,7 @@ impl Read for Broken {
     }
 }
 
-/// The units of a reader in memory, as bytes, to its end or to a fault.
+/// The PDUs of a reader in memory, as bytes, to its end or to a fault.
 fn read_apart<R: Abort>(
     rt: &R,
     alloc: Global,
@@ -376,7 +376,7 @@ fn end_and_failure_of_a_reader(rt: HostRuntime) {
     assert!(rt; ReadFault::ReadFailed.number() == 8);
 }
 
-/// Whether a writer of so many calls gets as many bytes of a unit of 20, and fails where they are fewer.
+/// Whether a writer of so many calls gets as many bytes of a PDU of 20, and fails where they are fewer.
 fn is_written(alloc: Global, unit: &Unit, calls: u8) -> bool {
     if !unit.fits(Version::V1) {
         return false;

@@ -38,7 +38,7 @@ const CACHE_RESET: &str = "00 08 0000 00000008";
 /// Code 0, Corrupt Data, to the Serial Query of another session.
 const REPORT: &str = "00 0a 0000 0000001c 0000000c 00 01 1234 0000000c 00000005 00000000";
 
-/// The units of an answer.
+/// The PDUs of an answer.
 const ANSWER: &str =
     "00 03 0777 00000008 | 00 04 0000 00000014 01 18 18 00 c0000200 0000fbf0 | 00 07 0777 0000000c 00000005";
 
@@ -122,7 +122,7 @@ fn each_unit_is_written(rt: HostRuntime) -> Result<(), Fail> {
     Ok(())
 }
 
-/// The unit with which these bytes begin, in version 0.
+/// The PDU with which these bytes begin, in version 0.
 fn first_of(text: &str) -> Option<Unit> {
     let all = bytes(text);
     let mut piece = all.as_slice();
@@ -132,7 +132,7 @@ fn first_of(text: &str) -> Option<Unit> {
     }
 }
 
-/// Whether these bytes are a unit of version 0 that is written so again.
+/// Whether these bytes are a PDU of version 0 that is written so again.
 fn comes_back(text: &str) -> bool {
     let mut buffer = ArrayVec::new();
     match first_of(text) {
@@ -289,7 +289,7 @@ fn faults_of_each_version(rt: HostRuntime) {
     assert!(rt; fault(None, "00 02 0000") == (Some(UnitFault::Truncated), 4, 0));
 }
 
-/// Checks how many units a cache reads of these, which fault follows them, and the version that is told then.
+/// Checks how many PDUs a cache reads of these, which fault follows them, and the version that is told then.
 fn expect_read<R: Abort>(
     rt: &R,
     text: &str,
@@ -402,7 +402,7 @@ fn notifies_before_agreement(rt: HostRuntime) {
     }
 }
 
-/// How many units a router of version 0 reads of these, and the fault behind them.
+/// How many PDUs a router of version 0 reads of these, and the fault behind them.
 fn read_by_router(alloc: Global, units: &[&str]) -> Result<(usize, Option<UnitFault>), Fail> {
     let mut pieces = Vec::new(alloc);
     pieces.push(wire::all_of(units).as_slice().to_vec(alloc)?)?;
@@ -410,7 +410,7 @@ fn read_by_router(alloc: Global, units: &[&str]) -> Result<(usize, Option<UnitFa
     Ok((read.len(), fault))
 }
 
-/// A router agrees at the first unit that is no Serial Notify.
+/// A router agrees at the first PDU that is no Serial Notify.
 #[test]
 fn a_router_agrees_at_the_first_other_unit(rt: HostRuntime) -> Result<(), Fail> {
     for (units, count, fault) in [

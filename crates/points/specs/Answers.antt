@@ -31,7 +31,7 @@ fault_index (faults.HashDiffers i) = Some i
 fault_index (faults.Roa i fault) = Some i
 fault_index fault = None
 
--- the judgement that a fault tells; want of memory tells none
+-- the judgement that a fault reports; out of memory reports none
 abbrev pub told_by_fault : PointFault → Option OfferJudgement
 told_by_fault (faults.Manifest fault) = Some (BadManifest (grammar_fault_of fault))
 told_by_fault faults.NotYet = Some NotYet
@@ -50,7 +50,7 @@ told_by (Ok offered.New) = Some New
 told_by (Ok offered.Same) = Some Same
 told_by (Err fault) = told_by_fault fault
 
--- Want of memory aside, the answer is New exactly where this holds.
+-- Unless memory runs out, the answer is New exactly where this holds.
 abbrev pub NewExactly : Result Offered PointFault → Type 0 → Type 0
 NewExactly (Ok offered.New) Fact = Fact
 NewExactly (Ok offered.Same) Fact = ¬ Fact

@@ -52,12 +52,12 @@ JudgedInSteps before bytes files now judgement =
 abbrev pub Tells : PointFault → (OfferJudgement → Type 0) → Type 0
 Tells fault Holds = IfSome (told_by_fault fault) Holds
 
--- The manifest that the bytes spell; or their first fault; or memory was wanting.
+-- The manifest that the bytes spell; or their first fault; or memory ran out.
 abbrev pub ReadsManifest : Result ManifestValue PointFault → List ℕ → Type 0
 ReadsManifest (Ok manifest) bytes = ManifestSpells manifest bytes
 ReadsManifest (Err fault) bytes = Tells fault (λ judgement. (first : Fault) × ManifestFaultAt bytes first.offset first.number × (judgement ≡ BadManifest first))
 
--- The ROA that the content spells; or its first fault, at this index; or memory was wanting.
+-- The ROA that the content spells; or its first fault, at this index; or memory ran out.
 abbrev pub ReadsRoa : Result RoaValue PointFault → ℕ → List ℕ → Type 0
 ReadsRoa (Ok roa) i content = RoaSpells roa content
 ReadsRoa (Err fault) i content = Tells fault (λ judgement. (first : Fault) × RoaFaultAt content first.offset first.number × (judgement ≡ BadRoa i first))

@@ -13,11 +13,11 @@ use vrps::{OriginState, Serial};
 pub(crate) enum Step {
     Speaks(Version),
     Connects(u64),
-    /// These units come, one after the other, and all of each is taken.
+    /// These PDUs come, one after the other, and all of each is taken.
     Takes(&'static [&'static str], u64),
-    /// Nothing of this unit is taken.
+    /// Nothing of this PDU is taken.
     Leaves(&'static str, u64),
-    /// These units are to be pulled, and no more.
+    /// These PDUs are to be pulled, and no more.
     Sends(&'static str),
     /// It is asked to put its question.
     Asks(Result<(), AskFault>),
@@ -35,7 +35,7 @@ pub(crate) enum Step {
     Judges(&'static str, u32, OriginState),
 }
 
-/// Whether all of these units is taken.
+/// Whether all of these PDUs is taken.
 fn takes(router: &mut Router, version: Version, units: &[&str], now: u64) -> bool {
     for unit in units {
         let piece = bytes_in(version.number(), unit);
@@ -94,7 +94,7 @@ fn stands(router: &Router, step: &Step) -> bool {
     }
 }
 
-/// Whether a step goes as it has to. Units are spelled in version 1, and come and go as they are in this version.
+/// Whether a step goes as it has to. PDUs are spelled in version 1, and come and go as they are in this version.
 fn goes(router: &mut Router, version: Version, step: &Step) -> bool {
     match step {
         Step::Speaks(version) => router.speak(*version),

@@ -1,4 +1,4 @@
-//! The protocol's table: what each unit does on each link of a router, in each version.
+//! The protocol's table: what each PDU does on each link of a router, in each version.
 use crate::play::{Step, holds, played, sends};
 use crate::scripts::{ASKED as FIRST, ASKED_SINCE as SINCE, HOLDING};
 use example_values::units::{
@@ -36,7 +36,7 @@ const LINKS: [(&[Step], usize); 5] = [
     ),
 ];
 
-/// What a unit does.
+/// What a PDU does.
 #[derive(Clone, Copy)]
 enum Does {
     /// Nothing is sent, and the link is this one. What is committed stays.
@@ -44,7 +44,7 @@ enum Does {
     /// It is asked what changed since, or for all. What is committed stays.
     AsksSince,
     AsksAll,
-    /// An Error Report with code 0 and the unit ends the link. What is committed stays, or is dropped.
+    /// An Error Report with code 0 and the PDU ends the link. What is committed stays, or is dropped.
     Reports,
     Fails,
     /// The link ends by a report of this code that was read. What is committed stays, or is dropped.
@@ -63,7 +63,7 @@ const ANSWERING: Does = Does::Goes(Link::Answering);
 /// A Router Key, which version 1 alone has.
 const ROUTER_KEY: &str = "01 09 0100 00000020 0102030405060708090a0b0c0d0e0f1011121314 0000fbf0";
 
-/// Each unit, and what it does on each link. Spelled in version 1: in version 0 it is the same but for the version bytes and the End of
+/// Each PDU, and what it does on each link. Spelled in version 1: in version 0 it is the same but for the version bytes and the End of
 /// Data, and there are no Router Keys.
 const CELLS: &[(&str, [Does; 5])] = &[
     // A Serial Notify of another session, of later serials, of the serial that is committed, of one before it, and of one too far.
@@ -184,7 +184,7 @@ const CELLS: &[(&str, [Does; 5])] = &[
     ),
 ];
 
-/// Whether a report of code 0 on this unit is to be pulled.
+/// Whether a report of code 0 on this PDU is to be pulled.
 fn reports(router: &mut Router, version: Version, unit: &str) -> bool {
     let mut room = [0u8; 128];
     let unit = bytes_in(version.number(), unit);
@@ -196,7 +196,7 @@ fn reports(router: &mut Router, version: Version, unit: &str) -> bool {
         && router.link() == Link::Ended(End::Reported(error_code::CORRUPT_DATA))
 }
 
-/// Whether this unit does that on a router of this version.
+/// Whether this PDU does that on a router of this version.
 fn is_done(router: &mut Router, version: Version, unit: &str, does: &Does) -> bool {
     match does {
         Does::Goes(link) => router.link() == *link,

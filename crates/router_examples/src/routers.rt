@@ -1,4 +1,4 @@
-//! Routers: the scripts, hostile units, and whole answers in pieces.
+//! Routers: the scripts, hostile PDUs, and whole answers in pieces.
 use crate::play::{holds, play, played, sends};
 use crate::scripts::{ASKED, SCRIPTS, Script};
 use example_values::hex::{Bytes, bytes};

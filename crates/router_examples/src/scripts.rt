@@ -1,4 +1,4 @@
-//! What a router does, as scripts. Units are spelled as they come and go.
+//! What a router does, as scripts. PDUs are spelled as they come and go.
 use crate::play::Step;
 use example_values::units::{
     CACHE_RESET, END_5, END_6, RESET_QUERY, RESPONSE, SERIAL_QUERY, V, V_0, V_WITHDRAWN, W,

@@ -18,7 +18,7 @@ pub fn bad_words<E: Write>(err: &mut E) -> u8
     2
 }
 
-/// Answers want of memory, with the status.
+/// Reports that memory ran out, with the status.
 pub fn out_of_memory<E: Write>(err: &mut E) -> u8
     ensures { result ≡ 4 }
 {
@@ -32,7 +32,7 @@ fn tell<E: Write>(fault: ProgramFault, err: &mut E) {
 }
 
 /// Does all that the program does for these words, and answers its status: 0 done, 1 refused input, 2 the words do not parse,
-/// 3 a file, a socket or an output failed, 4 want of memory.
+/// 3 a file, a socket or an output failed, 4 out of memory.
 pub fn run_words<R: Files + Net + AllocGlobal + Clone + Drop, O: Write, E: Write>(
     rt: &R,
     words: &[String],

@@ -21,7 +21,7 @@ use vrps::VersionLog;
 /// How many descriptors the daemon keeps for itself.
 const OWN_DESCRIPTORS: usize = 16;
 
-/// Tells that memory is wanting, with the status.
+/// Reports that memory ran out, with the status.
 pub fn out_of_memory<E: Write>(err: &mut E) -> u8 {
     let _ = writeln!(err, "rpkirtrd: out of memory");
     4

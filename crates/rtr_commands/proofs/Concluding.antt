@@ -30,7 +30,7 @@ use Rattle.rtr_ends.proofs.HistoryLaws.{fault_some, from_first, sent_in, unit_so
 use Rattle.prefixes.proofs.Basics.{not_both}
 
 module _ (version : Version) where
-  -- units as they are sent are split into themselves
+  -- PDUs as they are sent are split into themselves
   read_sent : (units : List Unit) → AllByRecursion (IsUnitOf version) units → AreRead version false units (sent_all version units)
   unfolding as_read
   read_sent [] h = refl
@@ -42,14 +42,14 @@ module _ (version : Version) where
       none_after : (units : List Unit) → IsPartial version (as_read version (any_after false units) [])
       none_after units = partial_empty version (any_after false units)
 
-  -- the lines tell these units
+  -- the lines tell these PDUs
   same_units : (bytes text : List ℕ) (units : List Unit) → HasLines version bytes text → bytes ≡ sent_all version units → AllByRecursion (IsUnitOf version) units
       → (text ≡ lines_of version units) × AllByRecursion (λ u. is_internal_error u ≡ false) units
   same_units bytes text units h e fit =
       let same = one_split version false bytes h.units units h.rest [] h.fault None h.splits (subst (λ x. Splits version false x units [] None) (sym e) (splits_sent units fit)) in
       (h.lines_are ∙ ap (lines_of version) same.units_are, subst (AllByRecursion (λ u. is_internal_error u ≡ false)) same.units_are h.sound)
 
-  -- what can be sent, as units of the version
+  -- what can be sent, as PDUs of the version
   all_of : (units : List Unit) → AllByRecursion CanBeSent (in_version version units) → AllByRecursion (IsUnitOf version) units
   all_of [] h = tt
   all_of (u ∷ units) h = (h.0, all_of units h.1)
@@ -58,7 +58,7 @@ module _ (version : Version) where
   in_version-append [] vs = refl
   in_version-append (u ∷ us) vs = ap (λ x. record { version = version; unit = u } ∷ x) (in_version-append us vs)
 
--- the units of the replies
+-- the PDUs of the replies
 abbrev replied : Option Version → List ConnMoment → List Unit
 replied agreed [] = []
 replied agreed (m ∷ later) = let now = reply 1 default_intervals agreed m in now.units ++ (if now.goes_on then replied (version_after agreed m) later else [])
@@ -104,7 +104,7 @@ module _ (i : Instance) where
       let spoken : one ≡ version = told_front version one c front h.1.0 bytes tells h.1.1 (fault_some one front fault h.0.4.1) h.0.4.0 in
       with_later version (Fault one fault front) c.version later spoken (all_replied version (conn_after 1 default_intervals c (Fault one fault front)) later h.1.0 (λ some. spoken) h.1.2 own.1)
 
-  -- After an end no unit is read.
+  -- After an end no PDU is read.
   pulls_alone : (c : Connection) (moments : List ConnMoment) (bytes : List ℕ) → c.ended ≡ true → IsHistory 1 default_intervals c moments bytes → AllByRecursion (IsOwn i) moments → AllByRecursion (IsOf i) moments
   pulls_alone c [] bytes e h own = tt
   pulls_alone c (Pull count ∷ later) bytes e h own = (tt, pulls_alone (conn_after 1 default_intervals c (Pull count)) later h.1.0 e h.1.2 own.1)
@@ -116,7 +116,7 @@ module _ (i : Instance) where
   abbrev SoundFrom : Connection → List ConnMoment → Type 0
   SoundFrom c moments = AllByRecursion (λ u. is_internal_error u ≡ false) (if c.ended then [] else replied c.version moments)
 
-  -- behind a unit that was answered
+  -- behind a PDU that was answered
   by_goes : (c : Connection) (m : ConnMoment) (later : List ConnMoment) (rest : List ℕ) (goes_on : Bool) → (conn_after 1 default_intervals c m).ended ≡ not goes_on → IsHistory 1 default_intervals (conn_after 1 default_intervals c m) later rest → AllByRecursion (IsOwn i) later
       → AllByRecursion (λ u. is_internal_error u ≡ false) (if goes_on then replied (version_after c.version m) later else []) → (SoundFrom (conn_after 1 default_intervals c m) later → AllByRecursion (IsOf i) later) → AllByRecursion (IsOf i) later
   by_goes c m later rest true ended h own sound on =
@@ -124,7 +124,7 @@ module _ (i : Instance) where
       (subst (λ b. AllByRecursion (λ u. is_internal_error u ≡ false) (if b then [] else replied (version_after c.version m) later)) (sym ended) sound))
   by_goes c m later rest false ended h own sound on = pulls_alone (conn_after 1 default_intervals c m) later rest ended h own
 
-  -- No Internal Error is replied, so memory was never wanting.
+  -- No Internal Error is replied, so memory never ran out.
   none_wanting : (c : Connection) (moments : List ConnMoment) (bytes : List ℕ) → IsHistory 1 default_intervals c moments bytes → AllByRecursion (IsOwn i) moments → SoundFrom c moments → AllByRecursion (IsOf i) moments
   none_wanting c [] bytes h own sound = tt
   none_wanting c (Pull count ∷ later) bytes h own sound = (tt, none_wanting (conn_after 1 default_intervals c (Pull count)) later h.1.0 h.1.2 own.1 sound)

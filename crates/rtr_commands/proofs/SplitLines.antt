@@ -1,4 +1,4 @@
--- Units that are read one after the other.
+-- PDUs that are read one after the other.
 use Rattle.std.proofs.Common.{◌≡◌, ℕ, ◌-◌, ◌<◌, ◌≤◌, ◌==◌, ◌++◌, Bool, true, false, List, [], ◌∷◌, length, Option, Some, None, arith, length-append, refl, ap, sym, subst, ◌∙◌, append_assoc, append-nil, inl, inr}
 use Rattle.std.proofs.lemmas.Bool.Decides.{nat_tests}
 use Rattle.std.specs.Bool.{⊤}
@@ -56,7 +56,7 @@ pub tests_some : (xs : List ℕ) (b : Bool) → b ≡ (length xs == 0) → b ≡
 tests_some xs b is h = not_zero_of (length xs) (sym is ∙ h)
 
 module _ (version : Version) where
-  -- this holds of the units with which the bytes begin, and the split of what is left goes on behind them
+  -- this holds of the PDUs with which the bytes begin, and the split of what is left goes on behind them
   pub record Read (P : List Unit → Type 0) (bytes left : List ℕ) : Type 0 where
     pub units : List Unit
     pub front : List ℕ
@@ -67,7 +67,7 @@ module _ (version : Version) where
   pub read_none : (P : List Unit → Type 0) (bytes : List ℕ) → P [] → Read P bytes bytes
   read_none P bytes h = record { units = []; front = []; whole = refl; kept = h; goes_on = λ more rest fault splits. splits }
 
-  -- a unit, and then more
+  -- a PDU, and then more
   unit_then : (taken left : List ℕ) (u : Unit) (new : Reader) (t : ReaderTakes version (fresh (Some version) false) left (next.Unit u) taken new) (more : List Unit) (rest : List ℕ) (fault : Option UnitFault) → Splits version false taken more rest fault → Splits version false left (u ∷ more) rest fault
   unit_then taken left u new t more rest fault s = record {
     front = t.taken ++ s.front;
@@ -91,7 +91,7 @@ module _ (version : Version) where
         },
       )
 
-  -- a unit has bytes
+  -- a PDU has bytes
   pub read_less : (left rest : List ℕ) (u : Unit) (old new : Reader) → old ≡ fresh (Some version) false → ReaderTakes (version_with old left) old left (next.Unit u) rest new → length rest < length left
   read_less left rest u old new is takes =
       let t : ReaderTakes version (fresh (Some version) false) left (next.Unit u) rest new = subst (λ x. ReaderTakes (version_with x left) x left (next.Unit u) rest new) is takes in
@@ -100,7 +100,7 @@ module _ (version : Version) where
   pub read_most : (P : List Unit → Type 0) (bytes left : List ℕ) → Read P bytes left → length left ≤ length bytes
   read_most P bytes left r = omega (arith, ap length r.whole, length-append r.front left)
 
-  -- what is left shows a fault, or is the beginning of a unit
+  -- what is left shows a fault, or is the beginning of a PDU
   pub record Ends (P : List Unit → Type 0) (bytes left : List ℕ) (fault : Option UnitFault) : Type 0 where
     pub units : List Unit
     pub splits : Splits version false bytes units left fault
@@ -132,13 +132,13 @@ module _ (version : Version) where
   pub held_is : (left rest : List ℕ) (old new : Reader) → old ≡ fresh (Some version) false → ReaderTakes (version_with old left) old left next.NeedMore rest new → left ≡ new.held
   held_is left rest old new is takes = (all_held left rest new (subst (λ x. ReaderTakes (version_with x left) x left next.NeedMore rest new) is takes)).1
 
-  -- whatever it is, but no unit
+  -- whatever it is, but no PDU
   pub ends_there : (P : List Unit → Type 0) (bytes left rest : List ℕ) (answer : Next) (old new : Reader) → ((u : Unit) → answer ≡ next.Unit u → ⊥) → old ≡ fresh (Some version) false → ReaderTakes (version_with old left) old left answer rest new → Read P bytes left → (fault : Option UnitFault) × Ends P bytes left fault
   ends_there P bytes left rest (next.Unit u) old new other is takes r = absurd (other u refl)
   ends_there P bytes left rest (next.Fault fault) old new other is takes r = (Some fault, ends_fault P bytes left rest fault old new is takes r)
   ends_there P bytes left rest next.NeedMore old new other is takes r = (None, ends_partly P bytes left rest old new is takes r)
 
-  -- what the beginning of a unit is that follows the units of the bytes
+  -- what the beginning of a PDU is that follows the PDUs of the bytes
   pub record Leaves (bytes : List ℕ) (left : Option ℕ) : Type 0 where
     pub units : List Unit
     pub rest : List ℕ
@@ -161,7 +161,7 @@ module _ (version : Version) where
       let e = ends_partly Any bytes left rest old new is takes r in
       record { units = e.units; rest = left; fault = None; splits = e.splits; left_is = sym (offset_some (length bytes) left (subst (λ x. 0 < length x) (sym (held_is left rest old new is takes)) some)) }
 
-  -- the lines of units, none of which is an Internal Error
+  -- the lines of PDUs, none of which is an Internal Error
   pub record Lined (text : List ℕ) (units : List Unit) : Type 0 where
     pub sound : AllByRecursion (λ u. is_internal_error u ≡ false) units
     pub lines_are : text ≡ lines_of version units
@@ -175,7 +175,7 @@ module _ (version : Version) where
   pub has_lines : (bytes left text : List ℕ) (fault : Option UnitFault) → Ends (Lined text) bytes left fault → HasLines version bytes text
   has_lines bytes left text fault e = record { units = e.units; rest = left; fault = fault; splits = e.splits; sound = e.kept.sound; lines_are = e.kept.lines_are }
 
-  -- A unit that such a reader gives is one of its version.
+  -- A PDU that such a reader gives is one of its version.
   pub given_fits : (left : List ℕ) (u : Unit) (answer : Next) (old : Reader) → old ≡ fresh (Some version) false → answer ≡ next.Unit u → FitsAnswer (version_with old left) answer → fits version u ≡ true
   given_fits left u answer old is e h = subst (λ a. FitsAnswer version a) e (subst (λ x. FitsAnswer (version_with x left) answer) is h)
 

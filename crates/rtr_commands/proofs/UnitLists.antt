@@ -1,4 +1,4 @@
--- Units that are told one after the other.
+-- PDUs that are told one after the other.
 use Rattle.std.proofs.Common.{◌≡◌, ℕ, ◌-◌, ◌++◌, false, List, [], ◌∷◌, length, Option, Some, None, Result, Ok, Err, ◌<◌, ◌≤◌, arith, length-append, refl, ap, sym, subst, ◌∙◌, append_assoc, append-nil}
 use Rattle.std.specs.List.{flat_map}
 use Rattle.std.specs.Io.KnownBytes.{Appends}
@@ -24,7 +24,7 @@ use Rattle.rtr_commands.specs.declared.unit_lines.UnitsEnd.TheVariants.{Whole, R
 pub of_first : (bytes : List ℕ) (v : Version) (before left : Option (List ℕ)) (calls now : ℕ) (answer : Result (Option Unit) ReadFault) → v ≡ first_version bytes → ReadsUnit v before left calls now answer → ReadsUnit (first_version bytes) before left calls now answer
 of_first bytes v before left calls now answer e r = subst (λ (x : Version). ReadsUnit x before left calls now answer) e r
 
--- units with which the bytes begin are printed, and the split of what is left goes on behind them
+-- PDUs with which the bytes begin are printed, and the split of what is left goes on behind them
 pub record Told (bytes left : List ℕ) (old now : Option (List ℕ)) : Type 0 where
   pub units : List Unit
   pub front : List ℕ
@@ -35,7 +35,7 @@ pub record Told (bytes left : List ℕ) (old now : Option (List ℕ)) : Type 0 w
 pub told_none : (bytes : List ℕ) (a : Option (List ℕ)) → Told bytes bytes a a
 told_none bytes a = record { units = []; front = []; whole = refl; printed = Appends-nil a; goes_on = λ more rest fault splits. splits }
 
--- one unit more
+-- one PDU more
 pub told_more : (bytes left read next : List ℕ) (a b c : Option (List ℕ)) (u : Unit) (found : Option Unit) → Told bytes left a b → left ≡ read ++ next → found ≡ Some u → ReadAnswers (first_version bytes) read (Some next) (Ok found) → Appends b c (unit_line u)
     → Told bytes next a c
 told_more bytes left read next a b c u found t parts e answers line = record {
@@ -51,7 +51,7 @@ told_more bytes left read next a b c u found t parts e answers line = record {
       (subst (λ (x : List ℕ). Splits (first_version bytes) false x (u ∷ more) rest fault) (sym parts) (tells_first (first_version bytes) read next (Ok (Some u)) (subst (λ (x : Option Unit). ReadAnswers (first_version bytes) read (Some next) (Ok x)) e answers) more rest fault splits)));
 }
 
--- a unit has bytes
+-- a PDU has bytes
 pub told_less : (bytes left read next : List ℕ) (u : Unit) (found : Option Unit) → left ≡ read ++ next → found ≡ Some u → ReadAnswers (first_version bytes) read (Some next) (Ok found) → length next < length left
 told_less bytes left read next u found parts e answers =
     let is : IsRead (first_version bytes) false read u = subst (λ (x : Option Unit). ReadAnswers (first_version bytes) read (Some next) (Ok x)) e answers in
@@ -61,7 +61,7 @@ told_less bytes left read next u found parts e answers =
 pub told_most : (bytes left : List ℕ) (a b : Option (List ℕ)) → Told bytes left a b → length left ≤ length bytes
 told_most bytes left a b t = omega (arith, ap length t.whole, length-append t.front left)
 
--- the bytes end behind the units
+-- the bytes end behind the PDUs
 pub told_whole : (bytes left read next : List ℕ) (a b : Option (List ℕ)) (found : Option Unit) → Told bytes left a b → left ≡ read ++ next → found ≡ None → ReadAnswers (first_version bytes) read (Some next) (Ok found) → TellsUnits bytes a b Whole
 told_whole bytes left read next a b found t parts e answers =
     let none : left ≡ [] = parts ∙ tells_first (first_version bytes) read next (Ok None) (subst (λ (x : Option Unit). ReadAnswers (first_version bytes) read (Some next) (Ok x)) e answers) in
@@ -75,7 +75,7 @@ told_whole bytes left read next a b found t parts e answers =
       follows = refl;
     }
 
--- what is left shows a fault, or is the beginning of a unit
+-- what is left shows a fault, or is the beginning of a PDU
 pub told_fault : (bytes left read next : List ℕ) (a b : Option (List ℕ)) (fault : UnitFault) (found : ReadFault) → Told bytes left a b → left ≡ read ++ next → found ≡ read_faults.Fault fault → ReadAnswers (first_version bytes) read (Some next) (Err found)
     → TellsUnits bytes a b (Refused (fault_number fault) (length bytes - length left))
 told_fault bytes left read next a b fault found t parts e answers =

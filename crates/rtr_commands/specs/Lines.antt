@@ -1,4 +1,4 @@
--- What the program prints of units.
+-- What the program prints of PDUs.
 use Rattle.std.specs.Prelude.{ℕ, List, [], ◌∷◌, ◌++◌, codes}
 use Rattle.std.specs.List.{flat_map}
 use Rattle.hex.specs.Hex.{encode_lower}
@@ -8,7 +8,7 @@ use Rattle.rtr_pdu.specs.declared.unit.Unit.{Unit}
 use Rattle.rtr_pdu.specs.declared.version.Version.{Version}
 use Rattle.rtr_ends.specs.Answer.{sent}
 
--- a unit of a version as a line: its bytes in lower-case hexadecimal
+-- a PDU of a version as a line: its bytes in lower-case hexadecimal
 abbrev pub line_of : Version → Unit → List ℕ
 line_of version u = encode_lower (sent version u) ++ codes "\n"
 

@@ -67,7 +67,7 @@ abbrev pub is_internal_error : Unit → Bool
 is_internal_error (ErrorReport r) = r.code == INTERNAL_ERROR
 is_internal_error u = false
 
--- The lines of the units of a version by which the bytes are split, none of which is an Internal Error.
+-- The lines of the PDUs of a version by which the bytes are split, none of which is an Internal Error.
 pub record HasLines (version : Version) (bytes : List ℕ) (lines : List ℕ) : Type 0 where
   pub units : List Unit
   pub rest : List ℕ

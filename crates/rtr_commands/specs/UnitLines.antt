@@ -1,4 +1,4 @@
--- What the program prints of units that are read.
+-- What the program prints of PDUs that are read.
 use Rattle.std.specs.Prelude.{◌≡◌, ℕ, ◌-◌, true, false, List, [], ◌∷◌, ◌++◌, length, codes, Option, Some}
 use Rattle.std.specs.List.{flat_map}
 use Rattle.std.specs.Fmt.{decimal}
@@ -32,7 +32,7 @@ payload_text v = codes " " ++ written_text v.prefix ++ number_text v.max_len ++ 
 abbrev pub report_line : ℕ → List ℕ → List ℕ
 report_line code copy = codes "error-report " ++ decimal code ++ codes " " ++ copy_text copy ++ codes "\n"
 
--- the name of a unit, and its fields in their order
+-- the name of a PDU, and its fields in their order
 unfoldable pub unit_line : Unit → List ℕ
 unit_line (SerialNotify session serial) = codes "serial-notify" ++ number_text session ++ number_text serial ++ codes "\n"
 unit_line (SerialQuery session serial) = codes "serial-query" ++ number_text session ++ number_text serial ++ codes "\n"
@@ -47,12 +47,12 @@ unit_line CacheReset = codes "cache-reset\n"
 unit_line (RouterKey key) = codes "router-key\n"
 unit_line (ErrorReport r) = report_line r.code r.copy
 
--- What follows the units: nothing, or at this offset what shows the fault of this number, that the input ends within a unit included
+-- What follows the PDUs: nothing, or at this offset what shows the fault of this number, that the input ends within a PDU included
 abbrev pub FollowsUnits : ℕ → List ℕ → Option UnitFault → UnitsEnd → Type 0
 FollowsUnits offset rest fault Whole = rest ≡ []
 FollowsUnits offset rest fault (Refused number at) = (at ≡ offset) × (shown : UnitFault) × (end_fault rest fault ≡ Some shown) × (number ≡ fault_number shown)
 
--- The units by which the bytes are split, in the version of the first header, are printed, a line each, and this follows them.
+-- The PDUs by which the bytes are split, in the version of the first header, are printed, a line each, and this follows them.
 pub record TellsUnits (bytes : List ℕ) (old new : Option (List ℕ)) (end : UnitsEnd) : Type 0 where
   pub units : List Unit
   pub rest : List ℕ

@@ -1,4 +1,4 @@
-//! The answers of a cache, a unit a line.
+//! The answers of a cache, a PDU a line.
 ghost use Rattle.rtr_pdu.specs.Unit.{fits};
 ghost use Rattle.std.specs.Prelude.{◌≡◌, true, ℕ, [], ◌++◌, List, codes, string_bytes, IfOk, OnOk, IsErrOf, Ok};
 ghost use Rattle.hex.specs.Hex.{decode_of, encode_lower};
@@ -21,9 +21,9 @@ use vrps::{Serial, VersionLog, VrpSet};
 /// The answers of a cache to the bytes that came on a connection.
 #[derive(Debug, Drop, PartialEq, Eq)]
 pub struct Answered {
-    /// A line for each unit of the replies: its bytes in lower-case hexadecimal.
+    /// A line for each PDU of the replies: its bytes in lower-case hexadecimal.
     pub lines: String,
-    /// The offset in bytes of the beginning of a unit that remains on a connection that has not ended.
+    /// The offset in bytes of the beginning of a PDU that remains on a connection that has not ended.
     pub left: Option<usize>,
 }
 
@@ -113,7 +113,7 @@ fn exchange(
     Ok(())
 }
 
-/// Whether the unit is an Error Report of code 1.
+/// Whether the PDU is an Error Report of code 1.
 fn is_internal_error(unit: &Unit) -> bool
     ensures { result ≡ is_internal_error unit.now }
 {
@@ -123,7 +123,7 @@ fn is_internal_error(unit: &Unit) -> bool
     }
 }
 
-/// Appends the line of the unit in a buffer.
+/// Appends the line of the PDU in a buffer.
 fn push_bytes(lines: &mut String, buffer: &UnitBuffer) -> Result<(), AllocError>
     ensures { OnOk result (string_bytes lines.new ≡ string_bytes lines.old ++ (encode_lower buffer.now.items ++ codes "\n")) }
 {
@@ -131,7 +131,7 @@ fn push_bytes(lines: &mut String, buffer: &UnitBuffer) -> Result<(), AllocError>
     lines.push('\n')
 }
 
-/// Appends the line of a unit of this version.
+/// Appends the line of a PDU of this version.
 fn push_line(lines: &mut String, version: Version, unit: &Unit) -> Result<(), AllocError>
     requires { fits version unit.now ≡ true }
     ensures { OnOk result (string_bytes lines.new ≡ string_bytes lines.old ++ line_of version unit.now) }
@@ -155,11 +155,11 @@ fn push_prefix(
     push_bytes(lines, buffer)
 }
 
-/// The lines of the units of this version with which the bytes begin. An Internal Error among them is want of memory at the cache.
+/// The lines of the PDUs of this version with which the bytes begin. An Internal Error among them says that the cache ran out of memory.
 fn unit_lines(alloc: Global, version: Version, bytes: &[u8]) -> Result<String, AllocError>
     ensures { IfOk result (λ lines. HasLines version bytes.now (string_bytes lines)) }
 {
-    // (a byte has two digits, and a unit has eight bytes or more for each newline)
+    // (a byte has two digits, and a PDU has eight bytes or more for each newline)
     let mut lines = String::with_capacity(alloc, bytes.len().saturating_mul(17) / 8)?;
     let mut buffer = UnitBuffer::new();
     let mut reader = UnitReader::of_version(version);
@@ -181,7 +181,7 @@ fn unit_lines(alloc: Global, version: Version, bytes: &[u8]) -> Result<String, A
     }
 }
 
-/// Where the beginning of a unit stands with which the bytes end. They are of the version that the first header tells.
+/// Where the beginning of a PDU stands with which the bytes end. They are of the version that the first header tells.
 fn cut_off(bytes: &[u8]) -> Option<usize>
     ensures { LeavesOff bytes.now result }
 {
@@ -219,9 +219,9 @@ fn answers_of(
     Ok(Answered { lines, left })
 }
 
-/// The answers, a unit a line, of a cache that has published this set alone, under this serial, to the bytes that come on a connection.
+/// The answers, a PDU a line, of a cache that has published this set alone, under this serial, to the bytes that come on a connection.
 /// Its session is `session` in version 1 of the protocol and `session0` in version 0; it answers in the version of the first header
-/// (RFC 8210 section 7). The bytes are given in hexadecimal. `BadHex`: they are not. `Memory`: memory was wanting, for an answer or for
+/// (RFC 8210 section 7). The bytes are given in hexadecimal. `BadHex`: they are not. `Memory`: memory ran out, for an answer or for
 /// its lines.
 pub fn answer_lines(
     alloc: Global,

@@ -31,7 +31,7 @@ pub fn units<R: Files + AllocGlobal, O: Write>(
     Ok(status)
 }
 
-/// Tells what follows units, with the status.
+/// Tells what follows PDUs, with the status.
 fn tell_end<O: Write>(end: UnitsEnd, out: &mut O) -> Result<u8, ProgramFault>
     ensures { IfOk result (λ s. s ≤ 1) }
 {
@@ -147,7 +147,7 @@ pub fn both_ends<R: Files + Net + AllocGlobal, O: Write>(
     Ok(0)
 }
 
-/// Tells the answers of a cache, and where the beginning of a unit remains, with the status.
+/// Tells the answers of a cache, and where the beginning of a PDU remains, with the status.
 fn tell_answers<O: Write>(answered: &Answered, out: &mut O) -> Result<u8, ProgramFault>
     ensures { IfOk result (λ s. s ≤ 1) }
 {

@@ -1,4 +1,4 @@
-//! Units, told in lines.
+//! PDUs, told in lines.
 ghost use Rattle.std.specs.Prelude.{◌≡◌, codes, IfOk, OnOk};
 ghost use Rattle.std.specs.Io.KnownBytes.{Appends};
 ghost use Rattle.rtr_commands.specs.UnitLines.{TellsUnits, copy_text, report_line, unit_line};
@@ -8,12 +8,12 @@ use prefixes::Vrp;
 use rtr_pdu::{Counted, ReadFault, Unit, Version, read_unit_of};
 use std::io::{self, ErrorKind, Write};
 
-/// What follows the units with which an input begins.
+/// What follows the PDUs with which an input begins.
 #[derive(Clone, Copy, Debug, PartialEq, Eq)]
 pub enum UnitsEnd {
     /// Nothing.
     Whole,
-    /// Bytes that are no unit, or the beginning of one: the number of the fault, 1 to 7, and the offset in bytes of the unit.
+    /// Bytes that are no PDU, or the beginning of one: the number of the fault, 1 to 7, and the offset in bytes of the PDU.
     Refused { number: u8, offset: usize },
 }
 
@@ -52,7 +52,7 @@ fn print_report<W: Write>(code: u16, copy: &[u8], out: &mut W) -> io::Result<()>
     writeln!(out)
 }
 
-/// Prints a unit as a line.
+/// Prints a PDU as a line.
 #[tactic(auto, unfolding(crate::specs::UnitLines::unit_line))]
 pub fn print_unit<W: Write>(unit: &Unit, out: &mut W) -> io::Result<()>
     ensures { OnOk result (Appends (W.contents out.old) (W.contents out.new) (unit_line unit.now)) }
@@ -82,7 +82,7 @@ pub fn print_unit<W: Write>(unit: &Unit, out: &mut W) -> io::Result<()>
     }
 }
 
-/// Prints the units with which the bytes begin, a line each, as a cache reads them (RFC 6810 section 5, RFC 8210 section 5), and tells
+/// Prints the PDUs with which the bytes begin, a line each, as a cache reads them (RFC 6810 section 5, RFC 8210 section 5), and tells
 /// what follows them. The first header tells the version of all; another version later is a fault.
 pub fn print_units<W: Write>(bytes: &[u8], out: &mut W) -> io::Result<UnitsEnd>
     ensures { IfOk result (λ end. TellsUnits bytes.now (W.contents out.old) (W.contents out.new) end) }

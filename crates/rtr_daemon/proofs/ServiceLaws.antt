@@ -187,7 +187,7 @@ issued_on holds remaining contents old new now h p is =
     let on = h p is.server in
     (on.0, on.1, record { server = on.2; newest = λ e. (now, on.3) })
 
--- Memory was wanting, and nothing was published.
+-- Memory ran out, and nothing was published.
 pub unissued_on : {S T : Type 0} (holds : ℕ → Instance → S → Type 0) (remaining contents : T → Option (List ℕ)) (old new : Service S T) (set : VrpSet) (error : AllocError) → new.sources ≡ old.sources → new.is_owed ≡ old.is_owed
     → ((p : Past) → ShowsServer holds remaining contents p old.server → PublishesTo holds remaining contents p set (Err error) old.server new.server) → GoesOn holds remaining contents old new
 unissued_on holds remaining contents old new set error same owed publishes =

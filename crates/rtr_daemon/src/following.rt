@@ -97,7 +97,7 @@ impl Followed {
         self.taken == Some(stamp)
     }
 
-    /// Whether it would be refused again as it looks now. For want of memory it may be taken the next time.
+    /// Whether it would be refused again as it looks now. Where memory ran out it may be taken the next time.
     fn stays_refused(&self, stamp: Stamp) -> bool {
         match &self.refused {
             Some(refused) => refused.stamp == Some(stamp) && !refused.why.is_memory(),

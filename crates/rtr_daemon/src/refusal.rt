@@ -23,7 +23,7 @@ pub enum Refusal {
     /// Its publication point does not take it.
     #[error("{0}")]
     Point(PointFault),
-    /// All sources together have too much, or memory was wanting for them.
+    /// All sources together have too much, or memory ran out for them.
     #[error("{0}")]
     Set(SetFault),
     /// It changed again and again while it was read.
@@ -35,12 +35,12 @@ pub enum Refusal {
 }
 
 impl Refusal {
-    /// Whether memory was wanting.
+    /// Whether memory ran out.
     pub(crate) fn is_memory(&self) -> bool {
         self.status() == 4
     }
 
-    /// The status with which a program ends for it: 3 where a file cannot be read, 4 where memory was wanting, and else 1.
+    /// The status with which a program ends for it: 3 where a file cannot be read, 4 where memory ran out, and else 1.
     pub fn status(&self) -> u8 {
         match self {
             Refusal::Device(error) if error.kind() == io::ErrorKind::OutOfMemory => 4,

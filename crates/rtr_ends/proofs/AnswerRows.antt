@@ -1,4 +1,4 @@
--- What a cache answers to each unit, worked out.
+-- What a cache answers to each PDU, worked out.
 use Rattle.std.proofs.Common.{◌≡◌, ℕ, Bool, true, false, ◌==◌, [], ◌∷◌, ◌++◌, drop, Some, None, if◌then◌else◌, refl}
 use Rattle.prefixes.specs.Payload.{Payload}
 use Rattle.vrps.specs.Instance.{Instance, versions}
@@ -14,7 +14,7 @@ use Rattle.rtr_ends.specs.Connection.{agreed_version, fault_code, takes_memory}
 use Rattle.rtr_ends.specs.Timing.{Intervals, default_intervals}
 use Rattle.rtr_ends.proofs.WholeAnswerRows.{cache, serial_bytes}
 
--- A unit that only a cache sends, and a Router Key, in each version: Invalid Request, with a copy of it, and the end
+-- A PDU that only a cache sends, and a Router Key, in each version: Invalid Request, with a copy of it, and the end
 abbrev Rejects : Version → Instance → ℕ → Intervals → Unit → Type 0
 Rejects version i keep t u = answer version i keep t u ≡ and_end (report 3 (sent version u) ∷ [])
 
@@ -62,7 +62,7 @@ codes = ((refl, refl, refl), (refl, refl, refl), (refl, refl, refl), (refl, refl
 codes_agreed : (version : Version) → (agreed_version false version ≡ None) × (agreed_version true version ≡ Some version)
 codes_agreed version = (refl, refl)
 
--- Memory is never wanting where nothing is published, nor for a unit that is no Serial Query.
+-- Memory never runs out where nothing is published, nor for a PDU that is no Serial Query.
 takes_none : (version : Version) (i : Instance) (start serial : ℕ) → (takes_memory version i ResetQuery ≡ false) × (takes_memory version (cache start []) (SerialQuery 0x1234 serial) ≡ false)
 takes_none V0 i start serial = (refl, refl)
 takes_none V1 i start serial = (refl, refl)

@@ -1,4 +1,4 @@
--- What a cache sends are units that can be sent.
+-- What a cache sends are PDUs that can be sent.
 use Rattle.std.specs.Prelude.{◌≡◌, ℕ, suc, zero, ◌+◌, ◌*◌, ◌/◌, ◌%◌, ◌<◌, ◌≤◌, ◌^◌, ◌==◌, Bool, true, false, List, [], ◌∷◌, ◌++◌, map, length, take, min, Option, Some, None, if◌then◌else◌, refl}
 use Rattle.std.proofs.Common.{subst, arith}
 use Rattle.std.specs.Int.{byte_at}
@@ -151,7 +151,7 @@ versions_fit : (start : ℕ) (sets : List VrpSet) → AllByRecursion IsVrpSet se
 versions_fit start [] h = tt
 versions_fit start (set ∷ older) h = ((serial_low start (length older), h.0), versions_fit start older h.1)
 
--- The answer to a unit that was read
+-- The answer to a PDU that was read
 session_low : (version : Version) (i : Instance) → IsInstance i → session_in version i < 2 ^ 16
 session_low V0 i is = is.session0
 session_low V1 i is = is.session
@@ -238,7 +238,7 @@ going_fit : (b : Bool) (us : List Sent) → AllByRecursion CanBeSent us → AllB
 going_fit true us h = h
 going_fit false us h = tt
 
--- The replies of a history are units that can be sent.
+-- The replies of a history are PDUs that can be sent.
 pub replies_fit : (keep : ℕ) (c : Connection) (moments : List ConnMoment) (bytes : List ℕ) → IsHistory keep default_intervals c moments bytes → AreBytes bytes → AllByRecursion CanBeSent (replies_from keep default_intervals c.version moments)
 replies_fit keep c [] bytes h each = tt
 replies_fit keep c (m ∷ later) bytes h each =

@@ -73,7 +73,7 @@ notified_meanwhile : (serving 2 default_intervals with_v (Takes None (drop 3 res
 unfolding conn_takes conn_byte conn_notified judge as_read
 notified_meanwhile = refl
 
--- Want of memory where an answer takes memory, and where none does
+-- Out of memory where an answer takes memory, and where none does
 wants_memory : taken with_v (Some 0) (sent V1 (SerialQuery 0x1234 5)) ≡ record {
   machine = record {
     conn = record { state = record { cache = with_v; version = Some V1; ended = true; due = sent V1 (report 1 []); notified = false; seen = [] }; held = [] };
@@ -137,7 +137,7 @@ unfolding conn_takes conn_byte conn_notified judge as_read
 notified_in_unit = refl
 
 -- So it is in the definition: before any header a notify of version 0 is no moment, and behind one of version 0 none of version 1 is.
--- What had come of a unit does not become less.
+-- What had come of a PDU does not become less.
 not_yet_of_0 : (coming : List ℕ) → IsConnMoment (opened both) coming (Notify V0 both []) → ⊥
 not_yet_of_0 coming h = let e : V0 ≡ V1 = h.0 in cc
 

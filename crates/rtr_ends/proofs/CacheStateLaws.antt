@@ -295,7 +295,7 @@ next_free holds m old n free r shows is high takes =
       t.1.1,
     )
 
--- where memory is wanting
+-- where memory runs out
 pub opens_none : {S : Type 0} (holds : ℕ → Instance → S → Type 0) (m : CacheState) (old new : Cache S) (r : Result Number AllocError) → IsErr r → ShowsCache holds m old → new.timing ≡ old.timing → new.session0 ≡ old.session0 → new.store ≡ old.store → new.peers.items ≡ old.peers.items
     → AreFree (taken_numbers old.peers.items) new.free → Opens holds m r new
 opens_none holds m old new (Ok conn) is shows same_timing same_session0 same_store items numbers = absurd (let k : false ≡ true = is in cc)

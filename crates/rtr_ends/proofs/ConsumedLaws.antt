@@ -95,7 +95,7 @@ clocked_told now r = by_clock (is_over r.version (later r.now now))
     by_clock true = let t = expired_told r.link told_r in record { held = t.held; reads = t.reads; closed = t.closed; out = t.out }
     by_clock false = told_same r told_r refl refl refl
 
--- what is noted of no unit, no fault and no connection
+-- what is noted of no PDU, no fault and no connection
 record Quiet (items later : List Item) : Type 0 where
   pub units : units_read_in later ≡ units_read_in items
   pub fault : fault_in later ≡ fault_in items

@@ -1,4 +1,4 @@
--- The transcript of a router has the split of what it consumed, after each unit and fault.
+-- The transcript of a router has the split of what it consumed, after each PDU and fault.
 use Rattle.std.specs.Prelude.{◌≡◌, ℕ, ◌<◌, Bool, true, false, not, ◌&&◌, ◌==◌, List, [], ◌∷◌, ◌++◌, Option, Some, None, if◌then◌else◌, refl}
 use Rattle.std.proofs.Common.{sym, ap, ◌∙◌, subst, subst₂, append_assoc}
 use Rattle.std.proofs.Math.Bool.{and-false, and-true}
@@ -88,7 +88,7 @@ asked_leaves f Idle out items leaves = refl
 asked_leaves f (Answering a) out items leaves = refl
 asked_leaves f (Ended end) out items leaves = refl
 
--- A unit agrees where it is no notify.
+-- A PDU agrees where it is no notify.
 agreed_more : (u : Unit) (items : List Item) → (not (has_agreed items) && is_notify u) ≡ not (has_agreed (Reads u ∷ items))
 agreed_more (SerialNotify session serial) items = and-true (not (has_agreed items))
 agreed_more (SerialQuery session serial) items = and-false (not (has_agreed items))
@@ -101,7 +101,7 @@ agreed_more CacheReset items = and-false (not (has_agreed items))
 agreed_more (RouterKey key) items = and-false (not (has_agreed items))
 agreed_more (ErrorReport e) items = and-false (not (has_agreed items))
 
--- No unit changes what is held, and the version of the next connection.
+-- No PDU changes what is held, and the version of the next connection.
 abbrev pub SameHand : Router → Router → Type 0
 SameHand r n = (n.held ≡ r.held) × (n.speaks ≡ r.speaks)
 
@@ -164,7 +164,7 @@ unit_held (Answering a) CacheReset r = (refl, refl)
 more_whole : (bytes front held : List ℕ) (b : ℕ) → bytes ≡ front ++ held → bytes ++ b ∷ [] ≡ front ++ (held ++ b ∷ [])
 more_whole bytes front held b e = ap (λ x. x ++ b ∷ []) e ∙ append_assoc front held (b ∷ [])
 
--- These bytes were read as a unit, or memory for it was wanting.
+-- These bytes were read as a PDU, or memory for it ran out.
 record UnitRead (u : Unit) (items : List Item) (bytes : List ℕ) : Type 0 where
   pub read : AreRead (spoken items) true (units_read_in items ++ u ∷ []) bytes
   pub sound : fault_in items ≡ None
@@ -182,7 +182,7 @@ unit_split u items later bytes h us fs vs = (
       (record { front = bytes; whole = sym (append-nil bytes); read = later_read u items later bytes us vs h.read; after = partial_empty (spoken later) (any_after true (units_read_in later)) }),
 )
 
--- the router after a unit
+-- the router after a PDU
 read_live : (r n : Router) (u : Unit) (items later : List Item) (bytes : List ℕ) → n.held ≡ [] → UnitRead u items bytes → any_after true (units_read_in items) ≡ not (has_agreed items)
     → units_read_in later ≡ units_read_in items ++ u ∷ [] → fault_in later ≡ fault_in items → has_agreed later ≡ has_agreed (Reads u ∷ items) → spoken later ≡ spoken items → Live n later bytes
 read_live r n u items later bytes none h any us fs agreed vs = record {

@@ -41,7 +41,7 @@ one_written version units given out now filled i end next u start f less is now_
           ∙ ap (λ x. x ++ drop next given) (append_assoc (take filled given) (sent_all version (take i units)) (sent version u) ∙ ap (λ x. take filled given ++ x) (sym more));
     }
 
--- further units behind them change nothing
+-- further PDUs behind them change nothing
 pub of_longer : (version : Version) (units more : List Unit) (out : List ℕ) (filled count result : ℕ) (now : List ℕ) → FillsWith version units out filled count result now → FillsWith version (units ++ more) out filled count result now
 of_longer version units more out filled count result now f =
     let same : take count (units ++ more) ≡ take count units = take-append-le count units more f.within in
@@ -136,7 +136,7 @@ module _ (start : Sender) (given : List ℕ) (s : Sender) (out : List ℕ) (fill
   pub fills_more : IsFilled start given new now result
   fills_more = by_answer s.answer new.answer refl refl g.answer
 
-  -- and no more units are left than were
+  -- and no more PDUs are left than were
   fewer : (a b : Option AnswerCursor) → s.answer ≡ a → new.answer ≡ b → FillsAnswer s.version a out filled result now b → length (left new) ≤ length (left s)
   fewer None b was is h = omega (arith, ap length (left_is None was), ap length (left_now None (is ∙ h.2)))
   fewer (Some old) b was is h =

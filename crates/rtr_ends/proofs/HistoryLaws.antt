@@ -80,7 +80,7 @@ pub read_plainly : (version : Version) (bytes : List ℕ) → as_read version fa
 unfolding as_read
 read_plainly version bytes = refl
 
--- After an end nothing comes and no unit is read.
+-- After an end nothing comes and no PDU is read.
 record Nothing (moments : List ConnMoment) (bytes : List ℕ) : Type 0 where
   pub bytes_are : bytes ≡ []
   pub units_are : units_of moments ≡ []
@@ -101,11 +101,11 @@ quiet keep t c (Notify version cache held ∷ later) bytes e h = absurd (not_bot
 abbrev HasSplit : Version → List ℕ → List Unit → Type 0
 HasSplit version bytes units = (rest : List ℕ) × (fault : Option UnitFault) × Splits version false bytes units rest fault
 
--- Nothing but the beginning of a unit
+-- Nothing but the beginning of a PDU
 only_rest : (version : Version) (bytes : List ℕ) → IsPartial version bytes → HasSplit version bytes []
 only_rest version bytes h = (bytes, None, record { front = []; whole = refl; read = refl; after = subst (λ x. IsPartial version x) (sym (read_plainly version bytes)) h })
 
--- a unit, and then more
+-- a PDU, and then more
 with_unit : (version : Version) (unit : Unit) (front rest bytes : List ℕ) (units : List Unit) → bytes ≡ front ++ rest → Reads version unit front → HasSplit version rest units → HasSplit version bytes (unit ∷ units)
 with_unit version unit front rest bytes units e r (left, fault, s) = (
   left,

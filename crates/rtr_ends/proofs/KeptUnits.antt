@@ -1,4 +1,4 @@
--- What a router keeps after each unit is what its transcript keeps.
+-- What a router keeps after each PDU is what its transcript keeps.
 use Rattle.std.specs.Prelude.{◌≡◌, ℕ, Bool, true, false, not, ◌&&◌, ◌||◌, ◌==◌, nat_lt, List, [], ◌∷◌, ◌++◌, Option, Some, None, is_some, if◌then◌else◌, refl}
 use Rattle.std.proofs.Common.{sym, ap, ◌∙◌, subst, arith, append_assoc}
 use Rattle.std.proofs.Math.Bool.{and-false, and-true}
@@ -34,11 +34,11 @@ pub record Tells (r : Router) (items : List Item) : Type 0 where
 two_not_zero : (n : ℕ) → (n == 2) ≡ true → (n == 0) ≡ false
 two_not_zero n h = grind (arith, nat_tests)
 
--- the router after a unit, and the transcript
+-- the router after a PDU, and the transcript
 abbrev After : Router → Unit → List Item → Type 0
 After r u items = Tells r (asked_by r.link r.out ++ Reads u ∷ items)
 
--- what a unit leaves as it was
+-- what a PDU leaves as it was
 pub record Leaves (r : Router) (u : Unit) (items : List Item) : Type 0 where
   pub kept_is : kept (Reads u ∷ items) ≡ holds r
   pub due_is : due (Reads u ∷ items) ≡ r.due
@@ -77,7 +77,7 @@ asking_after r q u items c h a s =
     subst (λ x. Tells (asking q r) (x ++ Reads u ∷ items)) (sym (put_asks r.spoken q))
     (record { kept_is = h.kept_is; due_is = h.due_is; now_is = h.now_is; spoken_is = h.spoken_is; link = (c, refl, refl, a, s) })
 
--- before a unit
+-- before a PDU
 pub record Before (r : Router) (items : List Item) : Type 0 where
   pub kept_is : kept items ≡ holds r
   pub due_is : due items ≡ r.due
@@ -167,7 +167,7 @@ told_unit r q e items agreed c h asked session = by_two (e.code == 2) refl
         (c, refl, refl, sym agreed, session, agreed))
     by_two false two = subst (λ x. After (by_test x) (ErrorReport e) items) (sym two) (by_zero (e.code == 0 && is_serial (Some q)) refl two)
 
--- a unit that ends the link with code 0
+-- a PDU that ends the link with code 0
 abbrev Ends0 : Router → Unit → List Item → Type 0
 Ends0 r u items = After (reports 0 u r) u items
 
@@ -330,7 +330,7 @@ answering_unit r a (SerialQuery session serial) items is h l = ends_0 r (SerialQ
 answering_unit r a ResetQuery items is h l = ends_0 r ResetQuery items l.0 h h.kept_is h.due_is
 answering_unit r a CacheReset items is h l = ends_0 r CacheReset items l.0 h h.kept_is h.due_is
 
--- every unit
+-- every PDU
 pub live_unit : (r : Router) (l : Link) (u : Unit) (items : List Item) → is_reading l ≡ true → r.link ≡ l → Before r items → LinkTells l r.agreed r.session r.table items → After (on_unit l u r) u items
 live_unit r Closed u items live is h t = absurd (let e : false ≡ true = live in cc)
 live_unit r (Ended end) u items live is h t = absurd (let e : false ≡ true = live in cc)

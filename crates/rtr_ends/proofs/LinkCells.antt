@@ -1,4 +1,4 @@
--- What a router does at each unit on each link, and at the clock, worked out.
+-- What a router does at each PDU on each link, and at the clock, worked out.
 use Rattle.std.proofs.Common.{◌≡◌, ℕ, Bool, true, false, not, ◌||◌, ◌&&◌, ◌==◌, nat_lt, ◌+◌, List, [], ◌∷◌, ◌++◌, length, Option, Some, None, if◌then◌else◌, refl, ap, ◌∙◌}
 use Rattle.std.proofs.Math.Bool.{and-false, or-true}
 use Rattle.std.specs.Str.{chars, is_utf8}
@@ -23,9 +23,9 @@ use Rattle.rtr_ends.proofs.WholeAnswerRows.{v, w, v_ascends, reset_bytes, serial
 use Rattle.rtr_ends.proofs.TableLaws.{led_from_empty}
 use Rattle.rtr_ends.proofs.RouterRows.{just_v, asked_all, answering, by_stage, v_read, committed_at, holds_v, notify_bytes, asks_since, since_v, changes, has_v, has_not_w}
 
--- Units that do not belong where they come
+-- PDUs that do not belong where they come
 
--- A report with code 0 and a copy of the unit, in the version of the connection. The link ends, and what is held stays.
+-- A report with code 0 and a copy of the PDU, in the version of the connection. The link ends, and what is held stays.
 abbrev Rejects : Link → Unit → Router → Type 0
 Rejects link u r = on_unit link u r ≡ record r { link = Ended (ends.Reported 0); out = sent r.spoken (report 0 (sent r.spoken u)) }
 
@@ -151,7 +151,7 @@ begins_change : (called (Receives 100 None response_bytes) asks_since).router �
 unfolding receives router_byte clocked on_unit judge as_read
 begins_change = refl
 
--- A Cache Reset as the first unit is the agreement on the version.
+-- A Cache Reset as the first PDU is the agreement on the version.
 reset_agrees : (called (Receives 100 None (sent V1 CacheReset)) (record asks_since { agreed = false; session = None })).router ≡ record asks_since { session = None; link = Asked AskReset; out = reset_bytes }
 unfolding receives router_byte clocked on_unit judge as_read
 reset_agrees = refl

@@ -1,4 +1,4 @@
--- What a machine does at a unit, cell by cell of the protocol's table.
+-- What a machine does at a PDU, cell by cell of the protocol's table.
 use Rattle.std.specs.Prelude.{⊤, ◌≡◌, ◌==◌, ◌+◌, ◌<◌, ◌≤◌, nat_lt, min, max, ℕ, Bool, true, false, List, [], Some, None, Result, Ok, Err, if◌then◌else◌, refl}
 use Rattle.std.proofs.Common.{sym, ap, ◌∙◌, subst, arith}
 use Rattle.std.proofs.lemmas.Bool.Decides.{nat_tests}
@@ -99,7 +99,7 @@ asks_again old new e r s =
     subst (λ n. ShowsRouter (asking AskReset (record r { agreed = true })) n) (sym e)
     (record { withdrawn = s.withdrawn; announced = s.announced; staged = tt; is = ap (λ (x : Router). asking AskReset (record x { agreed = true })) s.is })
 
--- Units that do not belong where they come
+-- PDUs that do not belong where they come
 abbrev pub foreign_idle : Unit → Bool
 foreign_idle (SerialNotify session serial) = false
 foreign_idle (ErrorReport e) = false

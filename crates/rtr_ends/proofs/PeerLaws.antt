@@ -138,7 +138,7 @@ module _ (keep : ℕ) (t : Intervals) (i : Instance) (o : Conn) where
   read_stops version CacheReset bytes = refl
   read_stops version (RouterKey key) bytes = refl
 
-  -- the moment at which a unit is read
+  -- the moment at which a PDU is read
   abbrev moment : Bool → Version → Unit → List ℕ → Connection
   moment b version u bytes = conn_after keep t o.state (if b then Wanting version i u bytes else Read version i u bytes)
 
@@ -146,7 +146,7 @@ module _ (keep : ℕ) (t : Intervals) (i : Instance) (o : Conn) where
   moment_stops true version u bytes = refl
   moment_stops false version u bytes = read_stops version u bytes
 
-  -- a connection at which a unit of this version was read, and which speaks it
+  -- a connection at which a PDU of this version was read, and which speaks it
   pub record HasUnit (version : Version) (mid : Peer) : Type 0 where
     pub reader : mid.reader ≡ fresh (Some version) false
     pub speaks : mid.sender.version ≡ version
@@ -159,7 +159,7 @@ module _ (keep : ℕ) (t : Intervals) (i : Instance) (o : Conn) where
   moment_shown false version u bytes mid new h a =
       record { reader = a.reader ∙ h.reader; ended = a.ended; due = a.due ∙ ap (λ v. sent_all v (answer version i keep t u).units) h.speaks; knows = a.knows; room = fresh_room (Some version) new (a.reader ∙ h.reader) (a.room h.room) }
 
-  -- a unit of which these bytes were taken
+  -- a PDU of which these bytes were taken
   unit_received : (piece taken rest : List ℕ) (u : Unit) (mid new : Peer) → conn_stops o ≡ false → piece ≡ taken ++ rest → IsPartial (version_at o taken) (as_read (version_at o taken) false o.held)
       → IsRead (version_at o taken) false (o.held ++ taken) u → HasUnit (version_at o taken) mid → ((memory : Bool) × SendsReply t i (read_reply (version_at o taken) keep t i memory u) mid new)
       → Receives keep t i o piece (length piece - length rest) new

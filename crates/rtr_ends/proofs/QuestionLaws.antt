@@ -35,7 +35,7 @@ choose_same r items k s (inl none) =
     ∙ sym (ap (λ x. choose (of_version (spoken items) x.version) (marked items)) k ∙ ap (λ v. choose (of_version (spoken items) v) (marked items)) none)
 choose_same r items k s (inr e) = λ i. choose (of_version (sym s i) (sym k i).version) (sym e i)
 
--- the question that a unit makes a router put
+-- the question that a PDU makes a router put
 abbrev put_by : Unit → Router → Question
 put_by CacheReset n = AskReset
 put_by u n = choose (of_version n.spoken n.version) n.mark
@@ -258,7 +258,7 @@ record Chooses (r : Router) (items : List Item) : Type 0 where
   pub asked : AsksRightly items
   pub not_reset : is_idle r.link ≡ true → is_reset items ≡ false
 
--- what a unit adds
+-- what a PDU adds
 asked_so : (u : Unit) (n : Router) (items : List Item) (l : Link) (out : List ℕ) → kept (asked_by l out ++ Reads u ∷ items) ≡ holds n → spoken (asked_by l out ++ Reads u ∷ items) ≡ n.spoken → MarkTells n (Reads u ∷ items) → Puts u n l out → AsksRightly items → AsksRightly (asked_by l out ++ Reads u ∷ items)
 asked_so u n items Closed out k s m p a = a
 asked_so u n items (Ended end) out k s m p a = a

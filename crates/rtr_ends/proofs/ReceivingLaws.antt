@@ -1,4 +1,4 @@
--- What a connection takes of a piece, unit by unit.
+-- What a connection takes of a piece, PDU by PDU.
 use Rattle.std.specs.Prelude.{◌≡◌, ℕ, true, false, List, [], ◌++◌, Option, refl}
 use Rattle.std.proofs.Common.{sym, ap, ◌∙◌}
 use Rattle.std.proofs.lemmas.List.{append-nil}
@@ -32,14 +32,14 @@ module _ (keep : ℕ) (t : Intervals) (i : Instance) where
   abbrev pub start : Conn → Option ℕ → Taking
   start o wanting = record { conn = o; moments = []; wanting = wanting }
 
-  -- All of the beginning of a unit is held,
+  -- All of the beginning of a PDU is held,
   pub takes_more : (o : Conn) (wanting : Option ℕ) (piece : List ℕ) → conn_stops o ≡ false → IsPartial (version_at o piece) (as_read (version_at o piece) false (o.held ++ piece))
       → conn_takes keep t i wanting piece o ≡ record { machine = start (record o { held = o.held ++ piece }) wanting; rest = [] }
   unfolding conn_takes conn_machine
   takes_more o wanting piece runs part =
       ap (fed conn_machine (start o wanting)) (sym (append-nil piece)) ∙ more_taken conn_machine (start o wanting) runs (version_at o piece) piece [] refl part
 
-  -- or a unit is taken, and the connection stops behind it,
+  -- or a PDU is taken, and the connection stops behind it,
   pub takes_unit : (o : Conn) (wanting : Option ℕ) (next : Taking) (taken rest : List ℕ) (u : Unit) → conn_stops o ≡ false → IsPartial (version_at o taken) (as_read (version_at o taken) false o.held) → IsRead (version_at o taken) false (o.held ++ taken) u
       → ((held : List ℕ) → conn_judged keep t i (start (record o { held = held }) wanting) (version_at o taken) (o.held ++ taken) (Whole u) ≡ next) → conn_stops next.conn ≡ true → conn_takes keep t i wanting (taken ++ rest) o ≡ record { machine = next; rest = rest }
   unfolding conn_takes conn_machine

@@ -1,4 +1,4 @@
--- What a router takes byte by byte is what its reader takes unit by unit.
+-- What a router takes byte by byte is what its reader takes PDU by PDU.
 use Rattle.std.specs.Prelude.{◌≡◌, ℕ, suc, Bool, true, false, not, List, [], ◌++◌, Option, Some, None, refl}
 use Rattle.rtr_pdu.specs.Judging.{Whole, Faulty}
 use Rattle.rtr_pdu.specs.Reader.{IsFaulty, IsRead}
@@ -44,7 +44,7 @@ module _ (r : Router) (taken rest : List ℕ) (on : router_stops r ≡ false) (i
   unfolding router_machine
   more_taken part = units.more_taken router_machine (taking r items wanting) on r.spoken taken [] refl part
 
-  -- It gives a unit.
+  -- It gives a PDU.
   pub unit_taken : IsPartial r.spoken (as_read r.spoken (not r.agreed) r.held) → (u : Unit) → IsRead r.spoken (not r.agreed) (r.held ++ taken) u
       → fed r items wanting (taken ++ rest) ≡ feed stops router_byte (router_judged (taking (record r { held = r.held ++ but_last taken }) items wanting) (r.held ++ taken) (Whole u)) rest
   unfolding router_machine
@@ -56,7 +56,7 @@ module _ (r : Router) (taken rest : List ℕ) (on : router_stops r ≡ false) (i
   unfolding router_machine
   fault_taken part fault faulty = units.fault_taken router_machine (taking r items wanting) on r.spoken taken rest fault refl part faulty
 
--- What comes of a unit: it is read, or memory for it is wanting.
+-- What comes of a PDU: it is read, or memory for it runs out.
 abbrev pub shifted : Option ℕ → Option ℕ
 shifted None = None
 shifted (Some n) = Some (suc n)

@@ -1,4 +1,4 @@
--- What a router does at each unit on each link, and at the clock, worked out.
+-- What a router does at each PDU on each link, and at the clock, worked out.
 use Rattle.std.proofs.Common.{◌≡◌, ◌⊎◌, inl, inr, subst, ℕ, zero, suc, Bool, true, false, not, ◌||◌, ◌&&◌, List, [], ◌∷◌, ◌++◌, Some, None, if◌then◌else◌, refl, ap, sym, ◌∙◌, take, drop, append_assoc, append-nil}
 use Rattle.std.proofs.Math.Bool.{and-not_self}
 use Rattle.std.proofs.Math.Seq.{take-nil}
@@ -25,7 +25,7 @@ use Rattle.rtr_ends.proofs.TableLaws.{false_true}
 use Rattle.rtr_ends.proofs.RouterRows.{just_v, asked_all, nothing_yet, answering, v_read, stage_v, committed_at, holds_v, closed_v, notify_bytes, asks_since, changes}
 use Rattle.rtr_ends.proofs.LinkCells.{report_bytes, slow, duplicate_of_answer, without_v, stage_withdrawn, with_table}
 
--- Bytes that are no unit
+-- Bytes that are no PDU
 
 -- another version before agreement, and after it
 abbrev version_0 : List ℕ
@@ -57,7 +57,7 @@ type_11 : (called (Receives 100 None (0x01 ∷ 0x0b ∷ 0 ∷ 0 ∷ 0 ∷ 0 ∷ 
 unfolding receives router_byte clocked judge as_read
 type_11 = refl
 
--- a unit of 4,097 bytes
+-- a PDU of 4,097 bytes
 too_long : (called (Receives 100 None (0x01 ∷ 0x09 ∷ 0x01 ∷ 0 ∷ 0 ∷ 0 ∷ 0x10 ∷ 0x01 ∷ [])) changes).router ≡ record changes { link = Ended (ends.Reported 0); out = report_bytes 0 (0x01 ∷ 0x09 ∷ 0x01 ∷ 0 ∷ 0 ∷ 0 ∷ 0x10 ∷ 0x01 ∷ []) }
 unfolding receives router_byte clocked judge as_read
 too_long = refl
@@ -164,7 +164,7 @@ none_after_expiry : Leaves 7301 (end_bytes 6) changes (end_bytes 6) (record chan
 unfolding receives clocked
 none_after_expiry = (refl, refl)
 
--- What follows a unit that makes it ask, or that ends the link, is left.
+-- What follows a PDU that makes it ask, or that ends the link, is left.
 stops_at_asking : Leaves 100 (notify_bytes 0x1234 6 ++ response_bytes) holds_v response_bytes (record holds_v { link = Asked (AskSerial 0x1234 5); out = serial_bytes })
 unfolding receives router_byte clocked on_unit judge as_read
 stops_at_asking = (refl, refl)
@@ -173,17 +173,17 @@ stops_at_end : Leaves 100 (sent V1 CacheReset ++ v_bytes) changes v_bytes (recor
 unfolding receives router_byte clocked on_unit judge as_read
 stops_at_end = (refl, refl)
 
--- Other units are consumed one after the other.
+-- Other PDUs are consumed one after the other.
 goes_on : Leaves 100 (notify_bytes 0x1234 5 ++ notify_bytes 0x1234 5 ++ take 3 response_bytes) holds_v [] (record holds_v { held = take 3 response_bytes })
 unfolding receives router_byte clocked on_unit judge as_read
 goes_on = (refl, refl)
 
--- Want of memory: none is asked for where an answer begins,
+-- Out of memory: none is asked for where an answer begins,
 begins_without_memory : (called (Receives 100 (Some 0) response_bytes) asked_all).router ≡ answering nothing_yet
 unfolding receives router_byte clocked on_unit judge as_read
 begins_without_memory = refl
 
--- but where it ends, at the second unit of a piece
+-- but where it ends, at the second PDU of a piece
 lacks_at_end : (called (Receives 100 (Some 1) (response_bytes ++ end_bytes 5)) asked_all).router ≡ record (answering nothing_yet) { link = Ended ends.Memory }
 unfolding receives router_byte clocked on_unit judge as_read
 lacks_at_end = refl
@@ -242,7 +242,7 @@ begun_so Begins h = refl
 begun_so (Whole u) h = false_true h
 begun_so (Faulty fault) h = false_true h
 
--- Behind the bytes held, each of these leaves the beginning of a unit.
+-- Behind the bytes held, each of these leaves the beginning of a PDU.
 abbrev all_begin : Version → Bool → List ℕ → List ℕ → Bool
 all_begin version any held [] = true
 all_begin version any held (b ∷ bytes) = is_begun (judge version any (held ++ b ∷ [])) && all_begin version any (held ++ b ∷ []) bytes
@@ -288,7 +288,7 @@ take_in (suc k) (x ∷ xs) ys = elim (take_in k xs ys) [ inl e ↦ inl (ap (λ z
 keeps_held : (r : Router) (m : Receiving) (bytes : List ℕ) → router_stops m.router ≡ false → all_begin m.router.spoken (not m.router.agreed) m.router.held bytes ≡ true → Keeps r m → KeepsAll r m bytes
 keeps_held r m bytes on h keeps k = subst (λ f. Keeps r f.machine) (sym (are_held m bytes k on h)) keeps
 
--- a unit, of which all but the last byte is held
+-- a PDU, of which all but the last byte is held
 keeps_unit : (r : Router) (m n : Receiving) (front : List ℕ) (b : ℕ) → router_stops m.router ≡ false → all_begin m.router.spoken (not m.router.agreed) m.router.held front ≡ true
     → fed m (front ++ b ∷ []) ≡ record { machine = n; rest = [] } → Keeps r m → Keeps r n → KeepsAll r m (front ++ b ∷ [])
 keeps_unit r m n front b on h e before after k = elim (take_in k front (b ∷ [])) [
@@ -382,7 +382,7 @@ closes_at_the_last : (called (Closes 18446744073709551015) asked_all).router.due
 unfolding closed_at clocked
 closes_at_the_last = refl
 
--- No memory is wanting at a Cache Reset, at a notify, or at a Cache Response of another session.
+-- No memory runs out at a Cache Reset, at a notify, or at a Cache Response of another session.
 none_at_reset : called (Receives 100 (Some 0) (sent V1 CacheReset)) asks_since ≡ called (Receives 100 None (sent V1 CacheReset)) asks_since
 unfolding receives router_byte clocked on_unit judge as_read
 none_at_reset = refl

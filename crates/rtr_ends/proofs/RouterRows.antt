@@ -263,7 +263,7 @@ malformed : called (Receives 100 None (0x01 ∷ 0x0a ∷ 0 ∷ 0 ∷ 0 ∷ 0 ∷
 unfolding receives router_byte clocked judge as_read
 malformed = refl
 
--- Want of memory
+-- Out of memory
 
 -- at the End of Data: nothing is committed, and nothing is sent
 lacks_memory : called (Receives 100 (Some 0) (end_bytes 5)) (answering v_read) ≡ record { router = record (answering v_read) { link = Ended ends.Memory }; items = Lacks (EndOfData 0x1234 5 3600 600 7200) ∷ At 100 ∷ [] }

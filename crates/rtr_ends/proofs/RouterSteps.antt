@@ -40,7 +40,7 @@ use Rattle.rtr_ends.proofs.TableLaws.{false_true}
 use Rattle.prefixes.proofs.Basics.{false_if_never}
 use Rattle.rtr_ends.proofs.ConsumedUnits.{reading_open}
 
--- What a unit leaves: what is held; agreement; the version; and a connection
+-- What a PDU leaves: what is held; agreement; the version; and a connection
 pub record Keeps (r n : Router) : Type 0 where
   pub held : n.held ≡ r.held
   pub agreed : r.agreed ≡ true → n.agreed ≡ true
@@ -165,7 +165,7 @@ module _ (old : code.Router) (piece rest : List ℕ) (takes : (is_reading (seen_
       → reader.ReaderTakes r.spoken (reading r.spoken r.agreed r.held) piece answer rest new
   takes_so answer new r s t = subst (λ x. reader.ReaderTakes (version_with x piece) x piece answer rest new) (reads_so r s) t
 
-  -- a unit
+  -- a PDU
   module _ (u : Unit) (new : Reader) (t : reader.ReaderTakes (version_with old.reader piece) old.reader piece (next.Unit u) rest new) (mid m : Machine)
       (follows : (spoken : Version) → new.version ≡ Some spoken → mid ≡ record old.machine { spoken = spoken }) where
     made_so : (r : Router) → IsShown r old → new ≡ fresh (Some r.spoken) (not r.agreed)
@@ -453,7 +453,7 @@ ticks_shown old new now r s machine same =
     by_test true idle m = keeps_shown old new r (ask (clocked now r)) m same s (clocked_keeps now r).held (clocked_keeps now r).agreed (clocked_keeps now r).spoken (λ h. (clocked_keeps now r).reads_on (idle refl)) (λ h. false_true h)
     by_test false idle m = keeps_shown old new r (clocked now r) m same s (clocked_keeps now r).held (clocked_keeps now r).agreed (clocked_keeps now r).spoken (clocked_keeps now r).reads_on (λ h. sym (clocked_keeps now r).closed_on ∙ h)
 
--- The unit at which memory was wanting took memory.
+-- The PDU at which memory ran out took memory.
 wanted_so : (now : ℕ) (piece : List ℕ) (r : Router) (wanting : Option ℕ) → IsLacking wanting (fed (clocked now r) (At now ∷ []) wanting piece) → IfSome wanting (λ unit. is_wanted_by_router now piece r unit ≡ true)
 unfolding receives
 wanted_so now piece r None h = tt

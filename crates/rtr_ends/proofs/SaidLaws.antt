@@ -28,7 +28,7 @@ use Rattle.rtr_ends.proofs.KeptLaws.{none_is, not_due}
 use Rattle.rtr_ends.proofs.TableLaws.{false_true}
 use Rattle.prefixes.proofs.Basics.{true_of_not}
 
--- the bytes of the question that a unit made the router put
+-- the bytes of the question that a PDU made the router put
 abbrev put : Version → Link → List ℕ → List ℕ
 put version (Asked q) (b ∷ out) = sent version (query q)
 put version link out = []
@@ -40,7 +40,7 @@ put_none version Idle = refl
 put_none version (Asked q) = refl
 put_none version (Answering a) = refl
 
--- what a unit makes a router say that had nothing to be pulled
+-- what a PDU makes a router say that had nothing to be pulled
 record UnitSays (version : Version) (n : Router) : Type 0 where
   pub spoken : n.spoken ≡ version
   pub report : List ℕ
@@ -181,7 +181,7 @@ given_all given r items l is live none h =
     no_report (Asked q) live e = e
     no_report (Answering a) live e = e
 
--- what a unit adds to the questions
+-- what a PDU adds to the questions
 put_adds : (version : Version) (l : Link) (out : List ℕ) (items : List Item) → questions_in version (asked_by l out ++ items) ≡ questions_in version items ++ put version l out
 put_adds version Closed out items = sym (append-nil (questions_in version items))
 put_adds version (Ended end) out items = sym (append-nil (questions_in version items))

@@ -22,7 +22,7 @@ shown m withdrawn announced held staged = record { withdrawn = withdrawn; announ
 pub shown_as : (r : Router) (m : Machine) (withdrawn announced : List Payload) (held : List ℕ) → r ≡ seen m withdrawn announced held → Stages m.state m.table withdrawn announced m.staging → ShowsRouter r m
 shown_as r m withdrawn announced held is staged = subst (λ x. ShowsRouter x m) (sym is) (shown m withdrawn announced held staged)
 
--- A unit is read in a state of the link.
+-- A PDU is read in a state of the link.
 pub unit_does : (u : Unit) (s : State) (old new : Machine) → old.state ≡ s
     → ((withdrawn announced : List Payload) (held : List ℕ) → Stages s old.table withdrawn announced old.staging → ShowsRouter (on_unit (seen_link s withdrawn announced) u (seen old withdrawn announced held)) new)
     → Does (λ r. on_unit r.link u r) old new

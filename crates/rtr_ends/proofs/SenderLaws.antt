@@ -33,12 +33,12 @@ both_none : {X : Type 0} (xs ys : List X) → xs ++ ys ≡ [] → (xs ≡ []) ×
 both_none [] ys e = (refl, e)
 both_none (x ∷ xs) ys e = absurd (let h : x ∷ (xs ++ ys) ≡ [] = e in cc)
 
--- units have bytes
+-- PDUs have bytes
 none_sent : (version : Version) (units : List Unit) → sent_all version units ≡ [] → units ≡ []
 none_sent version [] e = refl
 none_sent version (u ∷ units) e = absurd (some_sent version u (both_none (sent version u) (sent_all version units) e).0)
 
--- Of a unit at most 4,096 bytes are ready.
+-- Of a PDU at most 4,096 bytes are ready.
 pub unit_ready : (version : Version) (s : Sender) (u : Unit) → IsUnitOf version u → s.pulled ≡ 0 → s.buffer.items ≡ sent version u → ready_in s ≤ 4096
 unfolding ready_in
 unit_ready version s u fits start bytes = let is : drop s.pulled s.buffer.items ≡ sent version u = λ i. drop (start i) (bytes i) in omega (arith, ap length is, sent_most version u fits.0 fits.1)
@@ -262,7 +262,7 @@ unfolding due_of
 hands_due s new none h =
     (λ i. drop (h.pulled i) (h.bytes i) ++ sent_all (h.stays.version i) (left new)) ∙ ap (sent_all s.version) (sym h.was) ∙ ap (λ x. x ++ sent_all s.version (left s)) (sym none)
 
--- the next unit
+-- the next PDU
 pub hands_more : (start : Sender) (given : List ℕ) (s : Sender) (out : List ℕ) (filled : ℕ) (w : AnswerCursor) (new : Sender) → s.answer ≡ Some w → drop s.pulled s.buffer.items ≡ [] → Hands (record s { answer = Some w }) new
     → IsFilled start given s out filled → IsFilled start given new out filled
 hands_more start given s out filled w new e none h f =

@@ -119,7 +119,7 @@ module _ (keep : ℕ) (t : Intervals) where
       by_end true = refl
       by_end false = (subst (λ x. IsPartial (version_in c.version []) x) (read_plainly (version_in c.version []) []) (partial_empty (version_in c.version []) false), inl refl)
 
-  -- what is held on a connection that goes on is the beginning of a unit
+  -- what is held on a connection that goes on is the beginning of a PDU
   holds_part : (c : Connection) (held : List ℕ) → c.ended ≡ false → MayHold c held → IsPartial (version_in c.version held) held
   holds_part c held is h = (subst (λ b. MatchBool b (held ≡ []) (IsPartial (version_in c.version held) held × ((held ≡ []) ⊎ ((c.due ≡ []) ⊎ (c.notified ≡ true))))) is h).0
 

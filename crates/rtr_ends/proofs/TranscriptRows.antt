@@ -9,7 +9,7 @@ use Rattle.rtr_pdu.specs.declared.unit.UnitFault.{UnitFault}
 use Rattle.rtr_ends.specs.Transcript.{Question, AskReset, Item, Asks, Breaks, Lacks, Opened, Reads, Refused, Restarts, Shut, has_agreed, is_connected, marked, moment, next_question, outstanding, responded, spoken, waiting}
 
 module _ (items : List Item) where
-  -- No question is outstanding after a close, a restart, a refused event, a fault, or want of memory,
+  -- No question is outstanding after a close, a restart, a refused event, a fault, or out of memory,
   closed : outstanding (Shut ∷ items) ≡ None
   closed = refl
 

@@ -1,4 +1,4 @@
--- A machine that judges behind each byte what it holds takes a piece unit by unit, as a reader of units does. The cache and the
+-- A machine that judges behind each byte what it holds takes a piece PDU by PDU, as a reader of PDUs does. The cache and the
 -- router are such machines.
 use Rattle.std.specs.Prelude.{◌≡◌, ℕ, ◌<◌, Bool, true, false, List, [], ◌∷◌, ◌++◌, length, Option, refl}
 use Rattle.std.proofs.Common.{sym, ap, ◌∙◌, subst, arith, append_assoc}
@@ -16,8 +16,8 @@ use Rattle.rtr_pdu.proofs.NextLaws.{next_shortest}
 use Rattle.rtr_ends.specs.Feeding.{FedPiece, feed}
 use Rattle.rtr_ends.proofs.FeedingLaws.{goes_on, stopped}
 
--- The machine: what it holds of a unit, whether that may show any version, and the version that is expected; the machine that holds
--- these bytes; and what comes of bytes of a version that are so judged. The beginning of a unit is held, and nothing else changes by it.
+-- The machine: what it holds of a PDU, whether that may show any version, and the version that is expected; the machine that holds
+-- these bytes; and what comes of bytes of a version that are so judged. The beginning of a PDU is held, and nothing else changes by it.
 pub record ByteMachine (M : Type 0) : Type 0 where
   pub stops : M → Bool
   pub step : M → ℕ → M
@@ -73,7 +73,7 @@ module _ {M : Type 0} (w : ByteMachine M) where
         (w.byte m held b ∙ ap (λ v. w.judged (w.holding m held) v (held ++ b ∷ []) (judge v (w.any m) (held ++ b ∷ []))) (sym of)
         ∙ ap (w.judged (w.holding m held) version (held ++ b ∷ [])) is)
 
-    -- Behind these bytes each beginning of those is one of a unit.
+    -- Behind these bytes each beginning of those is one of a PDU.
     abbrev AllBegin : List ℕ → List ℕ → Type 0
     AllBegin held front = (x y : List ℕ) → front ≡ x ++ y → judge version (w.any m) (held ++ x) ≡ Begins
 
@@ -94,7 +94,7 @@ module _ {M : Type 0} (w : ByteMachine M) where
         (begins_exactly version (w.any m) (held ++ x)).1
         (shortest (held ++ x) (y ++ b ∷ []) (ap (λ z. (held ++ z) ++ b ∷ []) e ∙ ap (λ z. z ++ b ∷ []) (sym (append_assoc held x y)) ∙ append_assoc (held ++ x) y (b ∷ [])) (omega (arith, length-append y (b ∷ []))))
 
-    -- The beginning of a unit is held,
+    -- The beginning of a PDU is held,
     pub more_taken : (taken rest : List ℕ) → version ≡ version_in (w.start m) (w.held m ++ taken) → IsPartial version (as_read version (w.any m) (w.held m ++ taken))
         → fed m (taken ++ rest) ≡ fed (w.holding m (w.held m ++ taken)) rest
     more_taken taken rest of part =
@@ -126,7 +126,7 @@ module _ {M : Type 0} (w : ByteMachine M) where
     not_fault : (fault : UnitFault) → Faulty fault ≡ Begins → ⊥
     not_fault fault e = cc
 
-    -- So is a unit,
+    -- So is a PDU,
     pub unit_taken : (taken rest : List ℕ) (u : Unit) → version ≡ version_in (w.start m) (w.held m ++ taken) → IsPartial version (as_read version (w.any m) (w.held m)) → IsRead version (w.any m) (w.held m ++ taken) u
         → fed m (taken ++ rest) ≡ fed (w.judged (w.holding m (w.held m ++ but_last taken)) version (w.held m ++ taken) (Whole u)) rest
     unit_taken taken rest u of part read =

@@ -141,7 +141,7 @@ other_version_at_first : (called (Receives 100 None response_bytes) (record aske
 unfolding receives router_byte clocked judge as_read
 other_version_at_first = refl
 
--- A report on a unit that does not belong where it comes is of version 0, and so is its copy.
+-- A report on a PDU that does not belong where it comes is of version 0, and so is its copy.
 foreign : (called (Receives 100 None (sent V0 CacheReset)) idle_0).router
     ≡ record idle_0 { link = Ended (ends.Reported 0); out = 0 ∷ 0x0a ∷ 0 ∷ 0 ∷ 0 ∷ 0 ∷ 0 ∷ 0x18 ∷ 0 ∷ 0 ∷ 0 ∷ 0x08 ∷ 0 ∷ 0x08 ∷ 0 ∷ 0 ∷ 0 ∷ 0 ∷ 0 ∷ 0x08 ∷ 0 ∷ 0 ∷ 0 ∷ 0 ∷ [] }
 unfolding receives router_byte clocked on_unit judge as_read

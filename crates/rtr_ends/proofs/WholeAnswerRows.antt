@@ -164,7 +164,7 @@ pub other_session : replies 2 default_intervals (Read V1 (record { session = 0x2
     ≡ 0x01 ∷ 0x0a ∷ 0 ∷ 0 ∷ 0 ∷ 0 ∷ 0 ∷ 0x1c ∷ 0 ∷ 0 ∷ 0 ∷ 0x0c ∷ serial_bytes ++ 0 ∷ 0 ∷ 0 ∷ 0 ∷ []
 other_session = refl
 
--- A unit that only a cache sends is an Invalid Request.
+-- A PDU that only a cache sends is an Invalid Request.
 pub not_a_query : replies 2 default_intervals (Read V1 (cache 5 []) CacheReset (sent V1 CacheReset) ∷ [])
     ≡ 0x01 ∷ 0x0a ∷ 0 ∷ 0x03 ∷ 0 ∷ 0 ∷ 0 ∷ 0x18 ∷ 0 ∷ 0 ∷ 0 ∷ 0x08 ∷ sent V1 CacheReset ++ 0 ∷ 0 ∷ 0 ∷ 0 ∷ []
 not_a_query = refl
@@ -205,7 +205,7 @@ report_on_none = refl
 pub notified : replies 2 default_intervals (Notify V1 (cache 5 (just_v ∷ [])) [] ∷ []) ≡ 0x01 ∷ 0 ∷ 0x12 ∷ 0x34 ∷ 0 ∷ 0 ∷ 0 ∷ 0x0c ∷ 0 ∷ 0 ∷ 0 ∷ 0x05 ∷ []
 notified = refl
 
--- want of memory
+-- out of memory
 pub wanted : replies 2 default_intervals (Wanting V1 (cache 5 (just_v ∷ [])) ResetQuery reset_bytes ∷ []) ≡ 0x01 ∷ 0x0a ∷ 0 ∷ 0x01 ∷ 0 ∷ 0 ∷ 0 ∷ 0x10 ∷ 0 ∷ 0 ∷ 0 ∷ 0 ∷ 0 ∷ 0 ∷ 0 ∷ 0 ∷ []
 wanted = refl
 

@@ -28,11 +28,11 @@ and_on units = record { units = units; goes_on = true }
 abbrev pub and_end : List Unit → Reply
 and_end units = record { units = units; goes_on = false }
 
--- A unit as it is sent in a version of the protocol
+-- A PDU as it is sent in a version of the protocol
 abbrev pub sent : Version → Unit → List ℕ
 sent version u = unit_bytes version u
 
--- the bytes of units, one after the other
+-- the bytes of PDUs, one after the other
 abbrev pub sent_all : Version → List Unit → List ℕ
 sent_all version units = flat_map (sent version) units
 
@@ -72,8 +72,8 @@ abbrev pub serial_answer : Version → ℕ → ℕ → Intervals → ℕ → Lis
 serial_answer version session keep t serial [] = report NO_DATA_AVAILABLE (sent version (SerialQuery session serial)) ∷ []
 serial_answer version session keep t serial (now ∷ older) = step_answer version session t now (with_serial serial (now ∷ take keep older))
 
--- The answer to a unit in a version of the protocol, as the cache was when the unit was read. Another session than the cache's: Corrupt Data; an Error
--- Report: nothing; another unit: Invalid Request. After these three the connection ends.
+-- The answer to a PDU in a version of the protocol, as the cache was when the PDU was read. Another session than the cache's: Corrupt Data; an Error
+-- Report: nothing; another PDU: Invalid Request. After these three the connection ends.
 abbrev pub answer : Version → Instance → ℕ → Intervals → Unit → Reply
 answer version i keep t ResetQuery = and_on (whole_answer version (session_in version i) t (versions i))
 answer version i keep t (SerialQuery session serial) =

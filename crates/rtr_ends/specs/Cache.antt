@@ -12,7 +12,7 @@ use Rattle.rtr_ends.specs.Connection.{Connection, ConnMoment, Read, Wanting, Fau
 use Rattle.rtr_ends.specs.Feeding.{FedPiece, feed, IsTaken}
 use Rattle.rtr_ends.specs.Timing.{Intervals}
 
--- The connection between two moments, and what has come of a unit
+-- The connection between two moments, and what has come of a PDU
 pub record Conn : Type 0 where
   pub state : Connection
   pub held : List ℕ
@@ -28,7 +28,7 @@ is_none (b ∷ bytes) = false
 abbrev pub conn_stops : Conn → Bool
 conn_stops o = o.state.ended || not (is_none o.state.due)
 
--- The moment that the last of these bytes of a version brings. Want of memory acts only where the answer takes memory.
+-- The moment that the last of these bytes of a version brings. That memory runs out acts only where the answer takes memory.
 abbrev pub conn_moment_of : Instance → Bool → Version → List ℕ → Judgement → Option ConnMoment
 conn_moment_of i memory version bytes Begins = None
 conn_moment_of i memory version bytes (Whole u) =
@@ -39,7 +39,7 @@ abbrev pub with_moment : ℕ → Intervals → List ℕ → Conn → Option Conn
 with_moment keep t bytes o None = record o { held = bytes }
 with_moment keep t bytes o (Some m) = record { state = conn_after keep t o.state m; held = [] }
 
--- At which unit that comes, counted from 0, memory is wanting
+-- At which PDU that comes, counted from 0, memory runs out
 abbrev pub finds_memory : Option ℕ → Bool
 finds_memory (Some zero) = false
 finds_memory wanting = true
@@ -73,7 +73,7 @@ unfoldable pub conn_byte : ℕ → Intervals → Instance → Taking → ℕ →
 conn_byte keep t i m b =
     conn_judged keep t i m (version_at m.conn (b ∷ [])) (m.conn.held ++ b ∷ []) (judge (version_at m.conn (b ∷ [])) false (m.conn.held ++ b ∷ []))
 
--- A piece is handed in; memory is wanting at this unit of it, if at any.
+-- A piece is handed in; memory runs out at this PDU of it, if at any.
 unfoldable pub conn_takes : ℕ → Intervals → Instance → Option ℕ → List ℕ → Conn → FedPiece Taking
 conn_takes keep t i wanting piece o =
     feed (λ m. conn_stops m.conn) (conn_byte keep t i) (record { conn = o; moments = []; wanting = wanting }) piece
@@ -150,7 +150,7 @@ ConnTakes =
     (taken : List ℕ)
     × IsTaken (λ m. conn_stops m.conn) (conn_byte keep t i) (record { conn = o; moments = []; wanting = wanting }) piece taken (conn_takes keep t i wanting piece o)
 
--- It stops only where a unit ends, or a fault shows.
+-- It stops only where a PDU ends, or a fault shows.
 abbrev pub ConnStops : Type 0
 ConnStops =
     (keep : ℕ) (t : Intervals) (i : Instance) (m : Taking) (b : ℕ) → judge (version_at m.conn (b ∷ [])) false (m.conn.held ++ b ∷ []) ≡ Begins →

@@ -36,7 +36,7 @@ without_conns keep t i = record { keep = keep; timing = t; cache = i; at = λ c.
 abbrev pub with_conn : ℕ → Option Conn → CacheState → CacheState
 with_conn c o m = record m { at = λ d. if d == c then o else m.at d }
 
--- A piece is handed in on a connection; memory is wanting at this unit of it, if at any.
+-- A piece is handed in on a connection; memory runs out at this PDU of it, if at any.
 abbrev pub taken : Option ℕ → List ℕ → ℕ → CacheState → CacheState
 taken wanting piece c m = with_conn c (option_map (λ o. (conn_takes m.keep m.timing m.cache wanting piece o).machine.conn) (m.at c)) m
 
@@ -110,7 +110,7 @@ pub record ShowsCache {S : Type 0} (holds : ℕ → Instance → S → Type 0) (
   pub slots : (c : ℕ) → ShowsSlot m.timing m.cache (m.at c) (peer_at cache.peers.items c)
   pub numbers : AreFree (taken_numbers cache.peers.items) cache.free
 
--- Memory is wanting at this unit of a piece: it is read, and its answer takes memory.
+-- Memory runs out at this PDU of a piece: it is read, and its answer takes memory.
 abbrev pub is_wanted_at : List ℕ → CacheState → Option Conn → ℕ → Bool
 is_wanted_at piece m None unit = false
 is_wanted_at piece m (Some o) unit = is_wanted_by_peer m.keep m.timing m.cache o piece unit
@@ -131,7 +131,7 @@ pub record GivesBytes {S : Type 0} (holds : ℕ → Instance → S → Type 0) (
   pub gives : sends.PullsBytes (due_at (m.at c)) out result now (due_at ((given (length out) c m).at c))
   pub shows : ShowsCache holds (given (length out) c m) new
 
--- A connection is opened, or memory is wanting and nothing is changed.
+-- A connection is opened, or memory runs out and nothing is changed.
 abbrev pub Opens : {S : Type 0} → (ℕ → Instance → S → Type 0) → CacheState → Result Number AllocError → Cache S → Type 0
 Opens holds m (Ok conn) new = IsLeastFree m.at conn.0 × ShowsCache holds (with_conn conn.0 (Some (new_conn m.cache)) m) new
 Opens holds m (Err error) new = ShowsCache holds m new

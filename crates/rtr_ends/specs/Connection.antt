@@ -17,8 +17,8 @@ use Rattle.rtr_pdu.specs.declared.unit.UnitFault.TheVariants as faults
 use Rattle.rtr_ends.specs.Answer.{Reply, and_on, and_end, answer, report, sent, sent_all, session_in}
 use Rattle.rtr_ends.specs.Timing.{Intervals}
 
--- What happens, as the cache is then: bytes were read as a unit of a version; so they were, and memory for its answer was wanting;
--- bytes show a fault where units of a version are expected; the router is notified in a version, when these bytes of a unit had
+-- What happens, as the cache is then: bytes were read as a PDU of a version; so they were, and memory for its answer ran out;
+-- bytes show a fault where PDUs of a version are expected; the router is notified in a version, when these bytes of a PDU had
 -- come; or this many of the bytes due were pulled.
 pub data ConnMoment : Type 0 where
   Read : (version : Version) → (cache : Instance) → (unit : Unit) → (bytes : List ℕ) → ConnMoment
@@ -27,7 +27,7 @@ pub data ConnMoment : Type 0 where
   Notify : (version : Version) → (cache : Instance) → (held : List ℕ) → ConnMoment
   Pull : (count : ℕ) → ConnMoment
 
--- memory was wanting at it
+-- memory ran out at it
 abbrev pub is_wanting : ConnMoment → Bool
 is_wanting (Wanting version cache unit bytes) = true
 is_wanting m = false
@@ -65,7 +65,7 @@ fault_code agreed faults.Version = version_code agreed
 fault_code agreed faults.«Type» = UNSUPPORTED_TYPE
 fault_code agreed fault = CORRUPT_DATA
 
--- The report on a fault copies the bytes as they came. There is none on a unit of type 10, nor where the input ends in a unit.
+-- The report on a fault copies the bytes as they came. There is none on a PDU of type 10, nor where the input ends in a PDU.
 abbrev pub fault_report : Option Version → UnitFault → List ℕ → List Unit
 fault_report agreed faults.Truncated bytes = []
 fault_report agreed fault bytes = if is_kind kinds.ErrorReport bytes then [] else report (fault_code agreed fault) bytes ∷ []
@@ -75,7 +75,7 @@ abbrev pub notice : ℕ → List NumberedSet → List Unit
 notice session [] = []
 notice session (now ∷ older) = SerialNotify session now.serial ∷ []
 
--- What the cache sends at a moment, where this version was agreed on, if any. Want of memory is an Internal Error, and ends the
+-- What the cache sends at a moment, where this version was agreed on, if any. Out of memory is an Internal Error, and ends the
 -- connection.
 abbrev pub reply : ℕ → Intervals → Option Version → ConnMoment → Reply
 reply keep t agreed (Read version cache unit bytes) = answer version cache keep t unit
@@ -91,7 +91,7 @@ version_after agreed (Wanting version cache unit bytes) = Some version
 version_after agreed (Fault version fault bytes) = Some version
 version_after agreed m = agreed
 
--- A unit, and the version in which it is sent
+-- A PDU, and the version in which it is sent
 pub record Sent : Type 0 where
   pub version : Version
   pub unit : Unit
@@ -99,7 +99,7 @@ pub record Sent : Type 0 where
 abbrev pub in_version : Version → List Unit → List Sent
 in_version version units = map (λ u. record { version = version; unit = u }) units
 
--- The bytes of units, one after the other, each in its version
+-- The bytes of PDUs, one after the other, each in its version
 abbrev pub bytes_sent : List Sent → List ℕ
 bytes_sent units = flat_map (λ s. sent s.version s.unit) units
 
@@ -116,19 +116,19 @@ replies keep t moments = bytes_sent (replies_from keep t None moments)
 abbrev pub is_published : Instance → Bool
 is_published i = not (length i.sets == 0)
 
--- The units whose answers may take memory: Serial Queries that are answered from what is published, where two sets are
+-- The PDUs whose answers may take memory: Serial Queries that are answered from what is published, where two sets are
 -- compared. All else is ready.
 abbrev pub takes_memory : Version → Instance → Unit → Bool
 takes_memory version i (SerialQuery session serial) = session == session_in version i && is_published i
 takes_memory version i u = false
 
--- The version of a notify, or of another unit that is sent without a query: that of a header that has come whole, else version 1
+-- The version of a notify, or of another PDU that is sent without a query: that of a header that has come whole, else version 1
 abbrev pub spoken_in : Option Version → Version
 spoken_in None = V1
 spoken_in (Some version) = version
 
--- A connection between two moments: the cache as it was last, the version of its first header, once a unit came, whether it has
--- ended, the bytes due, which were sent and not pulled yet, whether what was sent last is a notify, and what had come then of a unit
+-- A connection between two moments: the cache as it was last, the version of its first header, once a PDU came, whether it has
+-- ended, the bytes due, which were sent and not pulled yet, whether what was sent last is a notify, and what had come then of a PDU
 pub record Connection : Type 0 where
   pub cache : Instance
   pub version : Option Version
@@ -137,7 +137,7 @@ pub record Connection : Type 0 where
   pub notified : Bool
   pub seen : List ℕ
 
--- What had come of a unit when the router was notified is the beginning of one and the front of what comes, and no less than had
+-- What had come of a PDU when the router was notified is the beginning of one and the front of what comes, and no less than had
 -- come when it was notified before.
 pub record HadCome (c : Connection) (coming held : List ℕ) : Type 0 where
   pub begins : IsPartial (version_in c.version held) held
@@ -165,7 +165,7 @@ abbrev pub is_notice : ConnMoment → Bool
 is_notice (Notify version cache held) = true
 is_notice m = false
 
--- what had come of a unit at it, where it is a notify
+-- what had come of a PDU at it, where it is a notify
 abbrev pub seen_at : ConnMoment → List ℕ
 seen_at (Notify version cache held) = held
 seen_at m = []
@@ -204,7 +204,7 @@ conn_after keep t c m =
     }
 
 -- What may be left of the bytes that came: nothing where the connection has ended or an answer is due, else the beginning of a
--- unit in which no fault shows. A notify may be due in the middle of a unit.
+-- PDU in which no fault shows. A notify may be due in the middle of a PDU.
 abbrev pub MayHold : Connection → List ℕ → Type 0
 MayHold c bytes =
     MatchBool c.ended (bytes ≡ []) (IsPartial (version_in c.version bytes) bytes × ((bytes ≡ []) ⊎ ((c.due ≡ []) ⊎ (c.notified ≡ true))))
@@ -233,14 +233,14 @@ PulledAreReplies =
     (keep : ℕ) (t : Intervals) (i : Instance) (moments : List ConnMoment) (bytes : List ℕ) → IsHistory keep t (opened i) moments bytes →
     pulled keep t (opened i) moments ++ (after_all keep t (opened i) moments).due ≡ replies keep t moments
 
--- the units that were read
+-- the PDUs that were read
 abbrev pub units_of : List ConnMoment → List Unit
 units_of [] = []
 units_of (Read version cache unit bytes ∷ later) = unit ∷ units_of later
 units_of (Wanting version cache unit bytes ∷ later) = unit ∷ units_of later
 units_of (m ∷ later) = units_of later
 
--- The units of a history are those by which the stream of its bytes is split, in the version of the first header.
+-- The PDUs of a history are those by which the stream of its bytes is split, in the version of the first header.
 abbrev pub HistorySplits : Type 0
 HistorySplits =
     (keep : ℕ) (t : Intervals) (i : Instance) (moments : List ConnMoment) (bytes : List ℕ) → IsHistory keep t (opened i) moments bytes →

@@ -10,7 +10,7 @@ use Rattle.rtr_ends.specs.Router.{RouterCall, Connects, Receives, played, receiv
 use Rattle.rtr_ends.specs.RouterLink.{is_closed, is_reading}
 use Rattle.rtr_ends.specs.Transcript.{Item, Opened, Reads, Lacks, Breaks, Restarts, spoken}
 
--- the units that came on the latest connection, in their order, those included at which memory was wanting
+-- the PDUs that came on the latest connection, in their order, those included at which memory ran out
 abbrev pub units_read_in : List Item → List Unit
 units_read_in [] = []
 units_read_in (Opened version ∷ items) = []
@@ -43,8 +43,8 @@ abbrev pub IsRouterCall : RouterCall → Type 0
 IsRouterCall (Receives now wanting piece) = AreBytes piece
 IsRouterCall call = ⊤
 
--- The transcript has the split of these bytes: all units, in their order, and the fault that shows. As long as the router reads
--- none shows, and what follows the units is held. A closed link holds nothing, and nothing is to be pulled from it.
+-- The transcript has the split of these bytes: all PDUs, in their order, and the fault that shows. As long as the router reads
+-- none shows, and what follows the PDUs is held. A closed link holds nothing, and nothing is to be pulled from it.
 pub record IsSplit (r : Router) (items : List Item) (bytes : List ℕ) : Type 0 where
   pub rest : List ℕ
   pub split : Splits (spoken items) true bytes (units_read_in items) rest (fault_in items)

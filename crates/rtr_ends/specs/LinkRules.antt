@@ -1,4 +1,4 @@
--- What a router does at a unit, link by link (RFC 8210 sections 5 to 8 and 12).
+-- What a router does at a PDU, link by link (RFC 8210 sections 5 to 8 and 12).
 use Rattle.std.specs.Prelude.{ℕ, Bool, true, false, not, ◌&&◌, ◌||◌, ◌==◌, nat_lt, List, [], ◌∷◌, Option, Some, None, if◌then◌else◌}
 use Rattle.prefixes.specs.Payload.{Payload}
 use Rattle.vrps.specs.Serial.{is_before}
@@ -17,7 +17,7 @@ use Rattle.rtr_ends.specs.RouterLink.{Link, Closed, Idle, Asked, Answering, Ende
 -- What a router holds: the committed table and version; the mark that the next query must be a Reset Query; when an idle link
 -- asks; whether code 2, No Data Available, and no commit brought a link to idle last; the greatest moment so far; the version of its
 -- next connection, and that of its connection, or of the latest one; and of its connection the link, whether a version is agreed on,
--- the session of the latest Cache Response, what has come of a unit, and the bytes to be pulled
+-- the session of the latest Cache Response, what has come of a PDU, and the bytes to be pulled
 pub record Router : Type 0 where
   pub table : VrpSet
   pub version : Option Committed
@@ -46,7 +46,7 @@ ask r = asking (choose (of_version r.spoken r.version) r.mark) r
 abbrev pub emptied : Router → Router
 emptied r = record r { table = empty; version = None; mark = false }
 
--- The link ends: with a report on a unit, or by one that was read.
+-- The link ends: with a report on a PDU, or by one that was read.
 abbrev pub reports : ℕ → Unit → Router → Router
 reports code u r = record r { link = Ended (ends.Reported code); out = sent r.spoken (report code (sent r.spoken u)) }
 
@@ -57,7 +57,7 @@ ended_by code r = record r { link = Ended (ends.Told code) }
 abbrev pub fails : Unit → Router → Router
 fails u r = reports 0 u (emptied r)
 
--- After agreement, a unit of another session than the connection's
+-- After agreement, a PDU of another session than the connection's
 abbrev pub is_strange : Router → ℕ → Bool
 is_strange r session = r.agreed && differs (session_of r.session (of_version r.spoken r.version)) session
 
@@ -105,7 +105,7 @@ told_off question code r =
     else if code == CORRUPT_DATA && is_serial (Some question) then ended_by code (emptied r)
     else ended_by code r
 
--- A unit is read on a link, with memory.
+-- A PDU is read on a link, with memory.
 unfoldable pub on_unit : Link → Unit → Router → Router
 on_unit Closed u r = r
 on_unit (Ended end) u r = r
@@ -136,7 +136,7 @@ on_unit (Answering a) (EndOfData0 session serial) r =
 on_unit (Answering a) (ErrorReport e) r = told_off a.question e.code r
 on_unit (Answering a) u r = reports 0 u r
 
--- The units at which memory is taken: those that stage a record, or commit
+-- The PDUs at which memory is taken: those that stage a record, or commit
 abbrev pub is_staged : Staged → Bool
 is_staged (Stays a) = true
 is_staged other = false

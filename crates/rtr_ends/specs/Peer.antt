@@ -24,7 +24,7 @@ pub record Knows (t : Intervals) (i : Instance) (s : Sender) : Type 0 where
   pub timing : s.timing ≡ t
   pub newest : newest_of s ≡ newest (versions i)
 
--- The bytes that a connection holds: those received that are not yet a whole unit, and those ready to be pulled
+-- The bytes that a connection holds: those received that are not yet a whole PDU, and those ready to be pulled
 pub record Held : Type 0 where
   pub received : ℕ
   pub ready : ℕ
@@ -45,7 +45,7 @@ pub record ShowsPeer (t : Intervals) (i : Instance) (o : Conn) (p : Peer) : Type
   pub knows : Knows t i p.sender
   pub room : HasBufferRoom (held_by_peer p)
 
--- These units are sent, and the connection ends.
+-- These PDUs are sent, and the connection ends.
 pub record EndsConnection (old : Peer) (units : List Unit) (new : Peer) : Type 0 where
   pub reader : new.reader ≡ old.reader
   pub ended : new.ended ≡ true
@@ -59,7 +59,7 @@ pub record SendsReply (t : Intervals) (i : Instance) (r : Reply) (old new : Peer
   pub knows : Knows t i new.sender
   pub room : KeepsRoom old.sender new.sender
 
--- Want of memory is an Internal Error, and ends the connection.
+-- Out of memory is an Internal Error, and ends the connection.
 abbrev pub no_memory : Reply
 no_memory = and_end (report INTERNAL_ERROR [] ∷ [])
 
@@ -81,11 +81,11 @@ abbrev pub maybe : Option Unit → List Unit
 maybe None = []
 maybe (Some u) = u ∷ []
 
--- Memory is wanting at this unit of a piece: the unit is read, and its answer takes memory.
+-- Memory runs out at this PDU of a piece: the PDU is read, and its answer takes memory.
 abbrev pub is_wanted_by_peer : ℕ → Intervals → Instance → Conn → List ℕ → ℕ → Bool
 is_wanted_by_peer keep t i o piece unit = list_any is_wanting (conn_takes keep t i (Some unit) piece o).machine.moments
 
--- A piece is handed in. At one unit of it, if at any, memory is wanting.
+-- A piece is handed in. At one PDU of it, if at any, memory runs out.
 pub record Receives (keep : ℕ) (t : Intervals) (i : Instance) (o : Conn) (piece : List ℕ) (consumed : ℕ) (new : Peer) : Type 0 where
   pub wanting : Option ℕ
   pub wanted : IfSome wanting (λ unit. is_wanted_by_peer keep t i o piece unit ≡ true)

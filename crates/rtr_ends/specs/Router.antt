@@ -24,7 +24,7 @@ pub record Noted : Type 0 where
 abbrev pub silent : Router → Noted
 silent r = record { router = r; items = [] }
 
--- A unit made the router ask.
+-- A PDU made the router ask.
 abbrev pub asked_by : Link → List ℕ → List Item
 asked_by (Asked question) (b ∷ out) = Asks question ∷ []
 asked_by link out = []
@@ -32,7 +32,7 @@ asked_by link out = []
 abbrev pub reads : Unit → Router → Noted
 reads u r = let n : Router = on_unit r.link u r in record { router = n; items = asked_by n.link n.out ++ Reads u ∷ [] }
 
--- Want of memory ends the link; nothing is sent.
+-- Out of memory ends the link; nothing is sent.
 abbrev pub lacks : Unit → Router → Noted
 lacks u r = record { router = record r { link = Ended ends.Memory }; items = Lacks u ∷ [] }
 
@@ -55,7 +55,7 @@ with_bytes memory bytes r (Faulty fault) = breaks fault bytes r
 abbrev pub router_stops : Router → Bool
 router_stops r = not (is_reading r.link && is_none r.out)
 
--- a router that takes a piece, with what that adds to its transcript, and the unit at which memory is wanting
+-- a router that takes a piece, with what that adds to its transcript, and the PDU at which memory runs out
 pub record Receiving : Type 0 where
   pub router : Router
   pub items : List Item
@@ -84,7 +84,7 @@ judged_by_clock r = if is_over r.version r.now then expired r.link r else r
 unfoldable pub clocked : ℕ → Router → Router
 clocked now r = judged_by_clock (record r { now = later r.now now })
 
--- A link that is not closed is closed. What was not pulled is dropped, and the beginning of a unit.
+-- A link that is not closed is closed. What was not pulled is dropped, and the beginning of a PDU.
 abbrev pub close : Router → Router
 close r = if is_closed r.link then r else record r {
   link = Closed;
@@ -124,7 +124,7 @@ receives now wanting piece r =
 unfoldable pub router_pulled : ℕ → Router → Router
 router_pulled most r = record r { out = drop most r.out }
 
--- What is called on a router. At `receive` memory may be wanting at a unit of the piece, counted from 0. `speak` tells the version of
+-- What is called on a router. At `receive` memory may run out at a PDU of the piece, counted from 0. `speak` tells the version of
 -- the next connection.
 pub data RouterCall : Type 0 where
   Connects : (now : ℕ) → RouterCall

@@ -19,7 +19,7 @@ RouterTakes =
     (taken : List ℕ)
     × IsTaken (λ m. router_stops m.router) router_byte (record { router = clocked now r; items = At now ∷ []; wanting = wanting }) piece taken (receives now wanting piece r)
 
--- It stops only where a unit ends, or a fault shows.
+-- It stops only where a PDU ends, or a fault shows.
 abbrev pub RouterStops : Type 0
 RouterStops =
     (m : Receiving) (b : ℕ) → judge m.router.spoken (not m.router.agreed) (m.router.held ++ b ∷ []) ≡ Begins →

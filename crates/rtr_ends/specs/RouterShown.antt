@@ -14,7 +14,7 @@ use Rattle.rtr_ends.specs.Seen.{ShowsRouter}
 use Rattle.rtr_ends.specs.Transcript.{Item, Lacks}
 use Rattle.rtr_ends.specs.declared.router.Router as code
 
--- a reader of this version that has so much of a unit
+-- a reader of this version that has so much of a PDU
 abbrev pub reading : Version → Bool → List ℕ → Reader
 reading version agreed held = record { version = Some version; held = held; any = not agreed; later = not agreed; fault = None }
 
@@ -32,12 +32,12 @@ held_by_router v = record { received = length v.reader.held; ready = length v.ma
 abbrev pub Calls : (Router → Router) → code.Router → code.Router → Type 0
 Calls step old new = (r : Router) → IsShown r old → IsShown (step r) new
 
--- memory was wanting
+-- memory ran out
 abbrev pub is_lacking : Item → Bool
 is_lacking (Lacks u) = true
 is_lacking item = false
 
--- Memory is wanting at this unit of a piece: it takes memory.
+-- Memory runs out at this PDU of a piece: it takes memory.
 abbrev pub is_wanted_by_router : ℕ → List ℕ → Router → ℕ → Bool
 is_wanted_by_router now piece r unit = list_any is_lacking (receives now (Some unit) piece r).machine.items
 
@@ -47,7 +47,7 @@ pub record Received (now : ℕ) (wanting : Option ℕ) (piece : List ℕ) (count
   pub count_is : count ≡ length piece - length (receives now wanting piece r).rest
   pub wanted : IfSome wanting (λ unit. is_wanted_by_router now piece r unit ≡ true)
 
--- At one unit of it, if at any, memory was wanting.
+-- At one PDU of it, if at any, memory ran out.
 abbrev pub ReceivesSo : ℕ → List ℕ → ℕ → code.Router → code.Router → Type 0
 ReceivesSo now piece count old new = (wanting : Option ℕ) × ((r : Router) → IsShown r old → Received now wanting piece count r new)
 
@@ -67,7 +67,7 @@ pub record Arrives (f : FedPiece Receiving) (wanting : Option ℕ) (r : Router) 
   pub rest_is : f.rest ≡ rest
   pub wanted : IsLacking wanting f
 
--- It goes on as another with another piece. Where memory is wanting later, it is told from here.
+-- It goes on as another with another piece. Where memory runs out later, it is told from here.
 pub record Follows (f : FedPiece Receiving) (wanting : Option ℕ) (g : FedPiece Receiving) (later : Option ℕ) : Type 0 where
   pub router_is : f.machine.router ≡ g.machine.router
   pub rest_is : f.rest ≡ g.rest
@@ -85,7 +85,7 @@ TakesOn false old piece new rest = (wanting : Option ℕ) × ((r : Router) → I
 abbrev pub CallsLead : List RouterCall → code.Router → Type 0
 CallsLead calls v = IsShown (played calls).router v
 
--- They lead to it, and it holds what its transcript keeps, asks what that calls for, and consumed its units.
+-- They lead to it, and it holds what its transcript keeps, asks what that calls for, and consumed its PDUs.
 pub record Led (calls : List RouterCall) (v : code.Router) : Type 0 where
   pub leads : CallsLead calls v
   pub kept : IsKept (played calls).router (played calls).items

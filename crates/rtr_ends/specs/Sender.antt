@@ -1,4 +1,4 @@
--- What a connection at the cache has to send: the unit in its buffer, and what is left of an answer under way.
+-- What a connection at the cache has to send: the PDU in its buffer, and what is left of an answer under way.
 use Rattle.std.specs.Prelude.{◌≡◌, Bool, true, false, ℕ, ◌+◌, ◌-◌, ◌≤◌, List, [], ◌∷◌, ◌++◌, length, take, drop, min, Option, Some, None}
 use Rattle.vrps.specs.Instance.{NumberedSet}
 use Rattle.rtr_pdu.specs.Unit.{MAX_UNIT_LEN, IsUnitOf}
@@ -34,7 +34,7 @@ session_by V1 s = s.v1
 abbrev pub own_session : Sender → ℕ
 own_session s = session_by s.version s.sessions
 
--- the units that are left of an answer
+-- the PDUs that are left of an answer
 abbrev pub left_in : Version → ℕ → Intervals → Option AnswerCursor → List Unit
 left_in version session t None = []
 left_in version session t (Some a) = drop a.place (units_in a.records) ++ end_of_data version session (serial_in a.records) t ∷ []
@@ -63,7 +63,7 @@ newest_in None (Some a) = shared_in a.records
 unfoldable pub newest_of : Sender → Option NumberedSet
 newest_of s = newest_in s.ready s.answer
 
--- Where no more was ready than a unit has, no more is.
+-- Where no more was ready than a PDU has, no more is.
 abbrev pub KeepsRoom : Sender → Sender → Type 0
 KeepsRoom old new = ready_in old ≤ MAX_UNIT_LEN → ready_in new ≤ MAX_UNIT_LEN
 
@@ -88,7 +88,7 @@ pub record Speaks (version : Version) (old new : Sender) : Type 0 where
   pub due : due_of new ≡ []
   pub stays : StaysBut old new
 
--- these units are due
+-- these PDUs are due
 pub record Sends (old : Sender) (units : List Unit) (new : Sender) : Type 0 where
   pub due : due_of new ≡ sent_all old.version units
   pub stays : Stays old new
@@ -113,12 +113,12 @@ pub record KeepsRecords (old : Sender) (records : Records) (new : Sender) : Type
   pub answer : new.answer ≡ None
   pub ready : newest_in new.ready None ≡ newest_in old.ready (Some (record { records = records; place = 0 }))
 
--- A unit is written into a buffer, which has these bytes then, where there is a unit.
+-- A PDU is written into a buffer, which has these bytes then, where there is a PDU.
 abbrev pub Writes : {B : Type 0} → Version → Option Unit → Bool → B → List ℕ → B → Type 0
 Writes version None written old bytes new = (written ≡ false) × (new ≡ old)
 Writes version (Some u) written old bytes new = (written ≡ true) × (bytes ≡ sent version u) × IsUnitOf version u
 
--- The first unit that was left stands in the buffer, and the others are left.
+-- The first PDU that was left stands in the buffer, and the others are left.
 pub record Hands (old new : Sender) : Type 0 where
   pub first : Unit
   pub was : left old ≡ first ∷ left new
@@ -149,7 +149,7 @@ pub record GivesFrom (old : Sender) (out : List ℕ) (filled result : ℕ) (now 
   pub ready : new.ready ≡ old.ready
   pub answer : new.answer ≡ old.answer
 
--- The first of these units, so many, are written behind the bytes that are filled.
+-- The first of these PDUs, so many, are written behind the bytes that are filled.
 pub record FillsWith (version : Version) (units : List Unit) (out : List ℕ) (filled count result : ℕ) (now : List ℕ) : Type 0 where
   pub within : count ≤ length units
   pub result_is : result ≡ filled + length (sent_all version (take count units))

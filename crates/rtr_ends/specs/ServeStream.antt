@@ -30,7 +30,7 @@ stood m calls = serving m.keep m.timing m.cache calls
 abbrev pub StandsAt : {S : Type 0} → (ℕ → Instance → S → Type 0) → CacheState → ℕ → List ConnCall → Cache S → Type 0
 StandsAt holds m c calls cache = ShowsCache holds (with_conn c (Some (stood m calls).conn) m) cache
 
--- bytes of a unit that has not come whole
+-- bytes of a PDU that has not come whole
 abbrev pub is_within : Option Conn → Bool
 is_within None = false
 is_within (Some o) = not (is_none o.held)
@@ -48,7 +48,7 @@ abbrev pub ConnectionGoesOn : Serving → List ℕ → Type 0
 ConnectionGoesOn s unread = (unread ≡ []) × (s.conn.state.ended ≡ false)
 
 -- How a stream ended whose connection stands so, where these bytes were read and not consumed and this is left of the input: at the
--- end of the input, at a unit's end or inside a unit; by a reply that ended the connection, which consumes nothing after it; after so
+-- end of the input, at a PDU's end or inside a PDU; by a reply that ended the connection, which consumes nothing after it; after so
 -- many reads as were allowed; or where a device failed. Where the writer did, a beginning of what was pulled has gone out. Without
 -- memory for a connection nothing was read or written.
 abbrev pub EndsSo : Serving → List ℕ → Option (List ℕ) → Option (List ℕ) → Option (List ℕ) → Result Served StreamFault → Type 0

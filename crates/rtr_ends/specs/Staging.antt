@@ -11,7 +11,7 @@ use Rattle.rtr_ends.specs.declared.staging.Staging.{Staging}
 use Rattle.rtr_ends.specs.declared.staging.Staged.{Staged}
 use Rattle.rtr_ends.specs.declared.staging.Staged.TheVariants.{Stays, Wrong}
 
--- Want of memory comes only where the record would be staged.
+-- Memory runs out only where the record would be staged.
 abbrev pub StagesRecord : VrpSet → Begun → rules.Staged → Result Staged SetFault → Staging → Type 0
 StagesRecord base b (rules.Stays a) (Ok Stays) new = IsStaged base a.withdrawn a.announced new × (a.question ≡ b.question) × (a.session ≡ b.session)
 StagesRecord base b (rules.Stays a) (Err Memory) new = ⊤
@@ -22,7 +22,7 @@ StagesRecord base b staged answer new = ⊥
 abbrev pub GoesTo : VrpSet → Begun → Bool → Payload → Result Staged SetFault → Staging → Type 0
 GoesTo base b announce v answer new = StagesRecord base b (rules.stage base b announce v) answer new
 
--- The answer ends. Want of memory is the only error.
+-- The answer ends. Out of memory is the only error.
 abbrev pub LeadsToSet : VrpSet → Begun → Result VrpSet SetFault → Type 0
 LeadsToSet base b (Ok table) = table ≡ led_to base b.withdrawn b.announced
 LeadsToSet base b (Err fault) = fault ≡ Memory

@@ -23,8 +23,8 @@ abbrev pub query : Question → Unit
 query AskReset = ResetQuery
 query (AskSerial session serial) = SerialQuery session serial
 
--- What happens at a router: a moment is told; a connection is made, of a version; a question is put; a unit is read, or it is and
--- memory for it is wanting; bytes show a fault; the world refuses an event for want of memory; the connection is closed; the router is
+-- What happens at a router: a moment is told; a connection is made, of a version; a question is put; a PDU is read, or it is and
+-- memory for it runs out; bytes show a fault; the world refuses an event because memory ran out; the connection is closed; the router is
 -- a new one.
 pub data Item : Type 0 where
   At : (now : ℕ) → Item
@@ -104,7 +104,7 @@ question_of None waits = waits
 abbrev pub outstanding : List Item → Option Question
 outstanding items = question_of (under_way items) (waiting items)
 
--- A version is agreed on: a unit other than a notify was read on this connection (RFC 8210 section 7).
+-- A version is agreed on: a PDU other than a notify was read on this connection (RFC 8210 section 7).
 abbrev pub has_agreed : List Item → Bool
 has_agreed [] = false
 has_agreed (Opened version ∷ items) = false
@@ -226,7 +226,7 @@ at_end_of_data (Some a) version k =
     else k)
     else nothing
 
--- What a unit that is read changes: an End of Data; after agreement a notify of another session than the connection's; a Cache
+-- What a PDU that is read changes: an End of Data; after agreement a notify of another session than the connection's; a Cache
 -- Response to a Serial Query, of another session; code 0, Corrupt Data, to a Serial Query
 abbrev pub kept_unit : Unit → List Item → Kept → Kept
 kept_unit (EndOfData session serial refresh retry expire) items k =

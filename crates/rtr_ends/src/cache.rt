@@ -71,8 +71,8 @@ impl<S: VersionStore> Cache<S> {
     }
 
     /// Bytes of a router are handed in. It answers how many were consumed: none where bytes are due to the router, or the connection
-    /// has ended; else up to the end of the first unit, or to where a fault shows, or all. Memory is taken at a Serial Query alone,
-    /// for the change; where it is wanting, Error Report 1 is due, and the connection ends (RFC 8210 section 12).
+    /// has ended; else up to the end of the first PDU, or to where a fault shows, or all. Memory is taken at a Serial Query alone,
+    /// for the change; where it runs out, Error Report 1 is due, and the connection ends (RFC 8210 section 12).
     pub fn receive(&mut self, conn: Conn, piece: &[u8]) -> usize
         ensures takes { (m : CacheState) → ShowsCache S.holds m self.old → TakesPiece S.holds m conn.0 piece.now result self.new }
         ensures within { result ≤ length piece.now }
@@ -145,7 +145,7 @@ impl<S: VersionStore> Cache<S> {
         }
     }
 
-    /// Whether bytes of a unit came that has not come whole.
+    /// Whether bytes of a PDU came that has not come whole.
     pub fn is_within_unit(&self, conn: Conn) -> bool
         ensures { (m : CacheState) → ShowsCache S.holds m self.now → result ≡ is_within (m.at conn.0) }
     {

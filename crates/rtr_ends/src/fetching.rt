@@ -109,7 +109,7 @@ fn reached(router: &Router) -> Option<Fetched>
     }
 }
 
-/// Hands in a piece that was read, and writes what is to be pulled before it and between its units, as long as the link goes on.
+/// Hands in a piece that was read, and writes what is to be pulled before it and between its PDUs, as long as the link goes on.
 fn take<W: Write>(
     router: &mut Router,
     piece: &[u8],

@@ -28,20 +28,20 @@ pub fn pulled_are_replies()
     ensures { PulledAreReplies }
 {}
 
-/// The units of a connection's history are those by which the stream of its bytes is split.
+/// The PDUs of a connection's history are those by which the stream of its bytes is split.
 pub fn history_splits()
     ensures { HistorySplits }
 {}
 
 /// What a connection of a cache consumes of a piece is the shortest beginning of it at which bytes become due or the connection ends,
-/// else all of it; nothing where bytes are due or the connection has ended; and it stops only where a unit ends or a fault shows.
+/// else all of it; nothing where bytes are due or the connection has ended; and it stops only where a PDU ends or a fault shows.
 pub fn connection_takes()
     ensures taken { ConnTakes }
     ensures stops { ConnStops }
 {}
 
 /// What a router consumes of a piece is the shortest beginning of it at which bytes become due or the link ends, else all of it;
-/// nothing where bytes are due or no link is open; and it stops only where a unit ends or a fault shows.
+/// nothing where bytes are due or no link is open; and it stops only where a PDU ends or a fault shows.
 pub fn router_takes()
     ensures taken { RouterTakes }
     ensures stops { RouterStops }
@@ -59,7 +59,7 @@ pub fn serves_history()
 {}
 
 /// What a router consumed on its latest connection, by any calls and with any cutting of the bytes, is split as its transcript has it: all
-/// units in their order, and the fault that shows. It holds what follows them as long as it reads; a closed link holds nothing.
+/// PDUs in their order, and the fault that shows. It holds what follows them as long as it reads; a closed link holds nothing.
 pub fn router_splits()
     ensures { RouterSplits }
 {}
@@ -100,13 +100,13 @@ pub fn cache_is_served<S: VersionStore>(cache: &Cache<S>)
     ensures { CacheIsServed S.holds cache.now }
 {}
 
-/// After every call on a cache each of its connections holds at most 4,096 bytes that came and are not yet a whole unit, and at most
+/// After every call on a cache each of its connections holds at most 4,096 bytes that came and are not yet a whole PDU, and at most
 /// 4,096 that are ready to be pulled: so it is with each cache that shows a state of the machine, as each call leaves it.
 pub fn each_has_room<S: VersionStore>(cache: &Cache<S>)
     ensures { (m : CacheState) → ShowsCache S.holds m cache.now → AllHaveRoom cache.now }
 {}
 
-/// After every call a router holds at most 4,096 bytes that came and are not yet a whole unit, and at most 4,096 that are to be pulled.
+/// After every call a router holds at most 4,096 bytes that came and are not yet a whole PDU, and at most 4,096 that are to be pulled.
 pub fn router_has_room(router: &Router)
     ensures { HasBufferRoom (held_by_router router.now) }
 {

@@ -12,7 +12,7 @@ pub enum End {
     Told(u16),
     /// An Error Report that could not be read. None is sent on it (RFC 8210 section 5.11).
     Malformed,
-    /// Want of memory.
+    /// Out of memory.
     Memory,
     /// The committed version expired while it was asked what changed since (RFC 8210 section 6).
     Expired,

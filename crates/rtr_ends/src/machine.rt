@@ -1,4 +1,4 @@
-//! A router between two units: what it holds, its link, and what it asks (RFC 8210 sections 5 to 8).
+//! A router between two PDUs: what it holds, its link, and what it asks (RFC 8210 sections 5 to 8).
 ghost use Rattle.std.specs.Prelude.{◌≡◌, ◌&&◌, [], Some, None, true, false};
 ghost use Rattle.vrps.specs.Origin.{state};
 ghost use Rattle.vrps.specs.VrpSet.{empty};
@@ -32,7 +32,7 @@ pub enum State {
     Ended(End),
 }
 
-/// A router, but for the bytes that have come of a unit.
+/// A router, but for the bytes that have come of a PDU.
 #[derive(Debug, Drop)]
 pub struct Machine {
     pub alloc: Global,
@@ -159,7 +159,7 @@ impl Machine {
         self.mark = false;
     }
 
-    /// Ends the link with a report on a unit.
+    /// Ends the link with a report on a PDU.
     pub fn reports(&mut self, code: u16, unit: &Unit)
         requires { fits self.old.spoken unit.now ≡ true }
         ensures { self.new ≡ record self.old { state = states.Ended (ends.Reported code); out = sent self.old.spoken (report code (sent self.old.spoken unit.now)) } }

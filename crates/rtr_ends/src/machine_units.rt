@@ -1,4 +1,4 @@
-//! What a router does at a unit (RFC 8210 sections 5, 7, 8 and 12): the rules of each link, unit by unit.
+//! What a router does at a PDU (RFC 8210 sections 5, 7, 8 and 12): the rules of each link, PDU by PDU.
 ghost use Rattle.std.specs.Prelude.{◌≡◌, ◌≤◌, ◌&&◌, ℕ, [], true, Some, Ok};
 ghost use Rattle.vrps.specs.VrpSet.{has, size};
 ghost use Rattle.rtr_pdu.specs.Code.{CORRUPT_DATA};
@@ -25,7 +25,7 @@ impl Machine {
     ghost use Rattle.rtr_ends.specs.declared.machine.State.TheVariants as states;
     ghost use Rattle.rtr_ends.specs.declared.link.End.TheVariants as ends;
 
-    /// A unit is read. Whether memory was wanting; then the link has ended.
+    /// A PDU is read. Whether memory ran out; then the link has ended.
     pub fn read(&mut self, unit: &Unit) -> bool
         requires { fits self.old.spoken unit.now ≡ true }
         ensures { ReadsOrLacks result unit.now self.old self.new }
@@ -93,7 +93,7 @@ impl Machine {
         self.read(&unit)
     }
 
-    /// A unit on an idle link.
+    /// A PDU on an idle link.
     fn on_idle(&mut self, unit: &Unit)
         requires state { self.old.state ≡ states.Idle }
         requires fits { fits self.old.spoken unit.now ≡ true }
@@ -124,7 +124,7 @@ impl Machine {
         }
     }
 
-    /// A unit where the question is not answered yet.
+    /// A PDU where the question is not answered yet.
     fn on_asked(&mut self, question: Question, unit: &Unit)
         requires state { self.old.state ≡ states.Asked question }
         requires fits { fits self.old.spoken unit.now ≡ true }
@@ -163,7 +163,7 @@ impl Machine {
         }
     }
 
-    /// A unit in an answer. `TooMany`: the table would have more records than a set may have. Memory is wanted for a record and for the
+    /// A PDU in an answer. `TooMany`: the table would have more records than a set may have. Memory is needed for a record and for the
     /// table at the end.
     fn on_answering(
         &mut self,
@@ -218,7 +218,7 @@ impl Machine {
         }
     }
 
-    /// A unit that does not belong in an answer.
+    /// A PDU that does not belong in an answer.
     fn rejects(&mut self, unit: &Unit) -> Result<(), SetFault>
         requires { fits self.old.spoken unit.now ≡ true }
         ensures ok { result ≡ Ok tt }

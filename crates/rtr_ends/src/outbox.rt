@@ -7,7 +7,7 @@ ghost use Rattle.rtr_ends.specs.Cache.{is_none};
 use rtr_pdu::{MAX_UNIT_LEN, Unit, UnitBuffer, Version, encode_as};
 use std::marker::Model;
 
-/// The bytes of one unit that are still to be pulled. It takes no memory.
+/// The bytes of one PDU that are still to be pulled. It takes no memory.
 #[derive(Debug, Drop)]
 pub struct Outbox {
     unit: UnitBuffer,
@@ -59,7 +59,7 @@ impl Outbox {
         self.pulled = 0;
     }
 
-    /// A unit of this version is to be pulled, and nothing else.
+    /// A PDU of this version is to be pulled, and nothing else.
     pub fn put(&mut self, version: Version, unit: &Unit)
         requires { fits version unit.now ≡ true }
         ensures { self.new ≡ sent version unit.now }

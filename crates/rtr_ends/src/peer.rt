@@ -44,7 +44,7 @@ impl Peer {
         self.ended || self.sender.is_due()
     }
 
-    /// Whether it has bytes of a unit that has not come whole.
+    /// Whether it has bytes of a PDU that has not come whole.
     pub fn is_within_unit(&self) -> bool
         ensures { result ≡ not (is_none self.now.reader.held) }
     {
@@ -119,7 +119,7 @@ impl Peer {
         }
     }
 
-    /// Answers a unit.
+    /// Answers a PDU.
     fn answer<S: VersionStore>(&mut self, store: &S, unit: &Unit)
         requires due { due_of self.old.sender ≡ [] }
         requires goes_on { self.old.ended ≡ false }
@@ -152,7 +152,7 @@ impl Peer {
         }
     }
 
-    /// Takes bytes from the front of the piece: to the end of the first unit, or to a fault, or else all; none where bytes are
+    /// Takes bytes from the front of the piece: to the end of the first PDU, or to a fault, or else all; none where bytes are
     /// due, or the connection has ended. It answers how many.
     pub fn receive<S: VersionStore>(&mut self, store: &S, piece: &[u8]) -> usize
         ensures receives { (keep : ℕ) (t : Intervals) (i : Instance) (o : Conn) → S.holds keep i store.now → ShowsPeer t i o self.old →

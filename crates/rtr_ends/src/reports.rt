@@ -46,7 +46,7 @@ pub fn report(code: u16, copy: &[u8]) -> Unit
     Unit::ErrorReport(ErrorReport::new(code, &copy[..room], ""))
 }
 
-/// An Error Report on a unit of this version.
+/// An Error Report on a PDU of this version.
 pub fn report_on(version: Version, code: u16, unit: &Unit) -> Unit
     requires { fits version unit.now ≡ true }
     ensures { result ≡ report code (sent version unit.now) }
@@ -56,7 +56,7 @@ pub fn report_on(version: Version, code: u16, unit: &Unit) -> Unit
     report(code, buffer.as_slice())
 }
 
-/// The report on a fault that bytes show: none on a unit of type 10, nor where the input ends in a unit.
+/// The report on a fault that bytes show: none on a PDU of type 10, nor where the input ends in a PDU.
 pub fn fault_unit(agreed: Option<Version>, fault: UnitFault, bytes: &[u8]) -> Option<Unit>
     ensures value { maybe result ≡ fault_report agreed fault bytes.now }
     ensures fits { IfSome result (λ unit. (version : Protocol) → fits version unit ≡ true) }

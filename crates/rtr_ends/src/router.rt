@@ -163,7 +163,7 @@ impl Router {
         self.machine.no_data
     }
 
-    /// The bytes that it holds: received that are no whole unit yet, and to be pulled.
+    /// The bytes that it holds: received that are no whole PDU yet, and to be pulled.
     pub(crate) fn room(&self)
         ensures { HasBufferRoom (held_by_router self.now) }
     {
@@ -172,8 +172,8 @@ impl Router {
     }
 
     /// Takes bytes of a piece, and answers how many: none where bytes are to be pulled or no link is open, else up to the end of the first
-    /// unit that gives bytes to be pulled or ends the link. The clock is judged first, at `now`, in seconds. Memory is taken where a record
-    /// is staged or an answer ends; where it is wanting, the link ends with `Memory` and the table stays.
+    /// PDU that gives bytes to be pulled or ends the link. The clock is judged first, at `now`, in seconds. Memory is taken where a record
+    /// is staged or an answer ends; where it runs out, the link ends with `Memory` and the table stays.
     pub fn receive(&mut self, piece: &[u8], now: u64) -> usize
         ensures shown { ReceivesSo now piece.now result self.old self.new }
         ensures leads { (wanting : Option ℕ) × LeadsOn (model.Receives now wanting piece.now) self.old self.new }
@@ -197,7 +197,7 @@ impl Router {
         }
     }
 
-    /// Takes the bytes up to the end of a unit, or all of them, or up to a fault; whether it was a unit.
+    /// Takes the bytes up to the end of a PDU, or all of them, or up to a fault; whether it was a PDU.
     fn step(&mut self, piece: &mut &[u8]) -> bool
         requires { (linked.is_reading (seen_link self.old.machine.state [] []) && is_none self.old.machine.out) ≡ true }
         ensures takes { TakesOn result self.old piece.old.now self.new piece.new.now }
@@ -213,7 +213,7 @@ impl Router {
         self.step_unit(piece)
     }
 
-    /// The same of any unit.
+    /// The same of any PDU.
     #[inline(never)]
     fn step_unit(&mut self, piece: &mut &[u8]) -> bool
         requires { (linked.is_reading (seen_link self.old.machine.state [] []) && is_none self.old.machine.out) ≡ true }

@@ -155,7 +155,7 @@ impl AnswerCursor {
     }
 }
 
-/// What a connection has to send. Its bytes lie in one buffer, a unit at a time; the records of the answer under way lie where
+/// What a connection has to send. Its bytes lie in one buffer, a PDU at a time; the records of the answer under way lie where
 /// they are kept.
 #[derive(Debug, Drop)]
 pub struct Sender {
@@ -166,7 +166,7 @@ pub struct Sender {
     /// The share of the current version that is kept ready for a Reset Query.
     pub ready: Option<Share>,
     pub answer: Option<AnswerCursor>,
-    /// The unit that goes out, of which so many bytes were pulled.
+    /// The PDU that goes out, of which so many bytes were pulled.
     pub buffer: UnitBuffer,
     pub pulled: usize,
 }
@@ -214,7 +214,7 @@ impl Sender {
         self.pulled < self.buffer.len() || self.answer.is_some()
     }
 
-    /// Sends a unit.
+    /// Sends a PDU.
     pub fn send(&mut self, unit: &Unit)
         requires due { due_of self.old ≡ [] }
         requires fits { fits self.old.version unit.now ≡ true }
@@ -278,7 +278,7 @@ impl Sender {
         self.keep(cursor.records);
     }
 
-    /// Writes the next unit of the answer under way into the buffer.
+    /// Writes the next PDU of the answer under way into the buffer.
     fn next(&mut self, cursor: AnswerCursor)
         requires { self.old.answer ≡ None }
         ensures { Hands (record self.old { answer = Some cursor }) self.new }
@@ -382,7 +382,7 @@ impl Sender {
         }
     }
 
-    /// Fills `out` with bytes that are due, as far as there are any. Records are written straight into it; the buffer holds the unit of which
+    /// Fills `out` with bytes that are due, as far as there are any. Records are written straight into it; the buffer holds the PDU of which
     /// only a part has room at its end.
     pub fn pull(&mut self, out: &mut [u8]) -> usize
         ensures gives { PullsBytes (due_of self.old) out.old result out.new (due_of self.new) }

@@ -16,9 +16,9 @@ use vrps::VersionStore;
 /// How a connection ended that was served.
 #[derive(Clone, Copy, Debug, PartialEq, Eq)]
 pub enum Served {
-    /// The input ended, at a unit's end.
+    /// The input ended, at a PDU's end.
     PeerClosed,
-    /// The input ended inside a unit.
+    /// The input ended inside a PDU.
     Truncated,
     /// The cache ended the connection: its last answer was an Error Report, or a report of the router came that is never answered
     /// (RFC 8210 section 12).

@@ -98,7 +98,7 @@ impl Staging {
         }
     }
 
-    /// The table to which the records lead from the base of the answer to this question. Want of memory is the only error.
+    /// The table to which the records lead from the base of the answer to this question. Out of memory is the only error.
     pub fn end(self, alloc: Global, question: Question, table: &Table) -> Result<Table, SetFault>
         ensures { (b : Begun) → IsStaged (base_of (seen_question question) table.now) b.withdrawn b.announced self
             → LeadsToSet (base_of (seen_question question) table.now) b result }

@@ -1,4 +1,4 @@
--- Whole units, as a reader reads them.
+-- Whole PDUs, as a reader reads them.
 use Rattle.std.specs.Prelude.{◌≡◌, ℕ, ◌<◌, ◌≤◌, Bool, true, false, ◌&&◌, ◌==◌, List, [], ◌∷◌, length, drop, slice_index, None, if◌then◌else◌, refl}
 use Rattle.std.proofs.Common.{sym, ap, ◌∙◌, subst, arith, inl, inr, zero, suc}
 use Rattle.std.proofs.lemmas.Bool.Decides.{nat_tests}
@@ -72,14 +72,14 @@ module _ (version : Version) where
       ap (λ b. if b then None else fault_of version (version_of (as_read version any bytes)) (type_of (as_read version any bytes)) (length_of (as_read version any bytes))) short
       ∙ (λ i. fault_of version (version-as_read any bytes h i) (kind i) (len i))
 
-  -- A whole unit has the size of its type.
+  -- A whole PDU has the size of its type.
   pub is_body : (any : Bool) (bytes : List ℕ) → IsWhole version (as_read version any bytes) → length bytes ≡ length_of (as_read version any bytes) → IsBody version any bytes
   is_body any bytes whole exact =
       let sized = header_sized version (as_read version any bytes) whole.1 whole.0 in
       let type_is : type_of (as_read version any bytes) ≡ type_of bytes = index-as_read any bytes 0 in
       record { whole = whole; exact = exact; sized = subst (λ l. IsSized version (type_of bytes) l) (sym exact) (subst (λ t. IsSized version t (length_of (as_read version any bytes))) type_is sized) }
 
-  -- A unit of another type is read as it is.
+  -- A PDU of another type is read as it is.
   module _ (any : Bool) (bytes : List ℕ) (each : AreBytes bytes) (b : IsBody version any bytes) where
     -- it is a frame of its type
     pub frame : (kind : ℕ) → type_of bytes ≡ kind → IsFrame version kind (as_read version any bytes)
@@ -95,7 +95,7 @@ module _ (version : Version) where
     len : (n : ℕ) → length bytes ≡ n → length (as_read version any bytes) ≡ n
     len n e = length-as_read version any bytes ∙ e
 
-    -- no shorter beginning of it ends a unit or shows a fault
+    -- no shorter beginning of it ends a PDU or shows a fault
     short : IsShortest version any bytes
     short = shortest_whole version any bytes b.whole.0 (omega (arith, b.exact))
 
@@ -103,7 +103,7 @@ module _ (version : Version) where
     at_place : (n i : ℕ) → number_at n (suc i) (as_read version any bytes) ≡ number_at n (suc i) bytes
     at_place n i = ap (λ x. big_number n x) (drop-as_read any bytes i)
 
-    -- a unit, told by its parts
+    -- a PDU, told by its parts
     is_read : (u v : Unit) → Reads version u (as_read version any bytes) → u ≡ v → IsRead version any bytes v
     is_read u v r e = record { reads = subst (λ w. Reads version w (as_read version any bytes)) e r; shortest = short }
 
@@ -129,7 +129,7 @@ module _ (version : Version) where
     pub read_3 : (session : ℕ) → type_of bytes ≡ 3 → session ≡ number_at 2 2 bytes → IsRead version any bytes (CacheResponse session)
     read_3 session k s = is_read _ _ (reads_3 version (as_read version any bytes) (frame 3 k) (len 8 (b.sized.at_response k))) (ap CacheResponse (at_place 2 1 ∙ sym s))
 
-    -- bytes of a unit that is no notify
+    -- bytes of a PDU that is no notify
     same_changed : (c : Bool) → (c ≡ true → ⊥) → (if c then version_number version ∷ drop 1 bytes else bytes) ≡ bytes
     same_changed true h = absurd (h refl)
     same_changed false h = refl
@@ -148,7 +148,7 @@ module _ (version : Version) where
     plain : (kind : ℕ) → type_of bytes ≡ kind → 0 < kind → IsFrame version kind bytes
     plain kind k p = subst (λ x. IsFrame version kind x) (as_it_is (omega (arith, k, p))) (frame kind k)
 
-    -- a unit of them is a unit
+    -- a PDU of them is a PDU
     back : (u : Unit) → 0 < type_of bytes → Reads version u bytes → IsRead version any bytes u
     back u p r = record { reads = subst (λ x. Reads version u x) (sym (as_it_is p)) r; shortest = short }
 
@@ -199,7 +199,7 @@ module _ (version : Version) where
     pub exact_plain : 0 < type_of bytes → length bytes ≡ length_of bytes
     exact_plain p = b.exact ∙ ap (λ x. length_of x) (as_it_is p)
 
-  -- the length of a unit, at its header
+  -- the length of a PDU, at its header
   pub header_size : (any : Bool) (bytes : List ℕ) → number_at 4 4 bytes ≡ length_of (as_read version any bytes)
   header_size any bytes = ap (λ x. big_number 4 x) (sym (drop-as_read any bytes 3))
 

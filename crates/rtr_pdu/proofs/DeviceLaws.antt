@@ -1,4 +1,4 @@
--- What a unit still wants, and what a read of it gives.
+-- What a PDU still wants, and what a read of it gives.
 use Rattle.std.specs.Prelude.{◌≡◌, ℕ, ◌+◌, ◌-◌, ◌<◌, ◌≤◌, true, false, nat_lt, if◌then◌else◌, List, [], ◌∷◌, ◌++◌, length, take, Option, Some, None, Result, Ok, Err, refl}
 use Rattle.std.proofs.Common.{sym, ap, ◌∙◌, subst, arith, append_assoc, inl, inr}
 use Rattle.std.proofs.lemmas.Bool.{cases_lt}
@@ -48,14 +48,14 @@ module _ (version : Version) where
   unfolding as_read
   strict bytes = refl
 
-  -- Behind a header the rest of the unit is wanted.
+  -- Behind a header the rest of the PDU is wanted.
   pub body_wants : (held : List ℕ) → IsPartial version (as_read version false held) → 8 ≤ length held → (length held < length_of held) × (length_of held ≤ 4096)
   body_wants held part eight =
       let p : IsPartial version held = subst (λ x. IsPartial version x) (strict held) part in
       let sized = header_sized version held eight p.0 in
       (elim p.1 [ inl short ↦ absurd (omega (arith, short, eight)) | inr less ↦ less ], sized.most)
 
-  -- The beginning of a unit has less than 4,096 bytes.
+  -- The beginning of a PDU has less than 4,096 bytes.
   pub partial_most : (held : List ℕ) → IsPartial version (as_read version false held) → length held < 4096
   partial_most held part =
       elim (cases_lt (length held) 8) [
@@ -63,7 +63,7 @@ module _ (version : Version) where
         | inr long ↦ (let more = body_wants held part long in omega (arith, more.0, more.1))
       ]
 
-  -- With no more than is wanted, no fewer bytes are a unit or show a fault.
+  -- With no more than is wanted, no fewer bytes are a PDU or show a fault.
   wanted_shortest : (held piece : List ℕ) → IsPartial version (as_read version false held) → length piece ≤ wanted held → IsShortest version false (held ++ piece)
   wanted_shortest held piece part room =
       let size = length-append held piece in
@@ -84,13 +84,13 @@ module _ (version : Version) where
   none_left held taken (b ∷ rest) part room whole =
       absurd (whole (wanted_shortest held (taken ++ b ∷ rest) part room (held ++ taken) (b ∷ rest) (sym (append_assoc held taken (b ∷ rest))) (omega arith)))
 
-  -- A unit is no beginning of one.
+  -- A PDU is no beginning of one.
   unit_whole : (bytes : List ℕ) (u : Unit) → IsRead version false bytes u → IsPartial version (as_read version false bytes) → ⊥
   unit_whole bytes u r part =
       let is = r.reads.bytes_are ∙ sym (append-nil (spelled version u r.reads.ignored)) in
       not_partial version u r.reads.ignored [] r.reads.fits r.reads.of_version (subst (λ x. IsPartial version x) is part)
 
-  -- A reader without a fault holds the beginning of a unit.
+  -- A reader without a fault holds the beginning of a PDU.
   pub begins : (r : Reader) → r.fault ≡ None → r.any ≡ false → IsReader version r → IsPartial version (as_read version false r.held)
   begins r sound mode h = subst (λ b. IsPartial version (as_read version b r.held)) mode (standing_none version r.fault r.any r.held sound h)
 
@@ -107,7 +107,7 @@ module _ (version : Version) where
     few : (taken : List ℕ) → now ≤ calls + length (r.held ++ taken) + 1
     few taken = let size = length-append r.held taken in omega (arith, size, most, one)
 
-    -- a unit
+    -- a PDU
     pub gives_unit : (u : Unit) → ReaderTakes version r piece (next.Unit u) rest new → ReadsUnit version before left calls now (Ok (Some u))
     gives_unit u t =
         let read : IsRead version false (r.held ++ t.taken) u = subst (λ b. IsRead version b (r.held ++ t.taken) u) mode t.gives.1 in

@@ -1,4 +1,4 @@
--- What is read of a stream is the first unit or fault of its split.
+-- What is read of a stream is the first PDU or fault of its split.
 use Rattle.std.specs.Prelude.{◌≡◌, ℕ, ◌<◌, false, List, [], ◌∷◌, ◌++◌, length, Option, Some, None, Ok, Err, refl}
 use Rattle.std.proofs.Common.{sym, ap, ◌∙◌, subst, arith, append_assoc}
 use Rattle.std.proofs.lemmas.List.{append-nil}
@@ -11,13 +11,13 @@ use Rattle.rtr_pdu.specs.Reader.{IsFaulty}
 use Rattle.rtr_pdu.specs.Device.{SaysOfSplit, TellsFirst}
 use Rattle.rtr_pdu.proofs.RunLaws.{later_shows}
 
--- bytes that end within a unit
+-- bytes that end within a PDU
 some_left : (bytes : List ℕ) → 0 < length bytes → end_fault bytes None ≡ Some faults.Truncated
 some_left [] h = absurd (omega (arith, h))
 some_left (b ∷ bytes) h = refl
 
 module _ (version : Version) where
-  -- A fault of a unit is that of a split without a unit.
+  -- A fault of a PDU is that of a split without a PDU.
   shown : (bytes left : List ℕ) (fault : UnitFault) → IsFaulty version false bytes fault → SaysOfSplit version bytes left (Err (read_faults.Fault fault))
   shown bytes left fault bad =
       (Some fault, record { front = []; whole = refl; read = refl; after = later_shows version false bytes left fault bad.shows }, refl)

@@ -1,4 +1,4 @@
--- Bytes are the beginning of a unit, begin with a unit, or show a fault. A fault that shows stays, whatever follows.
+-- Bytes are the beginning of a PDU, begin with a PDU, or show a fault. A fault that shows stays, whatever follows.
 use Rattle.std.specs.Prelude.{◌≡◌, ◌⊎◌, ℕ, ◌+◌, ◌-◌, ◌/◌, ◌%◌, ◌<◌, ◌≤◌, ◌^◌, Bool, true, false, not, ◌&&◌, ◌||◌, ◌==◌, nat_lt, nat_le, List, ◌++◌, length, take, drop, slice_index, Option, Some, None, if◌then◌else◌, refl}
 use Rattle.std.proofs.Common.{sym, ap, ◌∙◌, subst, arith, inl, inr}
 use Rattle.std.proofs.lemmas.List.{length-drop, length-append, drop-append-le, take-append-le, get_or_append_left}
@@ -157,7 +157,7 @@ utf8_decided bytes =
       | inr broken ↦ inr (λ h. let valid = is_utf8-from_IsUtf8 bytes h in false_true (sym broken ∙ valid))
     ]
 
--- whether a prefix unit holds a payload
+-- whether a prefix PDU holds a payload
 pub record_decided : (width : ℕ) (bytes : List ℕ) → Decided (IsRecord width bytes)
 record_decided width bytes =
     let low = le_decided (slice_index bytes 9) (slice_index bytes 10) in
@@ -241,7 +241,7 @@ module _ (version : Version) where
   pub header_judged : (bytes : List ℕ) → (header_fault version bytes ≡ None) ⊎ HasFault bytes
   header_judged bytes = header_cases bytes (nat_lt (length bytes) 8) (version_of bytes == version_number version) (is_type version (type_of bytes)) (has_length version (type_of bytes) (length_of bytes)) (nat_lt 4096 (length_of bytes)) refl
 
-  -- A whole unit behind a header without a fault is read, or shows a fault.
+  -- A whole PDU behind a header without a fault is read, or shows a fault.
   abbrev pub IsJudged : List ℕ → Type 0
   IsJudged bytes = HasFault bytes ⊎ ((u : Unit) × Reads version u bytes)
 

@@ -230,7 +230,7 @@ module _ (version : Version) where
       same : (other : UnitFault) → Faulty other ≡ Faulty fault → other ≡ fault
       same other e = cc
 
-  -- a unit that is read is judged
+  -- a PDU that is read is judged
   pub reads_judged : (any : Bool) (bytes : List ℕ) (u : Unit) → Reads version u (as_read version any bytes) → judge version any bytes ≡ Whole u
   unfolding judge
   reads_judged any bytes u r =

@@ -1,4 +1,4 @@
--- What the bytes of a unit are judged to be, one after the other.
+-- What the bytes of a PDU are judged to be, one after the other.
 use Rattle.std.specs.Prelude.{◌≡◌, ◌⊎◌, ℕ, ◌+◌, ◌<◌, ◌≤◌, Bool, true, false, ◌&&◌, List, [], ◌∷◌, ◌++◌, length, drop, None, if◌then◌else◌, refl}
 use Rattle.std.proofs.Common.{sym, ap, ◌∙◌, subst, arith, inl, inr}
 use Rattle.std.proofs.lemmas.Bool.{cases_lt}
@@ -33,7 +33,7 @@ module _ (version : Version) where
   none_as_read true = refl
   none_as_read false = refl
 
-  -- the first byte of a unit
+  -- the first byte of a PDU
   begins_with : (u : Unit) (z : Ignored) → spelled version u z ≡ version_number version ∷ drop 1 (spelled version u z)
   begins_with (SerialNotify session serial) z = refl
   begins_with (SerialQuery session serial) z = refl
@@ -46,18 +46,18 @@ module _ (version : Version) where
   begins_with (RouterKey k) z = refl
   begins_with (ErrorReport r) z = refl
 
-  -- A unit that is sent is judged that unit, at a cache and at a router.
+  -- A PDU that is sent is judged that PDU, at a cache and at a router.
   pub judge_sent : (any : Bool) (u : Unit) → IsUnit u → fits version u ≡ true → judge version any (unit_bytes version u) ≡ Whole u
   judge_sent any u fits own =
       let is : as_read version any (unit_bytes version u) ≡ unit_bytes version u =
       ap (as_read version any) (begins_with u zeros) ∙ own_version any (drop 1 (unit_bytes version u)) ∙ sym (begins_with u zeros) in
       reads_judged version any (unit_bytes version u) u (subst (λ x. Reads version u x) (sym is) (written_is_read version u fits own))
 
-  -- A unit has a byte.
+  -- A PDU has a byte.
   pub some_sent : (u : Unit) → unit_bytes version u ≡ [] → ⊥
   some_sent u e = let h : [] ≡ version_number version ∷ drop 1 (unit_bytes version u) = sym e ∙ begins_with u zeros in cc
 
-  -- A unit has at most 4,096 bytes.
+  -- A PDU has at most 4,096 bytes.
   pub sent_most : (u : Unit) → IsUnit u → fits version u ≡ true → length (unit_bytes version u) ≤ 4096
   sent_most u fits own =
       let o = opens version u zeros [] fits own in
@@ -65,7 +65,7 @@ module _ (version : Version) where
       let sized = header_sized version (spelled version u zeros ++ []) (omega (arith, ap length whole, o.eight)) o.fault in
       omega (arith, sized.most, o.len)
 
-  -- what stands before a byte of a unit is the beginning of one
+  -- what stands before a byte of a PDU is the beginning of one
   part_of : (u : Unit) (part rest : List ℕ) (b : ℕ) → IsUnit u → fits version u ≡ true → part ++ b ∷ rest ≡ unit_bytes version u → IsPartial version part
   part_of u part rest b fits own e =
       let o = opens version u zeros [] fits own in

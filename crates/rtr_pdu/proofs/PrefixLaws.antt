@@ -56,7 +56,7 @@ module _ (version : Version) (any : Bool) where
       by kinds.RouterKey is not_4 not_6 t = elim t [ inl a ↦ omega (arith, is, a) | inr b ↦ omega (arith, is, b) ]
       by kinds.ErrorReport is not_4 not_6 t = elim t [ inl a ↦ omega (arith, is, a) | inr b ↦ omega (arith, is, b) ]
 
-  -- ---- bytes that begin with a whole unit
+  -- ---- bytes that begin with a whole PDU
 
   front_read : (bytes : List ℕ) → 8 ≤ length bytes → as_read version any bytes ≡ as_read version any (take 8 bytes) ++ drop 8 bytes
   front_read bytes long =
@@ -93,7 +93,7 @@ module _ (version : Version) (any : Bool) where
   pub whole_front : (u : Unit) (bytes front rest : List ℕ) → bytes ≡ front ++ rest → Reads version u (as_read version any front) → IsWhole version (as_read version any bytes)
   whole_front u bytes front rest is r = subst (λ x. IsWhole version (as_read version any x)) (sym is) (front_whole u front rest r).0
 
-  -- and is the whole unit that its header tells.
+  -- and is the whole PDU that its header tells.
   pub same_front : (u : Unit) (bytes front rest : List ℕ) (size : ℕ) → bytes ≡ front ++ rest → Reads version u (as_read version any front) → size ≤ length bytes → IsBody version any (take size bytes) → front ≡ take size bytes
   same_front u bytes front rest size is r fits body =
       let len : length (take size bytes) ≡ size = omega (arith, length-take size bytes, fits) in

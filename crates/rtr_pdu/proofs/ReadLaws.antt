@@ -1,4 +1,4 @@
--- A whole unit without a fault is read as what its type says.
+-- A whole PDU without a fault is read as what its type says.
 use Rattle.std.specs.Prelude.{◌≡◌, ℕ, ◌+◌, ◌-◌, ◌*◌, ◌/◌, ◌%◌, ◌<◌, ◌≤◌, ◌^◌, Bool, true, false, not, ◌==◌, List, [], ◌∷◌, ◌++◌, length, take, drop, slice_index, refl}
 use Rattle.std.proofs.Common.{sym, ap, ◌∙◌, subst, arith, append_assoc, zero, suc, inl, inr}
 use Rattle.std.proofs.Math.Nat.{div-eq_of_lt, mul-add-div_right, mul-add-mod_self_right, mul_assoc, pow-succ', one-le-pow, div-one}
@@ -108,7 +108,7 @@ flag_parts n =
     let e : n ≡ n % 2 + 2 * (n / 2) = omega arith in
     odd_parts (is_odd n) n (n / 2) (is_one n (n / 2) e) (is_none n (n / 2) e)
 
--- what is ignored of a unit with flags
+-- what is ignored of a PDU with flags
 abbrev flagged : List ℕ → ℕ → ℕ → Ignored
 flagged bytes at byte = record { header = number_at 2 2 bytes; flags = slice_index bytes at / 2; byte = slice_index bytes byte }
 
@@ -134,7 +134,7 @@ with_header n = record { header = n; flags = 0; byte = 0 }
 bits_header : (bytes : List ℕ) → AreBytes bytes → AreBits (with_header (number_at 2 2 bytes))
 bits_header bytes each = record { header = number_fits bytes each 2 2; flags = omega arith; byte = omega arith }
 
--- a whole unit of a type
+-- a whole PDU of a type
 pub record IsFrame (version : Version) (kind : ℕ) (bytes : List ℕ) : Type 0 where
   pub each : AreBytes bytes
   pub version_is : version_of bytes ≡ version_number version
@@ -154,7 +154,7 @@ module _ (version : Version) where
   frame_of : (kind len : ℕ) (bytes : List ℕ) (f : IsFrame version kind bytes) → length bytes ≡ len → bytes ≡ header version kind (number_at 2 2 bytes) len ++ drop 8 bytes
   frame_of kind len bytes f e = frame_is kind bytes f ∙ ap (λ n. header version kind (number_at 2 2 bytes) n ++ drop 8 bytes) e
 
-  -- units that are a header and numbers of 4 bytes
+  -- PDUs that are a header and numbers of 4 bytes
   pub reads_0 : (bytes : List ℕ) → IsFrame version 0 bytes → length bytes ≡ 12 → Reads version (SerialNotify (number_at 2 2 bytes) (number_at 4 8 bytes)) bytes
   reads_0 bytes f e = record {
     of_version = refl;

@@ -114,11 +114,11 @@ module _ (version : Version) where
 
   -- the body, behind a header without a fault
   module _ (any : Bool) (held piece : List ℕ) (none : header_fault version (as_read version any held) ≡ None) (eight : 8 ≤ length held) (room : length held ≤ length_of (as_read version any held)) where
-    -- the size of the unit
+    -- the size of the PDU
     abbrev size : ℕ
     size = length_of (as_read version any held)
 
-    -- less than the unit has come
+    -- less than the PDU has come
     pub fills_short : length (filled size held piece) < size → Advances version any held piece next.NeedMore (unfilled size held piece) (filled size held piece)
     fills_short h = record {
       taken = take (size - length held) piece;
@@ -131,7 +131,7 @@ module _ (version : Version) where
     }
 
     module _ (h : size ≤ length (filled size held piece)) where
-      -- the unit has come: it is as long as it says
+      -- the PDU has come: it is as long as it says
       pub body_size : length (filled size held piece) ≡ length_of (as_read version any (filled size held piece))
       body_size = omega (arith, length_stays any held (take (size - length held) piece) eight, h, filled_most size held piece room)
 
@@ -189,7 +189,7 @@ module _ (version : Version) where
       ];
     }
 
-    -- without a fault, no more is held than the unit
+    -- without a fault, no more is held than the PDU
     pub header_room : header_fault version (as_read version any (filled 8 held piece)) ≡ None → 8 ≤ length_of (as_read version any (filled 8 held piece)) → length (filled 8 held piece) ≤ length_of (as_read version any (filled 8 held piece))
     header_room none least =
         elim header_whole [
@@ -202,11 +202,11 @@ module _ (version : Version) where
               ])
         ]
 
-  -- nothing is the beginning of a unit
+  -- nothing is the beginning of a PDU
   pub partial_empty : (any : Bool) → IsPartial version (as_read version any [])
   partial_empty any = let short : length (as_read version any []) < 8 = omega (arith, length-as_read version any []) in (short_none version (as_read version any []) short, inl short)
 
-  -- less than a header is the beginning of a unit
+  -- less than a header is the beginning of a PDU
   pub partial_short : (any : Bool) (bytes : List ℕ) → length bytes < 8 → IsPartial version (as_read version any bytes)
   partial_short any bytes h = let short : length (as_read version any bytes) < 8 = omega (arith, length-as_read version any bytes, h) in (short_none version (as_read version any bytes) short, inl short)
 
@@ -214,7 +214,7 @@ module _ (version : Version) where
   abbrev pub Standing : Option UnitFault → Bool → List ℕ → Type 0
   Standing fault any bytes = MatchOption fault (IsPartial version (as_read version any bytes)) (ReaderStands version any bytes)
 
-  -- without a fault, the beginning of a unit is held
+  -- without a fault, the beginning of a PDU is held
   pub standing_none : (fault : Option UnitFault) (any : Bool) (bytes : List ℕ) → fault ≡ None → Standing fault any bytes → IsPartial version (as_read version any bytes)
   standing_none fault any bytes e h = let P : Option UnitFault → Type 0 = λ x. Standing x any bytes in subst P e h
 

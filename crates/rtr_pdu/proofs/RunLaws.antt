@@ -22,19 +22,19 @@ use Rattle.rtr_pdu.proofs.VersionLaws.{version_stays}
 use Rattle.rtr_pdu.specs.Reader.{Reader, ReaderTakes, IsReader, fresh, after_agreed, told, version_with}
 use Rattle.rtr_pdu.specs.Run.{HasRead, HasBegun, HasFed, HasOnly, ReadsOn}
 
--- the mode after one unit more
+-- the mode after one PDU more
 pub any_after-push : (any : Bool) (units : List Unit) (u : Unit) → any_after any (units ++ u ∷ []) ≡ (any_after any units && is_notify u)
 any_after-push any [] u = refl
 any_after-push any (v ∷ units) u = any_after-push (any && is_notify v) units u
 
--- a fresh reader is told of a unit
+-- a fresh reader is told of a PDU
 told_fresh : (version : Option Version) (b : Bool) (later : Bool) → elim b [ true ↦ fresh version later | false ↦ after_agreed (fresh version later) ] ≡ fresh version (later && b)
 told_fresh version true true = refl
 told_fresh version true false = refl
 told_fresh version false true = refl
 told_fresh version false false = refl
 
--- a reader that is told of the unit that it gave
+-- a reader that is told of the PDU that it gave
 told_then : (version : Version) (u : Unit) (r : Reader) (piece rest : List ℕ) (new later : Reader) → (t : ReaderTakes version r piece (next.Unit u) rest new) → later ≡ told u new → later ≡ fresh (Some version) (r.later && is_notify u)
 told_then version u r piece rest new later t e = e ∙ ap (λ x. told u x) t.gives.2 ∙ told_fresh (Some version) (is_notify u) r.later
 
@@ -63,7 +63,7 @@ module _ {X : Type 0} (f : X → List ℕ) where
   pieces_all n xs h = ap (flat_map f) (take_all n xs h)
 
 module _ (version : Version) where
-  -- one unit more
+  -- one PDU more
   pub AreRead-push : (any : Bool) (units : List Unit) (front more : List ℕ) (u : Unit) → AreRead version any units front → Reads version u (as_read version (any_after any units) more) → AreRead version any (units ++ u ∷ []) (front ++ more)
   AreRead-push any [] front more u h r = (more, [], ap (λ x. x ++ more) h ∙ sym (append-nil more), r, refl)
   AreRead-push any (v ∷ units) front more u h r =
@@ -93,7 +93,7 @@ module _ (version : Version) where
         partial = t.gives.1;
       })
 
-  -- a unit is read, and the reader told of agreement
+  -- a PDU is read, and the reader told of agreement
   pub reads_unit : (any : Bool) (stream : List ℕ) (units : List Unit) (r : Reader) (piece rest : List ℕ) (u : Unit) (new later : Reader)
       → HasRead version any stream units r → (t : ReaderTakes version r piece (next.Unit u) rest new) → later ≡ told u new → HasRead version any (stream ++ t.taken) (units ++ u ∷ []) later
   reads_unit any stream units r piece rest u new later h t e =
@@ -110,14 +110,14 @@ module _ (version : Version) where
         partial = partial_empty version (r.later && is_notify u);
       })
 
-  -- A unit takes some byte.
+  -- A PDU takes some byte.
   no_unit_yet : (any : Bool) (held taken : List ℕ) (u : Unit) → taken ≡ [] → IsPartial version (as_read version any held) → Reads version u (as_read version any (held ++ taken)) → ⊥
   no_unit_yet any held taken u e part r =
       let is : as_read version any held ≡ spelled version u r.ignored ++ [] =
       ap (as_read version any) (sym (append-nil held) ∙ ap (λ x. held ++ x) (sym e)) ∙ r.bytes_are ∙ sym (append-nil (spelled version u r.ignored)) in
       not_partial version u r.ignored [] r.fits r.of_version (subst (λ x. IsPartial version x) is part)
 
-  -- A unit leaves less of the piece.
+  -- A PDU leaves less of the piece.
   pub takes_some : (r : Reader) (piece rest : List ℕ) (u : Unit) (new : Reader) → IsReader version r → ReaderTakes version r piece (next.Unit u) rest new → length rest < length piece
   takes_some r piece rest u new h t =
       let part = standing_none version r.fault r.any r.held t.gives.0 h in
@@ -171,7 +171,7 @@ module _ (start : Option Version) (any : Bool) where
   splits_begun stream units r h =
       subst (λ x. Splits (version_in start x) any stream units r.held None) (append-nil stream) (splits (version_in start (stream ++ [])) any stream units r (h []).0)
 
--- a unit has 8 bytes or more
+-- a PDU has 8 bytes or more
 pub unit_long : (version : Version) (any : Bool) (bytes : List ℕ) (u : Unit) → Reads version u (as_read version any bytes) → 8 ≤ length bytes
 unit_long version any bytes u r =
     let o = opens version u r.ignored [] r.fits r.of_version in
@@ -186,7 +186,7 @@ told_by r taken left more h =
     (λ i. version_in r.version (sym (append_assoc r.held taken left) i)) ∙ version_stays r.version (r.held ++ taken) left (left ++ more) h
     ∙ (λ i. version_in r.version (append_assoc r.held taken (left ++ more) i)) ∙ (λ i. version_in r.version (r.held ++ sym (append_assoc taken left more) i))
 
--- what shows a unit or a fault is taken in the same version, whatever follows
+-- what shows a PDU or a fault is taken in the same version, whatever follows
 unit_longer : (r : Reader) (rest left more : List ℕ) (u : Unit) (new : Reader) → ReaderTakes (version_with r rest) r rest (next.Unit u) left new → Told r rest more
 unit_longer r rest left more u new t =
     let long = unit_long (version_with r rest) r.any (r.held ++ t.taken) u t.gives.1.reads in
@@ -213,7 +213,7 @@ more_longer r rest left more new t =
       }
     ]
 
--- a unit more of the piece
+-- a PDU more of the piece
 pub goes_unit : (before : List Unit) (began : Reader) (piece : List ℕ) (units : List Unit) (r : Reader) (rest left : List ℕ) (u : Unit) (new later : Reader)
     → ReadsOn before began piece units r rest → ReaderTakes (version_with r rest) r rest (next.Unit u) left new → later ≡ told u new → ReadsOn before began piece (units ++ u ∷ []) later left
 goes_unit before began piece units r rest left u new later g t e start any stream h =

@@ -27,14 +27,14 @@ module _ (version : Version) where
   unfolding as_read
   AreBytes-as_read any bytes each = changed_bytes (any && is_notify_header bytes) bytes each
 
-  -- What bytes begin with: a unit of n bytes, a fault, or less than a unit
+  -- What bytes begin with: a PDU of n bytes, a fault, or less than a PDU
   abbrev Begins : Bool → List ℕ → Type 0
   Begins any bytes =
       IsPartial version (as_read version any bytes) ⊎ (((fault : UnitFault) × Shows version (as_read version any bytes) fault)
       ⊎ ((n : ℕ) × (8 ≤ n) × (n ≤ length bytes) × (u : Unit) × Reads version u (as_read version any (take n bytes))))
 
   module _ (any : Bool) (bytes : List ℕ) (each : AreBytes bytes) (none : header_fault version (as_read version any bytes) ≡ None) (long : 8 ≤ length bytes) (size : length_of (as_read version any bytes) ≤ length bytes) where
-    -- the length of the unit at the front
+    -- the length of the PDU at the front
     abbrev n : ℕ
     n = length_of (as_read version any bytes)
 
@@ -42,7 +42,7 @@ module _ (version : Version) where
     least : 8 ≤ length_of (as_read version any bytes)
     least = (header_sized version (as_read version any bytes) (omega (arith, length-as_read version any bytes, long)) none).eight
 
-    -- the unit is as long
+    -- the PDU is as long
     front_len : length (take n bytes) ≡ n
     front_len = length-take-le n bytes size
 
@@ -66,7 +66,7 @@ module _ (version : Version) where
     front_size : length (as_read version any (take n bytes)) ≡ length_of (as_read version any (take n bytes))
     front_size = length-as_read version any (take n bytes) ∙ front_len ∙ ap (λ x. length_of x) whole_is ∙ length_of-append (as_read version any (take n bytes)) (drop n bytes) read_long
 
-    -- so bytes of which a whole unit has come begin with one, or show a fault
+    -- so bytes of which a whole PDU has come begin with one, or show a fault
     unit_begins : Begins any bytes
     unit_begins =
         elim (judged version (as_read version any (take n bytes)) (AreBytes-as_read any (take n bytes) (AreBytes-take n bytes each)) (front_none, read_long, omega (arith, front_size)) front_size) [
@@ -119,7 +119,7 @@ module _ (version : Version) where
 pub each_splits : EachSplits
 each_splits version any stream each = split_within version (suc (length stream)) any stream each (omega arith)
 
--- Bytes that are as long as they say have no shorter beginning that ends a unit or shows a fault, nor have 8 bytes.
+-- Bytes that are as long as they say have no shorter beginning that ends a PDU or shows a fault, nor have 8 bytes.
 module _ (version : Version) where
   -- the first 8 bytes
   pub shortest_8 : (any : Bool) (bytes : List ℕ) → length bytes ≤ 8 → IsShortest version any bytes
@@ -128,7 +128,7 @@ module _ (version : Version) where
       let short : length (as_read version any front) < 8 = omega (arith, length-as_read version any front, sizes, size, more) in
       (short_none version (as_read version any front) short, inl short)
 
-  -- a unit behind a header without a fault
+  -- a PDU behind a header without a fault
   pub shortest_whole : (any : Bool) (bytes : List ℕ) → header_fault version (as_read version any bytes) ≡ None → length bytes ≤ length_of (as_read version any bytes) → IsShortest version any bytes
   shortest_whole any bytes none size front back e more =
       let sizes : length bytes ≡ length front + length back = ap length e ∙ length-append front back in

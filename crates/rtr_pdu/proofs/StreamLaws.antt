@@ -1,4 +1,4 @@
--- A stream is split into units in one way.
+-- A stream is split into PDUs in one way.
 use Rattle.std.specs.Prelude.{◌≡◌, ◌⊎◌, ℕ, ◌+◌, ◌-◌, ◌%◌, ◌≤◌, ◌^◌, Bool, true, false, ◌&&◌, ◌||◌, ◌==◌, List, [], ◌∷◌, ◌++◌, length, drop, Option, Some, None, MatchOption, refl}
 use Rattle.std.proofs.Common.{sym, ap, ◌∙◌, subst, arith, append_assoc, inl, inr}
 use Rattle.std.proofs.Math.Seq.{drop-append_seam}
@@ -17,13 +17,13 @@ use Rattle.rtr_pdu.specs.Stream.{as_read, is_notify, any_after, AreRead, type_of
 use Rattle.rtr_pdu.specs.Judging.{unit_in}
 use Rattle.rtr_pdu.proofs.UnitLaws.{unit_in-spelled, opens, is_report, back}
 
--- The body of a unit has no fault.
+-- The body of a PDU has no fault.
 record IsSound (version : Version) (bytes : List ℕ) : Type 0 where
   v4 : type_of bytes ≡ 4 → IsRecord 32 bytes
   v6 : type_of bytes ≡ 6 → IsRecord 128 bytes
   report : type_of bytes ≡ 10 → IsReport version bytes
 
--- a unit of another type has no body that may have a fault
+-- a PDU of another type has no body that may have a fault
 abbrev may_fault : ℕ → Bool
 may_fault kind = kind == 4 || (kind == 6 || kind == 10)
 
@@ -34,7 +34,7 @@ no_fault version bytes kind e none =
     record { v4 = λ h. absurd (other 4 refl h); v6 = λ h. absurd (other 6 refl h); report = λ h. absurd (other 10 refl h) }
 
 module _ (version : Version) where
-  -- a unit of a type whose body may have a fault has none
+  -- a PDU of a type whose body may have a fault has none
   sound_prefix : (a : Bool) (v : Payload) (z : Ignored) (rest : List ℕ) → IsPayload v → IsSound version (spelled version (Prefix a v) z ++ rest)
   sound_prefix a v z rest fits =
       elim v.prefix as (λ p. IsPayload (record v { prefix = p }) → IsSound version (prefix_bytes version a p v.max_len v.asn z ++ rest)) [
@@ -50,7 +50,7 @@ module _ (version : Version) where
         }
       ] fits
 
-  -- no unit has a fault in its body
+  -- no PDU has a fault in its body
   sound_unit : (u : Unit) (z : Ignored) (rest : List ℕ) → IsUnit u → IsSound version (spelled version u z ++ rest)
   sound_unit (Prefix a v) z rest fits = sound_prefix a v z rest fits
   sound_unit (ErrorReport r) z rest fits =
@@ -80,7 +80,7 @@ module _ (version : Version) where
   kinds bytes faults.Length h = inl h
   kinds bytes faults.TooLong h = inl h
 
-  -- Bytes that begin with a unit show no fault, and are no beginning of one.
+  -- Bytes that begin with a PDU show no fault, and are no beginning of one.
   pub not_shown : (u : Unit) (z : Ignored) (rest : List ℕ) → IsUnit u → fits version u ≡ true → (fault : UnitFault) → Shows version (spelled version u z ++ rest) fault → ⊥
   not_shown u z rest fits own fault h =
       elim (kinds (spelled version u z ++ rest) fault h) [
@@ -91,23 +91,23 @@ module _ (version : Version) where
         ]
       ]
 
-  -- a unit is no beginning of one
+  -- a PDU is no beginning of one
   pub not_partial : (u : Unit) (z : Ignored) (rest : List ℕ) → IsUnit u → fits version u ≡ true → IsPartial version (spelled version u z ++ rest) → ⊥
   not_partial u z rest fits own h =
       let o = opens version u z rest fits own in
       let size : length (spelled version u z ++ rest) ≡ length (spelled version u z) + length rest = length-append (spelled version u z) rest in
       elim h.1 [ inl short ↦ absurd (omega (arith, o.eight, size, short)) | inr less ↦ absurd (omega (arith, o.len, size, less)) ]
 
-  -- what follows the last unit
+  -- what follows the last PDU
   abbrev After : List ℕ → Option UnitFault → Type 0
   After rest fault = MatchOption fault (IsPartial version rest) (Shows version rest)
 
-  -- so what follows the last unit begins with none
+  -- so what follows the last PDU begins with none
   no_unit : (u : Unit) (z : Ignored) (bytes : List ℕ) → IsUnit u → fits version u ≡ true → (fault : Option UnitFault) → After (spelled version u z ++ bytes) fault → ⊥
   no_unit u z bytes fits own None h = not_partial u z bytes fits own h
   no_unit u z bytes fits own (Some fault) h = not_shown u z bytes fits own fault h
 
-  -- a beginning of a unit shows no fault
+  -- a beginning of a PDU shows no fault
   pub not_both : (rest : List ℕ) (fault : UnitFault) → IsPartial version rest → Shows version rest fault → ⊥
   not_both rest fault part h =
       elim (kinds rest fault h) [
@@ -135,14 +135,14 @@ module _ (version : Version) where
         ]
       ]
 
-  -- what follows the last unit has one fault, or none
+  -- what follows the last PDU has one fault, or none
   same_after : (rest : List ℕ) (a b : Option UnitFault) → After rest a → After rest b → a ≡ b
   same_after rest None None g h = refl
   same_after rest None (Some b) g h = absurd (not_both rest b g h)
   same_after rest (Some a) None g h = absurd (not_both rest a h g)
   same_after rest (Some a) (Some b) g h = ap Some (one_fault rest a b g h)
 
-  -- two units at the front of one stream
+  -- two PDUs at the front of one stream
   same_front : (u v : Unit) (f g s t : List ℕ) → Reads version u f → Reads version v g → f ++ s ≡ g ++ t → (u ≡ v) × (s ≡ t)
   same_front u v f g s t a b e =
       let first : spelled version u a.ignored ++ s ≡ spelled version v b.ignored ++ t = ap (λ x. x ++ s) (sym a.bytes_are) ∙ e ∙ ap (λ x. x ++ t) b.bytes_are in
@@ -158,21 +158,21 @@ module _ (version : Version) where
       let eight : 8 ≤ length (as_read version any f) = subst (λ x. 8 ≤ length x) (sym a.bytes_are) (opens version u a.ignored [] a.fits a.of_version).eight in
       omega (arith, length-as_read version any f, eight)
 
-  -- bytes that begin with a unit, as a router reads them
+  -- bytes that begin with a PDU, as a router reads them
   pub front_as_read : (any : Bool) (u : Unit) (f s : List ℕ) (a : Reads version u (as_read version any f)) → as_read version any (f ++ s) ≡ spelled version u a.ignored ++ s
   front_as_read any u f s a = as_read-append version any f s (long_front any u f a) ∙ ap (λ x. x ++ s) a.bytes_are
 
-  -- two units at the front of one stream, as a router reads them
+  -- two PDUs at the front of one stream, as a router reads them
   same_read : (any : Bool) (u v : Unit) (f g s t : List ℕ) → Reads version u (as_read version any f) → Reads version v (as_read version any g) → f ++ s ≡ g ++ t → (u ≡ v) × (s ≡ t)
   same_read any u v f g s t a b e =
       same_front u v (as_read version any f) (as_read version any g) s t a b
       (sym (as_read-append version any f s (long_front any u f a)) ∙ ap (as_read version any) e ∙ as_read-append version any g t (long_front any v g b))
 
-  -- what follows the last unit, as a router reads it
+  -- what follows the last PDU, as a router reads it
   abbrev Later : Bool → List ℕ → Option UnitFault → Type 0
   Later any rest fault = After (as_read version any rest) fault
 
-  -- two splits, unit by unit
+  -- two splits, PDU by PDU
   same_split : (any : Bool) (us vs : List Unit) (f g rest left : List ℕ) (a b : Option UnitFault) → f ++ rest ≡ g ++ left → AreRead version any us f → AreRead version any vs g → Later (any_after any us) rest a → Later (any_after any vs) left b → SameSplit us vs rest left a b
   same_split any [] [] f g rest left a b e h k p q =
       let rests : rest ≡ left = ap (λ x. x ++ rest) (sym h) ∙ e ∙ ap (λ x. x ++ left) k in
@@ -199,7 +199,7 @@ pub one_split : OneSplit
 one_split version any stream units others rest left fault other s t =
     same_split version any units others s.front t.front rest left fault other (sym s.whole ∙ t.whole) s.read t.read s.after t.after
 
--- No unit's spelling begins another's.
+-- No PDU's spelling begins another's.
 pub no_beginning : NoBeginning
 no_beginning = same_front
 

@@ -1,4 +1,4 @@
--- No bytes are read as two units, and no unit's bytes begin another's.
+-- No bytes are read as two PDUs, and no PDU's bytes begin another's.
 use Rattle.std.specs.Prelude.{◌≡◌, ℕ, ◌+◌, ◌-◌, ◌*◌, ◌%◌, ◌<◌, ◌≤◌, ◌^◌, Bool, true, false, ◌==◌, List, [], ◌++◌, length, take, drop, Some, None, if◌then◌else◌, refl, not, ◌||◌, nat_lt, nat_le}
 use Rattle.std.proofs.Common.{sym, ap, ◌∙◌, subst, arith, append_assoc}
 use Rattle.std.proofs.Math.Seq.{take-append_seam, drop-append_seam, drop-append-add}
@@ -32,7 +32,7 @@ odd_flag : (a : Bool) (k : ℕ) → is_odd (flag a + 2 * k) ≡ a
 odd_flag true k = let e : (1 + 2 * k) % 2 ≡ 1 = omega arith in ap (λ n. n == 1) e
 odd_flag false k = let e : (0 + 2 * k) % 2 ≡ 0 = omega arith in ap (λ n. n == 1) e
 
--- what the tests of a header say of the lengths of units
+-- what the tests of a header say of the lengths of PDUs
 not_long : (n : ℕ) → n ≤ 4096 → nat_lt 4096 n ≡ false
 not_long n h = grind (arith, nat_tests)
 
@@ -68,7 +68,7 @@ module _ (xs ys zs rest : List ℕ) where
   third_of_row : (n k : ℕ) → length xs + length ys ≡ n → length zs ≡ k → take k (drop n (((xs ++ ys) ++ zs) ++ rest)) ≡ zs
   third_of_row n k e f = ap (take k) (after_second n e) ∙ ap (λ m. take m (zs ++ rest)) (sym f) ∙ take-append_seam zs rest
 
--- The header of a unit has no fault, and tells its length.
+-- The header of a PDU has no fault, and tells its length.
 pub record Opens (version : Version) (front bytes : List ℕ) : Type 0 where
   pub fault : header_fault version bytes ≡ None
   pub len : length_of bytes ≡ length front
@@ -169,7 +169,7 @@ module _ (version : Version) where
       else if not_long (length_of bytes) long i then Some faults.TooLong
       else None
 
-  -- the same of a unit whose bytes are before others
+  -- the same of a PDU whose bytes are before others
   opens_with : (front rest : List ℕ) → 8 ≤ length front → (version_of (front ++ rest) == version_number version) ≡ true → is_type version (type_of (front ++ rest)) ≡ true
       → has_length version (type_of (front ++ rest)) (length_of (front ++ rest)) ≡ true → length_of (front ++ rest) ≡ length front → length front ≤ 4096 → Opens version front (front ++ rest)
   opens_with front rest eight version kind has len long = record {

@@ -1,4 +1,4 @@
--- One unit from a reader, and one to a writer (RFC 8210 section 5).
+-- One PDU from a reader, and one to a writer (RFC 8210 section 5).
 use Rattle.std.specs.Prelude.{◌≡◌, ℕ, ◌+◌, ◌-◌, ◌<◌, ◌≤◌, false, nat_lt, List, [], ◌∷◌, ◌++◌, length, take, Option, Some, None, Result, Ok, Err, if◌then◌else◌, ⊤}
 use Rattle.std.specs.Io.KnownBytes.{Appends, Consumes, IsAtEnd}
 use Rattle.rtr_pdu.specs.declared.version.Version.{Version}
@@ -12,8 +12,8 @@ use Rattle.rtr_pdu.specs.Counted.{calls_of, failures_of, HasFailed}
 use Rattle.rtr_pdu.specs.Stream.{as_read, length_of, IsPartial, Splits, end_fault}
 use Rattle.rtr_pdu.specs.Reader.{IsFaulty, IsRead}
 
--- What these bytes are, and that they are the last ones where it is told that the input ends: a unit and no more, or nothing,
--- or the beginning of a unit, or what shows a fault and no more
+-- What these bytes are, and that they are the last ones where it is told that the input ends: a PDU and no more, or nothing,
+-- or the beginning of a PDU, or what shows a fault and no more
 abbrev pub ReadAnswers : Version → List ℕ → Option (List ℕ) → Result (Option Unit) ReadFault → Type 0
 ReadAnswers version bytes left (Ok (Some u)) = IsRead version false bytes u
 ReadAnswers version bytes left (Ok None) = (bytes ≡ []) × IsAtEnd left
@@ -33,8 +33,8 @@ abbrev pub CountsRead : {D : Type 0} → Counted D → Counted D → Result (Opt
 CountsRead old new (Err read_faults.ReadFailed) = HasFailed old new
 CountsRead old new answer = (failures_of new ≡ failures_of old) × (calls_of old < calls_of new)
 
--- What this answer, after these bytes were read, says of the split of what there was, where this is left: its first unit, and then
--- the units of what is left; or no unit, and this fault at its end; or nothing at all
+-- What this answer, after these bytes were read, says of the split of what there was, where this is left: its first PDU, and then
+-- the PDUs of what is left; or no PDU, and this fault at its end; or nothing at all
 abbrev pub SaysOfSplit : Version → List ℕ → List ℕ → Result (Option Unit) ReadFault → Type 0
 SaysOfSplit version bytes left (Ok (Some u)) =
     (units : List Unit) (rest : List ℕ) (fault : Option UnitFault) → Splits version false left units rest fault → Splits version false (bytes ++ left) (u ∷ units) rest fault
@@ -43,7 +43,7 @@ SaysOfSplit version bytes left (Err (read_faults.Fault fault)) =
     (shown : Option UnitFault) × Splits version false (bytes ++ left) [] (bytes ++ left) shown × (end_fault (bytes ++ left) shown ≡ Some fault)
 SaysOfSplit version bytes left (Err read_faults.ReadFailed) = ⊤
 
--- An answer tells the first unit or fault of the split, where the reader's bytes are known.
+-- An answer tells the first PDU or fault of the split, where the reader's bytes are known.
 abbrev pub TellsFirst : Type 0
 TellsFirst = (version : Version) (bytes left : List ℕ) (answer : Result (Option Unit) ReadFault) → ReadAnswers version bytes (Some left) answer → SaysOfSplit version bytes left answer
 
@@ -51,7 +51,7 @@ TellsFirst = (version : Version) (bytes left : List ℕ) (answer : Result (Optio
 abbrev pub GoesOutInPart : Option (List ℕ) → Option (List ℕ) → List ℕ → Type 0
 GoesOutInPart before now bytes = (n : ℕ) × (n < length bytes) × Appends before now (take n bytes)
 
--- How many bytes are wanted behind these of a unit: to the end of its header, or of the whole
+-- How many bytes are needed behind these of a PDU: to the end of its header, or of the whole
 abbrev pub wanted : List ℕ → ℕ
 wanted held = if nat_lt (length held) 8 then 8 - length held else length_of held - length held
 

@@ -1,4 +1,4 @@
--- What bytes are, byte by byte: the beginning of a unit, a unit, or a fault (RFC 6810 section 5, RFC 8210 sections 5 and 12).
+-- What bytes are, byte by byte: the beginning of a PDU, a PDU, or a fault (RFC 6810 section 5, RFC 8210 sections 5 and 12).
 use Rattle.std.specs.Prelude.{◌≡◌, ◌↔◌, ℕ, ◌+◌, ◌-◌, ◌/◌, ◌%◌, ◌^◌, Bool, not, ◌&&◌, ◌==◌, nat_lt, nat_le, List, length, take, drop, slice_index, Option, Some, None, if◌then◌else◌}
 use Rattle.std.specs.Str.{is_utf8}
 use Rattle.byteorder.specs.Endian.{big_number}
@@ -20,7 +20,7 @@ abbrev pub end_of_data_in : Version → List ℕ → Unit
 end_of_data_in V0 bytes = EndOfData0 (number_at 2 2 bytes) (number_at 4 8 bytes)
 end_of_data_in V1 bytes = EndOfData (number_at 2 2 bytes) (number_at 4 8 bytes) (number_at 4 12 bytes) (number_at 4 16 bytes) (number_at 4 20 bytes)
 
--- What bytes are read as, by their type: a front of them, if they begin with a unit
+-- What bytes are read as, by their type: a front of them, if they begin with a PDU
 abbrev pub unit_in : Version → List ℕ → Unit
 unit_in version bytes =
     if is_kind kinds.SerialNotify bytes then SerialNotify (number_at 2 2 bytes) (number_at 4 8 bytes)
@@ -56,7 +56,7 @@ has_report version bytes =
     let text = number_at 4 (12 + copy) bytes in
     fixed_len version kinds.ErrorReport + copy + text == length_of bytes && is_utf8 (take text (drop (16 + copy) bytes))
 
--- The fault of a whole unit, behind a header without a fault
+-- The fault of a whole PDU, behind a header without a fault
 abbrev pub body_fault : Version → List ℕ → Option UnitFault
 body_fault version bytes =
     if is_kind kinds.Ipv4Prefix bytes && not (has_record 32 bytes) then Some faults.Record
@@ -64,8 +64,8 @@ body_fault version bytes =
     else if is_kind kinds.ErrorReport bytes && not (has_report version bytes) then Some faults.ErrorReport
     else None
 
--- Bytes of a stream, from the beginning of a unit on, are the beginning of a unit in which no fault shows yet, or begin with a
--- unit, or show a fault.
+-- Bytes of a stream, from the beginning of a PDU on, are the beginning of a PDU in which no fault shows yet, or begin with a
+-- PDU, or show a fault.
 pub data Judgement : Type 0 where
   Begins : Judgement
   Whole : Unit → Judgement
@@ -82,11 +82,11 @@ by_header version bytes None =
     else if nat_lt (length bytes) (length_of bytes) then Begins
     else by_body version bytes (body_fault version bytes)
 
--- What bytes are where units of this version are expected, at a cache and at a router (any)
+-- What bytes are where PDUs of this version are expected, at a cache and at a router (any)
 unfoldable pub judge : Version → Bool → List ℕ → Judgement
 judge version any bytes = let seen = as_read version any bytes in by_header version seen (header_fault version seen)
 
--- They are judged the beginning of a unit exactly where they are one.
+-- They are judged the beginning of a PDU exactly where they are one.
 abbrev pub BeginsExactly : Type 0
 BeginsExactly = (version : Version) (any : Bool) (bytes : List ℕ) → (judge version any bytes ≡ Begins) ↔ IsPartial version (as_read version any bytes)
 
@@ -96,7 +96,7 @@ FaultyExactly =
     (version : Version) (any : Bool) (bytes : List ℕ) (fault : UnitFault) →
     (judge version any bytes ≡ Faulty fault) ↔ Shows version (as_read version any bytes) fault
 
--- Bytes of the length that their header tells are judged a unit exactly where they are it.
+-- Bytes of the length that their header tells are judged a PDU exactly where they are it.
 abbrev pub WholeExactly : Type 0
 WholeExactly =
     (version : Version) (any : Bool) (bytes : List ℕ) (u : Unit) → AreBytes bytes →

@@ -1,4 +1,4 @@
--- The types of units (RFC 6810 section 5, RFC 8210 section 5): their numbers and lengths.
+-- The types of PDUs (RFC 6810 section 5, RFC 8210 section 5): their numbers and lengths.
 use Rattle.std.specs.Prelude.{ℕ, Bool, true, false, not, ◌&&◌, ◌==◌, nat_le, List, [], ◌∷◌, if◌then◌else◌}
 use Rattle.std.specs.List.{list_any}
 use Rattle.rtr_pdu.specs.Version.{is_v0}
@@ -36,7 +36,7 @@ abbrev pub end_of_data_len : Version → ℕ
 end_of_data_len V0 = 12
 end_of_data_len V1 = 24
 
--- How many bytes each unit of a type has
+-- How many bytes each PDU of a type has
 abbrev pub fixed_len : Version → Kind → ℕ
 fixed_len version kinds.SerialNotify = 12
 fixed_len version kinds.SerialQuery = 12
@@ -55,7 +55,7 @@ varies kinds.RouterKey = true
 varies kinds.ErrorReport = true
 varies _ = false
 
--- A unit of this type may have this length.
+-- A PDU of this type may have this length.
 abbrev pub may_have : Version → Kind → ℕ → Bool
 may_have version kind len = if varies kind then nat_le (fixed_len version kind) len else len == fixed_len version kind
 
@@ -63,6 +63,6 @@ may_have version kind len = if varies kind then nat_le (fixed_len version kind) 
 abbrev pub is_type : Version → ℕ → Bool
 is_type version type = list_any (λ kind. type == type_number kind && has_kind version kind) all_kinds
 
--- A unit whose type has this number may have this length.
+-- A PDU whose type has this number may have this length.
 abbrev pub has_length : Version → ℕ → ℕ → Bool
 has_length version type len = list_any (λ kind. type == type_number kind && may_have version kind len) all_kinds

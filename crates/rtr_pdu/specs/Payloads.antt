@@ -1,4 +1,4 @@
--- The parts of units that are lists of bytes, as contracts see them.
+-- The parts of PDUs that are lists of bytes, as contracts see them.
 use Rattle.std.specs.Prelude.{ℕ, ◌<◌, Bool, List, slice_index}
 
 -- An Error Report (RFC 8210 section 5.11)

@@ -1,4 +1,4 @@
--- A reader of units, as contracts see it.
+-- A reader of PDUs, as contracts see it.
 use Rattle.std.specs.Prelude.{◌≡◌, ◌⊎◌, ℕ, ◌<◌, Bool, true, false, nat_lt, List, [], ◌++◌, length, Option, Some, None, if◌then◌else◌, MatchOption, ⊤}
 use Rattle.rtr_pdu.specs.Version.{header_version, version_in}
 use Rattle.rtr_pdu.specs.declared.version.Version.{Version}
@@ -10,7 +10,7 @@ use Rattle.rtr_pdu.specs.declared.unit.Next.TheVariants as next
 use Rattle.rtr_pdu.specs.Unit.{Reads, fits}
 use Rattle.rtr_pdu.specs.Stream.{as_read, length_of, IsPartial, Shows, IsShortest, end_fault, is_notify}
 
--- The version of the units that were read, or to be read from the start; the bytes that no unit has given back; whether a Serial
+-- The version of the PDUs that were read, or to be read from the start; the bytes that no PDU has given back; whether a Serial
 -- Notify among them, and one after them, may show any version; and the fault, once one was found
 pub record Reader : Type 0 where
   pub version : Option Version
@@ -19,7 +19,7 @@ pub record Reader : Type 0 where
   pub later : Bool
   pub fault : Option UnitFault
 
--- How many bytes are held at a fault: the header, the whole unit, or what there was
+-- How many bytes are held at a fault: the header, the whole PDU, or what there was
 abbrev pub fault_size : UnitFault → List ℕ → ℕ
 fault_size faults.Record bytes = length_of bytes
 fault_size faults.ErrorReport bytes = length_of bytes
@@ -32,12 +32,12 @@ pub record IsFaulty (version : Version) (any : Bool) (bytes : List ℕ) (fault :
   pub shortest : IsShortest version any bytes
   pub size : length bytes ≡ fault_size fault (as_read version any bytes)
 
--- These bytes are this unit, and no fewer are one.
+-- These bytes are this PDU, and no fewer are one.
 pub record IsRead (version : Version) (any : Bool) (bytes : List ℕ) (u : Unit) : Type 0 where
   pub reads : Reads version u (as_read version any bytes)
   pub shortest : IsShortest version any bytes
 
--- What these bytes of a unit are, where this is left of the piece
+-- What these bytes of a PDU are, where this is left of the piece
 abbrev pub Judges : Version → Bool → List ℕ → Next → List ℕ → Type 0
 Judges version any bytes (next.Unit u) rest = IsRead version any bytes u
 Judges version any bytes next.NeedMore rest = IsPartial version (as_read version any bytes) × (rest ≡ [])
@@ -55,7 +55,7 @@ abbrev pub ReaderStands : Version → Bool → List ℕ → UnitFault → Type 0
 ReaderStands version any bytes faults.Truncated = IsPartial version (as_read version any bytes) × (0 < length bytes)
 ReaderStands version any bytes fault = IsFaulty version any bytes fault
 
--- It holds the beginning of a unit, or a fault and the bytes that show it.
+-- It holds the beginning of a PDU, or a fault and the bytes that show it.
 abbrev pub IsReader : Version → Reader → Type 0
 IsReader version r = MatchOption r.fault (IsPartial version (as_read version r.any r.held)) (ReaderStands version r.any r.held)
 
@@ -67,11 +67,11 @@ fresh version any = record { version = version; held = []; any = any; later = an
 abbrev pub known_version : Reader → Option Version
 known_version r = header_version r.version r.held
 
--- The version of the unit at hand, where these bytes follow
+-- The version of the PDU at hand, where these bytes follow
 abbrev pub version_with : Reader → List ℕ → Version
 version_with r bytes = version_in r.version (r.held ++ bytes)
 
--- The unit that is answered is one of this version.
+-- The PDU that is answered is one of this version.
 abbrev pub FitsAnswer : Version → Next → Type 0
 FitsAnswer version (next.Unit u) = fits version u ≡ true
 FitsAnswer version answer = ⊤
@@ -95,7 +95,7 @@ pub record ReaderTakes (version : Version) (old : Reader) (piece : List ℕ) (an
 abbrev pub after_agreed : Reader → Reader
 after_agreed r = record r { any = (if nat_lt (length r.held) 8 then false else r.any); later = false }
 
--- At a router, a unit that is no Serial Notify is agreement.
+-- At a router, a PDU that is no Serial Notify is agreement.
 abbrev pub told : Unit → Reader → Reader
 told u r = elim (is_notify u) [ true ↦ r | false ↦ after_agreed r ]
 

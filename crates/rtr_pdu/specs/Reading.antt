@@ -1,4 +1,4 @@
--- What the bytes of a whole unit say.
+-- What the bytes of a whole PDU say.
 use Rattle.std.specs.Prelude.{◌≡◌, ℕ, ◌+◌, ◌-◌, ◌%◌, ◌≤◌, Bool, true, ◌==◌, List, ◌++◌, length, take, drop, slice_index}
 use Rattle.byteorder.specs.Endian.{big_number}
 use Rattle.prefixes.specs.Payload.{Payload}
@@ -51,7 +51,7 @@ report_in bytes = record {
   text = drop (16 + number_at 4 8 bytes) bytes;
 }
 
--- The lengths of the types, within that of the longest unit
+-- The lengths of the types, within that of the longest PDU
 pub record IsSized (version : Version) (type len : ℕ) : Type 0 where
   pub eight : 8 ≤ len
   pub most : len ≤ MAX_UNIT_LEN
@@ -67,7 +67,7 @@ pub record IsSized (version : Version) (type len : ℕ) : Type 0 where
   pub at_key : type ≡ type_number kinds.RouterKey → fixed_len version kinds.RouterKey ≤ len
   pub at_report : type ≡ type_number kinds.ErrorReport → fixed_len version kinds.ErrorReport ≤ len
 
--- A unit has come whole, and no more than it.
+-- A PDU has come whole, and no more than it.
 pub record IsBody (version : Version) (any : Bool) (bytes : List ℕ) : Type 0 where
   pub whole : IsWhole version (as_read version any bytes)
   pub exact : length bytes ≡ length_of (as_read version any bytes)

@@ -1,4 +1,4 @@
--- Units, faults and readings of single headers, worked out.
+-- PDUs, faults and readings of single headers, worked out.
 use Rattle.std.specs.Prelude.{◌≡◌, ℕ, Bool, true, false, List, [], ◌∷◌, take, Some, None, refl}
 use Rattle.prefixes.specs.Payload.{Payload}
 use Rattle.prefixes.specs.declared.prefix.IpPrefix.TheVariants.{V4, V6}
@@ -28,7 +28,7 @@ documented_v4 = record { prefix = V4 (record { addr = 0xc0000200; len = 24 }); m
 abbrev documented_v6 : Payload
 documented_v6 = record { prefix = V6 (record { addr = 0x20010db8000000000000000000000000; len = 32 }); max_len = 48; asn = 64496 }
 
--- the bytes of units
+-- the bytes of PDUs
 row_serial_notify : unit_bytes V1 (SerialNotify 0x1234 5) ≡ serial_notify
 row_serial_notify = refl
 
@@ -81,7 +81,7 @@ row_error_report_0 : unit_bytes V0 (ErrorReport (record { code = 0; copy = unit_
     ∷ 0x00 ∷ 0x01 ∷ 0x12 ∷ 0x34 ∷ 0x00 ∷ 0x00 ∷ 0x00 ∷ 0x0c ∷ 0x00 ∷ 0x00 ∷ 0x00 ∷ 0x05 ∷ 0x00 ∷ 0x00 ∷ 0x00 ∷ 0x00 ∷ []
 row_error_report_0 = refl
 
--- which units there are in a version
+-- which PDUs there are in a version
 row_fits : (fits V0 (EndOfData 0x1234 5 3600 600 7200) ≡ false) × (fits V1 (EndOfData0 0x1234 5) ≡ false) × (fits V0 (EndOfData0 0x1234 5) ≡ true) × (fits V0 CacheReset ≡ true)
 row_fits = (refl, refl, refl, refl)
 
@@ -131,7 +131,7 @@ row_report_lengths : (header_fault V1 (0x01 ∷ 0x0a ∷ 0x00 ∷ 0x00 ∷ 0x00 
     × (header_fault V1 (0x01 ∷ 0x0a ∷ 0x00 ∷ 0x00 ∷ 0x00 ∷ 0x00 ∷ 0x00 ∷ 0x10 ∷ []) ≡ None)
 row_report_lengths = (refl, refl)
 
--- a Router Key has 32 bytes or more, and no unit more than 4,096
+-- a Router Key has 32 bytes or more, and no PDU more than 4,096
 row_key_lengths : (header_fault V1 (0x01 ∷ 0x09 ∷ 0x00 ∷ 0x00 ∷ 0x00 ∷ 0x00 ∷ 0x00 ∷ 0x1f ∷ []) ≡ Some faults.Length)
     × (header_fault V1 (0x01 ∷ 0x09 ∷ 0x00 ∷ 0x00 ∷ 0x00 ∷ 0x00 ∷ 0x10 ∷ 0x00 ∷ []) ≡ None)
     × (header_fault V1 (0x01 ∷ 0x09 ∷ 0x00 ∷ 0x00 ∷ 0x00 ∷ 0x00 ∷ 0x10 ∷ 0x01 ∷ []) ≡ Some faults.TooLong)
@@ -186,6 +186,6 @@ row_other_type : as_read V1 true (0x00 ∷ 0x01 ∷ 0x12 ∷ 0x34 ∷ 0x00 ∷ 0
 unfolding as_read
 row_other_type = refl
 
--- The input ends behind a unit, within one, and behind a fault.
+-- The input ends behind a PDU, within one, and behind a fault.
 row_ends : (end_fault [] None ≡ None) × (end_fault (0x01 ∷ []) None ≡ Some faults.Truncated) × (end_fault [] (Some faults.Version) ≡ Some faults.Version)
 row_ends = (refl, refl, refl)

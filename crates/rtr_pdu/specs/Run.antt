@@ -7,7 +7,7 @@ use Rattle.rtr_pdu.specs.Stream.{as_read, any_after, AreRead, IsPartial, Splits,
 use Rattle.rtr_pdu.specs.Reader.{Reader, version_with}
 use Rattle.rtr_pdu.specs.Version.{version_in}
 
--- Of this stream these units were read, and the reader has the rest.
+-- Of this stream these PDUs were read, and the reader has the rest.
 pub record HasRead (version : Version) (any : Bool) (stream : List ℕ) (units : List Unit) (r : Reader) : Type 0 where
   pub front : List ℕ
   pub whole : stream ≡ front ++ r.held

@@ -1,4 +1,4 @@
--- A stream of bytes as units (RFC 6810 section 5, RFC 8210 sections 5 and 12).
+-- A stream of bytes as PDUs (RFC 6810 section 5, RFC 8210 sections 5 and 12).
 use Rattle.std.specs.Prelude.{◌≡◌, ◌⊎◌, ℕ, ◌+◌, ◌-◌, ◌/◌, ◌%◌, ◌^◌, ◌<◌, ◌≤◌, Bool, true, false, not, ◌&&◌, ◌==◌, nat_lt, nat_le, List, [], ◌∷◌, ◌++◌, length, take, drop, slice_index, Option, Some, None, if◌then◌else◌, MatchOption}
 use Rattle.std.specs.Str.{IsUtf8}
 use Rattle.byteorder.specs.Endian.{big_number}
@@ -15,7 +15,7 @@ use Rattle.rtr_pdu.specs.Kind.{type_number, fixed_len, is_type, has_length}
 use Rattle.rtr_pdu.specs.Payloads.{AreBytes}
 use Rattle.rtr_pdu.specs.Unit.{MAX_UNIT_LEN, IsUnit, Reads, fits, unit_bytes}
 
--- The fields of a header: version, type, and the length of the whole unit
+-- The fields of a header: version, type, and the length of the whole PDU
 abbrev pub version_of : List ℕ → ℕ
 version_of bytes = slice_index bytes 0
 
@@ -33,7 +33,7 @@ IsKind kind bytes = type_of bytes ≡ type_number kind
 abbrev pub is_kind : Kind → List ℕ → Bool
 is_kind kind bytes = type_of bytes == type_number kind
 
--- The first fault of a header with these bytes of version, type and length, where units of this version are expected
+-- The first fault of a header with these bytes of version, type and length, where PDUs of this version are expected
 abbrev pub fault_of : Version → ℕ → ℕ → ℕ → Option UnitFault
 fault_of version shown type len =
     if not (shown == version_number version) then Some faults.Version
@@ -46,15 +46,15 @@ fault_of version shown type len =
 abbrev pub header_fault : Version → List ℕ → Option UnitFault
 header_fault version bytes = if nat_lt (length bytes) 8 then None else fault_of version (version_of bytes) (type_of bytes) (length_of bytes)
 
--- A unit has not come whole, and its header, as far as it has come, has no fault.
+-- A PDU has not come whole, and its header, as far as it has come, has no fault.
 abbrev pub IsPartial : Version → List ℕ → Type 0
 IsPartial version bytes = (header_fault version bytes ≡ None) × ((length bytes < 8) ⊎ (length bytes < length_of bytes))
 
--- A unit has come whole, behind a header without a fault.
+-- A PDU has come whole, behind a header without a fault.
 abbrev pub IsWhole : Version → List ℕ → Type 0
 IsWhole version bytes = (header_fault version bytes ≡ None) × (8 ≤ length bytes) × (length_of bytes ≤ length bytes)
 
--- The bytes of a prefix unit hold a payload: its maximum is from its length to the width, and no host bit is set.
+-- The bytes of a prefix PDU hold a payload: its maximum is from its length to the width, and no host bit is set.
 abbrev pub IsRecord : ℕ → List ℕ → Type 0
 IsRecord width bytes =
     (slice_index bytes 9 ≤ slice_index bytes 10) × (slice_index bytes 10 ≤ width)
@@ -75,7 +75,7 @@ Shows version bytes faults.ErrorReport = IsWhole version bytes × IsKind kinds.E
 Shows version bytes faults.Truncated = ⊥
 Shows version bytes fault = header_fault version bytes ≡ Some fault
 
--- The fault where the input ends behind what follows the last unit: the one that shows, or that a unit is cut off
+-- The fault where the input ends behind what follows the last PDU: the one that shows, or that a PDU is cut off
 abbrev pub end_fault : List ℕ → Option UnitFault → Option UnitFault
 end_fault rest (Some fault) = Some fault
 end_fault [] None = None
@@ -98,14 +98,14 @@ abbrev pub any_after : Bool → List Unit → Bool
 any_after any [] = any
 any_after any (u ∷ units) = any_after (any && is_notify u) units
 
--- These units are read from these bytes, one after the other, to the last byte.
+-- These PDUs are read from these bytes, one after the other, to the last byte.
 abbrev pub AreRead : Version → Bool → List Unit → List ℕ → Type 0
 AreRead version any [] bytes = bytes ≡ []
 AreRead version any (u ∷ units) bytes =
     (front : List ℕ) × (back : List ℕ) × (bytes ≡ front ++ back)
     × Reads version u (as_read version any front) × AreRead version (any && is_notify u) units back
 
--- The stream begins with these units. What follows is the beginning of a unit in which no fault shows yet, or shows this fault.
+-- The stream begins with these PDUs. What follows is the beginning of a PDU in which no fault shows yet, or shows this fault.
 pub record Splits (version : Version) (any : Bool) (stream : List ℕ) (units : List Unit) (rest : List ℕ) (fault : Option UnitFault) : Type 0 where
   pub front : List ℕ
   pub whole : stream ≡ front ++ rest
@@ -118,7 +118,7 @@ pub record SameSplit (units others : List Unit) (rest left : List ℕ) (fault ot
   pub rests_are : rest ≡ left
   pub faults_are : fault ≡ other
 
--- A stream is split into units in one way, at the cache and at a router (any).
+-- A stream is split into PDUs in one way, at the cache and at a router (any).
 abbrev pub OneSplit : Type 0
 OneSplit =
     (version : Version) (any : Bool) (stream : List ℕ) (units others : List Unit) (rest left : List ℕ) (fault other : Option UnitFault) →
@@ -131,7 +131,7 @@ EachSplits =
     (version : Version) (any : Bool) (stream : List ℕ) → AreBytes stream →
     (units : List Unit) × (rest : List ℕ) × (fault : Option UnitFault) × Splits version any stream units rest fault
 
--- No shorter beginning of these bytes ends a unit or shows a fault.
+-- No shorter beginning of these bytes ends a PDU or shows a fault.
 abbrev pub IsShortest : Version → Bool → List ℕ → Type 0
 IsShortest version any bytes =
     (front : List ℕ) (back : List ℕ) → bytes ≡ front ++ back → 0 < length back → IsPartial version (as_read version any front)
@@ -140,7 +140,7 @@ IsShortest version any bytes =
 abbrev pub WrittenIsRead : Type 0
 WrittenIsRead = (version : Version) (u : Unit) → IsUnit u → fits version u ≡ true → Reads version u (unit_bytes version u)
 
--- No unit's bytes begin another's: where two stand at the front of the same bytes, they are the same, and so is what follows.
+-- No PDU's bytes begin another's: where two stand at the front of the same bytes, they are the same, and so is what follows.
 abbrev pub NoBeginning : Type 0
 NoBeginning =
     (version : Version) (u v : Unit) (front other back rest : List ℕ) → Reads version u front → Reads version v other → front ++ back ≡ other ++ rest →

@@ -1,4 +1,4 @@
--- What a unit's bytes are (RFC 6810 section 5, RFC 8210 section 5). Numbers are big-endian. Where the standard says "zero", the field is zero when
+-- What a PDU's bytes are (RFC 6810 section 5, RFC 8210 section 5). Numbers are big-endian. Where the standard says "zero", the field is zero when
 -- sent and ignored when received.
 use Rattle.std.specs.Prelude.{◌≡◌, ℕ, ◌+◌, ◌-◌, ◌*◌, ◌<◌, ◌≤◌, ◌^◌, Bool, true, not, List, ◌∷◌, ◌++◌, length, if◌then◌else◌, ⊤}
 use Rattle.std.specs.Str.{IsUtf8}
@@ -16,7 +16,7 @@ use Rattle.rtr_pdu.specs.declared.kind.Kind.TheVariants as kinds
 use Rattle.rtr_pdu.specs.declared.unit.Unit.{Unit}
 use Rattle.rtr_pdu.specs.declared.unit.Unit.TheVariants.{SerialNotify, SerialQuery, ResetQuery, CacheResponse, Prefix, EndOfData, EndOfData0, CacheReset, RouterKey, ErrorReport}
 
--- The most bytes that a unit has
+-- The most bytes that a PDU has
 abbrev pub MAX_UNIT_LEN : ℕ
 MAX_UNIT_LEN = 4096
 
@@ -47,11 +47,11 @@ pub record AreBits (z : Ignored) : Type 0 where
 abbrev pub zeros : Ignored
 zeros = record { header = 0; flags = 0; byte = 0 }
 
--- The header: version, type, two bytes by type, and the length of the whole unit
+-- The header: version, type, two bytes by type, and the length of the whole PDU
 abbrev pub header : Version → ℕ → ℕ → ℕ → List ℕ
 header version kind field len = version_number version ∷ kind ∷ big_bytes 2 field ++ big_bytes 4 len
 
--- The same of a unit whose type has one length
+-- The same of a PDU whose type has one length
 abbrev pub fixed_header : Version → Kind → ℕ → List ℕ
 fixed_header version kind field = header version (type_number kind) field (fixed_len version kind)
 
@@ -62,7 +62,7 @@ prefix_bytes version announce (V4 p) max_len asn z =
 prefix_bytes version announce (V6 p) max_len asn z =
     fixed_header version kinds.Ipv6Prefix z.header ++ (flag announce + 2 * z.flags) ∷ p.len ∷ max_len ∷ z.byte ∷ big_bytes 16 p.addr ++ big_bytes 4 asn
 
--- The units that there are in a version: an End of Data with intervals and a Router Key in version 1, an End of Data without
+-- The PDUs that there are in a version: an End of Data with intervals and a Router Key in version 1, an End of Data without
 -- intervals in version 0, and all others in both.
 abbrev pub fits : Version → Unit → Bool
 fits version (EndOfData session serial refresh retry expire) = not (is_v0 version)
@@ -70,7 +70,7 @@ fits version (EndOfData0 session serial) = is_v0 version
 fits version (RouterKey k) = not (is_v0 version)
 fits version u = true
 
--- The bytes of a unit of this protocol version, with what is ignored (RFC 6810 sections 5.2 to 5.10, RFC 8210 sections 5.2 to 5.11)
+-- The bytes of a PDU of this protocol version, with what is ignored (RFC 6810 sections 5.2 to 5.10, RFC 8210 sections 5.2 to 5.11)
 abbrev pub spelled : Version → Unit → Ignored → List ℕ
 spelled version (SerialNotify session serial) z = fixed_header version kinds.SerialNotify session ++ big_bytes 4 serial
 spelled version (SerialQuery session serial) z = fixed_header version kinds.SerialQuery session ++ big_bytes 4 serial
@@ -88,7 +88,7 @@ spelled version (ErrorReport r) z =
     header version (type_number kinds.ErrorReport) r.code (fixed_len version kinds.ErrorReport + length r.copy + length r.text) ++ big_bytes 4 (length r.copy)
     ++ r.copy ++ big_bytes 4 (length r.text) ++ r.text
 
--- The numbers fit their fields, a record is a payload, and the whole is no longer than the longest unit.
+-- The numbers fit their fields, a record is a payload, and the whole is no longer than the longest PDU.
 abbrev pub IsUnit : Unit → Type 0
 IsUnit (SerialNotify session serial) = (session < 2 ^ 16) × (serial < 2 ^ 32)
 IsUnit (SerialQuery session serial) = (session < 2 ^ 16) × (serial < 2 ^ 32)
@@ -103,7 +103,7 @@ IsUnit (RouterKey k) =
     (length k.identifier ≡ 20) × (k.asn < 2 ^ 32) × (length k.info ≤ KEY_ROOM) × AreBytes k.identifier × AreBytes k.info
 IsUnit (ErrorReport r) = (r.code < 2 ^ 16) × (length r.copy + length r.text ≤ REPORT_ROOM) × IsUtf8 r.text × AreBytes r.copy
 
--- These bytes are read as this unit of this version, whatever stands where zeros are sent.
+-- These bytes are read as this PDU of this version, whatever stands where zeros are sent.
 pub record Reads (version : Version) (u : Unit) (bytes : List ℕ) : Type 0 where
   pub of_version : fits version u ≡ true
   pub fits : IsUnit u
@@ -111,10 +111,10 @@ pub record Reads (version : Version) (u : Unit) (bytes : List ℕ) : Type 0 wher
   pub bits : AreBits ignored
   pub bytes_are : bytes ≡ spelled version u ignored
 
--- A unit that there is in a version, and can be sent in it
+-- A PDU that there is in a version, and can be sent in it
 abbrev pub IsUnitOf : Version → Unit → Type 0
 IsUnitOf version u = IsUnit u × (fits version u ≡ true)
 
--- The bytes that are sent for a unit
+-- The bytes that are sent for a PDU
 abbrev pub unit_bytes : Version → Unit → List ℕ
 unit_bytes version u = spelled version u zeros

@@ -1,4 +1,4 @@
-//! One unit from a reader, and one to a writer.
+//! One PDU from a reader, and one to a writer.
 ghost use Rattle.std.specs.Prelude.{◌≡◌, ◌<◌, ◌≤◌, ◌+◌, true, false, length, IfOk, IfErr};
 ghost use Rattle.std.specs.Io.KnownBytes.{Appends};
 ghost use Rattle.rtr_pdu.specs.Counted.{device_of, calls_of, failures_of, HasFailed};
@@ -16,10 +16,10 @@ use arrayvec::ArrayVec;
 use std::io::{Read, Write};
 use thiserror::Error;
 
-/// Why no unit was read. The numbers are fixed.
+/// Why no PDU was read. The numbers are fixed.
 #[derive(Clone, Copy, Debug, PartialEq, Eq, Error)]
 pub enum ReadFault {
-    /// The bytes are no unit, or the input ends within one.
+    /// The bytes are no PDU, or the input ends within one.
     #[error(transparent)]
     Fault(UnitFault),
     /// The reader failed.
@@ -65,7 +65,7 @@ fn write_bytes<W: Write>(bytes: &[u8], out: &mut Counted<W>) -> Result<(), Write
     Ok(())
 }
 
-/// Writes the bytes of a unit of version 1 (RFC 8210 section 5), all in one call where the writer takes them. Where it
+/// Writes the bytes of a PDU of version 1 (RFC 8210 section 5), all in one call where the writer takes them. Where it
 /// fails, a beginning of them has gone out.
 pub fn write_unit<W: Write>(unit: &Unit, out: &mut Counted<W>) -> Result<(), WriteFailed>
     requires { fits Version.V1 unit.now ≡ true }
@@ -91,7 +91,7 @@ fn end(fault: Option<UnitFault>) -> Result<Option<Unit>, ReadFault>
     }
 }
 
-/// How many bytes are wanted of a unit: to the end of its header, or of the whole.
+/// How many bytes are needed of a PDU: to the end of its header, or of the whole.
 fn missing(version: Version, held: &[u8]) -> usize
     requires { IsPartial version (as_read version false held.now) }
     ensures value { result ≡ wanted held.now }
@@ -105,7 +105,7 @@ fn missing(version: Version, held: &[u8]) -> usize
     }
 }
 
-/// Reads one unit of version 1, as `read_unit_of` does.
+/// Reads one PDU of version 1, as `read_unit_of` does.
 pub fn read_unit<R: Read>(input: &mut Counted<R>) -> Result<Option<Unit>, ReadFault>
     ensures reads { ReadsUnit Version.V1 (R.remaining (device_of input.old)) (R.remaining (device_of input.new)) (calls_of input.old) (calls_of input.new) result }
     ensures counts { CountsRead input.old input.new result }
@@ -113,7 +113,7 @@ pub fn read_unit<R: Read>(input: &mut Counted<R>) -> Result<Option<Unit>, ReadFa
     read_unit_of(Version::V1, input)
 }
 
-/// Reads one unit of this version as a cache reads it, and nothing after it: `None` where the input ends before a first
+/// Reads one PDU of this version as a cache reads it, and nothing after it: `None` where the input ends before a first
 /// byte.
 pub fn read_unit_of<R: Read>(
     version: Version,

@@ -1,10 +1,10 @@
-//! The types of units.
+//! The types of PDUs.
 ghost use Rattle.std.specs.Prelude.{◌≡◌, true, false, IfSome, IfNone};
 ghost use Rattle.rtr_pdu.specs.Kind.{type_number, has_kind, end_of_data_len, fixed_len, may_have, is_type};
 
 use crate::version::Version;
 
-/// The type of a unit (RFC 6810 section 5, RFC 8210 section 5).
+/// The type of a PDU (RFC 6810 section 5, RFC 8210 section 5).
 #[derive(Clone, Copy, Debug, PartialEq, Eq)]
 pub enum Kind {
     /// A Serial Notify (RFC 8210 section 5.2).
@@ -60,7 +60,7 @@ impl Kind {
         self as u8
     }
 
-    /// How many bytes each unit of the type has: of a Router Key without its key, of an Error Report without its copy and
+    /// How many bytes each PDU of the type has: of a Router Key without its key, of an Error Report without its copy and
     /// its text, and of all others the whole.
     pub fn fixed_len(self, version: Version) -> u32
         ensures { result ≡ fixed_len version self }
@@ -76,7 +76,7 @@ impl Kind {
         }
     }
 
-    /// Whether a unit of the type may have this length in bytes.
+    /// Whether a PDU of the type may have this length in bytes.
     pub fn may_have(self, version: Version, len: u32) -> bool
         ensures { result ≡ may_have version self len }
     {

@@ -3,7 +3,7 @@ ghost use Rattle.rtr_pdu.specs.Device.{TellsFirst};
 ghost use Rattle.rtr_pdu.specs.Judging.{BeginsExactly, FaultyExactly, WholeExactly};
 ghost use Rattle.rtr_pdu.specs.Stream.{EachSplits, NoBeginning, OneSplit, WrittenIsRead};
 
-/// A stream is split into units in one way, at the cache and at a router, for each version.
+/// A stream is split into PDUs in one way, at the cache and at a router, for each version.
 pub fn one_split()
     ensures { OneSplit }
 {}
@@ -18,12 +18,12 @@ pub fn written_is_read()
     ensures { WrittenIsRead }
 {}
 
-/// No unit's bytes begin another's of the same version.
+/// No PDU's bytes begin another's of the same version.
 pub fn no_beginning()
     ensures { NoBeginning }
 {}
 
-/// Bytes are judged the beginning of a unit, a fault, or a unit exactly where they are one: a unit where they are bytes of the
+/// Bytes are judged the beginning of a PDU, a fault, or a PDU exactly where they are one: a PDU where they are bytes of the
 /// length that their header tells.
 pub fn judges_exactly()
     ensures begins { BeginsExactly }
@@ -31,7 +31,7 @@ pub fn judges_exactly()
     ensures whole { WholeExactly }
 {}
 
-/// What `read_unit` answers is the first unit or fault of the split of what the reader had left.
+/// What `read_unit` answers is the first PDU or fault of the split of what the reader had left.
 pub fn tells_first()
     ensures { TellsFirst }
 {}

@@ -1,4 +1,4 @@
-//! The units of the RPKI-to-Router protocol, version 0 (RFC 6810 section 5) and version 1 (RFC 8210 section 5).
+//! The PDUs of the RPKI-to-Router protocol, version 0 (RFC 6810 section 5) and version 1 (RFC 8210 section 5).
 //!
 //! For example, where `rt` is the runtime that `main` is handed:
 //!

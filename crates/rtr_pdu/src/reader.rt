@@ -1,4 +1,4 @@
-//! Units from a stream that comes in pieces.
+//! PDUs from a stream that comes in pieces.
 ghost use Rattle.std.specs.Prelude.{◌≡◌, ℕ, ◌≤◌, List, [], ◌++◌, length, Bool, Some, None, true, false, IfSome, IfNone};
 ghost use Rattle.prefixes.specs.Payload.{Payload};
 ghost use Rattle.arrayvec.specs.ArrayVec.{array_vec_len};
@@ -29,7 +29,7 @@ fn fill(buffer: &mut UnitBuffer, piece: &mut &[u8], size: usize)
     *piece = back;
 }
 
-/// Takes the body of a unit whose header has no fault.
+/// Takes the body of a PDU whose header has no fault.
 fn finish(version: Version, any: bool, buffer: &mut UnitBuffer, piece: &mut &[u8]) -> Next
     requires sound { header_fault version (as_read version any buffer.old.items) ≡ None }
     requires header { 8 ≤ array_vec_len buffer.old }
@@ -47,7 +47,7 @@ fn finish(version: Version, any: bool, buffer: &mut UnitBuffer, piece: &mut &[u8
     }
 }
 
-/// Takes what there is of a unit.
+/// Takes what there is of a PDU.
 fn advance(version: Version, any: bool, buffer: &mut UnitBuffer, piece: &mut &[u8]) -> Next
     requires { IsPartial version (as_read version any buffer.old.items) }
     ensures { Advances version any buffer.old.items piece.old.now result piece.new.now buffer.new.items }
@@ -62,17 +62,17 @@ fn advance(version: Version, any: bool, buffer: &mut UnitBuffer, piece: &mut &[u
     }
 }
 
-/// Reads units of one version from a stream that comes in pieces, one unit at a time. It takes no byte of a unit before
-/// the unit ahead of it was answered, and it holds at most 4,096 bytes, within the value.
+/// Reads PDUs of one version from a stream that comes in pieces, one PDU at a time. It takes no byte of a PDU before
+/// the PDU ahead of it was answered, and it holds at most 4,096 bytes, within the value.
 #[derive(Debug, Drop)]
 pub struct UnitReader {
-    /// The version of the units, where it was known from the start or a unit was read.
+    /// The version of the PDUs, where it was known from the start or a PDU was read.
     version: Option<Version>,
-    /// What was taken of the unit in hand, or of the bytes that are none.
+    /// What was taken of the PDU in hand, or of the bytes that are none.
     buffer: UnitBuffer,
     /// Whether a Serial Notify may show any version.
     any: bool,
-    /// The same for the units after the one in hand.
+    /// The same for the PDUs after the one in hand.
     later: bool,
     /// The fault, once there was one.
     fault: Option<UnitFault>,
@@ -110,7 +110,7 @@ impl UnitReader {
         UnitReader::fresh(None, false)
     }
 
-    /// A reader of units of this version alone.
+    /// A reader of PDUs of this version alone.
     pub fn of_version(version: Version) -> Self
         ensures { result ≡ fresh (Some version) false }
     {
@@ -125,14 +125,14 @@ impl UnitReader {
         UnitReader::fresh(Some(version), true)
     }
 
-    /// The version of the units that were read, or the one known from the start.
+    /// The version of the PDUs that were read, or the one known from the start.
     pub fn expected(&self) -> Option<Version>
         ensures { result ≡ self.now.version }
     {
         self.version
     }
 
-    /// The version of the units: the one known from the start, or that of the first header, once it has come whole.
+    /// The version of the PDUs: the one known from the start, or that of the first header, once it has come whole.
     pub fn version(&self) -> Option<Version>
         ensures { result ≡ known_version self.now }
     {
@@ -148,7 +148,7 @@ impl UnitReader {
         }
     }
 
-    /// The version of the unit at hand, where this piece follows.
+    /// The version of the PDU at hand, where this piece follows.
     fn version_with(&self, piece: &[u8]) -> Version
         ensures { result ≡ version_with self.now piece.now }
     {
@@ -169,8 +169,8 @@ impl UnitReader {
         self.later = false;
     }
 
-    /// Takes bytes from the front of the piece: to the end of the first unit, or as many as show a fault, or else all.
-    /// A fault of a header is answered at its 8 bytes, one of what follows at the whole unit.
+    /// Takes bytes from the front of the piece: to the end of the first PDU, or as many as show a fault, or else all.
+    /// A fault of a header is answered at its 8 bytes, one of what follows at the whole PDU.
     pub fn next(&mut self, piece: &mut &[u8]) -> Next
         ensures takes { ReaderTakes (version_with self.old piece.old.now) self.old piece.old.now result piece.new.now self.new }
         ensures reader { IsReader (version_with self.old piece.old.now) self.old }
@@ -221,7 +221,7 @@ impl UnitReader {
         Some(found)
     }
 
-    /// The fault of the input if it ends here: the one that was found, or `Truncated` within a unit, or none.
+    /// The fault of the input if it ends here: the one that was found, or `Truncated` within a PDU, or none.
     pub fn end_of_input(&mut self) -> Option<UnitFault>
         ensures answer { result ≡ at_end self.old }
         ensures kept { self.new ≡ record self.old { fault = at_end self.old } }
@@ -232,8 +232,8 @@ impl UnitReader {
         self.fault
     }
 
-    /// The bytes that were taken and are in no unit that was answered: at a fault the 8 bytes of the header, or the
-    /// whole unit.
+    /// The bytes that were taken and are in no PDU that was answered: at a fault the 8 bytes of the header, or the
+    /// whole PDU.
     pub fn held(&self) -> &[u8]
         ensures held { result.now ≡ self.now.held }
         ensures reader { IsReader (version_in self.now.version self.now.held) self.now }

@@ -1,4 +1,4 @@
-//! Units from bytes.
+//! PDUs from bytes.
 ghost use Rattle.std.specs.Prelude.{◌≡◌, ◌==◌, ◌&&◌, true, not, nat_lt, Some, None, if◌then◌else◌, ◌+◌, ◌≤◌, length, take, Bool, IfOk, IfErr, IfSome, IfNone};
 ghost use Rattle.rtr_pdu.specs.Kind.{type_number, end_of_data_len, fixed_len, may_have, is_type};
 ghost use Rattle.rtr_pdu.specs.Judging.{end_of_data_in};
@@ -16,7 +16,7 @@ use byteorder::{BigEndian, ByteOrder};
 use prefixes::{Asn, IpPrefix, Prefix, V4, V6, Vrp};
 use std::str;
 
-/// The fault of the length of a unit of this type.
+/// The fault of the length of a PDU of this type.
 fn judge_len(version: Version, kind: Kind, len: u32) -> Option<UnitFault>
     ensures { result ≡ (if not (may_have version kind len) then Some UnitFault.Length else if nat_lt MAX_UNIT_LEN len then Some UnitFault.TooLong else None) }
 {
@@ -157,7 +157,7 @@ fn report(version: Version, bytes: &[u8]) -> Option<ErrorReport>
     }
 }
 
-/// The type of a unit whose header has no fault.
+/// The type of a PDU whose header has no fault.
 fn kind_of(version: Version, bytes: &[u8]) -> Kind
     requires two { 2 ≤ length bytes.now }
     requires known { is_type version (type_of bytes.now) ≡ true }
@@ -189,7 +189,7 @@ fn end_of_data(version: Version, bytes: &[u8]) -> Unit
     }
 }
 
-/// Reads a unit that has come whole, behind a header without a fault.
+/// Reads a PDU that has come whole, behind a header without a fault.
 pub fn read(version: Version, any: bool, bytes: &[u8]) -> Result<Unit, UnitFault>
     requires { IsBody version any bytes.now }
     ensures ok { IfOk result (λ unit. IsRead version any bytes.now unit) }
@@ -233,7 +233,7 @@ pub fn read(version: Version, any: bool, bytes: &[u8]) -> Result<Unit, UnitFault
 }
 
 /// The Prefix that has come whole, behind a header without a fault: whether it is announced, and its payload. Nothing where it is another
-/// unit, or a fault.
+/// PDU, or a fault.
 pub fn read_prefix(version: Version, any: bool, bytes: &[u8]) -> Option<(bool, Vrp)>
     requires { IsBody version any bytes.now }
     ensures some { IfSome result (λ found. IsRead version any bytes.now (Unit.Prefix found.0 found.1)) }
@@ -252,7 +252,7 @@ pub fn read_prefix(version: Version, any: bool, bytes: &[u8]) -> Option<(bool, V
     }
 }
 
-/// The size of the unit with which the bytes begin, where it has come whole, behind a header without a fault.
+/// The size of the PDU with which the bytes begin, where it has come whole, behind a header without a fault.
 pub fn whole_size(version: Version, any: bool, bytes: &[u8]) -> Option<usize>
     ensures within { IfSome result (λ size. size ≤ length bytes.now) }
     ensures body { IfSome result (λ size. IsBody version any (take size bytes.now)) }

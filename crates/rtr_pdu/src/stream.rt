@@ -11,7 +11,7 @@ use crate::unit::{Next, Unit, UnitFault};
 use crate::version::Version;
 use std::alloc::{AllocError, Global};
 
-/// Whether the unit is a Serial Notify.
+/// Whether the PDU is a Serial Notify.
 fn shows_notify(unit: &Unit) -> bool
     ensures { result ≡ is_notify unit.now }
 {
@@ -21,7 +21,7 @@ fn shows_notify(unit: &Unit) -> bool
     }
 }
 
-/// Tells the reader of agreement at the first unit that is no Serial Notify.
+/// Tells the reader of agreement at the first PDU that is no Serial Notify.
 fn tell(reader: &mut UnitReader, unit: &Unit)
     ensures { reader.new ≡ told unit.now reader.old }
 {
@@ -63,8 +63,8 @@ fn reader_at(router: Option<Version>) -> UnitReader
 }
 
 /// Reads the stream that comes in these pieces, at a router that speaks this version or at the cache, to its end or to a fault:
-/// its units, and the fault. A router agrees on its version at the first unit that is no Serial Notify. That the stream ends within a unit is
-/// no fault here. `AllocError`: no memory for the units.
+/// its PDUs, and the fault. A router agrees on its version at the first PDU that is no Serial Notify. That the stream ends within a PDU is
+/// no fault here. `AllocError`: no memory for the PDUs.
 pub fn read_all(
     alloc: Global,
     router: Option<Version>,

@@ -1,4 +1,4 @@
-//! Units as bytes.
+//! PDUs as bytes.
 ghost use Rattle.std.specs.Prelude.{◌≡◌, ◌+◌, ◌≤◌, List, ℕ, ◌∷◌, ◌++◌, drop, take, length, true};
 ghost use Rattle.arrayvec.specs.ArrayVec.{array_vec_len};
 ghost use Rattle.std.specs.Int.{byte_at};
@@ -13,7 +13,7 @@ use crate::version::Version;
 use arrayvec::ArrayVec;
 use prefixes::{IpPrefix, Prefix, V4, V6, Vrp};
 
-/// Room for the longest unit.
+/// Room for the longest PDU.
 pub type UnitBuffer = ArrayVec<u8, MAX_UNIT_LEN>;
 
 /// Appends bytes.
@@ -25,7 +25,7 @@ fn put(buffer: &mut UnitBuffer, bytes: &[u8])
     let _fits = buffer.try_extend_from_slice(bytes);
 }
 
-/// Begins a unit in an empty buffer.
+/// Begins a PDU in an empty buffer.
 fn put_header(buffer: &mut UnitBuffer, version: Version, kind: Kind, field: u16, len: u32)
     ensures items { buffer.new.items ≡ header version (type_number kind) field len }
     ensures len { array_vec_len buffer.new ≡ 8 }
@@ -36,7 +36,7 @@ fn put_header(buffer: &mut UnitBuffer, version: Version, kind: Kind, field: u16,
     put(buffer, &len.to_be_bytes());
 }
 
-/// The same of a unit whose type has one length.
+/// The same of a PDU whose type has one length.
 fn put_fixed(buffer: &mut UnitBuffer, version: Version, kind: Kind, field: u16)
     ensures items { buffer.new.items ≡ fixed_header version kind field }
     ensures len { array_vec_len buffer.new ≡ 8 }
@@ -108,8 +108,8 @@ fn put_report(version: Version, report: &ErrorReport, buffer: &mut UnitBuffer)
     put(buffer, text);
 }
 
-/// Writes a unit of this version, with zeros where the standard says zero. The buffer then holds the bytes of the unit and no
-/// others, and they are read as this unit of the version.
+/// Writes a PDU of this version, with zeros where the standard says zero. The buffer then holds the bytes of the PDU and no
+/// others, and they are read as this PDU of the version.
 pub fn encode_as(version: Version, unit: &Unit, buffer: &mut UnitBuffer)
     requires { fits version unit.now ≡ true }
     ensures bytes { buffer.new.items ≡ unit_bytes version unit.now }
@@ -148,7 +148,7 @@ pub fn encode_as(version: Version, unit: &Unit, buffer: &mut UnitBuffer)
     }
 }
 
-/// Writes a unit of version 1 (RFC 8210 section 5), as `encode_as` does.
+/// Writes a PDU of version 1 (RFC 8210 section 5), as `encode_as` does.
 pub fn encode(unit: &Unit, buffer: &mut UnitBuffer)
     requires { fits Version.V1 unit.now ≡ true }
     ensures bytes { buffer.new.items ≡ unit_bytes Version.V1 unit.now }

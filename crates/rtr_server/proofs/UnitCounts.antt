@@ -1,4 +1,4 @@
--- Bytes of units are counted as these units.
+-- Bytes of PDUs are counted as these PDUs.
 use Rattle.std.specs.Prelude.{◌≡◌, ◌⊎◌, ℕ, ◌+◌, ◌<◌, ◌≤◌, ◌^◌, ◌==◌, Bool, true, false, List, [], ◌∷◌, ◌++◌, length, max, slice_index, slice_set, Option, Some, None, if◌then◌else◌, refl}
 use Rattle.std.proofs.Common.{zero, suc, sym, ap, ◌∙◌, subst, arith, append_assoc, inl, inr}
 use Rattle.std.proofs.lemmas.List.{append-nil, length-append, length-set}
@@ -21,7 +21,7 @@ use Rattle.rtr_pdu.proofs.UnitLaws.{back, opens}
 use Rattle.rtr_server.specs.Counting.{Counted, CountsUnits, and_pdu, and_whole, capped, count_of, counted_on, end_serial, kind_of, kind_of_prefix, last_serial, none_counted, serial_after, told_len, units_of}
 use Rattle.rtr_server.proofs.CountingLaws.{coming, not_yet, one_more, whole_counts}
 
--- The bytes of a unit show its type,
+-- The bytes of a PDU show its type,
 type_is : (version : Version) (u : Unit) (z : Ignored) (rest : List ℕ) → type_of (spelled version u z ++ rest) ≡ type_number (kind_of u)
 type_is version (SerialNotify session serial) z rest = refl
 type_is version (SerialQuery session serial) z rest = refl
@@ -61,7 +61,7 @@ serial_is version CacheReset z rest last is own = refl
 serial_is version (RouterKey k) z rest last is own = refl
 serial_is version (ErrorReport r) z rest last is own = refl
 
--- one unit more
+-- one PDU more
 abbrev and_unit : Unit → Counted → Counted
 and_unit u c = record { pdus = and_pdu (type_number (kind_of u)) c.pdus; serial = end_serial u c.serial; front = []; came = 0 }
 
@@ -85,7 +85,7 @@ unit_counts version u bytes rest c r none zero_came low =
     ∙ ap (counted_on (and_whole all len c)) (drop-append_seam (spelled version u r.ignored) rest)
     ∙ (λ i. counted_on (of (type_is version u r.ignored rest i) (serial_is version u r.ignored rest c.serial r.fits r.of_version i)) rest)
 
--- the beginning of a unit
+-- the beginning of a PDU
 coming_on : (front bytes : List ℕ) (c : Counted) → length (front ++ bytes) < told_len (front ++ bytes) → length (front ++ bytes) < 2 ^ 64 → counted_on (coming front c) bytes ≡ coming (front ++ bytes) c
 coming_on front [] c more low = ap (λ x. coming x c) (sym (append-nil front))
 coming_on front (b ∷ bytes) c more low =
@@ -126,7 +126,7 @@ low_type kinds.CacheReset = omega arith
 low_type kinds.RouterKey = omega arith
 low_type kinds.ErrorReport = omega arith
 
--- one unit more among the counts
+-- one PDU more among the counts
 one_counted : (kind : Kind) (type n : ℕ) (counts : List ℕ) → length counts ≡ 11 → slice_index counts (type_number kind) ≡ capped n → (b : Bool) → (type == type_number kind) ≡ b
     → slice_index (slice_set counts type (capped (slice_index counts type + 1))) (type_number kind) ≡ capped (if b then n + 1 else n)
 one_counted kind type n counts len is true same =
@@ -157,7 +157,7 @@ serial_after_units : (units : List Unit) (c : Counted) → (and_units units c).s
 serial_after_units [] c = refl
 serial_after_units (u ∷ units) c = serial_after_units units (and_unit u c)
 
--- where nothing came of a unit
+-- where nothing came of a PDU
 record IsBetween (c : Counted) : Type 0 where
   none : c.front ≡ []
   zero_came : c.came ≡ 0

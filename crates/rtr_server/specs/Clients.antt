@@ -219,7 +219,7 @@ pub record Admits {S T : Type 0} (holds : ℕ → Instance → S → Type 0) (re
   pub shows : ShowsServer holds remaining contents (record p { calls = Open c ∷ p.calls; begun = λ d. if d == c then record { before = remaining stream; had = contents stream } else p.begun d }) new
   pub others : KeepsOthers c old.slots.items new.slots.items
 
--- Or it did not: as many are there as may be, and then nothing is changed; or memory was wanting, and no client is.
+-- Or it did not: as many are there as may be, and then nothing is changed; or memory ran out, and no client is.
 abbrev pub AdmitsTo : {S T : Type 0} → (ℕ → Instance → S → Type 0) → (T → Option (List ℕ)) → (T → Option (List ℕ)) → Past → T → Result Client AdmitFault → Server S T → Server S T → Type 0
 AdmitsTo holds remaining contents p stream (Ok client) old new = Admits holds remaining contents p stream client.0.0 old new
 AdmitsTo holds remaining contents p stream (Err TooManyClients) old new = (p.most ≤ clients_in old.slots.items) × (new ≡ old)

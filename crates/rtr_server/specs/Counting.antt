@@ -75,7 +75,7 @@ abbrev pub kind_of_prefix : IpPrefix → Kind
 kind_of_prefix (V4 p) = kinds.Ipv4Prefix
 kind_of_prefix (V6 p) = kinds.Ipv6Prefix
 
--- The type of a unit
+-- The type of a PDU
 abbrev pub kind_of : Unit → Kind
 kind_of (SerialNotify session serial) = kinds.SerialNotify
 kind_of (SerialQuery session serial) = kinds.SerialQuery
@@ -88,23 +88,23 @@ kind_of CacheReset = kinds.CacheReset
 kind_of (RouterKey k) = kinds.RouterKey
 kind_of (ErrorReport r) = kinds.ErrorReport
 
--- how many of these units are of a type
+-- how many of these PDUs are of a type
 abbrev pub units_of : Kind → List Unit → ℕ
 units_of kind [] = 0
 units_of kind (u ∷ units) = if type_number (kind_of u) == type_number kind then suc (units_of kind units) else units_of kind units
 
--- The serial that an End of Data tells; other units tell none.
+-- The serial that an End of Data tells; other PDUs tell none.
 abbrev pub end_serial : Unit → Option Serial → Option Serial
 end_serial (EndOfData session serial refresh retry expire) last = Some (record { 0 = serial })
 end_serial (EndOfData0 session serial) last = Some (record { 0 = serial })
 end_serial u last = last
 
--- the serial that the last End of Data among these units tells, if there is one
+-- the serial that the last End of Data among these PDUs tells, if there is one
 abbrev pub last_serial : Option Serial → List Unit → Option Serial
 last_serial last [] = last
 last_serial last (u ∷ units) = last_serial (end_serial u last) units
 
--- What is counted of bytes that are read as these units, with the beginning of one more: of each type as many as there are, and the serial of
+-- What is counted of bytes that are read as these PDUs, with the beginning of one more: of each type as many as there are, and the serial of
 -- the last End of Data.
 abbrev pub CountsUnits : Type 0
 CountsUnits =

@@ -34,7 +34,7 @@ pub record ClientState : Type 0 where
   pub owed : Bool
   pub traffic : Traffic
 
--- What is done for a client: what was read is handed in, where memory is wanting at this PDU of it, if at any; of what is due so many bytes
+-- What is done for a client: what was read is handed in, where memory runs out at this PDU of it, if at any; of what is due so many bytes
 -- are pulled at most; its router is notified; these bytes are read of its stream; so many are written to it.
 pub data ClientStep : Type 0 where
   HandsIn : (wanting : Option ℕ) → ClientStep
@@ -113,7 +113,7 @@ settles false s = IsSettled s
 abbrev pub IsToWrite : ClientState → Type 0
 IsToWrite s = 0 < length s.unwritten
 
--- memory is wanting at this PDU of what is handed in: it is read, and its answer takes memory
+-- memory runs out at this PDU of what is handed in: it is read, and its answer takes memory
 abbrev pub IsWanted : ℕ → Intervals → ClientState → ℕ → Type 0
 IsWanted keep t s unit = is_wanted_by_peer keep t s.serving.cache s.serving.conn s.unread unit ≡ true
 
@@ -138,7 +138,7 @@ pub record EndsByReport (c : Connection) : Type 0 where
   pub version : Version
   pub due : c.due ≡ sent_all version (report INTERNAL_ERROR [] ∷ [])
 
--- Where memory is wanting at a PDU that is handed in, the client's connection ends so (RFC 8210 section 12).
+-- Where memory runs out at a PDU that is handed in, the client's connection ends so (RFC 8210 section 12).
 abbrev pub MemoryEnds : Type 0
 MemoryEnds =
     (keep : ℕ) (t : Intervals) (unit : ℕ) (s : ClientState) → MayStep keep t (HandsIn (Some unit)) s → EndsByReport (client_after keep t (HandsIn (Some unit)) s).serving.conn.state

@@ -14,12 +14,12 @@ pub fn each_client_is_served<S: VersionStore, T: Stream>(server: &Server<S, T>)
     ensures { EachClientIsServed S.holds T.remaining T.contents server.now }
 {}
 
-/// Where memory is wanting at a client's PDU, its connection ends, with an Error Report of code 1 (RFC 8210 section 12).
+/// Where memory runs out at a client's PDU, its connection ends, with an Error Report of code 1 (RFC 8210 section 12).
 pub fn memory_ends_its_client()
     ensures { MemoryEnds }
 {}
 
-/// What is counted of bytes that are read as units, and of the beginning of one more, are these units: of each type as many as there are, and
+/// What is counted of bytes that are read as PDUs, and of the beginning of one more, are these PDUs: of each type as many as there are, and
 /// the serial that the last End of Data among them tells.
 pub fn counts_units()
     ensures { CountsUnits }

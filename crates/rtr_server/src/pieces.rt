@@ -199,7 +199,7 @@ impl Unwritten {
     }
 }
 
-/// A large room, or nothing where memory is wanting.
+/// A large room, or nothing where memory runs out.
 fn large_room(alloc: Global) -> Vec<u8>
     ensures { length result.items ≤ 32768 }
 {

@@ -28,7 +28,7 @@ use Rattle.rtr_world.proofs.Invariant.{after_stage, Leads}
 use Rattle.prefixes.proofs.Basics.{not_both}
 use Rattle.vrps.proofs.Sizes.{size_le}
 
--- units of which none is a notify
+-- PDUs of which none is a notify
 abbrev pub Plain : List Unit → Type 0
 Plain [] = ⊤
 Plain (SerialNotify session serial ∷ units) = ⊥

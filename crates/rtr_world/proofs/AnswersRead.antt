@@ -52,7 +52,7 @@ notify_reads Idle out items session serial h = tt
 notify_reads (Asked q) out items session serial h = tt
 
 module _ (all : List Instance) (i : Instance) (seen : Option Seen) (conn : Option Conn) (up : List ℕ) where
-  -- a unit is read
+  -- a PDU is read
   unit_reads : (h : Seen) (r : Router) (u : Unit) (items : List Item) → ReadsSo r.link items → Brings all h r r.link u (on_unit r.link u r)
       → ReadsSo (on_unit r.link u r).link (asked_by (on_unit r.link u r).link (on_unit r.link u r).out ++ Reads u ∷ items)
   unit_reads h r u items s (goes_on on none (stays session serial eu el)) =

@@ -47,7 +47,7 @@ dead_link Idle all i home r conn conn' up up' down down' dead g = absurd (let e 
 dead_link (Asked q) all i home r conn conn' up up' down down' dead g = absurd (let e : true ≡ false = dead in cc)
 dead_link (Answering a) all i home r conn conn' up up' down down' dead g = absurd (let e : true ≡ false = dead in cc)
 
--- units are added at the cache's end, where nothing was to be pulled
+-- PDUs are added at the cache's end, where nothing was to be pulled
 more_bytes : (down due lost sent : List ℕ) → due ≡ [] → lost ≡ [] → (down ++ (due ++ lost)) ++ sent ≡ down ++ (sent ++ lost)
 more_bytes down due lost sent de le =
     ap (λ x. (down ++ (x ++ lost)) ++ sent) de ∙ ap (λ x. (down ++ x) ++ sent) le ∙ ap (λ x. x ++ sent) (append-nil down) ∙ ap (λ x. down ++ x) (sym (append-nil sent) ∙ ap (λ x. sent ++ x) (sym le))
@@ -85,7 +85,7 @@ dead_seen Idle all i home home' r conn up down dead g = false_true (sym dead)
 dead_seen (Asked q) all i home home' r conn up down dead g = false_true (sym dead)
 dead_seen (Answering a) all i home home' r conn up down dead g = false_true (sym dead)
 
--- a unit was read at this moment, if there is one
+-- a PDU was read at this moment, if there is one
 abbrev moment_reads : Option ConnMoment → Bool
 moment_reads None = false
 moment_reads (Some m) = is_read m
@@ -115,7 +115,7 @@ module _ (all : List Instance) (i : Instance) (p : Present all i) (keep : ℕ) (
         | inr w ↦ absurd (let e : u ∷ more ≡ [] = w.0 in cc)
       ]
 
-  -- The cache has read the question, and these units are the answer.
+  -- The cache has read the question, and these PDUs are the answer.
   answered : (o : Conn) (up bs : List ℕ) (h : Seen) (f : Flow all i h r (Some o) up down) (q : Question) (units : List Unit) (st : Connection) → st.version ≡ Some r.spoken → o.state.due ≡ [] → st.due ≡ sent_all r.spoken units → Stream [] (bs ++ r.out) [] → r.link ≡ Asked q
       → without_notifies f.coming ≡ [] → QuestionFits h.session q (of_version r.spoken r.version) → IsAnswered r.spoken units → Replies all r.spoken (record h { read = Some i }) q (base_of q r.table) units → OneReply all r.spoken (record h { read = Some i }) q units → Live all i (Some (record h { read = Some i })) r (Some (record { state = st; held = [] })) bs down
   answered o up bs h f q units st spoken eo due up_stream link rest fits is replies one =
@@ -252,7 +252,7 @@ module _ (all : List Instance) (i : Instance) (p : Present all i) (keep : ℕ) (
   abbrev pub DueNow : List ℕ → Option ℕ → Conn → Type 0
   DueNow old wanting o = (o.state.due ≡ old) ⊎ IsOfNow r.spoken i keep wanting r.link o.state.due
 
-  -- Memory is wanting only where it was told.
+  -- Memory runs out only where it was told.
   some_wants : (wanting now : Option ℕ) → (wanting ≡ None → now ≡ None) → not (finds_memory now) ≡ true → IsSome wanting
   some_wants (Some unit) now same lacks = refl
   some_wants None now same lacks = absurd (let e : false ≡ true = ap (λ x. not (finds_memory x)) (sym (same refl)) ∙ lacks in cc)

@@ -38,7 +38,7 @@ use Rattle.prefixes.proofs.Basics.{eq_of, eq_true}
 not_both : (b : Bool) → b ≡ true → b ≡ false → ⊥
 not_both b h k = let e : true ≡ false = sym h ∙ k in cc
 
--- units that are no notify, and that can be sent
+-- PDUs that are no notify, and that can be sent
 pub record IsAnswered (pv : Version) (units : List Unit) : Type 0 where
   pub plain : Plain units
   pub fit : AllByRecursion (IsUnitOf pv) units
@@ -100,7 +100,7 @@ serial_bytes : (pv : Version) (session serial : ℕ) → AreBytes (sent pv (Seri
 serial_bytes pv session serial =
     all_bytes (sent pv (SerialQuery session serial)) (low_version pv, (omega arith, (omega arith, (omega arith, (omega arith, (omega arith, (omega arith, (omega arith, (omega arith, (omega arith, (omega arith, (omega arith, tt))))))))))))
 
--- an answer that leads on, with what is asked of its units
+-- an answer that leads on, with what is asked of its PDUs
 pub record Answers (all : List Instance) (pv : Version) (home : Seen) (q : Question) (base : VrpSet) (units : List Unit) : Type 0 where
   pub replies : Replies all pv home q base units
   pub from : FromCache all pv home q units

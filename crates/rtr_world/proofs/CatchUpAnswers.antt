@@ -63,7 +63,7 @@ no_wanting pv i keep (AskSerial session serial) = by_session (session == session
     by_session false e = other_report 0 1 (sent pv (SerialQuery session serial)) [] (λ k. absurd (omega (arith, k))) e
 
 module _ (keep : ℕ) (i : Instance) (pv : Version) (u : Unit) (fits : IsUnitOf pv u) (wanting : Option ℕ) where
-  -- what is due once the unit is read, and whether the connection has ended then: its answer, or Error Report 1 in its place
+  -- what is due once the PDU is read, and whether the connection has ended then: its answer, or Error Report 1 in its place
   abbrev pub IsDue : Bool → List Unit → Type 0
   IsDue ended units = ((units ≡ (answer pv i keep timing u).units) × (ended ≡ not (answer pv i keep timing u).goes_on)) ⊎ ((units ≡ report 1 [] ∷ []) × (wanting ≡ None → ⊥))
 

@@ -1,4 +1,4 @@
--- Rounds end at each router that connects, after every list of events, and where no memory is wanting they end in an idle link.
+-- Rounds end at each router that connects, after every list of events, and where memory does not run out they end in an idle link.
 use Rattle.std.specs.Prelude.{◌≡◌, ◌⊎◌, ℕ, true, false, List, [], ◌∷◌, Option, Some, None, IsSome, refl}
 use Rattle.std.proofs.Common.{sym, ap, ◌∙◌, subst, subst₂, arith, inl, inr}
 use Rattle.std.specs.List.{AllByRecursion}
@@ -25,7 +25,7 @@ use Rattle.rtr_world.proofs.Versions.{Present, TableAt}
 use Rattle.rtr_world.proofs.WorldSteps.{GoodWorld, history_good, new_good}
 
 module _ (w : World) (p : Present (instances w) w.present) where
-  -- whatever memory was wanting
+  -- wherever memory ran out
   rests_next : (h : Seen) (s : Side) → Asks w p h AskReset s → RestsNext w s
   rests_next h s a most at_cache at_router m = by_end (round_ends w p h at_cache at_router AskReset most s m a)
     where
@@ -104,7 +104,7 @@ module _ (w : World) (p : Present (instances w) w.present) where
       let r : Router = close (clocked s.router.now s.router) in
       asks_new s AskReset (ap (λ v. choose (of_version r.speaks v) r.mark) k.version) k.held (subst (λ v. Mine (session_in r.speaks w.present) (of_version r.speaks v)) (sym k.version) tt) (subst₂ (λ v t. TableAt (instances w) v t) (sym k.version) (sym k.table) refl)
 
-  -- where no memory was wanting
+  -- where memory did not run out
   idle_next : (h : Seen) (s : Side) → Asks w p h AskReset s → IdleNext w s
   idle_next h s a most m = by_end (round_ends w p h None None AskReset most s m a)
     where

@@ -32,7 +32,7 @@ use Rattle.rtr_world.proofs.UnitStreams.{Begun as BegunUnit, ByteCase, partly, n
 use Rattle.rtr_world.proofs.Versions.{TableAt}
 use Rattle.prefixes.proofs.Basics.{eq_true, true_of_not}
 
--- Where no byte is to come, no unit is.
+-- Where no byte is to come, no PDU is.
 pub none_left : (pv : Version) (held : List ℕ) (units : List Unit) → Stream held [] (in_version pv units) → (units ≡ []) × (held ≡ [])
 none_left pv held units s = by_part s.partial
   where
@@ -70,9 +70,9 @@ mine_again : (session serial : ℕ) (version : Option Committed) → QuestionFit
 mine_again session serial None f = absurd f
 mine_again session serial (Some version) f = sym f.0
 
--- where memory was wanting, and where the cache's side is still open
+-- where memory ran out, and where the cache's side is still open
 module _ (all : List Instance) (h : Seen) (pv : Version) (q : Question) (lacking stays : Type 0) where
-  -- why a link ends: memory was wanting, or the router was emptied at a Serial Query
+  -- why a link ends: memory ran out, or the router was emptied at a Serial Query
   abbrev pub Why : Router → Type 0
   Why r = lacking ⊎ ((is_serial (Some q) ≡ true) × (r.version ≡ None) × (r.table ≡ empty))
 
@@ -159,7 +159,7 @@ module _ (all : List Instance) (h : Seen) (pv : Version) (q : Question) (lacking
       commits_on rest k a (EndOfData0 one number) one number default_intervals (leads.1 ∙ sym own) none (none_after k.spoken rest more leads.0 (subst (λ x. Stream x rest (in_version k.spoken more)) held s)) o
   answered rest k a u more serial set none held own s leads o of = absurd leads
 
-  -- a unit is read, or memory for it is wanting
+  -- a PDU is read, or memory for it runs out
   by_memory : (rest : List ℕ) (k : Router) (u : Unit) (w : Bool) → (w ≡ true → lacking) → k.out ≡ [] → Phase rest (on_unit k.link u k) → Phase rest (if w then lacks u k else reads u k).router
   by_memory rest k u true lack none on = ended ends.Memory refl none (inl (lack refl))
   by_memory rest k u false lack none on = on
@@ -217,7 +217,7 @@ module _ (all : List Instance) (h : Seen) (pv : Version) (q : Question) (lacking
   was_read (b ∷ rest) r stops (goes_on a units serial set is none own s leads o of) =
       absurd (let e : true ≡ false = sym (stops (omega arith)) ∙ (λ j. not (is_reading (is j) && is_none (none j))) in cc)
 
-  -- Memory is there for each unit, or it was wanting.
+  -- Memory is there for each PDU, or it ran out.
   abbrev HasMemory : Option ℕ → Type 0
   HasMemory wanting = (wanting ≡ None) ⊎ lacking
 

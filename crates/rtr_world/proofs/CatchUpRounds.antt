@@ -32,7 +32,7 @@ use Rattle.rtr_world.proofs.CatchUpQuestions.{Asks, Knows, Quiet, Sent, reading,
 use Rattle.rtr_world.proofs.CatchUpSizes.{answer_bytes, one_unit}
 
 module _ (w : World) (p : Present (instances w) w.present) (h : Seen) where
-  -- at these units memory is wanting, if at any
+  -- at these PDUs memory runs out, if at any
   module _ (at_cache at_router : Option ℕ) where
     abbrev pub Lacking : Type 0
     Lacking = at_cache ≡ None → at_router ≡ None → ⊥
@@ -180,7 +180,7 @@ module _ (w : World) (p : Present (instances w) w.present) (h : Seen) where
                   (record { knows = a.knows; units = a.units; reply = a.reply; conn = inr c; shown = inl (inl c); up = a.up; down = down; link = a.link; out = a.out; router_held = a.router_held }))
             ]
 
-    -- The link is idle, and all is quiet; or it is closed, as memory was wanting or the router was emptied; or the router asks for all.
+    -- The link is idle, and all is quiet; or it is closed, as memory ran out or the router was emptied; or the router asks for all.
     pub data Ends (q : Question) (s : Side) : Type 0 where
       idles : s.router.link ≡ Idle → IsQuiet s → Ends q s
       closes : s.router.link ≡ Closed → Lacking ⊎ ((is_serial (Some q) ≡ true) × Emptied s.router) → Ends q s

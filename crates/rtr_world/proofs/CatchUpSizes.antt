@@ -77,7 +77,7 @@ answer_few pv i keep (AskSerial session serial) is = by_session (session == sess
     by_session true = serial_few pv (session_in pv i) i.start keep serial i.sets is
     by_session false = omega arith
 
--- at most 2^25 units of at most 2^12 bytes
+-- at most 2^25 PDUs of at most 2^12 bytes
 pub answer_bytes : (pv : Version) (i : Instance) (keep : ℕ) (q : Question) → AllByRecursion IsVrpSet i.sets → AllByRecursion (IsUnitOf pv) (answer pv i keep timing (query q)).units → length (sent_all pv (answer pv i keep timing (query q)).units) ≤ 2 ^ 37
 answer_bytes pv i keep q is fit =
     let few = answer_few pv i keep q is in

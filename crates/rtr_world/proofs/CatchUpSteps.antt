@@ -94,7 +94,7 @@ rounded_cache r most at_cache at_router w =
     same_cache w w3 (rounded r most at_cache at_router w)
     (same_cache w w2 w3 (same_cache w w1 w2 (stepped_cache r (RouterSends most) None w) (stepped_cache r (CacheGets most) at_cache w1)) (stepped_cache r (CacheSends most) None w2)) (stepped_cache r (RouterGets most) at_router w3)
 
--- What is sent meets no want of memory.
+-- At what is sent memory does not run out.
 pub sends_none : (r most : ℕ) (wanting : Option ℕ) (w : World) → stepped r (RouterSends most) wanting w ≡ stepped r (RouterSends most) None w
 unfolding goes_through side_step
 sends_none r most wanting w = refl

@@ -1,4 +1,4 @@
--- A unit that makes a link idle brings the newest version.
+-- A PDU that makes a link idle brings the newest version.
 use Rattle.std.specs.Prelude.{◌≡◌, ℕ, ◌+◌, ◌-◌, ◌≤◌, ◌<◌, Bool, true, false, ◌==◌, nat_lt, List, [], ◌∷◌, ◌++◌, length, Option, Some, None, if◌then◌else◌, ⊤, refl}
 use Rattle.std.proofs.Common.{sym, ap, ◌∙◌, subst, subst₂, arith, inl, inr}
 use Rattle.std.proofs.lemmas.Bool.Decides.{nat_tests}
@@ -197,7 +197,7 @@ module _ (all : List Instance) (i : Instance) (p : Present all i) (pv : Version)
       ]
   others r (Answering a) u more wanted of live t s c = answered r a u (without_notifies more) of s.4 c
 
-  -- every unit
+  -- every PDU
   pub unit_current : (r : Router) (l : Link) (u : Unit) (more wanted : List Unit) → r.spoken ≡ pv → r.link ≡ l → is_reading l ≡ true → TableAt all r.version r.table → Shape all pv h l r.agreed r.version r.table wanted (without_notifies (u ∷ more)) → Current pv i l r.version r.table r.now → C (on_unit l u r)
   unit_current r l u more wanted of is live t shape c = by_head (head_case u more)
     where

@@ -87,7 +87,7 @@ module _ (made : Made) (history : List Entry) (r : ℕ) (v : code.World) (l : Le
   abbrev asking : Side
   asking = settle (instances w) (connects w s)
 
-  -- the side after a round of a connection, with memory wanting at these units
+  -- the side after a round of a connection, with memory running out at these PDUs
   abbrev pub after_one : Option ℕ → Option ℕ → Side
   after_one n m = round w all_bytes n m asking
 

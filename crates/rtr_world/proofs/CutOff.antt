@@ -74,7 +74,7 @@ after_cut r wanting w s e = record {
   off = settle_off (instances w) (side_step w (Cut 0) wanting s) (step_silent w wanting s);
 }
 
--- and after an event that was refused for want of memory.
+-- and after an event that was refused because memory ran out.
 pub after_refused : (r : ℕ) (event : SideEvent) (bytes : ℕ) (wanting : Option ℕ) (w : World) (s : Side) → side_at r w.sides ≡ Some s → IsCutOff r (after (On r event) (Memory bytes wanting) w)
 unfolding is_refused settled
 after_refused r event bytes wanting w s e = record {

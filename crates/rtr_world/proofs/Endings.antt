@@ -68,7 +68,7 @@ other_session keep None h session serial s other = absurd s
 other_session keep (Some home) h session serial s other = λ e. other (e ∙ sym s.2)
 
 module _ (all : List Instance) (i : Instance) (keep : ℕ) (home : Option Instance) (seen : Option Seen) (is_seen : IsSeen keep home seen) (conn : Option Conn) (up : List ℕ) where
-  -- a unit is read
+  -- a PDU is read
   unit_lawful : (h : Seen) (r : Router) (u : Unit) (items : List Item) → seen ≡ Some h → h.version ≡ r.spoken → Tells r items → Brings all h r r.link u (on_unit r.link u r)
       → LawfulLink (on_unit r.link u r).link (asked_by (on_unit r.link u r).link (on_unit r.link u r).out ++ Reads u ∷ items) home
   unit_lawful h r u items eh of t (goes_on on none c) = lawful_on (on_unit r.link u r).link (asked_by (on_unit r.link u r).link (on_unit r.link u r).out ++ Reads u ∷ items) home on

@@ -190,7 +190,7 @@ speaks_later : after (On 0 (Speak V0)) (Done None) (world (open_side asking noti
 unfolding goes_through settled settle side_step speaks
 speaks_later = refl
 
--- Refused for want of memory: what came before has moved, the connection is cut with nothing to arrive, and the router is told.
+-- Refused because memory ran out: what came before has moved, the connection is cut with nothing to arrive, and the router is told.
 cut_by_want : after (On 0 (CacheGets 8)) (Memory 3 None) (world (record (open_side (record asking { out = 9 ∷ [] }) (new_conn with_v) reset_bytes (7 ∷ []) opened) { read_at = Some with_v } ∷ []))
     ≡ world (closed_side (record new_router { due = Some 600 }) (Shut ∷ At 0 ∷ Refused ∷ opened) ∷ [])
 unfolding is_refused settled settle side_refused cut cache_gets conn_takes conn_byte judge as_read closed_at clocked
@@ -220,7 +220,7 @@ never_refuses = (refl, refl, refl, refl, refl, refl, refl, refl, refl)
 still_connected : (has_connection (record new_side { conn = Some (new_conn with_v) }) ≡ true) × (has_connection (cut_side []) ≡ true) × (has_connection new_side ≡ false)
 still_connected = (refl, refl, refl)
 
--- It tells at most the bytes that it would have moved with memory, and a unit only where that came and takes memory.
+-- It tells at most the bytes that it would have moved with memory, and a PDU only where that came and takes memory.
 all_of_it : moved connected (On 0 (CacheGets 99)) None ≡ 8
 unfolding cache_gets conn_takes conn_byte judge as_read
 all_of_it = refl
@@ -261,7 +261,7 @@ answers_as_now : after (On 0 (CacheGets 8)) (Done None) (later_world (new_conn a
 unfolding goes_through settled settle side_step cache_gets conn_takes conn_byte judge as_read
 answers_as_now = ap (λ vs. read_now (told_now (Some V1) (sent_all V1 (with_all_of 6 just_v vs)) false)) (listing-set_of (v ∷ []) v_ascends)
 
--- Where a unit has not come whole none was read; and on a new connection none was.
+-- Where a PDU has not come whole none was read; and on a new connection none was.
 reads_no_part : after (On 0 (CacheGets 7)) (Done None) (later_world (new_conn at_first) reset_bytes) ≡ later_world (record (new_conn at_first) { held = take 7 reset_bytes }) (drop 7 reset_bytes)
 unfolding goes_through settled settle side_step cache_gets conn_takes conn_byte judge as_read
 reads_no_part = refl
@@ -337,8 +337,8 @@ no_more_than_said : (moved (world (open_side asking (new_conn with_v) [] (1 ∷ 
 unfolding router_gets receives clocked router_byte judge as_read
 no_more_than_said = (refl, refl, refl)
 
--- Memory may be wanting at a unit that comes to a router only where that comes whole and takes memory: an End of Data of the answer does, a
--- Cache Response does not. The outcome tells no other unit, and no other event of the router's tells one.
+-- Memory may run out at a PDU that comes to a router only where that comes whole and takes memory: an End of Data of the answer does, a
+-- Cache Response does not. The outcome tells no other PDU, and no other event of the router's tells one.
 abbrev answering : Router
 answering = record new_router { link = Answering (record { question = AskReset; session = 0x1234; withdrawn = []; announced = [] }); agreed = true; session = Some 0x1234 }
 

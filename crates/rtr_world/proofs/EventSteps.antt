@@ -40,7 +40,7 @@ open_sent : (i : Instance) (pv : Version) (h : Seen) (most : ℕ) (out up : List
 open_sent i pv h most out up wanted coming agreed lost None op = tt
 open_sent i pv h most out up wanted coming agreed lost (Some o) op = record { upward = sent_first most o.held up out (in_version pv wanted) op.upward; spoken = op.spoken; unheard = op.unheard; whole = op.whole; session = op.session; made = op.made; later = op.later }
 
--- what was seen, where the cache read a unit or not
+-- what was seen, where the cache read a PDU or not
 seen_read : (i : Instance) (keep : ℕ) (home : Option Instance) (read : Bool) (seen : Option Seen) → IsSeen keep home seen → IsSeen keep home (seen_after i read seen)
 seen_read i keep home false seen s = s
 seen_read i keep home true None s = s

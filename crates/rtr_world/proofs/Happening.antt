@@ -54,7 +54,7 @@ module _ (w : World) (at : ℕ → Option Conn) where
   unfolding side_refused
   refused_settles e s old mid n between later bytes m settles = and_then w at old.conn (side_refused w e bytes None s) _ between later mid n m (settles w m.now (side_refused w e bytes None s) m.shows)
 
-  -- with the cut where memory is wanting, and the clean-up
+  -- with the cut where memory runs out, and the clean-up
   pub happens : (e : model.SideEvent) (s : Side) (old v mid n : values.Side) (cache between later : Cache Steps) (result : Result ⊤ AllocError) → BeginsEvent w at e s (λ t. Moves w at old.conn t cache v) result
       → (is_err result ≡ true → Goes (λ w s. cut 0 s) cache v between mid) → (is_err result ≡ false → (between ≡ cache) × (mid ≡ v)) → Goes (λ w s. settle (instances w) s) between mid later n → Happens w at e s (λ t. Moves w at old.conn t later n) result
   happens e s old v mid n cache between later (Ok done) b cuts stays settles =

@@ -28,7 +28,7 @@ after_stage (Stays a) Goes = Goes a
 after_stage (Wrong code) Goes = ⊥
 after_stage Over Goes = ⊥
 
--- These units are the rest of an answer: they lead from the base, and from what is staged, to a set under a session and a serial.
+-- These PDUs are the rest of an answer: they lead from the base, and from what is staged, to a set under a session and a serial.
 abbrev pub Leads : VrpSet → Begun → List Unit → ℕ → ℕ → VrpSet → Type 0
 Leads base a [] session serial set = ⊥
 Leads base a (Prefix announce v ∷ units) session serial set = after_stage (stage base a announce v) (λ b. Leads base b units session serial set)
@@ -57,7 +57,7 @@ abbrev pub IsOwn : ℕ → Question → Type 0
 IsOwn session AskReset = ⊤
 IsOwn session (AskSerial one serial) = one ≡ session
 
--- the units of records, of which the last stands first
+-- the PDUs of records, of which the last stands first
 abbrev pub records_of : Bool → List Payload → List Unit
 records_of announce [] = []
 records_of announce (v ∷ vs) = records_of announce vs ++ Prefix announce v ∷ []
@@ -79,7 +79,7 @@ WithdrawsFirst (unit ∷ units) = WithdrawsFirst units
 abbrev pub InOrder : Begun → List Unit → Type 0
 InOrder a rest = WithdrawsFirst rest × ((a.announced ≡ []) ⊎ NoneWithdrawn rest)
 
--- The connection's instance was like this at some time after the connection was made, when the cache read a unit on it.
+-- The connection's instance was like this at some time after the connection was made, when the cache read a PDU on it.
 pub record WasCache (all : List Instance) (home : Seen) (cache : Instance) : Type 0 where
   pub since : IsLater home.made cache
   pub latest : Instance
@@ -87,7 +87,7 @@ pub record WasCache (all : List Instance) (home : Seen) (cache : Instance) : Typ
   pub until : IsLater cache latest
   pub read : home.read ≡ Some cache
 
--- These units are its answer then.
+-- These PDUs are its answer then.
 pub record FromCache (all : List Instance) (pv : Version) (home : Seen) (q : Question) (units : List Unit) : Type 0 where
   pub cache : Instance
   pub was : WasCache all home cache
@@ -147,7 +147,7 @@ abbrev pub Unheard : Option Version → List Unit → Bool → Type 0
 Unheard None coming agreed = (coming ≡ []) × (agreed ≡ false)
 Unheard (Some version) coming agreed = ⊤
 
--- Open at the cache: what the router asked and the cache has not read whole are these units.
+-- Open at the cache: what the router asked and the cache has not read whole are these PDUs.
 pub record Open (i : Instance) (pv : Version) (home : Seen) (out up : List ℕ) (wanted coming : List Unit) (agreed : Bool) (lost : List ℕ) (o : Conn) : Type 0 where
   pub upward : Stream o.held (up ++ out) (in_version pv wanted)
   pub spoken : MaySpeak pv o.state.version

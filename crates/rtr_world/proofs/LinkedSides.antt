@@ -7,7 +7,7 @@ use Rattle.rtr_ends.specs.Answer.{session_in}
 
 -- The instance as it was when the connection was made, how many versions the cache keeps, the version of the connection, and the session in
 -- it and the sets of that instance then, or when what was committed on the connection last was its newest version; and the cache as it was
--- when it last read a unit on it
+-- when it last read a PDU on it
 pub record Seen : Type 0 where
   pub made : Instance
   pub keep : ℕ
@@ -29,7 +29,7 @@ abbrev pub IsReadAt : Option Instance → Option Seen → Type 0
 IsReadAt read None = ⊤
 IsReadAt read (Some seen) = seen.read ≡ read
 
--- The cache reads a unit now.
+-- The cache reads a PDU now.
 abbrev pub reads_now : Instance → Option Seen → Option Seen
 reads_now i None = None
 reads_now i (Some seen) = Some (record seen { read = Some i })

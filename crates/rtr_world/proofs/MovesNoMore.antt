@@ -1,4 +1,4 @@
--- An event moves no more bytes than it says, and no more where memory is wanting at a unit of it.
+-- An event moves no more bytes than it says, and no more where memory runs out at a PDU of it.
 use Rattle.std.specs.Prelude.{◌≡◌, ◌⊎◌, ℕ, ◌-◌, ◌≤◌, Bool, true, false, not, ◌&&◌, nat_lt, List, [], ◌∷◌, ◌++◌, drop, length, take, Option, Some, None, if◌then◌else◌, refl}
 use Rattle.std.proofs.Common.{sym, ap, ◌∙◌, subst, arith, inl, inr}
 use Rattle.std.proofs.Math.Nat.{min-le_left}

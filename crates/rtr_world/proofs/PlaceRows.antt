@@ -98,7 +98,7 @@ third_commit : after (On 0 (RouterGets 99)) (Done None) (later_world (new_waitin
 unfolding goes_through settled settle side_step router_gets receives clocked router_byte on_unit judge as_read
 third_commit = ap (λ s. later_world (committed_anew s)) (led_none empty)
 
--- Refused for want of memory one byte before the End of Data is whole: nothing is on the wire, the table is the old one, and no place
+-- Refused because memory ran out one byte before the End of Data is whole: nothing is on the wire, the table is the old one, and no place
 -- is noted.
 abbrev and_notify : List ℕ
 and_notify = no_change ++ sent V1 (SerialNotify 0x1234 7)

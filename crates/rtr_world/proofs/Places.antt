@@ -163,7 +163,7 @@ ordered_more past i h places pv session serial set a f of own since o =
 pub ordered_none : (past : List Instance) (i : Instance) (places : List (Option VersionPlace)) (seen : Option Seen) → Ordered past i places seen → Ordered past i places None
 ordered_none past i places seen o = record { never_back = o.never_back; current = o.current; at_seen = tt; at_home = tt }
 
--- the cache reads a unit on it, or not
+-- the cache reads a PDU on it, or not
 pub ordered_read : (past : List Instance) (i : Instance) (places : List (Option VersionPlace)) (read : Bool) (seen : Option Seen) → Ordered past i places seen → Ordered past i places (seen_after i read seen)
 ordered_read past i places false seen o = o
 ordered_read past i places true None o = o

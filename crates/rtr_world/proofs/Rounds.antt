@@ -61,7 +61,7 @@ module _ (r : ℕ) (e : SideEvent) (w : World) (s : Side) (found : side_at r w.s
   no_refusal : (o : Outcome) → MayEnd (refusal w (On r e)) w (On r e) o → MayEnd None w (On r e) o
   no_refusal o may = subst (λ x. MayEnd x w (On r e) o) (found_router w r e (low_of r w.sides s found)) may
 
-  -- Where it failed, memory was wanting, and the connection is cut.
+  -- Where it failed, memory ran out, and the connection is cut.
   pub lacked : (o : Outcome) (fault : WorldFault) → AnswersOutcome (outcome_fault o) (Err fault) → MayEnd (refusal w (On r e)) w (On r e) o → IsCutOff r (after (On r e) o w) × (o ≡ Done None → ⊥)
   lacked (Done wanting) fault h may = absurd (let k : ◌≡◌ {A = Bool} false true = h in cc)
   lacked SessionUsed fault h may = absurd (no_refusal SessionUsed may)
@@ -77,7 +77,7 @@ cut_leaves r w s found TooManyVersions may = absurd (no_refusal r (Cut 0) w s fo
 cut_leaves r w s found NoSuchRouter may = absurd (no_refusal r (Cut 0) w s found NoSuchRouter may)
 cut_leaves r w s found (Memory bytes wanting) may = after_refused r (Cut 0) bytes wanting w s found
 
--- Moves that went through, and the world to which they lead; and what is so where no memory was wanting
+-- Moves that went through, and the world to which they lead; and what is so where memory did not run out
 pub record Along (made : Made) (history : List Entry) (r : ℕ) (x : World) (Wants : Type 0) (new : code.World) : Type 0 where
   pub more : List Entry
   pub moves : AreMoves r more

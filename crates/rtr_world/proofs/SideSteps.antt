@@ -43,7 +43,7 @@ live_of Idle all i home r conn up down g live = g
 live_of (Asked q) all i home r conn up down g live = g
 live_of (Answering a) all i home r conn up down g live = g
 
--- A unit is a notify, or stands among those that are none.
+-- A PDU is a notify, or stands among those that are none.
 pub data HeadCase (u : Unit) (more : List Unit) : Type 0 where
   a_notify : (session serial : ℕ) → u ≡ SerialNotify session serial → HeadCase u more
   another : without_notifies (u ∷ more) ≡ u ∷ without_notifies more → HeadCase u more
@@ -70,7 +70,7 @@ fits_nothing session AskReset h = tt
 fits_nothing session (AskSerial one serial) h = false_true (sym h)
 
 module _ (all : List Instance) (i : Instance) (home : Option Seen) (conn : Option Conn) (up : List ℕ) where
-  -- the router reads a unit
+  -- the router reads a PDU
   unit_read : (down : List ℕ) (r : Router) (more : List Unit) (u : Unit) → HeadCase u more → (d : Reads all i home conn up down r more) → is_reading r.link ≡ true → NotifiesOf d.h.session (u ∷ more)
       → Shape all r.spoken d.h r.link r.agreed r.version r.table d.wanted (without_notifies (u ∷ more)) → GoodRouter all i home conn up down (on_unit r.link u r)
   unit_read down r more u (a_notify session serial e) d live notes shape =

@@ -1,4 +1,4 @@
--- What a unit that comes to the router does to its link.
+-- What a PDU that comes to the router does to its link.
 use Rattle.std.specs.Prelude.{◌≡◌, ℕ, ◌+◌, ◌≤◌, ◌<◌, Bool, true, false, ◌&&◌, ◌==◌, List, [], ◌∷◌, ◌++◌, length, Some, if◌then◌else◌, refl}
 use Rattle.std.proofs.Common.{sym, ap, ◌∙◌, subst, subst₂, inl, inr}
 use Rattle.prefixes.specs.Payload.{Payload}
@@ -38,7 +38,7 @@ pub data Continues (l : Link) (u : Unit) (next : Link) : Type 0 where
   stages : (a b : Begun) (announce : Bool) (v : Payload) → l ≡ Answering a → u ≡ Prefix announce v → next ≡ Answering b → read_of b ≡ read_of a ++ Prefix announce v ∷ [] → Continues l u next
   leaves : is_answering next ≡ false → Continues l u next
 
--- The link goes on; or it is told that another session is asked for, or that memory is wanting; or a version is committed that
+-- The link goes on; or it is told that another session is asked for, or that memory runs out; or a version is committed that
 -- stands no earlier than the one that was current when the connection was made.
 pub data Brings (all : List Instance) (h : Seen) (r : Router) (l : Link) (u : Unit) (k : Router) : Type 0 where
   goes_on : is_ended k.link ≡ false → is_end u ≡ false → Continues l u k.link → Brings all h r l u k
@@ -143,7 +143,7 @@ module _ (all : List Instance) (h : Seen) (r : Router) where
   pub early_brings : (one serial : ℕ) → is_reading r.link ≡ true → r.agreed ≡ false → Brings all h r r.link (SerialNotify one serial) (on_unit r.link (SerialNotify one serial) r)
   early_brings one serial live open_yet = notified r.link one serial refl live (ap (λ b. b && differs (session_of r.session (of_version r.spoken r.version)) one) open_yet)
 
-  -- every unit
+  -- every PDU
   pub unit_brings : (l : Link) (u : Unit) (more wanted : List Unit) → r.link ≡ l → is_reading l ≡ true → OwnSession h.session r.session → (r.agreed ≡ true → Mine h.session (of_version r.spoken r.version))
       → ((q : Question) → QuestionFits h.session q (of_version r.spoken r.version) → IsOwn h.session q → is_wrong (Some q) (of_version r.spoken r.version) h.session ≡ false) → NotifiesOf h.session (u ∷ more)
       → Shape all r.spoken h l r.agreed r.version r.table wanted (without_notifies (u ∷ more)) → Brings all h r l u (on_unit l u r)

@@ -1,4 +1,4 @@
--- A stream of bytes that spells units, read byte by byte.
+-- A stream of bytes that spells PDUs, read byte by byte.
 use Rattle.std.specs.Prelude.{◌≡◌, ◌⊎◌, ℕ, ◌<◌, nat_lt, Bool, true, false, not, List, [], ◌∷◌, ◌++◌, length, Option, Some, None, if◌then◌else◌, ⊤, refl}
 use Rattle.std.proofs.Common.{sym, ap, ◌∙◌, subst, subst₂, arith, append_assoc, inl, inr, zero, suc}
 use Rattle.std.specs.List.{AllByRecursion}
@@ -22,14 +22,14 @@ use Rattle.rtr_ends.specs.Connection.{Sent, bytes_sent, in_version}
 use Rattle.rtr_world.specs.OneAnswer.{AreEarly, IsPart, without_notifies}
 use Rattle.rtr_world.proofs.EarlyNotifies.{judge_notify, judge_notify_part}
 
--- the bytes of a unit in its version, and that it is one
+-- the bytes of a PDU in its version, and that it is one
 abbrev pub bytes_in : Sent → List ℕ
 bytes_in s = sent s.version s.unit
 
 abbrev pub IsSent : Sent → Type 0
 IsSent s = IsUnitOf s.version s.unit
 
--- What is held is a proper beginning of the first of these units.
+-- What is held is a proper beginning of the first of these PDUs.
 pub record Begun (held : List ℕ) (units : List Sent) : Type 0 where
   pub first : Sent
   pub more : List Sent
@@ -38,17 +38,17 @@ pub record Begun (held : List ℕ) (units : List Sent) : Type 0 where
   pub rest : List ℕ
   pub begins : held ++ byte ∷ rest ≡ bytes_in first
 
--- What is held and what comes after it spells these units, and none of them is whole in what is held.
+-- What is held and what comes after it spells these PDUs, and none of them is whole in what is held.
 pub record Stream (held after : List ℕ) (units : List Sent) : Type 0 where
   pub whole : held ++ after ≡ bytes_sent units
   pub partial : (held ≡ []) ⊎ Begun held units
   pub fit : AllByRecursion IsSent units
 
--- notifies of version 1 that were sent before the cache had read a header, and the units behind them
+-- notifies of version 1 that were sent before the cache had read a header, and the PDUs behind them
 abbrev pub behind_early : Version → List Unit → List Unit → List Sent
 behind_early version early coming = in_version V1 early ++ in_version version coming
 
--- The next byte goes on with the first unit.
+-- The next byte goes on with the first PDU.
 record Next (held : List ℕ) (b : ℕ) (after : List ℕ) (units : List Sent) : Type 0 where
   first : Sent
   more : List Sent
@@ -98,7 +98,7 @@ part_judged version any s part rest b (inr early) fit e =
     subst (λ a. judge version a part ≡ Begins) (sym early.0)
     (judge_notify_part version s.version early.1.0 early.1.1 part rest b (subst IsUnit is fit.0) (e ∙ ap (λ u. sent s.version u) is))
 
--- After the next byte no unit is whole, or the first one is.
+-- After the next byte no PDU is whole, or the first one is.
 data SentCase (version : Version) (any : Bool) (held : List ℕ) (b : ℕ) (after : List ℕ) (units : List Sent) : Type 0 where
   sent_partly : judge version any (held ++ b ∷ []) ≡ Begins → Stream (held ++ b ∷ []) after units → SentCase version any held b after units
   sent_wholly : (u : Sent) (more : List Sent) → units ≡ u ∷ more → judge version any (held ++ b ∷ []) ≡ Whole u.unit → IsSent u → Stream [] after more → SentCase version any held b after units
@@ -122,7 +122,7 @@ sent_case version any held b after units may s =
     let n = next held b after units s.whole s.partial in
     case_of version any held b after units n.first n.more n.rest (may n.first n.more n.is) s.whole s.fit n.is n.begins n.goes_on
 
--- After the next byte no unit is whole; or a notify of version 1 is, where no version is agreed on; or the first unit of the expected
+-- After the next byte no PDU is whole; or a notify of version 1 is, where no version is agreed on; or the first PDU of the expected
 -- version is.
 pub data ByteCase (version : Version) (agreed : Bool) (held : List ℕ) (b : ℕ) (after : List ℕ) (early coming : List Unit) : Type 0 where
   partly : judge version (not agreed) (held ++ b ∷ []) ≡ Begins → Stream (held ++ b ∷ []) after (behind_early version early coming) → ByteCase version agreed held b after early coming
@@ -167,7 +167,7 @@ abbrev pub MaySpeak : Version → Option Version → Type 0
 MaySpeak version None = ⊤
 MaySpeak version (Some agreed) = agreed ≡ version
 
--- A unit begins with the number of its version.
+-- A PDU begins with the number of its version.
 first_byte : (version : Version) (more : List ℕ) → first_version (version_number version ∷ more) ≡ version
 first_byte V0 more = refl
 first_byte V1 more = refl
@@ -188,7 +188,7 @@ first_sent version CacheReset more = first_byte version _
 first_sent version (RouterKey key) more = first_byte version _
 first_sent version (ErrorReport r) more = first_byte version _
 
--- The beginning of a unit tells its version.
+-- The beginning of a PDU tells its version.
 pub part_version : (version : Version) (agreed : Option Version) (u : Unit) (held rest : List ℕ) → MaySpeak version agreed → held ++ rest ≡ sent version u → 0 < length held → version_in agreed held ≡ version
 part_version version (Some one) u held rest speaks e some = speaks
 part_version version None u held rest speaks e some =
@@ -222,7 +222,7 @@ held_version version None held after units speaks s = by_length (nat_lt (length 
     by_length true e = tt
     by_length false e = by_part (not_below e) s.partial
 
--- units that are sent afterwards
+-- PDUs that are sent afterwards
 begun-append : (held : List ℕ) (units more : List Sent) → (held ≡ []) ⊎ Begun held units → (held ≡ []) ⊎ Begun held (units ++ more)
 begun-append held units more (inl e) = inl e
 begun-append held units more (inr p) = inr (record { first = p.first; more = p.more ++ more; is = ap (λ x. x ++ more) p.is; byte = p.byte; rest = p.rest; begins = p.begins })
@@ -235,7 +235,7 @@ pub all_sent : (version : Version) (units : List Unit) → AllByRecursion (IsUni
 all_sent version [] h = tt
 all_sent version (u ∷ units) h = (h.0, all_sent version units h.1)
 
--- the bytes of units of one version
+-- the bytes of PDUs of one version
 pub bytes_of_version : (version : Version) (units : List Unit) → bytes_sent (in_version version units) ≡ sent_all version units
 bytes_of_version version [] = refl
 bytes_of_version version (u ∷ units) = ap (λ x. sent version u ++ x) (bytes_of_version version units)
@@ -267,7 +267,7 @@ stream-early version held after early more s fit =
     (ap (λ x. x ++ in_version V1 more) (append-nil (in_version V1 early)) ∙ sym (in_version-append V1 early more) ∙ sym (append-nil (in_version V1 (early ++ more))))
     (stream_and held after (behind_early version early []) (in_version V1 more) s (all_sent V1 more fit))
 
--- what is held of the first unit
+-- what is held of the first PDU
 pub part_of : (held : List ℕ) (units : List Sent) → (held ≡ []) ⊎ Begun held units → IsPart held units
 part_of [] units h = tt
 part_of (b ∷ held) units (inl e) = absurd (let k : b ∷ held ≡ [] = e in cc)

@@ -1,4 +1,4 @@
--- A unit that comes to the router keeps the invariant.
+-- A PDU that comes to the router keeps the invariant.
 use Rattle.std.specs.Prelude.{◌≡◌, ℕ, ◌<◌, Bool, true, false, not, ◌&&◌, ◌||◌, ◌==◌, nat_lt, List, [], ◌∷◌, ◌++◌, Option, Some, None, if◌then◌else◌, refl}
 use Rattle.std.proofs.Common.{sym, ap, ◌∙◌, append_assoc, subst, subst₂, arith, inl, inr}
 use Rattle.std.proofs.lemmas.List.{append-nil}
@@ -139,7 +139,7 @@ module _ (all : List Instance) (i : Instance) (home : Option Seen) (conn : Optio
   abbrev GoodR : Router → Type 0
   GoodR r = GoodRouter all i home conn up down r
 
-  -- what is known when a unit has just been read, and `more` are to come
+  -- what is known when a PDU has just been read, and `more` are to come
   pub record Reads (r : Router) (more : List Unit) : Type 0 where
     pub h : Seen
     pub is_home : home ≡ Some h
@@ -263,7 +263,7 @@ module _ (all : List Instance) (i : Instance) (home : Option Seen) (conn : Optio
       quiet false e = refl
       quiet true e = no_difference d.h.session one r.session (of_version r.spoken r.version) own d.own (d.mine e)
 
-  -- the first unit is no notify
+  -- the first PDU is no notify
   agreed_reads : (r : Router) (more : List Unit) (d : Reads r more) → Mine d.h.session (of_version r.spoken r.version) → Reads (record r { agreed = true }) more
   agreed_reads r more d m = record {
     h = d.h;
@@ -469,7 +469,7 @@ module _ (all : List Instance) (i : Instance) (home : Option Seen) (conn : Optio
       subst (λ b. GoodR (if b then fails (SerialNotify one serial) r else r)) (ap (λ b. b && differs (session_of r.session (of_version r.spoken r.version)) one) (sym open_yet))
       (record { table = table; unmarked = mark; link = live_link r (Asked q) is refl (h, eh, f) })
 
-  -- a unit comes that is no notify
+  -- a PDU comes that is no notify
   pub on_other : (r : Router) (more : List Unit) (l : Link) (u : Unit) (d : Reads r more) → is_reading l ≡ true → Shape all r.spoken d.h l r.agreed r.version r.table d.wanted (u ∷ without_notifies more) → GoodR (on_unit l u r)
   on_other r more Closed u d live shape = false_true live
   on_other r more (Ended end) u d live shape = false_true live

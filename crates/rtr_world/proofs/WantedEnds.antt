@@ -1,4 +1,4 @@
--- No link ends by want of memory at its router where no outcome names a unit.
+-- No link ends by running out of memory at its router where no outcome names a PDU.
 use Rattle.std.specs.Prelude.{◌≡◌, ℕ, Bool, true, false, not, ◌&&◌, ◌==◌, List, [], ◌∷◌, ◌++◌, take, Option, Some, None, if◌then◌else◌, refl, ⊤}
 use Rattle.std.proofs.Common.{sym, ap, ◌∙◌, subst}
 use Rattle.std.specs.List.{AllByRecursion}
@@ -30,7 +30,7 @@ Free Idle = ⊤
 Free (Asked question) = ⊤
 Free (Answering answer) = ⊤
 
--- What a router does when it reads a unit
+-- What a router does when it reads a PDU
 strange_free : (b : Bool) (u : Unit) (r : Router) → Free r.link → Free (if b then fails u r else r).link
 strange_free true u r h = tt
 strange_free false u r h = h
@@ -106,7 +106,7 @@ unit_free (Answering a) ResetQuery r h = tt
 unit_free (Answering a) (CacheResponse session) r h = tt
 unit_free (Answering a) CacheReset r h = tt
 
--- a byte, where no memory is wanting
+-- a byte, where memory does not run out
 byte_free : (bytes : List ℕ) (r : Router) (j : Judgement) → Free r.link → Free (with_bytes true bytes r j).router.link
 byte_free bytes r Begins h = h
 byte_free bytes r (Whole u) h = by_memory (may_lack r.link u r)

@@ -100,7 +100,7 @@ low_chars (c ∷ cs) h = let parts = and_parts (scalar c) (scalars cs) h in low-
 low_text : (bytes : List ℕ) → IsUtf8 bytes → Low bytes
 low_text bytes u = subst (λ x. Low x) u.1.1 (low_chars u.0 u.1.0)
 
--- units
+-- PDUs
 header : (version : Version) (kind field size : ℕ) → kind < 256 → Low (version_number version ∷ kind ∷ big_bytes 2 field ++ big_bytes 4 size)
 header version kind field size h = (is_byte version, (h, low-append (big_bytes 2 field) (big_bytes 4 size) (number 2 field) (number 4 size)))
 

@@ -298,7 +298,7 @@ publishes_nothing = refl
 names_nothing : named (session_in V1) (later (empty ∷ []) ∷ with_v ∷ []) 0x2222 9 ≡ Some empty
 names_nothing = refl
 
--- Memory can be wanting at a Serial Query, when its last byte is there, and at no unit after it.
+-- Memory can run out at a Serial Query, when its last byte is there, and at no PDU after it.
 abbrev query_side : Side
 query_side = open_side asking (new_conn with_v) (0x01 ∷ 0x01 ∷ 0x12 ∷ 0x34 ∷ 0 ∷ 0 ∷ 0 ∷ 0x0c ∷ 0 ∷ 0 ∷ 0 ∷ 0x05 ∷ []) []
 

@@ -301,7 +301,7 @@ through_good (On r event) wanting w fits may g t =
           (all_both (Good w.keep w.past w.present) SideTells w.sides g.sides t);
     }
 
--- what is refused for want of memory, before the routers are told
+-- what is refused because memory ran out, before the routers are told
 pub part_so : (r : ℕ) (event : SideEvent) (bytes : ℕ) (wanting : Option ℕ) (w : World) → GoodWorld w → AllTell w → GoodWorld (record w { sides = on_side r (side_refused w event bytes wanting) w.sides })
 part_so r event bytes wanting w g t = record {
   present = g.present;

@@ -45,14 +45,14 @@ IsFresh i home r (Ended end) = ⊤
 IsFresh i home r Idle = (r.spoken ≡ r.speaks) × (home ≡ Some i) × HoldsNewest r.spoken (session_in r.spoken i) (versions i) r.version r.table
 IsFresh i home r link = (r.spoken ≡ r.speaks) × (home ≡ Some i)
 
--- So it is after a router connected and then nothing happened but moves of its own, whatever they were, and whatever memory was wanting.
+-- So it is after a router connected and then nothing happened but moves of its own, whatever they were, and wherever memory ran out.
 abbrev pub IdleIsCurrent : Type 0
 IdleIsCurrent =
     (made : Made) (before moves : List Entry) (r : ℕ) (wanting : Option ℕ) (w : World) (s : Side) →
     Leads made (before ++ record { event = On r Connect; outcome = Done wanting } ∷ moves) w → AreMoves r moves → side_at r w.sides ≡ Some s →
     IsFresh w.present s.home s.router s.router.link
 
--- A round: at most so many bytes go each step of the way from the router to the cache and back. Memory may be wanting at a unit at
+-- A round: at most so many bytes go each step of the way from the router to the cache and back. Memory may run out at a PDU at
 -- either end.
 abbrev pub sent_up : World → ℕ → Side → Side
 sent_up w most s = settle (instances w) (router_sends most s)
@@ -66,7 +66,7 @@ sent_down w most at_cache s = settle (instances w) (cache_sends w most (read_up 
 abbrev pub round : World → ℕ → Option ℕ → Option ℕ → Side → Side
 round w most at_cache at_router s = settle (instances w) (router_gets w most at_router (sent_down w most at_cache s))
 
--- So many bytes are all that there are: a question or an answer has at most 2^25 units of at most 2^12 bytes.
+-- So many bytes are all that there are: a question or an answer has at most 2^25 PDUs of at most 2^12 bytes.
 abbrev pub IsAll : ℕ → Type 0
 IsAll most = 2 ^ 37 ≤ most
 
@@ -101,7 +101,7 @@ RestsSoon w s =
 abbrev pub RoundsEnd : Type 0
 RoundsEnd = Always (λ w s. RestsSoon w (settle (instances w) (connects w s)))
 
--- Where no memory is wanting at either end the link is idle after a whole round;
+-- Where memory does not run out at either end the link is idle after a whole round;
 abbrev pub IdleNext : World → Side → Type 0
 IdleNext w s = (most : ℕ) → IsAll most → (round w most None None s).router.link ≡ Idle
 

@@ -34,7 +34,7 @@ KeepsOpen event = ⊤
 abbrev pub KeepOpen : List Entry → Type 0
 KeepOpen entries = AllByRecursion (λ e. KeepsOpen e.event) entries
 
--- It went through, whether or not memory was wanting at a unit of it.
+-- It went through, whether or not memory ran out at a PDU of it.
 abbrev pub IsDone : Outcome → Type 0
 IsDone (Done wanting) = ⊤
 IsDone outcome = ⊥
@@ -42,7 +42,7 @@ IsDone outcome = ⊥
 abbrev pub AreDone : List Entry → Type 0
 AreDone entries = AllByRecursion (λ e. IsDone e.outcome) entries
 
--- All went through, and memory was wanting at none.
+-- All went through, and memory ran out at none.
 abbrev pub AllWent : List Entry → Type 0
 AllWent entries = AllByRecursion (λ e. e.outcome ≡ Done None) entries
 
@@ -68,11 +68,11 @@ pub record IsCutOff (r : ℕ) (w : World) : Type 0 where
   pub found : side_at r w.sides ≡ Some side
   pub off : IsOff side
 
--- After an event that was refused for want of memory the connection of that event is cut, and nothing is to arrive.
+-- After an event that was refused because memory ran out the connection of that event is cut, and nothing is to arrive.
 abbrev pub RefusedCuts : Type 0
 RefusedCuts = (r : ℕ) (event : SideEvent) (bytes : ℕ) (wanting : Option ℕ) (w : World) (s : Side) → side_at r w.sides ≡ Some s → IsCutOff r (after (On r event) (Memory bytes wanting) w)
 
--- Memory was wanting at one of these, and the connection is cut.
+-- Memory ran out at one of these, and the connection is cut.
 pub record Lacks (r : ℕ) (more : List Entry) (w : World) : Type 0 where
   pub wanting : AllWent more → ⊥
   pub off : IsCutOff r w
@@ -81,7 +81,7 @@ abbrev pub By : Result ⊤ WorldFault → Type 0 → Type 0 → Type 0
 By (Ok done) P Q = P
 By (Err fault) P Q = Q
 
--- A round of all bytes went through, with memory wanting at these units, if at any.
+-- A round of all bytes went through, with memory running out at these PDUs, if at any.
 abbrev pub all_bytes : ℕ
 all_bytes = 2 ^ 64 - 1
 
@@ -99,7 +99,7 @@ pub record Rounded (made : Made) (history : List Entry) (r : ℕ) (old : World) 
   pub leads : LeadsTo made (history ++ more) new
   pub ends : By result (GoesRound r old more leads.world) (Lacks r more leads.world)
 
--- The last connection stays open, and nothing moves; where no memory was wanting, the side that was so is so.
+-- The last connection stays open, and nothing moves; where memory did not run out, the side that was so is so.
 pub record ComesToRest (r : ℕ) (old : Side) (Becomes : Side → Side → Type 0) (more : List Entry) (w : World) : Type 0 where
   pub stays : StaysOpen r more
   pub side : Side

@@ -39,7 +39,7 @@ abbrev pub OneAnswerAlways : Type 0
 OneAnswerAlways = Always (λ w s. Between w s s.router.link)
 
 -- When bytes arrive at the cache from a router on a live link, nothing more is due than was; or its question was read, and what is due is
--- the answer of the cache as it is then, or Error Report 1 where memory was wanting.
+-- the answer of the cache as it is then, or Error Report 1 where memory ran out.
 abbrev pub AnswersNow : Type 0
 AnswersNow = Always (λ w s.
     is_reading s.router.link ≡ true → (most : ℕ) (wanting : Option ℕ) →
@@ -109,7 +109,7 @@ pub record HasPlaces (all : List Instance) (items : List Item) (places : List (O
 abbrev pub PlacesNoted : Type 0
 PlacesNoted = Always (λ w s. HasPlaces (instances w) s.items s.places)
 
--- A link ends by want of memory, by its expiry, by a report of code 1, or by one of code 0 to a Serial Query of another session than
+-- A link ends by running out of memory, by its expiry, by a report of code 1, or by one of code 0 to a Serial Query of another session than
 -- the cache's in the version of the connection, and by nothing else.
 abbrev pub OfAnother : Option Question → Version → Option Instance → Type 0
 OfAnother (Some (AskSerial session serial)) version (Some home) = session ≡ session_in version home → ⊥
@@ -138,7 +138,7 @@ NotesEnd w event wanting s =
     (end : End) → (side_step w event wanting s).router.link ≡ Ended end →
     IsNoted w (record { end = end; question = outstanding (drop 1 (side_step w event wanting s).items); version = spoken (side_step w event wanting s).items; home = s.home }) s.endings (side_step w event wanting s)
 
--- So is one that ends by what came before the event is refused for want of memory; the refusal is the last item then.
+-- So is one that ends by what came before the event is refused because memory ran out; the refusal is the last item then.
 abbrev pub NotesRefused : World → SideEvent → ℕ → Option ℕ → Side → Type 0
 NotesRefused w event bytes wanting s =
     (end : End) → (side_refused w event bytes wanting s).router.link ≡ Ended end →
@@ -163,13 +163,13 @@ NoneDropped sides news = ⊥
 abbrev pub EndsKept : Type 0
 EndsKept = (w : World) (event : Event) (outcome : Outcome) → NoneDropped w.sides (after event outcome w).sides
 
--- No outcome of bytes that arrive at a router names a unit.
+-- No outcome of bytes that arrive at a router names a PDU.
 abbrev pub NamesNone : Event → Outcome → Type 0
 NamesNone (On r (RouterGets most)) (Done wanting) = wanting ≡ None
 NamesNone (On r (RouterGets most)) (Memory bytes wanting) = wanting ≡ None
 NamesNone event outcome = ⊤
 
--- Then no link ended by want of memory at its router.
+-- Then no link ended by running out of memory at its router.
 abbrev pub NotByMemory : End → Type 0
 NotByMemory ends.Memory = ⊥
 NotByMemory end = ⊤
@@ -185,7 +185,7 @@ OthersStay =
     (made : Made) (history : List Entry) (w : World) → Leads made history w → (r d : ℕ) (event : SideEvent) (outcome : Outcome) → ¬ (d ≡ r) →
     side_at d (after (On r event) outcome w).sides ≡ side_at d w.sides
 
--- Bytes: an event at a router moves no more than it says, and no more than with memory where that is wanting at a unit of it; and where it is refused for want
+-- Bytes: an event at a router moves no more than it says, and no more than with memory where that runs out at a PDU of it; and where it is refused for want
 -- of memory, so many at most have moved.
 pub record MovesAtMost (w : World) (r : ℕ) (event : SideEvent) (wanting : Option ℕ) : Type 0 where
   pub said : moved w (On r event) wanting ≤ most_of event
@@ -195,7 +195,7 @@ pub record MovesAtMost (w : World) (r : ℕ) (event : SideEvent) (wanting : Opti
 abbrev pub MovesNoMore : Type 0
 MovesNoMore = (w : World) (r : ℕ) (event : SideEvent) (wanting : Option ℕ) → MovesAtMost w r event wanting
 
--- A set that is current already is never refused; and where a refusal is due there is no other outcome, want of memory included.
+-- A set that is current already is never refused; and where a refusal is due there is no other outcome, out of memory included.
 pub record Refuses (w : World) : Type 0 where
   pub never : (set : VrpSet) → is_current w.present.sets set ≡ true → refusal w (Publish set) ≡ None
   pub alone : (event : Event) (refused outcome : Outcome) → refusal w event ≡ Some refused → MayEnd (refusal w event) w event outcome → outcome ≡ refused

@@ -16,8 +16,8 @@ use Rattle.rtr_ends.specs.Transcript.{Committed}
 use Rattle.rtr_world.specs.VersionPlaces.{position_of}
 use Rattle.rtr_world.specs.World.{Side, World, instances, SideEvent, RouterRestart, Connect, RouterSends, CacheGets, CacheSends, RouterGets, Event, Publish, Restart, On, cache_gets, router_gets, goes_through, settled, is_refused, new_world, timing}
 
--- How an event ended: it went through, and at this unit of it an end met want of memory, if at any; or it was refused: the session
--- is used already; too many versions; no such router; or want of memory, after so many bytes.
+-- How an event ended: it went through, and at this PDU of it an end ran out of memory, if at any; or it was refused: the session
+-- is used already; too many versions; no such router; or out of memory, after so many bytes.
 pub data Outcome : Type 0 where
   Done : (wanting : Option ℕ) → Outcome
   SessionUsed : Outcome
@@ -62,7 +62,7 @@ side_at (suc r) (s ∷ sides) = side_at r sides
 abbrev pub has_connection : Side → Bool
 has_connection s = not (is_closed s.router.link) || is_some s.conn
 
--- the events that may be refused for want of memory
+-- the events that may be refused because memory ran out
 abbrev pub may_refuse_at : SideEvent → Option Side → Bool
 may_refuse_at event None = false
 may_refuse_at RouterRestart (Some s) = true
@@ -104,19 +104,19 @@ most_of (CacheSends most) = most
 most_of (RouterGets most) = most
 most_of event = 0
 
--- memory is wanting at this unit of so many bytes that arrive at the cache
+-- memory runs out at this PDU of so many bytes that arrive at the cache
 abbrev pub conn_wants : World → ℕ → ℕ → Side → Option Conn → Bool
 conn_wants w bytes unit s None = false
 conn_wants w bytes unit s (Some o) = list_any is_wanting (conn_takes w.keep timing w.present (Some unit) (take bytes s.up) o).machine.moments
 
--- Of so many bytes that arrive this unit is read, and what is done with it takes memory.
+-- Of so many bytes that arrive this PDU is read, and what is done with it takes memory.
 abbrev pub wants_at : World → SideEvent → ℕ → ℕ → Option Side → Bool
 wants_at w event bytes unit None = false
 wants_at w (CacheGets most) bytes unit (Some s) = conn_wants w bytes unit s s.conn
 wants_at w (RouterGets most) bytes unit (Some s) = list_any is_lacking (receives s.router.now (Some unit) (take bytes s.down) s.router).machine.items
 wants_at w event bytes unit (Some s) = false
 
--- Where an outcome names a unit, memory was wanting at it.
+-- Where an outcome names a PDU, memory ran out at it.
 abbrev pub IsWanted : World → Event → (SideEvent → ℕ) → Option ℕ → Type 0
 IsWanted w event bytes None = ⊤
 IsWanted w (On r event) bytes (Some unit) = IsTrue (wants_at w event (bytes event) unit (side_at r w.sides))

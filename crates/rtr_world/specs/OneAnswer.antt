@@ -16,7 +16,7 @@ use Rattle.rtr_ends.specs.Transcript.{Question, AskReset, AskSerial, query, Item
 use Rattle.rtr_world.specs.World.{Side, World, instances, timing}
 use Rattle.rtr_world.specs.History.{conn_due}
 
--- the units that are no notifies
+-- the PDUs that are no notifies
 abbrev pub without_notifies : List Unit → List Unit
 without_notifies [] = []
 without_notifies (SerialNotify session serial ∷ units) = without_notifies units
@@ -28,13 +28,13 @@ NotifiesOf one [] = ⊤
 NotifiesOf one (SerialNotify session serial ∷ units) = (session ≡ one) × NotifiesOf one units
 NotifiesOf one (unit ∷ units) = NotifiesOf one units
 
--- These bytes are a beginning of the first unit, and not all of it.
+-- These bytes are a beginning of the first PDU, and not all of it.
 abbrev pub IsPart : List ℕ → List Sent → Type 0
 IsPart [] units = ⊤
 IsPart (b ∷ held) [] = ⊥
 IsPart (b ∷ held) (first ∷ units) = (next : ℕ) × (rest : List ℕ) × ((b ∷ held) ++ next ∷ rest ≡ sent first.version first.unit)
 
--- the units of the answer that were read so far, the first one first
+-- the PDUs of the answer that were read so far, the first one first
 abbrev pub answered : List Item → List Unit
 answered [] = []
 answered (Reads (CacheResponse session) ∷ items) = CacheResponse session ∷ []
@@ -51,7 +51,7 @@ pub record WasSo (w : World) (home cache : Instance) : Type 0 where
   pub found : find (λ i. i.session == home.session) (instances w) ≡ Some latest
   pub until : IsLater cache latest
 
--- These units are its answer, as it was when the question was read,
+-- These PDUs are its answer, as it was when the question was read,
 pub record IsAnswer (w : World) (version : Version) (home : Instance) (read : Option Instance) (question : Question) (units : List Unit) : Type 0 where
   pub cache : Instance
   pub was : WasSo w home cache
@@ -80,7 +80,7 @@ announced_in [] = []
 announced_in (Prefix true v ∷ units) = v ∷ announced_in units
 announced_in (unit ∷ units) = announced_in units
 
--- the last unit is an End of Data of this version
+-- the last PDU is an End of Data of this version
 abbrev pub EndsWith : ℕ → ℕ → List Unit → Type 0
 EndsWith session serial [] = ⊥
 EndsWith session serial (EndOfData one number refresh retry expire ∷ []) = (one ≡ session) × (number ≡ serial)
@@ -124,7 +124,7 @@ ComesOn w home s link rest = ⊤
 abbrev pub AreEarly : Bool → List Unit → Type 0
 AreEarly agreed units = (without_notifies units ≡ []) × (agreed ≡ true → units ≡ [])
 
--- The bytes that are held, on the wire, still to be pulled, and lost by a cut or a restart are the units to come, in the version of the
+-- The bytes that are held, on the wire, still to be pulled, and lost by a cut or a restart are the PDUs to come, in the version of the
 -- connection. Notifies of version 1 may stand before them, which the cache sent before it had read a header.
 pub record OneAnswer (w : World) (s : Side) : Type 0 where
   pub home : Instance
@@ -147,7 +147,7 @@ Between w s Closed = (s.router.held ≡ []) × (s.router.out ≡ []) × (s.down 
 Between w s (Ended end) = ⊥
 Between w s link = OneAnswer w s
 
--- What is due where a question was read just now: the answer of the cache as it is now, or, where memory is wanting at a unit, Error
+-- What is due where a question was read just now: the answer of the cache as it is now, or, where memory runs out at a PDU, Error
 -- Report 1 in the place of one that may take memory.
 abbrev pub IsOfNow : Version → Instance → ℕ → Option ℕ → Link → List ℕ → Type 0
 IsOfNow version cache keep wanting (Asked question) due =

@@ -89,20 +89,20 @@ pub record AloneAt (w : World) (at : ℕ → Option Conn) (s : Side) (old new : 
 abbrev pub Alone : (World → Side → Side) → values.Side → values.Side → Type 0
 Alone f old new = (w : World) (at : ℕ → Option Conn) (s : Side) → ShowsSide w at s old → AloneAt w at (f w s) old new
 
--- The events at which memory may be wanting at last
+-- The events at which memory may run out at last
 abbrev pub MayFail : SideEvent → Side → Type 0
 MayFail Connect s = ⊤
 MayFail (RouterSends most) s = ¬ (s.router.out ≡ [])
 MayFail (CacheSends most) s = ¬ (s.conn ≡ None)
 MayFail event s = ⊥
 
--- An event goes through; memory is wanting at this unit of it, if at any.
+-- An event goes through; memory runs out at this PDU of it, if at any.
 pub record Passes (w : World) (at : ℕ → Option Conn) (event : SideEvent) (s : Side) (Now : Side → Type 0) : Type 0 where
   pub wanting : Option ℕ
   pub wanted : IfSome wanting (λ unit. wants_at w event (most_of event) unit (Some s) ≡ true)
   pub now : Now (side_step w event wanting s)
 
--- It fails for want of memory after so many bytes, and the cut is still to come.
+-- It fails because memory ran out after so many bytes, and the cut is still to come.
 pub record FailsForMemory (w : World) (at : ℕ → Option Conn) (event : SideEvent) (s : Side) (Now : Side → Type 0) : Type 0 where
   pub bytes : ℕ
   pub fewer : bytes ≤ moved_at w event None (Some s)
@@ -126,7 +126,7 @@ abbrev pub Happens : World → (ℕ → Option Conn) → SideEvent → Side → 
 Happens w at event s Now (Ok done) = Passes w at event s (λ t. Now (settle (instances w) t))
 Happens w at event s Now (Err error) = Refused w event s Now
 
--- A part of the bytes due is sent, or memory is wanting.
+-- A part of the bytes due is sent, or memory runs out.
 abbrev pub SendsSome : World → (ℕ → Option Conn) → ℕ → Side → Conn → (Side → Type 0) → Result ℕ AllocError → Type 0
 SendsSome w at most s o Now (Ok count) = (count ≡ min (min most MAX_UNIT_LEN) (length o.state.due)) × Now (sends_from w.keep count s (Some o))
 SendsSome w at most s o Now (Err error) = (part : Side) × (cut 0 part ≡ cut 0 s) × Now part

@@ -25,7 +25,7 @@ pub record Ending : Type 0 where
 
 -- A router and its connection: the cache's side of it, none where it is closed there; the bytes on the way to the cache and to the
 -- router; and the instance as it was when the connection was made, none when the router was told that it is closed.
--- What stands behind no event looks at: the cache as it was when it last read a unit on the connection, none before it did; and, the last
+-- What stands behind no event looks at: the cache as it was when it last read a PDU on the connection, none before it did; and, the last
 -- first, the transcript, the ends of links, and the places of the versions that were committed, as they were then.
 pub record Side : Type 0 where
   pub router : Router
@@ -140,7 +140,7 @@ sends_from keep most s (Some o) = record s { conn = Some (conn_pulled keep timin
 unfoldable pub cache_sends : World → ℕ → Side → Side
 cache_sends w most s = sends_from w.keep most s s.conn
 
--- A unit was read at one of these moments.
+-- A PDU was read at one of these moments.
 abbrev pub is_read : ConnMoment → Bool
 is_read (Read version cache unit bytes) = true
 is_read (Wanting version cache unit bytes) = true
@@ -171,7 +171,7 @@ abbrev pub notifies_at : World → Side → Option Conn → Side
 notifies_at w s None = s
 notifies_at w s (Some o) = record s { conn = Some (conn_notified w.keep timing w.present o) }
 
--- An event that is not refused. At a unit of it an end may meet want of memory.
+-- An event that is not refused. At a PDU of it an end may run out of memory.
 unfoldable pub side_step : World → SideEvent → Option ℕ → Side → Side
 side_step w RouterRestart wanting s = router_restarts s
 side_step w (Speak version) wanting s = speaks version s
@@ -185,7 +185,7 @@ side_step w NotifyRouter wanting s = notifies_at w s s.conn
 side_step w Ask wanting s = noted (instances w) (asks s.router) s
 side_step w (Tick now) wanting s = noted (instances w) (ticks_at now s.router) s
 
--- An event that is refused for want of memory after some bytes: these still moved, and the connection is cut with nothing to arrive.
+-- An event that is refused because memory ran out after some bytes: these still moved, and the connection is cut with nothing to arrive.
 abbrev pub side_part : World → SideEvent → ℕ → Option ℕ → Side → Side
 side_part w (RouterSends most) bytes wanting s = router_sends bytes s
 side_part w (CacheGets most) bytes wanting s = cache_gets w bytes wanting s

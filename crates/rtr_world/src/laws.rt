@@ -5,7 +5,7 @@ ghost use Rattle.rtr_world.specs.Claims.{ActExactlyOnce, AnswersNow, ConnsRun, E
 
 /// A history of events with their outcomes leads to one world, and every list of events has outcomes with which it leads to one. The
 /// clean-up after each event leaves nothing to be done. A set that is current already is never refused, and where a refusal is due there is
-/// no other outcome. Where an event is refused for want of memory its connection is cut with nothing to arrive, and what happens at one
+/// no other outcome. Where an event is refused because memory ran out its connection is cut with nothing to arrive, and what happens at one
 /// router leaves the others. An event moves no more bytes than it says, and no more than with memory.
 pub fn steps()
     ensures one { OneWorld }
@@ -47,11 +47,11 @@ pub fn headline()
     ensures routes { RouteStates }
 {}
 
-/// A link ends by want of memory at the router, by the expiry of its version, by an Error Report of code 1 (want of memory at the
+/// A link ends by running out of memory at the router, by the expiry of its version, by an Error Report of code 1 (out of memory at the
 /// cache), or by one of code 0 to a Serial Query of another session than the cache's, and by nothing else. These are the ends that were
 /// noted, and each link that ends by an event is noted, one that is refused after some bytes included, and stays noted in the clean-up;
-/// none that was noted is dropped, and an event adds one at most. Where no outcome of bytes that arrive at a router names a unit, no link
-/// ended by want of memory at its router.
+/// none that was noted is dropped, and an event adds one at most. Where no outcome of bytes that arrive at a router names a PDU, no link
+/// ended by running out of memory at its router.
 pub fn lawful_ends()
     ensures lawful { LawfulEnds }
     ensures noted { EndsNoted }
@@ -69,17 +69,17 @@ pub fn no_way_back()
 
 /// After every list of events what is on its way to a router on a live link is at most one answer, and what a cut took of it: the
 /// answer of its cache to its question, as the cache was when the question was read, after the connection was made. Its records lead from
-/// what the router holds to the set that was published under its End of Data. Notifies may stand between its units. Between events no link has
+/// what the router holds to the set that was published under its End of Data. Notifies may stand between its PDUs. Between events no link has
 /// ended, and a closed one holds nothing, has nothing to be pulled, and nothing is on the wire to it. When a question is read at the cache,
 /// what is due then is the answer of the cache as it is at that event, of the version that is current there, or Error Report 1 where memory
-/// is wanting at a unit of that event.
+/// runs out at a PDU of that event.
 pub fn one_answer()
     ensures one { OneAnswerAlways }
     ensures now { AnswersNow }
 {}
 
 /// A router connects, and then nothing happens but moves of its own: bytes are sent and handed in, a connection is cut or made anew, and
-/// memory may be wanting at any of it. Where its link is idle then, it is of the version that the router speaks, and the router holds the
+/// memory may run out at any of it. Where its link is idle then, it is of the version that the router speaks, and the router holds the
 /// newest version of the present instance; or nothing is published, it holds no session of that version of the protocol, and where it holds
 /// none at all, its table is empty.
 pub fn idle_is_current()
@@ -88,13 +88,13 @@ pub fn idle_is_current()
 
 /// A router connects, and rounds follow: all bytes go from it to the cache and back. After the first its link is idle and nothing is on
 /// its way in either direction, or it is closed; or it asks for all after a Cache Reset, and then so it is after the second, whatever
-/// memory was wanting. A round is four events of the world.
+/// memory ran out. A round is four events of the world.
 pub fn rounds_end()
     ensures ends { RoundsEnd }
     ensures steps { RoundsAreSteps }
 {}
 
-/// Where no memory is wanting, catching up succeeds: a router connects, and after one round its link is idle; or it asks for all after a
+/// Where memory does not run out, catching up succeeds: a router connects, and after one round its link is idle; or it asks for all after a
 /// Cache Reset, and its link is idle after the second; or it held a session when it connected, is closed and holds none, and its link is
 /// idle after one round on a new connection.
 pub fn catches_up()

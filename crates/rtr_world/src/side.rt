@@ -126,7 +126,7 @@ impl Side {
         }
     }
 
-    /// What an event does at this side, the clean-up aside. Where memory is wanting, the cut is still to come.
+    /// What an event does at this side, the clean-up aside. Where memory runs out, the cut is still to come.
     fn begin(
         &mut self,
         cache: &mut Cache<VersionLog>,
@@ -155,7 +155,7 @@ impl Side {
         Ok(())
     }
 
-    /// An event at this side, with the clean-up after it. Where memory is wanting, the connection is cut with nothing to arrive.
+    /// An event at this side, with the clean-up after it. Where memory runs out, the connection is cut with nothing to arrive.
     pub fn happen(
         &mut self,
         cache: &mut Cache<VersionLog>,

@@ -10,7 +10,7 @@ use rtr_pdu::MAX_UNIT_LEN;
 use std::alloc::AllocError;
 use vrps::VersionLog;
 
-/// At most so many bytes, and at most as many as an end has ready, which are those of one unit.
+/// At most so many bytes, and at most as many as an end has ready, which are those of one PDU.
 fn chunk(most: u64) -> usize
     ensures { result ≡ min most MAX_UNIT_LEN }
 {

@@ -205,7 +205,7 @@ impl World {
     /// End of Data that this router committed last, each announcement and each withdrawal having acted exactly once, and the router's
     /// answer for every route is RFC 6811's state over that set. Besides, each router holds what its transcript keeps; at most one
     /// answer is on its way to it, that of the cache as it was when the question was read; it commits no version that was published before
-    /// one that it committed; and its link ends by want of memory, by expiry, by a report of want of memory, or by one of another session,
+    /// one that it committed; and its link ends by running out of memory, by expiry, by a report that memory ran out, or by one of another session,
     /// and by nothing else.
     pub fn run(&mut self, events: &[Event]) -> usize
         ensures steps { (made : Made) (history : List Entry) → LeadsTo made history self.old → RunsTo made history (map event_of events.now) result self.new }
@@ -270,7 +270,7 @@ impl World {
     /// Catches a router up with the cache: what is open is cut with nothing to arrive, a connection is made, and all bytes are moved both
     /// ways until nothing moves. Where the cache told the router to drop what it held of another session, it connects once more. Ok: the
     /// router holds the newest version of the present instance, in the version of the protocol that it speaks. NoData: nothing is published,
-    /// and the router holds no session of the version that it speaks. After both the last connection stays open, idle, with nothing on its way. NoSuchRouter: nothing is changed. Memory: it was wanting at
+    /// and the router holds no session of the version that it speaks. After both the last connection stays open, idle, with nothing on its way. NoSuchRouter: nothing is changed. Memory: it ran out at
     /// one of these events, and the connection is cut.
     pub fn catch_up(&mut self, router: u16) -> Result<(), CatchFault>
         ensures caught { (made : Made) (history : List Entry) → LeadsTo made history self.old → CatchesUp made history router result self.new }
@@ -286,7 +286,7 @@ impl World {
         self.conclude(router)
     }
 
-    /// What became of catching up: where the link is not idle, memory was wanting, and the connection is cut.
+    /// What became of catching up: where the link is not idle, memory ran out, and the connection is cut.
     fn conclude(&mut self, router: u16) -> Result<(), CatchFault>
         ensures concluded { (made : Made) (history : List Entry) (l : LeadsTo made history self.old) (s : model.Side) → StaysOpen router history → side_at router l.world.sides ≡ Option.Some s → Rests s → Concluded made history router s result self.new }
         ensures there { result ≡ Result.Err CatchFault.NoSuchRouter → ⊥ }

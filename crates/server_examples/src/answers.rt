@@ -17,7 +17,7 @@ use vrps::VersionLog;
 pub(crate) struct Kept<T> {
     stream: T,
     answers: Vec<Moved>,
-    /// Memory for one of them was wanting.
+    /// Memory for one of them ran out.
     is_lost: bool,
 }
 

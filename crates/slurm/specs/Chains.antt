@@ -33,6 +33,6 @@ abbrev pub seen : {A B E : Type 0} → (A → B) → Result A E → Result B E
 seen f (Ok x) = Ok (f x)
 seen f (Err e) = Err e
 
--- It is read so, unless memory was wanting.
+-- It is read so, unless memory ran out.
 abbrev pub UnlessMemory : {A : Type 0} → (Result A SlurmFault → Type 0) → Result A SlurmFault → Type 0
 UnlessMemory P r = P r ⊎ (r ≡ Err fault.Memory)

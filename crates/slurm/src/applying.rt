@@ -53,7 +53,7 @@ fn matched(alloc: Global, filters: &[PrefixFilter], set: &VrpSet) -> Result<VrpS
 }
 
 /// The members of the set that no filter matches, together with the assertions, on which filters do not act.
-/// `TooMany` where these are more than a set may have; `Memory` where memory is wanting.
+/// `TooMany` where these are more than a set may have; `Memory` where memory runs out.
 pub fn apply(slurm: &Slurm, alloc: Global, set: &VrpSet) -> Result<VrpSet, SetFault>
     ensures ok { IfOk result (λ t. (t ≡ excepted (exceptions_of slurm.now) set.now) × (size t ≤ 16777215)) }
     ensures members { IfOk result (IsExcepted (exceptions_of slurm.now) set.now) }

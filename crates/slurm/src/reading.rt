@@ -71,7 +71,7 @@ fn exceptions(alloc: Global, arrays: &Arrays<'_>) -> Result<Slurm, SlurmFault>
 /// The first fault is told: `NotJson`; `Members` of the file, and `Version`; `Members` of the filters' object and then of the
 /// assertions'; `NoArray` of the four arrays in this order; `Entry` of the first entry, in this order of the arrays, that cannot be read,
 /// with its array, its index from 0 on, and its own first fault; `TooMany` where over 16,777,215 different records are asserted. `Memory`:
-/// memory was wanting.
+/// memory ran out.
 pub fn read_slurm(alloc: Global, bytes: &[u8]) -> Result<Slurm, SlurmFault>
     ensures { UnlessMemory (ReadsSlurm bytes.now) (seen exceptions_of result) }
 {

@@ -111,7 +111,7 @@ impl Sources {
 
     /// The set that is served at a moment: the payloads of the files as they were taken, and those that the publication points have in use,
     /// with the local exceptions applied. `TooMany` where those payloads together, or what the exceptions make of them, are more than a set
-    /// may have; `Memory` where memory for them is wanting. Both leave all as it was.
+    /// may have; `Memory` where memory for them runs out. Both leave all as it was.
     pub fn served(&self, now: Moment) -> Result<VrpSet, SetFault>
         ensures is { IfOk result (λ t. IsServed self.now.repository self.now.lists.items self.now.exceptions now t) }
         ensures those { IfOk result (λ t. HasServed self.now.repository self.now.lists.items self.now.exceptions now t) }

@@ -134,7 +134,7 @@ fn write_behind<W: Write>(out: &mut W, served: Option<u32>, sent: Option<u32>) -
     out.write_all(b" behind</td>")
 }
 
-/// Writes a cell with a number that may be wanting.
+/// Writes a cell with a number that may be missing.
 fn write_optional<W: Write>(out: &mut W, number: Option<u32>) -> io::Result<()> {
     match number {
         None => out.write_all("<td class=\"n dim\">\u{2013}</td>".as_bytes()),

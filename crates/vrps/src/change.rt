@@ -35,7 +35,7 @@ impl Change {
     }
 
     /// The set without the withdrawn records, together with the announced ones; the set may be any. `TooMany` where that has more
-    /// members than a set may have; `Memory` where memory for it is wanting. The set and both lists are walked once, side by side.
+    /// members than a set may have; `Memory` where memory for it runs out. The set and both lists are walked once, side by side.
     pub fn apply(&self, alloc: Global, set: &VrpSet) -> Result<VrpSet, SetFault>
         ensures ok { IfOk result (λ t. (t ≡ apply self.now set.now) × (size t ≤ 16777215)) }
         ensures too_many { IsErrOf result SetFault.TooMany → 16777215 < size (apply self.now set.now) }

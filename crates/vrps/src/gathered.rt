@@ -72,7 +72,7 @@ impl Gathered {
         }
     }
 
-    /// Adds a record, and answers whether it is new. Memory is wanted for a new one alone; without it nothing is added.
+    /// Adds a record, and answers whether it is new. Memory is needed for a new one alone; without it nothing is added.
     pub fn insert(&mut self, vrp: Vrp) -> Result<bool, AllocError>
         ensures ok { OnOk result (self.new ≡ with_member self.old vrp) }
         ensures added { IfOk result (λ added. added ≡ not (has self.old vrp)) }
@@ -97,7 +97,7 @@ impl Gathered {
         }
     }
 
-    /// The set of the records; `TooMany` where they are more than a set may have, `Memory` where memory for it is wanting. Records that came in
+    /// The set of the records; `TooMany` where they are more than a set may have, `Memory` where memory for it runs out. Records that came in
     /// ascending order are the set as they lie, and it takes no memory then; else the time is linear in their number.
     pub fn into_set(self, alloc: Global) -> Result<VrpSet, SetFault>
         ensures ok { IfOk result (λ s. s ≡ self) }

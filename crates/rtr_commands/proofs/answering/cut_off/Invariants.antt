@@ -5,7 +5,7 @@ use Rattle.rtr_pdu.specs.Reader.{fresh}
 use Rattle.rtr_commands.proofs.SplitLines.{Any, Read}
 use Rattle.rtr_commands.proofs.answering.cut_off.Given as goal
 
--- units so far, and the reader holds nothing
+-- PDUs so far, and the reader holds nothing
 abbrev pub invariant-loop-reader : goal.invariant-loop-reader
 invariant-loop-reader l = (l.reader ≡ fresh (Some (first_version l.bytes)) false) × Read (first_version l.bytes) Any l.bytes l.rest
 

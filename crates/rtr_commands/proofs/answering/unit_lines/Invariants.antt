@@ -4,7 +4,7 @@ use Rattle.rtr_pdu.specs.Reader.{fresh}
 use Rattle.rtr_commands.proofs.SplitLines.{Lined, Read}
 use Rattle.rtr_commands.proofs.answering.unit_lines.Given as goal
 
--- the units so far have their lines, and the reader holds nothing
+-- the PDUs so far have their lines, and the reader holds nothing
 abbrev pub invariant-loop-found : goal.invariant-loop-found
 invariant-loop-found l = (l.reader ≡ fresh (Some l.version) false) × Read l.version (Lined l.version (string_bytes l.lines)) l.bytes l.rest
 
