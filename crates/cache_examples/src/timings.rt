@@ -29,7 +29,7 @@ const ROWS: &[(u32, u32, u32, Option<TimingFault>)] = &[
     (600, 3600, 3601, None),
     (3600, 3600, 3600, EXPIRE_TOO_SMALL),
     (3600, 3600, 3601, None),
-    // Of two faults the range is told.
+    // Of two faults the range is reported.
     (86_401, 600, 86_401, OUT_OF_RANGE),
     (700, 7201, 700, OUT_OF_RANGE),
     (3600, 600, 599, OUT_OF_RANGE),

@@ -35,7 +35,7 @@ impl From<io::Error> for ProgramFault {
     }
 }
 
-/// Tells what was refused, as a line, with the status.
+/// Prints what was refused, as a line, with the status.
 pub fn refuse<O: Write>(what: &str, out: &mut O) -> Result<u8, ProgramFault>
     ensures { IfOk result (λ s. s ≤ 1) }
 {

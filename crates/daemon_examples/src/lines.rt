@@ -14,7 +14,7 @@ fn line_of(alloc: Global, form: LogForm, seconds: u64, event: &Event<'_>) -> Res
     Ok(line)
 }
 
-/// Whether an event is told so at 2026-11-25T18:40:00Z, in both forms: by a word, and by values, which stand behind the time and the word.
+/// Whether an event is logged so at 2026-11-25T18:40:00Z, in both forms: by a word, and by values, which stand behind the time and the word.
 fn tells(
     alloc: Global,
     event: &Event<'_>,
@@ -36,7 +36,7 @@ fn address() -> SocketAddr {
     SocketAddr::new(IpAddr::V4(Ipv4Addr::new(192, 0, 2, 1)), 40_000)
 }
 
-/// Events, and what is told of them: the word, and the values in both forms.
+/// Events, and what is logged of them: the word, and the values in both forms.
 type Told = (Event<'static>, &'static str, &'static str, &'static str);
 
 /// The events of the daemon and of its files.
@@ -222,7 +222,7 @@ fn client_events() -> [Told; 7] {
     ]
 }
 
-/// Whether each of these events is told as it should be.
+/// Whether each of these events is logged as it should be.
 fn all_are_told(alloc: Global, events: &[Told]) -> Result<bool, Fail> {
     for (event, word, plain, json) in events {
         if !tells(alloc, event, word, plain, json)? {

@@ -1,4 +1,4 @@
--- What an event is told by: a word, and values under their keys.
+-- What an event is logged by: a word, and values under their keys.
 use Rattle.std.specs.Prelude.{ℕ, List, [], ◌∷◌, codes, Option, None, Some}
 use Rattle.std.specs.declared.net.socket_addr.SocketAddr.{SocketAddr}
 use Rattle.daemon_parts.specs.declared.event.Departure.{Departure}
@@ -25,7 +25,7 @@ pub record Entry : Type 0 where
 abbrev pub entry : List ℕ → Told → Entry
 entry key told = record { key = key; value = told }
 
--- what a value of the program tells
+-- what a value of the program says
 abbrev pub told_value : Value → Told
 told_value value.Nothing = Nothing
 told_value (value.Number n) = Number n
@@ -49,7 +49,7 @@ of_number key n = entry key (Number n)
 abbrev pub of_text : List ℕ → List ℕ → Entry
 of_text key s = entry key (Text s)
 
--- what is told of the names of versions,
+-- what is logged of the names of versions,
 abbrev pub name_entries : VersionNames → List Entry
 name_entries n = of_number (codes "session") n.session ∷ of_number (codes "session0") n.session0 ∷ of_number (codes "serial") n.serial ∷ []
 

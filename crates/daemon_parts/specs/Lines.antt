@@ -69,7 +69,7 @@ end_text form.Json = codes "}\n"
 abbrev pub line_text : LogForm → List ℕ → List ℕ → List Entry → List ℕ
 line_text form time word entries = head_text form time word ++ flat_map (entry_text form) entries ++ end_text form
 
--- One line is appended, which tells an event at a moment.
+-- One line is appended, which reports an event at a moment.
 abbrev pub TellsEvent : Option (List ℕ) → Option (List ℕ) → LogForm → ℕ → Event → Type 0
 TellsEvent old new form seconds event =
     (m : CivilMoment) × IsAt m seconds × Appends old new (line_text form (time_text m) (word_of event) (entries_of event))

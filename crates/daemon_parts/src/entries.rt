@@ -1,4 +1,4 @@
-//! What an event is told by: a word, and values under their keys.
+//! What an event is logged by: a word, and values under their keys.
 ghost use Rattle.std.specs.Prelude.{◌≡◌, codes, map};
 ghost use Rattle.daemon_parts.specs.Entries.{at, departure_entries, entry, name_entries, of_number, of_text, publication_entries, spoken, told_pair, told_value, word_of};
 

@@ -1,4 +1,4 @@
-//! What a daemon tells in its log.
+//! What a daemon reports in its log.
 use std::net::SocketAddr;
 
 /// The names of the versions of a run (RFC 8210 section 5.1).

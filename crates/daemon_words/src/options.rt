@@ -181,7 +181,7 @@ pub(crate) static MATTERS: [Matter; 7] = [
         ],
     },
     Matter {
-        title: "What routers are told (RFC 8210 section 6):",
+        title: "What is sent to routers (RFC 8210 section 6):",
         choices: &[
             Choice {
                 name: "refresh",
@@ -216,7 +216,7 @@ pub(crate) static MATTERS: [Matter; 7] = [
         ],
     },
     Matter {
-        title: "What is told:",
+        title: "What is reported:",
         choices: &[
             Choice {
                 name: "status",

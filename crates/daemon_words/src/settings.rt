@@ -24,7 +24,7 @@ pub struct Settings {
     pub start: Option<u32>,
     /// How many versions are kept.
     pub keep: u32,
-    /// The intervals that routers are told.
+    /// The intervals that are sent to routers.
     pub timing: Timing,
     /// How many seconds there are between two looks at the files.
     pub check: u32,

@@ -61,7 +61,7 @@ fn fault_of(alloc: Global, error: &Error) -> WordsFault {
     }
 }
 
-/// The intervals that routers are told (RFC 8210 section 6).
+/// The intervals that are sent to routers (RFC 8210 section 6).
 fn timing(alloc: Global, found: &ArgMatches<'_>) -> Result<Timing, WordsFault> {
     let refresh = number_or(alloc, found, "refresh", 1, 86_400, 3600)?;
     let retry = number_or(alloc, found, "retry", 1, 7200, 600)?;

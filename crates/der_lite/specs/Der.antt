@@ -103,13 +103,13 @@ announced first = if nat_lt 128 first && nat_lt first 133 then first - 128 else 
 abbrev pub tag_of : List ℕ → ℕ
 tag_of bytes = slice_index bytes 0
 
--- those that are to tell the length of its content: the first behind the tag, and those that it announces
+-- those that are to give the length of its content: the first behind the tag, and those that it announces
 abbrev pub length_part : List ℕ → List ℕ
 length_part [] = []
 length_part (tag ∷ []) = []
 length_part (tag ∷ first ∷ more) = first ∷ take (announced first) more
 
--- the length that they tell: the first itself, if it is below 128, or else what the others spell
+-- the length that they give: the first itself, if it is below 128, or else what the others spell
 abbrev pub told_length : List ℕ → ℕ
 told_length [] = 0
 told_length (first ∷ more) = if nat_lt first 128 then first else number more
@@ -126,7 +126,7 @@ has_der_length bytes = is_length (length_part bytes)
 unfoldable pub length_end : List ℕ → ℕ
 length_end bytes = 2 + announced (slice_index bytes 1)
 
--- where the content ends, counted as the length tells it
+-- where the content ends, counted as the length says
 unfoldable pub content_end : List ℕ → ℕ
 content_end bytes = length_end bytes + told_length (length_part bytes)
 

@@ -31,7 +31,7 @@ pub(crate) fn number(bytes: &[u8]) -> u32
     }
 }
 
-/// The length that a first length byte and those that it announces tell.
+/// The length that a first length byte and those that it announces give.
 pub(crate) fn told(first: u8, more: &[u8]) -> usize
     requires { length more.now ≤ 4 }
     ensures value { result ≡ told_length (first ∷ more.now) }

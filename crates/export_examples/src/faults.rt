@@ -1,4 +1,4 @@
-//! Bytes that are no export, and what is told of them.
+//! Bytes that are no export, and what is reported of them.
 use exports::{EntryFault, ExportFault, read_export};
 use std::alloc::Global;
 use std::fmt::Display;

@@ -210,7 +210,7 @@ fn no_entry_at_all(rt: HostRuntime) -> Result<(), Fail> {
     Ok(())
 }
 
-/// When an export was made, as this metadata tell it.
+/// When an export was made, as this metadata says.
 fn built(alloc: Global, metadata: &str) -> Result<Option<u64>, Fail> {
     let text = format!(in alloc; "{{\"metadata\":{metadata},\"roas\":[]}}")?;
     Ok(read_export(alloc, text.as_bytes(), NOW)?.built)

@@ -91,7 +91,7 @@ impl Gathered {
     }
 }
 
-/// Gathers the entries of an array, or tells which is the first that cannot be read, and what of it.
+/// Gathers the entries of an array, or reports which is the first that cannot be read, and what of it.
 pub(crate) fn gather(alloc: Global, list: &[Value], now: u64) -> Result<Gathered, ExportFault>
     ensures ok { IfOk result (λ g. (es : List Entry) × AreEntries (items_view list.now) es × Gathers now es g) }
     ensures fault { IfErr result (λ f. ItemsFail (items_view list.now) f) }

@@ -1,5 +1,5 @@
 //! Exports: the JSON in which validators write what they validated. [`read_export`] reads a payload list, or an object with an array
-//! `roas`, as rpki-client, Routinator, FORT, StayRTR and rtrdump write it; [`read_export_until`] tells besides until when it is the same
+//! `roas`, as rpki-client, Routinator, FORT, StayRTR and rtrdump write it; [`read_export_until`] says besides until when it is the same
 //! export.
 //!
 //! For example, where `rt` is the runtime that `main` is handed:

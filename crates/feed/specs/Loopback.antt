@@ -26,12 +26,12 @@ use Rattle.feed.specs.Feed.{cache_publishing}
 use Rattle.feed.specs.declared.fault.FeedFault.{FeedFault}
 use Rattle.feed.specs.declared.fault.FeedFault.TheVariants as faults
 
--- what the fault of the offer of this index is told as
+-- what the fault of the offer of this index is reported as
 abbrev pub told_at : ℕ → PointFault → FeedFault
 told_at i points.Memory = faults.Memory
 told_at i fault = faults.Point i fault
 
--- what the fault of a set is told as
+-- what the fault of a set is reported as
 abbrev pub told_of_set : SetFault → FeedFault
 told_of_set sets.TooMany = faults.TooMany
 told_of_set sets.Memory = faults.Memory

@@ -24,7 +24,7 @@ impl FeedFault {
     ghost use Rattle.feed.specs.Feed.{feed_fault_number};
     ghost use Rattle.feed.specs.Loopback.{told_at};
 
-    /// What the fault of the offer of this index is told as.
+    /// What the fault of the offer of this index is reported as.
     pub(crate) fn at(i: usize, fault: PointFault) -> FeedFault
         ensures { result ≡ told_at i fault }
     {

@@ -29,7 +29,7 @@ fn know_units()
     written_is_read();
 }
 
-/// A cache that has published this set alone, as serial 0 of session 1, and tells the intervals that RFC 8210 section 6 recommends.
+/// A cache that has published this set alone, as serial 0 of session 1, and sends the intervals that RFC 8210 section 6 recommends.
 fn cache_with(alloc: Global, set: VrpSet) -> Result<Cache<VersionLog>, AllocError>
     ensures { IfOk result (λ cache. StartsWithSet set cache) }
 {

@@ -105,7 +105,7 @@ fn encode_ipv6(rt: HostRuntime) -> Result<(), Fail> {
     tell_written(&rt, IPV6)
 }
 
-/// Prints what a manifest tells.
+/// Prints what a manifest says.
 fn tell_manifest(rt: &HostRuntime, manifest: &Manifest) -> Result<(), Fail> {
     let mut out = rt.stdout();
     writeln!(out, "{} {}", manifest.this_update(), manifest.next_update())?;

@@ -1,4 +1,4 @@
--- What the program tells of an offer.
+-- What the program prints of an offer.
 use Rattle.std.specs.Prelude.{ℕ, List, ◌++◌, codes, Option, Some, None, Result, Ok, Err}
 use Rattle.std.specs.Fmt.{decimal}
 use Rattle.points.specs.declared.fault.Offered.{Offered}

@@ -15,7 +15,7 @@ use std::alloc::Global;
 use std::io::{BufWriter, Write};
 use std::rt::Files;
 
-/// The command `roa`: the entries of the payload of a ROA in a file. Status 1 where it is refused, of which the first fault is told.
+/// The command `roa`: the entries of the payload of a ROA in a file. Status 1 where it is refused, of which the first fault is printed.
 pub fn roa<R: Files + AllocGlobal, O: Write>(
     rt: &R,
     file: &str,
@@ -36,7 +36,7 @@ pub fn roa<R: Files + AllocGlobal, O: Write>(
 }
 
 /// The command `manifest`: the fields and the files of the payload of a manifest in a file. Status 1 where it is refused, of which the
-/// first fault is told.
+/// first fault is printed.
 pub fn manifest<R: Files + AllocGlobal, O: Write>(
     rt: &R,
     file: &str,
@@ -57,7 +57,7 @@ pub fn manifest<R: Files + AllocGlobal, O: Write>(
 }
 
 /// The command `payloads`: the payloads in use at a moment, after each directory was offered to the
-/// point of its name. All files are read before anything is told. Status 1 where an offer is refused, or `now` is no moment.
+/// point of its name. All files are read before anything is printed. Status 1 where an offer is refused, or `now` is no moment.
 pub fn payloads<R: Files + AllocGlobal + Clone + Drop, O: Write, E: Write>(
     rt: &R,
     now: &str,
@@ -85,7 +85,7 @@ pub fn payloads<R: Files + AllocGlobal + Clone + Drop, O: Write, E: Write>(
     Ok(if refused { 1 } else { 0 })
 }
 
-/// Offers each directory to the point of its name, tells what became of it, and answers whether one
+/// Offers each directory to the point of its name, prints what became of it, and answers whether one
 /// was refused.
 fn offer_all<E: Write>(
     alloc: Global,
@@ -103,7 +103,7 @@ fn offer_all<E: Write>(
     Ok(refused)
 }
 
-/// Tells the first fault of a payload, with the status.
+/// Prints the first fault of a payload, with the status.
 fn refuse_payload<O: Write>(fault: PayloadFault, out: &mut O) -> Result<u8, ProgramFault>
     ensures { IfOk result (λ s. s ≤ 1) }
 {

@@ -1,4 +1,4 @@
-//! Manifests, told in lines.
+//! Manifests, printed in lines.
 ghost use Rattle.std.specs.Prelude.{◌≡◌, OnOk};
 ghost use Rattle.std.specs.List.{flat_map};
 ghost use Rattle.std.specs.Io.KnownBytes.{Appends};

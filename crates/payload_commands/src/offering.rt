@@ -1,4 +1,4 @@
-//! Offers to publication points, told in lines.
+//! Offers to publication points, printed in lines.
 ghost use Rattle.std.specs.Prelude.{◌≡◌, OnOk};
 ghost use Rattle.std.specs.Io.KnownBytes.{Appends};
 ghost use Rattle.payload_commands.specs.OfferLines.{offer_line};
@@ -29,7 +29,7 @@ pub fn offer_directory(
     }
 }
 
-/// Tells what became of an offer: the name and `new`, `same`, or `refused` with the number of the
+/// Prints what became of an offer: the name and `new`, `same`, or `refused` with the number of the
 /// fault and the index of the file, where one is meant.
 pub fn tell_answer<E: Write>(
     name: &str,

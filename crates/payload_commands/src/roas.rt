@@ -1,4 +1,4 @@
-//! ROAs, told in lines.
+//! ROAs, printed in lines.
 ghost use Rattle.std.specs.Prelude.{◌≡◌, OnOk};
 ghost use Rattle.std.specs.Io.KnownBytes.{Appends};
 ghost use Rattle.payload_commands.specs.RoaLines.{entry_line, roa_lines};

@@ -1,4 +1,4 @@
-//! The states of routes, told in words.
+//! The states of routes, printed in words.
 ghost use Rattle.std.specs.Prelude.{◌≡◌, ◌++◌, OnOk, codes};
 ghost use Rattle.std.specs.Io.KnownBytes.{Appends};
 ghost use Rattle.vrps.specs.Origin.{state};

@@ -163,7 +163,7 @@ fn whole() -> [&'static str; 3] {
     [ONE_PREFIX, NO_BITS, WITH_MAXIMUM]
 }
 
-/// Whether a payload is taken and is what its ROA is written as, or has a fault that is told inside it.
+/// Whether a payload is taken and is what its ROA is written as, or has a fault that is reported inside it.
 fn is_judged(alloc: Global, payload: &[u8]) -> Result<bool, Fail> {
     match decode_roa(alloc, payload) {
         Ok(roa) => Ok(encode_roa(alloc, &roa)?.as_slice() == payload),

@@ -234,7 +234,7 @@ fn agreement_within_a_unit(rt: HostRuntime) {
     assert!(rt; matches!(reader.next(&mut again), Next::Fault(UnitFault::Version)));
 }
 
-/// Agreement is told when so many bytes of a notify of another version have come: it counts for this PDU where its header has not come
+/// Agreement is notified when so many bytes of a notify of another version have come: it counts for this PDU where its header has not come
 /// whole, and for the PDUs after it in every case.
 #[test]
 fn agreement_at_each_byte(rt: HostRuntime) {

@@ -289,7 +289,7 @@ fn faults_of_each_version(rt: HostRuntime) {
     assert!(rt; fault(None, "00 02 0000") == (Some(UnitFault::Truncated), 4, 0));
 }
 
-/// Checks how many PDUs a cache reads of these, which fault follows them, and the version that is told then.
+/// Checks how many PDUs a cache reads of these, which fault follows them, and the version that is reported then.
 fn expect_read<R: Abort>(
     rt: &R,
     text: &str,

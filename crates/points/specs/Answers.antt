@@ -44,7 +44,7 @@ told_by_fault (faults.HashDiffers i) = Some (HashDiffers i)
 told_by_fault (faults.Roa i fault) = Some (BadRoa i (grammar_fault_of fault))
 told_by_fault faults.Memory = None
 
--- the judgement that an answer tells
+-- the judgement that an answer reports
 abbrev pub told_by : Result Offered PointFault → Option OfferJudgement
 told_by (Ok offered.New) = Some New
 told_by (Ok offered.Same) = Some Same

@@ -15,7 +15,7 @@ use Rattle.points.specs.Answers.{told_by_fault}
 abbrev pub AreFiles : BTreeMap (Bor (List ℕ)) (Bor FileIn) → List FileIn → Type 0
 AreFiles map files = (name : List ℕ) → option_map (λ f. f.now) (get_by (λ k. slice_cmp nat_cmp name k.now) map) ≡ file_named name files
 
--- The map has these files, no two of one name; or the first that has the name of an earlier one is told; or memory ran out.
+-- The map has these files, no two of one name; or the first that has the name of an earlier one is reported; or memory ran out.
 abbrev pub Indexes : {M : Type 0} → (M → BTreeMap (Bor (List ℕ)) (Bor FileIn)) → Result M PointFault → List FileIn → Type 0
 Indexes map (Ok found) files = AreFiles (map found) files × (first_that_holds (twice_tests 0 [] files) ≡ None)
 Indexes map (Err fault) files = IfSome (told_by_fault fault) (λ judgement. first_that_holds (twice_tests 0 [] files) ≡ Some judgement)

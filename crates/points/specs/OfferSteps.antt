@@ -48,7 +48,7 @@ JudgedInSteps before bytes files now judgement =
     ⊎ ((m : ManifestValue) × ManifestSpells m bytes
     × Decided (first_that_holds (tests before m bytes files now)) judgement (FromFile 0 m.files files judgement))
 
--- a fault that tells a judgement tells one of which this holds
+-- a fault that reports a judgement reports one of which this holds
 abbrev pub Tells : PointFault → (OfferJudgement → Type 0) → Type 0
 Tells fault Holds = IfSome (told_by_fault fault) Holds
 
@@ -62,7 +62,7 @@ abbrev pub ReadsRoa : Result RoaValue PointFault → ℕ → List ℕ → Type 0
 ReadsRoa (Ok roa) i content = RoaSpells roa content
 ReadsRoa (Err fault) i content = Tells fault (λ judgement. (first : Fault) × RoaFaultAt content first.offset first.number × (judgement ≡ BadRoa i first))
 
--- the judgement that an answer tells on whether the bytes are those accepted last
+-- the judgement that an answer reports on whether the bytes are those accepted last
 abbrev pub told_of : Result Bool PointFault → Option OfferJudgement
 told_of (Ok true) = Some Same
 told_of (Ok false) = None

@@ -26,7 +26,7 @@ pub fn out_of_memory<E: Write>(err: &mut E) -> u8
     4
 }
 
-/// Writes the fault's line on standard error. Where that fails too, nothing more can be told.
+/// Writes the fault's line on standard error. Where that fails too, nothing more can be reported.
 fn tell<E: Write>(fault: ProgramFault, err: &mut E) {
     let _ = writeln!(err, "{fault}");
 }
@@ -45,7 +45,7 @@ pub fn run_words<R: Files + Net + AllocGlobal + Clone + Drop, O: Write, E: Write
     status_of(ran, err)
 }
 
-/// The status of what was done. A fault is told.
+/// The status of what was done. A fault is reported.
 fn status_of<E: Write>(ran: Result<u8, ProgramFault>, err: &mut E) -> u8
     requires { IfOk ran (λ s. s ≤ 1) }
     ensures { result ≤ 4 }

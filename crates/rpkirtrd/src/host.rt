@@ -116,12 +116,12 @@ impl<'a, R: Files + Net + Clock + AllocGlobal, E: Write> Host<'a, R, E> {
         Ok(host)
     }
 
-    /// Tells on standard error which socket cannot be had, with the status.
+    /// Reports on standard error which socket cannot be had, with the status.
     pub fn refuse_sockets(&mut self, fault: &HostFault) -> u8 {
         refuse_sockets(fault, self.err)
     }
 
-    /// Tells on standard error why the daemon does not start.
+    /// Reports on standard error why the daemon does not start.
     pub fn refuse(&mut self, fault: &StartFault) {
         let _ = match &fault.path {
             Some(path) => writeln!(self.err, "rpkirtrd: {path}: {}", fault.refusal),
@@ -129,7 +129,7 @@ impl<'a, R: Files + Net + Clock + AllocGlobal, E: Write> Host<'a, R, E> {
         };
     }
 
-    /// Opens a gate, and tells where it is.
+    /// Opens a gate, and reports where it is.
     fn listen(&mut self, address: SocketAddr) -> io::Result<()> {
         let (listener, address) = self.bind(address, Token(self.listeners.len()))?;
         self.listeners.push(listener)?;
@@ -138,7 +138,7 @@ impl<'a, R: Files + Net + Clock + AllocGlobal, E: Write> Host<'a, R, E> {
         Ok(())
     }
 
-    /// Opens the gate of visitors, and tells where it is.
+    /// Opens the gate of visitors, and reports where it is.
     pub fn listen_for_visitors(&mut self, address: SocketAddr) -> io::Result<TcpListener> {
         let (listener, address) = self.bind(address, Token(DESK))?;
         let now = self.seconds();
@@ -146,7 +146,7 @@ impl<'a, R: Files + Net + Clock + AllocGlobal, E: Write> Host<'a, R, E> {
         Ok(listener)
     }
 
-    /// A socket at an address, which is told under a number when connections come, and its own address.
+    /// A socket at an address, which is reported under a number when connections come, and its own address.
     fn bind(&self, address: SocketAddr, token: Token) -> io::Result<(TcpListener, SocketAddr)> {
         let mut listener = TcpListener::bind(self.rt, address)?;
         self.poll
@@ -165,7 +165,7 @@ impl<'a, R: AllocGlobal, E> Host<'a, R, E> {
 }
 
 impl<'a, R: Clock + AllocGlobal, E: Write> Time for Host<'a, R, E> {
-    /// Where the clock cannot be read, what it told last.
+    /// Where the clock cannot be read, what it said last.
     fn seconds(&mut self) -> u64 {
         if let Ok(now) = SystemTime::now(self.rt) {
             self.seconds = now.duration_since(UNIX_EPOCH).unwrap_or_default().as_secs();
@@ -262,7 +262,7 @@ impl<'a, R, E> Host<'a, R, E> {
         self.patience = millis;
     }
 
-    /// Has a visitor's connection told when it is ready, and answers its number; None where that cannot be had.
+    /// Has a visitor's connection reported when it is ready, and answers its number; None where that cannot be had.
     pub fn register_visitor(&mut self, stream: &mut TcpStream) -> Option<usize> {
         let number = self.next_visitor;
         self.next_visitor = number.saturating_add(1);
@@ -275,7 +275,7 @@ impl<'a, R, E> Host<'a, R, E> {
         }
     }
 
-    /// Has a connection told when it is ready.
+    /// Has a connection reported when it is ready.
     fn take_in(&mut self, stream: TcpStream, address: SocketAddr) -> Accepted<Line> {
         let Some(mut line) = Line::of(stream) else {
             return Accepted::Again;

@@ -91,7 +91,7 @@ fn desk_of<R: Files + Net + Clock + RandomSource + AllocGlobal + Clone + Drop, E
     }
 }
 
-/// Tells which socket cannot be had, with the status.
+/// Reports which socket cannot be had, with the status.
 pub fn refuse_sockets<E: Write>(fault: &HostFault, err: &mut E) -> u8 {
     let status = if fault.error.kind() == ErrorKind::OutOfMemory {
         4
@@ -199,7 +199,7 @@ fn tell_start<J: Journal>(names: VersionNames, now: u64, journal: &mut J) {
     journal.tell(now, &Event::Started(names));
 }
 
-/// Tells why there is no start, with the status.
+/// Reports why there is no start, with the status.
 fn refuse_start<R: Files + Net + Clock + AllocGlobal, E: Write>(
     fault: &StartFault,
     host: &mut Host<'_, R, E>,
@@ -230,7 +230,7 @@ fn go_on<R: Files + Net + Clock + RandomSource + AllocGlobal + Clone + Drop, E: 
     0
 }
 
-/// Tells why the daemon ends, with the status.
+/// Reports why the daemon ends, with the status.
 fn stop<W: Time + Journal>(end: End, world: &mut W) -> u8 {
     let (status, reason) = match end {
         End::Once => (0, "the client has gone"),
@@ -241,13 +241,13 @@ fn stop<W: Time + Journal>(end: End, world: &mut W) -> u8 {
     status
 }
 
-/// Tells that waiting failed, with the status.
+/// Reports that waiting failed, with the status.
 fn fail<W: Time + Journal>(error: &io::Error, world: &mut W) -> u8 {
     let now = world.seconds();
     world.tell(
         now,
         &Event::Stopped {
-            reason: "the system does not tell what is ready",
+            reason: "the system does not say what is ready",
         },
     );
     if error.kind() == ErrorKind::OutOfMemory {

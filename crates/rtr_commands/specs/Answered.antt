@@ -23,7 +23,7 @@ abbrev pub at_input_end : Instance → List ConnMoment → Connection
 at_input_end i moments = after_all 1 default_intervals (opened i) moments
 
 -- Bytes are handed in on a connection of this cache to the last, or to its end, and all that is due is pulled: these PDUs, in the
--- version of the first header, are its replies, and this tells whether it has ended.
+-- version of the first header, are its replies, and this says whether it has ended.
 pub record Replies (i : Instance) (bytes : List ℕ) (units : List Unit) (ended : Bool) : Type 0 where
   pub moments : List ConnMoment
   pub came : List ℕ
@@ -48,7 +48,7 @@ pub record LeavesOff (bytes : List ℕ) (left : Option ℕ) : Type 0 where
   pub splits : Splits (first_version bytes) false bytes units rest fault
   pub left_is : left ≡ offset_of (length bytes) rest fault
 
--- A line tells each PDU of the replies. What is left is nothing where the connection has ended.
+-- A line shows each PDU of the replies. What is left is nothing where the connection has ended.
 pub record AnswersBytes (i : Instance) (bytes : List ℕ) (answered : Answered) : Type 0 where
   pub units : List Unit
   pub ended : Bool

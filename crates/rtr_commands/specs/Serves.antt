@@ -16,7 +16,7 @@ use Rattle.rtr_ends.specs.Timing.{default_intervals}
 use Rattle.rtr_ends.specs.declared.cache.Cache.{Cache}
 use Rattle.rtr_commands.specs.Lines.{lines_of}
 
--- This cache keeps one version, tells the default intervals, and has no connection.
+-- This cache keeps one version, sends the default intervals, and has no connection.
 pub record Starts (i : Instance) (cache : Cache Steps) : Type 0 where
   pub is : IsInstance i
   pub shows : ShowsCache HoldsSteps (without_conns 1 default_intervals i) cache

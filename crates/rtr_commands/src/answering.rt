@@ -181,7 +181,7 @@ fn unit_lines(alloc: Global, version: Version, bytes: &[u8]) -> Result<String, A
     }
 }
 
-/// Where the beginning of a PDU stands with which the bytes end. They are of the version that the first header tells.
+/// Where the beginning of a PDU stands with which the bytes end. They are of the version that the first header gives.
 fn cut_off(bytes: &[u8]) -> Option<usize>
     ensures { LeavesOff bytes.now result }
 {

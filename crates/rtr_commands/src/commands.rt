@@ -31,7 +31,7 @@ pub fn units<R: Files + AllocGlobal, O: Write>(
     Ok(status)
 }
 
-/// Tells what follows PDUs, with the status.
+/// Prints what follows PDUs, with the status.
 fn tell_end<O: Write>(end: UnitsEnd, out: &mut O) -> Result<u8, ProgramFault>
     ensures { IfOk result (λ s. s ≤ 1) }
 {
@@ -104,7 +104,7 @@ pub fn serve<R: Files + Net + AllocGlobal, O: Write>(
 }
 
 /// The command `fetch`: what a router that speaks this version of the protocol fetches from a cache on a port of this machine. Status 1
-/// where that is no list, which is told.
+/// where that is no list, which is reported.
 pub fn fetch<R: Net + AllocGlobal, O: Write>(
     rt: &R,
     port: u16,
@@ -147,7 +147,7 @@ pub fn both_ends<R: Files + Net + AllocGlobal, O: Write>(
     Ok(0)
 }
 
-/// Tells the answers of a cache, and where the beginning of a PDU remains, with the status.
+/// Prints the answers of a cache, and where the beginning of a PDU remains, with the status.
 fn tell_answers<O: Write>(answered: &Answered, out: &mut O) -> Result<u8, ProgramFault>
     ensures { IfOk result (λ s. s ≤ 1) }
 {

@@ -215,7 +215,7 @@ fn reached(router: &Router) -> Fetched {
     }
 }
 
-/// Tells the session and the serial of the version that a router committed.
+/// Prints the session and the serial of the version that a router committed.
 pub fn tell_committed<O: Write>(router: &Router, out: &mut O) -> io::Result<()> {
     match router.committed() {
         None => Ok(()),
@@ -223,7 +223,7 @@ pub fn tell_committed<O: Write>(router: &Router, out: &mut O) -> io::Result<()> 
     }
 }
 
-/// Tells what was fetched: the name of the version and its list, with status 0, or why there is none, with status 1.
+/// Prints what was fetched: the name of the version and its list, with status 0, or why there is none, with status 1.
 pub fn tell_fetched<O: Write>(
     alloc: Global,
     router: &Router,

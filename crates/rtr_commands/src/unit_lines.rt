@@ -1,4 +1,4 @@
-//! PDUs, told in lines.
+//! PDUs, printed in lines.
 ghost use Rattle.std.specs.Prelude.{◌≡◌, codes, IfOk, OnOk};
 ghost use Rattle.std.specs.Io.KnownBytes.{Appends};
 ghost use Rattle.rtr_commands.specs.UnitLines.{TellsUnits, copy_text, report_line, unit_line};
@@ -82,8 +82,8 @@ pub fn print_unit<W: Write>(unit: &Unit, out: &mut W) -> io::Result<()>
     }
 }
 
-/// Prints the PDUs with which the bytes begin, a line each, as a cache reads them (RFC 6810 section 5, RFC 8210 section 5), and tells
-/// what follows them. The first header tells the version of all; another version later is a fault.
+/// Prints the PDUs with which the bytes begin, a line each, as a cache reads them (RFC 6810 section 5, RFC 8210 section 5), and says
+/// what follows them. The first header gives the version of all; another version later is a fault.
 pub fn print_units<W: Write>(bytes: &[u8], out: &mut W) -> io::Result<UnitsEnd>
     ensures { IfOk result (λ end. TellsUnits bytes.now (W.contents out.old) (W.contents out.new) end) }
 {

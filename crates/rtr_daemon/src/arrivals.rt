@@ -132,7 +132,7 @@ impl<S: VersionStore, T: Stream + Drop> Daemon<S, T> {
         }
     }
 
-    /// Notes that there is no room for connections, and tells it.
+    /// Notes that there is no room for connections, and reports it.
     fn note_full<W: Time + Journal>(&mut self, world: &mut W)
         ensures { self.new.service ≡ self.old.service }
     {

@@ -229,7 +229,7 @@ impl<S: VersionStore + Drop, T: Stream + Drop> Daemon<S, T> {
         }
     }
 
-    /// Notes what was published, and has all routers told.
+    /// Notes what was published, and notifies all routers.
     fn note_issue<W: Time + Journal>(&mut self, issue: Issue, now: u64, began: u64, world: &mut W)
         ensures { self.new.service ≡ self.old.service }
     {
@@ -267,7 +267,7 @@ impl<S: VersionStore + Drop, T: Stream + Drop> Daemon<S, T> {
         }
     }
 
-    /// Tells that nothing could be published. It is tried again when files are looked at next.
+    /// Reports that nothing could be published. It is tried again when files are looked at next.
     fn note_failure<W: Journal>(&mut self, refusal: &Refusal, now: u64, world: &mut W)
         ensures { self.new.service ≡ self.old.service }
     {
@@ -283,7 +283,7 @@ impl<S: VersionStore + Drop, T: Stream + Drop> Daemon<S, T> {
         }
     }
 
-    /// Tells which exports are older than they may be, and which are not any more.
+    /// Reports which exports are older than they may be, and which are not any more.
     fn judge_ages<W: Time + Journal>(&mut self, world: &mut W)
         ensures { self.new.service ≡ self.old.service }
     {
@@ -313,7 +313,7 @@ impl<S: VersionStore + Drop, T: Stream + Drop> Daemon<S, T> {
     }
 }
 
-/// Whether an export is older than so many seconds. Of each it is told where that is news.
+/// Whether an export is older than so many seconds. Of each it is reported where that is news.
 fn is_any_old<W: Journal>(
     files: &mut Vec<Followed>,
     sources: &Sources,
@@ -342,7 +342,7 @@ fn built_of(source: Source, sources: &Sources) -> Option<u64> {
     }
 }
 
-/// Tells that an export is older than it may be, or is not any more.
+/// Reports that an export is older than it may be, or is not any more.
 fn tell_age<W: Journal>(file: &str, age: u64, most: u64, now: u64, world: &mut W) {
     if age > most {
         world.tell(now, &Event::Old { file, age });

@@ -32,7 +32,7 @@ pub(crate) struct Followed {
     pub(crate) expired: u64,
     /// How it was when it was refused last, where it was not taken since.
     refused: Option<Refused>,
-    /// Whether a refusal was told since it was taken.
+    /// Whether a refusal was reported since it was taken.
     is_told: bool,
     /// Whether what it has is old.
     pub(crate) is_old: bool,
@@ -112,7 +112,7 @@ impl Followed {
         }
     }
 
-    /// It was taken as it looked then, and so many of its entries had expired. It answers whether a refusal was told before.
+    /// It was taken as it looked then, and so many of its entries had expired. It answers whether a refusal was reported before.
     pub(crate) fn take(&mut self, stamp: Stamp, now: u64, expired: u64) -> bool {
         let was_told = self.is_told;
         self.taken = Some(stamp);
@@ -123,15 +123,15 @@ impl Followed {
         was_told
     }
 
-    /// It is refused as it looks now, where it can be looked at. It answers whether that is to be told: where it was refused so at the look before,
-    /// and no refusal was told since it was taken.
+    /// It is refused as it looks now, where it can be looked at. It answers whether that is to be reported: where it was refused so at the look before,
+    /// and no refusal was reported since it was taken.
     pub(crate) fn refuse(&mut self, stamp: Option<Stamp>, why: Refusal) -> bool {
         let was_so = self.was_refused(stamp);
         self.refused = Some(Refused { stamp, why });
         was_so && self.tells()
     }
 
-    /// It looks as it did when it was refused. It answers whether that is to be told.
+    /// It looks as it did when it was refused. It answers whether that is to be reported.
     pub(crate) fn tells(&mut self) -> bool {
         let is_news = !self.is_told;
         self.is_told = true;
@@ -145,7 +145,7 @@ impl Followed {
         is_news
     }
 
-    /// Why it was refused last, where that was told.
+    /// Why it was refused last, where that was reported.
     pub(crate) fn told_refusal(&self) -> Option<&Refusal> {
         if self.is_told {
             return self.refusal();

@@ -67,7 +67,7 @@ pub(crate) struct Ledger {
     pub(crate) gone: BothWays,
     /// How many times a file was taken.
     pub(crate) taken: u64,
-    /// How many times a refusal of a file was told.
+    /// How many times a refusal of a file was reported.
     pub(crate) refused: u64,
     /// How many milliseconds it took to take what came last.
     pub(crate) took: Option<u64>,
@@ -97,7 +97,7 @@ impl Ledger {
         self.took = Some(milliseconds);
     }
 
-    /// A refusal of a file was told.
+    /// A refusal of a file was reported.
     pub(crate) fn refused(&mut self) {
         self.refused = self.refused.saturating_add(1);
     }

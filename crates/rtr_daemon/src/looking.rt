@@ -22,7 +22,7 @@ pub(crate) struct Offering {
     pub(crate) taken_at: Option<u64>,
     /// Why it was refused at the look before, if it was.
     refused: Option<Refusal>,
-    /// Whether that was told since it was taken.
+    /// Whether that was reported since it was taken.
     is_told: bool,
 }
 
@@ -36,7 +36,7 @@ impl Offering {
         }
     }
 
-    /// It was taken, or is what its point holds. It answers whether a refusal was told before.
+    /// It was taken, or is what its point holds. It answers whether a refusal was reported before.
     pub(crate) fn take(&mut self, now: u64) -> bool {
         let was_told = self.is_told;
         self.taken_at = Some(now);
@@ -45,7 +45,7 @@ impl Offering {
         was_told
     }
 
-    /// Why it was refused, where that was told.
+    /// Why it was refused, where that was reported.
     pub(crate) fn told_refusal(&self) -> Option<&Refusal> {
         if self.is_told {
             return self.refused.as_ref();
@@ -53,7 +53,7 @@ impl Offering {
         None
     }
 
-    /// It was refused. It answers whether that is to be told: where it was refused at the look before too, and that was not told yet.
+    /// It was refused. It answers whether that is to be reported: where it was refused at the look before too, and that was not reported yet.
     fn refuse(&mut self, refusal: Refusal) -> bool {
         let is_news = self.refused.is_some() && !self.is_told;
         self.refused = Some(refusal);
@@ -62,13 +62,13 @@ impl Offering {
     }
 }
 
-/// What is to be told after a look at a file.
+/// What is to be reported after a look at a file.
 pub(crate) enum News {
     /// Nothing.
     Nothing,
     /// Why it was refused.
     Refused,
-    /// It was taken: whether after a refusal that was told, and how many of its entries had expired.
+    /// It was taken: whether after a refusal that was reported, and how many of its entries had expired.
     Taken { again: bool, expired: u64 },
 }
 
@@ -124,7 +124,7 @@ fn has_expired<S: VersionStore, T: Stream + Drop>(
     }
 }
 
-/// Notes whether what a file holds was taken, and answers what is to be told.
+/// Notes whether what a file holds was taken, and answers what is to be reported.
 fn note(file: &mut Followed, stamp: Stamp, taken: Result<u64, Refusal>, now: u64) -> News {
     match taken {
         Ok(expired) => News::Taken {
@@ -190,7 +190,7 @@ impl<S: VersionStore, T: Stream + Drop> Daemon<S, T> {
     }
 }
 
-/// Looks at each file, takes what is new, and tells what came of it.
+/// Looks at each file, takes what is new, and reports what came of it.
 fn follow_each<S: VersionStore, T: Stream + Drop, W: Disk + Time + Journal>(
     files: &mut Vec<Followed>,
     service: &mut Service<S, T>,
@@ -210,7 +210,7 @@ fn follow_each<S: VersionStore, T: Stream + Drop, W: Disk + Time + Journal>(
     }
 }
 
-/// Offers each directory, and tells what came of it.
+/// Offers each directory, and reports what came of it.
 fn offer_each<S: VersionStore, T: Stream + Drop, W: Disk + Time + Journal>(
     points: &mut Vec<Offering>,
     service: &mut Service<S, T>,
@@ -227,7 +227,7 @@ fn offer_each<S: VersionStore, T: Stream + Drop, W: Disk + Time + Journal>(
     }
 }
 
-/// Tells what became of an offer, where that is news.
+/// Reports what became of an offer, where that is news.
 fn note_offer<W: Journal>(
     alloc: Global,
     point: &mut Offering,
@@ -263,7 +263,7 @@ fn note_news(ledger: &mut Ledger, news: &News, milliseconds: u64) {
     }
 }
 
-/// Tells what came of a look at a file.
+/// Reports what came of a look at a file.
 fn tell_news<W: Journal>(alloc: Global, file: &Followed, news: News, now: u64, world: &mut W) {
     let path = file.path.as_str();
     match news {
@@ -278,28 +278,28 @@ fn tell_news<W: Journal>(alloc: Global, file: &Followed, news: News, now: u64, w
     }
 }
 
-/// Tells how many entries of a file had expired when it was read, where some had.
+/// Reports how many entries of a file had expired when it was read, where some had.
 pub(crate) fn tell_expired<W: Journal>(file: &str, entries: u64, now: u64, world: &mut W) {
     if entries > 0 {
         world.tell(now, &Event::Expired { file, entries });
     }
 }
 
-/// Tells why a publication point was refused last.
+/// Reports why a publication point was refused last.
 fn tell_point<W: Journal>(alloc: Global, point: &Offering, now: u64, world: &mut W) {
     if let Some(refusal) = &point.refused {
         tell_refusal(alloc, point.path.as_str(), refusal, now, world);
     }
 }
 
-/// Tells why a file was refused last.
+/// Reports why a file was refused last.
 fn tell_refused<W: Journal>(alloc: Global, file: &Followed, now: u64, world: &mut W) {
     if let Some(refusal) = file.refusal() {
         tell_refusal(alloc, file.path.as_str(), refusal, now, world);
     }
 }
 
-/// Tells why something is refused.
+/// Reports why something is refused.
 pub(crate) fn tell_refusal<W: Journal>(
     alloc: Global,
     file: &str,

@@ -29,7 +29,7 @@ pub enum Refusal {
     /// It changed again and again while it was read.
     #[error("it changes while it is read")]
     Changing,
-    /// The clock tells no moment of the years 1970 to 9999.
+    /// The clock gives no moment of the years 1970 to 9999.
     #[error("the clock is not between the years 1970 and 9999")]
     Clock,
 }

@@ -20,7 +20,7 @@ pub enum Accepted<L> {
     Line {
         /// The connection, whose calls do not wait.
         line: L,
-        /// The number by which it is told to be ready.
+        /// The number by which it is reported to be ready.
         number: usize,
         /// Where it comes from.
         address: SocketAddr,
@@ -45,7 +45,7 @@ pub trait Ports<L> {
     fn accept(&mut self, gate: usize) -> Accepted<L>;
 }
 
-/// What tells one state of a file from another.
+/// What distinguishes one state of a file from another.
 #[derive(Clone, Copy, Debug, PartialEq, Eq)]
 pub struct Stamp {
     /// Its size in bytes.

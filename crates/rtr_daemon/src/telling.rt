@@ -1,4 +1,4 @@
-//! What a daemon tells of itself.
+//! What a daemon reports of itself.
 use crate::daemon::Daemon;
 use crate::following::{Followed, Source};
 use crate::guests::Guest;
@@ -12,7 +12,7 @@ use std::alloc::{AllocError, Global};
 use vrps::{Serial, VersionStore};
 
 impl<S: VersionStore, T: Stream + Drop> Daemon<S, T> {
-    /// What there is to tell of the daemon at a moment: in seconds since 1970, and in milliseconds of the steady clock. The version is that of the
+    /// What there is to report of the daemon at a moment: in seconds since 1970, and in milliseconds of the steady clock. The version is that of the
     /// program.
     pub fn status(
         &self,

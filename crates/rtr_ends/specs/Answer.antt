@@ -46,7 +46,7 @@ announcements s = map (λ v. Prefix true v) (listing s)
 abbrev pub withdrawals : VrpSet → List Unit
 withdrawals s = map (λ v. Prefix false v) (listing s)
 
--- The End of Data of an answer in a version of the protocol: in version 1 it tells the intervals (RFC 6810 section 5.8, RFC 8210 section 5.8).
+-- The End of Data of an answer in a version of the protocol: in version 1 it carries the intervals (RFC 6810 section 5.8, RFC 8210 section 5.8).
 abbrev pub end_of_data : Version → ℕ → ℕ → Intervals → Unit
 end_of_data V0 session serial t = EndOfData0 session serial
 end_of_data V1 session serial t = EndOfData session serial t.refresh t.retry t.expire

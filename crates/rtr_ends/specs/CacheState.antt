@@ -20,7 +20,7 @@ use Rattle.rtr_ends.specs.declared.cache.Conn.{Conn as Number}
 use Rattle.rtr_ends.specs.declared.peer.Peer.{Peer}
 use Rattle.rtr_ends.specs.declared.sender.Share.{Share}
 
--- how many versions before the current one are kept, the intervals that are told, the instance that is published, and the
+-- how many versions before the current one are kept, the intervals that are sent, the instance that is published, and the
 -- connections that are open or still to be closed, by their numbers
 pub record CacheState : Type 0 where
   pub keep : ℕ

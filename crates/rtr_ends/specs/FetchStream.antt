@@ -79,7 +79,7 @@ FetchEnds calls unread left had has (Err Memory) = ⊥
 abbrev pub calls_since : List RouterCall → ℕ → List RouterCall → List RouterCall
 calls_since turns now calls = turns ++ Connects now ∷ calls
 
--- What was read on a connection, in so many calls of at most 4,096 bytes each, was consumed but for what is told; and so it ended.
+-- What was read on a connection, in so many calls of at most 4,096 bytes each, was consumed but for what is reported; and so it ended.
 pub record FetchesSo (now : ℕ) (calls : List RouterCall) (before left : Option (List ℕ)) (reads : ℕ) (had has : Option (List ℕ)) (result : Result Fetched StreamFault) : Type 0 where
   pub turns : List RouterCall
   pub each : AllByRecursion (IsFetchCall now) turns

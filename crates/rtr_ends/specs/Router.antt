@@ -71,7 +71,7 @@ router_judged m bytes judgement = with_read m judgement (with_bytes (finds_memor
 unfoldable pub router_byte : Receiving → ℕ → Receiving
 router_byte m b = router_judged m (m.router.held ++ b ∷ []) (judge m.router.spoken (not m.router.agreed) (m.router.held ++ b ∷ []))
 
--- The clock, judged first wherever a moment is told: what has expired is emptied. A Serial Query that is outstanding then ends the
+-- The clock, judged first wherever a moment is given: what has expired is emptied. A Serial Query that is outstanding then ends the
 -- link (RFC 8210 section 6).
 abbrev pub expired : Link → Router → Router
 expired (Asked (AskSerial session serial)) r = record (emptied r) { link = Ended ends.Expired; out = [] }
@@ -102,7 +102,7 @@ asks_if false r = silent r
 abbrev pub and_then : List Item → Noted → Noted
 and_then items n = record { router = n.router; items = n.items ++ items }
 
--- The calls. `connect` closes an older connection, and makes one of the version that was told last; `ask` asks where the link is idle.
+-- The calls. `connect` closes an older connection, and makes one of the version that was set last; `ask` asks where the link is idle.
 unfoldable pub connects_at : ℕ → Router → Noted
 connects_at now r =
     let closed : Router = close (clocked now r) in
@@ -124,7 +124,7 @@ receives now wanting piece r =
 unfoldable pub router_pulled : ℕ → Router → Router
 router_pulled most r = record r { out = drop most r.out }
 
--- What is called on a router. At `receive` memory may run out at a PDU of the piece, counted from 0. `speak` tells the version of
+-- What is called on a router. At `receive` memory may run out at a PDU of the piece, counted from 0. `speak` sets the version of
 -- the next connection.
 pub data RouterCall : Type 0 where
   Connects : (now : ℕ) → RouterCall

@@ -1,4 +1,4 @@
--- What a router takes of a piece, holds, asks and speaks, whatever it is told and reads.
+-- What a router takes of a piece, holds, asks and speaks, whatever it is given and reads.
 use Rattle.std.specs.Prelude.{◌≡◌, ◌⊎◌, ℕ, Bool, true, false, not, List, [], ◌∷◌, ◌++◌, take, Option, Some, None}
 use Rattle.vrps.specs.VrpSet.{VrpSet}
 use Rattle.rtr_pdu.specs.declared.version.Version.{Version}
@@ -39,7 +39,7 @@ LinkTells (Answering a) agreed session table items =
     (is_connected items ≡ true) × (waiting items ≡ None) × (under_way items ≡ Some a) × (has_agreed items ≡ agreed) × (responded items ≡ session) × (agreed ≡ true)
     × (acts_once (base_of a.question table) a.withdrawn a.announced ≡ true)
 
--- What a router holds, when it asks, the greatest moment it was told and the version of its latest connection are those of its
+-- What a router holds, when it asks, the greatest moment it was given and the version of its latest connection are those of its
 -- transcript, and its link is as that says.
 pub record IsKept (r : Router) (items : List Item) : Type 0 where
   pub table : r.table ≡ (kept items).table
@@ -60,19 +60,19 @@ pub record IsAsking (r : Router) (items : List Item) : Type 0 where
 abbrev pub RouterAsks : Type 0
 RouterAsks = (calls : List RouterCall) → IsAsking (played calls).router (played calls).items
 
--- the version that a router was told last, 1 where it was told none. The calls stand with the last first.
+-- the version that was set last for a router, 1 where none was set. The calls stand with the last first.
 abbrev pub told_version : List RouterCall → Version
 told_version [] = V1
 told_version (Speaks version ∷ calls) = version
 told_version (call ∷ calls) = told_version calls
 
--- the version that it had been told when the latest connection was made, 1 where there was none
+-- the version that was set when the latest connection was made, 1 where there was none
 abbrev pub connected_version : List RouterCall → Version
 connected_version [] = V1
 connected_version (Connects now ∷ calls) = told_version calls
 connected_version (call ∷ calls) = connected_version calls
 
--- It speaks what it was told, from the next connection on.
+-- It speaks what was set, from the next connection on.
 abbrev pub RouterSpeaks : Type 0
 RouterSpeaks =
     (calls : List RouterCall) → ((played calls).router.speaks ≡ told_version calls) × (spoken (played calls).items ≡ connected_version calls)

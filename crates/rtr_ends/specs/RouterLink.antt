@@ -1,4 +1,4 @@
--- The link of a router to its cache, how it ends, and what is told of it (RFC 8210 sections 5 to 8).
+-- The link of a router to its cache, how it ends, and what is seen of it (RFC 8210 sections 5 to 8).
 use Rattle.std.specs.Prelude.{ℕ, Bool, true, false, not, nat_lt, Option, Some, None, Result, Ok, Err, ⊤}
 use Rattle.rtr_pdu.specs.declared.version.Version.{Version}
 use Rattle.rtr_ends.specs.Transcript.{Question, Begun, Committed}

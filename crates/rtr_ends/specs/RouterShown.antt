@@ -67,7 +67,7 @@ pub record Arrives (f : FedPiece Receiving) (wanting : Option ℕ) (r : Router) 
   pub rest_is : f.rest ≡ rest
   pub wanted : IsLacking wanting f
 
--- It goes on as another with another piece. Where memory runs out later, it is told from here.
+-- It goes on as another with another piece. Where memory runs out later, it counts from here.
 pub record Follows (f : FedPiece Receiving) (wanting : Option ℕ) (g : FedPiece Receiving) (later : Option ℕ) : Type 0 where
   pub router_is : f.machine.router ≡ g.machine.router
   pub rest_is : f.rest ≡ g.rest

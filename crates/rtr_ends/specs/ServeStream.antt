@@ -61,7 +61,7 @@ EndsSo s unread left had has (Err WriteFailed) = GoesOutInPart had has s.given
 EndsSo s unread left had has (Err Memory) = (unread ≡ []) × (s.came ≡ []) × (s.given ≡ [])
 
 -- One connection that was opened at this cache: what was read, in so many calls of at most 4,096 bytes each, was consumed but for what
--- is told; that made the connection's history (`IsServed`), by which what it pulled is its replies; and so it ended.
+-- is reported; that made the connection's history (`IsServed`), by which what it pulled is its replies; and so it ended.
 pub record ServesConnection (m : CacheState) (before left : Option (List ℕ)) (reads : ℕ) (had has : Option (List ℕ)) (result : Result Served StreamFault) : Type 0 where
   pub calls : List ConnCall
   pub turns : AllByRecursion IsTurn calls

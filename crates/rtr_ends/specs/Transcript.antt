@@ -1,4 +1,4 @@
--- What a router was told, asked and read, and what it must hold after that (RFC 8210 sections 5, 6 and 8). All lists stand with
+-- What a router was given, asked and read, and what it must hold after that (RFC 8210 sections 5, 6 and 8). All lists stand with
 -- the last first.
 use Rattle.std.specs.Prelude.{◌≡◌, ◌↔◌, ℕ, ◌+◌, ◌-◌, Bool, true, false, not, ◌&&◌, ◌||◌, ◌==◌, nat_lt, List, [], ◌∷◌, Option, Some, None, is_some, if◌then◌else◌, ⊤}
 use Rattle.std.specs.List.{list_any}
@@ -23,7 +23,7 @@ abbrev pub query : Question → Unit
 query AskReset = ResetQuery
 query (AskSerial session serial) = SerialQuery session serial
 
--- What happens at a router: a moment is told; a connection is made, of a version; a question is put; a PDU is read, or it is and
+-- What happens at a router: a moment is given; a connection is made, of a version; a question is put; a PDU is read, or it is and
 -- memory for it runs out; bytes show a fault; the world refuses an event because memory ran out; the connection is closed; the router is
 -- a new one.
 pub data Item : Type 0 where
@@ -37,7 +37,7 @@ pub data Item : Type 0 where
   Shut : Item
   Restarts : Item
 
--- the greatest moment told
+-- the greatest moment given
 abbrev pub later : ℕ → ℕ → ℕ
 later a b = if nat_lt a b then b else a
 

@@ -47,7 +47,7 @@ pub struct Cache<S> {
 }
 
 impl<S: VersionStore> Cache<S> {
-    /// A cache over this store, which tells its routers these intervals, without a connection. The session number of the store stands
+    /// A cache over this store, which sends its routers these intervals, without a connection. The session number of the store stands
     /// for both versions of the protocol. It takes no memory.
     pub fn new(alloc: Global, store: S, timing: Timing) -> Cache<S>
         ensures { (keep : ℕ) (i : Instance) → S.holds keep i store → i.session0 ≡ i.session → ShowsCache S.holds (without_conns keep timing i) result }

@@ -30,7 +30,7 @@ pub enum Fetched {
 
 /// Connects a router, writes its questions and reports, and reads, in pieces of at most 4,096 bytes, until no question is outstanding or
 /// the link ends, or the input ends, or a device fails, or `limit` reads were made. Each question goes out in one write where the writer
-/// takes it. The router is told in every case that the connection is closed, and keeps what it has committed by its own rules alone. The
+/// takes it. The router learns in every case that the connection is closed, and keeps what it has committed by its own rules alone. The
 /// moment `now` is in seconds of the router's clock.
 pub fn fetch_stream<R: Read, W: Write>(
     router: &mut Router,

@@ -65,7 +65,7 @@ pub fn router_splits()
 {}
 
 /// After any calls a router holds what its transcript keeps, asks again when the transcript says, knows the greatest moment that it was
-/// told, and its link is as the transcript says: of one that has ended only that there is a connection.
+/// given, and its link is as the transcript says: of one that has ended only that there is a connection.
 pub fn router_keeps()
     ensures { RouterKeeps }
 {}
@@ -76,8 +76,8 @@ pub fn router_asks()
     ensures { RouterAsks }
 {}
 
-/// After any calls the next connection of a router is of the version that it was told last, of version 1 where it was told none; and its
-/// latest one is of the version that it had been told by then.
+/// After any calls the next connection of a router is of the version that was set last, of version 1 where none was set; and its
+/// latest one is of the version that was set by then.
 pub fn router_speaks()
     ensures { RouterSpeaks }
 {}

@@ -1,4 +1,4 @@
-//! What a router does where a moment is told, and where a connection is made or closed (RFC 8210 sections 6 and 8).
+//! What a router does where a moment is given, and where a connection is made or closed (RFC 8210 sections 6 and 8).
 ghost use Rattle.std.specs.Prelude.{◌≡◌, [], Option};
 ghost use Rattle.rtr_ends.specs.Router as model;
 ghost use Rattle.rtr_ends.specs.RouterLink as linked;
@@ -14,7 +14,7 @@ impl Machine {
     ghost use Rattle.rtr_ends.specs.declared.machine.State.TheVariants as states;
     ghost use Rattle.rtr_ends.specs.declared.link.End.TheVariants as ends;
 
-    /// A moment is told. What has expired is dropped; a Serial Query that is outstanding then ends the link.
+    /// A moment is given. What has expired is dropped; a Serial Query that is outstanding then ends the link.
     pub fn tell(&mut self, now: u64)
         ensures { Does (model.clocked now) self.old self.new }
     {
@@ -59,7 +59,7 @@ impl Machine {
         }
     }
 
-    /// A connection is made, of the version that was told last.
+    /// A connection is made, of the version that was set last.
     pub fn connect(&mut self, now: u64)
         ensures { Does (λ r. (model.connects_at now r).router) self.old self.new }
     {
@@ -103,7 +103,7 @@ impl Machine {
         self.clock.saturating_add(u64::from(retry))
     }
 
-    /// A moment is told. An idle link asks where it is due.
+    /// A moment is given. An idle link asks where it is due.
     pub fn tick(&mut self, now: u64)
         ensures { Does (λ r. (model.ticks_at now r).router) self.old self.new }
     {

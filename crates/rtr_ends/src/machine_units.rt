@@ -304,7 +304,7 @@ impl Machine {
         }
     }
 
-    /// The end of an answer of version 0, which tells no intervals: those that the standard recommends are kept.
+    /// The end of an answer of version 0, which carries no intervals: those that the standard recommends are kept.
     fn commit_0(&mut self, question: Question, session: u16, serial: u32) -> Result<(), SetFault>
         ensures { self.old.state ≡ states.Answering question session → UnitIsRead result (Unit.EndOfData0 session serial) self.old self.new }
     {

@@ -30,7 +30,7 @@ pub struct Router {
 impl Router {
     ghost use Rattle.rtr_ends.specs.RouterShown.{Calls, IsShown, CallsLead, LeadsOn, ReceivesSo, TakesOn, held_by_router};
 
-    /// Nothing is committed, and there is no connection. Connections are of version 1, until `speak` tells another.
+    /// Nothing is committed, and there is no connection. Connections are of version 1, until `speak` sets another.
     pub fn new(alloc: Global) -> Router
         ensures { IsShown rules.new_router result }
     {
@@ -48,7 +48,7 @@ impl Router {
         self.machine.speaks = version;
     }
 
-    /// A connection is made, of the version that was told last, and a question put on it. An older connection is closed. It takes no
+    /// A connection is made, of the version that was set last, and a question put on it. An older connection is closed. It takes no
     /// memory.
     pub fn connect(&mut self, now: u64)
         ensures calls { Calls (λ r. (called (model.Connects now) r).router) self.old self.new }
@@ -66,7 +66,7 @@ impl Router {
         self.machine.closed(now);
     }
 
-    /// A moment is told; an idle link asks where it is due. It takes no memory.
+    /// A moment is given; an idle link asks where it is due. It takes no memory.
     pub fn tick(&mut self, now: u64)
         ensures calls { Calls (λ r. (called (model.Ticks now) r).router) self.old self.new }
         ensures leads { LeadsOn (model.Ticks now) self.old self.new }
@@ -236,7 +236,7 @@ impl Router {
         }
     }
 
-    /// Tells the reader of agreement, where there is one.
+    /// Lets the reader know of agreement, where there is one.
     fn agree(&mut self)
         ensures { self.new ≡ record self.old { reader = if self.old.machine.agreed then after_agreed self.old.reader else self.old.reader } }
     {

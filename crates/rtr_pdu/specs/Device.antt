@@ -12,7 +12,7 @@ use Rattle.rtr_pdu.specs.Counted.{calls_of, failures_of, HasFailed}
 use Rattle.rtr_pdu.specs.Stream.{as_read, length_of, IsPartial, Splits, end_fault}
 use Rattle.rtr_pdu.specs.Reader.{IsFaulty, IsRead}
 
--- What these bytes are, and that they are the last ones where it is told that the input ends: a PDU and no more, or nothing,
+-- What these bytes are, and that they are the last ones where it is known that the input ends: a PDU and no more, or nothing,
 -- or the beginning of a PDU, or what shows a fault and no more
 abbrev pub ReadAnswers : Version → List ℕ → Option (List ℕ) → Result (Option Unit) ReadFault → Type 0
 ReadAnswers version bytes left (Ok (Some u)) = IsRead version false bytes u
@@ -21,7 +21,7 @@ ReadAnswers version bytes left (Err (read_faults.Fault faults.Truncated)) = IsPa
 ReadAnswers version bytes left (Err (read_faults.Fault fault)) = IsFaulty version false bytes fault
 ReadAnswers version bytes left (Err read_faults.ReadFailed) = IsPartial version (as_read version false bytes)
 
--- Of what a reader at a cache had left, what this answer tells of was read, in at most one call for each byte and one more.
+-- Of what a reader at a cache had left, what this answer speaks of was read, in at most one call for each byte and one more.
 pub record ReadsUnit (version : Version) (before left : Option (List ℕ)) (calls now : ℕ) (answer : Result (Option Unit) ReadFault) : Type 0 where
   pub bytes : List ℕ
   pub consumed : Consumes before left bytes
@@ -43,7 +43,7 @@ SaysOfSplit version bytes left (Err (read_faults.Fault fault)) =
     (shown : Option UnitFault) × Splits version false (bytes ++ left) [] (bytes ++ left) shown × (end_fault (bytes ++ left) shown ≡ Some fault)
 SaysOfSplit version bytes left (Err read_faults.ReadFailed) = ⊤
 
--- An answer tells the first PDU or fault of the split, where the reader's bytes are known.
+-- An answer gives the first PDU or fault of the split, where the reader's bytes are known.
 abbrev pub TellsFirst : Type 0
 TellsFirst = (version : Version) (bytes left : List ℕ) (answer : Result (Option Unit) ReadFault) → ReadAnswers version bytes (Some left) answer → SaysOfSplit version bytes left answer
 

@@ -15,7 +15,7 @@ use Rattle.rtr_pdu.specs.Reading.{number_at, is_odd, v4_in, v6_in}
 use Rattle.rtr_pdu.specs.Stream.{as_read, length_of, is_kind, header_fault, IsPartial, Shows}
 use Rattle.rtr_pdu.specs.Unit.{Reads}
 
--- The End of Data in bytes: in version 0 it tells no intervals.
+-- The End of Data in bytes: in version 0 it carries no intervals.
 abbrev pub end_of_data_in : Version → List ℕ → Unit
 end_of_data_in V0 bytes = EndOfData0 (number_at 2 2 bytes) (number_at 4 8 bytes)
 end_of_data_in V1 bytes = EndOfData (number_at 2 2 bytes) (number_at 4 8 bytes) (number_at 4 12 bytes) (number_at 4 16 bytes) (number_at 4 20 bytes)
@@ -96,7 +96,7 @@ FaultyExactly =
     (version : Version) (any : Bool) (bytes : List ℕ) (fault : UnitFault) →
     (judge version any bytes ≡ Faulty fault) ↔ Shows version (as_read version any bytes) fault
 
--- Bytes of the length that their header tells are judged a PDU exactly where they are it.
+-- Bytes of the length that their header gives are judged a PDU exactly where they are it.
 abbrev pub WholeExactly : Type 0
 WholeExactly =
     (version : Version) (any : Bool) (bytes : List ℕ) (u : Unit) → AreBytes bytes →

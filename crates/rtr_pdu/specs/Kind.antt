@@ -31,7 +31,7 @@ abbrev pub has_kind : Version → Kind → Bool
 has_kind version kinds.RouterKey = not (is_v0 version)
 has_kind version kind = true
 
--- In version 0 an End of Data tells no intervals (RFC 6810 section 5.8).
+-- In version 0 an End of Data carries no intervals (RFC 6810 section 5.8).
 abbrev pub end_of_data_len : Version → ℕ
 end_of_data_len V0 = 12
 end_of_data_len V1 = 24

@@ -66,7 +66,7 @@ row_end_of_data : unit_bytes V1 (EndOfData 0x1234 5 3600 600 7200)
     ∷ 0x00 ∷ 0x00 ∷ 0x0e ∷ 0x10 ∷ 0x00 ∷ 0x00 ∷ 0x02 ∷ 0x58 ∷ 0x00 ∷ 0x00 ∷ 0x1c ∷ 0x20 ∷ []
 row_end_of_data = refl
 
--- in version 0 it tells no intervals, and has 12 bytes
+-- in version 0 it carries no intervals, and has 12 bytes
 row_end_of_data_0 : unit_bytes V0 (EndOfData0 0x777 5) ≡ 0x00 ∷ 0x07 ∷ 0x07 ∷ 0x77 ∷ 0x00 ∷ 0x00 ∷ 0x00 ∷ 0x0c ∷ 0x00 ∷ 0x00 ∷ 0x00 ∷ 0x05 ∷ []
 row_end_of_data_0 = refl
 
@@ -146,14 +146,14 @@ row_order = (refl, refl)
 abbrev router_with : Bool → Bool → List ℕ → Reader
 router_with any later held = record { version = Some V1; held = held; any = any; later = later; fault = None }
 
--- A header that has come whole when agreement is told is still read as before; one that has not is read as after it.
+-- A header that has come whole when agreement is notified is still read as before; one that has not is read as after it.
 row_told_in_header : after_agreed (router_with true true (take 7 serial_notify)) ≡ router_with false false (take 7 serial_notify)
 row_told_in_header = refl
 
 row_told_behind_header : after_agreed (router_with true true (take 8 serial_notify)) ≡ router_with true false (take 8 serial_notify)
 row_told_behind_header = refl
 
--- A version is told by a header that has come whole.
+-- A version is given by a header that has come whole.
 row_told : (header_version None (take 7 (0x00 ∷ reset_query)) ≡ None) × (header_version None (take 8 (0x00 ∷ reset_query)) ≡ Some V0) × (header_version (Some V1) [] ≡ Some V1)
 row_told = (refl, refl, refl)
 

@@ -1,4 +1,4 @@
--- A reader that is told of agreement reads a stream.
+-- A reader that is notified of agreement reads a stream.
 use Rattle.std.specs.Prelude.{◌≡◌, ℕ, Bool, List, ◌++◌, Option, Some, None}
 use Rattle.rtr_pdu.specs.declared.version.Version.{Version}
 use Rattle.rtr_pdu.specs.declared.unit.Unit.{Unit}

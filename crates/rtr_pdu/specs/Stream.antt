@@ -81,7 +81,7 @@ end_fault rest (Some fault) = Some fault
 end_fault [] None = None
 end_fault (b ∷ rest) None = Some faults.Truncated
 
--- A router that has not agreed on a version yet (any) reads a Serial Notify, told by its type and its length, whatever its
+-- A router that has not agreed on a version yet (any) reads a Serial Notify, known by its type and its length, whatever its
 -- version (RFC 8210 section 7). So it reads the bytes with the expected version in such a header.
 abbrev pub is_notify_header : List ℕ → Bool
 is_notify_header bytes = nat_le 8 (length bytes) && (is_kind kinds.SerialNotify bytes && length_of bytes == fixed_len V1 kinds.SerialNotify)

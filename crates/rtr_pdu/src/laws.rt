@@ -24,7 +24,7 @@ pub fn no_beginning()
 {}
 
 /// Bytes are judged the beginning of a PDU, a fault, or a PDU exactly where they are one: a PDU where they are bytes of the
-/// length that their header tells.
+/// length that their header gives.
 pub fn judges_exactly()
     ensures begins { BeginsExactly }
     ensures faulty { FaultyExactly }

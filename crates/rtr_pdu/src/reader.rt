@@ -103,7 +103,7 @@ impl UnitReader {
         }
     }
 
-    /// A reader at the cache: the first header tells the version (RFC 8210 section 7).
+    /// A reader at the cache: the first header gives the version (RFC 8210 section 7).
     pub fn for_cache() -> Self
         ensures { result ≡ fresh None false }
     {
@@ -118,7 +118,7 @@ impl UnitReader {
     }
 
     /// A reader at a router that speaks this version and has not agreed on it: it reads a Serial Notify of any version
-    /// (RFC 8210 section 7), told by its type 0 and its length of 12 bytes.
+    /// (RFC 8210 section 7), known by its type 0 and its length of 12 bytes.
     pub fn for_router(version: Version) -> Self
         ensures { result ≡ fresh (Some version) true }
     {
@@ -196,7 +196,7 @@ impl UnitReader {
     }
 
     /// Takes a Prefix (RFC 8210 sections 5.6 and 5.7) as `next` does, where it stands whole at the front of the piece, and makes no `Unit` of
-    /// it: whether it is announced, and its payload. Else nothing is taken, and `next` tells what there is.
+    /// it: whether it is announced, and its payload. Else nothing is taken, and `next` says what there is.
     pub fn next_prefix(&mut self, piece: &mut &[u8]) -> Option<(bool, Vrp)>
         ensures some { IfSome result (λ found. ReaderTakes (version_with self.old piece.old.now) self.old piece.old.now (Next.Unit (Prefix found.0 found.1)) piece.new.now self.new) }
         ensures none { IfNone result ((self.new ≡ self.old) × (piece.new.now ≡ piece.old.now)) }

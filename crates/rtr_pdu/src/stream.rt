@@ -21,7 +21,7 @@ fn shows_notify(unit: &Unit) -> bool
     }
 }
 
-/// Tells the reader of agreement at the first PDU that is no Serial Notify.
+/// Lets the reader know of agreement at the first PDU that is no Serial Notify.
 fn tell(reader: &mut UnitReader, unit: &Unit)
     ensures { reader.new ≡ told unit.now reader.old }
 {

@@ -95,7 +95,7 @@ abbrev pub notified_below : {T A : Type 0} → List (Option (Box (Slot T) A)) �
 notified_below slots zero m = m
 notified_below slots (suc n) m = notified_one (slot_at slots n) (notified_below slots n m)
 
--- A client is owed a notify exactly where it is not told, and is else as it was.
+-- A client is owed a notify exactly where it is not notified, and is else as it was.
 abbrev pub OwesSo : {T : Type 0} → Option (Slot T) → Bool → Option (Slot T) → Type 0
 OwesSo None told None = ⊤
 OwesSo (Some old) told (Some new) = new ≡ record old { is_owed = not told }
@@ -116,7 +116,7 @@ pub record NotifiesBelow {S T A : Type 0} (holds : ℕ → Instance → S → Ty
   pub owed : (m : CacheState) → ShowsCache holds m first → (c : ℕ) → c < n → OwesSo (slot_at start c) (can_be_sent (slot_at start c) (notified_below start c m)) (slot_at slots c)
   pub left : (c : ℕ) → ¬ (c < n) → slot_at slots c ≡ slot_at start c
 
--- What is published is told each client, or owed to it; without a new version no client is touched.
+-- Each client is notified of what is published, or is owed that; without a new version no client is touched.
 abbrev pub PublishesSo : {S T A : Type 0} → (ℕ → Instance → S → Type 0) → CacheState → VrpSet → List (Option (Box (Slot T) A)) → Result Published AllocError → List (Option (Box (Slot T) A)) → Cache S → Type 0
 PublishesSo holds m set old (Ok (New serial)) new after =
     let now : CacheState = record m { cache = published set m.cache } in

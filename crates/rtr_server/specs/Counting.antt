@@ -1,4 +1,4 @@
--- How many PDUs of each type went one way, as their headers tell it (RFC 6810 section 5, RFC 8210 section 5).
+-- How many PDUs of each type went one way, as their headers say (RFC 6810 section 5, RFC 8210 section 5).
 use Rattle.std.specs.Prelude.{ℕ, ◌+◌, ◌-◌, ◌^◌, min, max, ◌&&◌, nat_le, List, [], ◌∷◌, ◌++◌, take, replicate, slice_index, slice_set, Option, Some, None, if◌then◌else◌, ◌≡◌, suc, ◌==◌, false}
 use Rattle.vrps.specs.declared.serial.Serial.{Serial}
 use Rattle.prefixes.specs.declared.prefix.IpPrefix.{IpPrefix}
@@ -29,7 +29,7 @@ and_pdus count type pdus = record { counts = slice_set pdus.counts type (capped 
 abbrev pub and_pdu : ℕ → Pdus → Pdus
 and_pdu type pdus = and_pdus 1 type pdus
 
--- What was counted of bytes: their PDUs by type; the serial that the last End of Data tells; and of the PDU that stands last and has not come
+-- What was counted of bytes: their PDUs by type; the serial that the last End of Data carries; and of the PDU that stands last and has not come
 -- whole its first twelve bytes and how many came
 pub record Counted : Type 0 where
   pub pdus : Pdus
@@ -40,11 +40,11 @@ pub record Counted : Type 0 where
 abbrev pub none_counted : Counted
 none_counted = record { pdus = record { counts = replicate 11 0 }; serial = None; front = []; came = 0 }
 
--- How many bytes a PDU has whose first bytes are these: as many as its header tells, and a header has eight.
+-- How many bytes a PDU has whose first bytes are these: as many as its header says, and a header has eight.
 abbrev pub told_len : List ℕ → ℕ
 told_len front = max (length_of front) 8
 
--- An End of Data tells the serial of its version right behind its header (RFC 6810 section 5.8, RFC 8210 section 5.8).
+-- An End of Data carries the serial of its version right behind its header (RFC 6810 section 5.8, RFC 8210 section 5.8).
 abbrev pub serial_after : List ℕ → ℕ → Option Serial → Option Serial
 serial_after front len last = if is_kind kinds.EndOfData front && nat_le 12 len then Some (record { 0 = number_at 4 8 front }) else last
 
@@ -93,13 +93,13 @@ abbrev pub units_of : Kind → List Unit → ℕ
 units_of kind [] = 0
 units_of kind (u ∷ units) = if type_number (kind_of u) == type_number kind then suc (units_of kind units) else units_of kind units
 
--- The serial that an End of Data tells; other PDUs tell none.
+-- The serial that an End of Data carries; other PDUs carry none.
 abbrev pub end_serial : Unit → Option Serial → Option Serial
 end_serial (EndOfData session serial refresh retry expire) last = Some (record { 0 = serial })
 end_serial (EndOfData0 session serial) last = Some (record { 0 = serial })
 end_serial u last = last
 
--- the serial that the last End of Data among these PDUs tells, if there is one
+-- the serial that the last End of Data among these PDUs carries, if there is one
 abbrev pub last_serial : Option Serial → List Unit → Option Serial
 last_serial last [] = last
 last_serial last (u ∷ units) = last_serial (end_serial u last) units

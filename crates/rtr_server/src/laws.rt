@@ -20,7 +20,7 @@ pub fn memory_ends_its_client()
 {}
 
 /// What is counted of bytes that are read as PDUs, and of the beginning of one more, are these PDUs: of each type as many as there are, and
-/// the serial that the last End of Data among them tells.
+/// the serial that the last End of Data among them carries.
 pub fn counts_units()
     ensures { CountsUnits }
 {}

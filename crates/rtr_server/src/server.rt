@@ -198,7 +198,7 @@ impl<S: VersionStore, T: Stream + Drop> Server<S, T> {
     }
 
     /// The PDUs that came from a client, by type, where there is such a client: those of which its connection consumed as many bytes as their
-    /// headers tell. One in which a fault shows behind its header is among them.
+    /// headers say. One in which a fault shows behind its header is among them.
     pub fn received(&self, client: Client) -> Option<Pdus>
         ensures { result ≡ option_map (λ slot. slot.traffic.received.pdus) (slot_at self.now.slots.items client.0.0) }
     {

@@ -1,4 +1,4 @@
-//! How many PDUs of each type went one way, as their headers tell it (RFC 6810 section 5, RFC 8210 section 5).
+//! How many PDUs of each type went one way, as their headers say (RFC 6810 section 5, RFC 8210 section 5).
 ghost use Rattle.std.specs.Prelude.{◌≡◌, ◌+◌, ◌≤◌, ◌<◌, ◌-◌, ◌*◌, ◌^◌, ◌++◌, ◌∷◌, [], ◌&&◌, IfSome, length, max, min, take, drop, nat_le, nat_lt, slice_set, if◌then◌else◌, true};
 ghost use Rattle.rtr_pdu.specs.Stream.{type_of};
 ghost use Rattle.rtr_server.specs.Counting.{Counted, and_byte, and_many, and_pdu, and_pdus, and_whole, capped, count_of, counted_on, none_counted, serial_after, told_len};
@@ -9,7 +9,7 @@ use rtr_pdu::Kind;
 use std::marker::Model;
 use vrps::Serial;
 
-/// How many PDUs of each type went one way, told by their headers (RFC 6810 section 5, RFC 8210 section 5). Counts stop at `u64::MAX`.
+/// How many PDUs of each type went one way, read off their headers (RFC 6810 section 5, RFC 8210 section 5). Counts stop at `u64::MAX`.
 #[derive(Clone, Copy, Debug, PartialEq, Eq)]
 pub struct Pdus {
     /// By the numbers from 0 to 10 that may stand for a type in a header. Five stands for none.
@@ -83,7 +83,7 @@ impl Tally {
         self.pdus
     }
 
-    /// The serial that the last End of Data told.
+    /// The serial of the last End of Data.
     pub(crate) fn serial(&self) -> Option<Serial>
         ensures { result ≡ self.now.serial }
     {

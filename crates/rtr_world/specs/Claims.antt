@@ -29,7 +29,7 @@ use Rattle.rtr_world.specs.OneAnswer.{Between, IsOfNow}
 abbrev pub Always : (World → Side → Type 0) → Type 0
 Always Holds = (made : Made) (history : List Entry) (w : World) → Leads made history w → AllByRecursion (Holds w) w.sides
 
--- The tables: what a router holds, when it asks, and the greatest moment it was told are those of its transcript, and its link is as
+-- The tables: what a router holds, when it asks, and the greatest moment it was given are those of its transcript, and its link is as
 -- that says.
 abbrev pub Tables : Type 0
 Tables = Always (λ w s. IsKept s.router s.items)
@@ -203,7 +203,7 @@ pub record Refuses (w : World) : Type 0 where
 abbrev pub RefusesRightly : Type 0
 RefusesRightly = (w : World) → Refuses w
 
--- what a router was told, asked and read since it was last restarted
+-- what a router was given, asked and read since it was last restarted
 abbrev pub since_restart : List Item → List Item
 since_restart [] = []
 since_restart (Restarts ∷ items) = []
@@ -234,7 +234,7 @@ pub record IsConnRun (keep : ℕ) (present : Instance) (home : Option Instance) 
 abbrev pub ConnsRun : Type 0
 ConnsRun = Always (λ w s. IfSome s.conn (IsConnRun w.keep w.present s.home))
 
--- The version that a router is told: by a Speak that goes through; and version 1 again where it restarts.
+-- The version that is set for a router: by a Speak that goes through; and version 1 again where it restarts.
 abbrev pub told_by : ℕ → Event → Outcome → Version → Version
 told_by r (On d (Speak new)) (Done wanting) version = if d == r then new else version
 told_by r (On d RouterRestart) (Done wanting) version = if d == r then V1 else version
@@ -244,11 +244,11 @@ abbrev pub told_since : ℕ → Version → List Entry → Version
 told_since r version [] = version
 told_since r version (entry ∷ history) = told_since r (told_by r entry.event entry.outcome version) history
 
--- The version that a router was told last since it last restarted, 1 where it was told none
+-- The version that was set last for a router since it last restarted, 1 where none was set
 abbrev pub told : ℕ → List Entry → Version
 told r history = told_since r V1 history
 
--- A router speaks what it was told.
+-- A router speaks the version that was set.
 abbrev pub EachSpeaks : Type 0
 EachSpeaks = (made : Made) (history : List Entry) (w : World) → Leads made history w → (r : ℕ) (s : Side) → side_at r w.sides ≡ Some s → s.router.speaks ≡ told r history
 

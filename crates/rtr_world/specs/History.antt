@@ -58,7 +58,7 @@ side_at r [] = None
 side_at zero (s ∷ sides) = Some s
 side_at (suc r) (s ∷ sides) = side_at r sides
 
--- A router has a connection until it is told `closed`, and while one is open at the cache.
+-- A router has a connection until it gets the call `closed`, and while one is open at the cache.
 abbrev pub has_connection : Side → Bool
 has_connection s = not (is_closed s.router.link) || is_some s.conn
 

@@ -24,7 +24,7 @@ pub record Ending : Type 0 where
   pub home : Option Instance
 
 -- A router and its connection: the cache's side of it, none where it is closed there; the bytes on the way to the cache and to the
--- router; and the instance as it was when the connection was made, none when the router was told that it is closed.
+-- router; and the instance as it was when the connection was made, none when the router was notified that it is closed.
 -- What stands behind no event looks at: the cache as it was when it last read a PDU on the connection, none before it did; and, the last
 -- first, the transcript, the ends of links, and the places of the versions that were committed, as they were then.
 pub record Side : Type 0 where
@@ -199,7 +199,7 @@ side_refused w event bytes wanting s =
 
 -- After each event
 
--- the router is told `closed`
+-- the router gets the call `closed`
 abbrev pub tell_closed : List Instance → Side → Side
 tell_closed all s = if is_closed s.router.link then record s { home = None; read_at = None } else record (noted all (closed_at s.router.now s.router) s) { home = None; read_at = None }
 
@@ -212,7 +212,7 @@ abbrev pub settle_conn : Side → Option Conn → Side
 settle_conn s None = s
 settle_conn s (Some o) = close_ended s o.state.ended o.state.due
 
--- A router whose link ended, with nothing left to pull, is told.
+-- A router whose link ended, with nothing left to pull, is notified.
 abbrev pub settle_link : List Instance → Side → Link → List ℕ → Side
 settle_link all s (Ended end) [] = tell_closed all s
 settle_link all s link out = s
@@ -223,7 +223,7 @@ settle_rest s Closed [] = record s { conn = None; down = [] }
 settle_rest s Closed up = record s { down = [] }
 settle_rest s link up = s
 
--- A router whose connection is closed at the cache, and whose wire is empty, is told. Then there is no connection.
+-- A router whose connection is closed at the cache, and whose wire is empty, is notified. Then there is no connection.
 abbrev pub settle_wire : List Instance → Side → Option Conn → List ℕ → Side
 settle_wire all s None [] = record (tell_closed all s) { up = [] }
 settle_wire all s conn down = s

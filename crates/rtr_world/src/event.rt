@@ -48,7 +48,7 @@ pub enum SideEvent {
     NotifyRouter,
     /// The router asks, where its link is idle.
     Ask,
-    /// The router is told a moment, in seconds of its clock.
+    /// The router is given a moment, in seconds of its clock.
     Tick(u64),
 }
 

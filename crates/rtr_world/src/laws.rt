@@ -18,14 +18,14 @@ pub fn steps()
 {}
 
 /// After every list of events each router holds what its transcript keeps, asks again when the transcript says, and knows the
-/// greatest moment that it was told; and its link is as the transcript says.
+/// greatest moment that it was given; and its link is as the transcript says.
 pub fn tables()
     ensures { Tables }
 {}
 
 /// Each router of a world is one to which calls that can be lead, and its transcript since it was last restarted is that of these calls,
 /// refused events aside. So what is promised of routers under any calls is promised of those of a world. A router speaks the version that
-/// it was told last by a Speak that went through, since it last restarted; and version 1 where it was told none.
+/// the last Speak set that went through, since it last restarted; and version 1 where none did.
 pub fn routers_run()
     ensures run { RoutersRun }
     ensures speak { EachSpeaks }

@@ -1,4 +1,4 @@
-//! The clean-up after an event: what has ended is closed, and told.
+//! The clean-up after an event: what has ended is closed, and the router notified.
 ghost use Rattle.std.specs.Prelude.{◌≡◌};
 ghost use Rattle.rtr_ends.specs.LinkRules.{Router};
 ghost use Rattle.rtr_ends.specs.RouterLink.{is_closed};
@@ -42,7 +42,7 @@ impl Side {
         }
     }
 
-    /// The router is told that its connection is closed.
+    /// The router is notified that its connection is closed.
     fn tell_closed(&mut self)
         ensures { Alone (λ w s. model.tell_closed (model.instances w) s) self.old self.new }
     {
@@ -52,7 +52,7 @@ impl Side {
         self.made = None;
     }
 
-    /// A router whose link ended, with nothing left to pull, is told.
+    /// A router whose link ended, with nothing left to pull, is notified.
     fn tell_ended(&mut self)
         ensures { Alone (λ w s. model.settle_link (model.instances w) s s.router.link s.router.out) self.old self.new }
     {
@@ -74,7 +74,7 @@ impl Side {
         }
     }
 
-    /// A router whose connection is closed at the cache is told where nothing is on its way to it. Then there is no connection.
+    /// A router whose connection is closed at the cache is notified where nothing is on its way to it. Then there is no connection.
     fn tell_cut(&mut self)
         ensures { Alone (λ w s. model.settle_wire (model.instances w) s s.conn s.down) self.old self.new }
     {

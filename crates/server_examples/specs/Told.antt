@@ -1,4 +1,4 @@
--- What a line that keeps what its calls answered tells of it.
+-- What a line that keeps what its calls answered says of it.
 use Rattle.std.specs.Prelude.{Bool, true, false, List, reverse, Option, Some, None}
 use Rattle.rtr_server.specs.declared.stream.Moved.{Moved}
 

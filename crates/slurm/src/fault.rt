@@ -54,7 +54,7 @@ impl Display for SlurmObject {
     }
 }
 
-/// Why an entry of an array cannot be read. Where there are several reasons, the first of these is told.
+/// Why an entry of an array cannot be read. Where there are several reasons, the first of these is reported.
 #[derive(Clone, Copy, Debug, PartialEq, Eq, Error)]
 pub enum EntryFault {
     /// It is no object.

@@ -68,7 +68,7 @@ fn exceptions(alloc: Global, arrays: &Arrays<'_>) -> Result<Slurm, SlurmFault>
 /// `bgpsecAssertions` (RFC 8416 section 3.2). What the two arrays on BGPsec have are objects without an effect. Of a key that stands twice
 /// in an object, `serde_json` reads the last.
 ///
-/// The first fault is told: `NotJson`; `Members` of the file, and `Version`; `Members` of the filters' object and then of the
+/// The first fault is reported: `NotJson`; `Members` of the file, and `Version`; `Members` of the filters' object and then of the
 /// assertions'; `NoArray` of the four arrays in this order; `Entry` of the first entry, in this order of the arrays, that cannot be read,
 /// with its array, its index from 0 on, and its own first fault; `TooMany` where over 16,777,215 different records are asserted. `Memory`:
 /// memory ran out.

@@ -47,7 +47,7 @@ fn is_told(validity: &Validity, state: OriginState, lists: &[usize; 3]) -> bool 
         && validity.unmatched_as.len() == lists[2]
 }
 
-/// Whether this is told of a route.
+/// Whether this is said of a route.
 fn is_judged<R: AllocGlobal>(
     rt: &R,
     text: &str,
@@ -70,7 +70,7 @@ fn records_are_told_by_kind(rt: HostRuntime) -> Result<(), Fail> {
     Ok(())
 }
 
-/// Whether what is told of a route is this text.
+/// Whether what is said of a route is this text.
 fn tells<R: AllocGlobal + Abort>(rt: &R, text: &str, asn: u32, want: &str) -> Result<bool, Fail> {
     let index = index(rt.alloc())?;
     let route = route(text, Some(asn))?;
@@ -80,7 +80,7 @@ fn tells<R: AllocGlobal + Abort>(rt: &R, text: &str, asn: u32, want: &str) -> Re
     Ok(out.as_slice() == want.as_bytes())
 }
 
-/// A route with its AS, and what is told of it.
+/// A route with its AS, and what is said of it.
 const TOLD: &[(&str, u32, &str)] = &[
     (
         "192.0.2.0/25",

@@ -1,4 +1,4 @@
--- What is told of a route over a set.
+-- What is said of a route over a set.
 use Rattle.std.specs.Prelude.{◌≡◌}
 use Rattle.prefixes.specs.declared.route.Route.{Route}
 use Rattle.vrps.specs.Origin.{state}

@@ -1,4 +1,4 @@
--- What is told of a route as JSON, in the form of the API of Routinator.
+-- What is said of a route as JSON, in the form of the API of Routinator.
 use Rattle.std.specs.Prelude.{ℕ, Bool, not, ◌==◌, if◌then◌else◌, List, [], ◌∷◌, ◌++◌, length, Option, None, Some, codes}
 use Rattle.std.specs.Fmt.{decimal}
 use Rattle.std.specs.Io.KnownBytes.{Appends}

@@ -1,4 +1,4 @@
-//! What a cache tells of itself to those who operate it.
+//! What a cache reports of itself to those who operate it.
 //!
 //! For example, where `rt` is the runtime that `main` is handed:
 //!

@@ -129,7 +129,7 @@ fn write_reloads<W: Write>(out: &mut W, status: &Status) -> io::Result<()> {
     writeln!(out, "rpkirtrd_reload_seconds {seconds}.{rest:03}")
 }
 
-/// Which number of a file is told.
+/// Which number of a file is given.
 #[derive(Clone, Copy, PartialEq, Eq)]
 enum Told {
     Age,

@@ -2,12 +2,12 @@
 
 use std::net::SocketAddr;
 
-/// What a cache tells of itself at a moment. Moments are in seconds since 1970.
+/// What a cache reports of itself at a moment. Moments are in seconds since 1970.
 #[derive(Debug, Drop)]
 pub struct Status {
-    /// The program's version, as `--version` tells it.
+    /// The program's version, as `--version` prints it.
     pub version: &'static str,
-    /// The moment of which all else is told.
+    /// The moment of which all else is said.
     pub now: u64,
     /// When the program started.
     pub started: u64,
@@ -21,7 +21,7 @@ pub struct Status {
     pub ipv4: u64,
     /// The IPv6 records that are served.
     pub ipv6: u64,
-    /// The last versions, the oldest first. Those before the last 64 are not told.
+    /// The last versions, the oldest first. Those before the last 64 are not listed.
     pub changes: Vec<ChangeStatus>,
     /// What is followed: files and publication points.
     pub files: Vec<FileStatus>,

@@ -1,4 +1,4 @@
-//! What is told of a route, as JSON.
+//! What is said of a route, as JSON.
 ghost use Rattle.std.specs.Prelude.{◌≡◌, OnOk};
 ghost use Rattle.std.specs.Io.KnownBytes.{Appends};
 ghost use Rattle.std.specs.List.{flat_map};
@@ -209,7 +209,7 @@ fn write_beginning<W: Write>(out: &mut W, route: &Route) -> io::Result<()>
     out.write_all(b",\"validity\":")
 }
 
-/// Writes the middle: what is told of the route.
+/// Writes the middle: what is said of the route.
 #[tactic(auto, unfolding(crate::specs::ValidityText::middle))]
 fn write_middle<W: Write>(out: &mut W, validity: &Validity) -> io::Result<()>
     ensures { OnOk result (Appends (W.contents out.old) (W.contents out.new) (middle validity.now)) }
@@ -248,8 +248,8 @@ fn write_validity_at<W: Write>(
     write_ending(out, time)
 }
 
-/// Writes what is told of a route, in the form of the call `/api/v1/validity` of Routinator, compact and without a newline. `now` is when it
-/// is told, in seconds since 1970.
+/// Writes what is said of a route, in the form of the call `/api/v1/validity` of Routinator, compact and without a newline. `now` is when it
+/// is said, in seconds since 1970.
 pub fn write_validity<W: Write>(
     out: &mut W,
     route: &Route,

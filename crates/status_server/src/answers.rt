@@ -49,7 +49,7 @@ fn refuse(response: &mut Response, status: StatusCode, text: &[u8]) -> Result<()
     response.body.put_slice(text)
 }
 
-/// What answers requests: what a cache tells.
+/// What answers requests, by what a cache reports of itself.
 #[derive(Drop)]
 pub(crate) struct Answers<'a, S> {
     pub(crate) alloc: Global,
@@ -89,7 +89,7 @@ impl<S: Told> Answers<'_, S> {
         response.body.push(list)
     }
 
-    /// What is told of a route.
+    /// What is said of a route.
     fn validity(&mut self, route: &Route, response: &mut Response) -> Result<(), AllocError> {
         let validity = self.told.validity(route)?;
         let now = self.told.now();
@@ -101,7 +101,7 @@ impl<S: Told> Answers<'_, S> {
         response.body.put_slice(&text)
     }
 
-    /// What is told of the route for which a query asks.
+    /// What is said of the route for which a query asks.
     fn query(&mut self, query: &str, response: &mut Response) -> Result<(), AllocError> {
         match read_query(self.alloc, query) {
             Ok(route) => self.validity(&route, response),

@@ -1,4 +1,4 @@
-//! What a cache tells of itself, to visitors that ask for it by HTTP/1.1 over streams that do not wait.
+//! What a cache reports of itself, to visitors that ask for it by HTTP/1.1 over streams that do not wait.
 //!
 //! For example, where `rt` is the runtime that `main` is handed:
 //!

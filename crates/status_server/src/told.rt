@@ -5,7 +5,7 @@ use prefixes::Route;
 use status_pages::{Status, Validity};
 use std::alloc::AllocError;
 
-/// What a cache tells when it is asked. An error is for memory alone.
+/// What a cache answers when it is asked. An error is for memory alone.
 pub trait Told {
     /// The present moment, in seconds since 1970.
     fn now(&mut self) -> u64;

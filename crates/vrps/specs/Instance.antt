@@ -44,7 +44,7 @@ abbrev pub with_serial : ℕ → List NumberedSet → Option NumberedSet
 with_serial serial vs = find (λ v. v.serial == serial) vs
 
 -- What was published under a session and a serial: the newest such set of the instance that has that session in a version of the
--- protocol, as `session_of` tells it. The newest instance stands first.
+-- protocol, as `session_of` says. The newest instance stands first.
 abbrev pub named : (Instance → ℕ) → List Instance → ℕ → ℕ → Option VrpSet
 named session_of instances session serial =
     option_and_then (λ i. option_map (λ v. v.set) (with_serial serial (versions i))) (find (λ i. session_of i == session) instances)

@@ -1,4 +1,4 @@
--- The origin of a route, told by its path (RFC 6811 section 2).
+-- The origin of a route, read off its path (RFC 6811 section 2).
 use Rattle.std.specs.Prelude.{ℕ, ◌-◌, List, length, Option, Some, None, Result, Ok, Err}
 use Rattle.std.specs.List.{slice_get}
 use Rattle.vrps.specs.declared.path.PathFault.{PathFault}

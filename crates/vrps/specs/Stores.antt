@@ -23,7 +23,7 @@ abbrev pub newest : List NumberedSet → Option NumberedSet
 newest [] = None
 newest (now ∷ older) = Some now
 
--- what is told, as it is defined
+-- what is answered, as it is defined
 abbrev pub told_since : Since → store.Since
 told_since (Change change) = store.Known change
 told_since Unknown = store.Unknown

@@ -15,7 +15,7 @@ pub(crate) struct Rest {
     pub(crate) lengths: u8,
 }
 
-/// The longest group, of those that are left, that covers the prefix. A group that doesn't cover it tells by the bits that both
+/// The longest group, of those that are left, that covers the prefix. A group that doesn't cover it shows by the bits that both
 /// share which lengths need no try.
 pub(crate) fn next_covering<'a>(
     groups: &'a Groups,

@@ -38,7 +38,7 @@ impl<'a> Lines<'a> {
     }
 }
 
-/// Plays a script, and tells what it shows and what is refused, with the status: 0 where it reached its end, 1 where a line could not be
+/// Plays a script, and prints what it shows and what is refused, with the status: 0 where it reached its end, 1 where a line could not be
 /// read, at which it ends.
 pub fn play<O: Write>(alloc: Global, script: &[u8], out: &mut O) -> Result<u8, ProgramFault>
     ensures { IfOk result (λ s. s ≤ 1) }
@@ -74,7 +74,7 @@ fn first_line(lines: &mut Lines<'_>) -> Option<Beginning>
     read_beginning(line)
 }
 
-/// Tells that a line cannot be read, with the status.
+/// Reports that a line cannot be read, with the status.
 fn unreadable<O: Write>(number: u64, out: &mut O) -> Result<u8, ProgramFault>
     ensures { IfOk result (λ s. s ≤ 1) }
 {
@@ -107,7 +107,7 @@ fn play_line<O: Write>(
     Ok(true)
 }
 
-/// Catches a router up, and tells what became of it.
+/// Catches a router up, and prints what became of it.
 fn catch_up<O: Write>(world: &mut World, router: u16, out: &mut O) -> Result<(), ProgramFault> {
     let end = match world.catch_up(router) {
         Ok(()) => "caught-up",
