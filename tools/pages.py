@@ -4,7 +4,7 @@
 usage: tools/pages.py [--check]
 
 Without a word the pages are written. With --check they are compared with what would be written: the status is 1 where one differs, and its
-name is told."""
+name is printed."""
 import collections
 import glob
 import os
@@ -19,7 +19,7 @@ PROMISES = [
     ("Payloads: decoders accept exactly the grammar and else tell the first fault", ["payloads::decode_roa", "payloads::decode_manifest", "payloads::laws::one_fault", "payloads::laws::one_spelling"]),
     ("Publication points: offers and what is in use", ["points::Repository::offer", "points::Repository::payloads", "points::laws::new_where_acceptable"]),
     ("Route states", ["vrps::OriginIndex::state", "vrps::laws::state_by_members"]),
-    ("Units in any cutting", ["rtr_pdu::UnitReader::next", "rtr_pdu::encode", "rtr_pdu::laws::one_split"]),
+    ("PDUs in any cutting", ["rtr_pdu::UnitReader::next", "rtr_pdu::encode", "rtr_pdu::laws::one_split"]),
     ("A cache's replies", ["rtr_ends::Cache::receive", "rtr_ends::Cache::pull", "rtr_ends::laws::serves_history"]),
     ("What a router commits", ["rtr_ends::Router::receive", "rtr_ends::laws::router_keeps", "rtr_ends::laws::acts_exactly"]),
     ("From what is offered to the state of a route", ["feed::route_from_payloads"]),
@@ -228,7 +228,7 @@ def link(path):
 def definitions_page(house):
     out = ["# Definitions", "", "Made from the sources by `tools/pages.py`. These are the words in which the contracts of this repository speak, in reading order: a crate after those below it, a file after those on which it rests. A reader has to believe them and nothing else. What stands in one entry shares one comment in its file; a word without a comment says itself what it is."]
     total = [it for file in house.sources for it in file.definitions]
-    out += ["", f"{len(total)} definitions of {lines_of(total)} lines. `docs/BELIEVE.md` tells on which of them each contract rests, `docs/STANDARDS.md` where a section of a standard stands."]
+    out += ["", f"{len(total)} definitions of {lines_of(total)} lines. `docs/BELIEVE.md` says on which of them each contract rests, `docs/STANDARDS.md` where a section of a standard stands."]
     crate = ""
     for file in house.sources:
         if file.crate != crate:
@@ -261,15 +261,19 @@ def rows():
 
 def believe_page(house):
     named = {call.name: call for call in house.calls}
-    out = ["# What has to be believed", "", "Made from the sources by `tools/pages.py`. A contract is proved; that it says what was meant, a reader has to see. For each promise, and then for each public call with a contract and each law: the definitions on which its clauses rest, whole, and how many lines they have without their comments. What the kit's own library says (lists, numbers, options) is not counted.", ""]
+    out = ["# What has to be believed", "", "Made from the sources by `tools/pages.py`. A contract is proved; that it says what was meant, a reader has to see. For each promise, and then for each public call with a contract and each law: the definitions on which its clauses rest, and how many lines they have without their comments; under each promise those are listed that it adds to the ones before. What the kit's own library says (lists, numbers, options) is not counted.", ""]
+    seen = set()
     for promise, calls in PROMISES:
         missing = [it for it in calls if it not in named]
         if missing:
             sys.exit(f"pages: no such call: {', '.join(missing)}")
         rest = house.closure(set().union(*(named[it].roots for it in calls)))
-        out += [f"## {promise}", "", f"By {', '.join(f'`{it}`' for it in calls)}: {len(rest)} definitions, {lines_of(rest)} lines.", ""]
+        fresh = [it for it in rest if it not in seen]
+        beside = f"; {len(fresh)} of them, {lines_of(fresh)} lines, are not among those above" if seen else ""
+        out += [f"## {promise}", "", f"By {', '.join(f'`{it}`' for it in calls)}: {len(rest)} definitions, {lines_of(rest)} lines{beside}.", ""]
+        seen.update(fresh)
         by_file = collections.OrderedDict()
-        for it in rest:
+        for it in fresh:
             by_file.setdefault(it.file.path, []).append(it.name)
         out += [f"- {link(path)}: {', '.join(f'`{name}`' for name in names)}" for path, names in by_file.items()] + [""]
     out += ["## Every call", ""]
