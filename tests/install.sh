@@ -26,9 +26,9 @@ holds() { # holds FOLDER WANTED
     fail "$1 holds other files"
 }
 
-# Both programs below a folder start, and tell what they are.
+# Both programs below a folder start, and print what they are.
 run_both() { # run_both FOLDER
-    [ "$("$1/rpkirtrd" --version)" = "rpkirtrd $version" ] || fail "$1/rpkirtrd --version tells something else"
+    [ "$("$1/rpkirtrd" --version)" = "rpkirtrd $version" ] || fail "$1/rpkirtrd --version prints something else"
     "$1/rpkirtr" 2>errors
     [ $? -eq 2 ] && [ "$(cat errors)" = 'rpkirtr: bad words' ] || fail "$1/rpkirtr does not refuse to do nothing"
 }
@@ -46,8 +46,18 @@ install_it() { # install_it STATUS WORD..
 # What is installed below a prefix, but for the list of it.
 wanted_files() { # wanted_files PREFIX OPTIONS
     printf '%s\n' "$2" "$1/bin/rpkirtr" "$1/bin/rpkirtrd" "$1/lib/systemd/system/rpkirtrd.service"
-    printf "$1/share/doc/rpkirtr/%s\n" CHANGELOG.md README.md SECURITY.md docs/COMMANDS.md docs/FORMATS.md docs/OPERATING.md docs/PROMISES.md
-    (cd "$top" && find samples docs/figures/status* -type f 2>/dev/null) | sed "s|^|$1/share/doc/rpkirtr/|"
+    (cd "$top" && ls README.md CHANGELOG.md SECURITY.md docs/*.md && find samples docs/figures -type f) | sed "s|^|$1/share/doc/rpkirtr/|"
+}
+
+# Each link of a page below a folder that is no address leads to a file.
+links_lead() { # links_lead FOLDER
+    local page target dead=no
+    while IFS= read -r page; do
+        while IFS= read -r target; do
+            [ -e "${page%/*}/${target%%#*}" ] || { echo "${page#"$1"/}: $target" >&2 && dead=yes; }
+        done < <(grep -o '](\([^)]*\))' "$page" | sed 's/^](//; s/)$//' | grep -v '^#\|^[a-z]*:' | sort -u)
+    done < <(find "$1" -name '*.md')
+    [ $dead = no ] || fail 'an installed page links to what is not there'
 }
 
 # Below /usr/local, where a folder was there, and stays with what it holds.
@@ -58,6 +68,7 @@ over_others() {
     install_it 0 --destdir tree
     echo usr/local/bin/other >>wanted
     holds tree wanted
+    links_lead tree/usr/local/share/doc/rpkirtr
     run_both tree/usr/local/bin
     cmp -s "$top/tools/rpkirtrd.service" tree/usr/local/lib/systemd/system/rpkirtrd.service || fail 'the unit below /usr/local is another'
     # Again, over what is there, with options that were changed: they stay.
@@ -95,7 +106,7 @@ refusals() {
     mkdir -p bare/tools && cp "$top/tools/install.sh" bare/tools || exit 1
     bash bare/tools/install.sh --destdir other 2>errors
     [ $? -eq 1 ] && grep -q 'rpkirtr is not built: ./run builds it' errors && grep -q 'rpkirtrd is not built: ./rpkirtrd --version builds it' errors ||
-        fail 'what is not built is not told'
+        fail 'what is not built is not reported'
     [ ! -e other ] || fail 'a refusal made something'
 }
 
@@ -109,11 +120,12 @@ as_package() {
         "Package: rpkirtr Version: $version Maintainer: rpkirtr developers <rpkirtr@example.net> " ] || fail 'the package is described otherwise'
     { wanted_files usr etc/default/rpkirtrd
         printf 'usr/share/%s\n' man/man1/rpkirtr.1.gz man/man8/rpkirtrd.8.gz doc/rpkirtr/copyright doc/rpkirtr/changelog.gz; } >wanted
-    dpkg-deb --contents "$package" >contents || fail 'the package tells no contents'
+    dpkg-deb --contents "$package" >contents || fail 'the contents of the package cannot be listed'
     grep -q -v ' root/root ' contents && fail 'the package has files of another user'
     [[ $(head -n 1 contents) == 'drwxr-xr-x root/root '*' ./' ]] || fail 'the package closes the root to others'
     dpkg-deb -x "$package" tree.deb || fail 'the package cannot be unpacked'
     holds tree.deb wanted
+    links_lead tree.deb/usr/share/doc/rpkirtr
     run_both tree.deb/usr/bin
     if [ "$(id -u)" -eq 0 ]; then
         install_package "$package"

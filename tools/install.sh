@@ -30,7 +30,7 @@ while [ $# -gt 0 ]; do
 done
 # (the unit names the prefix, and systemd reads blanks and other signs there in its own way)
 if ! [[ $prefix =~ ^(/[A-Za-z0-9._+-]+)+$ ]]; then
-    echo "install: --prefix $prefix: the path of a folder is wanted, from / on, of letters, digits and . _ + - alone" >&2
+    echo "install: --prefix $prefix: must be the path of a folder, from / on, of letters, digits and . _ + - alone" >&2
     exit 2
 fi
 case $destdir in
@@ -73,13 +73,27 @@ put() { # put MODE SOURCE TARGET
     made+=("file $3")
 }
 
-# The same for a text that names the place of the programs and of the options.
-put_unit() { # put_unit SOURCE TARGET
-    local text
+# The same for a text that is changed by `sed`.
+put_text() { # put_text SOURCE TARGET COMMAND..
+    local text source=$1 target=$2 command commands=()
+    shift 2
+    for command in "$@"; do
+        commands+=(-e "$command")
+    done
     text=$(mktemp) || fail 'no temporary file could be made'
-    sed -e "s|/usr/local/bin/|$prefix/bin/|" -e "s|/etc/default/rpkirtrd|$options_file|" "$1" >"$text"
-    put 644 "$text" "$2"
+    sed "${commands[@]}" "$source" >"$text" || fail "$source could not be read"
+    put 644 "$text" "$target"
     rm -f "$text"
+}
+
+# The unit names the place of the programs and of the options.
+put_unit() { # put_unit SOURCE TARGET
+    put_text "$1" "$2" "s|/usr/local/bin/|$prefix/bin/|" "s|/etc/default/rpkirtrd|$options_file|"
+}
+
+# A page is read where there are no sources: what leads to them is a name there, and no link.
+put_page() { # put_page SOURCE TARGET
+    put_text "$1" "$2" 's|\[\([^]]*\)\]([./]*crates/[^)]*)|\1|g'
 }
 
 # The options are the user's: where the file is there already, it stays.
@@ -100,12 +114,13 @@ put_all() {
     put 644 "$top/docs/man/rpkirtrd.8" "$prefix/share/man/man8/rpkirtrd.8"
     put_unit "$top/tools/rpkirtrd.service" "$unit"
     put_options
-    for name in LICENSE README.md CHANGELOG.md SECURITY.md docs/OPERATING.md docs/COMMANDS.md docs/FORMATS.md docs/PROMISES.md; do
-        put 644 "$top/$name" "$pages/$name"
-    done
+    put 644 "$top/LICENSE" "$pages/LICENSE"
+    while IFS= read -r name; do
+        put_page "$top/$name" "$pages/$name"
+    done < <(cd "$top" && ls README.md CHANGELOG.md SECURITY.md docs/*.md samples/README.md)
     while IFS= read -r name; do
         put 644 "$top/$name" "$pages/$name"
-    done < <(cd "$top" && find samples docs/figures -type f \( -path 'samples/*' -o -name 'status*' \) | sort)
+    done < <(cd "$top" && find samples docs/figures -type f ! -name README.md | sort)
 }
 
 is_built() { # is_built NAME COMMAND

@@ -25,9 +25,9 @@ chmod 755 "$tree" || fail "$tree could not be made a folder for all"
 
 bash "$top/tools/install.sh" --prefix /usr --destdir "$tree" >/dev/null || exit
 rm "$tree/usr/share/doc/rpkirtr/installed" || fail 'the list of the files could not be removed'
-told=$("$tree/usr/bin/rpkirtrd" --version)
-version=${told#rpkirtrd }
-[[ $version =~ ^[0-9][0-9.]*$ ]] || fail "rpkirtrd --version tells no version: $told"
+printed=$("$tree/usr/bin/rpkirtrd" --version)
+version=${printed#rpkirtrd }
+[[ $version =~ ^[0-9][0-9.]*$ ]] || fail "rpkirtrd --version prints no version: $printed"
 # (the same programs at the same commit make the same package)
 export SOURCE_DATE_EPOCH=${SOURCE_DATE_EPOCH:-$(git -C "$top" log -1 --format=%ct 2>/dev/null || date +%s)}
 
@@ -43,7 +43,7 @@ for_debian() {
 cd "$tree" || fail "$tree is not there"
 size=$(du -k -s --apparent-size etc usr | awk '{ sum += $1 } END { print sum }')
 for_debian || fail 'the tree could not be made'
-architecture=$(dpkg --print-architecture) || fail 'dpkg tells no architecture'
+architecture=$(dpkg --print-architecture) || fail 'dpkg --print-architecture prints none'
 # (the newest version of the C library that a program names)
 glibc=$(grep -aoh 'GLIBC_2\.[0-9]*' usr/bin/rpkirtr usr/bin/rpkirtrd | sed 's/^GLIBC_//' | sort -uV | tail -n 1)
 
