@@ -1,6 +1,6 @@
 #!/usr/bin/env bash
-# Real peers from Debian's packages over loopback: tests/peers.py has them. What is not installed is passed over, and told; with --install
-# it is installed by apt-get first. This is no part of ./test.
+# Real peers from Debian's packages over loopback: tests/peers.py has them. What is not installed is passed over, and named; with --install
+# all of them are installed by apt-get first. ./test runs this with the routers that are there.
 set -u
 top=$(cd "$(dirname "${BASH_SOURCE[0]}")/.." && pwd) || exit 1
 if [ "${1:-}" = --install ]; then
@@ -9,6 +9,10 @@ if [ "${1:-}" = --install ]; then
 elif [ $# -gt 0 ]; then
     echo 'usage: tests/peers.sh [--install]' >&2
     exit 2
+fi
+if ! command -v bird rtrclient rtrdump gobgpd bgpd stayrtr fort rpki-client >/dev/null; then
+    echo 'no peer is installed (tests/peers.sh --install)'
+    exit 77
 fi
 "$top/run" roa /dev/null >/dev/null 2>&1
 [ $? -eq 1 ] || exit 1
