@@ -43,7 +43,8 @@ else
     debootstrap --variant=minbase --include=systemd,systemd-sysv,dbus,bird2,man-db bookworm "$folder/root" >"$folder/out/debootstrap.log" || exit 1
 fi
 cd "$folder" || exit 1
-{ echo 'set -eu'; block '### Installing' sh 1 | sed 's/^sudo //; s|^\./run$|./run 2>/dev/null \|\| [ $? -eq 2 ]|'; } >out/install.sh
+# (a person takes a moment before each command)
+{ echo 'set -eu'; block '### Installing' sh 1 | sed 's/^sudo //; s|^\./run$|./run 2>/dev/null \|\| [ $? -eq 2 ]|; s/^birdc/sleep 2\n&/'; } >out/install.sh
 { echo 'set -eu'; block '### Installing' sh 2 | sed 's/^sudo //'; } >out/remove.sh
 { echo 'router id 192.0.2.2;'; block '### BIRD 2' '' 1 | sed 's/192\.0\.2\.1/127.0.0.1/'; } >root/etc/bird/bird.conf
 [ "$(grep -c tools/install.sh out/install.sh)" -eq 1 ] && [ "$(grep -c -- --remove out/remove.sh)" -eq 1 ] && grep -q protocol root/etc/bird/bird.conf || exit 1

@@ -36,9 +36,11 @@ serves_bird() {
 # The unit is enabled and runs, under a user that systemd made, and BIRD has the records.
 runs() { # runs HOW
     systemctl is-enabled --quiet rpkirtrd || fail "$1: the unit is not enabled"
-    until_so "$1: BIRD has no records" serves_bird
     systemctl is-active --quiet rpkirtrd || fail "$1: the unit is not active"
-    [ "$(ps -o user= -p "$(systemctl show --property MainPID --value rpkirtrd)")" = rpkirtrd ] || fail "$1: the daemon runs under another user"
+    until_so "$1: BIRD has no records" serves_bird
+    user=$(stat -c %u "/proc/$(systemctl show --property MainPID --value rpkirtrd)")
+    # (the numbers from which systemd takes its own users)
+    [ "$user" -ge 61184 ] && [ "$user" -le 65519 ] || fail "$1: the daemon runs as user $user"
     journalctl --no-pager --unit rpkirtrd | grep -q ' ready' || fail "$1: the journal does not say ready"
     man rpkirtrd | grep -A 3 -e '^ *--check SECONDS' | grep -q 'looked at' || fail "$1: the manual page does not say what --check does"
     systemctl restart rpkirtrd && sleep 1 || fail "$1: no restart"
@@ -64,6 +66,8 @@ is_clean tools/install.sh
 dpkg -i /out/rpkirtr_*.deb || fail 'the package cannot be installed'
 systemctl is-enabled --quiet rpkirtrd && fail 'the package enables the unit'
 systemctl enable --now rpkirtrd || fail 'the unit of the package cannot be enabled'
+sleep 2
+birdc restart cache
 runs tools/package.sh
 dpkg -P rpkirtr || fail 'the package cannot be removed'
 is_clean tools/package.sh
