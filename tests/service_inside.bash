@@ -19,9 +19,9 @@ all_files() {
 
 # Waits until a command succeeds.
 until_so() { # until_so WHAT COMMAND..
-    local what=$1 try
+    local what=$1
     shift
-    for try in $(seq 300); do
+    for _ in $(seq 300); do
         "$@" >/dev/null 2>&1 && return
         sleep 0.1
     done
