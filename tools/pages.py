@@ -42,8 +42,8 @@ def named():
 
 
 def examples():
-    """The crates of examples, and that of the values which these share."""
-    return [it for it in named() if it.endswith("_examples") or it == "example_values"]
+    """The crates of examples, the programs that are some too, and the crate of the values which these share."""
+    return [it for it in named() if it.endswith(("_examples", "_over_frames")) or it == "example_values"]
 
 
 def crates():
