@@ -43,7 +43,7 @@ def named():
 
 def examples():
     """The crates of examples, the programs that are some too, and the crate of the values which these share."""
-    return [it for it in named() if it.endswith(("_examples", "_over_frames")) or it == "example_values"]
+    return [it for it in named() if it.endswith(("_examples", "_over_frames")) or it in ("example_values", "frames")]
 
 
 def crates():

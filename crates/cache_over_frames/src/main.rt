@@ -5,8 +5,6 @@
 //! Each loop is proved to end, so those that go on as long as frames come are counted.
 #![tactic(auto)]
 
-mod frames;
-
 use anyhow::{Result, bail};
 use frames::{FrameReader, write_frame};
 use prefixes::{Asn, Vrp};

@@ -1,5 +1,7 @@
 //! Frames: two bytes, big-endian, that say how many bytes follow, and then these. So the bytes of a connection go over what carries
 //! messages, as a queue or a serial line. A frame may begin and end anywhere in these bytes, also inside a PDU.
+#![tactic(auto)]
+
 ghost use Rattle.std.specs.Prelude.{◌<◌, ◌++◌, length, IfOk, IfSome, OnOk};
 ghost use Rattle.std.specs.Int.{to_be_bytes, w16};
 ghost use Rattle.std.specs.Io.KnownBytes.{Appends};
@@ -10,24 +12,31 @@ use thiserror::Error;
 
 /// Why frames are not read on. A frame's place is the number of bytes before it.
 #[derive(Debug, Drop, Error)]
-pub(crate) enum FrameFault {
+pub enum FrameFault {
+    /// Its length is 0.
     #[error("the frame at byte {place} is empty")]
     Empty {
+        /// The place of the frame.
         place: u64,
     },
+    /// The input ends within it.
     #[error("the frame at byte {place} is cut short: {came} of {wanted} bytes came")]
     CutShort {
+        /// The place of the frame.
         place: u64,
+        /// How many bytes of the length, or of what follows it, came.
         came: usize,
+        /// How many there should be.
         wanted: usize,
     },
+    /// The input failed.
     #[error("no frame can be read: {0}")]
     Unreadable(#[from] io::Error),
 }
 
 /// The frames of an input, one after the other.
-#[derive(Drop)]
-pub(crate) struct FrameReader<R> {
+#[derive(Debug, Drop)]
+pub struct FrameReader<R> {
     alloc: Global,
     input: R,
     /// The place of the next frame.
@@ -35,7 +44,8 @@ pub(crate) struct FrameReader<R> {
 }
 
 impl<R: Read> FrameReader<R> {
-    pub(crate) fn new(alloc: Global, input: R) -> FrameReader<R> {
+    /// The frames of this input, which begins with one.
+    pub fn new(alloc: Global, input: R) -> FrameReader<R> {
         FrameReader {
             alloc,
             input,
@@ -44,7 +54,7 @@ impl<R: Read> FrameReader<R> {
     }
 
     /// The bytes of the next frame. There is none where the input ends behind a whole frame.
-    pub(crate) fn read_frame(&mut self) -> Result<Option<Vec<u8>>, FrameFault>
+    pub fn read_frame(&mut self) -> Result<Option<Vec<u8>>, FrameFault>
         ensures { IfOk result (λ found. IfSome found (λ bytes. 0 < length bytes.items)) }
     {
         let place = self.place;
@@ -87,7 +97,7 @@ impl<R: Read> FrameReader<R> {
 }
 
 /// Writes these bytes as one frame, and sends it off.
-pub(crate) fn write_frame<W: Write>(output: &mut W, bytes: &[u8]) -> io::Result<()>
+pub fn write_frame<W: Write>(output: &mut W, bytes: &[u8]) -> io::Result<()>
     requires some { 0 < length bytes.now }
     requires fits { length bytes.now < 65536 }
     ensures { OnOk result (Appends (W.contents output.old) (W.contents output.new) (to_be_bytes w16 (length bytes.now) ++ bytes.now)) }
