@@ -188,10 +188,15 @@ fn each_unit_in_every_cutting<S: Log + Drop, R: AllocGlobal + Abort>(rt: &R) -> 
 const CHANGE: &str =
     "01 03 1234 00000008 | 01 04 0000 00000014 00 18 18 00 c0000200 0000fbf0 | 01 04 0000 00000014 00 18 18 00 c6336400 0000fbf1 | 01 04 0000 00000014 01 18 18 00 cb007100 0000fbf2 | 01 06 0000 00000020 01 20 30 00 20010db8000000000000000000000000 0000fbf3 | 01 07 1234 00000018 00000006 00000e10 00000258 00001c20";
 
+const CHANGE_BACK: &str =
+    "01 03 1234 00000008 | 01 04 0000 00000014 00 18 18 00 cb007100 0000fbf2 | 01 06 0000 00000020 00 20 30 00 20010db8000000000000000000000000 0000fbf3 | 01 04 0000 00000014 01 18 18 00 c0000200 0000fbf0 | 01 04 0000 00000014 01 18 18 00 c6336400 0000fbf1 | 01 07 1234 00000018 00000006 00000e10 00000258 00001c20";
+
 /// Versions, a query, and what is answered. What is withdrawn comes first, and each part ascends; where nothing is published, each query
 /// is answered so.
 const CHANGES: &[(&[Rows], &str, &str)] = &[
     (&[&[W, V], &[Y, X]], SERIAL_QUERY, CHANGE),
+    (&[&[Y, X], &[W, V]], SERIAL_QUERY, CHANGE_BACK),
+    (&[&[]], RESET_QUERY, UNCHANGED),
     (
         &[],
         RESET_QUERY,

@@ -124,6 +124,30 @@ pub(crate) const SCRIPTS: &[Script] = &[
             ),
             Step::At(0, Event::IsOpen(true)),
             Step::At(0, Event::Notifies(false)),
+            Step::At(0, Event::Takes(RESET_QUERY, 8)),
+            Step::At(
+                0,
+                Event::Sends(&["01 0a 0002 00000018 00000008 0102000000000008 00000000"]),
+            ),
+        ],
+    },
+    Script {
+        name: "another session where nothing is published",
+        start: Start {
+            session: 0x2222,
+            is_both: false,
+            serial: 5,
+            versions: &[],
+        },
+        steps: &[
+            Step::Opens(0),
+            Step::At(0, Event::Takes(SERIAL_QUERY, 12)),
+            Step::At(
+                0,
+                Event::Sends(&["01 0a 0000 0000001c 0000000c 010112340000000c00000005 00000000"]),
+            ),
+            Step::At(0, Event::IsOpen(false)),
+            Step::At(0, Event::Takes(RESET_QUERY, 0)),
         ],
     },
     Script {
@@ -281,6 +305,7 @@ pub(crate) const SCRIPTS: &[Script] = &[
             Step::At(0, Event::Sends(&[NOTIFY])),
             Step::At(0, Event::Takes("00 02 0000 000000", 7)),
             Step::At(0, Event::Notifies(true)),
+            Step::At(0, Event::Takes("08", 0)),
             Step::At(0, Event::Sends(&[NOTIFY])),
             Step::At(0, Event::Takes("08", 1)),
             Step::At(1, Event::Takes(RESET_QUERY, 8)),
@@ -294,6 +319,18 @@ pub(crate) const SCRIPTS: &[Script] = &[
             Step::Opens(0),
             Step::At(0, Event::Takes(RESET_QUERY, 8)),
             Step::At(0, Event::Sends(&[ANSWER])),
+        ],
+    },
+    Script {
+        name: "a notify behind a header of version 0",
+        start: OF_BOTH,
+        steps: &[
+            Step::Opens(0),
+            Step::At(0, Event::Takes("00 01 0777 0000000c", 8)),
+            Step::At(0, Event::Notifies(true)),
+            Step::At(0, Event::Sends(&[NOTIFY_0])),
+            Step::At(0, Event::Takes("00000005", 4)),
+            Step::At(0, Event::Sends(&[RESPONSE_0, END_5_0])),
         ],
     },
     Script {

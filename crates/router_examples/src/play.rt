@@ -17,6 +17,10 @@ pub(crate) enum Step {
     Takes(&'static [&'static str], u64),
     /// Nothing of this PDU is taken.
     Leaves(&'static str, u64),
+    /// Of these PDUs, in one piece, so many bytes are taken.
+    TakesPart(&'static str, usize, u64),
+    /// These bytes are pulled, in one piece.
+    Begins(&'static str),
     /// These PDUs are to be pulled, and no more.
     Sends(&'static str),
     /// It is asked to put its question.
@@ -69,6 +73,15 @@ pub(crate) fn holds(
         && router.committed() == Some((version, session, Serial(serial)))
 }
 
+/// Whether a piece is pulled that is these bytes.
+fn begins(router: &mut Router, front: &Bytes) -> bool {
+    let mut room = [0u8; 64];
+    match room.get_mut(..front.len()) {
+        None => false,
+        Some(out) => router.pull(out) == front.len() && *out == *front.as_slice(),
+    }
+}
+
 fn judges(router: &Router, text: &str, asn: u32, state: OriginState) -> bool {
     match IpPrefix::parse(text) {
         Err(_) => false,
@@ -105,6 +118,10 @@ fn goes(router: &mut Router, version: Version, step: &Step) -> bool {
         Step::Leaves(unit, now) => {
             return router.receive(bytes_in(version.number(), unit).as_slice(), *now) == 0;
         }
+        Step::TakesPart(units, count, now) => {
+            return router.receive(bytes_in(version.number(), units).as_slice(), *now) == *count;
+        }
+        Step::Begins(front) => return begins(router, &bytes_in(version.number(), front)),
         Step::Sends(units) => return sends(router, &bytes_in(version.number(), units)),
         Step::Asks(answer) => return router.ask() == *answer,
         _ => return stands(router, step),

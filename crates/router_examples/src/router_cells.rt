@@ -66,7 +66,7 @@ const ROUTER_KEY: &str = "01 09 0100 00000020 0102030405060708090a0b0c0d0e0f1011
 /// Each PDU, and what it does on each link. Spelled in version 1: in version 0 it is the same but for the version bytes and the End of
 /// Data, and there are no Router Keys.
 const CELLS: &[(&str, [Does; 5])] = &[
-    // A Serial Notify of another session, of later serials, of the serial that is committed, of one before it, and of one too far.
+    // A Serial Notify of another session, of later serials, of the serial that is committed, of one before it, and of two too far.
     (
         "01 00 2222 0000000c 00000006",
         [Does::Fails, ASKED, Does::Fails, Does::Fails, Does::Fails],
@@ -89,6 +89,10 @@ const CELLS: &[(&str, [Does; 5])] = &[
     ),
     (
         "01 00 1234 0000000c 80000005",
+        [IDLE, ASKED, ASKED, ANSWERING, ANSWERING],
+    ),
+    (
+        "01 00 1234 0000000c 80000006",
         [IDLE, ASKED, ASKED, ANSWERING, ANSWERING],
     ),
     // A Cache Response of the committed session, and of another.
@@ -166,7 +170,7 @@ const CELLS: &[(&str, [Does; 5])] = &[
     // Queries.
     (SERIAL_QUERY, [Does::Reports; 5]),
     (RESET_QUERY, [Does::Reports; 5]),
-    // Error Reports: No Data Available, Corrupt Data, Invalid Request.
+    // Error Reports: No Data Available, Corrupt Data, Internal Error, Invalid Request.
     ("01 0a 0002 00000010 00000000 00000000", [IDLE; 5]),
     (
         "01 0a 0000 00000010 00000000 00000000",
@@ -177,6 +181,10 @@ const CELLS: &[(&str, [Does; 5])] = &[
             Does::Empties(error_code::CORRUPT_DATA),
             Does::Ends(error_code::CORRUPT_DATA),
         ],
+    ),
+    (
+        "01 0a 0001 00000010 00000000 00000000",
+        [Does::Ends(error_code::INTERNAL_ERROR); 5],
     ),
     (
         "01 0a 0003 00000010 00000000 00000000",
@@ -193,6 +201,7 @@ fn reports(router: &mut Router, version: Version, unit: &str) -> bool {
     room.starts_with(head.as_slice())
         && count == unit.len().saturating_add(16)
         && room.get(12..count.saturating_sub(4)) == Some(unit.as_slice())
+        && room.get(count.saturating_sub(4)..count) == Some([0u8; 4].as_slice())
         && router.link() == Link::Ended(End::Reported(error_code::CORRUPT_DATA))
 }
 

@@ -1,6 +1,8 @@
 //! Routers: the scripts, hostile PDUs, and whole answers in pieces.
 use crate::play::{holds, play, played, sends};
-use crate::scripts::{ASKED, SCRIPTS, Script};
+use crate::scripts::{
+    ASKED, ASKED_AT_100, ASKED_SINCE, AT_CALLS, AT_MOMENTS, AT_UNITS, IN_VERSION_0, SCRIPTS, Script,
+};
 use example_values::hex::{Bytes, bytes};
 use example_values::units::{ANSWER, END_5, RESET_QUERY, RESPONSE, bytes_in};
 use rtr_ends::{AskFault, End, Link, Router};
@@ -24,6 +26,26 @@ fn play_each<R: AllocGlobal + Abort>(rt: &R, scripts: &[Script]) {
 fn routers_go_by_their_scripts(rt: HostRuntime) {
     play_each(&rt, SCRIPTS);
     assert!(rt; AskFault::Busy.number() == 1);
+}
+
+#[test]
+fn routers_go_by_units(rt: HostRuntime) {
+    play_each(&rt, AT_UNITS);
+}
+
+#[test]
+fn routers_go_by_the_clock(rt: HostRuntime) {
+    play_each(&rt, AT_MOMENTS);
+}
+
+#[test]
+fn routers_go_by_calls(rt: HostRuntime) {
+    play_each(&rt, AT_CALLS);
+}
+
+#[test]
+fn routers_go_by_version_0(rt: HostRuntime) {
+    play_each(&rt, IN_VERSION_0);
 }
 
 /// An answer of session 4660, serial 5, with so many records: 0.0.0.0 and the next addresses, of AS 0 and the next.
@@ -70,6 +92,63 @@ fn an_answer_commits_at_its_last_byte(rt: HostRuntime) {
     }
 }
 
+const CHANGE: &str =
+    "01 03 1234 00000008 | 01 04 0000 00000014 00 18 18 00 c0000200 0000fbf0 | 01 07 1234 00000018 00000006 00000e10 00000258 00001c20";
+
+#[test]
+fn a_change_commits_at_its_last_byte(rt: HostRuntime) {
+    let change = bytes_in(1, CHANGE);
+    assert!(rt; change.len() == 52);
+    for cut in 0..=change.len() {
+        let mut router = played(&rt, Version::V1, ASKED_SINCE, "asked");
+        let (front, _) = change.as_slice().split_at(cut);
+        let (records, serial) = if cut < 52 { (1, 5) } else { (0, 6) };
+        assert!(rt; router.receive(front, 0) == front.len());
+        router.closed(0);
+        assert!(rt; holds(&router, records, Version::V1, 4660, serial), "{cut}");
+    }
+}
+
+/// Refresh, retry and expire of an End of Data, and what is kept of them: the nearest that RFC 8210 section 6 allows.
+const INTERVALS: &[(&str, [u64; 3])] = &[
+    ("00000000 00000000 00000000", [1, 1, 600]),
+    ("00000000 00000000 00000257", [1, 1, 600]),
+    ("00000001 00000001 00000258", [1, 1, 600]),
+    ("00000e10 00000258 00001c20", [3600, 600, 7200]),
+    ("00015180 00001c20 0002a300", [86_400, 7200, 172_800]),
+    ("00015181 00001c21 0002a301", [86_400, 7200, 172_800]),
+    ("00015181 00001c21 00000257", [86_400, 7200, 600]),
+    ("ffffffff ffffffff ffffffff", [86_400, 7200, 172_800]),
+];
+
+/// Whether a router that was asked for all at moment 100 keeps these intervals where they are told so.
+fn keeps(router: &mut Router, told: &str, kept: &[u64; 3]) -> bool {
+    let [refresh, retry, expire] = *kept;
+    let last = expire.saturating_add(100);
+    router.receive(bytes(RESPONSE).as_slice(), 100);
+    router.receive(bytes("01 07 1234 00000018 00000005").as_slice(), 100);
+    router.receive(bytes(told).as_slice(), 100);
+    if router.due() != Some(refresh.saturating_add(100)) {
+        return false;
+    }
+    router.closed(100);
+    if router.due() != Some(retry.saturating_add(100)) {
+        return false;
+    }
+    router.tick(last);
+    let is_kept = router.committed().is_some();
+    router.tick(last.saturating_add(1));
+    is_kept && router.committed().is_none()
+}
+
+#[test]
+fn intervals_are_brought_into_their_ranges(rt: HostRuntime) {
+    for (told, kept) in INTERVALS {
+        let mut router = played(&rt, Version::V1, ASKED_AT_100, "asked");
+        assert!(rt; keeps(&mut router, told, kept), "{told}");
+    }
+}
+
 /// What comes after a Reset Query, how many bytes of it are taken, what is sent, and how the link ends.
 type Hostile = (&'static str, usize, &'static str, End);
 
@@ -107,7 +186,13 @@ const HOSTILE: &[Hostile] = &[
         "",
         End::Malformed,
     ),
-    // A maximum below the length.
+    // A maximum below the length: the report has the record as it came.
+    (
+        "01 03 1234 00000008 | 01 04 ff00 00000014 81 18 17 00 c0000200 0000fbf0",
+        28,
+        "01 0a 0000 00000024 00000014 0104ff000000001481181700c00002000000fbf0 00000000",
+        End::Reported(error_code::CORRUPT_DATA),
+    ),
     (
         "01 03 1234 00000008 | 01 04 0000 00000014 01 18 17 00 c0000200 0000fbf0",
         28,
@@ -130,6 +215,27 @@ const HOSTILE_APART: &[Hostile] = &[
         16,
         "01 0a 0008 00000018 00000008 0003123400000008 00000000",
         End::Reported(error_code::UNEXPECTED_VERSION),
+    ),
+    // So is a notify after it, and one of another length before it.
+    (
+        "01 03 1234 00000008 | 00 00 1234 0000000c 00000006",
+        16,
+        "01 0a 0008 00000018 00000008 000012340000000c 00000000",
+        End::Reported(error_code::UNEXPECTED_VERSION),
+    ),
+    (
+        "00 00 1234 0000000d",
+        8,
+        "01 0a 0004 00000018 00000008 000012340000000d 00000000",
+        End::Reported(error_code::UNSUPPORTED_VERSION),
+    ),
+    // Error Reports of another version, and with lengths that do not add up.
+    ("00 0a 0000 00000010", 8, "", End::Malformed),
+    (
+        "01 0a 0000 00000010 00000001 00000000",
+        16,
+        "",
+        End::Malformed,
     ),
     (
         "01 09 0000 00001001",

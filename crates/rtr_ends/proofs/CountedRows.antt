@@ -1,8 +1,7 @@
--- What a device counts, and the error codes, worked out.
-use Rattle.std.proofs.Common.{◌≡◌, ◌⊎◌, ⊎_elim, ◌+◌, ◌≤◌, ℕ, inl, inr, refl, arith}
+-- What a device counts, worked out.
+use Rattle.std.proofs.Common.{arith, inl, refl, ℕ, ⊎_elim, ◌≤◌}
 use Rattle.rtr_pdu.specs.Counted.{HasFailed}
 use Rattle.rtr_pdu.specs.declared.counted.Counted.{Counted}
-use Rattle.rtr_pdu.specs.Code as codes
 
 -- a device after so many calls and failures
 abbrev counted : (calls failures : ℕ) → failures ≤ calls → Counted (Unit {0})
@@ -17,8 +16,3 @@ none_failed h = ⊎_elim (λ e. omega (arith, e)) (λ spent. omega (arith, spent
 
 two_failed : ¬ (HasFailed (counted 3 1 (omega arith)) (counted 5 3 (omega arith)))
 two_failed h = ⊎_elim (λ e. omega (arith, e)) (λ spent. omega (arith, spent.0)) h
-
--- the codes of Error Reports (RFC 8210 section 12)
-code_numbers : (codes.CORRUPT_DATA ≡ 0) × (codes.INTERNAL_ERROR ≡ 1) × (codes.NO_DATA_AVAILABLE ≡ 2) × (codes.INVALID_REQUEST ≡ 3) × (codes.UNSUPPORTED_VERSION ≡ 4) × (codes.UNSUPPORTED_TYPE ≡ 5)
-    × (codes.UNKNOWN_WITHDRAWAL ≡ 6) × (codes.DUPLICATE_ANNOUNCEMENT ≡ 7) × (codes.UNEXPECTED_VERSION ≡ 8)
-code_numbers = (refl, refl, refl, refl, refl, refl, refl, refl, refl)

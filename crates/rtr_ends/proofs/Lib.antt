@@ -25,8 +25,6 @@ pub mod PeerLaws
 pub mod QuestionLaws
 pub mod ReceivingLaws
 pub mod RouterBytes
-pub mod RouterCells
-pub mod RouterRows
 pub mod RouterSteps
 pub mod SaidLaws
 pub mod SeenLaws
@@ -37,8 +35,6 @@ pub mod SpokenLaws
 pub mod StagingLaws
 pub mod TableLaws
 pub mod TakenLaws
-pub mod TimingRows
 pub mod TranscriptRows
 pub mod UnitByUnit
-pub mod VersionRows
 pub mod WholeAnswerRows

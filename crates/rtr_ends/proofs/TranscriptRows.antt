@@ -9,63 +9,27 @@ use Rattle.rtr_pdu.specs.declared.unit.UnitFault.{UnitFault}
 use Rattle.rtr_ends.specs.Transcript.{Question, AskReset, Item, Asks, Breaks, Lacks, Opened, Reads, Refused, Restarts, Shut, has_agreed, is_connected, marked, moment, next_question, outstanding, responded, spoken, waiting}
 
 module _ (items : List Item) where
-  -- No question is outstanding after a close, a restart, a refused event, a fault, or out of memory,
-  closed : outstanding (Shut ∷ items) ≡ None
-  closed = refl
+  -- No question is outstanding behind this item.
+  abbrev Ends : Item → Type 0
+  Ends item = outstanding (item ∷ items) ≡ None
 
-  restarted : outstanding (Restarts ∷ items) ≡ None
-  restarted = refl
+  -- a close, a restart, a refused event, a fault, or out of memory
+  ended : (fault : UnitFault) (unit : Unit) → Ends Shut × Ends Restarts × Ends Refused × Ends (Breaks fault) × Ends (Lacks unit)
+  ended fault unit = (refl, refl, refl, refl, refl)
 
-  refused : outstanding (Refused ∷ items) ≡ None
-  refused = refl
-
-  broken : (fault : UnitFault) → outstanding (Breaks fault ∷ items) ≡ None
-  broken fault = refl
-
-  wanting : (unit : Unit) → outstanding (Lacks unit ∷ items) ≡ None
-  wanting unit = refl
-
-  -- nor after an End of Data, a Cache Reset, or an Error Report.
-  ended : (session serial refresh retry expire : ℕ) → outstanding (Reads (EndOfData session serial refresh retry expire) ∷ items) ≡ None
-  ended session serial refresh retry expire = refl
-
-  reset : outstanding (Reads CacheReset ∷ items) ≡ None
-  reset = refl
-
-  told : (report : Report) → outstanding (Reads (ErrorReport report) ∷ items) ≡ None
-  told report = refl
+  -- an End of Data, a Cache Reset, or an Error Report
+  answered : (session serial refresh retry expire : ℕ) (report : Report) → Ends (Reads (EndOfData session serial refresh retry expire)) × Ends (Reads CacheReset) × Ends (Reads (ErrorReport report))
+  answered session serial refresh retry expire report = (refl, refl, refl)
 
   -- A new connection has neither agreement nor a session of its own, and its question is the next one.
-  opened_agreed : (version : Version) → has_agreed (Opened version ∷ items) ≡ false
-  opened_agreed version = refl
-
-  opened_responded : (version : Version) → responded (Opened version ∷ items) ≡ None
-  opened_responded version = refl
-
-  opened_waits : (version : Version) (question : Question) → waiting (Asks question ∷ Opened version ∷ items) ≡ Some question
-  opened_waits version question = refl
-
-  opened_spoken : (version : Version) → spoken (Opened version ∷ items) ≡ version
-  opened_spoken version = refl
+  opened : (version : Version) (question : Question) → (has_agreed (Opened version ∷ items) ≡ false) × (responded (Opened version ∷ items) ≡ None) × (waiting (Asks question ∷ Opened version ∷ items) ≡ Some question)
+      × (spoken (Opened version ∷ items) ≡ version)
+  opened version question = (refl, refl, refl, refl)
 
   -- After a restart there is no mark, no agreement, no session, no connection of any version, and the clock stands at its beginning.
-  restarted_mark : marked (Restarts ∷ items) ≡ false
-  restarted_mark = refl
-
-  restarted_agreed : has_agreed (Restarts ∷ items) ≡ false
-  restarted_agreed = refl
-
-  restarted_responded : responded (Restarts ∷ items) ≡ None
-  restarted_responded = refl
-
-  restarted_connected : is_connected (Restarts ∷ items) ≡ false
-  restarted_connected = refl
-
-  restarted_spoken : spoken (Restarts ∷ items) ≡ V1
-  restarted_spoken = refl
-
-  restarted_moment : moment (Restarts ∷ items) ≡ 0
-  restarted_moment = refl
+  restarted : (marked (Restarts ∷ items) ≡ false) × (has_agreed (Restarts ∷ items) ≡ false) × (responded (Restarts ∷ items) ≡ None) × (is_connected (Restarts ∷ items) ≡ false) × (spoken (Restarts ∷ items) ≡ V1)
+      × (moment (Restarts ∷ items) ≡ 0)
+  restarted = (refl, refl, refl, refl, refl, refl)
 
   -- Behind a Cache Reset all is asked for.
   reset_asks : next_question (Reads CacheReset ∷ items) ≡ AskReset
