@@ -33,6 +33,7 @@ use Rattle.rtr_ends.specs.Answer.{and_end, and_on, announcements, answer, end_of
 use Rattle.rtr_ends.specs.Connection.{Connection, IsHistory, MayCome, ConnMoment, Read, Wanting, Fault, Notify, Pull, conn_after, Sent, bytes_of, in_version, fault_code, fault_report, notice, replies_from, reply, sent_by, version_after}
 use Rattle.rtr_ends.specs.Timing.{default_intervals}
 use Rattle.rtr_ends.proofs.ByteLists.{bytes_front, none_bytes}
+use Rattle.prefixes.proofs.Basics.{all_both}
 
 -- bytes, one behind the other
 abbrev Bytes : List ℕ → Type 0
@@ -89,10 +90,6 @@ report_fit code copy low each = (low, short (length (take 4080 copy)) (length-ta
 
 report_of : (version : Version) (code : ℕ) (u : Unit) → code < 2 ^ 16 → Bytes (sent version u) → AllByRecursion (IsUnitOf version) (report code (sent version u) ∷ [])
 report_of version code u low h = ((report_fit code (sent version u) low (as_bytes (sent version u) h), refl), tt)
-
-all_both : {X : Type 0} (P : X → Type 0) (us vs : List X) → AllByRecursion P us → AllByRecursion P vs → AllByRecursion P (us ++ vs)
-all_both P [] vs h k = k
-all_both P (u ∷ us) vs h k = (h.0, all_both P us vs h.1 k)
 
 serial_bytes : (version : Version) (kind session serial : ℕ) → kind < 256 → Bytes ((version_number version ∷ kind ∷ big_bytes 2 session ++ big_bytes 4 12) ++ big_bytes 4 serial)
 serial_bytes version kind session serial h = headed version kind session 12 (big_bytes 4 serial) h (number 4 serial)
@@ -184,12 +181,7 @@ code_low : (agreed : Option Version) (fault : UnitFault) → fault_code agreed f
 code_low (Some V1) faults.Version = omega arith
 code_low (Some V0) faults.Version = omega arith
 code_low None faults.Version = omega arith
-code_low agreed faults.«Type» = omega arith
-code_low agreed faults.Length = omega arith
-code_low agreed faults.TooLong = omega arith
-code_low agreed faults.Record = omega arith
-code_low agreed faults.ErrorReport = omega arith
-code_low agreed faults.Truncated = omega arith
+code_low agreed _ = omega arith
 
 maybe_fit : (version : Version) (b : Bool) (code : ℕ) (copy : List ℕ) → code < 2 ^ 16 → AreBytes copy → AllByRecursion (IsUnitOf version) (if b then [] else report code copy ∷ [])
 maybe_fit version true code copy low each = tt
@@ -197,12 +189,7 @@ maybe_fit version false code copy low each = ((report_fit code copy low each, re
 
 fault_fit : (version : Version) (agreed : Option Version) (fault : UnitFault) (bytes : List ℕ) → AreBytes bytes → AllByRecursion (IsUnitOf version) (fault_report agreed fault bytes)
 fault_fit version agreed faults.Truncated bytes each = tt
-fault_fit version agreed faults.Version bytes each = maybe_fit version (type_of bytes == 10) _ bytes (code_low agreed faults.Version) each
-fault_fit version agreed faults.«Type» bytes each = maybe_fit version (type_of bytes == 10) _ bytes (code_low agreed faults.«Type») each
-fault_fit version agreed faults.Length bytes each = maybe_fit version (type_of bytes == 10) _ bytes (code_low agreed faults.Length) each
-fault_fit version agreed faults.TooLong bytes each = maybe_fit version (type_of bytes == 10) _ bytes (code_low agreed faults.TooLong) each
-fault_fit version agreed faults.Record bytes each = maybe_fit version (type_of bytes == 10) _ bytes (code_low agreed faults.Record) each
-fault_fit version agreed faults.ErrorReport bytes each = maybe_fit version (type_of bytes == 10) _ bytes (code_low agreed faults.ErrorReport) each
+fault_fit version agreed fault bytes each = maybe_fit version (type_of bytes == 10) _ bytes (code_low agreed fault) each
 
 notice_fit : (version : Version) (session start : ℕ) (sets : List VrpSet) → session < 2 ^ 16 → AllByRecursion (IsUnitOf version) (notice session (versions_from start sets))
 notice_fit version session start [] low = tt
@@ -221,10 +208,7 @@ behind (b ∷ front) rest h = behind front rest (λ k. h (suc k))
 
 pub version_on : (keep : ℕ) (c : Connection) (m : ConnMoment) → (conn_after keep default_intervals c m).version ≡ version_after c.version m
 version_on keep c (Read version cache unit bytes) = refl
-version_on keep c (Wanting version cache unit bytes) = refl
-version_on keep c (Fault version fault bytes) = refl
-version_on keep c (Notify version cache held) = refl
-version_on keep c (Pull count) = refl
+version_on keep c _ = refl
 
 -- what can be sent in its version
 abbrev pub CanBeSent : Sent → Type 0

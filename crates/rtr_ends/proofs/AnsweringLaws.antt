@@ -8,7 +8,7 @@ use Rattle.vrps.specs.Stores.{newest}
 use Rattle.vrps.specs.VrpSet.{VrpSet}
 use Rattle.vrps.specs.declared.change.Change.{Change}
 use Rattle.rtr_pdu.specs.declared.unit.Unit.{Unit}
-use Rattle.rtr_pdu.specs.declared.unit.Unit.TheVariants.{SerialNotify, SerialQuery, ResetQuery, CacheResponse, Prefix, EndOfData, EndOfData0, CacheReset, RouterKey, ErrorReport}
+use Rattle.rtr_pdu.specs.declared.unit.Unit.TheVariants.{SerialQuery, ResetQuery, ErrorReport}
 use Rattle.rtr_pdu.specs.declared.version.Version.{Version}
 use Rattle.rtr_pdu.specs.declared.version.Version.TheVariants.{V0, V1}
 use Rattle.rtr_ends.specs.Answer.{and_on, and_end, announcements, answer, report, response, sent, sent_all, serial_answer, session_in, step_answer, withdrawals}
@@ -131,13 +131,7 @@ module _ (keep : ℕ) (t : Intervals) (i : Instance) where
   )
     where
       others : (version : Version) (u : Unit) → (u ≡ ResetQuery → ⊥) → ((session serial : ℕ) → u ≡ SerialQuery session serial → ⊥) → ((r : _) → u ≡ ErrorReport r → ⊥) → answer version i keep t u ≡ and_end (report 3 (sent version u) ∷ [])
-      others version (SerialNotify s n) a b c = refl
       others version (SerialQuery s n) a b c = absurd (b s n refl)
       others version ResetQuery a b c = absurd (a refl)
-      others version (CacheResponse s) a b c = refl
-      others version (Prefix w v) a b c = refl
-      others version (EndOfData s n x y z) a b c = refl
-      others version (EndOfData0 s n) a b c = refl
-      others version CacheReset a b c = refl
-      others version (RouterKey key) a b c = refl
       others version (ErrorReport r) a b c = absurd (c r refl)
+      others version _ a b c = refl

@@ -24,6 +24,7 @@ use Rattle.rtr_ends.proofs.NumberLaws.{takes_below, takes_next}
 use Rattle.rtr_ends.specs.declared.peer.Peer.{Peer}
 use Rattle.rtr_ends.specs.declared.sender.Share.{Share}
 use Rattle.prefixes.proofs.Basics.{eq_self, eq_of, not_eq_of, set_same, set_other}
+use Rattle.rtr_ends.proofs.TableLaws.{inside}
 
 -- what stands under a number that is set
 pub with_conn_at : (c : ℕ) (o : Option Conn) (m : CacheState) → (with_conn c o m).at c ≡ o
@@ -37,9 +38,6 @@ pub record Found (t : Intervals) (i : Instance) (a : Option Conn) (p : Peer) : T
 
 pub found : (t : Intervals) (i : Instance) (a : Option Conn) (q : Option Peer) (p : Peer) → q ≡ Some p → ShowsSlot t i a q → Found t i a p
 found t i (Some o) (Some p) q e h = let same : p ≡ q = inside e in record { conn = o; is = refl; shows = subst (λ x. ShowsPeer t i o x) same h }
-  where
-    inside : {a b : Peer} → Some a ≡ Some b → a ≡ b
-    inside h = cc
 found t i None (Some p) q e h = absurd h
 found t i (Some o) None q e h = absurd h
 found t i None None q e h = absurd (let k : ◌≡◌ {A = Option Peer} None (Some q) = e in cc)

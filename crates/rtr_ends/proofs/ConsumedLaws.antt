@@ -1,99 +1,44 @@
 -- The transcript of a router has the split of what it consumed.
-use Rattle.std.specs.Prelude.{◌≡◌, ℕ, suc, ◌-◌, ◌<◌, Bool, true, false, not, ◌&&◌, List, [], ◌∷◌, ◌++◌, length, take, drop, Option, Some, None, if◌then◌else◌, refl}
-use Rattle.std.proofs.Common.{sym, ap, ◌∙◌, subst, subst₂, arith, append_assoc}
-use Rattle.std.proofs.lemmas.Bool.{and_parts}
+use Rattle.std.specs.Prelude.{◌≡◌, ℕ, ◌<◌, Bool, true, false, not, List, [], ◌∷◌, ◌++◌, drop, Option, refl}
+use Rattle.std.proofs.Common.{sym, ap, ◌∙◌, subst, subst₂, append_assoc}
 use Rattle.std.proofs.lemmas.List.{append-nil}
 use Rattle.std.specs.List.{AllByRecursion}
 use Rattle.rtr_pdu.specs.declared.version.Version.TheVariants.{V1}
-use Rattle.rtr_pdu.specs.Judging.{judge}
 use Rattle.rtr_pdu.specs.Payloads.{AreBytes}
 use Rattle.rtr_pdu.specs.Stream.{AreRead, IsPartial, Splits, any_after, as_read}
 use Rattle.rtr_pdu.proofs.ReaderLaws.{partial_empty}
-use Rattle.rtr_ends.specs.declared.link.End.{End}
-use Rattle.rtr_ends.specs.declared.link.End.TheVariants as ends
-use Rattle.rtr_ends.specs.Cache.{is_none, finds_memory}
+use Rattle.rtr_ends.specs.Cache.{finds_memory}
 use Rattle.rtr_ends.specs.Consumed.{units_read_in, fault_in, consumed, came, IsRouterCall, IsSplit, RouterSplits}
-use Rattle.rtr_ends.specs.Feeding.{feed, run}
-use Rattle.rtr_ends.specs.LinkRules.{Router, ask, emptied}
-use Rattle.rtr_ends.specs.Router.{Noted, Receiving, asks, asks_if, RouterCall, Connects, Receives, Pulls, Closes, AsksNow, Ticks, Speaks, clocked, close, closed_at, connects_at, expired, played, receives, router_byte, router_pulled, router_stops, ticks_at, with_bytes}
-use Rattle.rtr_ends.specs.RouterLink.{Link, Closed, Idle, Asked, Answering, Ended, is_closed, is_due, is_idle, is_reading}
-use Rattle.rtr_ends.specs.Transcript.{choose, AskReset, AskSerial, Item, At, Opened, Asks, Shut, has_agreed, is_over, is_serial, later, of_version, retry_of, spoken, sum_of}
-use Rattle.rtr_ends.proofs.ByteLists.{none_bytes, bytes_front, drop_none, front_of}
-use Rattle.rtr_ends.proofs.FeedingLaws.{feed_takes}
+use Rattle.rtr_ends.specs.LinkRules.{Router, ask}
+use Rattle.rtr_ends.specs.Router.{Receiving, asks, asks_if, RouterCall, Connects, Receives, Pulls, Closes, AsksNow, Ticks, Speaks, clocked, close, closed_at, connects_at, played, receives, router_byte, router_pulled, router_stops, ticks_at}
+use Rattle.rtr_ends.specs.RouterLink.{Link, Idle, is_closed, is_due, is_idle, is_reading}
+use Rattle.rtr_ends.specs.Transcript.{choose, Item, At, Opened, Asks, Shut, has_agreed, later, of_version, spoken}
+use Rattle.rtr_ends.proofs.ByteLists.{none_bytes, drop_none}
+use Rattle.rtr_ends.proofs.Effects.{by_byte, by_close, clocked_keeps, goes_so}
+use Rattle.rtr_ends.proofs.FeedingLaws.{fed_keeps}
 use Rattle.rtr_ends.proofs.KeptUnits.{Tells}
-use Rattle.rtr_ends.proofs.KeptLaws.{called_tells, clocked_tells, new_tells, none_is}
+use Rattle.rtr_ends.proofs.KeptLaws.{called_tells, clocked_tells, new_tells}
 use Rattle.rtr_ends.proofs.TableLaws.{false_true}
 use Rattle.rtr_ends.proofs.ConsumedUnits.{Live, Split, Comes, live_splits, live_split, reading_open, bytes_come}
-use Rattle.prefixes.proofs.Basics.{true_of_not}
 
 -- a piece, byte by byte
 abbrev MComes : Receiving → List Item → List ℕ → Type 0
 MComes m items bytes = Comes m.router (m.items ++ items) bytes
 
 byte_comes : (m : Receiving) (b : ℕ) (items : List Item) (bytes : List ℕ) → b < 256 → router_stops m.router ≡ false → MComes m items bytes → MComes (router_byte m b) items (bytes ++ b ∷ [])
-unfolding router_byte
 byte_comes m b items bytes byte goes_on c =
-    let parts = and_parts (is_reading m.router.link) (is_none m.router.out) (true_of_not (is_reading m.router.link && is_none m.router.out) goes_on) in
-    let n : Noted = with_bytes (finds_memory m.wanting) (m.router.held ++ b ∷ []) m.router (judge m.router.spoken (not m.router.agreed) (m.router.held ++ b ∷ [])) in
-    subst (λ x. Comes n.router x (bytes ++ b ∷ [])) (sym (append_assoc n.items m.items items))
-    (bytes_come (finds_memory m.wanting) b m.router (m.items ++ items) bytes byte parts.0 (none_is m.router.out parts.1) c.tells (c.live parts.0))
+    let live = goes_so m.router goes_on in
+    by_byte (λ r later. Comes r later (bytes ++ b ∷ [])) items m b (bytes_come (finds_memory m.wanting) b m.router (m.items ++ items) bytes byte live.0 live.1 c.tells (c.live live.0))
 
-abbrev stops : Receiving → Bool
-stops m = router_stops m.router
-
-run_comes : (m : Receiving) (taken : List ℕ) (items : List Item) (bytes : List ℕ) → AreBytes taken → ((front back : List ℕ) → taken ≡ front ++ back → 0 < length back → stops (run stops router_byte m front) ≡ false)
-    → MComes m items bytes → MComes (run stops router_byte m taken) items (bytes ++ taken)
-run_comes m [] items bytes each goes_on c = subst (λ x. MComes m items x) (sym (append-nil bytes)) c
-run_comes m (b ∷ taken) items bytes each goes_on c =
-    subst (λ x. MComes (run stops router_byte (router_byte m b) taken) items x) (append_assoc bytes (b ∷ []) taken)
-    (run_comes (router_byte m b) taken items (bytes ++ b ∷ []) (λ j. each (suc j)) (λ front back e some. goes_on (b ∷ front) back (ap (λ x. b ∷ x) e) some)
-    (byte_comes m b items bytes (each 0) (goes_on [] (b ∷ taken) refl (omega arith)) c))
-
--- The clock leaves what is held, and opens nothing.
+-- A step that leaves what is held, and opens nothing
 record Told (r n : Router) : Type 0 where
   pub held : n.held ≡ r.held
   pub reads : is_reading n.link ≡ true → is_reading r.link ≡ true
   pub closed : is_closed n.link ≡ true → is_closed r.link ≡ true
-  pub out : is_closed n.link ≡ true → n.out ≡ r.out
-
-told_same : (r n : Router) → n.held ≡ r.held → n.link ≡ r.link → n.out ≡ r.out → Told r n
-told_same r n held link out = record {
-  held = held;
-  reads = λ h. ap is_reading (sym link) ∙ h;
-  closed = λ h. ap is_closed (sym link) ∙ h;
-  out = λ h. out;
-}
-
-told_end : (r n : Router) (end : End) → n.held ≡ r.held → n.link ≡ Ended end → Told r n
-told_end r n end held link = record {
-  held = held;
-  reads = λ h. false_true (ap is_reading (sym link) ∙ h);
-  closed = λ h. false_true (ap is_closed (sym link) ∙ h);
-  out = λ h. false_true (ap is_closed (sym link) ∙ h);
-}
-
-expired_told : (l : Link) (r : Router) → Told r (expired l r)
-expired_told Closed r = told_same r (emptied r) refl refl refl
-expired_told (Ended end) r = told_same r (emptied r) refl refl refl
-expired_told Idle r = told_same r (emptied r) refl refl refl
-expired_told (Asked AskReset) r = told_same r (emptied r) refl refl refl
-expired_told (Asked (AskSerial session serial)) r = told_end r (record (emptied r) { link = Ended ends.Expired; out = [] }) ends.Expired refl refl
-expired_told (Answering a) r = by_question (is_serial (Some a.question))
-  where
-    by_question : (b : Bool) → Told r (if b then record (emptied r) { link = Ended ends.Expired; out = [] } else emptied r)
-    by_question true = told_end r (record (emptied r) { link = Ended ends.Expired; out = [] }) ends.Expired refl refl
-    by_question false = told_same r (emptied r) refl refl refl
+  pub out : is_closed n.link ≡ true → r.out ≡ [] → n.out ≡ []
 
 clocked_told : (now : ℕ) (r : Router) → Told r (clocked now r)
-unfolding clocked
-clocked_told now r = by_clock (is_over r.version (later r.now now))
-  where
-    told_r : Router
-    told_r = record r { now = later r.now now }
-
-    by_clock : (b : Bool) → Told r (if b then expired told_r.link told_r else told_r)
-    by_clock true = let t = expired_told r.link told_r in record { held = t.held; reads = t.reads; closed = t.closed; out = t.out }
-    by_clock false = told_same r told_r refl refl refl
+clocked_told now r = let k = clocked_keeps now r in record { held = k.held; reads = k.reads_on; closed = λ h. sym k.closed_on ∙ h; out = λ h. k.out }
 
 -- what is noted of no PDU, no fault and no connection
 record Quiet (items later : List Item) : Type 0 where
@@ -116,17 +61,22 @@ quiet_live r n items later bytes q held l = record {
   each = subst (λ x. AreBytes x) (sym held) l.each;
 }
 
+-- Where nothing of that is noted, the split stays.
+still_comes : (r n : Router) (items later : List Item) (bytes : List ℕ) → Told r n → Quiet items later → Tells n later → Comes r items bytes → Comes n later bytes
+still_comes r n items later bytes t q tells c = record {
+  tells = tells;
+  live = λ h. quiet_live r n items later bytes q t.held (c.live (t.reads h));
+  split = quiet_split items later bytes q c.split;
+  none_held = λ h. t.held ∙ c.none_held (t.closed h);
+  none_out = λ h. t.out h (c.none_out (t.closed h));
+}
+
+abbrev same_items : (items : List Item) → Quiet items items
+same_items items = record { units = refl; fault = refl; agreed = refl; version = refl }
+
 clocked_comes : (now : ℕ) (r : Router) (items : List Item) (bytes : List ℕ) → Comes r items bytes → Comes (clocked now r) (At now ∷ items) bytes
 clocked_comes now r items bytes c =
-    let t = clocked_told now r in
-    let q : Quiet items (At now ∷ items) = record { units = refl; fault = refl; agreed = refl; version = refl } in
-    record {
-      tells = clocked_tells now r items c.tells;
-      live = λ h. quiet_live r (clocked now r) items (At now ∷ items) bytes q t.held (c.live (t.reads h));
-      split = quiet_split items (At now ∷ items) bytes q c.split;
-      none_held = λ h. t.held ∙ c.none_held (t.closed h);
-      none_out = λ h. t.out h ∙ c.none_out (t.closed h);
-    }
+    still_comes r (clocked now r) items (At now ∷ items) bytes (clocked_told now r) (record { units = refl; fault = refl; agreed = refl; version = refl }) (clocked_tells now r items c.tells) c
 
 -- a link that is closed
 record Shuts (r : Router) : Type 0 where
@@ -135,28 +85,15 @@ record Shuts (r : Router) : Type 0 where
   pub out : r.out ≡ []
 
 closing_link : (r : Router) → (is_closed r.link ≡ true → r.held ≡ []) → (is_closed r.link ≡ true → r.out ≡ []) → Shuts (close r)
-closing_link r held out = by_test (is_closed r.link) refl
-  where
-    shut : Router
-    shut = record r { link = Closed; agreed = false; session = None; held = []; out = []; due = Some (sum_of r.now (retry_of r.version)) }
-
-    by_test : (b : Bool) → is_closed r.link ≡ b → Shuts (if b then r else shut)
-    by_test true is = record { closed = is; held = held is; out = out is }
-    by_test false is = record { closed = refl; held = refl; out = refl }
+closing_link r held out = by_close Shuts r (λ is. record { closed = is; held = held is; out = out is }) (λ is. record { closed = refl; held = refl; out = refl })
 
 pub idle_reads : (l : Link) → is_idle l ≡ true → is_reading l ≡ true
 idle_reads Idle h = refl
-idle_reads Closed h = false_true h
-idle_reads (Ended end) h = false_true h
-idle_reads (Asked q) h = false_true h
-idle_reads (Answering a) h = false_true h
+idle_reads _ h = false_true h
 
 due_idle : (l : Link) (when : Option ℕ) (now : ℕ) → is_due l when now ≡ true → is_idle l ≡ true
 due_idle Idle when now h = refl
-due_idle Closed when now h = false_true h
-due_idle (Ended end) when now h = false_true h
-due_idle (Asked q) when now h = false_true h
-due_idle (Answering a) when now h = false_true h
+due_idle _ when now h = false_true h
 
 -- the calls
 closed_comes : (now : ℕ) (r : Router) (items : List Item) (bytes : List ℕ) → Comes r items bytes → Tells (close (clocked now r)) (Shut ∷ At now ∷ items) → Comes (close (clocked now r)) (Shut ∷ At now ∷ items) bytes
@@ -174,14 +111,8 @@ closed_comes now r items bytes c tells =
 asks_comes : (r : Router) (items : List Item) (bytes : List ℕ) (b : Bool) → (b ≡ true → is_idle r.link ≡ true) → Comes r items bytes → Tells (asks_if b r).router ((asks_if b r).items ++ items) → Comes (asks_if b r).router ((asks_if b r).items ++ items) bytes
 asks_comes r items bytes false idle c tells = record { tells = tells; live = c.live; split = c.split; none_held = c.none_held; none_out = c.none_out }
 asks_comes r items bytes true idle c tells =
-    let q : Quiet items (Asks (choose (of_version r.spoken r.version) r.mark) ∷ items) = record { units = refl; fault = refl; agreed = refl; version = refl } in
-    record {
-      tells = tells;
-      live = λ h. quiet_live r (ask r) items (Asks (choose (of_version r.spoken r.version) r.mark) ∷ items) bytes q refl (c.live (idle_reads r.link (idle refl)));
-      split = quiet_split items (Asks (choose (of_version r.spoken r.version) r.mark) ∷ items) bytes q c.split;
-      none_held = λ h. false_true h;
-      none_out = λ h. false_true h;
-    }
+    still_comes r (ask r) items (Asks (choose (of_version r.spoken r.version) r.mark) ∷ items) bytes
+    (record { held = refl; reads = λ h. idle_reads r.link (idle refl); closed = λ h. false_true h; out = λ h. false_true h }) (record { units = refl; fault = refl; agreed = refl; version = refl }) tells c
 
 connect_comes : (now : ℕ) (r : Router) (items : List Item) (bytes : List ℕ) → Comes r items bytes → Tells (connects_at now r).router ((connects_at now r).items ++ items) → Comes (connects_at now r).router ((connects_at now r).items ++ items) []
 unfolding connects_at
@@ -210,11 +141,8 @@ receive_comes : (now : ℕ) (wanting : Option ℕ) (piece : List ℕ) (r : Route
     → Comes (receives now wanting piece r).machine.router ((receives now wanting piece r).machine.items ++ items) (bytes ++ consumed (Receives now wanting piece) r)
 unfolding receives
 receive_comes now wanting piece r items bytes each c =
-    let start : Receiving = record { router = clocked now r; items = At now ∷ []; wanting = wanting } in
-    let taken = feed_takes stops router_byte (record { router = clocked now r; items = At now ∷ []; wanting = wanting }) piece in
-    let ran = run_comes (record { router = clocked now r; items = At now ∷ []; wanting = wanting }) taken.0 items bytes (bytes_front piece taken.0 _ taken.1.piece_is each) taken.1.shortest (clocked_comes now r items bytes c) in
-    subst (λ m. MComes m items (bytes ++ take (length piece - length (feed stops router_byte (record { router = clocked now r; items = At now ∷ []; wanting = wanting }) piece).rest) piece)) (sym taken.1.machine_is)
-    (subst (λ x. MComes (run stops router_byte (record { router = clocked now r; items = At now ∷ []; wanting = wanting }) taken.0) items (bytes ++ x)) (sym (front_of piece taken.0 _ taken.1.piece_is)) ran)
+    fed_keeps (λ m. router_stops m.router) router_byte (λ came m. MComes m items came) (λ came b m byte goes_on h. byte_comes m b items came byte goes_on h)
+    (record { router = clocked now r; items = At now ∷ []; wanting = wanting }) piece bytes each (clocked_comes now r items bytes c)
 
 -- no byte more
 same_bytes : (r : Router) (items : List Item) (bytes : List ℕ) → Comes r items bytes → Comes r items (bytes ++ [])
@@ -227,22 +155,13 @@ called_comes (Receives now wanting piece) calls each c = receive_comes now wanti
 called_comes (Pulls most) calls each c =
     let r : Router = (played calls).router in
     same_bytes (record r { out = drop most r.out }) (played calls).items (came calls)
-    (record {
-      tells = called_tells (Pulls most) (played calls).router (played calls).items c.tells;
-      live = λ h. quiet_live (played calls).router (record r { out = drop most r.out }) (played calls).items (played calls).items (came calls) (record { units = refl; fault = refl; agreed = refl; version = refl }) refl (c.live h);
-      split = c.split;
-      none_held = c.none_held;
-      none_out = λ h. drop_none most r.out (c.none_out h);
-    })
+    (still_comes r (record r { out = drop most r.out }) (played calls).items (played calls).items (came calls) (record { held = refl; reads = λ h. h; closed = λ h. h; out = λ h none. drop_none most r.out none })
+    (same_items (played calls).items) (called_tells (Pulls most) r (played calls).items c.tells) c)
 called_comes (Speaks version) calls each c =
-    same_bytes (record (played calls).router { speaks = version }) (played calls).items (came calls)
-    (record {
-      tells = called_tells (Speaks version) (played calls).router (played calls).items c.tells;
-      live = λ h. quiet_live (played calls).router (record (played calls).router { speaks = version }) (played calls).items (played calls).items (came calls) (record { units = refl; fault = refl; agreed = refl; version = refl }) refl (c.live h);
-      split = c.split;
-      none_held = c.none_held;
-      none_out = c.none_out;
-    })
+    let r : Router = (played calls).router in
+    same_bytes (record r { speaks = version }) (played calls).items (came calls)
+    (still_comes r (record r { speaks = version }) (played calls).items (played calls).items (came calls) (record { held = refl; reads = λ h. h; closed = λ h. h; out = λ h none. none })
+    (same_items (played calls).items) (called_tells (Speaks version) r (played calls).items c.tells) c)
 called_comes (Closes now) calls each c =
     same_bytes (close (clocked now (played calls).router)) (Shut ∷ At now ∷ (played calls).items) (came calls)
     (closed_comes now (played calls).router (played calls).items (came calls) c (called_tells (Closes now) (played calls).router (played calls).items c.tells))

@@ -1,5 +1,5 @@
 -- The transcript of a router has the split of what it consumed, after each PDU and fault.
-use Rattle.std.specs.Prelude.{◌≡◌, ℕ, ◌<◌, Bool, true, false, not, ◌&&◌, ◌==◌, List, [], ◌∷◌, ◌++◌, Option, Some, None, if◌then◌else◌, refl}
+use Rattle.std.specs.Prelude.{◌≡◌, ℕ, ◌<◌, Bool, true, false, not, ◌&&◌, List, [], ◌∷◌, ◌++◌, Option, None, if◌then◌else◌, refl}
 use Rattle.std.proofs.Common.{sym, ap, ◌∙◌, subst, subst₂, append_assoc}
 use Rattle.std.proofs.Math.Bool.{and-false, and-true}
 use Rattle.std.proofs.lemmas.List.{append-nil}
@@ -9,23 +9,24 @@ use Rattle.rtr_pdu.specs.Payloads.{AreBytes}
 use Rattle.rtr_pdu.specs.Stream.{AreRead, IsPartial, Shows, Splits, any_after, as_read, is_notify}
 use Rattle.rtr_pdu.specs.Unit as units
 use Rattle.rtr_pdu.specs.declared.unit.Unit.{Unit}
-use Rattle.rtr_pdu.specs.declared.unit.Unit.TheVariants.{SerialNotify, SerialQuery, ResetQuery, CacheResponse, Prefix, EndOfData, EndOfData0, CacheReset, RouterKey, ErrorReport}
+use Rattle.rtr_pdu.specs.declared.unit.Unit.TheVariants.{SerialNotify}
 use Rattle.rtr_pdu.specs.declared.unit.UnitFault.{UnitFault}
 use Rattle.rtr_pdu.proofs.JudgingLaws.{judge_case, whole_exactly}
 use Rattle.rtr_pdu.proofs.JudgingLaws as judging
 use Rattle.rtr_pdu.proofs.NextLaws.{next_size}
 use Rattle.rtr_pdu.proofs.ReaderLaws.{partial_empty}
 use Rattle.rtr_pdu.proofs.RunLaws.{AreRead-push, any_after-push}
-use Rattle.rtr_ends.specs.Timing.{default_intervals}
 use Rattle.rtr_ends.specs.Consumed.{units_read_in, fault_in}
-use Rattle.rtr_ends.specs.LinkRules.{Router, Staged, Stays, Wrong, Over, ask, commit, emptied, fails, is_news, is_strange, may_lack, on_unit, stage, staged, ended_by, told_off}
+use Rattle.rtr_ends.specs.LinkRules.{Router, may_lack, on_unit}
 use Rattle.rtr_ends.specs.Router.{Noted, asked_by, lacks, reads, with_bytes}
 use Rattle.rtr_ends.specs.RouterLaws.{LinkTells}
-use Rattle.rtr_ends.specs.RouterLink.{Link, Closed, Idle, Asked, Answering, Ended, is_closed, is_reading}
-use Rattle.rtr_ends.specs.Transcript.{Question, AskReset, AskSerial, Item, Asks, Reads, Lacks, base_of, bounded, has_agreed, is_connected, is_serial, is_wrong, later, of_version, retry_of, spoken, sum_of}
+use Rattle.rtr_ends.specs.RouterLink.{Link, Closed, Asked, Ended, is_closed, is_reading}
+use Rattle.rtr_ends.specs.Transcript.{Question, Item, Asks, Reads, Lacks, has_agreed, is_connected, later, spoken}
 use Rattle.rtr_ends.proofs.ByteLists.{none_bytes, more_bytes}
+use Rattle.rtr_ends.proofs.Effects.{unit_keeps}
 use Rattle.rtr_ends.proofs.KeptUnits.{Tells, bytes_add, connected}
 use Rattle.rtr_ends.proofs.TableLaws.{false_true}
+use Rattle.prefixes.proofs.Basics.{not_both}
 
 -- What a router that reads has consumed
 pub record Live (r : Router) (items : List Item) (bytes : List ℕ) : Type 0 where
@@ -59,106 +60,35 @@ live_split r items bytes l = (r.held, live_splits r items bytes l)
 pub reading_open : (l : Link) → is_reading l ≡ true → is_closed l ≡ true → ⊥
 reading_open Closed h c = let e : false ≡ true = h in cc
 reading_open (Ended end) h c = let e : false ≡ true = h in cc
-reading_open Idle h c = let e : false ≡ true = c in cc
-reading_open (Asked q) h c = let e : false ≡ true = c in cc
-reading_open (Answering a) h c = let e : false ≡ true = c in cc
+reading_open _ h c = let e : false ≡ true = c in cc
 
 -- What a link that reads says of agreement
 agreed_of : (l : Link) (agreed : Bool) (session : Option ℕ) (table : VrpSet) (items : List Item) → is_reading l ≡ true → LinkTells l agreed session table items → has_agreed items ≡ agreed
 agreed_of Closed agreed session table items live t = false_true live
 agreed_of (Ended end) agreed session table items live t = false_true live
-agreed_of Idle agreed session table items live t = t.3
-agreed_of (Asked q) agreed session table items live t = t.3
-agreed_of (Answering a) agreed session table items live t = t.3
+agreed_of _ agreed session table items live t = t.3
 
 -- A closed link has no connection.
 closed_of : (l : Link) (agreed : Bool) (session : Option ℕ) (table : VrpSet) (items : List Item) → is_closed l ≡ true → LinkTells l agreed session table items → is_connected items ≡ false
 closed_of Closed agreed session table items c t = t.0
-closed_of (Ended end) agreed session table items c t = false_true c
-closed_of Idle agreed session table items c t = false_true c
-closed_of (Asked q) agreed session table items c t = false_true c
-closed_of (Answering a) agreed session table items c t = false_true c
+closed_of _ agreed session table items c t = false_true c
 
 -- A question that is noted leaves what does not look at questions.
 pub asked_leaves : {X : Type 0} (f : List Item → X) (l : Link) (out : List ℕ) (items : List Item) → ((q : Question) → f (Asks q ∷ items) ≡ f items) → f (asked_by l out ++ items) ≡ f items
 asked_leaves f (Asked q) (b ∷ out) items leaves = leaves q
-asked_leaves f (Asked q) [] items leaves = refl
-asked_leaves f Closed out items leaves = refl
-asked_leaves f Idle out items leaves = refl
-asked_leaves f (Answering a) out items leaves = refl
-asked_leaves f (Ended end) out items leaves = refl
+asked_leaves f _ _ items leaves = refl
 
 -- A PDU agrees where it is no notify.
 agreed_more : (u : Unit) (items : List Item) → (not (has_agreed items) && is_notify u) ≡ not (has_agreed (Reads u ∷ items))
 agreed_more (SerialNotify session serial) items = and-true (not (has_agreed items))
-agreed_more (SerialQuery session serial) items = and-false (not (has_agreed items))
-agreed_more ResetQuery items = and-false (not (has_agreed items))
-agreed_more (CacheResponse session) items = and-false (not (has_agreed items))
-agreed_more (Prefix announce v) items = and-false (not (has_agreed items))
-agreed_more (EndOfData session serial refresh retry expire) items = and-false (not (has_agreed items))
-agreed_more (EndOfData0 session serial) items = and-false (not (has_agreed items))
-agreed_more CacheReset items = and-false (not (has_agreed items))
-agreed_more (RouterKey key) items = and-false (not (has_agreed items))
-agreed_more (ErrorReport e) items = and-false (not (has_agreed items))
+agreed_more _ items = and-false (not (has_agreed items))
 
 -- No PDU changes what is held, and the version of the next connection.
 abbrev pub SameHand : Router → Router → Type 0
 SameHand r n = (n.held ≡ r.held) × (n.speaks ≡ r.speaks)
 
-if_held : (b : Bool) (r : Router) (x y : Router) → SameHand r x → SameHand r y → SameHand r (if b then x else y)
-if_held true r x y hx hy = hx
-if_held false r x y hx hy = hy
-
-staged_held : (u : Unit) (st : Staged) (r : Router) → SameHand r (staged u st r)
-staged_held u (Stays a) r = (refl, refl)
-staged_held u (Wrong code) r = (refl, refl)
-staged_held u Over r = (refl, refl)
-
-told_held : (q : Question) (code : ℕ) (r : Router) → SameHand r (told_off q code r)
-told_held q code r =
-    if_held (code == 2) r (record r { link = Idle; due = Some (sum_of r.now (retry_of r.version)); no_data = true }) (if code == 0 && is_serial (Some q) then ended_by code (emptied r) else ended_by code r) (refl, refl)
-    (if_held (code == 0 && is_serial (Some q)) r (ended_by code (emptied r)) (ended_by code r) (refl, refl) (refl, refl))
-
 pub unit_held : (l : Link) (u : Unit) (r : Router) → SameHand r (on_unit l u r)
-unfolding on_unit
-unit_held Closed u r = (refl, refl)
-unit_held (Ended end) u r = (refl, refl)
-unit_held Idle (SerialNotify session serial) r =
-    if_held (is_strange r session) r (fails (SerialNotify session serial) r) (if is_news (of_version r.spoken r.version) serial then ask r else r) (refl, refl) (if_held (is_news (of_version r.spoken r.version) serial) r (ask r) r (refl, refl) (refl, refl))
-unit_held Idle (ErrorReport e) r = if_held (e.code == 2) r r (ended_by e.code r) (refl, refl) (refl, refl)
-unit_held Idle (SerialQuery session serial) r = (refl, refl)
-unit_held Idle ResetQuery r = (refl, refl)
-unit_held Idle (CacheResponse session) r = (refl, refl)
-unit_held Idle (Prefix announce v) r = (refl, refl)
-unit_held Idle (EndOfData session serial refresh retry expire) r = (refl, refl)
-unit_held Idle (EndOfData0 session serial) r = (refl, refl)
-unit_held Idle CacheReset r = (refl, refl)
-unit_held Idle (RouterKey key) r = (refl, refl)
-unit_held (Asked q) (SerialNotify session serial) r = if_held (is_strange r session) r (fails (SerialNotify session serial) r) r (refl, refl) (refl, refl)
-unit_held (Asked q) (CacheResponse session) r =
-    if_held (is_wrong (Some q) (of_version r.spoken r.version) session) r (fails (CacheResponse session) r)
-    (record r { agreed = true; session = Some session; link = Answering (record { question = q; session = session; withdrawn = []; announced = [] }) }) (refl, refl) (refl, refl)
-unit_held (Asked (AskSerial session serial)) CacheReset r = (refl, refl)
-unit_held (Asked AskReset) CacheReset r = (refl, refl)
-unit_held (Asked q) (ErrorReport e) r = told_held q e.code (record r { agreed = true })
-unit_held (Asked q) (SerialQuery session serial) r = (refl, refl)
-unit_held (Asked q) ResetQuery r = (refl, refl)
-unit_held (Asked q) (Prefix announce v) r = (refl, refl)
-unit_held (Asked q) (EndOfData session serial refresh retry expire) r = (refl, refl)
-unit_held (Asked q) (EndOfData0 session serial) r = (refl, refl)
-unit_held (Asked q) (RouterKey key) r = (refl, refl)
-unit_held (Answering a) (SerialNotify session serial) r = if_held (is_strange r session) r (fails (SerialNotify session serial) r) r (refl, refl) (refl, refl)
-unit_held (Answering a) (Prefix announce v) r = staged_held (Prefix announce v) (stage (base_of a.question r.table) a announce v) r
-unit_held (Answering a) (RouterKey key) r = (refl, refl)
-unit_held (Answering a) (EndOfData session serial refresh retry expire) r =
-    if_held (session == a.session) r (commit a (record { version = r.spoken; session = session; serial = serial; moment = r.now; intervals = bounded refresh retry expire }) r) (fails (EndOfData session serial refresh retry expire) r) (refl, refl) (refl, refl)
-unit_held (Answering a) (EndOfData0 session serial) r =
-    if_held (session == a.session) r (commit a (record { version = r.spoken; session = session; serial = serial; moment = r.now; intervals = default_intervals }) r) (fails (EndOfData0 session serial) r) (refl, refl) (refl, refl)
-unit_held (Answering a) (ErrorReport e) r = told_held a.question e.code r
-unit_held (Answering a) (CacheResponse session) r = (refl, refl)
-unit_held (Answering a) (SerialQuery session serial) r = (refl, refl)
-unit_held (Answering a) ResetQuery r = (refl, refl)
-unit_held (Answering a) CacheReset r = (refl, refl)
+unit_held l u r = let k = unit_keeps l u r in (k.held, k.speaks)
 
 -- a list and one byte more
 more_whole : (bytes front held : List ℕ) (b : ℕ) → bytes ≡ front ++ held → bytes ++ b ∷ [] ≡ front ++ (held ++ b ∷ [])
@@ -231,9 +161,6 @@ reads_come r u items bytes none live before h any tells = record {
 
     goes : is_connected later ≡ true
     goes = ap is_connected later_is ∙ asked_leaves is_connected n.link n.out (Reads u ∷ items) (λ q. refl) ∙ connected r.link r.agreed r.session r.table items live before.link
-
-    not_both : (b : Bool) → b ≡ true → b ≡ false → ⊥
-    not_both b goes_on closed = cc
 
 -- the next byte, as it is judged
 pub bytes_come : (memory : Bool) (b : ℕ) (r : Router) (items : List Item) (bytes : List ℕ) → b < 256 → is_reading r.link ≡ true → r.out ≡ [] → Tells r items → Live r items bytes

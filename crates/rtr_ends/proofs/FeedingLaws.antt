@@ -1,13 +1,14 @@
 -- What a machine takes of a piece.
-use Rattle.std.specs.Prelude.{◌≡◌, ℕ, ◌<◌, Bool, true, false, List, [], ◌∷◌, ◌++◌, length, refl}
-use Rattle.std.proofs.Common.{sym, ap, subst, arith}
+use Rattle.std.specs.Prelude.{◌≡◌, ℕ, ◌-◌, ◌<◌, Bool, true, false, List, [], ◌∷◌, ◌++◌, length, suc, take, refl}
+use Rattle.std.proofs.Common.{sym, ap, subst, append_assoc, append-nil, arith}
+use Rattle.rtr_pdu.specs.Payloads.{AreBytes}
 use Rattle.rtr_ends.specs.Feeding.{FedPiece, feed, run, IsTaken, Takes}
+use Rattle.rtr_ends.proofs.ByteLists.{bytes_front, front_of}
 
 -- a list of no element has no part
 no_part : {X : Type 0} (front back : List X) → [] ≡ front ++ back → 0 < length back → ⊥
 no_part [] [] e some = absurd (omega (arith, some))
-no_part [] (x ∷ back) e some = cc
-no_part (x ∷ front) back e some = cc
+no_part _ _ e some = cc
 
 head_of : {X : Type 0} (x y : X) (xs ys : List X) → x ∷ xs ≡ y ∷ ys → x ≡ y
 head_of x y xs ys e = cc
@@ -66,6 +67,20 @@ module _ {M : Type 0} (stops : M → Bool) (step : M → ℕ → M) where
       by_test : (s : Bool) → stops m ≡ s → (P piece (step m b) → P (feed stops step (step m b) piece).rest (feed stops step (step m b) piece).machine) → P (by_stop m b piece s).rest (by_stop m b piece s).machine
       by_test true is on = h
       by_test false is on = on (keeps b piece m is h)
+
+  -- So is what each byte keeps of all that came.
+  pub fed_keeps : (P : List ℕ → M → Type 0) → ((came : List ℕ) (b : ℕ) (m : M) → b < 256 → stops m ≡ false → P came m → P (came ++ b ∷ []) (step m b))
+      → (m : M) (piece came : List ℕ) → AreBytes piece → P came m → P (came ++ take (length piece - length (feed stops step m piece).rest) piece) (feed stops step m piece).machine
+  fed_keeps P keeps m piece came each h =
+      let t = feed_takes m piece in
+      subst (λ n. P (came ++ take (length piece - length (feed stops step m piece).rest) piece) n) (sym t.1.machine_is)
+      (subst (λ x. P (came ++ x) (run stops step m t.0)) (sym (front_of piece t.0 _ t.1.piece_is)) (runs m t.0 came (bytes_front piece t.0 _ t.1.piece_is each) t.1.shortest h))
+    where
+      runs : (m : M) (taken came : List ℕ) → AreBytes taken → ((front back : List ℕ) → taken ≡ front ++ back → 0 < length back → stops (run stops step m front) ≡ false) → P came m → P (came ++ taken) (run stops step m taken)
+      runs m [] came each on h = subst (λ x. P x m) (sym (append-nil came)) h
+      runs m (b ∷ taken) came each on h =
+          subst (λ x. P x (run stops step (step m b) taken)) (append_assoc came (b ∷ []) taken)
+          (runs (step m b) taken (came ++ b ∷ []) (λ j. each (suc j)) (λ front back e some. on (b ∷ front) back (ap (λ x. b ∷ x) e) some) (keeps came b m (each 0) (on [] (b ∷ taken) refl (omega arith)) h))
 
   abbrev fed_to : M → List ℕ → FedPiece M
   fed_to m rest = record { machine = m; rest = rest }

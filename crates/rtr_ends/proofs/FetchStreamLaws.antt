@@ -1,8 +1,7 @@
 -- One connection of a router over a reader and a writer, from call to call.
-use Rattle.std.specs.Prelude.{◌≡◌, ℕ, ◌+◌, ◌-◌, ◌*◌, ◌<◌, ◌≤◌, Bool, true, false, not, ◌&&◌, min, List, [], ◌∷◌, ◌++◌, length, take, drop, Option, Some, None, Result, Ok, Err, if◌then◌else◌, refl}
+use Rattle.std.specs.Prelude.{◌≡◌, ℕ, ◌+◌, ◌-◌, ◌*◌, ◌<◌, ◌≤◌, Bool, true, false, not, ◌&&◌, min, List, [], ◌∷◌, ◌++◌, length, take, drop, Option, Some, None, Result, Ok, Err, refl}
 use Rattle.std.proofs.Common.{sym, ap, ◌∙◌, subst, arith, append_assoc}
 use Rattle.std.proofs.Math.Seq.{take-add}
-use Rattle.std.proofs.lemmas.Bool.{and_parts}
 use Rattle.std.proofs.lemmas.List.{append-nil, length-append, length-take, take-append-drop, take-append-le, take_all}
 use Rattle.std.specs.List.{AllByRecursion}
 use Rattle.std.specs.Io.KnownBytes.{Appends, Consumes, IsAtEnd, Keeps}
@@ -15,19 +14,19 @@ use Rattle.rtr_ends.specs.Cache.{finds_memory, is_none}
 use Rattle.rtr_ends.specs.Consumed.{came}
 use Rattle.rtr_ends.specs.Feeding.{FedPiece, feed}
 use Rattle.rtr_ends.specs.FetchStream.{AllAsked, Awaits, FetchEnds, FetchReads, FetchedAs, IsFetchCall, IsReached, StillAsks, Taken, TakenPart, is_asking, pulled_by, reached_by, calls_since}
-use Rattle.rtr_ends.specs.LinkRules.{Router, emptied, may_lack}
-use Rattle.rtr_ends.specs.Router.{RouterCall, Connects, Receives, Pulls, Closes, AsksNow, Ticks, Speaks, Receiving, clocked, connects_at, expired, lacks, played, reads, receives, router_byte, router_pulled, router_stops, with_bytes}
-use Rattle.rtr_ends.specs.RouterLink.{Link, Closed, Idle, Asked, Answering, Ended, is_closed, is_reading}
+use Rattle.rtr_ends.specs.LinkRules.{Router}
+use Rattle.rtr_ends.specs.Router.{RouterCall, Connects, Receives, Pulls, Receiving, clocked, connects_at, played, receives, router_byte, router_pulled, router_stops, with_bytes}
+use Rattle.rtr_ends.specs.RouterLink.{Link, Closed, Idle, Ended, is_closed, is_reading}
 use Rattle.rtr_ends.specs.RouterShown.{IsShown, CallsLead, LeadsOn, ReceivesSo}
-use Rattle.rtr_ends.specs.Transcript.{At, AskReset, AskSerial, is_over, is_serial, later}
+use Rattle.rtr_ends.specs.Transcript.{At}
 use Rattle.rtr_ends.specs.declared.fetching.Fetched.{Fetched}
 use Rattle.rtr_ends.specs.declared.fetching.Fetched.TheVariants as outcomes
-use Rattle.rtr_ends.specs.declared.link.End.TheVariants as ends
 use Rattle.rtr_ends.specs.declared.router.Router as code
 use Rattle.rtr_ends.specs.declared.streams.StreamFault.{StreamFault}
 use Rattle.rtr_ends.specs.declared.streams.StreamFault.TheVariants.{ReadFailed, WriteFailed}
+use Rattle.rtr_ends.proofs.Effects.{by_whole, clocked_keeps, goes_so, unit_keeps}
+use Rattle.rtr_ends.proofs.Effects as effects
 use Rattle.rtr_ends.proofs.FeedingLaws.{feed_keeps, goes_on, stopped}
-use Rattle.rtr_ends.proofs.RouterSteps.{clocked_keeps, unit_keeps}
 use Rattle.rtr_ends.proofs.ServeStreamLaws.{drop_none, part_after, rest_most}
 use Rattle.rtr_ends.proofs.TableLaws.{false_true}
 use Rattle.prefixes.proofs.Basics.{all_both}
@@ -42,35 +41,11 @@ none_out : (out room now : List ℕ) (count : ℕ) → (count ≡ min (length ro
 none_out [] room now count h none size = refl
 none_out (b ∷ out) room now count h none size = absurd (let c = h.0 in omega (arith, c, none, size))
 
--- The clock puts nothing out.
-clock_out : (now : ℕ) (r : Router) → r.out ≡ [] → (clocked now r).out ≡ []
-unfolding clocked
-clock_out now r none = by_test (is_over r.version (later r.now now))
-  where
-    told : Router
-    told = record r { now = later r.now now }
-
-    by_link : (l : Link) → (expired l told).out ≡ []
-    by_link Closed = none
-    by_link Idle = none
-    by_link (Ended end) = none
-    by_link (Asked AskReset) = none
-    by_link (Asked (AskSerial session serial)) = refl
-    by_link (Answering a) = by_serial (is_serial (Some a.question))
-      where
-        by_serial : (b : Bool) → (if b then record (emptied told) { link = Ended ends.Expired; out = [] } else emptied told).out ≡ []
-        by_serial true = refl
-        by_serial false = none
-
-    by_test : (b : Bool) → (if b then expired r.link told else told).out ≡ []
-    by_test true = by_link r.link
-    by_test false = none
-
 -- A router that has nothing to be pulled, and takes nothing, puts nothing out; and reads no more where there was a piece.
 pub none_received : (now : ℕ) (wanting : Option ℕ) (piece : List ℕ) (r : Router) → r.out ≡ [] → 0 ≡ length piece - length (receives now wanting piece r).rest
     → ((receives now wanting piece r).machine.router.out ≡ []) × (0 < length piece → is_reading (receives now wanting piece r).machine.router.link ≡ false)
 unfolding receives
-none_received now wanting [] r out none = (clock_out now r out, λ some. absurd (omega (arith, some)))
+none_received now wanting [] r out none = ((clocked_keeps now r).out out, λ some. absurd (omega (arith, some)))
 none_received now wanting (b ∷ piece) r out none = by_test (router_stops (clocked now r)) refl
   where
     start : Receiving
@@ -89,8 +64,8 @@ none_received now wanting (b ∷ piece) r out none = by_test (router_stops (cloc
     by_test : (s : Bool) → router_stops (clocked now r) ≡ s → (fed_on.machine.router.out ≡ []) × (0 < length (b ∷ piece) → is_reading fed_on.machine.router.link ≡ false)
     by_test true is =
         let e = stopped (λ m. router_stops m.router) router_byte start b piece is in
-        let silent : is_none (clocked now r).out ≡ true = ap is_none (clock_out now r out) in (
-          ap (λ (f : FedPiece Receiving). f.machine.router.out) e ∙ clock_out now r out,
+        let silent : is_none (clocked now r).out ≡ true = ap is_none ((clocked_keeps now r).out out) in (
+          ap (λ (f : FedPiece Receiving). f.machine.router.out) e ∙ (clocked_keeps now r).out out,
           λ some. ap (λ (f : FedPiece Receiving). is_reading f.machine.router.link) e ∙ not_reading (is_reading (clocked now r).link) (ap (λ x. not (is_reading (clocked now r).link && x)) (sym silent) ∙ is),
         )
     by_test false is =
@@ -100,28 +75,16 @@ none_received now wanting (b ∷ piece) r out none = by_test (router_stops (cloc
 
 -- A connection stays open while bytes come.
 pub open_link : (l : Link) → is_reading l ≡ true → is_closed l ≡ false
-open_link Closed h = false_true h
-open_link Idle h = refl
-open_link (Asked question) h = refl
-open_link (Answering a) h = refl
-open_link (Ended end) h = refl
+open_link l h = effects.open_link l h
 
 open_after : (memory : Bool) (bytes : List ℕ) (r : Router) (j : Judgement) → is_reading r.link ≡ true → is_closed (with_bytes memory bytes r j).router.link ≡ false
 open_after memory bytes r Begins h = open_link r.link h
 open_after memory bytes r (Faulty fault) h = refl
-open_after memory bytes r (Whole u) h = by_memory (may_lack r.link u r && not memory)
-  where
-    by_memory : (b : Bool) → is_closed (if b then lacks u (record r { held = [] }) else reads u (record r { held = [] })).router.link ≡ false
-    by_memory true = refl
-    by_memory false = (unit_keeps r.link u (record r { held = [] }) refl h).connected
+open_after memory bytes r (Whole u) h = by_whole (λ n. is_closed n.router.link ≡ false) memory bytes r u refl ((unit_keeps r.link u (record r { held = [] })).connected (open_link r.link h))
 
 byte_open : (b : ℕ) (rest : List ℕ) (m : Receiving) → router_stops m.router ≡ false → is_closed m.router.link ≡ false → is_closed (router_byte m b).router.link ≡ false
 unfolding router_byte
-byte_open b rest m on h = open_after (finds_memory m.wanting) (m.router.held ++ b ∷ []) m.router (judge m.router.spoken (not m.router.agreed) (m.router.held ++ b ∷ [])) (and_parts (is_reading m.router.link) (is_none m.router.out) (goes (is_reading m.router.link && is_none m.router.out) on)).0
-  where
-    goes : (b : Bool) → not b ≡ false → b ≡ true
-    goes true h = refl
-    goes false h = false_true (sym h)
+byte_open b rest m on h = open_after (finds_memory m.wanting) (m.router.held ++ b ∷ []) m.router (judge m.router.spoken (not m.router.agreed) (m.router.held ++ b ∷ [])) (goes_so m.router on).0
 
 receives_open : (now : ℕ) (wanting : Option ℕ) (piece : List ℕ) (r : Router) → is_closed r.link ≡ false → is_closed (receives now wanting piece r).machine.router.link ≡ false
 unfolding receives
@@ -133,11 +96,7 @@ unfolding connects_at router_pulled
 stays_open now calls [] h = refl
 stays_open now calls (Receives at wanting piece ∷ turns) h = receives_open at wanting piece (played (calls_since turns now calls)).router (stays_open now calls turns h.1)
 stays_open now calls (Pulls most ∷ turns) h = stays_open now calls turns h.1
-stays_open now calls (Connects at ∷ turns) h = absurd h.0
-stays_open now calls (Closes at ∷ turns) h = absurd h.0
-stays_open now calls (AsksNow ∷ turns) h = absurd h.0
-stays_open now calls (Ticks at ∷ turns) h = absurd h.0
-stays_open now calls (Speaks version ∷ turns) h = absurd h.0
+stays_open now calls _ h = absurd h.0
 
 -- What router.pull tells
 abbrev PullsBytes : (room now : List ℕ) (count : ℕ) → code.Router → Type 0
@@ -328,9 +287,7 @@ module _ (now : ℕ) (calls : List RouterCall) (before : Option (List ℕ)) (had
           by_link Idle false il ib h =
               subst (λ x. FetchEnds (calls_since w.turns now calls) w.unread left had has (Ok x)) (same h) (w.asked, no_rest w.unread (is_reading led_to.link) (ap is_reading il) w.all_read, il, ib)
           by_link (Ended end) b il ib h = subst (λ x. FetchEnds (calls_since w.turns now calls) w.unread left had has (Ok x)) (same h) (w.asked, il)
-          by_link Closed b il ib h = absurd (none h)
-          by_link (Asked question) b il ib h = absurd (none h)
-          by_link (Answering answer) b il ib h = absurd (none h)
+          by_link _ b il ib h = absurd (none h)
 
       -- One is.
       module _ (told : (r : Router) → IsShown r router → ◌≡◌ {A = Option Fetched} None (reached_by r.link r.no_data)) where
@@ -344,8 +301,7 @@ module _ (now : ℕ) (calls : List RouterCall) (before : Option (List ℕ)) (had
             by_link Closed b open_so h = false_true (sym open_so)
             by_link Idle b open_so h = absurd (none h)
             by_link (Ended end) b open_so h = absurd (none h)
-            by_link (Asked question) b open_so h = refl
-            by_link (Answering answer) b open_so h = refl
+            by_link _ b open_so h = refl
 
         reads_so : is_reading led_to.link ≡ true
         reads_so = by_link led_to.link asks
@@ -354,8 +310,7 @@ module _ (now : ℕ) (calls : List RouterCall) (before : Option (List ℕ)) (had
             by_link Closed h = h
             by_link Idle h = refl
             by_link (Ended end) h = h
-            by_link (Asked question) h = refl
-            by_link (Answering answer) h = refl
+            by_link _ h = refl
 
         pub all_consumed : w.unread ≡ []
         all_consumed = no_rest w.unread (is_reading led_to.link) reads_so w.all_read
@@ -415,5 +370,4 @@ pub reads_reached : (limit before now : ℕ) (fetched : Fetched) → IsReached f
 reads_reached limit before now outcomes.Committed h least most = (least, most)
 reads_reached limit before now outcomes.NoData h least most = (least, most)
 reads_reached limit before now (outcomes.Ended end) h least most = (least, most)
-reads_reached limit before now outcomes.PeerClosed h least most = absurd h
-reads_reached limit before now outcomes.Limit h least most = absurd h
+reads_reached limit before now _ h least most = absurd h

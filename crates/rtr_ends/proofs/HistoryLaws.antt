@@ -94,9 +94,7 @@ quiet keep t c (Pull count ∷ later) bytes e h =
     let more = quiet keep t (conn_after keep t c (Pull count)) later h.1.0 e h.1.2 in
     record { bytes_are = h.1.1 ∙ more.bytes_are; units_are = more.units_are }
 quiet keep t c (Read version cache unit bytes' ∷ later) bytes e h = absurd (not_both c.ended e h.0.0)
-quiet keep t c (Wanting version cache unit bytes' ∷ later) bytes e h = absurd (not_both c.ended e h.0.0)
-quiet keep t c (Fault version fault bytes' ∷ later) bytes e h = absurd (not_both c.ended e h.0.0)
-quiet keep t c (Notify version cache held ∷ later) bytes e h = absurd (not_both c.ended e h.0.0)
+quiet keep t c _ bytes e h = absurd (not_both c.ended e h.0.0)
 
 abbrev HasSplit : Version → List ℕ → List Unit → Type 0
 HasSplit version bytes units = (rest : List ℕ) × (fault : Option UnitFault) × Splits version false bytes units rest fault

@@ -9,16 +9,17 @@ use Rattle.vrps.specs.VrpSet.{VrpSet, has, size}
 use Rattle.rtr_pdu.specs.Judging.{Judgement, Begins, Whole, Faulty}
 use Rattle.rtr_pdu.specs.Payloads.{Report}
 use Rattle.rtr_pdu.specs.declared.unit.Unit.{Unit}
-use Rattle.rtr_pdu.specs.declared.unit.Unit.TheVariants.{SerialNotify, SerialQuery, ResetQuery, CacheResponse, Prefix, EndOfData, EndOfData0, CacheReset, RouterKey, ErrorReport}
+use Rattle.rtr_pdu.specs.declared.unit.Unit.TheVariants.{SerialNotify, CacheResponse, Prefix, EndOfData, EndOfData0, CacheReset, RouterKey, ErrorReport}
 use Rattle.rtr_ends.specs.declared.link.End.{End}
 use Rattle.rtr_ends.specs.declared.link.End.TheVariants as ends
 use Rattle.rtr_pdu.specs.declared.version.Version.{Version}
 use Rattle.rtr_ends.specs.Answer.{sent}
-use Rattle.rtr_ends.specs.LinkRules.{Router, Staged, Stays, Wrong, Over, asking, ask, emptied, reports, ended_by, fails, is_strange, is_news, stage, staged, commit, told_off, on_unit, may_lack}
-use Rattle.rtr_ends.specs.Router.{Noted, asked_by, reads, lacks, with_bytes}
+use Rattle.rtr_ends.specs.LinkRules.{Router, Staged, Stays, Wrong, Over, asking, ask, emptied, reports, ended_by, fails, is_strange, is_news, stage, staged, commit, told_off, on_unit}
+use Rattle.rtr_ends.specs.Router.{Noted, asked_by, reads, with_bytes}
 use Rattle.rtr_ends.specs.RouterLaws.{LinkTells}
 use Rattle.rtr_ends.specs.RouterLink.{Link, Closed, Idle, Asked, Answering, Ended, is_reading}
 use Rattle.rtr_ends.specs.Timing.{Intervals, default_intervals}
+use Rattle.rtr_ends.proofs.Effects.{by_whole, either}
 use Rattle.rtr_ends.specs.Transcript.{choose, of_version, spoken, Question, AskReset, AskSerial, query, Item, Asks, Reads, Begun, begun, with_record, waiting, under_way, outstanding, question_of, has_agreed, responded, is_connected, moment, is_among, may_withdraw, may_announce, acts_once, led_to, Committed, Kept, nothing, bounded, base_of, session_of, differs, is_serial, is_wrong, does_commit, emptied_if, at_end_of_data, kept, sum_of, retry_of, refreshed, due}
 
 abbrev pub holds : Router → Kept
@@ -57,10 +58,7 @@ no_question l out e = ap (asked_by l) e ∙ none l
   where
     none : (l : Link) → asked_by l [] ≡ []
     none (Asked q) = refl
-    none Closed = refl
-    none Idle = refl
-    none (Answering a) = refl
-    none (Ended e) = refl
+    none _ = refl
 
 stays_after : (r : Router) (u : Unit) (items : List Item) (l : Link) → r.link ≡ l → r.out ≡ [] → Leaves r u items → LinkTells l r.agreed r.session r.table (Reads u ∷ items) → After r u items
 stays_after r u items l is none h t =
@@ -168,9 +166,6 @@ told_unit r q e items agreed c h asked session = by_two (e.code == 2) refl
     by_two false two = subst (λ x. After (by_test x) (ErrorReport e) items) (sym two) (by_zero (e.code == 0 && is_serial (Some q)) refl two)
 
 -- a PDU that ends the link with code 0
-abbrev Ends0 : Router → Unit → List Item → Type 0
-Ends0 r u items = After (reports 0 u r) u items
-
 ends_0 : (r : Router) (u : Unit) (items : List Item) → is_connected items ≡ true → Before r items → kept (Reads u ∷ items) ≡ holds r → due (Reads u ∷ items) ≡ r.due → After (reports 0 u r) u items
 ends_0 r u items c h k d = ended_after (reports 0 u r) u items (ends.Reported 0) refl c (record { kept_is = k; due_is = d; now_is = h.now_is; spoken_is = h.spoken_is })
 
@@ -194,11 +189,7 @@ idle_unit r (CacheResponse session) items is h l = ends_0 r (CacheResponse sessi
 idle_unit r (EndOfData session serial refresh retry expire) items is h l =
     end_nothing r items (EndOfData session serial refresh retry expire) session serial (bounded refresh retry expire) l.0 h l.2 refl refl
 idle_unit r (EndOfData0 session serial) items is h l = end_nothing r items (EndOfData0 session serial) session serial default_intervals l.0 h l.2 refl refl
-idle_unit r (SerialQuery session serial) items is h l = ends_0 r (SerialQuery session serial) items l.0 h h.kept_is h.due_is
-idle_unit r ResetQuery items is h l = ends_0 r ResetQuery items l.0 h h.kept_is h.due_is
-idle_unit r (Prefix announce v) items is h l = ends_0 r (Prefix announce v) items l.0 h h.kept_is h.due_is
-idle_unit r (RouterKey key) items is h l = ends_0 r (RouterKey key) items l.0 h h.kept_is h.due_is
-idle_unit r CacheReset items is h l = ends_0 r CacheReset items l.0 h h.kept_is h.due_is
+idle_unit r u items is h l = ends_0 r u items l.0 h h.kept_is h.due_is
 
 -- a Cache Response to the question
 response_after : (r : Router) (q : Question) (session : ℕ) (items : List Item) (b : Bool) → is_connected items ≡ true → Before r items → kept (Reads (CacheResponse session) ∷ items) ≡ emptied_if b (holds r) → waiting items ≡ Some q
@@ -226,43 +217,21 @@ asked_unit r q (ErrorReport e) items is h l =
 asked_unit r q (EndOfData session serial refresh retry expire) items is h l =
     end_nothing r items (EndOfData session serial refresh retry expire) session serial (bounded refresh retry expire) l.0 h l.2 refl refl
 asked_unit r q (EndOfData0 session serial) items is h l = end_nothing r items (EndOfData0 session serial) session serial default_intervals l.0 h l.2 refl refl
-asked_unit r q (SerialQuery session serial) items is h l = ends_0 r (SerialQuery session serial) items l.0 h h.kept_is h.due_is
-asked_unit r q ResetQuery items is h l = ends_0 r ResetQuery items l.0 h h.kept_is h.due_is
-asked_unit r q (Prefix announce v) items is h l = ends_0 r (Prefix announce v) items l.0 h h.kept_is h.due_is
-asked_unit r q (RouterKey key) items is h l = ends_0 r (RouterKey key) items l.0 h h.kept_is h.due_is
+asked_unit r q u items is h l = ends_0 r u items l.0 h h.kept_is h.due_is
 
 -- how a record is staged, where what is staged acts once
 abbrev More : VrpSet → Begun → Bool → Payload → Begun → Type 0
 More base a announce v b =
     (with_record announce v (Some a) ≡ Some b) × (b.question ≡ a.question) × (acts_once base b.withdrawn b.announced ≡ true)
 
-withdrawn_more : (base : VrpSet) (a : Begun) (v : Payload) (P : Staged → Type 0) → acts_once base a.withdrawn a.announced ≡ true
-    → ((b : Begun) → More base a false v b → P (Stays b)) → ((code : ℕ) → P (Wrong code)) → P Over → P (stage base a false v)
-withdrawn_more base a v P once stays wrong over = by_test (has base v && not (is_among v a.withdrawn)) refl
-  where
-    b : Begun
-    b = record a { withdrawn = v ∷ a.withdrawn }
-
-    by_test : (t : Bool) → (has base v && not (is_among v a.withdrawn)) ≡ t → P (if t then Stays b else Wrong 6)
-    by_test true is = stays b (refl, refl, ap (λ x. (x && may_withdraw base a.withdrawn) && may_announce base a.announced) is ∙ once)
-    by_test false is = wrong 6
-
-announced_more : (base : VrpSet) (a : Begun) (v : Payload) (P : Staged → Type 0) → acts_once base a.withdrawn a.announced ≡ true
-    → ((b : Begun) → More base a true v b → P (Stays b)) → ((code : ℕ) → P (Wrong code)) → P Over → P (stage base a true v)
-announced_more base a v P once stays wrong over = by_test (has base v || is_among v a.announced) refl
-  where
-    b : Begun
-    b = record a { announced = v ∷ a.announced }
-
-    by_size : (t : Bool) → (not (has base v) && not (is_among v a.announced)) ≡ true → P (if t then Over else Stays b)
-    by_size true is = over
-    by_size false is = stays b (refl, refl, ap (λ x. may_withdraw base a.withdrawn && (x && may_announce base a.announced)) is ∙ once)
-
-    by_test : (t : Bool) → (has base v || is_among v a.announced) ≡ t → P (if t then Wrong 7 else if nat_lt 16777215 (size (led_to base a.withdrawn (v ∷ a.announced))) then Over else Stays b)
-    by_test true is = wrong 7
-    by_test false is =
-        let parts = or_parts (has base v) (is_among v a.announced) is in
-        by_size (nat_lt 16777215 (size (led_to base a.withdrawn (v ∷ a.announced)))) (λ i. not (parts.0 i) && not (parts.1 i))
+record_more : (base : VrpSet) (a : Begun) (announce : Bool) (v : Payload) (P : Staged → Type 0) → acts_once base a.withdrawn a.announced ≡ true
+    → ((b : Begun) → More base a announce v b → P (Stays b)) → ((code : ℕ) → P (Wrong code)) → P Over → P (stage base a announce v)
+record_more base a false v P once stays wrong over = either P (has base v && not (is_among v a.withdrawn)) _ _
+    (λ is. stays (record a { withdrawn = v ∷ a.withdrawn }) (refl, refl, ap (λ x. (x && may_withdraw base a.withdrawn) && may_announce base a.announced) is ∙ once)) (λ other. wrong 6)
+record_more base a true v P once stays wrong over = either P (has base v || is_among v a.announced) _ _ (λ known. wrong 7)
+    (λ new. let parts = or_parts (has base v) (is_among v a.announced) new in
+    either P (nat_lt 16777215 (size (led_to base a.withdrawn (v ∷ a.announced)))) _ _ (λ much. over)
+    (λ fits. stays (record a { announced = v ∷ a.announced }) (refl, refl, (λ i. may_withdraw base a.withdrawn && ((not (parts.0 i) && not (parts.1 i)) && may_announce base a.announced)) ∙ once)))
 
 record_staged : (r : Router) (a : Begun) (announce : Bool) (v : Payload) (items : List Item) → Before r items → LinkTells (Answering a) r.agreed r.session r.table items
     → (b : Begun) → More (base_of a.question r.table) a announce v b → After (record r { link = Answering b }) (Prefix announce v) items
@@ -308,16 +277,11 @@ answering_unit : (r : Router) (a : Begun) (u : Unit) (items : List Item) → r.l
 unfolding on_unit
 answering_unit r a (SerialNotify session serial) items is h l =
     other_notified r items session serial (is_strange r session) (Answering a) is l.0 h (notify_leaves r items session serial (is_strange r session) h l.3 l.4 refl) l
-answering_unit r a (Prefix false v) items is h l =
-    withdrawn_more (base_of a.question r.table) a v (λ st. After (staged (Prefix false v) st r) (Prefix false v) items) l.6
-    (record_staged r a false v items h l)
-    (λ code. ended_after (record (reports code (Prefix false v) r) { mark = true }) (Prefix false v) items (ends.Reported code) refl l.0 (record { kept_is = h.kept_is; due_is = h.due_is; now_is = h.now_is; spoken_is = h.spoken_is }))
-    (ended_after (record r { link = Ended ends.TooMany }) (Prefix false v) items ends.TooMany refl l.0 (record { kept_is = h.kept_is; due_is = h.due_is; now_is = h.now_is; spoken_is = h.spoken_is }))
-answering_unit r a (Prefix true v) items is h l =
-    announced_more (base_of a.question r.table) a v (λ st. After (staged (Prefix true v) st r) (Prefix true v) items) l.6
-    (record_staged r a true v items h l)
-    (λ code. ended_after (record (reports code (Prefix true v) r) { mark = true }) (Prefix true v) items (ends.Reported code) refl l.0 (record { kept_is = h.kept_is; due_is = h.due_is; now_is = h.now_is; spoken_is = h.spoken_is }))
-    (ended_after (record r { link = Ended ends.TooMany }) (Prefix true v) items ends.TooMany refl l.0 (record { kept_is = h.kept_is; due_is = h.due_is; now_is = h.now_is; spoken_is = h.spoken_is }))
+answering_unit r a (Prefix announce v) items is h l =
+    record_more (base_of a.question r.table) a announce v (λ st. After (staged (Prefix announce v) st r) (Prefix announce v) items) l.6
+    (record_staged r a announce v items h l)
+    (λ code. ended_after (record (reports code (Prefix announce v) r) { mark = true }) (Prefix announce v) items (ends.Reported code) refl l.0 (record { kept_is = h.kept_is; due_is = h.due_is; now_is = h.now_is; spoken_is = h.spoken_is }))
+    (ended_after (record r { link = Ended ends.TooMany }) (Prefix announce v) items ends.TooMany refl l.0 (record { kept_is = h.kept_is; due_is = h.due_is; now_is = h.now_is; spoken_is = h.spoken_is }))
 answering_unit r a (RouterKey key) items is h l =
     stays_after r (RouterKey key) items (Answering a) is h.none (record { kept_is = h.kept_is; due_is = h.due_is; now_is = h.now_is; spoken_is = h.spoken_is }) (l.0, refl, l.2, sym l.5, l.4, l.5, l.6)
 answering_unit r a (EndOfData session serial refresh retry expire) items is h l =
@@ -326,9 +290,7 @@ answering_unit r a (EndOfData0 session serial) items is h l =
     end_unit r a (EndOfData0 session serial) session serial default_intervals items h l refl refl (l.0, refl, refl, sym l.5, l.4, l.5)
 answering_unit r a (ErrorReport e) items is h l = told_unit r a.question e items l.5 l.0 h (λ i. question_of (l.2 i) (l.1 i)) l.4
 answering_unit r a (CacheResponse session) items is h l = ends_0 r (CacheResponse session) items l.0 h (ap (λ o. emptied_if (is_wrong o (of_version (spoken items) (kept items).version) session) (kept items)) l.1 ∙ h.kept_is) h.due_is
-answering_unit r a (SerialQuery session serial) items is h l = ends_0 r (SerialQuery session serial) items l.0 h h.kept_is h.due_is
-answering_unit r a ResetQuery items is h l = ends_0 r ResetQuery items l.0 h h.kept_is h.due_is
-answering_unit r a CacheReset items is h l = ends_0 r CacheReset items l.0 h h.kept_is h.due_is
+answering_unit r a u items is h l = ends_0 r u items l.0 h h.kept_is h.due_is
 
 -- every PDU
 pub live_unit : (r : Router) (l : Link) (u : Unit) (items : List Item) → is_reading l ≡ true → r.link ≡ l → Before r items → LinkTells l r.agreed r.session r.table items → After (on_unit l u r) u items
@@ -341,9 +303,7 @@ live_unit r (Answering a) u items live is h t = answering_unit r a u items is h 
 pub connected : (l : Link) (agreed : Bool) (session : Option ℕ) (table : VrpSet) (items : List Item) → is_reading l ≡ true → LinkTells l agreed session table items → is_connected items ≡ true
 connected Closed agreed session table items live t = absurd (let e : false ≡ true = live in cc)
 connected (Ended end) agreed session table items live t = absurd (let e : false ≡ true = live in cc)
-connected Idle agreed session table items live t = t.0
-connected (Asked q) agreed session table items live t = t.0
-connected (Answering a) agreed session table items live t = t.0
+connected _ agreed session table items live t = t.0
 
 -- what a call adds stands before the transcript
 pub record Adds (n : Noted) (items : List Item) : Type 0 where
@@ -358,11 +318,6 @@ pub bytes_add : (memory : Bool) (bytes : List ℕ) (r : Router) (j : Judgement) 
 bytes_add memory bytes r Begins items live none t = record { tells = record { kept_is = t.kept_is; due_is = t.due_is; now_is = t.now_is; spoken_is = t.spoken_is; link = t.link } }
 bytes_add memory bytes r (Faulty fault) items live none t =
     record { tells = record { kept_is = t.kept_is; due_is = t.due_is; now_is = t.now_is; spoken_is = t.spoken_is; link = connected r.link r.agreed r.session r.table items live t.link } }
-bytes_add memory bytes r (Whole u) items live none t = by_memory (may_lack r.link u r && not memory)
-  where
-    emptied_hand : Router
-    emptied_hand = record r { held = [] }
-
-    by_memory : (b : Bool) → Adds (if b then lacks u emptied_hand else reads u emptied_hand) items
-    by_memory true = record { tells = record { kept_is = t.kept_is; due_is = t.due_is; now_is = t.now_is; spoken_is = t.spoken_is; link = connected r.link r.agreed r.session r.table items live t.link } }
-    by_memory false = reads_adds emptied_hand u items live none (record { kept_is = t.kept_is; due_is = t.due_is; now_is = t.now_is; spoken_is = t.spoken_is; link = t.link })
+bytes_add memory bytes r (Whole u) items live none t = by_whole (λ n. Adds n items) memory bytes r u
+    (record { tells = record { kept_is = t.kept_is; due_is = t.due_is; now_is = t.now_is; spoken_is = t.spoken_is; link = connected r.link r.agreed r.session r.table items live t.link } })
+    (reads_adds (record r { held = [] }) u items live none (record { kept_is = t.kept_is; due_is = t.due_is; now_is = t.now_is; spoken_is = t.spoken_is; link = t.link }))

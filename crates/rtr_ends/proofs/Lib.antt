@@ -9,6 +9,7 @@ pub mod CommitLaws
 pub mod CountedRows
 pub mod ConsumedLaws
 pub mod ConsumedUnits
+pub mod Effects
 pub mod FaultRows
 pub mod FeedingLaws
 pub mod FetchStreamLaws

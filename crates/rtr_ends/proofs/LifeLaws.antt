@@ -80,20 +80,12 @@ keeps (Notify d) m c l is fits h = by_test (c == d) refl
 
 instance_kept : (call : CacheCall) (m : CacheState) → IsInstance m.cache → IsCacheCall call → IsInstance (cache_called call m).cache
 instance_kept (Publish set) m is fits = published_is_instance set m.cache fits is
-instance_kept (Open c) m is fits = is
-instance_kept (Close c) m is fits = is
-instance_kept (Receive c wanting piece) m is fits = is
-instance_kept (Pull c most) m is fits = is
-instance_kept (Notify c) m is fits = is
+instance_kept _ m is fits = is
 
 -- no call changes how many versions are kept, and the intervals
 same_rest : (call : CacheCall) (m : CacheState) → ((cache_called call m).keep ≡ m.keep) × ((cache_called call m).timing ≡ m.timing)
 same_rest (Publish set) m = (refl, refl)
-same_rest (Open c) m = (refl, refl)
-same_rest (Close c) m = (refl, refl)
-same_rest (Receive c wanting piece) m = (refl, refl)
-same_rest (Pull c most) m = (refl, refl)
-same_rest (Notify c) m = (refl, refl)
+same_rest _ m = (refl, refl)
 
 all_agree : (calls : List CacheCall) (m : CacheState) → IsInstance m.cache → ((c : ℕ) → m.at c ≡ None) → AllByRecursion IsCacheCall calls
     → IsInstance (ran calls m).cache × ((c : ℕ) → Agrees (ran calls m).keep (ran calls m).timing (ran calls m).cache ((ran calls m).at c) (life calls m c))

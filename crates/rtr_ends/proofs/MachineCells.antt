@@ -15,7 +15,7 @@ use Rattle.rtr_ends.specs.Answer.{report, sent}
 use Rattle.rtr_ends.specs.LinkRules as rules
 use Rattle.rtr_ends.specs.LinkRules.{Router, ask, asking, commit, fails, is_news, is_staged, is_strange, may_lack, on_unit, reports, stage, staged, ended_by, told_off}
 use Rattle.rtr_ends.specs.Router.{asks, asks_if, clocked, close, closed_at, connects_at, expired, judged_by_clock, ticks_at}
-use Rattle.rtr_ends.specs.RouterLink.{Link, Idle, Asked, Answering, Ended, is_due, is_idle}
+use Rattle.rtr_ends.specs.RouterLink.{Link, Closed, Idle, Asked, Answering, Ended, is_due, is_idle}
 use Rattle.rtr_ends.specs.Timing.{default_intervals}
 use Rattle.rtr_ends.specs.Transcript.{Question, AskReset, AskSerial, Begun, base_of, bounded, is_over, is_wrong, later, of_version, query, sum_of, within}
 use Rattle.rtr_ends.specs.Seen.{Does, EndsLink, IsStaged, UnitIsRead, ShowsRouter, Stages, begun_with, seen, seen_link, seen_question, seen_version, seen_versions}
@@ -100,63 +100,42 @@ asks_again old new e r s =
     (record { withdrawn = s.withdrawn; announced = s.announced; staged = tt; is = ap (λ (x : Router). asking AskReset (record x { agreed = true })) s.is })
 
 -- PDUs that do not belong where they come
-abbrev pub foreign_idle : Unit → Bool
-foreign_idle (SerialNotify session serial) = false
-foreign_idle (ErrorReport e) = false
-foreign_idle u = true
+abbrev pub foreign : Link → Unit → Bool
+foreign Idle (SerialNotify session serial) = false
+foreign Idle (ErrorReport e) = false
+foreign Idle u = true
+foreign (Asked q) (SerialNotify session serial) = false
+foreign (Asked q) (CacheResponse session) = false
+foreign (Asked q) CacheReset = false
+foreign (Asked q) (ErrorReport e) = false
+foreign (Asked q) u = true
+foreign (Answering a) (CacheResponse session) = true
+foreign (Answering a) CacheReset = true
+foreign (Answering a) (SerialQuery session serial) = true
+foreign (Answering a) ResetQuery = true
+foreign l u = false
 
-pub idle_rejects : (u : Unit) → foreign_idle u ≡ true → (r : Router) → on_unit Idle u r ≡ reports 0 u r
+rejects : (l : Link) (u : Unit) → foreign l u ≡ true → (r : Router) → on_unit l u r ≡ reports 0 u r
 unfolding on_unit
-idle_rejects (SerialNotify session serial) h r = false_true h
-idle_rejects (ErrorReport e) h r = false_true h
-idle_rejects (SerialQuery session serial) h r = refl
-idle_rejects ResetQuery h r = refl
-idle_rejects (CacheResponse session) h r = refl
-idle_rejects (Prefix announce v) h r = refl
-idle_rejects (EndOfData session serial refresh retry expire) h r = refl
-idle_rejects (EndOfData0 session serial) h r = refl
-idle_rejects CacheReset h r = refl
-idle_rejects (RouterKey key) h r = refl
+rejects Idle (SerialNotify session serial) h r = false_true h
+rejects Idle (ErrorReport e) h r = false_true h
+rejects Idle _ h r = refl
+rejects (Asked q) (SerialNotify session serial) h r = false_true h
+rejects (Asked q) (CacheResponse session) h r = false_true h
+rejects (Asked q) CacheReset h r = false_true h
+rejects (Asked q) (ErrorReport e) h r = false_true h
+rejects (Asked q) _ h r = refl
+rejects (Answering a) (CacheResponse session) h r = refl
+rejects (Answering a) CacheReset h r = refl
+rejects (Answering a) (SerialQuery session serial) h r = refl
+rejects (Answering a) ResetQuery h r = refl
+rejects (Answering a) _ h r = false_true h
+rejects Closed _ h r = false_true h
+rejects (Ended end) _ h r = false_true h
 
-abbrev pub foreign_asked : Unit → Bool
-foreign_asked (SerialNotify session serial) = false
-foreign_asked (CacheResponse session) = false
-foreign_asked CacheReset = false
-foreign_asked (ErrorReport e) = false
-foreign_asked u = true
-
-pub asked_rejects : (q : Question) (u : Unit) → foreign_asked u ≡ true → (r : Router) → on_unit (Asked q) u r ≡ reports 0 u r
-unfolding on_unit
-asked_rejects q (SerialNotify session serial) h r = false_true h
-asked_rejects q (CacheResponse session) h r = false_true h
-asked_rejects q CacheReset h r = false_true h
-asked_rejects q (ErrorReport e) h r = false_true h
-asked_rejects q (SerialQuery session serial) h r = refl
-asked_rejects q ResetQuery h r = refl
-asked_rejects q (Prefix announce v) h r = refl
-asked_rejects q (EndOfData session serial refresh retry expire) h r = refl
-asked_rejects q (EndOfData0 session serial) h r = refl
-asked_rejects q (RouterKey key) h r = refl
-
-abbrev pub foreign_answering : Unit → Bool
-foreign_answering (CacheResponse session) = true
-foreign_answering CacheReset = true
-foreign_answering (SerialQuery session serial) = true
-foreign_answering ResetQuery = true
-foreign_answering u = false
-
-pub answering_rejects : (a : Begun) (u : Unit) → foreign_answering u ≡ true → (r : Router) → on_unit (Answering a) u r ≡ reports 0 u r
-unfolding on_unit
-answering_rejects a (CacheResponse session) h r = refl
-answering_rejects a CacheReset h r = refl
-answering_rejects a (SerialQuery session serial) h r = refl
-answering_rejects a ResetQuery h r = refl
-answering_rejects a (SerialNotify session serial) h r = false_true h
-answering_rejects a (Prefix announce v) h r = false_true h
-answering_rejects a (EndOfData session serial refresh retry expire) h r = false_true h
-answering_rejects a (EndOfData0 session serial) h r = false_true h
-answering_rejects a (RouterKey key) h r = false_true h
-answering_rejects a (ErrorReport e) h r = false_true h
+pub foreign_so : (u : Unit) (s : State) (old new : Machine) → old.state ≡ s → ((withdrawn announced : List Payload) → foreign (seen_link s withdrawn announced) u ≡ true)
+    → new ≡ record old { state = states.Ended (ends.Reported 0); out = sent old.spoken (report 0 (sent old.spoken u)) } → Does (λ r. on_unit r.link u r) old new
+foreign_so u s old new is h e = reports_so u s old new is (λ withdrawn announced held. rejects (seen_link s withdrawn announced) u (h withdrawn announced) (seen old withdrawn announced held)) e
 
 module _ (session serial : ℕ) (u : Unit) (is : u ≡ SerialNotify session serial) (r : Router) where
   -- A notify of another session
@@ -294,8 +273,7 @@ module _ (old : Machine) (q : Question.Question) (session : ℕ) (is : old.state
     where
       by_staged : (b : Begun) (x : rules.Staged) → StagesRecord base b x (Err Memory) s → is_staged x ≡ true
       by_staged b (rules.Stays a) h = refl
-      by_staged b (rules.Wrong n) h = absurd h
-      by_staged b rules.Over h = absurd h
+      by_staged b _ h = absurd h
 
       lacking : (r : Router) → ShowsRouter r old → may_lack r.link u r ≡ true
       lacking r shows =
@@ -464,16 +442,14 @@ module _ (now : ℕ) where
       by_test true = refl
       by_test false = refl
 
+-- What does not look into an answer is told by the state.
+pub seen_so : {X : Type 0} (f : Link → X) → ((a b : Begun) → f (Answering a) ≡ f (Answering b)) → (s : State) (withdrawn announced : List Payload) → f (seen_link s withdrawn announced) ≡ f (seen_link s [] [])
+seen_so f same (states.Answering q session) withdrawn announced = same (begun_with q session withdrawn announced) (begun_with q session [] [])
+seen_so f same _ withdrawn announced = refl
+
 -- whether a router that is shown is due
 pub due_of : (m : Machine) (r : Router) → ShowsRouter r m → is_due r.link r.due r.now ≡ is_due (seen_link m.state [] []) m.due m.clock
-due_of m r s = ap (λ (x : Router). is_due x.link x.due x.now) s.is ∙ by_state m.state
-  where
-    by_state : (x : State) → is_due (seen_link x s.withdrawn s.announced) m.due m.clock ≡ is_due (seen_link x [] []) m.due m.clock
-    by_state states.Closed = refl
-    by_state states.Idle = refl
-    by_state (states.Asked q) = refl
-    by_state (states.Answering q session) = refl
-    by_state (states.Ended end) = refl
+due_of m r s = ap (λ (x : Router). is_due x.link x.due x.now) s.is ∙ seen_so (λ l. is_due l m.due m.clock) (λ a b. refl) m.state s.withdrawn s.announced
 
 -- what is asked by a link
 pub asks_idle : (old new : Machine) → old.state ≡ states.Idle → Does ask old new → Does (λ r. (asks r).router) old new
@@ -486,11 +462,4 @@ pub asks_not : (old : Machine) → is_idle (seen_link old.state [] []) ≡ false
 unfolding asks
 asks_not old busy = does_from (λ r. (asks r).router) old old (λ withdrawn announced held st.
     let r : Router = seen old withdrawn announced held in
-    subst (λ x. ShowsRouter ((asks_if x r).router) old) (sym (by_state old.state withdrawn announced ∙ busy)) (shown old withdrawn announced held st))
-  where
-    by_state : (x : State) (withdrawn announced : List Payload) → is_idle (seen_link x withdrawn announced) ≡ is_idle (seen_link x [] [])
-    by_state states.Closed withdrawn announced = refl
-    by_state states.Idle withdrawn announced = refl
-    by_state (states.Asked q) withdrawn announced = refl
-    by_state (states.Answering q session) withdrawn announced = refl
-    by_state (states.Ended end) withdrawn announced = refl
+    subst (λ x. ShowsRouter ((asks_if x r).router) old) (sym (seen_so is_idle (λ a b. refl) old.state withdrawn announced ∙ busy)) (shown old withdrawn announced held st))

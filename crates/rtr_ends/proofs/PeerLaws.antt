@@ -19,7 +19,7 @@ use Rattle.rtr_pdu.specs.Reader.{IsFaulty, IsRead, ReaderGives, IsReader, Reader
 use Rattle.rtr_pdu.specs.Stream.{as_read, IsPartial}
 use Rattle.rtr_pdu.specs.declared.unit.Next.TheVariants as next
 use Rattle.rtr_pdu.specs.declared.unit.Unit.{Unit}
-use Rattle.rtr_pdu.specs.declared.unit.Unit.TheVariants.{SerialNotify, SerialQuery, ResetQuery, CacheResponse, Prefix, EndOfData, EndOfData0, CacheReset, RouterKey, ErrorReport}
+use Rattle.rtr_pdu.specs.declared.unit.Unit.TheVariants.{SerialNotify, SerialQuery, ResetQuery, ErrorReport}
 use Rattle.rtr_pdu.specs.declared.unit.UnitFault.{UnitFault}
 use Rattle.rtr_pdu.proofs.DeviceLaws.{partial_most}
 use Rattle.rtr_ends.specs.Answer.{Reply, and_end, and_on, answer, report, sent, sent_all, serial_answer, session_in, step_answer, whole_answer}
@@ -32,6 +32,8 @@ use Rattle.rtr_ends.specs.declared.peer.Peer.{Peer}
 use Rattle.rtr_ends.specs.declared.sender.Sender.{Sender}
 use Rattle.rtr_ends.proofs.AnsweringLaws.{knows_but, knows_stays, own_is, published_some}
 use Rattle.rtr_ends.proofs.ReceivingLaws.{start, takes_fault, takes_more, takes_none, takes_unit}
+use Rattle.std.proofs.Math.Bool.{and-false}
+use Rattle.rtr_ends.proofs.TableLaws.{inside}
 
 -- Nothing is held by a reader that is new.
 fresh_room : (version : Option Version) (p : Peer) → p.reader ≡ fresh version false → ready_in p.sender ≤ 4096 → HasBufferRoom (held_by_peer p)
@@ -130,13 +132,7 @@ module _ (keep : ℕ) (t : Intervals) (i : Instance) (o : Conn) where
       by_test true = by_versions (versions i)
       by_test false = refl
   read_stops version (ErrorReport r) bytes = refl
-  read_stops version (SerialNotify s n) bytes = refl
-  read_stops version (CacheResponse s) bytes = refl
-  read_stops version (Prefix w v) bytes = refl
-  read_stops version (EndOfData s n x y z) bytes = refl
-  read_stops version (EndOfData0 s n) bytes = refl
-  read_stops version CacheReset bytes = refl
-  read_stops version (RouterKey key) bytes = refl
+  read_stops version _ bytes = refl
 
   -- the moment at which a PDU is read
   abbrev moment : Bool → Version → Unit → List ℕ → Connection
@@ -187,13 +183,9 @@ module _ (keep : ℕ) (t : Intervals) (i : Instance) (o : Conn) where
         consumed_is = subst (λ f. length piece - length rest ≡ length piece - length f.rest) (sym (to None (moment_stops (takes_memory version i u && not true) version u bytes))) refl;
       }
 
-      not_true : (b : Bool) → (b && not true) ≡ false
-      not_true true = refl
-      not_true false = refl
-
       by_memory : (memory takes : Bool) → takes_memory version i u ≡ takes → SendsReply t i (read_reply version keep t i memory u) mid new → Receives keep t i o piece (length piece - length rest) new
       by_memory true takes e a = read (takes_memory version i u && not true) refl a
-      by_memory false false e a = read false (not_true (takes_memory version i u)) (subst (λ b. SendsReply t i (if b && not false then no_memory else answer version i keep t u) mid new) e a)
+      by_memory false false e a = read false (and-false (takes_memory version i u)) (subst (λ b. SendsReply t i (if b && not false then no_memory else answer version i keep t u) mid new) e a)
       by_memory false true e a =
           let all = to (Some 0) (moment_stops (takes_memory version i u && not false) version u bytes) in
           record {
@@ -268,17 +260,13 @@ module _ (keep : ℕ) (t : Intervals) (i : Instance) (o : Conn) where
             consumed_is = subst (λ f. length piece - length rest ≡ length piece - length f.rest) (sym all) refl;
           }
 
-  and_false : (b : Bool) → (b && false) ≡ false
-  and_false true = refl
-  and_false false = refl
-
   notified_not : (p : Peer) → can_notify i o ≡ false → ShowsPeer t i o p → (false ≡ can_notify i o) × ShowsPeer t i (conn_notified keep t i o) p
   unfolding conn_notified
   notified_not p e shows =
       (sym e, subst (λ c. ShowsPeer t i c p) (sym (ap (λ b. if b then record o { state = conn_after keep t o.state (Notify (speaks_in o) i o.held) } else o) e)) shows)
 
   pub notified_stops : (p : Peer) → conn_stops o ≡ true → ShowsPeer t i o p → (false ≡ can_notify i o) × ShowsPeer t i (conn_notified keep t i o) p
-  notified_stops p stop shows = notified_not p (ap (λ b. is_published i && not b) stop ∙ and_false (is_published i)) shows
+  notified_stops p stop shows = notified_not p (ap (λ b. is_published i && not b) stop ∙ and-false (is_published i)) shows
 
   unpublished : (vs : Option NumberedSet) → None ≡ option_map (λ (v : NumberedSet). v.serial) vs → vs ≡ None
   unpublished None h = refl
@@ -316,13 +304,7 @@ module _ (keep : ℕ) (t : Intervals) (i : Instance) (o : Conn) where
       has_newest : (v : Option NumberedSet) → newest (versions i) ≡ v → Some serial ≡ option_map (λ (v : NumberedSet). v.serial) v → HasNewest serial (versions i)
       has_newest None h e = absurd (let k : Some serial ≡ None = e in cc)
       has_newest (Some v) h e = record { version = v; is = h; serial_is = inside (sym e) }
-        where
-          inside : {a b : ℕ} → Some a ≡ Some b → a ≡ b
-          inside h = cc
 
       notices : (session : ℕ) (vs : List NumberedSet) (v : NumberedSet) → newest vs ≡ Some v → notice session vs ≡ SerialNotify session v.serial ∷ []
       notices session [] v h = absurd (let e : None ≡ Some v = h in cc)
       notices session (now ∷ older) v h = ap (λ (x : NumberedSet). SerialNotify session x.serial ∷ []) (inside h)
-        where
-          inside : {a b : NumberedSet} → Some a ≡ Some b → a ≡ b
-          inside h = cc

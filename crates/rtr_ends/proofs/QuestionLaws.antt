@@ -1,28 +1,26 @@
 -- A router's questions are those that its transcript calls for.
 use Rattle.std.specs.Prelude.{◌≡◌, ◌⊎◌, ℕ, Bool, true, false, not, ◌&&◌, ◌||◌, ◌==◌, nat_lt, List, [], ◌∷◌, ◌++◌, Some, None, if◌then◌else◌, ⊤, refl}
 use Rattle.std.proofs.Common.{sym, ap, ◌∙◌, subst, append_assoc, inl, inr}
-use Rattle.std.proofs.lemmas.Bool.{and_parts}
 use Rattle.prefixes.specs.Payload.{Payload}
 use Rattle.vrps.specs.VrpSet.{VrpSet, has, size}
 use Rattle.rtr_pdu.specs.Judging.{Judgement, Begins, Whole, Faulty, judge}
-use Rattle.rtr_pdu.specs.Payloads.{Report}
 use Rattle.rtr_pdu.specs.declared.unit.Unit.{Unit}
-use Rattle.rtr_pdu.specs.declared.unit.Unit.TheVariants.{SerialNotify, SerialQuery, ResetQuery, CacheResponse, Prefix, EndOfData, EndOfData0, CacheReset, RouterKey, ErrorReport}
+use Rattle.rtr_pdu.specs.declared.unit.Unit.TheVariants.{Prefix, EndOfData, EndOfData0, CacheReset}
 use Rattle.rtr_ends.specs.declared.link.End.{End}
 use Rattle.rtr_ends.specs.declared.link.End.TheVariants as ends
-use Rattle.rtr_ends.specs.Cache.{is_none, finds_memory}
+use Rattle.rtr_ends.specs.Cache.{finds_memory}
 use Rattle.rtr_ends.specs.Answer.{sent}
-use Rattle.rtr_ends.specs.LinkRules.{may_lack, Router, Staged, Stays, Wrong, Over, ask, commit, emptied, fails, is_news, is_strange, on_unit, reports, stage, staged, ended_by, told_off}
-use Rattle.rtr_ends.specs.Router.{RouterCall, Connects, Receives, Pulls, Closes, AsksNow, Ticks, Speaks, called, played, Receiving, router_byte, router_stops, asks, asks_if, clocked, close, closed_at, connects_at, expired, receives, router_pulled, ticks_at, Noted, asked_by, lacks, reads, with_bytes}
+use Rattle.rtr_ends.specs.LinkRules.{Router, Staged, Stays, Wrong, Over, asking, commit, fails, on_unit, reports, stage, staged}
+use Rattle.rtr_ends.specs.Router.{RouterCall, Connects, Receives, Pulls, Closes, AsksNow, Ticks, Speaks, called, played, Receiving, router_byte, router_stops, asks, asks_if, clocked, close, closed_at, connects_at, receives, router_pulled, ticks_at, asked_by, reads, with_bytes}
 use Rattle.rtr_ends.specs.RouterLaws.{RouterAsks, LinkTells}
-use Rattle.rtr_ends.specs.RouterLink.{is_closed, is_due, Link, Closed, Idle, Asked, Answering, Ended, is_idle, is_reading}
+use Rattle.rtr_ends.specs.RouterLink.{is_due, Link, Closed, Idle, Asked, Answering, Ended, is_idle, is_reading}
 use Rattle.rtr_ends.specs.Timing.{Intervals, default_intervals}
-use Rattle.rtr_ends.specs.Transcript.{Question, AskReset, AskSerial, AsksRightly, Begun, Item, At, Opened, Asks, Reads, Lacks, Breaks, Refused, Restarts, Shut, acts_once, acts_wrongly, base_of, bounded, choose, does_commit, is_among, is_serial, is_wrong, is_over, kept, later, led_to, marked, next_question, of_version, query, retry_of, spoken, sum_of, under_way}
+use Rattle.rtr_ends.specs.Transcript.{Question, AskReset, AskSerial, AsksRightly, Begun, Item, At, Opened, Reads, acts_once, acts_wrongly, base_of, bounded, choose, does_commit, is_among, kept, later, led_to, marked, next_question, of_version, query, spoken, under_way}
+use Rattle.rtr_ends.proofs.Effects.{acts, by_byte, by_clock, by_close, by_unit, by_whole, goes_so, put_by}
 use Rattle.rtr_ends.proofs.FeedingLaws.{feed_keeps}
 use Rattle.rtr_ends.proofs.KeptUnits.{Tells, bytes_add, holds}
-use Rattle.rtr_ends.proofs.KeptLaws.{called_tells, clocked_tells, new_tells, none_is}
+use Rattle.rtr_ends.proofs.KeptLaws.{called_tells, clocked_tells, new_tells}
 use Rattle.rtr_ends.proofs.TableLaws.{false_true}
-use Rattle.prefixes.proofs.Basics.{true_of_not}
 
 -- The mark is the one of the transcript, where something is committed.
 abbrev MarkTells : Router → List Item → Type 0
@@ -35,11 +33,7 @@ choose_same r items k s (inl none) =
     ∙ sym (ap (λ x. choose (of_version (spoken items) x.version) (marked items)) k ∙ ap (λ v. choose (of_version (spoken items) v) (marked items)) none)
 choose_same r items k s (inr e) = λ i. choose (of_version (sym s i) (sym k i).version) (sym e i)
 
--- the question that a PDU makes a router put
-abbrev put_by : Unit → Router → Question
-put_by CacheReset n = AskReset
-put_by u n = choose (of_version n.spoken n.version) n.mark
-
+-- the question that a PDU made a router put
 abbrev Puts : Unit → Router → Link → List ℕ → Type 0
 Puts u n (Asked q) (b ∷ out) = q ≡ put_by u n
 Puts u n link out = ⊤
@@ -48,18 +42,10 @@ record UnitAsks (u : Unit) (n : Router) (later : List Item) : Type 0 where
   pub mark : MarkTells n later
   pub puts : Puts u n n.link n.out
 
-if_asks : (u : Unit) (b : Bool) (x y : Router) (later : List Item) → UnitAsks u x later → UnitAsks u y later → UnitAsks u (if b then x else y) later
-if_asks u true x y later hx hy = hx
-if_asks u false x y later hx hy = hy
-
 -- nothing is put where nothing is to be pulled
 puts_none : (u : Unit) (n : Router) (l : Link) (out : List ℕ) → out ≡ [] → Puts u n l out
-puts_none u n Closed out e = tt
-puts_none u n (Ended end) out e = tt
-puts_none u n Idle out e = tt
-puts_none u n (Answering a) out e = tt
-puts_none u n (Asked q) [] e = tt
 puts_none u n (Asked q) (b ∷ out) e = absurd (let h : b ∷ out ≡ [] = e in cc)
+puts_none u n _ _ e = tt
 
 -- a question that is put
 puts_it : (u : Unit) (n : Router) (q : Question) → q ≡ put_by u n → Puts u n (Asked q) (sent n.spoken (query q))
@@ -78,68 +64,36 @@ ends_quiet u n end later is m = record { mark = m; puts = subst (λ l. Puts u n 
 abbrev After : Unit → Router → List Item → Type 0
 After u n items = UnitAsks u n (Reads u ∷ items)
 
-idle_asks : (u : Unit) (r : Router) (items : List Item) → r.out ≡ [] → under_way items ≡ None → MarkTells r items → After u (on_unit Idle u r) items
-unfolding on_unit
-idle_asks (SerialNotify session serial) r items none w m =
-    let u : Unit = SerialNotify session serial in
-    if_asks u (is_strange r session) (fails u r) (if is_news (of_version r.spoken r.version) serial then ask r else r) (Reads u ∷ items) (ends_quiet u (fails u r) (ends.Reported 0) (Reads u ∷ items) refl (inl refl))
-    (if_asks u (is_news (of_version r.spoken r.version) serial) (ask r) r (Reads u ∷ items) (record { mark = m; puts = puts_it u (ask r) (choose (of_version r.spoken r.version) r.mark) refl }) (quiet u r (Reads u ∷ items) none m))
-idle_asks (ErrorReport e) r items none w m =
-    let u : Unit = ErrorReport e in
-    if_asks u (e.code == 2) r (ended_by e.code r) (Reads u ∷ items) (quiet u r (Reads u ∷ items) none m) (ends_quiet u (ended_by e.code r) (ends.Told e.code) (Reads u ∷ items) refl m)
-idle_asks (Prefix announce v) r items none w m =
-    ends_quiet (Prefix announce v) (reports 0 (Prefix announce v) r) (ends.Reported 0) (Reads (Prefix announce v) ∷ items) refl
-    (subst (λ o. (r.version ≡ None) ⊎ ((acts_wrongly o (kept items).table announce v || marked items) ≡ r.mark)) (sym w) m)
-idle_asks (EndOfData session serial refresh retry expire) r items none w m =
-    let u : Unit = EndOfData session serial refresh retry expire in
-    ends_quiet u (reports 0 u r) (ends.Reported 0) (Reads u ∷ items) refl
-    (subst (λ o. (r.version ≡ None) ⊎ ((not (does_commit o session (kept items).table) && marked items) ≡ r.mark)) (sym w) m)
-idle_asks (EndOfData0 session serial) r items none w m =
-    let u : Unit = EndOfData0 session serial in
-    ends_quiet u (reports 0 u r) (ends.Reported 0) (Reads u ∷ items) refl
-    (subst (λ o. (r.version ≡ None) ⊎ ((not (does_commit o session (kept items).table) && marked items) ≡ r.mark)) (sym w) m)
-idle_asks (SerialQuery session serial) r items none w m = ends_quiet (SerialQuery session serial) (reports 0 (SerialQuery session serial) r) (ends.Reported 0) (Reads (SerialQuery session serial) ∷ items) refl m
-idle_asks ResetQuery r items none w m = ends_quiet ResetQuery (reports 0 ResetQuery r) (ends.Reported 0) (Reads ResetQuery ∷ items) refl m
-idle_asks (CacheResponse session) r items none w m = ends_quiet (CacheResponse session) (reports 0 (CacheResponse session) r) (ends.Reported 0) (Reads (CacheResponse session) ∷ items) refl m
-idle_asks CacheReset r items none w m = ends_quiet CacheReset (reports 0 CacheReset r) (ends.Reported 0) (Reads CacheReset ∷ items) refl m
-idle_asks (RouterKey key) r items none w m = ends_quiet (RouterKey key) (reports 0 (RouterKey key) r) (ends.Reported 0) (Reads (RouterKey key) ∷ items) refl m
+-- a PDU that stages and commits nothing, and leaves the mark
+quiet_asks : (l : Link) (u : Unit) (r : Router) (items : List Item) → acts l u ≡ false → marked (Reads u ∷ items) ≡ marked items → r.out ≡ [] → MarkTells r items → After u (on_unit l u r) items
+quiet_asks l u r items none_acts same none m = by_unit (λ n. After u n items) l u r (record {
+  stays = quiet u r (Reads u ∷ items) none mark;
+  asks = λ agreed h. record { mark = mark; puts = puts_it u (asking (put_by u r) (record r { agreed = agreed })) (put_by u r) (put_same u agreed) };
+  begins = λ q session. quiet u (record r { agreed = true; session = Some session; link = Answering (record { question = q; session = session; withdrawn = []; announced = [] }) }) (Reads u ∷ items) none mark;
+  reported = record { mark = mark; puts = tt };
+  failed = record { mark = inl refl; puts = tt };
+  waits = λ agreed h. record { mark = mark; puts = tt };
+  told = λ agreed h code. record { mark = mark; puts = tt };
+  empties = λ agreed h code. record { mark = inl refl; puts = tt };
+  stages = λ on. false_true (sym none_acts ∙ on);
+  wrong = λ on. false_true (sym none_acts ∙ on);
+  over = λ on. false_true (sym none_acts ∙ on);
+  commits = λ on. false_true (sym none_acts ∙ on);
+})
+  where
+    put_same : (u : Unit) (agreed : Bool) → put_by u r ≡ put_by u (asking (put_by u r) (record r { agreed = agreed }))
+    put_same CacheReset agreed = refl
+    put_same _ agreed = refl
 
--- an Error Report to the question that is outstanding
-told_asks : (q : Question) (e : Report) (r : Router) (items : List Item) → r.out ≡ [] → MarkTells r items → After (ErrorReport e) (told_off q e.code r) items
-told_asks q e r items none m =
-    let u : Unit = ErrorReport e in
-    let later : List Item = Reads (ErrorReport e) ∷ items in
-    if_asks u (e.code == 2) (record r { link = Idle; due = Some (sum_of r.now (retry_of r.version)); no_data = true }) (if e.code == 0 && is_serial (Some q) then ended_by e.code (emptied r) else ended_by e.code r) later
-    (quiet u (record r { link = Idle; due = Some (sum_of r.now (retry_of r.version)); no_data = true }) later none m)
-    (if_asks u (e.code == 0 && is_serial (Some q)) (ended_by e.code (emptied r)) (ended_by e.code r) later
-    (ends_quiet u (ended_by e.code (emptied r)) (ends.Told e.code) later refl (inl refl)) (ends_quiet u (ended_by e.code r) (ends.Told e.code) later refl m))
+    mark : MarkTells r (Reads u ∷ items)
+    mark = subst (λ b. (r.version ≡ None) ⊎ (b ≡ r.mark)) (sym same) m
 
-asked_asks : (q : Question) (u : Unit) (r : Router) (items : List Item) → r.out ≡ [] → under_way items ≡ None → MarkTells r items → After u (on_unit (Asked q) u r) items
-unfolding on_unit
-asked_asks q (SerialNotify session serial) r items none w m =
-    let u : Unit = SerialNotify session serial in
-    if_asks u (is_strange r session) (fails u r) r (Reads u ∷ items) (ends_quiet u (fails u r) (ends.Reported 0) (Reads u ∷ items) refl (inl refl)) (quiet u r (Reads u ∷ items) none m)
-asked_asks q (CacheResponse session) r items none w m =
-    let u : Unit = CacheResponse session in
-    let n : Router = record r { agreed = true; session = Some session; link = Answering (record { question = q; session = session; withdrawn = []; announced = [] }) } in
-    if_asks u (is_wrong (Some q) (of_version r.spoken r.version) session) (fails u r) n (Reads u ∷ items) (ends_quiet u (fails u r) (ends.Reported 0) (Reads u ∷ items) refl (inl refl)) (quiet u n (Reads u ∷ items) none m)
-asked_asks (AskSerial session serial) CacheReset r items none w m = record { mark = m; puts = refl }
-asked_asks AskReset CacheReset r items none w m = ends_quiet CacheReset (reports 0 CacheReset r) (ends.Reported 0) (Reads CacheReset ∷ items) refl m
-asked_asks q (ErrorReport e) r items none w m = told_asks q e (record r { agreed = true }) items none m
-asked_asks q (Prefix announce v) r items none w m =
-    ends_quiet (Prefix announce v) (reports 0 (Prefix announce v) r) (ends.Reported 0) (Reads (Prefix announce v) ∷ items) refl
-    (subst (λ o. (r.version ≡ None) ⊎ ((acts_wrongly o (kept items).table announce v || marked items) ≡ r.mark)) (sym w) m)
-asked_asks q (EndOfData session serial refresh retry expire) r items none w m =
-    let u : Unit = EndOfData session serial refresh retry expire in
-    ends_quiet u (reports 0 u r) (ends.Reported 0) (Reads u ∷ items) refl
-    (subst (λ o. (r.version ≡ None) ⊎ ((not (does_commit o session (kept items).table) && marked items) ≡ r.mark)) (sym w) m)
-asked_asks q (EndOfData0 session serial) r items none w m =
-    let u : Unit = EndOfData0 session serial in
-    ends_quiet u (reports 0 u r) (ends.Reported 0) (Reads u ∷ items) refl
-    (subst (λ o. (r.version ≡ None) ⊎ ((not (does_commit o session (kept items).table) && marked items) ≡ r.mark)) (sym w) m)
-asked_asks q (SerialQuery session serial) r items none w m = ends_quiet (SerialQuery session serial) (reports 0 (SerialQuery session serial) r) (ends.Reported 0) (Reads (SerialQuery session serial) ∷ items) refl m
-asked_asks q ResetQuery r items none w m = ends_quiet ResetQuery (reports 0 ResetQuery r) (ends.Reported 0) (Reads ResetQuery ∷ items) refl m
-asked_asks q (RouterKey key) r items none w m = ends_quiet (RouterKey key) (reports 0 (RouterKey key) r) (ends.Reported 0) (Reads (RouterKey key) ∷ items) refl m
+-- No answer is under way: the mark stays.
+mark_stays : (u : Unit) (items : List Item) → under_way items ≡ None → marked (Reads u ∷ items) ≡ marked items
+mark_stays (Prefix announce v) items w = ap (λ o. acts_wrongly o (kept items).table announce v || marked items) w
+mark_stays (EndOfData session serial refresh retry expire) items w = ap (λ o. not (does_commit o session (kept items).table) && marked items) w
+mark_stays (EndOfData0 session serial) items w = ap (λ o. not (does_commit o session (kept items).table) && marked items) w
+mark_stays _ items w = refl
 
 -- How a record acts tells whether the mark is set.
 abbrev IsMarked : Staged → Bool → Type 0
@@ -193,27 +147,19 @@ end_asks a u session serial t r items none w k once n = by_session (session == a
 answering_asks : (a : Begun) (u : Unit) (r : Router) (items : List Item) → r.out ≡ [] → under_way items ≡ Some a → kept items ≡ holds r → acts_once (base_of a.question r.table) a.withdrawn a.announced ≡ true → MarkTells r items
     → After u (on_unit (Answering a) u r) items
 unfolding on_unit
-answering_asks a (SerialNotify session serial) r items none w k once m =
-    let u : Unit = SerialNotify session serial in
-    if_asks u (is_strange r session) (fails u r) r (Reads u ∷ items) (ends_quiet u (fails u r) (ends.Reported 0) (Reads u ∷ items) refl (inl refl)) (quiet u r (Reads u ∷ items) none m)
 answering_asks a (Prefix announce v) r items none w k once m =
     staged_asks (Prefix announce v) (stage (base_of a.question r.table) a announce v) (acts_wrongly (Some a) r.table announce v) r items (Reads (Prefix announce v) ∷ items) none (record_marks r.table a announce v)
     (λ i. acts_wrongly (w i) (k i).table announce v || marked items) m
-answering_asks a (RouterKey key) r items none w k once m = quiet (RouterKey key) r (Reads (RouterKey key) ∷ items) none m
 answering_asks a (EndOfData session serial refresh retry expire) r items none w k once m =
     end_asks a (EndOfData session serial refresh retry expire) session serial (bounded refresh retry expire) r items none w k once refl
 answering_asks a (EndOfData0 session serial) r items none w k once m = end_asks a (EndOfData0 session serial) session serial default_intervals r items none w k once refl
-answering_asks a (ErrorReport e) r items none w k once m = told_asks a.question e r items none m
-answering_asks a (CacheResponse session) r items none w k once m = ends_quiet (CacheResponse session) (reports 0 (CacheResponse session) r) (ends.Reported 0) (Reads (CacheResponse session) ∷ items) refl m
-answering_asks a (SerialQuery session serial) r items none w k once m = ends_quiet (SerialQuery session serial) (reports 0 (SerialQuery session serial) r) (ends.Reported 0) (Reads (SerialQuery session serial) ∷ items) refl m
-answering_asks a ResetQuery r items none w k once m = ends_quiet ResetQuery (reports 0 ResetQuery r) (ends.Reported 0) (Reads ResetQuery ∷ items) refl m
-answering_asks a CacheReset r items none w k once m = ends_quiet CacheReset (reports 0 CacheReset r) (ends.Reported 0) (Reads CacheReset ∷ items) refl m
+answering_asks a u r items none w k once m = quiet_asks (Answering a) u r items refl refl none m
 
 unit_asks : (l : Link) (u : Unit) (r : Router) (items : List Item) → is_reading l ≡ true → r.out ≡ [] → kept items ≡ holds r → LinkTells l r.agreed r.session r.table items → MarkTells r items → After u (on_unit l u r) items
 unit_asks Closed u r items live none k t m = false_true live
 unit_asks (Ended end) u r items live none k t m = false_true live
-unit_asks Idle u r items live none k t m = idle_asks u r items none t.2 m
-unit_asks (Asked q) u r items live none k t m = asked_asks q u r items none t.2 m
+unit_asks Idle u r items live none k t m = quiet_asks Idle u r items refl (mark_stays u items t.2) none m
+unit_asks (Asked q) u r items live none k t m = quiet_asks (Asked q) u r items refl (mark_stays u items t.2) none m
 unit_asks (Answering a) u r items live none k t m = answering_asks a u r items none t.2 k t.6 m
 
 -- a link that is idle did not read a Cache Reset last
@@ -222,34 +168,15 @@ is_reset (Reads CacheReset ∷ items) = true
 is_reset items = false
 
 next_is : (items : List Item) → is_reset items ≡ false → next_question items ≡ choose (of_version (spoken items) (kept items).version) (marked items)
-next_is [] h = refl
-next_is (At now ∷ items) h = refl
-next_is (Opened version ∷ items) h = refl
-next_is (Asks q ∷ items) h = refl
-next_is (Lacks u ∷ items) h = refl
-next_is (Breaks fault ∷ items) h = refl
-next_is (Refused ∷ items) h = refl
-next_is (Shut ∷ items) h = refl
-next_is (Restarts ∷ items) h = refl
 next_is (Reads CacheReset ∷ items) h = false_true (sym h)
-next_is (Reads (SerialNotify session serial) ∷ items) h = refl
-next_is (Reads (SerialQuery session serial) ∷ items) h = refl
-next_is (Reads ResetQuery ∷ items) h = refl
-next_is (Reads (CacheResponse session) ∷ items) h = refl
-next_is (Reads (Prefix announce v) ∷ items) h = refl
-next_is (Reads (EndOfData session serial refresh retry expire) ∷ items) h = refl
-next_is (Reads (EndOfData0 session serial) ∷ items) h = refl
-next_is (Reads (RouterKey key) ∷ items) h = refl
-next_is (Reads (ErrorReport e) ∷ items) h = refl
+next_is _ h = refl
 
 reset_ends : (l : Link) (r : Router) → is_reading l ≡ true → is_idle (on_unit l CacheReset r).link ≡ false
 unfolding on_unit
 reset_ends Closed r live = false_true live
 reset_ends (Ended end) r live = false_true live
-reset_ends Idle r live = refl
 reset_ends (Asked AskReset) r live = refl
-reset_ends (Asked (AskSerial session serial)) r live = refl
-reset_ends (Answering a) r live = refl
+reset_ends _ r live = refl
 
 -- what is known of a router's questions
 record Chooses (r : Router) (items : List Item) : Type 0 where
@@ -260,33 +187,22 @@ record Chooses (r : Router) (items : List Item) : Type 0 where
 
 -- what a PDU adds
 asked_so : (u : Unit) (n : Router) (items : List Item) (l : Link) (out : List ℕ) → kept (asked_by l out ++ Reads u ∷ items) ≡ holds n → spoken (asked_by l out ++ Reads u ∷ items) ≡ n.spoken → MarkTells n (Reads u ∷ items) → Puts u n l out → AsksRightly items → AsksRightly (asked_by l out ++ Reads u ∷ items)
-asked_so u n items Closed out k s m p a = a
-asked_so u n items (Ended end) out k s m p a = a
-asked_so u n items Idle out k s m p a = a
-asked_so u n items (Answering b) out k s m p a = a
-asked_so u n items (Asked q) [] k s m p a = a
 asked_so u n items (Asked q) (b ∷ out) k s m p a = (by_unit u k s m p, a)
   where
     by_unit : (v : Unit) → kept (Reads v ∷ items) ≡ holds n → spoken (Reads v ∷ items) ≡ n.spoken → MarkTells n (Reads v ∷ items) → q ≡ put_by v n → q ≡ next_question (Reads v ∷ items)
     by_unit CacheReset k s m p = p
     by_unit v k s m p = p ∙ choose_same n (Reads v ∷ items) k s m
+asked_so u n items _ _ k s m p a = a
 
 -- the mark beside a question
 asked_mark : (n : Router) (items : List Item) (l : Link) (out : List ℕ) → MarkTells n items → MarkTells n (asked_by l out ++ items)
-asked_mark n items Closed out m = m
-asked_mark n items (Ended end) out m = m
-asked_mark n items Idle out m = m
-asked_mark n items (Answering b) out m = m
-asked_mark n items (Asked q) [] m = m
 asked_mark n items (Asked q) (b ∷ out) m = m
+asked_mark n items _ _ m = m
 
 -- what is idle asked nothing
 idle_so : (l : Link) (out : List ℕ) (u : Unit) (items : List Item) → is_idle l ≡ true → is_reset (Reads u ∷ items) ≡ false → is_reset (asked_by l out ++ Reads u ∷ items) ≡ false
 idle_so Idle out u items h e = e
-idle_so Closed out u items h e = false_true h
-idle_so (Ended end) out u items h e = false_true h
-idle_so (Asked q) out u items h e = false_true h
-idle_so (Answering b) out u items h e = false_true h
+idle_so _ out u items h e = false_true h
 
 not_reset_unit : (r : Router) (u : Unit) (items : List Item) → is_reading r.link ≡ true → is_idle (on_unit r.link u r).link ≡ true → is_reset (Reads u ∷ items) ≡ false
 not_reset_unit r CacheReset items live idle = false_true (sym (reset_ends r.link r live) ∙ idle)
@@ -317,63 +233,29 @@ reads_choose r u items live none c tells = record { tells = tells; mark = mark; 
 bytes_choose : (memory : Bool) (bytes : List ℕ) (r : Router) (j : Judgement) (items : List Item) → is_reading r.link ≡ true → r.out ≡ [] → Chooses r items → Chooses (with_bytes memory bytes r j).router ((with_bytes memory bytes r j).items ++ items)
 bytes_choose memory bytes r Begins items live none c = record { tells = (bytes_add memory bytes r Begins items live none c.tells).tells; mark = c.mark; asked = c.asked; not_reset = c.not_reset }
 bytes_choose memory bytes r (Faulty fault) items live none c = record { tells = (bytes_add memory bytes r (Faulty fault) items live none c.tells).tells; mark = c.mark; asked = c.asked; not_reset = λ h. false_true h }
-bytes_choose memory bytes r (Whole u) items live none c = by_memory (may_lack r.link u r && not memory) (bytes_add memory bytes r (Whole u) items live none c.tells).tells
-  where
-    hand : Router
-    hand = record r { held = [] }
-
-    by_test : Bool → Noted
-    by_test w = if w then lacks u hand else reads u hand
-
-    by_memory : (w : Bool) → Tells (by_test w).router ((by_test w).items ++ items) → Chooses (by_test w).router ((by_test w).items ++ items)
-    by_memory true tells = record { tells = tells; mark = c.mark; asked = c.asked; not_reset = λ h. false_true h }
-    by_memory false tells =
-        reads_choose hand u items live none
-        (record { tells = record { kept_is = c.tells.kept_is; due_is = c.tells.due_is; now_is = c.tells.now_is; spoken_is = c.tells.spoken_is; link = c.tells.link }; mark = c.mark; asked = c.asked; not_reset = c.not_reset }) tells
+bytes_choose memory bytes r (Whole u) items live none c = by_whole (λ n. Tells n.router (n.items ++ items) → Chooses n.router (n.items ++ items)) memory bytes r u
+    (λ tells. record { tells = tells; mark = c.mark; asked = c.asked; not_reset = λ h. false_true h })
+    (λ tells. reads_choose (record r { held = [] }) u items live none
+    (record { tells = record { kept_is = c.tells.kept_is; due_is = c.tells.due_is; now_is = c.tells.now_is; spoken_is = c.tells.spoken_is; link = c.tells.link }; mark = c.mark; asked = c.asked; not_reset = c.not_reset }) tells)
+    (bytes_add memory bytes r (Whole u) items live none c.tells).tells
 
 -- a piece, byte by byte
 byte_chooses : (items : List Item) (m : Receiving) (b : ℕ) → router_stops m.router ≡ false → Chooses m.router (m.items ++ items) → Chooses (router_byte m b).router ((router_byte m b).items ++ items)
-unfolding router_byte
 byte_chooses items m b goes_on c =
-    let parts = and_parts (is_reading m.router.link) (is_none m.router.out) (true_of_not (is_reading m.router.link && is_none m.router.out) goes_on) in
-    let n : Noted = with_bytes (finds_memory m.wanting) (m.router.held ++ b ∷ []) m.router (judge m.router.spoken (not m.router.agreed) (m.router.held ++ b ∷ [])) in
-    subst (λ x. Chooses n.router x) (sym (append_assoc n.items m.items items))
-    (bytes_choose (finds_memory m.wanting) (m.router.held ++ b ∷ []) m.router (judge m.router.spoken (not m.router.agreed) (m.router.held ++ b ∷ [])) (m.items ++ items) parts.0 (none_is m.router.out parts.1) c)
+    let live = goes_so m.router goes_on in
+    by_byte Chooses items m b
+    (bytes_choose (finds_memory m.wanting) (m.router.held ++ b ∷ []) m.router (judge m.router.spoken (not m.router.agreed) (m.router.held ++ b ∷ [])) (m.items ++ items) live.0 live.1 c)
 
 -- the clock
-expired_mark : (l : Link) (r : Router) (items : List Item) → MarkTells (expired l r) items
-expired_mark Closed r items = inl refl
-expired_mark (Ended end) r items = inl refl
-expired_mark Idle r items = inl refl
-expired_mark (Asked AskReset) r items = inl refl
-expired_mark (Asked (AskSerial session serial)) r items = inl refl
-expired_mark (Answering a) r items = by_question (is_serial (Some a.question))
-  where
-    by_question : (b : Bool) → MarkTells (if b then record (emptied r) { link = Ended ends.Expired; out = [] } else emptied r) items
-    by_question true = inl refl
-    by_question false = inl refl
-
 clocked_mark : (now : ℕ) (r : Router) (items : List Item) → MarkTells r items → MarkTells (clocked now r) (At now ∷ items)
-unfolding clocked
-clocked_mark now r items m = by_clock (is_over r.version (later r.now now))
-  where
-    told_r : Router
-    told_r = record r { now = later r.now now }
-
-    by_clock : (b : Bool) → MarkTells (if b then expired told_r.link told_r else told_r) (At now ∷ items)
-    by_clock true = expired_mark told_r.link told_r (At now ∷ items)
-    by_clock false = m
+clocked_mark now r items m = by_clock (λ n. MarkTells n (At now ∷ items)) now r (λ holds. m) (λ over on. inl refl) (λ over live open_so. inl refl)
 
 clocked_chooses : (now : ℕ) (r : Router) (items : List Item) → Chooses r items → Chooses (clocked now r) (At now ∷ items)
 clocked_chooses now r items c = record { tells = clocked_tells now r items c.tells; mark = clocked_mark now r items c.mark; asked = c.asked; not_reset = λ h. refl }
 
 -- a link that is closed
 close_mark : (r : Router) (items : List Item) → MarkTells r items → MarkTells (close r) items
-close_mark r items m = by_test (is_closed r.link)
-  where
-    by_test : (b : Bool) → MarkTells (if b then r else record r { link = Closed; agreed = false; session = None; held = []; out = []; due = Some (sum_of r.now (retry_of r.version)) }) items
-    by_test true = m
-    by_test false = m
+close_mark r items m = by_close (λ n. MarkTells n items) r (λ is. m) (λ is. m)
 
 -- the question of an idle link, or of a new connection
 asks_choose : (r : Router) (items : List Item) (b : Bool) → (b ≡ true → is_reset items ≡ false) → (b ≡ false → is_idle r.link ≡ true → is_reset items ≡ false) → kept items ≡ holds r → spoken items ≡ r.spoken → MarkTells r items → AsksRightly items

@@ -1,10 +1,8 @@
 -- What a router's value does at what its reader answers.
 use Rattle.std.specs.List.{list_any}
-use Rattle.std.specs.Prelude.{◌≡◌, ℕ, zero, ◌-◌, drop, Bool, true, false, not, ◌&&◌, ◌==◌, List, [], ◌∷◌, ◌++◌, length, Option, Some, None, IfSome, if◌then◌else◌, refl}
+use Rattle.std.specs.Prelude.{◌≡◌, ℕ, zero, ◌-◌, drop, Bool, true, false, not, ◌&&◌, List, [], ◌∷◌, ◌++◌, length, Option, Some, None, IfSome, if◌then◌else◌, refl}
 use Rattle.std.proofs.Common.{sym, ap, ◌∙◌, subst, inl, inr}
 use Rattle.std.proofs.Math.Bool.{and-false}
-use Rattle.std.proofs.lemmas.Bool.{and_parts}
-use Rattle.vrps.specs.VrpSet.{VrpSet}
 use Rattle.rtr_pdu.specs.declared.version.Version.{Version}
 use Rattle.rtr_pdu.specs.Judging.{Whole, Faulty}
 use Rattle.rtr_pdu.specs.Reader as reader
@@ -13,26 +11,22 @@ use Rattle.rtr_pdu.specs.Stream.{IsPartial, as_read}
 use Rattle.rtr_pdu.specs.declared.unit.Next.{Next}
 use Rattle.rtr_pdu.specs.declared.unit.Next.TheVariants as next
 use Rattle.rtr_pdu.specs.declared.unit.Unit.{Unit}
-use Rattle.rtr_pdu.specs.declared.unit.Unit.TheVariants.{SerialNotify, SerialQuery, ResetQuery, CacheResponse, Prefix, EndOfData, EndOfData0, CacheReset, RouterKey, ErrorReport}
 use Rattle.rtr_pdu.specs.declared.unit.UnitFault.{UnitFault}
-use Rattle.rtr_ends.specs.Timing.{default_intervals}
-use Rattle.rtr_ends.specs.declared.link.End.{End}
 use Rattle.rtr_ends.specs.declared.link.End.TheVariants as ends
 use Rattle.rtr_ends.specs.Cache.{finds_memory, is_none}
 use Rattle.rtr_ends.specs.Feeding.{FedPiece, feed}
-use Rattle.rtr_ends.specs.LinkRules as rules
-use Rattle.rtr_ends.specs.LinkRules.{Router, ask, commit, emptied, fails, is_news, is_strange, may_lack, on_unit, reports, stage, staged, ended_by, told_off}
-use Rattle.rtr_ends.specs.Router.{RouterCall, Noted, Receiving, asks, asks_if, breaks, called, clocked, close, closed_at, connects_at, expired, lacks, played, reads, receives, router_byte, router_pulled, router_stops, ticks_at, with_bytes, router_judged}
-use Rattle.rtr_ends.specs.RouterLink.{Link, Closed, Idle, Asked, Answering, Ended, is_closed, is_due, is_idle, is_reading}
+use Rattle.rtr_ends.specs.LinkRules.{Router, ask, may_lack, on_unit}
+use Rattle.rtr_ends.specs.Router.{RouterCall, Noted, Receiving, asks, asks_if, breaks, called, clocked, close, closed_at, connects_at, lacks, played, reads, receives, router_byte, router_pulled, router_stops, ticks_at, with_bytes, router_judged}
+use Rattle.rtr_ends.specs.RouterLink.{Link, Idle, Ended, is_closed, is_due, is_idle, is_reading}
 use Rattle.rtr_ends.specs.Seen.{Does, ReadsOrLacks, ShowsRouter, seen_link}
 use Rattle.rtr_ends.specs.RouterShown.{Arrives, Calls, GoesOn, IsShown, CallsLead, LeadsOn, Led, IsLacking, ReceivesSo, TakesOn, fed, is_lacking, is_wanted_by_router, reading, taking}
-use Rattle.rtr_ends.specs.Transcript.{Item, At, Question, AskReset, AskSerial, bounded, is_over, is_serial, is_wrong, later, of_version, retry_of, sum_of}
+use Rattle.rtr_ends.specs.Transcript.{Item, At}
 use Rattle.rtr_ends.specs.declared.machine.Machine.{Machine}
-use Rattle.rtr_ends.specs.declared.machine.State.{State}
-use Rattle.rtr_ends.specs.declared.machine.State.TheVariants as states
 use Rattle.rtr_ends.specs.declared.router.Router as code
 use Rattle.rtr_ends.proofs.ConsumedLaws.{router_splits, idle_reads}
+use Rattle.rtr_ends.proofs.Effects.{Keeps, by_close, clocked_keeps, goes_so, open_link, unit_keeps}
 use Rattle.rtr_ends.proofs.KeptLaws.{router_keeps}
+use Rattle.rtr_ends.proofs.MachineCells.{seen_so}
 use Rattle.rtr_ends.proofs.QuestionLaws.{router_asks}
 use Rattle.rtr_ends.proofs.RouterBytes.{counts_back, fault_taken, has_memory, more_taken, shifted, stopped, stops, unit_taken}
 use Rattle.rtr_ends.proofs.UnitByUnit.{but_last}
@@ -40,108 +34,16 @@ use Rattle.rtr_ends.proofs.TableLaws.{false_true}
 use Rattle.prefixes.proofs.Basics.{false_if_never}
 use Rattle.rtr_ends.proofs.ConsumedUnits.{reading_open}
 
--- What a PDU leaves: what is held; agreement; the version; and a connection
-pub record Keeps (r n : Router) : Type 0 where
-  pub held : n.held ≡ r.held
-  pub agreed : r.agreed ≡ true → n.agreed ≡ true
-  pub spoken : n.spoken ≡ r.spoken
-  pub connected : is_closed n.link ≡ false
-
-keeps_if : (b : Bool) (r x y : Router) → Keeps r x → Keeps r y → Keeps r (if b then x else y)
-keeps_if true r x y h k = h
-keeps_if false r x y h k = k
-
-ends_keeps : (r : Router) (end : End) (table : VrpSet) (version : Option _) (mark : Bool) (out : List ℕ) → Keeps r (record r { link = Ended end; table = table; version = version; mark = mark; out = out })
-ends_keeps r end table version mark out = record { held = refl; agreed = λ h. h; spoken = refl; connected = refl }
-
-told_keeps : (q : Question) (code : ℕ) (r s : Router) → Keeps r s → Keeps r (told_off q code s)
-told_keeps q code r s k =
-    keeps_if (code == 2) r (record s { link = Idle; due = Some (sum_of s.now (retry_of s.version)); no_data = true }) (if code == 0 && is_serial (Some q) then ended_by code (emptied s) else ended_by code s)
-    (record { held = k.held; agreed = k.agreed; spoken = k.spoken; connected = refl })
-    (keeps_if (code == 0 && is_serial (Some q)) r (ended_by code (emptied s)) (ended_by code s) (record { held = k.held; agreed = k.agreed; spoken = k.spoken; connected = refl }) (record { held = k.held; agreed = k.agreed; spoken = k.spoken; connected = refl }))
-
-staged_keeps : (u : Unit) (st : rules.Staged) (r : Router) → Keeps r (staged u st r)
-staged_keeps u (rules.Stays a) r = record { held = refl; agreed = λ h. h; spoken = refl; connected = refl }
-staged_keeps u (rules.Wrong code) r = record { held = refl; agreed = λ h. h; spoken = refl; connected = refl }
-staged_keeps u rules.Over r = record { held = refl; agreed = λ h. h; spoken = refl; connected = refl }
-
-abbrev same_router : (r : Router) → is_closed r.link ≡ false → Keeps r r
-same_router r open_so = record { held = refl; agreed = λ h. h; spoken = refl; connected = open_so }
-
-fails_keep : (u : Unit) (r : Router) → Keeps r (fails u r)
-fails_keep u r = record { held = refl; agreed = λ h. h; spoken = refl; connected = refl }
-
-reports_keep : (u : Unit) (r : Router) → Keeps r (reports 0 u r)
-reports_keep u r = record { held = refl; agreed = λ h. h; spoken = refl; connected = refl }
-
-pub unit_keeps : (l : Link) (u : Unit) (r : Router) → r.link ≡ l → is_reading l ≡ true → Keeps r (on_unit l u r)
-unfolding on_unit
-unit_keeps Closed u r is h = false_true h
-unit_keeps (Ended end) u r is h = false_true h
-unit_keeps Idle (SerialNotify session serial) r is h =
-    keeps_if (is_strange r session) r (fails (SerialNotify session serial) r) (if is_news (of_version r.spoken r.version) serial then ask r else r) (fails_keep (SerialNotify session serial) r)
-    (keeps_if (is_news (of_version r.spoken r.version) serial) r (ask r) r (record { held = refl; agreed = λ h. h; spoken = refl; connected = refl }) (same_router r (ap is_closed is)))
-unit_keeps Idle (ErrorReport e) r is h = keeps_if (e.code == 2) r r (ended_by e.code r) (same_router r (ap is_closed is)) (record { held = refl; agreed = λ h. h; spoken = refl; connected = refl })
-unit_keeps Idle (SerialQuery session serial) r is h = reports_keep (SerialQuery session serial) r
-unit_keeps Idle ResetQuery r is h = reports_keep ResetQuery r
-unit_keeps Idle (CacheResponse session) r is h = reports_keep (CacheResponse session) r
-unit_keeps Idle (Prefix announce v) r is h = reports_keep (Prefix announce v) r
-unit_keeps Idle (EndOfData session serial refresh retry expire) r is h = reports_keep (EndOfData session serial refresh retry expire) r
-unit_keeps Idle (EndOfData0 session serial) r is h = reports_keep (EndOfData0 session serial) r
-unit_keeps Idle CacheReset r is h = reports_keep CacheReset r
-unit_keeps Idle (RouterKey key) r is h = reports_keep (RouterKey key) r
-unit_keeps (Asked q) (SerialNotify session serial) r is h =
-    keeps_if (is_strange r session) r (fails (SerialNotify session serial) r) r (fails_keep (SerialNotify session serial) r) (same_router r (ap is_closed is))
-unit_keeps (Asked q) (CacheResponse session) r is h =
-    keeps_if (is_wrong (Some q) (of_version r.spoken r.version) session) r (fails (CacheResponse session) r) (record r { agreed = true; session = Some session; link = Answering (record { question = q; session = session; withdrawn = []; announced = [] }) })
-    (fails_keep (CacheResponse session) r) (record { held = refl; agreed = λ h. refl; spoken = refl; connected = refl })
-unit_keeps (Asked (AskSerial session serial)) CacheReset r is h = record { held = refl; agreed = λ h. refl; spoken = refl; connected = refl }
-unit_keeps (Asked AskReset) CacheReset r is h = reports_keep CacheReset r
-unit_keeps (Asked AskReset) (ErrorReport e) r is h = told_keeps AskReset e.code r (record r { agreed = true }) (record { held = refl; agreed = λ h. refl; spoken = refl; connected = ap is_closed is })
-unit_keeps (Asked (AskSerial session serial)) (ErrorReport e) r is h = told_keeps (AskSerial session serial) e.code r (record r { agreed = true }) (record { held = refl; agreed = λ h. refl; spoken = refl; connected = ap is_closed is })
-unit_keeps (Asked q) (SerialQuery session serial) r is h = reports_keep (SerialQuery session serial) r
-unit_keeps (Asked q) ResetQuery r is h = reports_keep ResetQuery r
-unit_keeps (Asked q) (Prefix announce v) r is h = reports_keep (Prefix announce v) r
-unit_keeps (Asked q) (EndOfData session serial refresh retry expire) r is h = reports_keep (EndOfData session serial refresh retry expire) r
-unit_keeps (Asked q) (EndOfData0 session serial) r is h = reports_keep (EndOfData0 session serial) r
-unit_keeps (Asked q) (RouterKey key) r is h = reports_keep (RouterKey key) r
-unit_keeps (Answering a) (SerialNotify session serial) r is h =
-    keeps_if (is_strange r session) r (fails (SerialNotify session serial) r) r (fails_keep (SerialNotify session serial) r) (same_router r (ap is_closed is))
-unit_keeps (Answering a) (Prefix announce v) r is h = staged_keeps (Prefix announce v) (stage _ a announce v) r
-unit_keeps (Answering a) (RouterKey key) r is h = same_router r (ap is_closed is)
-unit_keeps (Answering a) (EndOfData session serial refresh retry expire) r is h =
-    keeps_if (session == a.session) r (commit a (record { version = r.spoken; session = session; serial = serial; moment = r.now; intervals = bounded refresh retry expire }) r) (fails (EndOfData session serial refresh retry expire) r)
-    (record { held = refl; agreed = λ h. h; spoken = refl; connected = refl }) (fails_keep (EndOfData session serial refresh retry expire) r)
-unit_keeps (Answering a) (EndOfData0 session serial) r is h =
-    keeps_if (session == a.session) r (commit a (record { version = r.spoken; session = session; serial = serial; moment = r.now; intervals = default_intervals }) r) (fails (EndOfData0 session serial) r)
-    (record { held = refl; agreed = λ h. h; spoken = refl; connected = refl }) (fails_keep (EndOfData0 session serial) r)
-unit_keeps (Answering a) (ErrorReport e) r is h = told_keeps a.question e.code r r (same_router r (ap is_closed is))
-unit_keeps (Answering a) (SerialQuery session serial) r is h = reports_keep (SerialQuery session serial) r
-unit_keeps (Answering a) ResetQuery r is h = reports_keep ResetQuery r
-unit_keeps (Answering a) (CacheResponse session) r is h = reports_keep (CacheResponse session) r
-unit_keeps (Answering a) CacheReset r is h = reports_keep CacheReset r
-
 -- What is held is not looked at.
 pub rehold : (r : Router) (m : Machine) (held : List ℕ) → ShowsRouter r m → ShowsRouter (record r { held = held }) m
 rehold r m held s = record { withdrawn = s.withdrawn; announced = s.announced; staged = s.staged; is = ap (λ (x : Router). record x { held = held }) s.is }
 
 -- whether it reads
 pub stops_of : (m : Machine) (r : Router) → ShowsRouter r m → router_stops r ≡ not (is_reading (seen_link m.state [] []) && is_none m.out)
-stops_of m r s = ap (λ (x : Router). router_stops x) s.is ∙ ap (λ b. not (b && is_none m.out)) (by_state m.state)
-  where
-    by_state : (x : State) → is_reading (seen_link x s.withdrawn s.announced) ≡ is_reading (seen_link x [] [])
-    by_state states.Closed = refl
-    by_state states.Idle = refl
-    by_state (states.Asked q) = refl
-    by_state (states.Answering q session) = refl
-    by_state (states.Ended end) = refl
+stops_of m r s = ap (λ (x : Router). router_stops x) s.is ∙ ap (λ b. not (b && is_none m.out)) (seen_so is_reading (λ a b. refl) m.state s.withdrawn s.announced)
 
 reads_of : (r : Router) → router_stops r ≡ false → is_reading r.link ≡ true
-reads_of r h = (and_parts (is_reading r.link) (is_none r.out) (not_false (is_reading r.link && is_none r.out) h)).0
-  where
-    not_false : (b : Bool) → not b ≡ false → b ≡ true
-    not_false true h = refl
-    not_false false h = false_true (sym h)
+reads_of r h = (goes_so r h).0
 
 -- the agreement that a machine has
 agreed_is : (m : Machine) (r : Router) → ShowsRouter r m → r.agreed ≡ m.agreed
@@ -198,12 +100,12 @@ module _ (old : code.Router) (piece rest : List ℕ) (takes : (is_reading (seen_
     read_shown : (r : Router) → IsShown r old → Does (λ x. on_unit x.link u x) mid m → IsShown (on_unit r.link u (cleared r)) after_unit
     read_shown r s does =
         let n : Router = on_unit r.link u (cleared r) in
-        let k : Keeps (cleared r) n = unit_keeps r.link u (cleared r) refl (reads_of r (on r s)) in
+        let k : Keeps (cleared r) n = unit_keeps r.link u (cleared r) in
         let machine : ShowsRouter n m = does (cleared r) (followed r s (cleared r) (rehold r old.machine [] s.machine)) in
         record {
           machine = machine;
           reader = λ h. told_reader m.agreed n (cleared r) k (agreed_is m n machine) (made_so r s) ∙ (λ i. reading (sym k.spoken i) (sym (agreed_is m n machine) i) (sym k.held i));
-          closed = λ c. false_true (sym k.connected ∙ c);
+          closed = λ c. false_true (sym (k.connected (open_link r.link (reads_of r (on r s)))) ∙ c);
         }
 
     pub unit_goes : (lacking : Bool) → ReadsOrLacks lacking u mid m → TakesOn true old piece after_unit rest
@@ -351,50 +253,13 @@ keeps_shown old new r n machine same s held agreed spoken reads_on closed_on = r
 }
 
 -- The clock
-pub record Clocks (r n : Router) : Type 0 where
-  pub held : n.held ≡ r.held
-  pub agreed : n.agreed ≡ r.agreed
-  pub spoken : n.spoken ≡ r.spoken
-  pub reads_on : is_reading n.link ≡ true → is_reading r.link ≡ true
-  pub closed_on : is_closed n.link ≡ is_closed r.link
-
-same_clock : (r s : Router) → s.held ≡ r.held → s.agreed ≡ r.agreed → s.spoken ≡ r.spoken → s.link ≡ r.link → Clocks r s
-same_clock r s held agreed spoken link = record { held = held; agreed = agreed; spoken = spoken; reads_on = λ h. ap is_reading (sym link) ∙ h; closed_on = ap is_closed link }
-
-expired_clocks : (l : Link) (r : Router) → r.link ≡ l → Clocks r (expired l r)
-expired_clocks Closed r is = same_clock r (emptied r) refl refl refl refl
-expired_clocks Idle r is = same_clock r (emptied r) refl refl refl refl
-expired_clocks (Ended end) r is = same_clock r (emptied r) refl refl refl refl
-expired_clocks (Asked AskReset) r is = same_clock r (emptied r) refl refl refl refl
-expired_clocks (Asked (AskSerial session serial)) r is = record { held = refl; agreed = refl; spoken = refl; reads_on = λ h. false_true h; closed_on = ap is_closed (sym is) }
-expired_clocks (Answering a) r is = by_test (is_serial (Some a.question))
-  where
-    by_test : (b : Bool) → Clocks r (if b then record (emptied r) { link = Ended ends.Expired; out = [] } else emptied r)
-    by_test true = record { held = refl; agreed = refl; spoken = refl; reads_on = λ h. false_true h; closed_on = ap is_closed (sym is) }
-    by_test false = same_clock r (emptied r) refl refl refl refl
-
-pub clocked_keeps : (now : ℕ) (r : Router) → Clocks r (clocked now r)
-unfolding clocked
-clocked_keeps now r = by_test (is_over r.version (later r.now now))
-  where
-    by_test : (b : Bool) → Clocks r (if b then expired r.link (record r { now = later r.now now }) else record r { now = later r.now now })
-    by_test true = let k = expired_clocks r.link (record r { now = later r.now now }) refl in record { held = k.held; agreed = k.agreed; spoken = k.spoken; reads_on = k.reads_on; closed_on = k.closed_on }
-    by_test false = same_clock r (record r { now = later r.now now }) refl refl refl refl
-
 pub told_shown : (old new : code.Router) (now : ℕ) (r : Router) → ShowsRouter (clocked now r) new.machine → new.reader ≡ old.reader → IsShown r old → IsShown (clocked now r) new
 told_shown old new now r machine same s =
     let k = clocked_keeps now r in keeps_shown old new r (clocked now r) machine same s k.held k.agreed k.spoken k.reads_on (λ h. sym k.closed_on ∙ h)
 
 -- What is closed holds nothing, and no version is agreed on.
 closes_so : (r : Router) → (is_closed r.link ≡ true → (r.held ≡ []) × (r.agreed ≡ false)) → ((close r).held ≡ []) × ((close r).agreed ≡ false) × (is_closed (close r).link ≡ true)
-closes_so r h = by_test (is_closed r.link) refl
-  where
-    by_test : (b : Bool) → is_closed r.link ≡ b
-        → ((if b then r else record r { link = Closed; agreed = false; session = None; held = []; out = []; due = Some (sum_of r.now (retry_of r.version)) }).held ≡ [])
-        × ((if b then r else record r { link = Closed; agreed = false; session = None; held = []; out = []; due = Some (sum_of r.now (retry_of r.version)) }).agreed ≡ false)
-        × (is_closed (if b then r else record r { link = Closed; agreed = false; session = None; held = []; out = []; due = Some (sum_of r.now (retry_of r.version)) }).link ≡ true)
-    by_test true is = let was = h is in (was.0, was.1, is)
-    by_test false is = (refl, refl, refl)
+closes_so r h = by_close (λ n. (n.held ≡ []) × (n.agreed ≡ false) × (is_closed n.link ≡ true)) r (λ is. let was = h is in (was.0, was.1, is)) (λ is. (refl, refl, refl))
 
 closed_clock : (old : code.Router) (now : ℕ) (r : Router) → IsShown r old → is_closed (clocked now r).link ≡ true → ((clocked now r).held ≡ []) × ((clocked now r).agreed ≡ false)
 closed_clock old now r s h = let k = clocked_keeps now r in let was = s.closed (sym k.closed_on ∙ h) in (k.held ∙ was.0, k.agreed ∙ was.1)
@@ -418,10 +283,7 @@ asks_shown old new r false idle s machine same = keeps_shown old new r r machine
 
 due_reads : (l : Link) (due : Option ℕ) (now : ℕ) → is_due l due now ≡ true → is_reading l ≡ true
 due_reads Idle due now h = refl
-due_reads Closed due now h = false_true h
-due_reads (Asked q) due now h = false_true h
-due_reads (Answering a) due now h = false_true h
-due_reads (Ended end) due now h = false_true h
+due_reads _ due now h = false_true h
 
 pub idle_shown : (old new : code.Router) (r : Router) → IsShown r old → ShowsRouter (asks r).router new.machine → new.reader ≡ old.reader → IsShown (asks r).router new
 unfolding asks

@@ -27,6 +27,7 @@ use Rattle.rtr_ends.specs.declared.sender.Records.TheVariants.{Step, Whole}
 use Rattle.rtr_ends.specs.declared.sender.Sender.{Sender}
 use Rattle.rtr_ends.specs.declared.sender.Share.{Share}
 use Rattle.rtr_ends.specs.declared.sender.AnswerCursor.{AnswerCursor}
+use Rattle.rtr_ends.proofs.TableLaws.{inside}
 
 -- nothing in front and nothing behind
 both_none : {X : Type 0} (xs ys : List X) → xs ++ ys ≡ [] → (xs ≡ []) × (ys ≡ [])
@@ -352,9 +353,6 @@ steps s new serial change v e same is b =
         room = λ before. b.room;
       };
     }
-  where
-    inside : {a b : ℕ} → Some a ≡ Some b → a ≡ b
-    inside h = cc
 
 -- nothing is due in any version
 pub speaks : (s : Sender) (version : Version) → due_of s ≡ [] → Speaks version s (record s { version = version })

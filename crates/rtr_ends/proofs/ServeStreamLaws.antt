@@ -28,7 +28,8 @@ use Rattle.rtr_ends.proofs.CacheStateLaws.{with_conn_at}
 use Rattle.rtr_ends.proofs.FeedingLaws.{feed_takes, goes_on, stopped}
 use Rattle.rtr_ends.proofs.ServingLaws.{serves_history}
 use Rattle.rtr_ends.proofs.TableLaws.{false_true}
-use Rattle.prefixes.proofs.Basics.{eq_of}
+use Rattle.prefixes.proofs.Basics.{eq_of, false_of_not, true_of_not}
+use Rattle.std.proofs.Math.Bool.{or-false}
 
 -- A call is counted, or it is not made.
 pub not_less : {D A : Type 0} (old new : Counted D) → (¬ (IsSpent old) → calls_of new ≡ calls_of old + 1) → (IsSpent old → A × (new ≡ old)) → calls_of old ≤ calls_of new
@@ -83,11 +84,7 @@ none_taken keep t i wanting (b ∷ piece) o due none = by_test (conn_stops o) re
     start = record { conn = o; moments = []; wanting = wanting }
 
     ended_is : o.state.ended ≡ conn_stops o
-    ended_is = sym (ap (λ d. o.state.ended || not (is_none d)) due ∙ or_false o.state.ended)
-      where
-        or_false : (b : Bool) → (b || false) ≡ b
-        or_false true = refl
-        or_false false = refl
+    ended_is = sym (ap (λ d. o.state.ended || not (is_none d)) due ∙ or-false o.state.ended)
 
     by_test : (s : Bool) → conn_stops o ≡ s → ((by_stop keep t i start b piece).machine.conn ≡ o) × (0 < length (b ∷ piece) → o.state.ended ≡ true)
     by_test true is = (ap (λ f. f.machine.conn) (stopped (λ m. conn_stops m.conn) (conn_byte keep t i) start b piece is), λ some. ended_is ∙ is)
@@ -307,19 +304,15 @@ module _ {S : Type 0} (holds : ℕ → Instance → S → Type 0) (m : CacheStat
               unread = a.unread;
               consumed = all.0;
               few = all.1;
-              ends = (out_all a, is_ended (stood m a.later).conn.state.ended (closed (standing a.later) a.stands ∙ ap is_open_at (stood_at a.later)));
+              ends = (out_all a, true_of_not (stood m a.later).conn.state.ended (sym (closed (standing a.later) a.stands ∙ ap is_open_at (stood_at a.later))));
             },
             a.stands,
           )
-        where
-          is_ended : (b : Bool) → false ≡ not b → b ≡ true
-          is_ended true h = refl
-          is_ended false h = false_true h
 
       -- It goes on.
       pub waits_on : Answered holds m c w.calls piece has written (Ok tt) new → ((x : CacheState) → ShowsCache holds x new → true ≡ is_open_at (x.at c)) → Waits holds m c before after more had written new
       waits_on a opened =
-          let on : (stood m a.later).conn.state.ended ≡ false = goes_so (stood m a.later).conn.state.ended (opened (standing a.later) a.stands ∙ ap is_open_at (stood_at a.later)) in
+          let on : (stood m a.later).conn.state.ended ≡ false = false_of_not (stood m a.later).conn.state.ended (sym (opened (standing a.later) a.stands ∙ ap is_open_at (stood_at a.later))) in
           let none : a.unread ≡ [] = no_rest a.unread (λ some. false_true (sym on ∙ a.answers.1 some)) in
           let all = came_all a.later a.unread a.came in
           let is : (stood m a.later).came ++ a.unread ≡ (stood m a.later).came = ap (λ x. (stood m a.later).came ++ x) none ∙ append-nil (stood m a.later).came in
@@ -333,10 +326,6 @@ module _ {S : Type 0} (holds : ℕ → Instance → S → Type 0) (m : CacheStat
             all_out = out_all a;
           }
         where
-          goes_so : (b : Bool) → true ≡ not b → b ≡ false
-          goes_so true h = false_true (sym h)
-          goes_so false h = refl
-
           no_rest : (xs : List ℕ) → (0 < length xs → ⊥) → xs ≡ []
           no_rest [] h = refl
           no_rest (x ∷ xs) h = absurd (h (omega arith))

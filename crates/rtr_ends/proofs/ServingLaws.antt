@@ -1,6 +1,6 @@
 -- A connection at the cache makes the history of what is called on it.
 use Rattle.std.specs.Prelude.{◌≡◌, ◌⊎◌, ℕ, ◌-◌, ◌<◌, Bool, true, false, not, ◌&&◌, List, [], ◌∷◌, ◌++◌, length, take, drop, Option, Some, None, if◌then◌else◌, MatchBool, refl}
-use Rattle.std.proofs.Common.{sym, ap, ◌∙◌, subst, arith, append_assoc, inl, inr, zero, suc}
+use Rattle.std.proofs.Common.{sym, ap, ◌∙◌, subst, append_assoc, inl, inr}
 use Rattle.std.specs.List.{AllByRecursion}
 use Rattle.std.proofs.lemmas.Bool.{and_parts, or_parts}
 use Rattle.std.proofs.Math.Nat.{min-le_right}
@@ -23,12 +23,16 @@ use Rattle.rtr_pdu.proofs.NextLaws.{next_shortest, next_size}
 use Rattle.rtr_pdu.proofs.ReaderLaws.{partial_empty, reader_with}
 use Rattle.rtr_ends.specs.Cache.{Conn, Taking, is_none, conn_stops, conn_moment_of, with_moment, finds_memory, and_moment, conn_judged, conn_byte, conn_takes, can_notify, conn_notified, pulled_count, conn_pulled, ConnCall, Publishes, Takes, Gives, Notifies, Serving, serve, serving, IsConnCall, IsServed, ServesHistory, new_conn, speaks_in, version_at}
 use Rattle.rtr_ends.specs.Connection.{Connection, ConnMoment, Read, Wanting, Fault, Notify, Pull, bytes_of, IsLater, IsHistory, HadCome, MayCome, MayHold, conn_after, after_all, opened, pulled, is_published, takes_memory}
-use Rattle.rtr_ends.specs.Feeding.{feed, run}
 use Rattle.rtr_ends.specs.Timing.{Intervals}
-use Rattle.rtr_ends.proofs.ByteLists.{none_bytes, more_bytes, bytes_front, front_of}
-use Rattle.rtr_ends.proofs.FeedingLaws.{feed_takes}
+use Rattle.rtr_ends.proofs.ByteLists.{drop_none, more_bytes, none_bytes}
+use Rattle.rtr_ends.proofs.FeedingLaws.{fed_keeps}
 use Rattle.rtr_ends.proofs.HistoryLaws.{pulled_are_replies, read_plainly}
 use Rattle.rtr_ends.proofs.TableLaws.{false_true}
+use Rattle.prefixes.proofs.Basics.{false_of_not}
+
+nothing_due : (due : List ℕ) → not (is_none due) ≡ false → due ≡ []
+nothing_due [] h = refl
+nothing_due (x ∷ due) h = false_true (sym h)
 
 -- From one connection to another by moments, where these bytes came: those of the moments, and then the last ones
 abbrev Runs : ℕ → Intervals → Connection → List ConnMoment → List ℕ → Connection → List ℕ → Type 0
@@ -37,14 +41,11 @@ Runs keep t c (m ∷ later) came new held = MayCome c came m × ((rest : List �
 
 -- What may come may come where more bytes follow.
 come_longer : (c : Connection) (coming more : List ℕ) (m : ConnMoment) → MayCome c coming m → MayCome c (coming ++ more) m
-come_longer c coming more (Read version cache unit bytes) h = h
-come_longer c coming more (Wanting version cache unit bytes) h = h
-come_longer c coming more (Fault version fault bytes) h = h
-come_longer c coming more (Pull count) h = h
 come_longer c coming more (Notify version cache held) h = (h.0, h.1, h.2, h.3, (h.4.0, longer h.4.1, h.4.2))
   where
     longer : HadCome c coming held → HadCome c (coming ++ more) held
     longer k = record { begins = k.begins; more = k.more; since = k.since; rest = k.rest ++ more; front = ap (λ x. x ++ more) k.front ∙ append_assoc held k.rest more }
+come_longer c coming more _ h = h
 
 module _ (keep : ℕ) (t : Intervals) where
   -- one moment more
@@ -78,10 +79,7 @@ module _ (keep : ℕ) (t : Intervals) where
 
   pulled_first : (c : Connection) (m : ConnMoment) (later : List ConnMoment) → pulled keep t c (m ∷ later) ≡ pulled_by c m ++ pulled keep t (conn_after keep t c m) later
   pulled_first c (Pull count) later = refl
-  pulled_first c (Read version cache unit bytes) later = refl
-  pulled_first c (Wanting version cache unit bytes) later = refl
-  pulled_first c (Fault version fault bytes) later = refl
-  pulled_first c (Notify version cache held) later = refl
+  pulled_first c _ later = refl
 
   pulled_more : (c : Connection) (moments : List ConnMoment) (came : List ℕ) (new : Connection) (held : List ℕ) (m : ConnMoment) → Runs keep t c moments came new held → pulled keep t c (moments ++ m ∷ []) ≡ pulled keep t c moments ++ pulled_by new m
   pulled_more c [] came new held m r = pulled_first c m [] ∙ append-nil (pulled_by c m) ∙ ap (λ x. pulled_by x m) (sym r.1)
@@ -177,12 +175,8 @@ module _ (keep : ℕ) (t : Intervals) where
           tests : (m.conn.state.ended ≡ false) × (not (is_none m.conn.state.due) ≡ false)
           tests = or_parts m.conn.state.ended (not (is_none m.conn.state.due)) runs
 
-          none : (due : List ℕ) → not (is_none due) ≡ false → due ≡ []
-          none [] h = refl
-          none (x ∷ due) h = false_true (sym h)
-
           at_rest : m.conn.state.due ≡ []
-          at_rest = none m.conn.state.due tests.1
+          at_rest = nothing_due m.conn.state.due tests.1
 
           own : Version
           own = version_in m.conn.state.version m.conn.held
@@ -237,33 +231,14 @@ module _ (keep : ℕ) (t : Intervals) where
               (reads (unit_in version (as_read version false bytes)) (subst (λ x. Reads version (unit_in version (as_read version false bytes)) x) (read_plainly version bytes)
               ((whole_exactly version false bytes (unit_in version (as_read version false bytes)) each (next_size version false m.conn.held b part w)).0 e)))
 
-      -- a piece, byte by byte
-      abbrev step : Taking → ℕ → Taking
-      step = conn_byte keep t i
-
-      abbrev stops : Taking → Bool
-      stops m = conn_stops m.conn
-
-      stands_run : (m : Taking) (taken : List ℕ) (came : List ℕ) → AreBytes taken → ((front back : List ℕ) → taken ≡ front ++ back → 0 < length back → stops (run stops step m front) ≡ false)
-          → Stands i before m came given → Stands i before (run stops step m taken) (came ++ taken) given
-      stands_run m [] came each goes_on s = subst (λ x. Stands i before m x given) (sym (append-nil came)) s
-      stands_run m (b ∷ taken) came each goes_on s =
-          subst (λ x. Stands i before (run stops step (step m b) taken) x given) (append_assoc came (b ∷ []) taken)
-          (stands_run (step m b) taken (came ++ b ∷ []) (λ j. each (suc j)) (λ front back e some. goes_on (b ∷ front) back (ap (λ x. b ∷ x) e) some)
-          (stands_byte m b came (each 0) (goes_on [] (b ∷ taken) refl (omega arith)) s))
-
     -- a piece is handed in
     takes_goes : (i : Instance) (is : IsInstance i) (wanting : Option ℕ) (piece : List ℕ) (s : Serving) → AreBytes piece → IsLater s.conn.state.cache i → s.cache ≡ i → Goes opened_at s.conn s.moments s.came s.given
         → Stands i s.moments (conn_takes keep t i wanting piece s.conn).machine (s.came ++ take (length piece - length (conn_takes keep t i wanting piece s.conn).rest) piece) s.given
     unfolding conn_takes
     takes_goes i is wanting piece s each later same g =
-        let start : Taking = record { conn = s.conn; moments = []; wanting = wanting } in
-        let taken = feed_takes (λ (m : Taking). conn_stops m.conn) (conn_byte keep t i) (record { conn = s.conn; moments = []; wanting = wanting }) piece in
-        let first : Stands i s.moments (record { conn = s.conn; moments = []; wanting = wanting }) s.came s.given =
-        record { goes = subst (λ x. Goes opened_at s.conn x s.came s.given) (sym (append-nil s.moments)) g; later = later } in
-        let stood = stands_run i is s.moments s.given (record { conn = s.conn; moments = []; wanting = wanting }) taken.0 s.came (bytes_front piece taken.0 _ taken.1.piece_is each) taken.1.shortest first in
-        subst (λ m. Stands i s.moments m (s.came ++ take (length piece - length (feed (λ (m : Taking). conn_stops m.conn) (conn_byte keep t i) (record { conn = s.conn; moments = []; wanting = wanting }) piece).rest) piece) s.given) (sym taken.1.machine_is)
-        (subst (λ x. Stands i s.moments (run (λ (m : Taking). conn_stops m.conn) (conn_byte keep t i) (record { conn = s.conn; moments = []; wanting = wanting }) taken.0) (s.came ++ x) s.given) (sym (front_of piece taken.0 _ taken.1.piece_is)) stood)
+        fed_keeps (λ m. conn_stops m.conn) (conn_byte keep t i) (λ came m. Stands i s.moments m came s.given) (λ came b m byte runs h. stands_byte i is s.moments s.given m b came byte runs h)
+        (record { conn = s.conn; moments = []; wanting = wanting }) piece s.came each
+        (record { goes = subst (λ x. Goes opened_at s.conn x s.came s.given) (sym (append-nil s.moments)) g; later = later })
 
     -- bytes are pulled
     pulled_goes : (most : ℕ) (s : Serving) → Goes opened_at s.conn s.moments s.came s.given
@@ -282,16 +257,9 @@ module _ (keep : ℕ) (t : Intervals) where
           cache = g.cache;
         }
       where
-        less : (count : ℕ) (due : List ℕ) → due ≡ [] → drop count due ≡ []
-        less count due e = ap (drop count) e ∙ none count
-          where
-            none : (count : ℕ) → ◌≡◌ {A = List ℕ} (drop count []) []
-            none zero = refl
-            none (suc count) = refl
-
         rests : (count : ℕ) (c : Connection) (held : List ℕ) → (held ≡ []) ⊎ ((c.due ≡ []) ⊎ (c.notified ≡ true)) → (held ≡ []) ⊎ ((drop count c.due ≡ []) ⊎ (c.notified ≡ true))
         rests count c held (inl e) = inl e
-        rests count c held (inr (inl e)) = inr (inl (less count c.due e))
+        rests count c held (inr (inl e)) = inr (inl (drop_none count c.due e))
         rests count c held (inr (inr e)) = inr (inr e)
 
         still : (count : ℕ) (c : Connection) (held : List ℕ) → MayHold c held → MayHold (record c { due = drop count c.due }) held
@@ -318,12 +286,8 @@ module _ (keep : ℕ) (t : Intervals) where
         parts : (is_published i ≡ true) × (not (conn_stops s.conn) ≡ true)
         parts = and_parts (is_published i) (not (conn_stops s.conn)) e
 
-        not_true : (b : Bool) → not b ≡ true → b ≡ false
-        not_true true h = false_true h
-        not_true false h = refl
-
         tests : (s.conn.state.ended ≡ false) × (not (is_none s.conn.state.due) ≡ false)
-        tests = or_parts s.conn.state.ended (not (is_none s.conn.state.due)) (not_true (conn_stops s.conn) parts.1)
+        tests = or_parts s.conn.state.ended (not (is_none s.conn.state.due)) (false_of_not (conn_stops s.conn) parts.1)
 
         ended : s.conn.state.ended ≡ false
         ended = tests.0
@@ -331,12 +295,8 @@ module _ (keep : ℕ) (t : Intervals) where
         had : HadCome s.conn.state s.conn.held s.conn.held
         had = record { begins = holds_part s.conn.state s.conn.held ended g.holds; more = g.more; since = g.since; rest = []; front = sym (append-nil s.conn.held) }
 
-        none : (due : List ℕ) → not (is_none due) ≡ false → due ≡ []
-        none [] h = refl
-        none (x ∷ due) h = false_true (sym h)
-
         due : s.conn.state.due ≡ []
-        due = none s.conn.state.due tests.1
+        due = nothing_due s.conn.state.due tests.1
 
     -- what is published is later
     published_later : (c i : Instance) (set : VrpSet) → IsLater c i → IsLater c (published set i)

@@ -1,5 +1,5 @@
 -- What the staged records of an answer do to a table.
-use Rattle.std.specs.Prelude.{◌≡◌, Bool, true, false, not, ◌&&◌, ◌||◌, List, [], ◌∷◌, refl}
+use Rattle.std.specs.Prelude.{◌≡◌, Bool, true, false, not, ◌&&◌, ◌||◌, List, [], ◌∷◌, Some, refl}
 use Rattle.std.proofs.Common.{ap, ◌∙◌}
 use Rattle.std.specs.List.{AllByRecursion, IsDistinct}
 use Rattle.std.specs.Ordering.{eq_by_cmp}
@@ -13,6 +13,10 @@ use Rattle.prefixes.proofs.Basics.{false_of_not}
 
 pub false_true : {P : Type 0} → false ≡ true → P
 false_true h = absurd (let e : false ≡ true = h in cc)
+
+-- What is something is one thing.
+pub inside : {A : Type 0} {a b : A} → Some a ≡ Some b → a ≡ b
+inside h = cc
 
 not_false : (b : Bool) → b ≡ false → not b ≡ true
 not_false b h = ap not h

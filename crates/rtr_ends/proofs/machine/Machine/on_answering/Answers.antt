@@ -1,7 +1,8 @@
 use Rattle.std.proofs.Common.{sym, ap, ◌∙◌}
+use Rattle.rtr_ends.specs.RouterLink.{Answering}
 use Rattle.rtr_ends.specs.Seen.{begun_with, seen, seen_question}
 use Rattle.rtr_ends.specs.declared.machine.State.TheVariants as states
-use Rattle.rtr_ends.proofs.MachineCells.{answering_ends, answering_ends_0, answering_key, answering_rejects, answering_same, answering_strange, answering_told, does_so, fails_so, foreign_answering, reports_so, stays_so, told_now}
+use Rattle.rtr_ends.proofs.MachineCells.{answering_ends, answering_ends_0, answering_key, answering_same, answering_strange, answering_told, does_so, fails_so, foreign, foreign_so, stays_so, told_now}
 use Rattle.rtr_ends.proofs.machine.Machine.on_answering.Goals as goal
 
 pub returns-then-is_strange : goal.returns-then-is_strange
@@ -35,17 +36,17 @@ returns-in-ErrorReport c =
     (λ w a held. answering_told c.in-ErrorReport.report c.args.unit.now c.in-ErrorReport.is (begun_with c.args.question c.args.session w a) (seen c.args.self.now w a held)) (told_now (seen_question c.args.question) _ _ c.args.self.now _ c.code.ensures c.told_off.ensures)
 
 pub returns-in-CacheResponse : goal.returns-in-CacheResponse
-returns-in-CacheResponse c = rw c.rejects.ensures.ok (reports_so c.args.unit.now (states.Answering c.args.question c.args.session) _ _ c.requires.state
-    (λ w a held. answering_rejects (begun_with c.args.question c.args.session w a) c.args.unit.now (ap foreign_answering c.in-CacheResponse.is) (seen c.args.self.now w a held)) c.rejects.ensures.reports)
+returns-in-CacheResponse c = rw c.rejects.ensures.ok (foreign_so c.args.unit.now (states.Answering c.args.question c.args.session) _ _ c.requires.state
+    (λ w a. ap (foreign (Answering (begun_with c.args.question c.args.session w a))) c.in-CacheResponse.is) c.rejects.ensures.reports)
 
 pub returns-in-CacheReset : goal.returns-in-CacheReset
-returns-in-CacheReset c = rw c.rejects-in-CacheReset.ensures.ok (reports_so c.args.unit.now (states.Answering c.args.question c.args.session) _ _ c.requires.state
-    (λ w a held. answering_rejects (begun_with c.args.question c.args.session w a) c.args.unit.now (ap foreign_answering c.in-CacheReset.is) (seen c.args.self.now w a held)) c.rejects-in-CacheReset.ensures.reports)
+returns-in-CacheReset c = rw c.rejects-in-CacheReset.ensures.ok (foreign_so c.args.unit.now (states.Answering c.args.question c.args.session) _ _ c.requires.state
+    (λ w a. ap (foreign (Answering (begun_with c.args.question c.args.session w a))) c.in-CacheReset.is) c.rejects-in-CacheReset.ensures.reports)
 
 pub returns-in-SerialQuery : goal.returns-in-SerialQuery
-returns-in-SerialQuery c = rw c.rejects-in-SerialQuery.ensures.ok (reports_so c.args.unit.now (states.Answering c.args.question c.args.session) _ _ c.requires.state
-    (λ w a held. answering_rejects (begun_with c.args.question c.args.session w a) c.args.unit.now (ap foreign_answering c.in-SerialQuery.is) (seen c.args.self.now w a held)) c.rejects-in-SerialQuery.ensures.reports)
+returns-in-SerialQuery c = rw c.rejects-in-SerialQuery.ensures.ok (foreign_so c.args.unit.now (states.Answering c.args.question c.args.session) _ _ c.requires.state
+    (λ w a. ap (foreign (Answering (begun_with c.args.question c.args.session w a))) c.in-SerialQuery.is) c.rejects-in-SerialQuery.ensures.reports)
 
 pub returns-in-ResetQuery : goal.returns-in-ResetQuery
-returns-in-ResetQuery c = rw c.rejects-in-ResetQuery.ensures.ok (reports_so c.args.unit.now (states.Answering c.args.question c.args.session) _ _ c.requires.state
-    (λ w a held. answering_rejects (begun_with c.args.question c.args.session w a) c.args.unit.now (ap foreign_answering c.in-ResetQuery.is) (seen c.args.self.now w a held)) c.rejects-in-ResetQuery.ensures.reports)
+returns-in-ResetQuery c = rw c.rejects-in-ResetQuery.ensures.ok (foreign_so c.args.unit.now (states.Answering c.args.question c.args.session) _ _ c.requires.state
+    (λ w a. ap (foreign (Answering (begun_with c.args.question c.args.session w a))) c.in-ResetQuery.is) c.rejects-in-ResetQuery.ensures.reports)

@@ -1,7 +1,8 @@
 use Rattle.std.proofs.Common.{sym, ap, ◌∙◌}
+use Rattle.rtr_ends.specs.RouterLink.{Asked}
 use Rattle.rtr_ends.specs.Seen.{seen, seen_question}
 use Rattle.rtr_ends.specs.declared.machine.State.TheVariants as states
-use Rattle.rtr_ends.proofs.MachineCells.{asks_again, asked_again, asked_begins, asked_rejects, asked_same, asked_strange, asked_told, asked_wrong, does_so, fails_so, foreign_asked, reports_so, reset_refused, stays_so, told_then}
+use Rattle.rtr_ends.proofs.MachineCells.{foreign, asks_again, asked_again, asked_begins, asked_same, asked_strange, asked_told, asked_wrong, does_so, fails_so, foreign_so, reports_so, reset_refused, stays_so, told_then}
 use Rattle.rtr_ends.proofs.machine.Machine.on_asked.Goals as goal
 
 pub returns-then-is_strange : goal.returns-then-is_strange
@@ -25,28 +26,22 @@ returns-else-is_wrong c =
     (λ w a held. asked_begins _ c.args.unit.now c.in-CacheResponse.is (seen_question c.args.question) (seen c.args.self.now w a held) (sym c.is_wrong.ensures ∙ c.if-is_wrong.false)) c.begin.ensures
 
 pub returns-in-Prefix : goal.returns-in-Prefix
-returns-in-Prefix c =
-    reports_so c.args.unit.now (states.Asked c.args.question) _ _ c.requires.state (λ w a held. asked_rejects (seen_question c.args.question) c.args.unit.now (ap foreign_asked c.in-Prefix.is) (seen c.args.self.now w a held)) c.reports.ensures
+returns-in-Prefix c = foreign_so c.args.unit.now (states.Asked c.args.question) _ _ c.requires.state (λ w a. ap (foreign (Asked (seen_question c.args.question))) c.in-Prefix.is) c.reports.ensures
 
 pub returns-in-RouterKey : goal.returns-in-RouterKey
-returns-in-RouterKey c =
-    reports_so c.args.unit.now (states.Asked c.args.question) _ _ c.requires.state (λ w a held. asked_rejects (seen_question c.args.question) c.args.unit.now (ap foreign_asked c.in-RouterKey.is) (seen c.args.self.now w a held)) c.reports-in-RouterKey.ensures
+returns-in-RouterKey c = foreign_so c.args.unit.now (states.Asked c.args.question) _ _ c.requires.state (λ w a. ap (foreign (Asked (seen_question c.args.question))) c.in-RouterKey.is) c.reports-in-RouterKey.ensures
 
 pub returns-in-EndOfData : goal.returns-in-EndOfData
-returns-in-EndOfData c =
-    reports_so c.args.unit.now (states.Asked c.args.question) _ _ c.requires.state (λ w a held. asked_rejects (seen_question c.args.question) c.args.unit.now (ap foreign_asked c.in-EndOfData.is) (seen c.args.self.now w a held)) c.reports-in-EndOfData.ensures
+returns-in-EndOfData c = foreign_so c.args.unit.now (states.Asked c.args.question) _ _ c.requires.state (λ w a. ap (foreign (Asked (seen_question c.args.question))) c.in-EndOfData.is) c.reports-in-EndOfData.ensures
 
 pub returns-in-EndOfData0 : goal.returns-in-EndOfData0
-returns-in-EndOfData0 c =
-    reports_so c.args.unit.now (states.Asked c.args.question) _ _ c.requires.state (λ w a held. asked_rejects (seen_question c.args.question) c.args.unit.now (ap foreign_asked c.in-EndOfData0.is) (seen c.args.self.now w a held)) c.reports-in-EndOfData0.ensures
+returns-in-EndOfData0 c = foreign_so c.args.unit.now (states.Asked c.args.question) _ _ c.requires.state (λ w a. ap (foreign (Asked (seen_question c.args.question))) c.in-EndOfData0.is) c.reports-in-EndOfData0.ensures
 
 pub returns-in-SerialQuery : goal.returns-in-SerialQuery
-returns-in-SerialQuery c =
-    reports_so c.args.unit.now (states.Asked c.args.question) _ _ c.requires.state (λ w a held. asked_rejects (seen_question c.args.question) c.args.unit.now (ap foreign_asked c.in-SerialQuery.is) (seen c.args.self.now w a held)) c.reports-in-SerialQuery.ensures
+returns-in-SerialQuery c = foreign_so c.args.unit.now (states.Asked c.args.question) _ _ c.requires.state (λ w a. ap (foreign (Asked (seen_question c.args.question))) c.in-SerialQuery.is) c.reports-in-SerialQuery.ensures
 
 pub returns-in-ResetQuery : goal.returns-in-ResetQuery
-returns-in-ResetQuery c =
-    reports_so c.args.unit.now (states.Asked c.args.question) _ _ c.requires.state (λ w a held. asked_rejects (seen_question c.args.question) c.args.unit.now (ap foreign_asked c.in-ResetQuery.is) (seen c.args.self.now w a held)) c.reports-in-ResetQuery.ensures
+returns-in-ResetQuery c = foreign_so c.args.unit.now (states.Asked c.args.question) _ _ c.requires.state (λ w a. ap (foreign (Asked (seen_question c.args.question))) c.in-ResetQuery.is) c.reports-in-ResetQuery.ensures
 
 pub returns-in-Serial : goal.returns-in-Serial
 returns-in-Serial c =

@@ -1,8 +1,9 @@
 use Rattle.std.proofs.Common.{sym, ap, ◌∙◌}
 use Rattle.rtr_ends.specs.LinkRules.{ask}
+use Rattle.rtr_ends.specs.RouterLink.{Idle}
 use Rattle.rtr_ends.specs.Seen.{seen}
 use Rattle.rtr_ends.specs.declared.machine.State.TheVariants as states
-use Rattle.rtr_ends.proofs.MachineCells.{does_so, fails_so, foreign_idle, idle_news, idle_old, idle_rejects, idle_strange, reports_so, stays_so, told_so, idle_told, idle_no_data, is_code, no_code}
+use Rattle.rtr_ends.proofs.MachineCells.{foreign, does_so, fails_so, foreign_so, idle_news, idle_old, idle_strange, stays_so, told_so, idle_told, idle_no_data, is_code, no_code}
 use Rattle.rtr_ends.proofs.machine.Machine.on_idle.Goals as goal
 
 pub returns-then-is_strange : goal.returns-then-is_strange
@@ -20,36 +21,28 @@ returns-else-is_news c =
     (λ w a held. idle_old _ _ c.args.unit.now c.in-SerialNotify.is (seen c.args.self.now w a held) (sym c.is_strange.ensures ∙ c.if-is_strange.false) (sym c.is_news.ensures ∙ c.if-is_news.false))
 
 pub returns-in-CacheResponse : goal.returns-in-CacheResponse
-returns-in-CacheResponse c =
-    reports_so c.args.unit.now states.Idle _ _ c.requires.state (λ w a held. idle_rejects c.args.unit.now (ap foreign_idle c.in-CacheResponse.is) (seen c.args.self.now w a held)) c.reports.ensures
+returns-in-CacheResponse c = foreign_so c.args.unit.now states.Idle _ _ c.requires.state (λ w a. ap (foreign Idle) c.in-CacheResponse.is) c.reports.ensures
 
 pub returns-in-Prefix : goal.returns-in-Prefix
-returns-in-Prefix c =
-    reports_so c.args.unit.now states.Idle _ _ c.requires.state (λ w a held. idle_rejects c.args.unit.now (ap foreign_idle c.in-Prefix.is) (seen c.args.self.now w a held)) c.reports-in-Prefix.ensures
+returns-in-Prefix c = foreign_so c.args.unit.now states.Idle _ _ c.requires.state (λ w a. ap (foreign Idle) c.in-Prefix.is) c.reports-in-Prefix.ensures
 
 pub returns-in-RouterKey : goal.returns-in-RouterKey
-returns-in-RouterKey c =
-    reports_so c.args.unit.now states.Idle _ _ c.requires.state (λ w a held. idle_rejects c.args.unit.now (ap foreign_idle c.in-RouterKey.is) (seen c.args.self.now w a held)) c.reports-in-RouterKey.ensures
+returns-in-RouterKey c = foreign_so c.args.unit.now states.Idle _ _ c.requires.state (λ w a. ap (foreign Idle) c.in-RouterKey.is) c.reports-in-RouterKey.ensures
 
 pub returns-in-EndOfData : goal.returns-in-EndOfData
-returns-in-EndOfData c =
-    reports_so c.args.unit.now states.Idle _ _ c.requires.state (λ w a held. idle_rejects c.args.unit.now (ap foreign_idle c.in-EndOfData.is) (seen c.args.self.now w a held)) c.reports-in-EndOfData.ensures
+returns-in-EndOfData c = foreign_so c.args.unit.now states.Idle _ _ c.requires.state (λ w a. ap (foreign Idle) c.in-EndOfData.is) c.reports-in-EndOfData.ensures
 
 pub returns-in-EndOfData0 : goal.returns-in-EndOfData0
-returns-in-EndOfData0 c =
-    reports_so c.args.unit.now states.Idle _ _ c.requires.state (λ w a held. idle_rejects c.args.unit.now (ap foreign_idle c.in-EndOfData0.is) (seen c.args.self.now w a held)) c.reports-in-EndOfData0.ensures
+returns-in-EndOfData0 c = foreign_so c.args.unit.now states.Idle _ _ c.requires.state (λ w a. ap (foreign Idle) c.in-EndOfData0.is) c.reports-in-EndOfData0.ensures
 
 pub returns-in-CacheReset : goal.returns-in-CacheReset
-returns-in-CacheReset c =
-    reports_so c.args.unit.now states.Idle _ _ c.requires.state (λ w a held. idle_rejects c.args.unit.now (ap foreign_idle c.in-CacheReset.is) (seen c.args.self.now w a held)) c.reports-in-CacheReset.ensures
+returns-in-CacheReset c = foreign_so c.args.unit.now states.Idle _ _ c.requires.state (λ w a. ap (foreign Idle) c.in-CacheReset.is) c.reports-in-CacheReset.ensures
 
 pub returns-in-SerialQuery : goal.returns-in-SerialQuery
-returns-in-SerialQuery c =
-    reports_so c.args.unit.now states.Idle _ _ c.requires.state (λ w a held. idle_rejects c.args.unit.now (ap foreign_idle c.in-SerialQuery.is) (seen c.args.self.now w a held)) c.reports-in-SerialQuery.ensures
+returns-in-SerialQuery c = foreign_so c.args.unit.now states.Idle _ _ c.requires.state (λ w a. ap (foreign Idle) c.in-SerialQuery.is) c.reports-in-SerialQuery.ensures
 
 pub returns-in-ResetQuery : goal.returns-in-ResetQuery
-returns-in-ResetQuery c =
-    reports_so c.args.unit.now states.Idle _ _ c.requires.state (λ w a held. idle_rejects c.args.unit.now (ap foreign_idle c.in-ResetQuery.is) (seen c.args.self.now w a held)) c.reports-in-ResetQuery.ensures
+returns-in-ResetQuery c = foreign_so c.args.unit.now states.Idle _ _ c.requires.state (λ w a. ap (foreign Idle) c.in-ResetQuery.is) c.reports-in-ResetQuery.ensures
 
 pub returns-then-code-ne-NO_DATA_AVAILABLE : goal.returns-then-code-ne-NO_DATA_AVAILABLE
 returns-then-code-ne-NO_DATA_AVAILABLE c =
