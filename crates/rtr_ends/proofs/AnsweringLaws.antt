@@ -19,6 +19,7 @@ use Rattle.rtr_ends.specs.declared.sessions.Sessions.{Sessions}
 use Rattle.rtr_ends.specs.Timing.{Intervals}
 use Rattle.rtr_ends.specs.declared.peer.Peer.{Peer}
 use Rattle.rtr_ends.specs.declared.sender.Sender.{Sender}
+use Rattle.std.proofs.Math.Bool.{and-false}
 
 pub stays_but : (old new : Sender) → Stays old new → StaysBut old new
 stays_but old new s = record { sessions = s.sessions; timing = s.timing; newest = s.newest; room = s.room }
@@ -90,11 +91,7 @@ module _ (keep : ℕ) (t : Intervals) (i : Instance) where
 
   -- with memory an answer is what it is
   with_memory : (version : Version) (u : Unit) → read_reply version keep t i true u ≡ answer version i keep t u
-  with_memory version u = by_test (takes_memory version i u)
-    where
-      by_test : (b : Bool) → (if b && not true then no_memory else answer version i keep t u) ≡ answer version i keep t u
-      by_test true = refl
-      by_test false = refl
+  with_memory version u = ap (λ b. if b then no_memory else answer version i keep t u) (and-false (takes_memory version i u))
 
   same_session : (version : Version) (session serial : ℕ) → (session == session_in version i) ≡ true
       → answer version i keep t (SerialQuery session serial) ≡ and_on (serial_answer version (session_in version i) keep t serial (versions i))

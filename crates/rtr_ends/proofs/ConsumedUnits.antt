@@ -23,7 +23,7 @@ use Rattle.rtr_ends.specs.RouterLaws.{LinkTells}
 use Rattle.rtr_ends.specs.RouterLink.{Link, Closed, Asked, Ended, is_closed, is_reading}
 use Rattle.rtr_ends.specs.Transcript.{Question, Item, Asks, Reads, Lacks, has_agreed, is_connected, later, spoken}
 use Rattle.rtr_ends.proofs.ByteLists.{none_bytes, more_bytes}
-use Rattle.rtr_ends.proofs.Effects.{unit_keeps}
+use Rattle.rtr_ends.proofs.Effects.{by_whole, unit_keeps}
 use Rattle.rtr_ends.proofs.KeptUnits.{Tells, bytes_add, connected}
 use Rattle.rtr_ends.proofs.TableLaws.{false_true}
 use Rattle.prefixes.proofs.Basics.{not_both}
@@ -231,24 +231,17 @@ bytes_come memory b r items bytes byte live none t l =
     }
 
     reads_it : (u : Unit) → units.Reads (spoken items) u (as_read (spoken items) (not r.agreed) seen) → NowComes (Whole u)
-    reads_it u h = by_memory (may_lack r.link u r && not memory) (added (Whole u))
-      where
-        hand : Router
-        hand = record r { held = [] }
-
-        by_test : Bool → Noted
-        by_test w = if w then lacks u hand else reads u hand
-
-        by_memory : (w : Bool) → Tells (by_test w).router ((by_test w).items ++ items) → Comes (by_test w).router ((by_test w).items ++ items) (bytes ++ b ∷ [])
-        by_memory true tells = record {
+    reads_it u h = by_whole (λ n. Tells n.router (n.items ++ items) → Comes n.router (n.items ++ items) (bytes ++ b ∷ [])) memory seen r u
+        (λ tells. record {
           tells = tells;
           live = λ live. false_true live;
           split = unit_split u items (Lacks u ∷ items) (bytes ++ b ∷ []) (unit_read u h) refl refl refl;
           none_held = λ c. false_true c;
           none_out = λ c. false_true c;
-        }
-        by_memory false tells =
-            reads_come hand u items (bytes ++ b ∷ []) refl live (record { kept_is = t.kept_is; due_is = t.due_is; now_is = t.now_is; spoken_is = t.spoken_is; link = t.link }) (unit_read u h) l.any_is tells
+        })
+        (λ tells. reads_come (record r { held = [] }) u items (bytes ++ b ∷ []) refl live
+        (record { kept_is = t.kept_is; due_is = t.due_is; now_is = t.now_is; spoken_is = t.spoken_is; link = t.link }) (unit_read u h) l.any_is tells)
+        (added (Whole u))
 
     so : (j : Judgement) → judge (spoken items) (not r.agreed) seen ≡ j → NowComes j → NowComes (judge (spoken items) (not r.agreed) seen)
     so j e h = subst NowComes (sym e) h

@@ -258,13 +258,14 @@ module _ (now : ℕ) (calls : List RouterCall) (before : Option (List ℕ)) (had
       abbrev led_to : Router
       led_to = (played (calls_since w.turns now calls)).router
 
-      ends_as : (more : ℕ) (result : Result Fetched StreamFault) → reads ≤ more → FetchEnds (calls_since w.turns now calls) w.unread left had has result → FetchedAs now calls before left more had has result router
-      ends_as more result most ends = (
+      ends_after : (after : Option (List ℕ)) (more : ℕ) (result : Result Fetched StreamFault) → reads ≤ more → Consumes before after (came (calls_since w.turns now calls) ++ w.unread) → FetchEnds (calls_since w.turns now calls) w.unread after had has result
+          → FetchedAs now calls before after more had has result router
+      ends_after after more result most consumed ends = (
         record {
           turns = w.turns;
           each = w.each;
           unread = w.unread;
-          consumed = w.consumed;
+          consumed = consumed;
           few = (let f = w.few in omega (arith, f, most));
           ends = ends;
         },
@@ -273,7 +274,7 @@ module _ (now : ℕ) (calls : List RouterCall) (before : Option (List ℕ)) (had
 
       -- No question is outstanding.
       pub reached_there : (more : ℕ) (fetched : Fetched) → reads ≤ more → ((r : Router) → IsShown r router → Some fetched ≡ reached_by r.link r.no_data) → FetchedAs now calls before left more had has (Ok fetched) router
-      reached_there more fetched most told = ends_as more (Ok fetched) most (by_link led_to.link led_to.no_data refl refl (told led_to w.leads))
+      reached_there more fetched most told = ends_after left more (Ok fetched) most w.consumed (by_link led_to.link led_to.no_data refl refl (told led_to w.leads))
         where
           same : {x : Fetched} → Some fetched ≡ Some x → x ≡ fetched
           same h = cc
@@ -333,21 +334,7 @@ module _ (now : ℕ) (calls : List RouterCall) (before : Option (List ℕ)) (had
 
         -- So many reads were made as were allowed.
         pub limit_there : (more : ℕ) → reads ≤ more → FetchedAs now calls before left more had has (Ok outcomes.Limit) router
-        limit_there more most = ends_as more (Ok outcomes.Limit) most (w.asked, still)
-
-        ends_after : (after : Option (List ℕ)) (more : ℕ) (result : Result Fetched StreamFault) → reads ≤ more → Consumes before after (came (calls_since w.turns now calls) ++ w.unread) → FetchEnds (calls_since w.turns now calls) w.unread after had has result
-            → FetchedAs now calls before after more had has result router
-        ends_after after more result most consumed ends = (
-          record {
-            turns = w.turns;
-            each = w.each;
-            unread = w.unread;
-            consumed = consumed;
-            few = (let f = w.few in omega (arith, f, most));
-            ends = ends;
-          },
-          w.leads,
-        )
+        limit_there more most = ends_after left more (Ok outcomes.Limit) most w.consumed (w.asked, still)
 
         -- The input has ended.
         pub input_ends : (after : Option (List ℕ)) (count more : ℕ) (buf : List ℕ) → count ≡ 0 → reads ≤ more → 0 < length buf → Consumes left after (take count buf) × (count ≡ 0 → 0 < length buf → IsAtEnd after)

@@ -10,7 +10,7 @@ use Rattle.rtr_ends.specs.Answer.{end_of_data, sent, sent_all}
 use Rattle.rtr_ends.specs.Sender.{FillsAnswer, FillsFrom, FillsOn, FillsWith, due_of, left, left_in, newest_in, newest_of, own_session, ready_in, serial_in, session_by, units_in}
 use Rattle.rtr_ends.specs.declared.sender.AnswerCursor.{AnswerCursor}
 use Rattle.rtr_ends.specs.declared.sender.Sender.{Sender}
-use Rattle.rtr_ends.proofs.SenderLaws.{IsFilled}
+use Rattle.rtr_ends.proofs.SenderLaws.{IsFilled, fills_first}
 
 -- none yet
 pub none_written : (version : Version) (units : List Unit) (out : List ℕ) (filled : ℕ) → filled ≤ length out → FillsWith version units out filled 0 filled out
@@ -84,28 +84,7 @@ module _ (start : Sender) (given : List ℕ) (s : Sender) (out : List ℕ) (fill
   -- bytes that were due first are written
   written : (bytes : List ℕ) → due_of s ≡ bytes ++ due_of new → result ≡ filled + length bytes → result ≤ length out → now ≡ take filled out ++ bytes ++ drop result out → newest_of new ≡ newest_of s → IsFilled start given new now result
   written bytes due_was result_is low now_is newest =
-      let size : length (take filled (due_of start)) ≡ filled = omega (arith, length-take filled (due_of start), f.within) in
-      let rest : drop filled (due_of start) ≡ bytes ++ due_of new = sym f.due ∙ due_was in
-      let first : take filled out ≡ take filled (due_of start) = ap (take filled) f.now ∙ take_at (take filled (due_of start)) (drop filled given) filled size in
-      let mid : bytes ≡ take (length bytes) (drop filled (due_of start)) = sym (ap (take (length bytes)) rest ∙ take_at bytes (due_of new) (length bytes) refl) in
-      let last : drop result out ≡ drop result given =
-      (λ i. drop (result_is i) (f.now i)) ∙ ap (λ n. drop (n + length bytes) (take filled (due_of start) ++ drop filled given)) (sym size)
-      ∙ drop-append-add (take filled (due_of start)) (drop filled given) (length bytes) ∙ drop-drop (length bytes) filled given ∙ ap (λ n. drop n given) (sym result_is) in
-      let whole : take filled (due_of start) ++ take (length bytes) (drop filled (due_of start)) ≡ take result (due_of start) = sym (take-add filled (length bytes) (due_of start)) ∙ ap (λ n. take n (due_of start)) (sym result_is) in
-      let is : now ≡ take result (due_of start) ++ drop result given = now_is ∙ (λ i. first i ++ mid i ++ last i) ∙ ap (λ x. x ++ drop result given) whole in
-      let sizes : length (due_of start) - filled ≡ length bytes + length (due_of new) = sym (length-drop filled (due_of start)) ∙ ap length rest ∙ length-append bytes (due_of new) in
-      let all : result ≤ length (due_of start) = omega (arith, sizes, result_is, f.within) in
-      record {
-        low = omega (arith, ap length is, length-append (take result (due_of start)) (drop result given), length-take result (due_of start), all);
-        within = all;
-        now = is;
-        due = sym (ap (drop (length bytes)) rest ∙ drop_front bytes (due_of new)) ∙ drop-drop (length bytes) filled (due_of start) ∙ ap (λ n. drop n (due_of start)) (sym result_is);
-        stays = record { version = g.version ∙ f.stays.version; sessions = g.sessions ∙ f.stays.sessions; timing = g.timing ∙ f.stays.timing; newest = newest ∙ f.stays.newest; room = λ before. room_stays (f.stays.room before) };
-      }
-    where
-      drop_front : (xs ys : List ℕ) → drop (length xs) (xs ++ ys) ≡ ys
-      drop_front [] ys = refl
-      drop_front (x ∷ xs) ys = drop_front xs ys
+      fills_first start given s out filled result now new bytes f due_was result_is low now_is (record { version = g.version; sessions = g.sessions; timing = g.timing; newest = newest; room = room_stays })
 
   by_answer : (a b : Option AnswerCursor) → s.answer ≡ a → new.answer ≡ b → FillsAnswer s.version a out filled result now b → IsFilled start given new now result
   by_answer None b was is h =

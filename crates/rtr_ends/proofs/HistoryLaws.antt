@@ -52,23 +52,7 @@ sent_so_far keep t c (Pull count ∷ later) bytes h =
     ∙ ap (λ x. take count c.due ++ x) (sent_so_far keep t (conn_after keep t c (Pull count)) later h.1.0 h.1.2)
     ∙ sym (append_assoc (take count c.due) (drop count c.due) _)
     ∙ ap (λ x. x ++ bytes_sent (if c.ended then [] else replies_from keep t c.version later)) (take-append-drop count c.due)
-sent_so_far keep t c (Read version cache unit bytes' ∷ later) bytes h =
-    let m = Read version cache unit bytes' in
-    sent_so_far keep t (conn_after keep t c m) later h.1.0 h.1.2
-    ∙ with_reply (sent_by m) (reply keep t c.version m) (replies_from keep t (version_after c.version m) later)
-    ∙ at_rest c.due c.ended (replies_from keep t c.version (m ∷ later)) h.0.1 h.0.0
-sent_so_far keep t c (Wanting version cache unit bytes' ∷ later) bytes h =
-    let m = Wanting version cache unit bytes' in
-    sent_so_far keep t (conn_after keep t c m) later h.1.0 h.1.2
-    ∙ with_reply (sent_by m) (reply keep t c.version m) (replies_from keep t (version_after c.version m) later)
-    ∙ at_rest c.due c.ended (replies_from keep t c.version (m ∷ later)) h.0.1 h.0.0
-sent_so_far keep t c (Fault version fault bytes' ∷ later) bytes h =
-    let m = Fault version fault bytes' in
-    sent_so_far keep t (conn_after keep t c m) later h.1.0 h.1.2
-    ∙ with_reply (sent_by m) (reply keep t c.version m) (replies_from keep t (version_after c.version m) later)
-    ∙ at_rest c.due c.ended (replies_from keep t c.version (m ∷ later)) h.0.1 h.0.0
-sent_so_far keep t c (Notify version cache held ∷ later) bytes h =
-    let m = Notify version cache held in
+sent_so_far keep t c (m ∷ later) bytes h =
     sent_so_far keep t (conn_after keep t c m) later h.1.0 h.1.2
     ∙ with_reply (sent_by m) (reply keep t c.version m) (replies_from keep t (version_after c.version m) later)
     ∙ at_rest c.due c.ended (replies_from keep t c.version (m ∷ later)) h.0.1 h.0.0
@@ -143,8 +127,6 @@ fault_some version bytes fault h = let long = shows_long version bytes fault h i
 
 split_of : (keep : ℕ) (t : Intervals) (c : Connection) (moments : List ConnMoment) (bytes : List ℕ) → IsHistory keep t c moments bytes → HasSplit (version_in c.version bytes) bytes (units_of moments)
 split_of keep t c [] bytes h = at_last (version_in c.version bytes) _ c.ended bytes h
-split_of keep t c (Pull count ∷ later) bytes h =
-    subst (λ x. HasSplit (version_in c.version x) x (units_of later)) (sym h.1.1) (split_of keep t (conn_after keep t c (Pull count)) later h.1.0 h.1.2)
 split_of keep t c (Read version cache unit bytes' ∷ later) bytes h =
     let is : version ≡ version_in c.version bytes = from_first c.version version bytes' h.1.0 bytes h.0.4.0 (unit_some version unit bytes' h.0.4.1) h.1.1 in
     subst (λ v. HasSplit v bytes (unit ∷ units_of later)) is
@@ -157,8 +139,8 @@ split_of keep t c (Fault version fault bytes' ∷ later) bytes h =
     let is : version ≡ version_in c.version bytes = from_first c.version version bytes' h.1.0 bytes h.0.4.0 (fault_some version bytes' fault h.0.4.1) h.1.1 in
     subst (λ v. HasSplit v bytes (units_of later)) is
     (with_fault version fault bytes' h.1.0 bytes later h.1.1 h.0.4.1 (quiet keep t (conn_after keep t c (Fault version fault bytes')) later h.1.0 refl h.1.2))
-split_of keep t c (Notify version cache held ∷ later) bytes h =
-    subst (λ x. HasSplit (version_in c.version x) x (units_of later)) (sym h.1.1) (split_of keep t (conn_after keep t c (Notify version cache held)) later h.1.0 h.1.2)
+split_of keep t c (m ∷ later) bytes h =
+    subst (λ x. HasSplit (version_in c.version x) x (units_of later)) (sym h.1.1) (split_of keep t (conn_after keep t c m) later h.1.0 h.1.2)
 
 pub history_splits : HistorySplits
 history_splits keep t i moments bytes h = split_of keep t (opened i) moments bytes h

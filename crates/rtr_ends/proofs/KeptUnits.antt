@@ -131,7 +131,19 @@ idle_report r e items b is el h l = by_code b
 
 -- an Error Report to the question that is outstanding
 told_unit : (r : Router) (q : Question) (e : Report) (items : List Item) → r.agreed ≡ true → is_connected items ≡ true → Before r items → outstanding items ≡ Some q → responded items ≡ r.session → After (told_off q e.code r) (ErrorReport e) items
-told_unit r q e items agreed c h asked session = by_two (e.code == 2) refl
+told_unit r q e items agreed c h asked session =
+    either (λ n. After n (ErrorReport e) items) (e.code == 2) idle_again (if e.code == 0 && is_serial (Some q) then ended_by e.code (emptied r) else ended_by e.code r)
+    (λ two. stays_after idle_again (ErrorReport e) items Idle refl h.none
+    (record {
+      kept_is = kept_by false (ap (λ x. x && is_serial (Some q)) (two_not_zero e.code two));
+      due_is = due_by true two ∙ (λ i. Some (sum_of (h.now_is i) (retry_of (h.kept_is i).version)));
+      now_is = h.now_is;
+      spoken_is = h.spoken_is;
+    })
+    (c, refl, refl, sym agreed, session, agreed))
+    (λ other. either (λ n. After n (ErrorReport e) items) (e.code == 0 && is_serial (Some q)) (ended_by e.code (emptied r)) (ended_by e.code r)
+    (λ zero. ended_after (ended_by e.code (emptied r)) (ErrorReport e) items (ends.Told e.code) refl c (record { kept_is = kept_by true zero; due_is = due_by false other ∙ h.due_is; now_is = h.now_is; spoken_is = h.spoken_is }))
+    (λ more. ended_after (ended_by e.code r) (ErrorReport e) items (ends.Told e.code) refl c (record { kept_is = kept_by false more; due_is = due_by false other ∙ h.due_is; now_is = h.now_is; spoken_is = h.spoken_is })))
   where
     retried_then : Bool → Option ℕ
     retried_then b = if b then Some (sum_of (moment items) (retry_of (kept items).version)) else due items
@@ -142,28 +154,8 @@ told_unit r q e items agreed c h asked session = by_two (e.code == 2) refl
     due_by : (b : Bool) → (e.code == 2) ≡ b → due (Reads (ErrorReport e) ∷ items) ≡ retried_then b
     due_by b is = ap (λ o. retried_then (e.code == 2 && is_some o)) asked ∙ ap retried_then (and-true (e.code == 2) ∙ is)
 
-    by_zero : (b : Bool) → (e.code == 0 && is_serial (Some q)) ≡ b → (e.code == 2) ≡ false → After (if b then ended_by e.code (emptied r) else ended_by e.code r) (ErrorReport e) items
-    by_zero true is two = ended_after (ended_by e.code (emptied r)) (ErrorReport e) items (ends.Told e.code) refl c (record { kept_is = kept_by true is; due_is = due_by false two ∙ h.due_is; now_is = h.now_is; spoken_is = h.spoken_is })
-    by_zero false is two = ended_after (ended_by e.code r) (ErrorReport e) items (ends.Told e.code) refl c (record { kept_is = kept_by false is; due_is = due_by false two ∙ h.due_is; now_is = h.now_is; spoken_is = h.spoken_is })
-
     idle_again : Router
     idle_again = record r { link = Idle; due = Some (sum_of r.now (retry_of r.version)); no_data = true }
-
-    by_test : Bool → Router
-    by_test b = if b then idle_again else if e.code == 0 && is_serial (Some q) then ended_by e.code (emptied r) else ended_by e.code r
-
-    by_two : (b : Bool) → (e.code == 2) ≡ b → After (told_off q e.code r) (ErrorReport e) items
-    by_two true two =
-        subst (λ x. After (by_test x) (ErrorReport e) items) (sym two)
-        (stays_after idle_again (ErrorReport e) items Idle refl h.none
-        (record {
-          kept_is = kept_by false (ap (λ x. x && is_serial (Some q)) (two_not_zero e.code two));
-          due_is = due_by true two ∙ (λ i. Some (sum_of (h.now_is i) (retry_of (h.kept_is i).version)));
-          now_is = h.now_is;
-          spoken_is = h.spoken_is;
-        })
-        (c, refl, refl, sym agreed, session, agreed))
-    by_two false two = subst (λ x. After (by_test x) (ErrorReport e) items) (sym two) (by_zero (e.code == 0 && is_serial (Some q)) refl two)
 
 -- a PDU that ends the link with code 0
 ends_0 : (r : Router) (u : Unit) (items : List Item) → is_connected items ≡ true → Before r items → kept (Reads u ∷ items) ≡ holds r → due (Reads u ∷ items) ≡ r.due → After (reports 0 u r) u items

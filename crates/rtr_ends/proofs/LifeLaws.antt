@@ -39,6 +39,16 @@ module _ (keep : ℕ) (t : Intervals) (i : Instance) where
   own call F a None fits acts same stands = (ap (option_map F) same, stands)
   own call F a (Some x) fits acts same stands = (ap (option_map F) same ∙ ap Some (sym (acts x stands.now).0), more call i x fits (acts x stands.now).1 stands)
 
+-- A call on one connection, which is this one or another
+keeps_one : (m : CacheState) (c d : ℕ) (l : Option Life) (call : ConnCall) (F : Conn → Conn) → IsConnCall call
+    → ((x : Life) → x.serving.cache ≡ m.cache → ((serve m.keep m.timing call x.serving).conn ≡ F x.serving.conn) × ((serve m.keep m.timing call x.serving).cache ≡ m.cache)) → Agrees m.keep m.timing m.cache (m.at c) l
+    → Agrees m.keep m.timing m.cache (if c == d then option_map F (m.at d) else m.at c) (if c == d then option_map (serves m.keep m.timing call) l else l)
+keeps_one m c d l call F fits acts h = by_test (c == d) refl
+  where
+    by_test : (b : Bool) → (c == d) ≡ b → Agrees m.keep m.timing m.cache (if b then option_map F (m.at d) else m.at c) (if b then option_map (serves m.keep m.timing call) l else l)
+    by_test true e = let k = own m.keep m.timing m.cache call F (m.at d) l fits acts (ap m.at (sym (eq_of c d e)) ∙ h.same) h.stands in record { same = k.0; stands = k.1 }
+    by_test false e = record { same = h.same; stands = h.stands }
+
 -- A call keeps that.
 keeps : (call : CacheCall) (m : CacheState) (c : ℕ) (l : Option Life) → IsInstance m.cache → IsCacheCall call → Agrees m.keep m.timing m.cache (m.at c) l → Agrees m.keep m.timing (cache_called call m).cache ((cache_called call m).at c) (life_after call m c l)
 keeps (Publish set) m c None is fits h = record { same = h.same; stands = h.stands }
@@ -54,29 +64,11 @@ keeps (Close d) m c l is fits h = by_test (c == d)
     by_test : (b : Bool) → Agrees m.keep m.timing m.cache (if b then None else m.at c) (if b then None else l)
     by_test true = record { same = refl; stands = tt }
     by_test false = record { same = h.same; stands = h.stands }
-keeps (Receive d wanting piece) m c l is fits h = by_test (c == d) refl
-  where
-    by_test : (b : Bool) → (c == d) ≡ b
-        → Agrees m.keep m.timing m.cache (if b then option_map (λ o. (conn_takes m.keep m.timing m.cache wanting piece o).machine.conn) (m.at d) else m.at c) (if b then option_map (serves m.keep m.timing (Takes wanting piece)) l else l)
-    by_test true e =
-        let k = own m.keep m.timing m.cache (Takes wanting piece) (λ o. (conn_takes m.keep m.timing m.cache wanting piece o).machine.conn) (m.at d) l fits
-        (λ x now. (ap (λ j. (conn_takes m.keep m.timing j wanting piece x.serving.conn).machine.conn) now, now)) (ap m.at (sym (eq_of c d e)) ∙ h.same) h.stands in
-        record { same = k.0; stands = k.1 }
-    by_test false e = record { same = h.same; stands = h.stands }
-keeps (Pull d most) m c l is fits h = by_test (c == d) refl
-  where
-    by_test : (b : Bool) → (c == d) ≡ b → Agrees m.keep m.timing m.cache (if b then option_map (conn_pulled m.keep m.timing most) (m.at d) else m.at c) (if b then option_map (serves m.keep m.timing (Gives most)) l else l)
-    by_test true e =
-        let k = own m.keep m.timing m.cache (Gives most) (conn_pulled m.keep m.timing most) (m.at d) l tt (λ x now. (refl, now)) (ap m.at (sym (eq_of c d e)) ∙ h.same) h.stands in
-        record { same = k.0; stands = k.1 }
-    by_test false e = record { same = h.same; stands = h.stands }
-keeps (Notify d) m c l is fits h = by_test (c == d) refl
-  where
-    by_test : (b : Bool) → (c == d) ≡ b → Agrees m.keep m.timing m.cache (if b then option_map (conn_notified m.keep m.timing m.cache) (m.at d) else m.at c) (if b then option_map (serves m.keep m.timing Notifies) l else l)
-    by_test true e =
-        let k = own m.keep m.timing m.cache Notifies (conn_notified m.keep m.timing m.cache) (m.at d) l tt (λ x now. (ap (λ j. conn_notified m.keep m.timing j x.serving.conn) now, now)) (ap m.at (sym (eq_of c d e)) ∙ h.same) h.stands in
-        record { same = k.0; stands = k.1 }
-    by_test false e = record { same = h.same; stands = h.stands }
+keeps (Receive d wanting piece) m c l is fits h =
+    keeps_one m c d l (Takes wanting piece) (λ o. (conn_takes m.keep m.timing m.cache wanting piece o).machine.conn) fits (λ x now. (ap (λ j. (conn_takes m.keep m.timing j wanting piece x.serving.conn).machine.conn) now, now)) h
+keeps (Pull d most) m c l is fits h = keeps_one m c d l (Gives most) (conn_pulled m.keep m.timing most) tt (λ x now. (refl, now)) h
+keeps (Notify d) m c l is fits h =
+    keeps_one m c d l Notifies (conn_notified m.keep m.timing m.cache) tt (λ x now. (ap (λ j. conn_notified m.keep m.timing j x.serving.conn) now, now)) h
 
 instance_kept : (call : CacheCall) (m : CacheState) → IsInstance m.cache → IsCacheCall call → IsInstance (cache_called call m).cache
 instance_kept (Publish set) m is fits = published_is_instance set m.cache fits is

@@ -31,27 +31,30 @@ use Rattle.rtr_ends.specs.declared.machine.State.{State}
 use Rattle.rtr_ends.specs.declared.machine.State.TheVariants as states
 use Rattle.rtr_ends.proofs.SeenLaws.{does_from, shown, shown_as, unit_does}
 use Rattle.rtr_ends.proofs.TableLaws.{false_true}
-use Rattle.prefixes.proofs.Basics.{eq_self}
+use Rattle.prefixes.proofs.Basics.{eq_of, eq_self, false_if_never}
 
 -- What a step does in one state, whatever was staged
 abbrev Steps : State → Unit → (Router → Router) → Machine → Type 0
 Steps s u step old = (withdrawn announced : List Payload) (held : List ℕ) → on_unit (seen_link s withdrawn announced) u (seen old withdrawn announced held) ≡ step (seen old withdrawn announced held)
 
--- The link ends with a report, and what is held stays.
+-- The link ends with a report. What is held is that of this machine.
+ends_so_with : (u : Unit) (s : State) (old base new : Machine) → old.state ≡ s
+    → ((withdrawn announced : List Payload) (held : List ℕ) → on_unit (seen_link s withdrawn announced) u (seen old withdrawn announced held) ≡ reports 0 u (seen base withdrawn announced held))
+    → new ≡ record base { state = states.Ended (ends.Reported 0); out = sent base.spoken (report 0 (sent base.spoken u)) } → Does (λ r. on_unit r.link u r) old new
+ends_so_with u s old base new is steps e =
+    unit_does u s old new is (λ withdrawn announced held staged.
+    subst (λ n. ShowsRouter (on_unit (seen_link s withdrawn announced) u (seen old withdrawn announced held)) n) (sym e)
+    (shown_as _ (record base { state = states.Ended (ends.Reported 0); out = sent base.spoken (report 0 (sent base.spoken u)) }) withdrawn announced held (steps withdrawn announced held) tt))
+
+-- It stays,
 pub reports_so : (u : Unit) (s : State) (old new : Machine) → old.state ≡ s → Steps s u (reports 0 u) old
     → new ≡ record old { state = states.Ended (ends.Reported 0); out = sent old.spoken (report 0 (sent old.spoken u)) } → Does (λ r. on_unit r.link u r) old new
-reports_so u s old new is steps e =
-    unit_does u s old new is (λ withdrawn announced held staged.
-    subst (λ n. ShowsRouter (on_unit (seen_link s withdrawn announced) u (seen old withdrawn announced held)) n) (sym e)
-    (shown_as _ (record old { state = states.Ended (ends.Reported 0); out = sent old.spoken (report 0 (sent old.spoken u)) }) withdrawn announced held (steps withdrawn announced held) tt))
+reports_so u s old new is steps e = ends_so_with u s old old new is steps e
 
--- The same, and emptied.
+-- or is emptied.
 pub fails_so : (u : Unit) (s : State) (old new : Machine) → old.state ≡ s → Steps s u (fails u) old
     → new ≡ record old { table = empty; version = None; mark = false; state = states.Ended (ends.Reported 0); out = sent old.spoken (report 0 (sent old.spoken u)) } → Does (λ r. on_unit r.link u r) old new
-fails_so u s old new is steps e =
-    unit_does u s old new is (λ withdrawn announced held staged.
-    subst (λ n. ShowsRouter (on_unit (seen_link s withdrawn announced) u (seen old withdrawn announced held)) n) (sym e)
-    (shown_as _ (record old { table = empty; version = None; mark = false; state = states.Ended (ends.Reported 0); out = sent old.spoken (report 0 (sent old.spoken u)) }) withdrawn announced held (steps withdrawn announced held) tt))
+fails_so u s old new is steps e = ends_so_with u s old (record old { table = empty; version = None; mark = false }) new is steps e
 
 -- Nothing happens.
 pub stays_so : (u : Unit) (s : State) (old : Machine) → old.state ≡ s → Steps s u (λ r. r) old → Does (λ r. on_unit r.link u r) old old
@@ -87,11 +90,7 @@ pub is_code : (ended_by code n : ℕ) → ended_by ≡ code → ended_by ≡ n �
 is_code ended_by code n e h = let same : code ≡ n = sym e ∙ h in grind (arith, nat_tests)
 
 pub no_code : (ended_by code n : ℕ) → ended_by ≡ code → (ended_by ≡ n → ⊥) → (code == n) ≡ false
-no_code ended_by code n e h = by_test (code == n) refl
-  where
-    by_test : (b : Bool) → (code == n) ≡ b → b ≡ false
-    by_test false is = refl
-    by_test true is = absurd (h (let same : code ≡ n = grind (arith, nat_tests) in e ∙ same))
+no_code ended_by code n e h = false_if_never (code == n) (λ is. h (e ∙ eq_of code n is))
 
 -- A Reset Query is asked, after agreement.
 pub asks_again : (old new : Machine) → new ≡ record old { agreed = true; state = states.Asked questions.Reset; out = sent old.spoken (query AskReset) } → Does (λ r. asking AskReset (record r { agreed = true })) old new

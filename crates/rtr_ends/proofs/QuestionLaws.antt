@@ -16,7 +16,7 @@ use Rattle.rtr_ends.specs.RouterLaws.{RouterAsks, LinkTells}
 use Rattle.rtr_ends.specs.RouterLink.{is_due, Link, Closed, Idle, Asked, Answering, Ended, is_idle, is_reading}
 use Rattle.rtr_ends.specs.Timing.{Intervals, default_intervals}
 use Rattle.rtr_ends.specs.Transcript.{Question, AskReset, AskSerial, AsksRightly, Begun, Item, At, Opened, Reads, acts_once, acts_wrongly, base_of, bounded, choose, does_commit, is_among, kept, later, led_to, marked, next_question, of_version, query, spoken, under_way}
-use Rattle.rtr_ends.proofs.Effects.{acts, by_byte, by_clock, by_close, by_unit, by_whole, goes_so, put_by}
+use Rattle.rtr_ends.proofs.Effects.{acts, by_byte, by_clock, by_close, by_unit, by_whole, either, goes_so, put_by}
 use Rattle.rtr_ends.proofs.FeedingLaws.{feed_keeps}
 use Rattle.rtr_ends.proofs.KeptUnits.{Tells, bytes_add, holds}
 use Rattle.rtr_ends.proofs.KeptLaws.{called_tells, clocked_tells, new_tells}
@@ -100,24 +100,13 @@ abbrev IsMarked : Staged → Bool → Type 0
 IsMarked (Wrong code) b = b ≡ true
 IsMarked st b = b ≡ false
 
-withdrawn_marks : (base : VrpSet) (a : Begun) (v : Payload) → IsMarked (stage base a false v) (not (has base v && not (is_among v a.withdrawn)))
-withdrawn_marks base a v = by_test (has base v && not (is_among v a.withdrawn))
-  where
-    by_test : (b : Bool) → IsMarked (if b then Stays (record a { withdrawn = v ∷ a.withdrawn }) else Wrong 6) (not b)
-    by_test true = refl
-    by_test false = refl
-
-announced_marks : (base : VrpSet) (a : Begun) (v : Payload) → IsMarked (stage base a true v) (has base v || is_among v a.announced)
-announced_marks base a v = by_test (has base v || is_among v a.announced) (nat_lt 16777215 (size (led_to base a.withdrawn (v ∷ a.announced))))
-  where
-    by_test : (b over : Bool) → IsMarked (if b then Wrong 7 else if over then Over else Stays (record a { announced = v ∷ a.announced })) b
-    by_test true over = refl
-    by_test false true = refl
-    by_test false false = refl
-
 record_marks : (table : VrpSet) (a : Begun) (announce : Bool) (v : Payload) → IsMarked (stage (base_of a.question table) a announce v) (acts_wrongly (Some a) table announce v)
-record_marks table a false v = withdrawn_marks (base_of a.question table) a v
-record_marks table a true v = announced_marks (base_of a.question table) a v
+record_marks table a false v =
+    let acts_so : Bool = has (base_of a.question table) v && not (is_among v a.withdrawn) in
+    either (λ s. IsMarked s (not acts_so)) acts_so _ _ (λ is. ap not is) (λ is. ap not is)
+record_marks table a true v =
+    let known : Bool = has (base_of a.question table) v || is_among v a.announced in
+    either (λ s. IsMarked s known) known _ _ (λ is. is) (λ new. either (λ s. IsMarked s known) (nat_lt 16777215 (size (led_to (base_of a.question table) a.withdrawn (v ∷ a.announced)))) _ _ (λ over. new) (λ fits. new))
 
 -- a mark that a record leaves
 left_so : (b : Bool) (r : Router) (items later : List Item) → b ≡ false → marked later ≡ (b || marked items) → MarkTells r items → MarkTells r later

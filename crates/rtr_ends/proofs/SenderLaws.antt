@@ -1,6 +1,6 @@
 -- What is due of an answer under way.
 use Rattle.std.specs.Prelude.{◌≡◌, Bool, true, false, ℕ, ◌+◌, ◌-◌, ◌<◌, ◌≤◌, not, List, [], ◌∷◌, ◌++◌, length, take, drop, min, Option, Some, None, option_map, slice_get, get_or, refl}
-use Rattle.std.proofs.Common.{sym, ap, ◌∙◌, subst, arith, add-one, inl, inr, suc, zero}
+use Rattle.std.proofs.Common.{sym, ap, ◌∙◌, subst, arith, append_assoc, add-one, inl, inr, suc, zero}
 use Rattle.std.proofs.Math.Seq.{drop-cons, drop-append-add, take-add}
 use Rattle.std.specs.Option.{is_some}
 use Rattle.std.proofs.lemmas.List.{length-append, length-drop, length-take, drop_all, drop_min, drop-drop, length-map, take-append-drop, take-append-le, drop-append-le, take_at}
@@ -183,6 +183,39 @@ pub record IsFilled (start : Sender) (given : List ℕ) (s : Sender) (out : List
 pub none_filled : (s : Sender) (out : List ℕ) → IsFilled s out s out 0
 none_filled s out = record { low = omega arith; within = omega arith; now = refl; due = refl; stays = record { version = refl; sessions = refl; timing = refl; newest = refl; room = λ before. before } }
 
+-- Bytes that were due first are filled.
+pub fills_first : (start : Sender) (given : List ℕ) (s : Sender) (out : List ℕ) (filled result : ℕ) (now : List ℕ) (new : Sender) (bytes : List ℕ) → IsFilled start given s out filled → due_of s ≡ bytes ++ due_of new → result ≡ filled + length bytes → result ≤ length out
+    → now ≡ take filled out ++ bytes ++ drop result out → Stays s new → IsFilled start given new now result
+fills_first start given s out filled result now new bytes f due_was result_is low now_is stays =
+    let size : length (take filled (due_of start)) ≡ filled = omega (arith, length-take filled (due_of start), f.within) in
+    let rest : drop filled (due_of start) ≡ bytes ++ due_of new = sym f.due ∙ due_was in
+    let first : take filled out ≡ take filled (due_of start) = ap (take filled) f.now ∙ take_at (take filled (due_of start)) (drop filled given) filled size in
+    let mid : bytes ≡ take (length bytes) (drop filled (due_of start)) = sym (ap (take (length bytes)) rest ∙ take_at bytes (due_of new) (length bytes) refl) in
+    let last : drop result out ≡ drop result given =
+    (λ i. drop (result_is i) (f.now i)) ∙ ap (λ n. drop (n + length bytes) (take filled (due_of start) ++ drop filled given)) (sym size)
+    ∙ drop-append-add (take filled (due_of start)) (drop filled given) (length bytes) ∙ drop-drop (length bytes) filled given ∙ ap (λ n. drop n given) (sym result_is) in
+    let whole : take filled (due_of start) ++ take (length bytes) (drop filled (due_of start)) ≡ take result (due_of start) = sym (take-add filled (length bytes) (due_of start)) ∙ ap (λ n. take n (due_of start)) (sym result_is) in
+    let is : now ≡ take result (due_of start) ++ drop result given = now_is ∙ (λ i. first i ++ mid i ++ last i) ∙ ap (λ x. x ++ drop result given) whole in
+    let sizes : length (due_of start) - filled ≡ length bytes + length (due_of new) = sym (length-drop filled (due_of start)) ∙ ap length rest ∙ length-append bytes (due_of new) in
+    let all : result ≤ length (due_of start) = omega (arith, sizes, result_is, f.within) in
+    record {
+      low = omega (arith, ap length is, length-append (take result (due_of start)) (drop result given), length-take result (due_of start), all);
+      within = all;
+      now = is;
+      due = sym (ap (drop (length bytes)) rest ∙ drop_front bytes (due_of new)) ∙ drop-drop (length bytes) filled (due_of start) ∙ ap (λ n. drop n (due_of start)) (sym result_is);
+      stays = record {
+        version = stays.version ∙ f.stays.version;
+        sessions = stays.sessions ∙ f.stays.sessions;
+        timing = stays.timing ∙ f.stays.timing;
+        newest = stays.newest ∙ f.stays.newest;
+        room = λ before. stays.room (f.stays.room before);
+      };
+    }
+  where
+    drop_front : (xs ys : List ℕ) → drop (length xs) (xs ++ ys) ≡ ys
+    drop_front [] ys = refl
+    drop_front (x ∷ xs) ys = drop_front xs ys
+
 module _ (start : Sender) (given : List ℕ) (s : Sender) (out : List ℕ) (filled result : ℕ) (now : List ℕ) (new : Sender) (f : IsFilled start given s out filled) (g : GivesFrom s out filled result now new) where
   -- what is left of the answer stays
   pub left_stays : left new ≡ left s
@@ -208,31 +241,14 @@ module _ (start : Sender) (given : List ℕ) (s : Sender) (out : List ℕ) (fill
   abbrev back : List ℕ
   back = drop s.pulled s.buffer.items
 
-  front : take g.count back ≡ take g.count (drop filled (due_of start))
-  front = sym (take-append-le g.count back (sent_all s.version (left s)) (omega (arith, g.count_is))) ∙ ap (take g.count) (sym due_is ∙ f.due)
-
-  sizes : length (due_of s) ≡ length (due_of start) - filled
-  sizes = ap length f.due ∙ length-drop filled (due_of start)
-
   pub gives_more : IsFilled start given new now result
   gives_more =
-      let size : length (take filled (due_of start)) ≡ filled = omega (arith, length-take filled (due_of start), f.within) in
-      let first : take filled out ≡ take filled (due_of start) = ap (take filled) f.now ∙ take_at (take filled (due_of start)) (drop filled given) filled size in
-      let last : drop (filled + g.count) out ≡ drop (filled + g.count) given =
-      ap (drop (filled + g.count)) f.now ∙ ap (λ n. drop (n + g.count) (take filled (due_of start) ++ drop filled given)) (sym size)
-      ∙ drop-append-add (take filled (due_of start)) (drop filled given) g.count ∙ drop-drop g.count filled given in
-      let all : length (due_of s) ≡ length back + length (sent_all s.version (left s)) = ap length due_is ∙ length-append back (sent_all s.version (left s)) in
-      let is : now ≡ take (filled + g.count) (due_of start) ++ drop (filled + g.count) given =
-      g.now_is ∙ (λ i. first i ++ front i ++ last i) ∙ ap (λ x. x ++ drop (filled + g.count) given) (sym (take-add filled g.count (due_of start))) in
-      let back_due : due_of new ≡ drop g.count (due_of s) =
-      due_now ∙ (λ i. g.left i ++ sent_all (g.version i) (left_stays i)) ∙ sym (drop-append-le g.count back (sent_all s.version (left s)) (omega (arith, g.count_is))) ∙ ap (drop g.count) (sym due_is) in
-      record {
-        low = omega (arith, g.result_is, g.count_is, f.low, ap length is, length-append (take (filled + g.count) (due_of start)) (drop (filled + g.count) given), length-take (filled + g.count) (due_of start), sizes, all, f.within);
-        within = omega (arith, g.result_is, g.count_is, f.within, sizes, all);
-        now = is ∙ ap (λ n. take n (due_of start) ++ drop n given) (sym g.result_is);
-        due = back_due ∙ ap (drop g.count) f.due ∙ drop-drop g.count filled (due_of start) ∙ ap (λ n. drop n (due_of start)) (sym g.result_is);
-        stays = record { version = g.version ∙ f.stays.version; sessions = g.sessions ∙ f.stays.sessions; timing = g.timing ∙ f.stays.timing; newest = newest_stays ∙ f.stays.newest; room = λ before. room_stays (f.stays.room before) };
-      }
+      let later : due_of new ≡ drop g.count back ++ sent_all s.version (left s) = due_now ∙ (λ i. g.left i ++ sent_all (g.version i) (left_stays i)) in
+      fills_first start given s out filled result now new (take g.count back) f
+      (due_is ∙ ap (λ x. x ++ sent_all s.version (left s)) (sym (take-append-drop g.count back)) ∙ append_assoc (take g.count back) (drop g.count back) (sent_all s.version (left s))
+      ∙ ap (λ x. take g.count back ++ x) (sym later))
+      (omega (arith, g.result_is, g.count_is, length-take g.count back)) (omega (arith, g.result_is, g.count_is, f.low)) (g.now_is ∙ ap (λ n. take filled out ++ take g.count back ++ drop n out) (sym g.result_is))
+      (record { version = g.version; sessions = g.sessions; timing = g.timing; newest = newest_stays; room = room_stays })
 
   -- where not all is filled, the buffer is empty
   pub all_given : result < length out → drop new.pulled new.buffer.items ≡ []

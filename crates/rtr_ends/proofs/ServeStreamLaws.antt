@@ -206,27 +206,22 @@ module _ {S : Type 0} (holds : ℕ → Instance → S → Type 0) (m : CacheStat
         }
 
   -- The writer failed at bytes that were pulled.
-  fails_writing : (calls : List ConnCall) (had has written : Option (List ℕ)) (cache new : Cache S) (piece more room now : List ℕ) (count : ℕ) (e : Failed) (p : Partly holds m c calls piece had has cache) → GivesBytes holds (standing p.later) c room count now new
-      → GoesOutInPart has written (take count now) → Answered holds m c calls (piece ++ more) had written (Err e) new
+  pub fails_at : (calls : List ConnCall) (had has written : Option (List ℕ)) (cache new : Cache S) (piece room now : List ℕ) (at count : ℕ) (e : Failed) (p : Partly holds m c calls (take at piece) had has cache) → GivesBytes holds (standing p.later) c room count now new
+      → GoesOutInPart has written (take count now) → Answered holds m c calls piece had written (Err e) new
   unfolding pulls_more
-  fails_writing calls had has written cache new piece more room now count e p g part =
-      let silent : Partly holds m c calls piece None None cache = record { later = p.later; turns = p.turns; stands = p.stands; came = p.came; sent = p.sent; given = p.given; out = tt } in
-      let q = pulls_more calls None None cache piece silent room now count None new g tt in
+  fails_at calls had has written cache new piece room now at count e p g part =
+      let silent : Partly holds m c calls (take at piece) None None cache = record { later = p.later; turns = p.turns; stands = p.stands; came = p.came; sent = p.sent; given = p.given; out = tt } in
+      let q = pulls_more calls None None cache (take at piece) silent room now count None new g tt in
       record {
         later = q.later;
         turns = q.turns;
         stands = q.stands;
-        unread = more;
-        came = ap (λ x. x ++ more) q.came ∙ append_assoc (stood m calls).came piece more;
+        unread = drop at piece;
+        came = ap (λ x. x ++ drop at piece) q.came ∙ append_assoc (stood m calls).came (take at piece) (drop at piece) ∙ ap (λ x. (stood m calls).came ++ x) (take-append-drop at piece);
         sent = q.sent;
         given = q.given;
         answers = part_after had has written p.sent (take count now) p.out part;
       }
-
-  pub fails_at : (calls : List ConnCall) (had has written : Option (List ℕ)) (cache new : Cache S) (piece room now : List ℕ) (at count : ℕ) (e : Failed) (p : Partly holds m c calls (take at piece) had has cache) → GivesBytes holds (standing p.later) c room count now new
-      → GoesOutInPart has written (take count now) → Answered holds m c calls piece had written (Err e) new
-  fails_at calls had has written cache new piece room now at count e p g part =
-      subst (λ x. Answered holds m c calls x had written (Err e) new) (take-append-drop at piece) (fails_writing calls had has written cache new (take at piece) (drop at piece) room now count e p g part)
 
   -- Nothing was due: what is left of a piece is handed in, of which so much is taken.
   pub answers_on : (calls : List ConnCall) (had has : Option (List ℕ)) (cache mid new : Cache S) (piece slice room now : List ℕ) (at count taken : ℕ) (p : Partly holds m c calls (take at piece) had has cache) → GivesBytes holds (standing p.later) c room count now mid

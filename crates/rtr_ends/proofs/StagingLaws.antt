@@ -1,7 +1,7 @@
 -- What records that are staged lead to, record by record.
 use Rattle.std.specs.Prelude.{◌≡◌, ℕ, ◌+◌, ◌-◌, ◌≤◌, ◌<◌, Bool, true, false, not, ◌&&◌, ◌||◌, nat_lt, if◌then◌else◌, List, [], ◌∷◌, Some, Result, Ok, Err, IfOk, IsErrOf, refl}
 use Rattle.std.proofs.Common.{sym, ap, ◌∙◌, subst, arith}
-use Rattle.std.proofs.Math.Bool.{or-true}
+use Rattle.std.proofs.Math.Bool.{or-true, and-false}
 use Rattle.std.proofs.lemmas.Bool.Decides.{nat_tests}
 use Rattle.std.proofs.lemmas.Map.Views.{tells_apart}
 use Rattle.std.specs.Cmp.{eq_by_cmp_equiv}
@@ -24,7 +24,7 @@ use Rattle.rtr_ends.specs.declared.question.Question.{Question}
 use Rattle.rtr_ends.specs.declared.staging.Staging.{Staging}
 use Rattle.rtr_ends.specs.declared.staging.Staged.TheVariants.{Stays, Wrong}
 use Rattle.rtr_ends.proofs.TableLaws.{acts_exactly, false_true}
-use Rattle.prefixes.proofs.Basics.{or_swap}
+use Rattle.prefixes.proofs.Basics.{false_of_not, or_swap, true_of_not}
 use Rattle.vrps.proofs.Sizes.{size_le, size_more}
 
 -- what a staged set has
@@ -82,11 +82,7 @@ size_withdrawn base w a v once known fresh =
     ∙ size_more (led_to base (v ∷ w) a) v (has-led base (v ∷ w) a v ∙ gone (same_vrp v v) ((eq_by_cmp_equiv vrp_total).refl v) (is_among v a) (announced_apart base w a v once known))
   where
     gone : (s : Bool) → s ≡ true → (l : Bool) → l ≡ false → ((has base v && not (s || is_among v w)) || l) ≡ false
-    gone s is l none = (λ i. (has base v && not (is i || is_among v w)) || none i) ∙ ap (λ b. b || false) (never (has base v))
-      where
-        never : (b : Bool) → (b && false) ≡ false
-        never true = refl
-        never false = refl
+    gone s is l none = (λ i. (has base v && not (is i || is_among v w)) || none i) ∙ ap (λ b. b || false) (and-false (has base v))
 
 -- An answer begins, with nothing staged.
 pub begins : (q : Question) (session count : ℕ) (old new : Machine) → count ≡ size (base_of (seen_question q) old.table) → count ≤ 16777215 → (s : Staging) → s ≡ record { withdrawn = empty; announced = empty; count = count }
@@ -126,11 +122,9 @@ module _ (base : VrpSet) (b : Begun) (v : Payload) (s : Staging) (st : IsStaged 
 
   pub twice_withdrawn : (new : Staging) → has s.withdrawn v ≡ true → GoesTo base b false v (Ok (Wrong 6)) new
   twice_withdrawn new found =
-      subst (λ x. StagesRecord base b x (Ok (Wrong 6)) new) (sym (ap (λ l. by_withdrawn (has base v) l) (listed_withdrawn true (sym found)) ∙ neither (has base v))) refl
-    where
-      neither : (k : Bool) → by_withdrawn k true ≡ rules.Wrong 6
-      neither true = refl
-      neither false = refl
+      subst (λ x. StagesRecord base b x (Ok (Wrong 6)) new)
+      (sym (ap (λ l. by_withdrawn (has base v) l) (listed_withdrawn true (sym found))
+      ∙ ap (λ k. if k then rules.Stays (record b { withdrawn = v ∷ b.withdrawn }) else rules.Wrong 6) (and-false (has base v)))) refl
 
   goes_withdrawn : has base v ≡ true → has s.withdrawn v ≡ false → rules.stage base b false v ≡ rules.Stays (record b { withdrawn = v ∷ b.withdrawn })
   goes_withdrawn known fresh = λ i. by_withdrawn (known i) (listed_withdrawn false (sym fresh) i)
@@ -160,11 +154,9 @@ module _ (base : VrpSet) (b : Begun) (v : Payload) (s : Staging) (st : IsStaged 
 
   pub twice_announced : (new : Staging) → has s.announced v ≡ true → GoesTo base b true v (Ok (Wrong 7)) new
   twice_announced new found =
-      subst (λ x. StagesRecord base b x (Ok (Wrong 7)) new) (sym (ap (λ l. by_announced (has base v) l) (listed_announced true (sym found)) ∙ either (has base v))) refl
-    where
-      either : (k : Bool) → by_announced k true ≡ rules.Wrong 7
-      either true = refl
-      either false = refl
+      subst (λ x. StagesRecord base b x (Ok (Wrong 7)) new)
+      (sym (ap (λ l. by_announced (has base v) l) (listed_announced true (sym found))
+      ∙ ap (λ k. if k then rules.Wrong 7 else if nat_lt 16777215 (size (led_to base b.withdrawn (v ∷ b.announced))) then rules.Over else rules.Stays (record b { announced = v ∷ b.announced })) (or-true (has base v)))) refl
 
   module _ (out : has base v ≡ false) (fresh : has s.announced v ≡ false) where
     unlisted_so : is_among v b.announced ≡ false
@@ -256,9 +248,7 @@ leads_from base b s (Err TooMany) is fits st = absurd (fits refl)
 
 -- whether a record was new
 pub was_new : (b added : Bool) → added ≡ not b → added ≡ true → b ≡ false
-was_new true added e h = false_true (sym e ∙ h)
-was_new false added e h = refl
+was_new b added e h = false_of_not b (sym e ∙ h)
 
 pub was_there : (b added : Bool) → added ≡ not b → added ≡ false → b ≡ true
-was_there true added e h = refl
-was_there false added e h = false_true (sym h ∙ e)
+was_there b added e h = true_of_not b (sym e ∙ h)
