@@ -1,6 +1,5 @@
 -- One connection of many.
-use Rattle.std.specs.Prelude.{◌≡◌, ℕ, ◌+◌, ◌<◌, ◌≤◌, ◌==◌, Bool, true, false, List, [], ◌∷◌, ◌++◌, length, map, Box, Option, Some, None, IsSome, IfSome, is_some, slice_get, slice_set, get_or, option_map, unwrap_or, Result, Ok, Err, IsErr, if◌then◌else◌, refl}
-use Rattle.std.proofs.Common.{Global, sym, ap, ◌∙◌, subst, arith, inl, inr, zero, suc}
+use Rattle.std.proofs.Common.{◌≡◌, ℕ, ◌+◌, ◌<◌, ◌≤◌, ◌==◌, Bool, true, false, List, [], ◌∷◌, ◌++◌, length, map, Box, Option, Some, None, IsSome, IfSome, is_some, slice_get, slice_set, get_or, option_map, unwrap_or, Result, Ok, Err, IsErr, if◌then◌else◌, refl, Global, sym, ap, ◌∙◌, subst, arith, inl, inr, zero, suc}
 use Rattle.std.proofs.lemmas.Bool.{cases_Bool, cases_eq, cases_lt}
 use Rattle.std.proofs.lemmas.Option.{slice_get_past, slice_get_read}
 use Rattle.std.proofs.lemmas.List.{length-append, length-map, length-set, map-append, set-get_or}
@@ -42,21 +41,18 @@ found t i None (Some p) q e h = absurd h
 found t i (Some o) None q e h = absurd h
 found t i None None q e h = absurd (let k : ◌≡◌ {A = Option Peer} None (Some q) = e in cc)
 
-module _ {S : Type 0} {A : Type 0} (holds : ℕ → Instance → S → Type 0) where
-  slots_set : (t : Intervals) (i : Instance) (at : ℕ → Option Conn) (peers : List (Option (Box Peer A))) (c : ℕ) (o : Option Conn) (x : Option (Box Peer A)) → c < length peers
-      → ((d : ℕ) → ShowsSlot t i (at d) (peer_at peers d)) → ShowsSlot t i o (unboxed x) → (d : ℕ) → ShowsSlot t i (if d == c then o else at d) (peer_at (slice_set peers c x) d)
-  slots_set t i at peers c o x low shows slot d = elim (cases_Bool (d == c)) [ inl same ↦ here same | inr other ↦ there other ]
-    where
-      here : (d == c) ≡ true → ShowsSlot t i (if d == c then o else at d) (peer_at (slice_set peers c x) d)
-      here h =
-          let is : d ≡ c = eq_of d c h in
-          let now : peer_at (slice_set peers c x) d ≡ unboxed x = ap (λ s. unboxed (joined s)) (ap (slice_get (slice_set peers c x)) is ∙ set_same peers c x low) in
-          subst (λ q. ShowsSlot t i (if d == c then o else at d) q) (sym now) (subst (λ b. ShowsSlot t i (if b then o else at d) (unboxed x)) (sym h) slot)
+-- What is shown under a number that is set, and under another
+slot_by : {A : Type 0} (t : Intervals) (i : Instance) (at : ℕ → Option Conn) (now : List (Option (Box Peer A))) (c d : ℕ) (o : Option Conn) (here there : Option Peer) → (d ≡ c → peer_at now d ≡ here) → (¬ (d ≡ c) → peer_at now d ≡ there)
+    → ShowsSlot t i o here → ShowsSlot t i (at d) there → ShowsSlot t i (if d == c then o else at d) (peer_at now d)
+slot_by t i at now c d o here there same other set left = elim (cases_Bool (d == c)) [
+  | inl h ↦ subst (λ q. ShowsSlot t i (if d == c then o else at d) q) (sym (same (eq_of d c h))) (subst (λ b. ShowsSlot t i (if b then o else at d) here) (sym h) set)
+  | inr h ↦ subst (λ q. ShowsSlot t i (if d == c then o else at d) q) (sym (other (not_eq_of d c h))) (subst (λ b. ShowsSlot t i (if b then o else at d) there) (sym h) left)
+]
 
-      there : (d == c) ≡ false → ShowsSlot t i (if d == c then o else at d) (peer_at (slice_set peers c x) d)
-      there h =
-          let now : peer_at (slice_set peers c x) d ≡ peer_at peers d = ap (λ s. unboxed (joined s)) (set_other peers c d x (not_eq_of d c h)) in
-          subst (λ q. ShowsSlot t i (if d == c then o else at d) q) (sym now) (subst (λ b. ShowsSlot t i (if b then o else at d) (peer_at peers d)) (sym h) (shows d))
+slots_set : {A : Type 0} (t : Intervals) (i : Instance) (at : ℕ → Option Conn) (peers : List (Option (Box Peer A))) (c : ℕ) (o : Option Conn) (x : Option (Box Peer A)) → c < length peers
+    → ((d : ℕ) → ShowsSlot t i (at d) (peer_at peers d)) → ShowsSlot t i o (unboxed x) → (d : ℕ) → ShowsSlot t i (if d == c then o else at d) (peer_at (slice_set peers c x) d)
+slots_set t i at peers c o x low shows slot d = slot_by t i at (slice_set peers c x) c d o (unboxed x) (peer_at peers d)
+    (λ is. ap (λ s. unboxed (joined s)) (ap (slice_get (slice_set peers c x)) is ∙ set_same peers c x low)) (λ other. ap (λ s. unboxed (joined s)) (set_other peers c d x other)) slot (shows d)
 
 -- what stands in a cell of the list
 pub slot_of : {A : Type 0} (peers : List (Option (Box Peer A))) (c : ℕ) (cell : Option (Box Peer A)) (b : Box Peer A) → c < length peers → cell ≡ get_or peers c cell → cell ≡ Some b → peer_at peers c ≡ Some b.value
@@ -175,7 +171,7 @@ module _ {S : Type 0} (holds : ℕ → Instance → S → Type 0) (m : CacheStat
     timing = same_timing ∙ shows.timing;
     session0 = same_session0 ∙ shows.session0;
     store = subst (λ s. holds m.keep m.cache s) (sym same_store) shows.store;
-    slots = λ d. subst (λ peers. ShowsSlot m.timing m.cache ((with_conn c o m).at d) (peer_at peers d)) (sym items) (slots_set holds m.timing m.cache m.at old.peers.items c o x low shows.slots slot d);
+    slots = λ d. subst (λ peers. ShowsSlot m.timing m.cache ((with_conn c o m).at d) (peer_at peers d)) (sym items) (slots_set m.timing m.cache m.at old.peers.items c o x low shows.slots slot d);
     numbers = subst (λ taken. AreFree taken new.free) (sym (ap taken_numbers items ∙ taken_set old.peers.items c x)) numbers;
   }
 
@@ -253,19 +249,9 @@ pushes holds m old new c o b shows end same_timing same_session0 same_store item
 }
   where
     at : (d : ℕ) → ShowsSlot m.timing m.cache (if d == c then Some o else m.at d) (peer_at (old.peers.items ++ Some b ∷ []) d)
-    at d = elim (cases_Bool (d == c)) [ inl same ↦ here same | inr other ↦ there other ]
-      where
-        here : (d == c) ≡ true → ShowsSlot m.timing m.cache (if d == c then Some o else m.at d) (peer_at (old.peers.items ++ Some b ∷ []) d)
-        here h =
-            let now : peer_at (old.peers.items ++ Some b ∷ []) d ≡ Some b.value =
-            ap (λ s. unboxed (joined s)) (ap (slice_get (old.peers.items ++ Some b ∷ [])) (eq_of d c h ∙ end) ∙ push_same old.peers.items (Some b)) in
-            subst (λ q. ShowsSlot m.timing m.cache (if d == c then Some o else m.at d) q) (sym now) (subst (λ t. ShowsSlot m.timing m.cache (if t then Some o else m.at d) (Some b.value)) (sym h) slot)
-
-        there : (d == c) ≡ false → ShowsSlot m.timing m.cache (if d == c then Some o else m.at d) (peer_at (old.peers.items ++ Some b ∷ []) d)
-        there h =
-            let now : peer_at (old.peers.items ++ Some b ∷ []) d ≡ peer_at old.peers.items d =
-            ap (λ s. unboxed (joined s)) (push_other old.peers.items (Some b) d (λ e. not_eq_of d c h (e ∙ sym end))) in
-            subst (λ q. ShowsSlot m.timing m.cache (if d == c then Some o else m.at d) q) (sym now) (subst (λ t. ShowsSlot m.timing m.cache (if t then Some o else m.at d) (peer_at old.peers.items d)) (sym h) (shows.slots d))
+    at d = slot_by m.timing m.cache m.at (old.peers.items ++ Some b ∷ []) c d (Some o) (Some b.value) (peer_at old.peers.items d)
+        (λ is. ap (λ s. unboxed (joined s)) (ap (slice_get (old.peers.items ++ Some b ∷ [])) (is ∙ end) ∙ push_same old.peers.items (Some b)))
+        (λ other. ap (λ s. unboxed (joined s)) (push_other old.peers.items (Some b) d (λ e. other (e ∙ sym end)))) slot (shows.slots d)
 
 -- Past the end there is none.
 pub past_none : {A : Type 0} (peers : List (Option (Box Peer A))) (c : ℕ) → length peers ≤ c → peer_at peers c ≡ None

@@ -1,6 +1,5 @@
 -- The transcript of a router has the split of what it consumed.
-use Rattle.std.specs.Prelude.{◌≡◌, ℕ, ◌<◌, Bool, true, false, not, List, [], ◌∷◌, ◌++◌, drop, Option, refl}
-use Rattle.std.proofs.Common.{sym, ap, ◌∙◌, subst, subst₂, append_assoc}
+use Rattle.std.proofs.Common.{◌≡◌, ℕ, ◌<◌, Bool, true, false, not, List, [], ◌∷◌, ◌++◌, drop, Option, refl, sym, ap, ◌∙◌, subst, subst₂, append_assoc}
 use Rattle.std.proofs.lemmas.List.{append-nil}
 use Rattle.std.specs.List.{AllByRecursion}
 use Rattle.rtr_pdu.specs.declared.version.Version.TheVariants.{V1}

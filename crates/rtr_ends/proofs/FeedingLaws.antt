@@ -1,6 +1,5 @@
 -- What a machine takes of a piece.
-use Rattle.std.specs.Prelude.{◌≡◌, ℕ, ◌-◌, ◌<◌, Bool, true, false, List, [], ◌∷◌, ◌++◌, length, suc, take, refl}
-use Rattle.std.proofs.Common.{sym, ap, subst, append_assoc, append-nil, arith}
+use Rattle.std.proofs.Common.{◌≡◌, ℕ, ◌-◌, ◌<◌, Bool, true, false, List, [], ◌∷◌, ◌++◌, length, suc, take, refl, sym, ap, subst, append_assoc, append-nil, arith, length-append}
 use Rattle.rtr_pdu.specs.Payloads.{AreBytes}
 use Rattle.rtr_ends.specs.Feeding.{FedPiece, feed, run, IsTaken, Takes}
 use Rattle.rtr_ends.proofs.ByteLists.{bytes_front, front_of}
@@ -57,6 +56,18 @@ module _ {M : Type 0} (stops : M → Bool) (step : M → ℕ → M) where
   pub feed_takes : (m : M) (piece : List ℕ) → Takes stops step m piece
   feed_takes m [] = ([], takes_none m [] (λ some. absurd (omega (arith, some))))
   feed_takes m (b ∷ bytes) = takes_by m b bytes (stops m) refl (feed_takes (step m b) bytes)
+
+  -- A machine that takes nothing of a piece is as it was, and stops where there is a piece.
+  pub none_fed : (m : M) (piece : List ℕ) → 0 ≡ length piece - length (feed stops step m piece).rest → ((feed stops step m piece).machine ≡ m) × (0 < length piece → stops m ≡ true)
+  none_fed m [] none = (refl, λ some. absurd (omega (arith, some)))
+  none_fed m (b ∷ piece) none = by_test (stops m) refl
+    where
+      by_test : (s : Bool) → stops m ≡ s → ((feed stops step m (b ∷ piece)).machine ≡ m) × (0 < length (b ∷ piece) → stops m ≡ true)
+      by_test true is = (ap (λ (f : FedPiece M). f.machine) (stopped m b piece is), λ some. is)
+      by_test false is =
+          let t = feed_takes (step m b) piece in
+          let on = ap (λ (f : FedPiece M). length f.rest) (goes_on m b piece is) in
+          absurd (omega (arith, none, on, ap length t.1.piece_is, length-append t.0 (feed stops step (step m b) piece).rest))
 
   -- What each byte keeps is kept of a machine and what is left.
   pub feed_keeps : (P : List ℕ → M → Type 0) → ((b : ℕ) (rest : List ℕ) (m : M) → stops m ≡ false → P (b ∷ rest) m → P rest (step m b))

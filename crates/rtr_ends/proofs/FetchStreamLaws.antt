@@ -1,6 +1,5 @@
 -- One connection of a router over a reader and a writer, from call to call.
-use Rattle.std.specs.Prelude.{◌≡◌, ℕ, ◌+◌, ◌-◌, ◌*◌, ◌<◌, ◌≤◌, Bool, true, false, not, ◌&&◌, min, List, [], ◌∷◌, ◌++◌, length, take, drop, Option, Some, None, Result, Ok, Err, refl}
-use Rattle.std.proofs.Common.{sym, ap, ◌∙◌, subst, arith, append_assoc}
+use Rattle.std.proofs.Common.{◌≡◌, ℕ, ◌+◌, ◌-◌, ◌*◌, ◌<◌, ◌≤◌, Bool, true, false, not, ◌&&◌, min, List, [], ◌∷◌, ◌++◌, length, take, drop, Option, Some, None, Result, Ok, Err, refl, sym, ap, ◌∙◌, subst, arith, append_assoc}
 use Rattle.std.proofs.Math.Seq.{take-add}
 use Rattle.std.proofs.lemmas.List.{append-nil, length-append, length-take, take-append-drop, take-append-le, take_all}
 use Rattle.std.specs.List.{AllByRecursion}
@@ -26,8 +25,8 @@ use Rattle.rtr_ends.specs.declared.streams.StreamFault.{StreamFault}
 use Rattle.rtr_ends.specs.declared.streams.StreamFault.TheVariants.{ReadFailed, WriteFailed}
 use Rattle.rtr_ends.proofs.Effects.{by_whole, clocked_keeps, goes_so, unit_keeps}
 use Rattle.rtr_ends.proofs.Effects as effects
-use Rattle.rtr_ends.proofs.FeedingLaws.{feed_keeps, goes_on, stopped}
-use Rattle.rtr_ends.proofs.ServeStreamLaws.{drop_none, part_after, rest_most}
+use Rattle.rtr_ends.proofs.FeedingLaws.{feed_keeps, none_fed}
+use Rattle.rtr_ends.proofs.ServeStreamLaws.{drop_none, part_after}
 use Rattle.rtr_ends.proofs.TableLaws.{false_true}
 use Rattle.prefixes.proofs.Basics.{all_both}
 
@@ -45,33 +44,14 @@ none_out (b ∷ out) room now count h none size = absurd (let c = h.0 in omega (
 pub none_received : (now : ℕ) (wanting : Option ℕ) (piece : List ℕ) (r : Router) → r.out ≡ [] → 0 ≡ length piece - length (receives now wanting piece r).rest
     → ((receives now wanting piece r).machine.router.out ≡ []) × (0 < length piece → is_reading (receives now wanting piece r).machine.router.link ≡ false)
 unfolding receives
-none_received now wanting [] r out none = ((clocked_keeps now r).out out, λ some. absurd (omega (arith, some)))
-none_received now wanting (b ∷ piece) r out none = by_test (router_stops (clocked now r)) refl
+none_received now wanting piece r out none =
+    let n = none_fed (λ m. router_stops m.router) router_byte (record { router = clocked now r; items = At now ∷ []; wanting = wanting }) piece none in
+    let silent = (clocked_keeps now r).out out in
+    (ap (λ (m : Receiving). m.router.out) n.0 ∙ silent, λ some. ap (λ (m : Receiving). is_reading m.router.link) n.0 ∙ not_reading (is_reading (clocked now r).link) (ap (λ x. not (is_reading (clocked now r).link && is_none x)) (sym silent) ∙ n.1 some))
   where
-    start : Receiving
-    start = record { router = clocked now r; items = At now ∷ []; wanting = wanting }
-
-    stops : Receiving → Bool
-    stops m = router_stops m.router
-
-    fed_on : FedPiece Receiving
-    fed_on = feed (λ m. router_stops m.router) router_byte start (b ∷ piece)
-
     not_reading : (b : Bool) → not (b && true) ≡ true → b ≡ false
     not_reading true h = false_true h
     not_reading false h = refl
-
-    by_test : (s : Bool) → router_stops (clocked now r) ≡ s → (fed_on.machine.router.out ≡ []) × (0 < length (b ∷ piece) → is_reading fed_on.machine.router.link ≡ false)
-    by_test true is =
-        let e = stopped (λ m. router_stops m.router) router_byte start b piece is in
-        let silent : is_none (clocked now r).out ≡ true = ap is_none ((clocked_keeps now r).out out) in (
-          ap (λ (f : FedPiece Receiving). f.machine.router.out) e ∙ (clocked_keeps now r).out out,
-          λ some. ap (λ (f : FedPiece Receiving). is_reading f.machine.router.link) e ∙ not_reading (is_reading (clocked now r).link) (ap (λ x. not (is_reading (clocked now r).link && x)) (sym silent) ∙ is),
-        )
-    by_test false is =
-        let rest = rest_most (λ m. router_stops m.router) router_byte (router_byte start b) piece in
-        let on = ap (λ (f : FedPiece Receiving). length f.rest) (goes_on (λ m. router_stops m.router) router_byte start b piece is) in
-        absurd (omega (arith, none, rest, on))
 
 -- A connection stays open while bytes come.
 pub open_link : (l : Link) → is_reading l ≡ true → is_closed l ≡ false

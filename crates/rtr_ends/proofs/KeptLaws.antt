@@ -1,6 +1,5 @@
 -- A router holds what its transcript keeps.
-use Rattle.std.specs.Prelude.{◌≡◌, ℕ, Bool, true, false, not, List, [], ◌∷◌, ◌++◌, Option, Some, None, if◌then◌else◌, refl}
-use Rattle.std.proofs.Common.{sym, ap, ◌∙◌, subst, append_assoc}
+use Rattle.std.proofs.Common.{◌≡◌, ℕ, Bool, true, false, not, List, [], ◌∷◌, ◌++◌, Option, Some, None, if◌then◌else◌, refl, sym, ap, ◌∙◌, subst, append_assoc}
 use Rattle.vrps.specs.VrpSet.{VrpSet, empty}
 use Rattle.rtr_pdu.specs.Judging.{judge}
 use Rattle.rtr_ends.specs.Cache.{is_none, finds_memory}
@@ -85,7 +84,6 @@ closing (Ended end) r items is t l = closing_open r items t l
   where
     closing_open : (r : Router) (items : List Item) → Tells r items → is_connected items ≡ true → Shuts (closed_by r) items
     closing_open r items t c = record { kept_is = t.kept_is; due_is = λ i. if c i then Some (sum_of (t.now_is i) (retry_of (t.kept_is i).version)) else due items; now_is = t.now_is; spoken_is = t.spoken_is; closed = refl; agreed = refl; session = refl }
-closing Idle r items is t l = record { kept_is = t.kept_is; due_is = λ i. if l.0 i then Some (sum_of (t.now_is i) (retry_of (t.kept_is i).version)) else due items; now_is = t.now_is; spoken_is = t.spoken_is; closed = refl; agreed = refl; session = refl }
 closing _ r items is t l = record { kept_is = t.kept_is; due_is = λ i. if l.0 i then Some (sum_of (t.now_is i) (retry_of (t.kept_is i).version)) else due items; now_is = t.now_is; spoken_is = t.spoken_is; closed = refl; agreed = refl; session = refl }
 
 shut_tells : (r : Router) (items : List Item) → Shuts r items → Tells r (Shut ∷ items)

@@ -1,6 +1,5 @@
 -- What a router keeps after each PDU is what its transcript keeps.
-use Rattle.std.specs.Prelude.{◌≡◌, ℕ, Bool, true, false, not, ◌&&◌, ◌||◌, ◌==◌, nat_lt, List, [], ◌∷◌, ◌++◌, Option, Some, None, is_some, if◌then◌else◌, refl}
-use Rattle.std.proofs.Common.{sym, ap, ◌∙◌, subst, arith, append_assoc}
+use Rattle.std.proofs.Common.{◌≡◌, ℕ, Bool, true, false, not, ◌&&◌, ◌||◌, ◌==◌, nat_lt, List, [], ◌∷◌, ◌++◌, Option, Some, None, is_some, if◌then◌else◌, refl, sym, ap, ◌∙◌, subst, arith, append_assoc}
 use Rattle.std.proofs.Math.Bool.{and-false, and-true}
 use Rattle.std.proofs.lemmas.Bool.{or_parts}
 use Rattle.std.proofs.lemmas.Bool.Decides.{nat_tests}
@@ -96,22 +95,19 @@ notify_leaves : (r : Router) (items : List Item) (session serial : ℕ) (b : Boo
 notify_leaves r items session serial b h a s e =
     ap (λ x. emptied_if x (kept items)) (strange_same r items session h.kept_is h.spoken_is a s ∙ e) ∙ ap (emptied_if b) h.kept_is
 
-idle_notified : (r : Router) (items : List Item) (session serial : ℕ) (b news : Bool) → r.link ≡ Idle → Before r items → kept (Reads (SerialNotify session serial) ∷ items) ≡ emptied_if b (holds r) → LinkTells Idle r.agreed r.session r.table items
-    → After (if b then fails (SerialNotify session serial) r else if news then ask r else r) (SerialNotify session serial) items
-idle_notified r items session serial true news is h k l = ended_after (fails (SerialNotify session serial) r) (SerialNotify session serial) items (ends.Reported 0) refl l.0 (record { kept_is = k; due_is = h.due_is; now_is = h.now_is; spoken_is = h.spoken_is })
-idle_notified r items session serial false true is h k l =
-    asking_after r (choose (of_version r.spoken r.version) r.mark) (SerialNotify session serial) items l.0 (record { kept_is = k; due_is = h.due_is; now_is = h.now_is; spoken_is = h.spoken_is }) l.3 l.4
-idle_notified r items session serial false false is h k l = stays_after r (SerialNotify session serial) items Idle is h.none (record { kept_is = k; due_is = h.due_is; now_is = h.now_is; spoken_is = h.spoken_is }) l
-
-other_notified : (r : Router) (items : List Item) (session serial : ℕ) (b : Bool) (l : Link) → r.link ≡ l → is_connected items ≡ true → Before r items → kept (Reads (SerialNotify session serial) ∷ items) ≡ emptied_if b (holds r)
-    → LinkTells l r.agreed r.session r.table (Reads (SerialNotify session serial) ∷ items)
-    → After (if b then fails (SerialNotify session serial) r else r) (SerialNotify session serial) items
-other_notified r items session serial true l is c h k t = ended_after (fails (SerialNotify session serial) r) (SerialNotify session serial) items (ends.Reported 0) refl c (record { kept_is = k; due_is = h.due_is; now_is = h.now_is; spoken_is = h.spoken_is })
-other_notified r items session serial false l is c h k t = stays_after r (SerialNotify session serial) items l is h.none (record { kept_is = k; due_is = h.due_is; now_is = h.now_is; spoken_is = h.spoken_is }) t
+-- What it does where it is of this session
+notified : (r own : Router) (items : List Item) (session serial : ℕ) → is_connected items ≡ true → Before r items → has_agreed items ≡ r.agreed → responded items ≡ r.session
+    → (Leaves r (SerialNotify session serial) items → After own (SerialNotify session serial) items) → After (if is_strange r session then fails (SerialNotify session serial) r else own) (SerialNotify session serial) items
+notified r own items session serial c h a s stays = either (λ n. After n (SerialNotify session serial) items) (is_strange r session) (fails (SerialNotify session serial) r) own
+    (λ strange. ended_after (fails (SerialNotify session serial) r) (SerialNotify session serial) items (ends.Reported 0) refl c
+    (record { kept_is = notify_leaves r items session serial true h a s strange; due_is = h.due_is; now_is = h.now_is; spoken_is = h.spoken_is }))
+    (λ same. stays (record { kept_is = notify_leaves r items session serial false h a s same; due_is = h.due_is; now_is = h.now_is; spoken_is = h.spoken_is }))
 
 -- An Error Report on an idle link
-idle_report : (r : Router) (e : Report) (items : List Item) (b : Bool) → (e.code == 2) ≡ b → r.link ≡ Idle → Before r items → LinkTells Idle r.agreed r.session r.table items → After (if b then r else ended_by e.code r) (ErrorReport e) items
-idle_report r e items b is el h l = by_code b
+idle_report : (r : Router) (e : Report) (items : List Item) → r.link ≡ Idle → Before r items → LinkTells Idle r.agreed r.session r.table items → After (if e.code == 2 then r else ended_by e.code r) (ErrorReport e) items
+idle_report r e items el h l = either (λ n. After n (ErrorReport e) items) (e.code == 2) r (ended_by e.code r)
+    (λ two. stays_after r (ErrorReport e) items Idle el h.none leaves (l.0, refl, refl, sym l.5, l.4, l.5))
+    (λ other. ended_after (ended_by e.code r) (ErrorReport e) items (ends.Told e.code) refl l.0 (record { kept_is = leaves.kept_is; due_is = leaves.due_is; now_is = leaves.now_is; spoken_is = leaves.spoken_is }))
   where
     asked_none : outstanding items ≡ None
     asked_none = λ i. question_of (l.2 i) (l.1 i)
@@ -124,10 +120,6 @@ idle_report r e items b is el h l = by_code b
       now_is = h.now_is;
       spoken_is = h.spoken_is;
     }
-
-    by_code : (b : Bool) → After (if b then r else ended_by e.code r) (ErrorReport e) items
-    by_code true = stays_after r (ErrorReport e) items Idle el h.none leaves (l.0, refl, refl, sym l.5, l.4, l.5)
-    by_code false = ended_after (ended_by e.code r) (ErrorReport e) items (ends.Told e.code) refl l.0 (record { kept_is = leaves.kept_is; due_is = leaves.due_is; now_is = leaves.now_is; spoken_is = leaves.spoken_is })
 
 -- an Error Report to the question that is outstanding
 told_unit : (r : Router) (q : Question) (e : Report) (items : List Item) → r.agreed ≡ true → is_connected items ≡ true → Before r items → outstanding items ≡ Some q → responded items ≡ r.session → After (told_off q e.code r) (ErrorReport e) items
@@ -175,8 +167,10 @@ end_nothing r items u session serial t c h none k d =
 idle_unit : (r : Router) (u : Unit) (items : List Item) → r.link ≡ Idle → Before r items → LinkTells Idle r.agreed r.session r.table items → After (on_unit Idle u r) u items
 unfolding on_unit
 idle_unit r (SerialNotify session serial) items is h l =
-    idle_notified r items session serial (is_strange r session) (is_news (of_version r.spoken r.version) serial) is h (notify_leaves r items session serial (is_strange r session) h l.3 l.4 refl) l
-idle_unit r (ErrorReport e) items is h l = idle_report r e items (e.code == 2) refl is h l
+    notified r (if is_news (of_version r.spoken r.version) serial then ask r else r) items session serial l.0 h l.3 l.4
+    (λ leaves. either (λ n. After n (SerialNotify session serial) items) (is_news (of_version r.spoken r.version) serial) (ask r) r
+    (λ news. asking_after r (choose (of_version r.spoken r.version) r.mark) (SerialNotify session serial) items l.0 leaves l.3 l.4) (λ old. stays_after r (SerialNotify session serial) items Idle is h.none leaves l))
+idle_unit r (ErrorReport e) items is h l = idle_report r e items is h l
 idle_unit r (CacheResponse session) items is h l = ends_0 r (CacheResponse session) items l.0 h (ap (λ o. emptied_if (is_wrong o (of_version (spoken items) (kept items).version) session) (kept items)) l.1 ∙ h.kept_is) h.due_is
 idle_unit r (EndOfData session serial refresh retry expire) items is h l =
     end_nothing r items (EndOfData session serial refresh retry expire) session serial (bounded refresh retry expire) l.0 h l.2 refl refl
@@ -196,7 +190,7 @@ response_after r q session items false c h k w =
 asked_unit : (r : Router) (q : Question) (u : Unit) (items : List Item) → r.link ≡ Asked q → Before r items → LinkTells (Asked q) r.agreed r.session r.table items → After (on_unit (Asked q) u r) u items
 unfolding on_unit
 asked_unit r q (SerialNotify session serial) items is h l =
-    other_notified r items session serial (is_strange r session) (Asked q) is l.0 h (notify_leaves r items session serial (is_strange r session) h l.3 l.4 refl) l
+    notified r r items session serial l.0 h l.3 l.4 (λ leaves. stays_after r (SerialNotify session serial) items (Asked q) is h.none leaves l)
 asked_unit r q (CacheResponse session) items is h l =
     response_after r q session items (is_wrong (Some q) (of_version r.spoken r.version) session) l.0 h
     (λ i. emptied_if (is_wrong (l.1 i) (of_version (h.spoken_is i) (h.kept_is i).version) session) (h.kept_is i)) l.1
@@ -268,7 +262,7 @@ end_unit r a u session serial t items h l k d told = ending (session == a.sessio
 answering_unit : (r : Router) (a : Begun) (u : Unit) (items : List Item) → r.link ≡ Answering a → Before r items → LinkTells (Answering a) r.agreed r.session r.table items → After (on_unit (Answering a) u r) u items
 unfolding on_unit
 answering_unit r a (SerialNotify session serial) items is h l =
-    other_notified r items session serial (is_strange r session) (Answering a) is l.0 h (notify_leaves r items session serial (is_strange r session) h l.3 l.4 refl) l
+    notified r r items session serial l.0 h l.3 l.4 (λ leaves. stays_after r (SerialNotify session serial) items (Answering a) is h.none leaves l)
 answering_unit r a (Prefix announce v) items is h l =
     record_more (base_of a.question r.table) a announce v (λ st. After (staged (Prefix announce v) st r) (Prefix announce v) items) l.6
     (record_staged r a announce v items h l)

@@ -273,8 +273,6 @@ called_chooses (Connects now) r items c =
 called_chooses (Receives now wanting piece) r items c =
     feed_keeps (λ (m : Receiving). router_stops m.router) router_byte (λ rest m. Chooses m.router (m.items ++ items)) (λ b rest m goes_on h. byte_chooses items m b goes_on h)
     (record { router = clocked now r; items = At now ∷ []; wanting = wanting }) piece (clocked_chooses now r items c)
-called_chooses (Pulls most) r items c = record { tells = called_tells (Pulls most) r items c.tells; mark = c.mark; asked = c.asked; not_reset = c.not_reset }
-called_chooses (Speaks version) r items c = record { tells = called_tells (Speaks version) r items c.tells; mark = c.mark; asked = c.asked; not_reset = c.not_reset }
 called_chooses (Closes now) r items c =
     let k = clocked_chooses now r items c in
     record { tells = called_tells (Closes now) r items c.tells; mark = close_mark (clocked now r) (At now ∷ items) k.mark; asked = c.asked; not_reset = λ h. refl }
@@ -287,6 +285,7 @@ called_chooses (Ticks now) r items c =
     let e = append_assoc (asks_if b n).items (At now ∷ []) items in
     subst (λ x. Chooses (asks_if b n).router x) (sym e)
     (asks_choose n (At now ∷ items) b (λ h. refl) (λ off on. refl) k.tells.kept_is k.tells.spoken_is k.mark k.asked (subst (λ x. Tells (asks_if b n).router x) e (called_tells (Ticks now) r items c.tells)))
+called_chooses call r items c = record { tells = called_tells call r items c.tells; mark = c.mark; asked = c.asked; not_reset = c.not_reset }
 
 played_choose : (calls : List RouterCall) → Chooses (played calls).router (played calls).items
 played_choose [] = record { tells = new_tells; mark = inl refl; asked = tt; not_reset = λ h. false_true h }

@@ -1,6 +1,5 @@
 -- What a connection takes of a piece, PDU by PDU.
-use Rattle.std.specs.Prelude.{◌≡◌, ℕ, true, false, List, [], ◌++◌, Option, refl}
-use Rattle.std.proofs.Common.{sym, ap, ◌∙◌}
+use Rattle.std.proofs.Common.{◌≡◌, ℕ, true, false, List, [], ◌++◌, Option, refl, sym, ap, ◌∙◌}
 use Rattle.std.proofs.lemmas.List.{append-nil}
 use Rattle.vrps.specs.Instance.{Instance}
 use Rattle.rtr_pdu.specs.Judging.{Faulty, Whole}

@@ -1,7 +1,6 @@
 -- What a router's value does at what its reader answers.
 use Rattle.std.specs.List.{list_any}
-use Rattle.std.specs.Prelude.{◌≡◌, ℕ, zero, ◌-◌, drop, Bool, true, false, not, ◌&&◌, List, [], ◌∷◌, ◌++◌, length, Option, Some, None, IfSome, if◌then◌else◌, refl}
-use Rattle.std.proofs.Common.{sym, ap, ◌∙◌, subst, inl, inr}
+use Rattle.std.proofs.Common.{◌≡◌, ℕ, zero, ◌-◌, drop, Bool, true, false, not, ◌&&◌, List, [], ◌∷◌, ◌++◌, length, Option, Some, None, IfSome, if◌then◌else◌, refl, sym, ap, ◌∙◌, subst, inl, inr}
 use Rattle.std.proofs.Math.Bool.{and-false}
 use Rattle.rtr_pdu.specs.declared.version.Version.{Version}
 use Rattle.rtr_pdu.specs.Judging.{Whole, Faulty}
@@ -24,7 +23,7 @@ use Rattle.rtr_ends.specs.Transcript.{Item, At}
 use Rattle.rtr_ends.specs.declared.machine.Machine.{Machine}
 use Rattle.rtr_ends.specs.declared.router.Router as code
 use Rattle.rtr_ends.proofs.ConsumedLaws.{router_splits, idle_reads}
-use Rattle.rtr_ends.proofs.Effects.{Keeps, by_close, clocked_keeps, goes_so, open_link, unit_keeps}
+use Rattle.rtr_ends.proofs.Effects.{Clocks, Keeps, by_close, clocked_keeps, goes_so, open_link, unit_keeps}
 use Rattle.rtr_ends.proofs.KeptLaws.{router_keeps}
 use Rattle.rtr_ends.proofs.MachineCells.{seen_so}
 use Rattle.rtr_ends.proofs.QuestionLaws.{router_asks}
@@ -276,10 +275,10 @@ closes_shown old new now r s machine =
     let c = closes_so (clocked now r) (closed_clock old now r s) in
     record { machine = machine; reader = λ h. absurd (reading_open (close (clocked now r)).link h c.2); closed = λ h. (c.0, c.1) }
 
--- An idle link may ask.
-asks_shown : (old new : code.Router) (r : Router) (b : Bool) → (b ≡ true → is_reading r.link ≡ true) → IsShown r old → ShowsRouter (asks_if b r).router new.machine → new.reader ≡ old.reader → IsShown (asks_if b r).router new
-asks_shown old new r true idle s machine same = keeps_shown old new r (ask r) machine same s refl refl refl (λ h. idle refl) (λ h. false_true h)
-asks_shown old new r false idle s machine same = keeps_shown old new r r machine same s refl refl refl (λ h. h) (λ h. h)
+-- An idle link may ask, also behind the clock.
+asks_shown : (old new : code.Router) (r n : Router) (b : Bool) → Clocks r n → (b ≡ true → is_reading n.link ≡ true) → IsShown r old → ShowsRouter (asks_if b n).router new.machine → new.reader ≡ old.reader → IsShown (asks_if b n).router new
+asks_shown old new r n true k idle s machine same = keeps_shown old new r (ask n) machine same s k.held k.agreed k.spoken (λ h. k.reads_on (idle refl)) (λ h. false_true h)
+asks_shown old new r n false k idle s machine same = keeps_shown old new r n machine same s k.held k.agreed k.spoken k.reads_on (λ h. sym k.closed_on ∙ h)
 
 due_reads : (l : Link) (due : Option ℕ) (now : ℕ) → is_due l due now ≡ true → is_reading l ≡ true
 due_reads Idle due now h = refl
@@ -287,7 +286,8 @@ due_reads _ due now h = false_true h
 
 pub idle_shown : (old new : code.Router) (r : Router) → IsShown r old → ShowsRouter (asks r).router new.machine → new.reader ≡ old.reader → IsShown (asks r).router new
 unfolding asks
-idle_shown old new r s machine same = asks_shown old new r (is_idle r.link) (idle_reads r.link) s machine same
+idle_shown old new r s machine same =
+    asks_shown old new r r (is_idle r.link) (record { held = refl; agreed = refl; spoken = refl; speaks = refl; out = λ none. none; reads_on = λ h. h; closed_on = refl }) (idle_reads r.link) s machine same
 
 -- Bytes are pulled.
 pub pulls_shown : (old new : code.Router) (r : Router) (most : ℕ) → new ≡ record old { machine = record old.machine { out = drop most old.machine.out } } → IsShown r old → IsShown (router_pulled most r) new
@@ -309,11 +309,8 @@ speaks_shown old r version s =
 pub ticks_shown : (old new : code.Router) (now : ℕ) (r : Router) → IsShown r old → ShowsRouter (ticks_at now r).router new.machine → new.reader ≡ old.reader → IsShown (ticks_at now r).router new
 unfolding ticks_at
 ticks_shown old new now r s machine same =
-    by_test (is_due (clocked now r).link (clocked now r).due (clocked now r).now) (due_reads (clocked now r).link (clocked now r).due (clocked now r).now) machine
-  where
-    by_test : (b : Bool) → (b ≡ true → is_reading (clocked now r).link ≡ true) → ShowsRouter (asks_if b (clocked now r)).router new.machine → IsShown (asks_if b (clocked now r)).router new
-    by_test true idle m = keeps_shown old new r (ask (clocked now r)) m same s (clocked_keeps now r).held (clocked_keeps now r).agreed (clocked_keeps now r).spoken (λ h. (clocked_keeps now r).reads_on (idle refl)) (λ h. false_true h)
-    by_test false idle m = keeps_shown old new r (clocked now r) m same s (clocked_keeps now r).held (clocked_keeps now r).agreed (clocked_keeps now r).spoken (clocked_keeps now r).reads_on (λ h. sym (clocked_keeps now r).closed_on ∙ h)
+    let n : Router = clocked now r in
+    asks_shown old new r (clocked now r) (is_due n.link n.due n.now) (clocked_keeps now r) (due_reads n.link n.due n.now) s machine same
 
 -- The PDU at which memory ran out took memory.
 wanted_so : (now : ℕ) (piece : List ℕ) (r : Router) (wanting : Option ℕ) → IsLacking wanting (fed (clocked now r) (At now ∷ []) wanting piece) → IfSome wanting (λ unit. is_wanted_by_router now piece r unit ≡ true)

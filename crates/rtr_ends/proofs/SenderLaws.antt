@@ -1,6 +1,5 @@
 -- What is due of an answer under way.
-use Rattle.std.specs.Prelude.{◌≡◌, Bool, true, false, ℕ, ◌+◌, ◌-◌, ◌<◌, ◌≤◌, not, List, [], ◌∷◌, ◌++◌, length, take, drop, min, Option, Some, None, option_map, slice_get, get_or, refl}
-use Rattle.std.proofs.Common.{sym, ap, ◌∙◌, subst, arith, append_assoc, add-one, inl, inr, suc, zero}
+use Rattle.std.proofs.Common.{◌≡◌, Bool, true, false, ℕ, ◌+◌, ◌-◌, ◌<◌, ◌≤◌, not, List, [], ◌∷◌, ◌++◌, length, take, drop, min, Option, Some, None, option_map, slice_get, get_or, refl, sym, ap, ◌∙◌, subst, arith, append_assoc, add-one, inl, inr, suc, zero}
 use Rattle.std.proofs.Math.Seq.{drop-cons, drop-append-add, take-add}
 use Rattle.std.specs.Option.{is_some}
 use Rattle.std.proofs.lemmas.List.{length-append, length-drop, length-take, drop_all, drop_min, drop-drop, length-map, take-append-drop, take-append-le, drop-append-le, take_at}

@@ -1,6 +1,5 @@
 -- One connection of a cache over a reader and a writer, from call to call.
-use Rattle.std.specs.Prelude.{◌≡◌, ◌⊎◌, ℕ, ◌+◌, ◌-◌, ◌*◌, ◌^◌, ◌<◌, ◌≤◌, ◌==◌, Bool, true, false, not, ◌||◌, min, List, [], ◌∷◌, ◌++◌, length, take, drop, Option, Some, None, Result, Ok, Err, option_map, if◌then◌else◌, refl}
-use Rattle.std.proofs.Common.{zero, suc, sym, ap, ◌∙◌, subst, arith, append_assoc, inl, inr}
+use Rattle.std.proofs.Common.{◌≡◌, ◌⊎◌, ℕ, ◌+◌, ◌-◌, ◌*◌, ◌^◌, ◌<◌, ◌≤◌, ◌==◌, Bool, true, false, not, ◌||◌, min, List, [], ◌∷◌, ◌++◌, length, take, drop, Option, Some, None, Result, Ok, Err, option_map, if◌then◌else◌, refl, zero, suc, sym, ap, ◌∙◌, subst, arith, append_assoc, inl, inr}
 use Rattle.std.proofs.Math.Seq.{take-add, take-append-add}
 use Rattle.std.proofs.lemmas.Bool.{cases_eq, cases_lt}
 use Rattle.std.proofs.lemmas.List.{append-nil, length-append, take-append-drop, take-append-le, length-take-le, take_all}
@@ -25,7 +24,7 @@ use Rattle.rtr_ends.specs.declared.serving.Served.TheVariants.{PeerClosed, Trunc
 use Rattle.rtr_ends.specs.declared.streams.StreamFault.{StreamFault}
 use Rattle.rtr_ends.specs.declared.streams.StreamFault.TheVariants.{ReadFailed, WriteFailed, Memory}
 use Rattle.rtr_ends.proofs.CacheStateLaws.{with_conn_at}
-use Rattle.rtr_ends.proofs.FeedingLaws.{feed_takes, goes_on, stopped}
+use Rattle.rtr_ends.proofs.FeedingLaws.{none_fed}
 use Rattle.rtr_ends.proofs.ServingLaws.{serves_history}
 use Rattle.rtr_ends.proofs.TableLaws.{false_true}
 use Rattle.prefixes.proofs.Basics.{eq_of, false_of_not, true_of_not}
@@ -66,32 +65,14 @@ pub drop_none : (n : ℕ) → drop {A = ℕ} n [] ≡ []
 drop_none zero = refl
 drop_none (suc n) = refl
 
--- What was consumed of a piece is no more than the piece.
-pub rest_most : {M : Type 0} (stops : M → Bool) (step : M → ℕ → M) (m : M) (piece : List ℕ) → length (feed stops step m piece).rest ≤ length piece
-rest_most stops step m piece = let t = feed_takes stops step m piece in omega (arith, ap length t.1.piece_is, length-append t.0 (feed stops step m piece).rest)
-
 -- A connection of which nothing is due, and that takes nothing, is as it was; and has ended where there was a piece.
-abbrev by_stop : (keep : ℕ) (t : Intervals) (i : Instance) (m : Taking) (b : ℕ) (piece : List ℕ) → FedPiece Taking
-by_stop keep t i m b piece = feed (λ m. conn_stops m.conn) (conn_byte keep t i) m (b ∷ piece)
-
 pub none_taken : (keep : ℕ) (t : Intervals) (i : Instance) (wanting : Option ℕ) (piece : List ℕ) (o : Conn) → o.state.due ≡ [] → 0 ≡ length piece - length (conn_takes keep t i wanting piece o).rest
     → ((conn_takes keep t i wanting piece o).machine.conn ≡ o) × (0 < length piece → o.state.ended ≡ true)
 unfolding conn_takes
-none_taken keep t i wanting [] o due none = (refl, λ some. absurd (omega (arith, some)))
-none_taken keep t i wanting (b ∷ piece) o due none = by_test (conn_stops o) refl
-  where
-    start : Taking
-    start = record { conn = o; moments = []; wanting = wanting }
-
-    ended_is : o.state.ended ≡ conn_stops o
-    ended_is = sym (ap (λ d. o.state.ended || not (is_none d)) due ∙ or-false o.state.ended)
-
-    by_test : (s : Bool) → conn_stops o ≡ s → ((by_stop keep t i start b piece).machine.conn ≡ o) × (0 < length (b ∷ piece) → o.state.ended ≡ true)
-    by_test true is = (ap (λ f. f.machine.conn) (stopped (λ m. conn_stops m.conn) (conn_byte keep t i) start b piece is), λ some. ended_is ∙ is)
-    by_test false is =
-        let rest = rest_most (λ m. conn_stops m.conn) (conn_byte keep t i) (conn_byte keep t i start b) piece in
-        let on = ap (λ (f : FedPiece Taking). length f.rest) (goes_on (λ m. conn_stops m.conn) (conn_byte keep t i) start b piece is) in
-        absurd (omega (arith, none, rest, on))
+none_taken keep t i wanting piece o due none =
+    let n = none_fed (λ m. conn_stops m.conn) (conn_byte keep t i) (record { conn = o; moments = []; wanting = wanting }) piece none in
+    let ended : o.state.ended ≡ conn_stops o = sym (ap (λ d. o.state.ended || not (is_none d)) due ∙ or-false o.state.ended) in
+    (ap (λ (m : Taking). m.conn) n.0, λ some. ended ∙ n.1 some)
 
 -- A turn is a call.
 turn_is_call : (call : ConnCall) → IsTurn call → IsConnCall call

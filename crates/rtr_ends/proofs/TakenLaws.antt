@@ -1,6 +1,5 @@
 -- What the two ends take of a piece.
-use Rattle.std.specs.Prelude.{[], ◌∷◌, ◌++◌}
-use Rattle.std.proofs.Common.{ap}
+use Rattle.std.proofs.Common.{[], ◌∷◌, ◌++◌, ap}
 use Rattle.rtr_ends.specs.Cache.{Taking, conn_stops, conn_byte, conn_takes, ConnTakes, ConnStops}
 use Rattle.rtr_ends.specs.Cache as cache
 use Rattle.rtr_ends.specs.Router.{Receiving, router_stops, router_byte, receives, clocked}

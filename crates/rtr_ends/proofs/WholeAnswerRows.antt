@@ -51,42 +51,12 @@ with_all_of serial set records = response V1 0x1234 default_intervals (record { 
 wanted : replies 2 default_intervals (Wanting V1 (cache 5 (set_of (v ∷ []) ∷ [])) ResetQuery reset_bytes ∷ []) ≡ 0x01 ∷ 0x0a ∷ 0 ∷ 0x01 ∷ 0 ∷ 0 ∷ 0 ∷ 0x10 ∷ 0 ∷ 0 ∷ 0 ∷ 0 ∷ 0 ∷ 0 ∷ 0 ∷ 0 ∷ []
 wanted = refl
 
--- A whole history: a query, its report pulled in two parts, another query, and the beginning of a third
+-- A history: a query, its report pulled in two parts, and another query
 two_queries : IsInstance (cache 5 []) → IsHistory 2 default_intervals (opened (cache 5 []))
-    (Read V1 (cache 5 []) ResetQuery reset_bytes ∷ Pull 10 ∷ Pull 14 ∷ Read V1 (cache 5 []) ResetQuery reset_bytes ∷ Pull 24 ∷ []) (reset_bytes ++ reset_bytes ++ 1 ∷ [])
-two_queries is = (
-  (refl, refl, is, stays, (refl, reads)),
-  (
-    left,
-    refl,
-    (
-      omega arith,
-      (
-        left,
-        refl,
-        (
-          omega arith,
-          (
-            left,
-            refl,
-            (
-              (refl, refl, is, stays, (refl, reads)),
-              (
-                1 ∷ [],
-                refl,
-                (omega arith, (1 ∷ [], refl, ((refl, inl (omega arith)), inr (inl refl)))),
-              ),
-            ),
-          ),
-        ),
-      ),
-    ),
-  ),
-)
+    (Read V1 (cache 5 []) ResetQuery reset_bytes ∷ Pull 10 ∷ Pull 14 ∷ Read V1 (cache 5 []) ResetQuery reset_bytes ∷ []) (reset_bytes ++ reset_bytes)
+two_queries is =
+    ((refl, refl, is, stays, (refl, reads)), (reset_bytes, refl, (omega arith, (reset_bytes, refl, (omega arith, (reset_bytes, refl, ((refl, refl, is, stays, (refl, reads)), ([], refl, ((refl, inl (omega arith)), inl refl)))))))))
   where
-    left : List ℕ
-    left = reset_bytes ++ 1 ∷ []
-
     stays : IsLater (cache 5 []) (cache 5 [])
     stays = record { session = refl; session0 = refl; start = refl; more = []; sets = refl }
 

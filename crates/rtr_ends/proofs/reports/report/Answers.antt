@@ -1,5 +1,4 @@
-use Rattle.std.proofs.Common.{◌≡◌, ◌∙◌, ap, arith, [], length, take}
-use Rattle.std.specs.Prelude.{min}
+use Rattle.std.proofs.Common.{min, ◌≡◌, ◌∙◌, ap, arith, [], length, take}
 use Rattle.std.proofs.lemmas.List.{take_min}
 use Rattle.rtr_pdu.specs.declared.unit.Unit.TheVariants.{ErrorReport}
 use Rattle.rtr_ends.proofs.reports.report.Goals as goal

@@ -1,5 +1,4 @@
-use Rattle.std.proofs.Common.{◌≡◌, ◌≤◌, ◌∙◌, sym, ap, arith, length, map, take, drop, ◌++◌, List, ℕ}
-use Rattle.std.specs.Prelude.{get_or}
+use Rattle.std.proofs.Common.{get_or, ◌≡◌, ◌≤◌, ◌∙◌, sym, ap, arith, length, map, take, drop, ◌++◌, List, ℕ}
 use Rattle.std.proofs.lemmas.List.{length-append, length-drop, length-map, length-take, get_or-map}
 use Rattle.prefixes.specs.Payload.{Payload}
 use Rattle.rtr_pdu.specs.declared.unit.Unit.{Unit}

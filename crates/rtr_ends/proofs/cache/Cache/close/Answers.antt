@@ -1,5 +1,4 @@
-use Rattle.std.proofs.Common.{◌∙◌, refl, None}
-use Rattle.std.specs.Prelude.{IsSome}
+use Rattle.std.proofs.Common.{IsSome, ◌∙◌, refl, None}
 use Rattle.rtr_ends.specs.CacheState.{peer_at, taken_numbers}
 use Rattle.rtr_ends.proofs.CacheStateLaws.{below_end, is_there, keeps_none, none_there, sets, taken_at}
 use Rattle.rtr_ends.proofs.cache.Cache.close.Goals as goal

@@ -1,5 +1,4 @@
-use Rattle.std.proofs.Common.{Global, Ok, subst, refl}
-use Rattle.std.specs.Prelude.{map}
+use Rattle.std.proofs.Common.{map, Global, Ok, subst, refl}
 use Rattle.std.specs.declared.rc.Rc.{Rc}
 use Rattle.vrps.specs.Stores.{Publishes}
 use Rattle.vrps.specs.VrpSet.{VrpSet}

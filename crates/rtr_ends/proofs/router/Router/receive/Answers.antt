@@ -1,5 +1,4 @@
-use Rattle.std.proofs.Common.{refl}
-use Rattle.std.specs.Prelude.{◌∷◌}
+use Rattle.std.proofs.Common.{◌∷◌, refl}
 use Rattle.rtr_ends.specs.Router.{played, Receives}
 use Rattle.rtr_ends.proofs.RouterSteps.{led, receives_so}
 use Rattle.rtr_ends.proofs.router.Router.receive.Goals as goal

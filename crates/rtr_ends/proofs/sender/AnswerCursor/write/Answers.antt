@@ -1,5 +1,4 @@
-use Rattle.std.proofs.Common.{◌≡◌, ◌∙◌, ap, arith, false, length, refl, subst, sym, true, Some}
-use Rattle.std.specs.Prelude.{slice_get, get_or}
+use Rattle.std.proofs.Common.{slice_get, get_or, ◌≡◌, ◌∙◌, ap, arith, false, length, refl, subst, sym, true, Some}
 use Rattle.rtr_pdu.specs.declared.unit.Unit.TheVariants.{Prefix}
 use Rattle.vrps.proofs.Listed.{size_of_listing}
 use Rattle.vrps.specs.VrpSet.{listing}

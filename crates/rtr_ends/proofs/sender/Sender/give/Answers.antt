@@ -1,5 +1,4 @@
-use Rattle.std.proofs.Common.{◌≡◌, ◌∙◌, sym}
-use Rattle.std.specs.Prelude.{min, drop}
+use Rattle.std.proofs.Common.{min, drop, ◌≡◌, ◌∙◌, sym}
 use Rattle.rtr_ends.proofs.SenderLaws.{gives_from}
 use Rattle.rtr_ends.proofs.sender.Sender.give.Goals as goal
 

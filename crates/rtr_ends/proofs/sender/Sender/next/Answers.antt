@@ -1,5 +1,4 @@
-use Rattle.std.proofs.Common.{refl, subst, sym, Some}
-use Rattle.std.specs.Prelude.{slice_get}
+use Rattle.std.proofs.Common.{slice_get, refl, subst, sym, Some}
 use Rattle.rtr_ends.specs.Sender.{Hands, units_in}
 use Rattle.rtr_ends.specs.declared.sender.Sender.{Sender}
 use Rattle.rtr_ends.proofs.SenderLaws.{hands_record, written}
