@@ -30,7 +30,8 @@ use Rattle.rtr_ends.specs.Timing.{Intervals}
 use Rattle.rtr_ends.specs.declared.peer.Peer.{Peer}
 use Rattle.rtr_ends.specs.declared.sender.Sender.{Sender}
 use Rattle.rtr_ends.proofs.AnsweringLaws.{knows_but, knows_stays, own_is, published_some}
-use Rattle.rtr_ends.proofs.ReceivingLaws.{start, takes_fault, takes_more, takes_none, takes_unit}
+use Rattle.rtr_ends.proofs.ReceivingLaws.{start, takes_more, takes_none, takes_shown}
+use Rattle.rtr_ends.proofs.UnitByUnit.{fault_judged, unit_judged}
 use Rattle.std.proofs.Math.Bool.{and-false}
 use Rattle.rtr_ends.proofs.TableLaws.{inside}
 
@@ -170,7 +171,7 @@ module _ (keep : ℕ) (t : Intervals) (i : Instance) (o : Conn) where
       after_unit w = conn_judged keep t i (start keep t i o w) version bytes (Whole u)
 
       to : (w : Option ℕ) → conn_stops (after_unit w).conn ≡ true → conn_takes keep t i w piece o ≡ record { machine = after_unit w; rest = rest }
-      to w stop = ap (λ x. conn_takes keep t i w x o) cut ∙ takes_unit keep t i o w (after_unit w) taken rest u runs part is (λ held. refl) stop
+      to w stop = ap (λ x. conn_takes keep t i w x o) cut ∙ takes_shown keep t i o w (after_unit w) taken rest (Whole u) runs part (unit_judged (version_at o taken) false (o.held ++ taken) u is) (λ held. refl) stop
 
       -- memory was there, or not taken
       read : (b : Bool) → (takes_memory version i u && not true) ≡ b → SendsReply t i (if b then no_memory else answer version i keep t u) mid new → Receives keep t i o piece (length piece - length rest) new
@@ -243,8 +244,8 @@ module _ (keep : ℕ) (t : Intervals) (i : Instance) (o : Conn) where
           let spoken : spoken_in (known_version reader) ≡ version_at o k.taken = ap (λ r. spoken_in (known_version r)) first.2 ∙ header_whole o.state.version (o.held ++ k.taken) long in
           let all : conn_takes keep t i None piece o ≡ record { machine = conn_judged keep t i (start keep t i o None) (version_at o k.taken) (o.held ++ k.taken) (Faulty fault); rest = rest } =
           ap (λ x. conn_takes keep t i None x o) k.piece_is
-          ∙ takes_fault keep t i o None (conn_judged keep t i (start keep t i o None) (version_at o k.taken) (o.held ++ k.taken) (Faulty fault)) k.taken rest fault runs
-          (subst (λ v. IsPartial v (as_read v false o.held)) is part) (subst (λ v. IsFaulty v false (o.held ++ k.taken) fault) is first.1) (λ held. refl) refl in
+          ∙ takes_shown keep t i o None (conn_judged keep t i (start keep t i o None) (version_at o k.taken) (o.held ++ k.taken) (Faulty fault)) k.taken rest (Faulty fault) runs
+          (subst (λ v. IsPartial v (as_read v false o.held)) is part) (fault_judged (version_at o k.taken) false (o.held ++ k.taken) fault (subst (λ v. IsFaulty v false (o.held ++ k.taken) fault) is first.1)) (λ held. refl) refl in
           let now : new.reader ≡ fresh (Some (version_at o k.taken)) false = f.reader ∙ ap (λ v. fresh (Some v) false) spoken in
           record {
             wanting = None;

@@ -2,14 +2,11 @@
 use Rattle.std.proofs.Common.{◌≡◌, ℕ, true, false, List, [], ◌++◌, Option, refl, sym, ap, ◌∙◌}
 use Rattle.std.proofs.lemmas.List.{append-nil}
 use Rattle.vrps.specs.Instance.{Instance}
-use Rattle.rtr_pdu.specs.Judging.{Faulty, Whole}
-use Rattle.rtr_pdu.specs.Reader.{IsFaulty, IsRead}
+use Rattle.rtr_pdu.specs.Judging.{Judgement}
 use Rattle.rtr_pdu.specs.Stream.{as_read, IsPartial}
-use Rattle.rtr_pdu.specs.declared.unit.Unit.{Unit}
-use Rattle.rtr_pdu.specs.declared.unit.UnitFault.{UnitFault}
 use Rattle.rtr_ends.specs.Cache.{Conn, Taking, conn_byte, conn_stops, conn_takes, conn_judged, version_at}
 use Rattle.rtr_ends.specs.Timing.{Intervals}
-use Rattle.rtr_ends.proofs.UnitByUnit.{ByteMachine, but_last, fault_taken, fed, more_taken, none_taken, unit_taken}
+use Rattle.rtr_ends.proofs.UnitByUnit.{ByteMachine, IsJudged, but_last, fed, more_taken, none_taken, shown_taken}
 
 module _ (keep : ℕ) (t : Intervals) (i : Instance) where
   conn_machine : ByteMachine Taking
@@ -38,20 +35,12 @@ module _ (keep : ℕ) (t : Intervals) (i : Instance) where
   takes_more o wanting piece runs part =
       ap (fed conn_machine (start o wanting)) (sym (append-nil piece)) ∙ more_taken conn_machine (start o wanting) runs (version_at o piece) piece [] refl part
 
-  -- or a PDU is taken, and the connection stops behind it,
-  pub takes_unit : (o : Conn) (wanting : Option ℕ) (next : Taking) (taken rest : List ℕ) (u : Unit) → conn_stops o ≡ false → IsPartial (version_at o taken) (as_read (version_at o taken) false o.held) → IsRead (version_at o taken) false (o.held ++ taken) u
-      → ((held : List ℕ) → conn_judged keep t i (start (record o { held = held }) wanting) (version_at o taken) (o.held ++ taken) (Whole u) ≡ next) → conn_stops next.conn ≡ true → conn_takes keep t i wanting (taken ++ rest) o ≡ record { machine = next; rest = rest }
+  -- or a PDU or bytes that show a fault are taken, and the connection stops behind them,
+  pub takes_shown : (o : Conn) (wanting : Option ℕ) (next : Taking) (taken rest : List ℕ) (j : Judgement) → conn_stops o ≡ false → IsPartial (version_at o taken) (as_read (version_at o taken) false o.held) → IsJudged (version_at o taken) false (o.held ++ taken) j
+      → ((held : List ℕ) → conn_judged keep t i (start (record o { held = held }) wanting) (version_at o taken) (o.held ++ taken) j ≡ next) → conn_stops next.conn ≡ true → conn_takes keep t i wanting (taken ++ rest) o ≡ record { machine = next; rest = rest }
   unfolding conn_takes conn_machine
-  takes_unit o wanting next taken rest u runs part read after stop =
-      unit_taken conn_machine (start o wanting) runs (version_at o taken) taken rest u refl part read
-      ∙ ap (λ m. fed conn_machine m rest) (after (o.held ++ but_last taken)) ∙ none_taken conn_machine next rest stop
-
-  -- or bytes that show a fault are,
-  pub takes_fault : (o : Conn) (wanting : Option ℕ) (next : Taking) (taken rest : List ℕ) (fault : UnitFault) → conn_stops o ≡ false → IsPartial (version_at o taken) (as_read (version_at o taken) false o.held) → IsFaulty (version_at o taken) false (o.held ++ taken) fault
-      → ((held : List ℕ) → conn_judged keep t i (start (record o { held = held }) wanting) (version_at o taken) (o.held ++ taken) (Faulty fault) ≡ next) → conn_stops next.conn ≡ true → conn_takes keep t i wanting (taken ++ rest) o ≡ record { machine = next; rest = rest }
-  unfolding conn_takes conn_machine
-  takes_fault o wanting next taken rest fault runs part faulty after stop =
-      fault_taken conn_machine (start o wanting) runs (version_at o taken) taken rest fault refl part faulty
+  takes_shown o wanting next taken rest j runs part judged after stop =
+      shown_taken conn_machine (start o wanting) runs (version_at o taken) taken rest j refl part judged
       ∙ ap (λ m. fed conn_machine m rest) (after (o.held ++ but_last taken)) ∙ none_taken conn_machine next rest stop
 
   -- or nothing is.

@@ -1,10 +1,8 @@
 -- What a router takes byte by byte is what its reader takes PDU by PDU.
 use Rattle.std.specs.Prelude.{◌≡◌, ℕ, suc, Bool, true, false, not, List, [], ◌++◌, Option, Some, None, refl}
-use Rattle.rtr_pdu.specs.Judging.{Whole, Faulty}
-use Rattle.rtr_pdu.specs.Reader.{IsFaulty, IsRead}
+use Rattle.rtr_pdu.specs.Judging.{Judgement, Whole}
 use Rattle.rtr_pdu.specs.Stream.{IsPartial, as_read}
 use Rattle.rtr_pdu.specs.declared.unit.Unit.{Unit}
-use Rattle.rtr_pdu.specs.declared.unit.UnitFault.{UnitFault}
 use Rattle.rtr_ends.specs.Cache.{counted, finds_memory}
 use Rattle.rtr_ends.specs.Feeding.{feed}
 use Rattle.rtr_ends.specs.LinkRules.{Router}
@@ -12,7 +10,7 @@ use Rattle.rtr_ends.specs.Router.{Receiving, router_byte, router_stops, router_j
 use Rattle.rtr_ends.specs.RouterShown.{fed, taking}
 use Rattle.rtr_ends.specs.Transcript.{Item}
 use Rattle.rtr_ends.proofs.UnitByUnit as units
-use Rattle.rtr_ends.proofs.UnitByUnit.{ByteMachine, but_last}
+use Rattle.rtr_ends.proofs.UnitByUnit.{ByteMachine, IsJudged, but_last}
 
 router_machine : ByteMachine Receiving
 unfolding router_byte
@@ -44,17 +42,11 @@ module _ (r : Router) (taken rest : List ℕ) (on : router_stops r ≡ false) (i
   unfolding router_machine
   more_taken part = units.more_taken router_machine (taking r items wanting) on r.spoken taken [] refl part
 
-  -- It gives a PDU.
-  pub unit_taken : IsPartial r.spoken (as_read r.spoken (not r.agreed) r.held) → (u : Unit) → IsRead r.spoken (not r.agreed) (r.held ++ taken) u
-      → fed r items wanting (taken ++ rest) ≡ feed stops router_byte (router_judged (taking (record r { held = r.held ++ but_last taken }) items wanting) (r.held ++ taken) (Whole u)) rest
+  -- It gives a PDU or shows a fault.
+  pub shown_taken : IsPartial r.spoken (as_read r.spoken (not r.agreed) r.held) → (j : Judgement) → IsJudged r.spoken (not r.agreed) (r.held ++ taken) j
+      → fed r items wanting (taken ++ rest) ≡ feed stops router_byte (router_judged (taking (record r { held = r.held ++ but_last taken }) items wanting) (r.held ++ taken) j) rest
   unfolding router_machine
-  unit_taken part u read = units.unit_taken router_machine (taking r items wanting) on r.spoken taken rest u refl part read
-
-  -- It shows a fault.
-  pub fault_taken : IsPartial r.spoken (as_read r.spoken (not r.agreed) r.held) → (fault : UnitFault) → IsFaulty r.spoken (not r.agreed) (r.held ++ taken) fault
-      → fed r items wanting (taken ++ rest) ≡ feed stops router_byte (router_judged (taking r items wanting) (r.held ++ taken) (Faulty fault)) rest
-  unfolding router_machine
-  fault_taken part fault faulty = units.fault_taken router_machine (taking r items wanting) on r.spoken taken rest fault refl part faulty
+  shown_taken part j judged = units.shown_taken router_machine (taking r items wanting) on r.spoken taken rest j refl part judged
 
 -- What comes of a PDU: it is read, or memory for it runs out.
 abbrev pub shifted : Option ℕ → Option ℕ

@@ -27,8 +27,8 @@ use Rattle.rtr_ends.proofs.Effects.{Clocks, Keeps, by_close, clocked_keeps, goes
 use Rattle.rtr_ends.proofs.KeptLaws.{router_keeps}
 use Rattle.rtr_ends.proofs.MachineCells.{seen_so}
 use Rattle.rtr_ends.proofs.QuestionLaws.{router_asks}
-use Rattle.rtr_ends.proofs.RouterBytes.{counts_back, fault_taken, has_memory, more_taken, shifted, stopped, stops, unit_taken}
-use Rattle.rtr_ends.proofs.UnitByUnit.{but_last}
+use Rattle.rtr_ends.proofs.RouterBytes.{counts_back, has_memory, more_taken, shifted, shown_taken, stopped, stops}
+use Rattle.rtr_ends.proofs.UnitByUnit.{but_last, fault_judged, unit_judged}
 use Rattle.rtr_ends.proofs.TableLaws.{false_true}
 use Rattle.prefixes.proofs.Basics.{false_if_never}
 use Rattle.rtr_ends.proofs.ConsumedUnits.{reading_open}
@@ -119,7 +119,7 @@ module _ (old : code.Router) (piece rest : List ℕ) (takes : (is_reading (seen_
             let same : had ≡ reads u (cleared r) =
             ap (λ b. if b then lacks u (cleared r) else reads u (cleared r)) (ap (λ b. may_lack r.link u (record r { held = front }) && not b) (has_memory w) ∙ and-false (may_lack r.link u (record r { held = front }))) in
             let whole : fed r items (shifted w) piece ≡ fed (on_unit r.link u (cleared r)) ((reads u (cleared r)).items ++ items) w rest =
-            ap (λ y. fed r items (shifted w) y) x.piece_is ∙ unit_taken r x.taken rest (on r s) items (shifted w) (part_so r s) u x.gives.1
+            ap (λ y. fed r items (shifted w) y) x.piece_is ∙ shown_taken r x.taken rest (on r s) items (shifted w) (part_so r s) (Whole u) (unit_judged r.spoken (not r.agreed) (r.held ++ x.taken) u x.gives.1)
             ∙ (λ i. feed stops router_byte (record { router = (same i).router; items = (same i).items ++ items; wanting = counts_back u w i }) rest) in
             ((reads u (cleared r)).items ++ items, record { router_is = ap (λ f. f.machine.router) whole; rest_is = ap (λ f. f.rest) whole; wanted = λ h. wanted_shifted w (fed r items (shifted w) piece) (subst (λ f. IsLacking w f) (sym whole) h) })
     unit_goes true lacking = ((λ w. Some zero), λ r s. (ended r, shown_ended r s, goes r s))
@@ -139,7 +139,7 @@ module _ (old : code.Router) (piece rest : List ℕ) (takes : (is_reading (seen_
             let had : Noted = with_bytes false bytes (record r { held = front }) (Whole u) in
             let same : had ≡ lacks u (cleared r) = ap (λ b. if b && true then lacks u (cleared r) else reads u (cleared r)) lack in
             let whole : fed r items (Some zero) piece ≡ fed (ended r) ((lacks u (cleared r)).items ++ items) None rest =
-            ap (λ y. fed r items (Some zero) y) x.piece_is ∙ unit_taken r x.taken rest (on r s) items (Some zero) (part_so r s) u x.gives.1
+            ap (λ y. fed r items (Some zero) y) x.piece_is ∙ shown_taken r x.taken rest (on r s) items (Some zero) (part_so r s) (Whole u) (unit_judged r.spoken (not r.agreed) (r.held ++ x.taken) u x.gives.1)
             ∙ (λ i. feed stops router_byte (record { router = (same i).router; items = (same i).items ++ items; wanting = None }) rest) in
             let left = whole ∙ stopped (ended r) ((lacks u (cleared r)).items ++ items) None rest refl in
             let right = stopped (ended r) items w rest refl in (
@@ -189,7 +189,7 @@ module _ (old : code.Router) (piece rest : List ℕ) (takes : (is_reading (seen_
                 (let held : r.held ++ x.taken ≡ bytes = sym (is ∙ ap (λ (y : Reader). y.held) first.2) in
                 let b : Router = (breaks fault bytes r).router in
                 let whole : fed r items None piece ≡ fed b ((breaks fault bytes r).items ++ items) None rest =
-                ap (λ y. fed r items None y) x.piece_is ∙ fault_taken r x.taken rest (on r s) items None (part_so r s) fault first.1
+                ap (λ y. fed r items None y) x.piece_is ∙ shown_taken r x.taken rest (on r s) items None (part_so r s) (Faulty fault) (fault_judged r.spoken (not r.agreed) (r.held ++ x.taken) fault first.1)
                 ∙ ap (λ y. feed stops router_byte (router_judged (taking r items None) y (Faulty fault)) rest) held in
                 let left = whole ∙ stopped b ((breaks fault bytes r).items ++ items) None rest refl in
                 record { router_is = ap (λ f. f.machine.router) left; rest_is = ap (λ f. f.rest) left; wanted = tt })

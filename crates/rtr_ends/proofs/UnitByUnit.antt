@@ -31,6 +31,18 @@ pub record ByteMachine (M : Type 0) : Type 0 where
   pub byte : (m : M) (bytes : List ℕ) (b : ℕ) →
       step (holding m bytes) b ≡ judged (holding m bytes) (version_in (start m) (bytes ++ b ∷ [])) (bytes ++ b ∷ []) (judge (version_in (start m) (bytes ++ b ∷ [])) (any m) (bytes ++ b ∷ []))
 
+-- Bytes that are so judged, and none before the last are: those of a PDU, and those that show a fault
+pub record IsJudged (version : Version) (any : Bool) (bytes : List ℕ) (j : Judgement) : Type 0 where
+  pub other : j ≡ Begins → ⊥
+  pub shortest : IsShortest version any bytes
+  pub judged : judge version any bytes ≡ j
+
+pub unit_judged : (version : Version) (any : Bool) (bytes : List ℕ) (u : Unit) → IsRead version any bytes u → IsJudged version any bytes (Whole u)
+unit_judged version any bytes u read = record { other = λ e. cc; shortest = read.shortest; judged = reads_judged version any bytes u read.reads }
+
+pub fault_judged : (version : Version) (any : Bool) (bytes : List ℕ) (fault : UnitFault) → IsFaulty version any bytes fault → IsJudged version any bytes (Faulty fault)
+fault_judged version any bytes fault faulty = record { other = λ e. cc; shortest = faulty.shortest; judged = shows_judged version any bytes fault faulty.shows }
+
 -- all of a list but its last
 abbrev pub but_last : List ℕ → List ℕ
 but_last [] = []
@@ -101,12 +113,11 @@ module _ {M : Type 0} (w : ByteMachine M) where
         ∙ begin_held (w.held m) taken rest (are_of m version (w.held m ++ taken) of) (fronts_begin (w.held m) taken 0 (next_shortest version (w.any m) (w.held m ++ taken) 0 part))
 
     -- and where bytes are judged otherwise, and none before them are, they are taken to the last.
-    shown_taken : (taken rest : List ℕ) (j : Judgement) → version ≡ version_in (w.start m) (w.held m ++ taken) → IsPartial version (as_read version (w.any m) (w.held m)) → (j ≡ Begins → ⊥)
-        → IsShortest version (w.any m) (w.held m ++ taken) → judge version (w.any m) (w.held m ++ taken) ≡ j
+    pub shown_taken : (taken rest : List ℕ) (j : Judgement) → version ≡ version_in (w.start m) (w.held m ++ taken) → IsPartial version (as_read version (w.any m) (w.held m)) → IsJudged version (w.any m) (w.held m ++ taken) j
         → fed m (taken ++ rest) ≡ fed (w.judged (w.holding m (w.held m ++ but_last taken)) version (w.held m ++ taken) j) rest
-    shown_taken [] rest j of part other shortest is =
-        absurd (other (sym is ∙ ap (judge version (w.any m)) (append-nil (w.held m)) ∙ (begins_exactly version (w.any m) (w.held m)).1 part))
-    shown_taken (c ∷ taken) rest j of part other shortest is =
+    shown_taken [] rest j of part s =
+        absurd (s.other (sym s.judged ∙ ap (judge version (w.any m)) (append-nil (w.held m)) ∙ (begins_exactly version (w.any m) (w.held m)).1 part))
+    shown_taken (c ∷ taken) rest j of part s =
         let cut : c ∷ taken ≡ but_last (c ∷ taken) ++ last_or c taken ∷ [] = with_last c taken in
         let whole : w.held m ++ c ∷ taken ≡ (w.held m ++ but_last (c ∷ taken)) ++ last_or c taken ∷ [] = ap (λ z. w.held m ++ z) cut ∙ sym (append_assoc (w.held m) (but_last (c ∷ taken)) (last_or c taken ∷ [])) in
         let each : AreOf m version ((w.held m ++ but_last (c ∷ taken)) ++ last_or c taken ∷ []) = subst (λ x. AreOf m version x) whole (are_of m version (w.held m ++ c ∷ taken) of) in
@@ -115,24 +126,6 @@ module _ {M : Type 0} (w : ByteMachine M) where
         ∙ ap (fed (w.holding m (w.held m))) (append_assoc (but_last (c ∷ taken)) (last_or c taken ∷ []) rest)
         ∙ begin_held (w.held m) (but_last (c ∷ taken)) (last_or c taken ∷ rest)
         (λ x y e some. each x (y ++ last_or c taken ∷ []) (ap (λ z. z ++ last_or c taken ∷ []) e ∙ append_assoc x y (last_or c taken ∷ [])) some)
-        (fronts_begin (w.held m) (but_last (c ∷ taken)) (last_or c taken) (subst (IsShortest version (w.any m)) whole shortest))
-        ∙ byte_taken (w.held m ++ but_last (c ∷ taken)) (last_or c taken) rest j (of ∙ ap (version_in (w.start m)) whole) (ap (judge version (w.any m)) (sym whole) ∙ is)
+        (fronts_begin (w.held m) (but_last (c ∷ taken)) (last_or c taken) (subst (IsShortest version (w.any m)) whole s.shortest))
+        ∙ byte_taken (w.held m ++ but_last (c ∷ taken)) (last_or c taken) rest j (of ∙ ap (version_in (w.start m)) whole) (ap (judge version (w.any m)) (sym whole) ∙ s.judged)
         ∙ ap (λ z. fed (w.judged (w.holding m (w.held m ++ but_last (c ∷ taken))) version z j) rest) (sym whole)
-
-    not_unit : (u : Unit) → Whole u ≡ Begins → ⊥
-    not_unit u e = cc
-
-    not_fault : (fault : UnitFault) → Faulty fault ≡ Begins → ⊥
-    not_fault fault e = cc
-
-    -- So is a PDU,
-    pub unit_taken : (taken rest : List ℕ) (u : Unit) → version ≡ version_in (w.start m) (w.held m ++ taken) → IsPartial version (as_read version (w.any m) (w.held m)) → IsRead version (w.any m) (w.held m ++ taken) u
-        → fed m (taken ++ rest) ≡ fed (w.judged (w.holding m (w.held m ++ but_last taken)) version (w.held m ++ taken) (Whole u)) rest
-    unit_taken taken rest u of part read =
-        shown_taken taken rest (Whole u) of part (not_unit u) read.shortest (reads_judged version (w.any m) (w.held m ++ taken) u read.reads)
-
-    -- and so are bytes that show a fault.
-    pub fault_taken : (taken rest : List ℕ) (fault : UnitFault) → version ≡ version_in (w.start m) (w.held m ++ taken) → IsPartial version (as_read version (w.any m) (w.held m)) → IsFaulty version (w.any m) (w.held m ++ taken) fault
-        → fed m (taken ++ rest) ≡ fed (w.judged (w.holding m (w.held m ++ but_last taken)) version (w.held m ++ taken) (Faulty fault)) rest
-    fault_taken taken rest fault of part faulty =
-        shown_taken taken rest (Faulty fault) of part (not_fault fault) faulty.shortest (shows_judged version (w.any m) (w.held m ++ taken) fault faulty.shows)
