@@ -83,17 +83,10 @@ pub record Before (r : Router) (items : List Item) : Type 0 where
   pub none : r.out ≡ []
 
 -- a notify
-abbrev strange_by : Router → ℕ → Bool
-strange_by r session = r.agreed && differs (session_of r.session (of_version r.spoken r.version)) session
-
-strange_same : (r : Router) (items : List Item) (session : ℕ) → kept items ≡ holds r → spoken items ≡ r.spoken → has_agreed items ≡ r.agreed → responded items ≡ r.session
-    → (has_agreed items && differs (session_of (responded items) (of_version (spoken items) (kept items).version)) session) ≡ strange_by r session
-strange_same r items session k v a s = λ i. a i && differs (session_of (s i) (of_version (v i) (k i).version)) session
-
-notify_leaves : (r : Router) (items : List Item) (session serial : ℕ) (b : Bool) → Before r items → has_agreed items ≡ r.agreed → responded items ≡ r.session → strange_by r session ≡ b
+notify_leaves : (r : Router) (items : List Item) (session serial : ℕ) (b : Bool) → Before r items → has_agreed items ≡ r.agreed → responded items ≡ r.session → is_strange r session ≡ b
     → kept (Reads (SerialNotify session serial) ∷ items) ≡ emptied_if b (holds r)
 notify_leaves r items session serial b h a s e =
-    ap (λ x. emptied_if x (kept items)) (strange_same r items session h.kept_is h.spoken_is a s ∙ e) ∙ ap (emptied_if b) h.kept_is
+    ap (λ x. emptied_if x (kept items)) ((λ i. a i && differs (session_of (s i) (of_version (h.spoken_is i) (h.kept_is i).version)) session) ∙ e) ∙ ap (emptied_if b) h.kept_is
 
 -- What it does where it is of this session
 notified : (r own : Router) (items : List Item) (session serial : ℕ) → is_connected items ≡ true → Before r items → has_agreed items ≡ r.agreed → responded items ≡ r.session

@@ -56,10 +56,6 @@ puts_it u n (AskSerial session serial) e = e
 quiet : (u : Unit) (n : Router) (later : List Item) → n.out ≡ [] → MarkTells n later → UnitAsks u n later
 quiet u n later none m = record { mark = m; puts = puts_none u n n.link n.out none }
 
--- the link ends
-ends_quiet : (u : Unit) (n : Router) (end : End) (later : List Item) → n.link ≡ Ended end → MarkTells n later → UnitAsks u n later
-ends_quiet u n end later is m = record { mark = m; puts = subst (λ l. Puts u n l n.out) (sym is) tt }
-
 -- what is read
 abbrev After : Unit → Router → List Item → Type 0
 After u n items = UnitAsks u n (Reads u ∷ items)
@@ -115,23 +111,19 @@ left_so b r items later k e (inr h) = inr (e ∙ ap (λ x. x || marked items) k 
 
 staged_asks : (u : Unit) (st : Staged) (b : Bool) (r : Router) (items later : List Item) → r.out ≡ [] → IsMarked st b → marked later ≡ (b || marked items) → MarkTells r items → UnitAsks u (staged u st r) later
 staged_asks u (Stays a) b r items later none k e m = quiet u (record r { link = Answering a }) later none (left_so b r items later k e m)
-staged_asks u (Wrong code) b r items later none k e m =
-    ends_quiet u (record (reports code u r) { mark = true }) (ends.Reported code) later refl (inr (e ∙ ap (λ x. x || marked items) k))
-staged_asks u Over b r items later none k e m = ends_quiet u (record r { link = Ended ends.TooMany }) ends.TooMany later refl (left_so b r items later k e m)
+staged_asks u (Wrong code) b r items later none k e m = record { mark = inr (e ∙ ap (λ x. x || marked items) k); puts = tt }
+staged_asks u Over b r items later none k e m = record { mark = left_so b r items later k e m; puts = tt }
 
 -- an End of Data in an answer
 end_asks : (a : Begun) (u : Unit) (session serial : ℕ) (t : Intervals) (r : Router) (items : List Item) → r.out ≡ [] → under_way items ≡ Some a → kept items ≡ holds r
     → acts_once (base_of a.question r.table) a.withdrawn a.announced ≡ true
     → marked (Reads u ∷ items) ≡ (not (does_commit (under_way items) session (kept items).table) && marked items)
     → After u (if session == a.session then commit a (record { version = r.spoken; session = session; serial = serial; moment = r.now; intervals = t }) r else fails u r) items
-end_asks a u session serial t r items none w k once n = by_session (session == a.session) refl
-  where
-    done : Router
-    done = commit a (record { version = r.spoken; session = session; serial = serial; moment = r.now; intervals = t }) r
-
-    by_session : (b : Bool) → (session == a.session) ≡ b → After u (if b then done else fails u r) items
-    by_session true same = quiet u done (Reads u ∷ items) none (inr (n ∙ (λ i. not (does_commit (w i) session (k i).table) && marked items) ∙ (λ i. not (same i && once i) && marked items)))
-    by_session false other = ends_quiet u (fails u r) (ends.Reported 0) (Reads u ∷ items) refl (inl refl)
+end_asks a u session serial t r items none w k once n =
+    let done : Router = commit a (record { version = r.spoken; session = session; serial = serial; moment = r.now; intervals = t }) r in
+    either (λ x. After u x items) (session == a.session) done (fails u r)
+    (λ same. quiet u done (Reads u ∷ items) none (inr (n ∙ (λ i. not (does_commit (w i) session (k i).table) && marked items) ∙ (λ i. not (same i && once i) && marked items))))
+    (λ other. record { mark = inl refl; puts = tt })
 
 answering_asks : (a : Begun) (u : Unit) (r : Router) (items : List Item) → r.out ≡ [] → under_way items ≡ Some a → kept items ≡ holds r → acts_once (base_of a.question r.table) a.withdrawn a.announced ≡ true → MarkTells r items
     → After u (on_unit (Answering a) u r) items

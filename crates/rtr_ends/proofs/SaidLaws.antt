@@ -216,15 +216,11 @@ cuts given r n items next none same more not_idle cut h last = record {
 }
 
 -- The clock adds nothing to what is said; where a Serial Query expires the link is cut.
-emptied_says : (given : List ℕ) (r : Router) (items : List Item) → Says given r items → Says given (emptied r) items
-emptied_says given r items s = record { said = record { report = s.said.report; reported = s.said.reported; dropped = s.said.dropped; said = s.said.said; whole = s.said.whole }; idle = s.idle }
-
 clocked_says : (given : List ℕ) (now : ℕ) (r : Router) (items : List Item) → Says given r items → Says given (clocked now r) (At now ∷ items)
-clocked_says given now r items s = by_clock (λ n. Says given n (At now ∷ items)) now r (λ holds. told) (λ over on. emptied_says given (record r { now = later r.now now }) (At now ∷ items) told)
+clocked_says given now r items s = by_clock (λ n. Says given n (At now ∷ items)) now r
+    (λ holds. record { said = record { report = s.said.report; reported = s.said.reported; dropped = s.said.dropped; said = s.said.said; whole = s.said.whole }; idle = s.idle })
+    (λ over on. record { said = record { report = s.said.report; reported = s.said.reported; dropped = s.said.dropped; said = s.said.said; whole = s.said.whole }; idle = s.idle })
     (λ over live open_so. cuts given r (record (emptied r) { now = later r.now now; link = Ended ends.Expired; out = [] }) items (At now ∷ items) refl refl refl refl refl s.said (no_report r.link r.spoken s.said.report live s.said.reported))
-  where
-    told : Says given (record r { now = later r.now now }) (At now ∷ items)
-    told = record { said = record { report = s.said.report; reported = s.said.reported; dropped = s.said.dropped; said = s.said.said; whole = s.said.whole }; idle = s.idle }
 
 -- a link that is closed: what was said last may be a report
 last_closed : (l : Link) (version : Version) (report : List ℕ) → SaysLast l version report → SaysLast Closed version report
