@@ -1,4 +1,5 @@
 -- What the cache reads and sends keeps the invariant.
+use Rattle.rtr_world.proofs.RouterCases.{none_counted}
 use Rattle.std.specs.Prelude.{◌≡◌, ◌⊎◌, ℕ, ◌+◌, Bool, true, false, not, ◌&&◌, ◌||◌, nat_lt, List, [], ◌∷◌, ◌++◌, length, Option, Some, None, IsSome, if◌then◌else◌, refl}
 use Rattle.std.proofs.Common.{sym, ap, ◌∙◌, subst, arith, inl, inr}
 use Rattle.std.specs.List.{AllByRecursion, list_any}
@@ -43,9 +44,7 @@ none_is (b ∷ out) h = absurd (let e : true ≡ false = h in cc)
 pub dead_link : (l : Link) (all : List Instance) (i : Instance) (home : Option Seen) (r : Router) (conn conn' : Option Conn) (up up' down down' : List ℕ) → is_reading l ≡ false → GoodLink all i home l r conn up down → GoodLink all i home l r conn' up' down'
 dead_link Closed all i home r conn conn' up up' down down' dead g = g
 dead_link (Ended end) all i home r conn conn' up up' down down' dead g = g
-dead_link Idle all i home r conn conn' up up' down down' dead g = absurd (let e : true ≡ false = dead in cc)
-dead_link (Asked q) all i home r conn conn' up up' down down' dead g = absurd (let e : true ≡ false = dead in cc)
-dead_link (Answering a) all i home r conn conn' up up' down down' dead g = absurd (let e : true ≡ false = dead in cc)
+dead_link _ all i home r conn conn' up up' down down' dead g = absurd (let e : true ≡ false = dead in cc)
 
 -- PDUs are added at the cache's end, where nothing was to be pulled
 more_bytes : (down due lost sent : List ℕ) → due ≡ [] → lost ≡ [] → (down ++ (due ++ lost)) ++ sent ≡ down ++ (sent ++ lost)
@@ -81,9 +80,7 @@ unheard_more None held more coming agrees u = by_length (nat_lt (length (held ++
 dead_seen : (l : Link) (all : List Instance) (i : Instance) (home home' : Option Seen) (r : Router) (conn : Option Conn) (up down : List ℕ) → is_reading l ≡ false → GoodLink all i home l r conn up down → GoodLink all i home' l r conn up down
 dead_seen Closed all i home home' r conn up down dead g = g
 dead_seen (Ended end) all i home home' r conn up down dead g = g
-dead_seen Idle all i home home' r conn up down dead g = false_true (sym dead)
-dead_seen (Asked q) all i home home' r conn up down dead g = false_true (sym dead)
-dead_seen (Answering a) all i home home' r conn up down dead g = false_true (sym dead)
+dead_seen _ all i home home' r conn up down dead g = false_true (sym dead)
 
 -- a PDU was read at this moment, if there is one
 abbrev moment_reads : Option ConnMoment → Bool
@@ -124,27 +121,26 @@ module _ (all : List Instance) (i : Instance) (p : Present all i) (keep : ℕ) (
         record h { read = Some i },
         refl,
         record {
-          version = f.version;
           early = f.early;
           coming = f.coming ++ units;
           lost = f.lost;
           wanted = [];
+          said = record {
+            version = f.version;
+            are_early = f.are_early;
+            early_notifies = f.early_notifies;
+            notifies = notifies-append h.session f.coming units f.notifies (plain_notifies h.session units is.plain);
+            own = f.own;
+            mine = f.mine;
+            shape = subst (λ x. Shape all r.spoken (record h { read = Some i }) x r.agreed r.version r.table [] (without_notifies (f.coming ++ units))) (sym link) (fits, inr (refl, subst (λ x. Replies all r.spoken (record h { read = Some i }) q (base_of q r.table) x) (sym whole) replies, subst (λ x. OneReply all r.spoken (record h { read = Some i }) q x) (sym whole) one));
+          };
           downward = subst (λ x. Stream r.held (down ++ (x ++ f.lost)) (behind_early r.spoken f.early (f.coming ++ units))) (sym due) (stream_more r.spoken r.held down o.state.due f.lost f.early f.coming units eo op.whole is.fit f.downward);
           open_at = record {
             upward = up_stream;
             spoken = subst (MaySpeak r.spoken) (sym spoken) refl;
             unheard = subst (λ v. Unheard (header_version v []) (f.coming ++ units) r.agreed) (sym spoken) tt;
-            whole = op.whole;
-            session = op.session;
-            made = op.made;
-            later = op.later;
+            linked = record { whole = op.whole; session = op.session; made = op.made; later = op.later };
           };
-          are_early = f.are_early;
-          early_notifies = f.early_notifies;
-          notifies = notifies-append h.session f.coming units f.notifies (plain_notifies h.session units is.plain);
-          own = f.own;
-          mine = f.mine;
-          shape = subst (λ x. Shape all r.spoken (record h { read = Some i }) x r.agreed r.version r.table [] (without_notifies (f.coming ++ units))) (sym link) (fits, inr (refl, subst (λ x. Replies all r.spoken (record h { read = Some i }) q (base_of q r.table) x) (sym whole) replies, subst (λ x. OneReply all r.spoken (record h { read = Some i }) q x) (sym whole) one));
         },
       )
 
@@ -162,27 +158,18 @@ module _ (all : List Instance) (i : Instance) (p : Present all i) (keep : ℕ) (
         h,
         eh,
         record {
-          version = f.version;
           early = f.early;
           coming = f.coming;
           lost = f.lost;
           wanted = f.wanted;
+          said = f.said;
           downward = f.downward;
           open_at = record {
             upward = s;
             spoken = op.spoken;
             unheard = unheard_more m.conn.state.version m.conn.held (b ∷ []) f.coming r.agreed op.unheard;
-            whole = op.whole;
-            session = op.session;
-            made = op.made;
-            later = op.later;
+            linked = op.linked;
           };
-          are_early = f.are_early;
-          early_notifies = f.early_notifies;
-          notifies = f.notifies;
-          own = f.own;
-          mine = f.mine;
-          shape = f.shape;
         },
       )
   byte_live m b bs h f eh eo live table (notified session serial rest none e s) memory = absurd (no_unit (SerialNotify session serial) rest (sym none))
@@ -257,11 +244,6 @@ module _ (all : List Instance) (i : Instance) (p : Present all i) (keep : ℕ) (
   some_wants (Some unit) now same lacks = refl
   some_wants None now same lacks = absurd (let e : false ≡ true = ap (λ x. not (finds_memory x)) (sym (same refl)) ∙ lacks in cc)
 
-  none_counted : (j : Judgement) → counted j None ≡ None
-  none_counted Begins = refl
-  none_counted (Whole u) = refl
-  none_counted (Faulty fault) = refl
-
   byte_counts : (wanting : Option ℕ) (m : Taking) (b : ℕ) → (wanting ≡ None → m.wanting ≡ None) → wanting ≡ None → (conn_byte keep timing i m b).wanting ≡ None
   unfolding conn_byte
   byte_counts wanting m b same none =
@@ -331,27 +313,18 @@ module _ (all : List Instance) (i : Instance) (p : Present all i) (keep : ℕ) (
         l.0,
         l.1,
         record {
-          version = f.version;
           early = f.early;
           coming = f.coming ++ notice (session_in r.spoken i) (versions i);
           lost = f.lost;
           wanted = f.wanted;
+          said = record { version = f.version; are_early = f.are_early; early_notifies = f.early_notifies; notifies = notifies-append l.0.session f.coming (notice (session_in r.spoken i) (versions i)) f.notifies (notice_own l.0.session (session_in r.spoken i) op.session i.sets); own = f.own; mine = f.mine; shape = subst (λ x. Shape all r.spoken l.0 r.link r.agreed r.version r.table f.wanted x) (sym whole) f.shape };
           downward = stream_more r.spoken r.held down o.state.due f.lost f.early f.coming (notice (session_in r.spoken i) (versions i)) due op.whole (notice_fit r.spoken i.sets) f.downward;
           open_at = record {
             upward = op.upward;
             spoken = op.spoken;
             unheard = subst (λ v. Unheard v (f.coming ++ notice (session_in r.spoken i) (versions i)) r.agreed) (sym heard) tt;
-            whole = op.whole;
-            session = op.session;
-            made = op.made;
-            later = op.later;
+            linked = op.linked;
           };
-          are_early = f.are_early;
-          early_notifies = f.early_notifies;
-          notifies = notifies-append l.0.session f.coming (notice (session_in r.spoken i) (versions i)) f.notifies (notice_own l.0.session (session_in r.spoken i) op.session i.sets);
-          own = f.own;
-          mine = f.mine;
-          shape = subst (λ x. Shape all r.spoken l.0 r.link r.agreed r.version r.table f.wanted x) (sym whole) f.shape;
         },
       )
 
@@ -364,22 +337,16 @@ module _ (all : List Instance) (i : Instance) (p : Present all i) (keep : ℕ) (
         l.0,
         l.1,
         record {
-          version = f.version;
           early = f.early ++ notice i.session (versions i);
           coming = f.coming;
           lost = f.lost;
           wanted = f.wanted;
-          downward = stream_earlier r.spoken r.held down o.state.due f.lost f.early f.coming (notice i.session (versions i)) nothing.0 due op.whole (notice_fit V1 i.sets) f.downward;
-          open_at = record { upward = op.upward; spoken = op.spoken; unheard = op.unheard; whole = op.whole; session = op.session; made = op.made; later = op.later };
-          are_early = (
+          said = record { version = f.version; are_early = (
             without-append f.early (notice i.session (versions i)) ∙ ap (λ x. x ++ without_notifies (notice i.session (versions i))) f.are_early.0 ∙ notice_silent i.session i.sets,
             λ e. false_true (sym nothing.1 ∙ e),
-          );
-          early_notifies = notifies-append l.0.made.session f.early (notice i.session (versions i)) f.early_notifies (notice_own l.0.made.session i.session op.later.session i.sets);
-          notifies = f.notifies;
-          own = f.own;
-          mine = f.mine;
-          shape = f.shape;
+          ); early_notifies = notifies-append l.0.made.session f.early (notice i.session (versions i)) f.early_notifies (notice_own l.0.made.session i.session op.later.session i.sets); notifies = f.notifies; own = f.own; mine = f.mine; shape = f.shape };
+          downward = stream_earlier r.spoken r.held down o.state.due f.lost f.early f.coming (notice i.session (versions i)) nothing.0 due op.whole (notice_fit V1 i.sets) f.downward;
+          open_at = record { upward = op.upward; spoken = op.spoken; unheard = op.unheard; linked = op.linked };
         },
       )
 

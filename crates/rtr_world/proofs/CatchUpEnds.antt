@@ -20,9 +20,9 @@ use Rattle.rtr_world.proofs.UnitsAtRouters.{first_fits}
 use Rattle.rtr_world.proofs.LinkedSides.{Seen, seen_at}
 use Rattle.rtr_world.proofs.SideLaws.{all_new}
 use Rattle.rtr_world.proofs.SideSteps.{clocked_good, close_shut}
-use Rattle.rtr_world.proofs.KeptTables.{SideTells, new_side_tells}
+use Rattle.rtr_world.proofs.KeptTables.{SideTells}
 use Rattle.rtr_world.proofs.Versions.{Present, TableAt}
-use Rattle.rtr_world.proofs.WorldSteps.{GoodWorld, history_good, new_good}
+use Rattle.rtr_world.proofs.WorldSteps.{GoodWorld, always}
 
 module _ (w : World) (p : Present (instances w) w.present) where
   -- wherever memory ran out
@@ -126,19 +126,14 @@ module _ (w : World) (p : Present (instances w) w.present) where
       by_end (closes is (inl lacking)) = absurd (lacking refl refl)
       by_end (closes is (inr e)) = inr (inr (some e.0, is, e.1.version, idle_next (seen_new n) (settle (instances w) (connects w n)) (emptied_asks n e.1)))
 
-  each_rests : (sides : List Side) → AllByRecursion (Good w.keep w.past w.present) sides → AllByRecursion (λ s. RestsSoon w (settle (instances w) (connects w s))) sides
-  each_rests [] g = tt
-  each_rests (s ∷ sides) g = (let a = connects_asks s g.0 in rests_soon (seen_new s) a.0 (settle (instances w) (connects w s)) a.1.0, each_rests sides g.1)
+  of_rests : (s : Side) → Good w.keep w.past w.present s → RestsSoon w (settle (instances w) (connects w s))
+  of_rests s g = let a = connects_asks s g in rests_soon (seen_new s) a.0 (settle (instances w) (connects w s)) a.1.0
 
-  each_idle : (sides : List Side) → AllByRecursion (Good w.keep w.past w.present) sides → AllByRecursion (λ s. IdleSoon w s.router.version (settle (instances w) (connects w s))) sides
-  each_idle [] g = tt
-  each_idle (s ∷ sides) g = (let a = connects_asks s g.0 in idle_soon (seen_new s) a.0 s.router.version (settle (instances w) (connects w s)) a.1.1 a.1.0, each_idle sides g.1)
-
-good_world : (made : Made) (history : List Entry) (w : World) → Leads made history w → GoodWorld w
-good_world made history w leads = history_good (new_world made.routers made.session made.session0 made.start made.keep) history w leads.1 (new_good made leads.0) (all_new SideTells new_side_tells made.routers)
+  of_idle : (s : Side) → Good w.keep w.past w.present s → IdleSoon w s.router.version (settle (instances w) (connects w s))
+  of_idle s g = let a = connects_asks s g in idle_soon (seen_new s) a.0 s.router.version (settle (instances w) (connects w s)) a.1.1 a.1.0
 
 pub rounds_end : RoundsEnd
-rounds_end made history w leads = let g = good_world made history w leads in each_rests w g.present w.sides g.sides
+rounds_end = always (λ w s. RestsSoon w (settle (instances w) (connects w s))) (λ w p s k. of_rests w p s k.0)
 
 pub catches_up : EachCatchesUp
-catches_up made history w leads = let g = good_world made history w leads in each_idle w g.present w.sides g.sides
+catches_up = always (λ w s. IdleSoon w s.router.version (settle (instances w) (connects w s))) (λ w p s k. of_idle w p s k.0)

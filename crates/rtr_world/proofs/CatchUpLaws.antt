@@ -69,14 +69,11 @@ module _ (r : ℕ) where
   after_fresh : (event : SideEvent) (outcome : Outcome) (w : World) → IsMove event → GoodWorld w → FreshAt w → FreshAt (after (On r event) outcome w)
   after_fresh event (Done wanting) w is g h = settled_fresh (goes_through (On r event) wanting w) (through_fresh event wanting w is g h)
   after_fresh event (Memory bytes wanting) w is g h = refused_part_fresh event bytes wanting w is g h
-  after_fresh event SessionUsed w is g h = h
-  after_fresh event TooManyVersions w is g h = h
-  after_fresh event NoSuchRouter w is g h = h
+  after_fresh event _ w is g h = h
 
   move_fresh : (event : Event) (outcome : Outcome) (w : World) → IsMoveOf r event → GoodWorld w → FreshAt w → FreshAt (after event outcome w)
   move_fresh (On one event) outcome w is g h = subst (λ x. FreshAt (after (On x event) outcome w)) (sym is.0) (after_fresh event outcome w is.1 g h)
-  move_fresh (Publish set) outcome w is g h = absurd is
-  move_fresh (Restart session session0 start) outcome w is g h = absurd is
+  move_fresh _ outcome w is g h = absurd is
 
   moves_fresh : (old : World) (moves : List Entry) (w : World) → LeadsFrom old moves w → AreMoves r moves → GoodWorld old → AllTell old → FreshAt old → FreshAt w
   moves_fresh old [] w leads are g t h = subst FreshAt (sym leads) h
@@ -96,8 +93,7 @@ is_fresh : (i : Instance) (home : Option Instance) (r : Router) (l : Link) → r
 is_fresh i home r Closed is h = tt
 is_fresh i home r (Ended end) is h = tt
 is_fresh i home r Idle is h = let k : Current r.spoken i Idle r.version r.table r.now = subst (λ x. Current r.spoken i x r.version r.table r.now) is h.1 in let o = h.0 (ap is_reading is) in (o.0, o.1, k.0)
-is_fresh i home r (Asked q) is h = h.0 (ap is_reading is)
-is_fresh i home r (Answering a) is h = h.0 (ap is_reading is)
+is_fresh i home r _ is h = h.0 (ap is_reading is)
 
 pub idle_is_current : IdleIsCurrent
 idle_is_current made before moves r wanting w s leads are e =

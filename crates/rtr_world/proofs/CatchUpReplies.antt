@@ -1,4 +1,5 @@
 -- A router that is handed a whole reply reads it: its link is idle then, or has ended, or it asks anew after a Cache Reset.
+use Rattle.rtr_world.proofs.RouterCases.{none_counted}
 use Rattle.std.specs.Prelude.{◌≡◌, ◌⊎◌, ℕ, ◌<◌, Bool, true, false, not, ◌&&◌, ◌==◌, List, [], ◌∷◌, ◌++◌, length, Option, Some, None, if◌then◌else◌, refl}
 use Rattle.std.proofs.Common.{sym, ap, ◌∙◌, subst, subst₂, arith, inl, inr}
 use Rattle.std.proofs.lemmas.Bool.{and_parts}
@@ -225,13 +226,8 @@ module _ (all : List Instance) (h : Seen) (pv : Version) (q : Question) (lacking
   may_want wanting (inl none) e = absurd (let k : true ≡ false = ap finds_memory (sym none) ∙ e in cc)
   may_want wanting (inr l) e = l
 
-  counted_none : (j : Judgement) → counted j None ≡ None
-  counted_none (Whole u) = refl
-  counted_none Begins = refl
-  counted_none (Faulty fault) = refl
-
   counted_on : (j : Judgement) (wanting : Option ℕ) → HasMemory wanting → HasMemory (counted j wanting)
-  counted_on j wanting (inl none) = inl (ap (counted j) none ∙ counted_none j)
+  counted_on j wanting (inl none) = inl (ap (counted j) none ∙ none_counted j)
   counted_on j wanting (inr l) = inr l
 
   abbrev Goes : List ℕ → Receiving → Type 0

@@ -1,10 +1,10 @@
 -- What the clean-up after an event does to a side on which bytes go on, and to one whose link has ended.
+use Rattle.rtr_world.proofs.RouterCases.{expired_by}
 use Rattle.std.specs.Prelude.{◌≡◌, ◌⊎◌, ℕ, Bool, true, false, List, [], ◌∷◌, Option, Some, None, if◌then◌else◌, refl}
 use Rattle.std.proofs.Common.{sym, ap, ◌∙◌, subst, inl, inr}
 use Rattle.vrps.specs.Instance.{Instance}
 use Rattle.vrps.specs.VrpSet.{empty}
 use Rattle.rtr_ends.specs.declared.link.End.{End}
-use Rattle.rtr_ends.specs.declared.link.End.TheVariants as ends
 use Rattle.rtr_ends.specs.Cache.{Conn}
 use Rattle.rtr_ends.specs.LinkRules.{Router, emptied}
 use Rattle.rtr_ends.specs.Router.{clocked, close, closed_at, expired}
@@ -12,23 +12,16 @@ use Rattle.rtr_ends.specs.RouterLink.{Link, Closed, Idle, Asked, Answering, Ende
 use Rattle.rtr_ends.specs.Transcript.{AskReset, AskSerial, is_over, is_serial, later, retry_of, sum_of}
 use Rattle.rtr_ends.proofs.TableLaws.{false_true}
 use Rattle.rtr_world.specs.World.{Side, close_ended, is_ended, noted, settle, settle_conn, settle_link, settle_rest, settle_wire, tell_closed}
-use Rattle.rtr_world.proofs.AnswersRead.{told_closes}
-use Rattle.rtr_world.proofs.Folding.{Blind, rest_keeps, wire_keeps}
+use Rattle.rtr_world.proofs.EventCalls.{told_closes, closed_link, rest_keeps, wire_keeps, Lessens, reading_on}
 use Rattle.rtr_world.proofs.Rests.{GoesOn, stays, conn_router}
 use Rattle.rtr_ends.proofs.FetchStreamLaws.{open_link}
-
-going_link : (l : Link) → is_reading l ≡ true → is_ended l ≡ false
-going_link Closed live = false_true live
-going_link (Ended end) live = false_true live
-going_link Idle live = refl
-going_link (Asked q) live = refl
-going_link (Answering a) live = refl
+use Rattle.rtr_ends.specs.declared.link.End.TheVariants as ends
 
 -- A live link whose connection goes on is left as it is.
 pub settle_open : (all : List Instance) (s : Side) (o : Conn) → s.conn ≡ Some o → (o.state.ended ≡ true → o.state.due ≡ [] → ⊥) → is_reading s.router.link ≡ true → settle all s ≡ s
 settle_open all s o e goes live = stays all s (record {
   conn_on = subst GoesOn (sym e) goes;
-  link_on = going_link s.router.link live;
+  link_on = reading_on s.router.link live;
   none_down = λ c. false_true (sym (open_link s.router.link live) ∙ c);
   none_open = λ c. false_true (sym (open_link s.router.link live) ∙ c);
   told = λ n. absurd (let k : Some o ≡ None = sym e ∙ n in cc);
@@ -38,16 +31,12 @@ settle_open all s o e goes live = stays all s (record {
 link_same : (all : List Instance) (s : Side) (l : Link) (out : List ℕ) → is_reading l ≡ true → settle_link all s l out ≡ s
 link_same all s Closed out live = false_true live
 link_same all s (Ended end) out live = false_true live
-link_same all s Idle out live = refl
-link_same all s (Asked q) out live = refl
-link_same all s (Answering a) out live = refl
+link_same all s _ out live = refl
 
 rest_same : (s : Side) (l : Link) (up : List ℕ) → is_reading l ≡ true → settle_rest s l up ≡ s
 rest_same s Closed up live = false_true live
 rest_same s (Ended end) up live = false_true live
-rest_same s Idle up live = refl
-rest_same s (Asked q) up live = refl
-rest_same s (Answering a) up live = refl
+rest_same s _ up live = refl
 
 abbrev after_conn : List Instance → Side → Side
 after_conn all a =
@@ -80,22 +69,15 @@ settle_full all s o b down c none e live = by_end o.state.ended refl
     by_end true is = inl (is, ap (after_conn all) (first ∙ (λ i. close_ended s (is i) (none i))) ∙ full_live all (record s { conn = None }) b down e live)
     by_end false is = inr (is, ap (after_conn all) (first ∙ ap (λ x. close_ended s x o.state.due) is) ∙ full_live all s b down e live)
 
-pub is_closed_link : (l : Link) → is_closed l ≡ true → l ≡ Closed
-is_closed_link Closed e = refl
-is_closed_link (Ended end) e = false_true e
-is_closed_link Idle e = false_true e
-is_closed_link (Asked q) e = false_true e
-is_closed_link (Answering a) e = false_true e
-
 -- A live link without a connection, to which nothing is on the way, is closed.
 pub settle_none : (all : List Instance) (s : Side) → s.conn ≡ None → s.down ≡ [] → is_reading s.router.link ≡ true → (settle all s).router.link ≡ Closed
 unfolding settle
 settle_none all s c e live =
     subst (λ (x : Side). x.router.link ≡ Closed) (sym (ap (after_conn all) (ap (settle_conn s) c) ∙ after_live all s live ∙ (λ i. settle_wire all s (c i) (e i))))
-    (is_closed_link (tell_closed all s).router.link (told_closes all s))
+    (closed_link (tell_closed all s).router.link (told_closes all s))
 
 -- What a router that is told holds, and goes on to hold, it holds where its link has ended, with nothing to pull.
-module _ (all : List Instance) (P : Side → Type 0) (blind : Blind P) (told : (s : Side) → P s → P (tell_closed all s)) where
+module _ (all : List Instance) (P : Side → Type 0) (less : Lessens P) (told : (s : Side) → P s → P (tell_closed all s)) where
   pub settle_ended : (s : Side) (end : End) → s.router.link ≡ Ended end → s.router.out ≡ [] → ((a : Side) → a.router ≡ s.router → P (tell_closed all a)) → P (settle all s)
   unfolding settle
   settle_ended s end is none first =
@@ -105,12 +87,12 @@ module _ (all : List Instance) (P : Side → Type 0) (blind : Blind P) (told : (
       let rests : P b =
       subst P (sym (λ i. settle_link all (settle_conn s s.conn) ((ap (λ r. r.link) same ∙ is) i) ((ap (λ r. r.out) same ∙ none) i))) (first (settle_conn s s.conn) same) in
       let c : Side = settle_rest b b.router.link b.up in
-      wire_keeps P blind all told c c.conn c.down (rest_keeps P blind all told b b.router.link b.up rests)
+      wire_keeps P less all told c c.conn c.down (rest_keeps P less all told b b.router.link b.up rests)
 
 -- it is closed,
 pub settle_closes : (all : List Instance) (s : Side) (end : End) → s.router.link ≡ Ended end → s.router.out ≡ [] → (settle all s).router.link ≡ Closed
 settle_closes all s end is none =
-    is_closed_link (settle all s).router.link (settle_ended all (λ x. is_closed x.router.link ≡ true) (λ x conn up down read k. k) (λ x k. told_closes all x) s end is none (λ a e. told_closes all a))
+    closed_link (settle all s).router.link (settle_ended all (λ x. is_closed x.router.link ≡ true) (λ x c u d k. k) (λ x k. told_closes all x) s end is none (λ a e. told_closes all a))
 
 -- and if it was emptied, it stays so.
 pub record Emptied (r : Router) : Type 0 where
@@ -151,21 +133,12 @@ told_emptied all s e = subst (λ b. Emptied (if b then record s { home = None; r
 
 pub settle_empties : (all : List Instance) (s : Side) (end : End) → s.router.link ≡ Ended end → s.router.out ≡ [] → s.router.version ≡ None → s.router.table ≡ empty → Emptied (settle all s).router
 settle_empties all s end is none version table =
-    settle_ended all (λ x. Emptied x.router) (λ x conn up down read k. k) (told_emptied all) s end is none
+    settle_ended all (λ x. Emptied x.router) (λ x c u d k. k) (told_emptied all) s end is none
     (λ a e. told_ended all end a (subst (λ r. EndedEmpty end r) (sym e) (record { link = is; version = version; table = table })))
 
 -- A router whose table has expired holds no session,
 pub expired_none : (l : Link) (k : Router) → (expired l k).version ≡ None
-expired_none Closed k = refl
-expired_none Idle k = refl
-expired_none (Asked AskReset) k = refl
-expired_none (Asked (AskSerial session serial)) k = refl
-expired_none (Answering a) k = by_question (is_serial (Some a.question))
-  where
-    by_question : (b : Bool) → (if b then record (emptied k) { link = Ended ends.Expired; out = [] } else emptied k).version ≡ None
-    by_question true = refl
-    by_question false = refl
-expired_none (Ended end) k = refl
+expired_none l k = expired_by (λ r. r.version ≡ None) l k refl refl
 
 -- and one that holds none holds none when it connects.
 pub clocked_none : (now : ℕ) (r : Router) → r.version ≡ None → (close (clocked now r)).version ≡ None
@@ -198,7 +171,7 @@ clocked_emptied now r e = subst (λ b. Emptied (if b then c else record c { link
     c = clocked now r
 
     by_clock : (b : Bool) → Emptied (if b then expired k.link k else k)
-    by_clock true = subst (λ l. Emptied (expired l k)) (sym (is_closed_link r.link e.closed)) (record { closed = e.closed; held = e.held; version = refl; table = refl })
+    by_clock true = subst (λ l. Emptied (expired l k)) (sym (closed_link r.link e.closed)) (record { closed = e.closed; held = e.held; version = refl; table = refl })
     by_clock false = record { closed = e.closed; held = e.held; version = e.version; table = e.table }
 
     told : Emptied c

@@ -1,4 +1,6 @@
 -- A router that connected holds the newest version where its link is idle: its own moves keep that.
+use Rattle.rtr_world.proofs.RouterCases.{expired_by, close_by}
+use Rattle.rtr_world.proofs.UnitCases.{either_by}
 use Rattle.std.specs.Prelude.{◌≡◌, ℕ, ◌≤◌, Bool, true, false, not, ◌&&◌, nat_lt, List, [], ◌∷◌, ◌++◌, length, take, drop, Option, Some, None, if◌then◌else◌, refl}
 use Rattle.std.proofs.Common.{sym, ap, ◌∙◌, subst, subst₂}
 use Rattle.std.proofs.lemmas.Bool.{and_parts}
@@ -22,10 +24,9 @@ use Rattle.rtr_world.specs.CatchUp.{IsMove}
 use Rattle.rtr_world.specs.History.{conn_due}
 use Rattle.rtr_world.specs.OneAnswer.{without_notifies}
 use Rattle.rtr_world.specs.World.{Side, World, instances, SideEvent, RouterRestart, Speak, Connect, RouterSends, CacheGets, CacheSends, RouterGets, Cut, NotifyRouter, Ask, Tick, connects, router_sends, cache_sends, cache_gets, router_gets, cut, side_step, side_part, side_refused, settle, tell_closed}
-use Rattle.rtr_world.proofs.AnswersRead.{told_closes}
+use Rattle.rtr_world.proofs.EventCalls.{told_closes, gets_keep, sends_keep, settle_keeps}
 use Rattle.rtr_world.proofs.CatchUpSettling.{expired_none}
 use Rattle.rtr_world.proofs.CatchUpUnits.{Current, IsCurrent, on_notice, unit_current}
-use Rattle.rtr_world.proofs.Folding.{gets_keep, sends_keep, settle_keeps}
 use Rattle.rtr_world.proofs.Invariant.{Flow, Good, GoodRouter, Live, Shape}
 use Rattle.rtr_world.proofs.LinkedSides.{Seen, IsSeen}
 use Rattle.rtr_world.proofs.SideSteps.{byte_good, clocked_good, live_of}
@@ -44,34 +45,28 @@ Fresh i s = FreshLink i s.home s.router
 no_current : (pv : Version) (i : Instance) (l : Link) (version : Option Committed) (table : VrpSet) (now : ℕ) → is_reading l ≡ false → Current pv i l version table now
 no_current pv i Closed version table now e = tt
 no_current pv i (Ended end) version table now e = tt
-no_current pv i Idle version table now e = false_true (sym e)
-no_current pv i (Asked q) version table now e = false_true (sym e)
-no_current pv i (Answering a) version table now e = false_true (sym e)
+no_current pv i _ version table now e = false_true (sym e)
 
 dead_fresh : (i : Instance) (home : Option Instance) (r : Router) → is_reading r.link ≡ false → FreshLink i home r
 dead_fresh i home r e = ((λ live. false_true (sym e ∙ live)), no_current r.spoken i r.link r.version r.table r.now e)
 
 closed_reads : (l : Link) → is_closed l ≡ true → is_reading l ≡ false
 closed_reads Closed e = refl
-closed_reads (Ended end) e = false_true e
-closed_reads Idle e = false_true e
-closed_reads (Asked q) e = false_true e
-closed_reads (Answering a) e = false_true e
+closed_reads _ e = false_true e
 
 -- What is held on a link that lives is not over.
 lasting : (pv : Version) (i : Instance) (l : Link) (version : Option Committed) (table : VrpSet) (now : ℕ) → is_reading l ≡ true → Current pv i l version table now → is_over version now ≡ false
 lasting pv i Closed version table now live c = false_true live
 lasting pv i (Ended end) version table now live c = false_true live
 lasting pv i Idle version table now live c = c.1
-lasting pv i (Asked q) version table now live c = c
-lasting pv i (Answering a) version table now live c = c
+lasting pv i _ version table now live c = c
 
 -- the clean-up
 told_fresh : (i : Instance) (all : List Instance) (s : Side) → Fresh i s → Fresh i (tell_closed all s)
 told_fresh i all s h = let k : Side = tell_closed all s in dead_fresh i k.home k.router (closed_reads k.router.link (told_closes all s))
 
 pub settle_fresh : (i : Instance) (all : List Instance) (s : Side) → Fresh i s → Fresh i (settle all s)
-settle_fresh i all s h = settle_keeps (λ x. Fresh i x) (λ x conn up down read k. k) all (told_fresh i all) s h
+settle_fresh i all s h = settle_keeps (λ x. Fresh i x) (λ x c u d k. k) all (told_fresh i all) s h
 
 -- the clock: no later moment is told
 same_moment : (now : ℕ) → later now now ≡ now
@@ -111,40 +106,24 @@ clocked_fresh i home r h = by_clock (is_over r.version (later r.now r.now)) refl
 -- What is held after the clock is not over.
 clocked_lasts : (now : ℕ) (r : Router) → is_over (close (clocked now r)).version (close (clocked now r)).now ≡ false
 unfolding clocked
-clocked_lasts now r = by_closed (is_closed c.link)
+clocked_lasts now r = close_by (λ x. is_over x.version x.now ≡ false) (clocked now r) (λ e. lasts) (λ e. lasts)
   where
     k : Router
     k = record r { now = later r.now now }
 
-    c : Router
-    c = clocked now r
-
-    none_over : (v : Option Committed) (now : ℕ) → v ≡ None → is_over v now ≡ false
-    none_over v now e = ap (λ x. is_over x now) e
-
     by_clock : (b : Bool) → is_over r.version (later r.now now) ≡ b → is_over (if b then expired k.link k else k).version (if b then expired k.link k else k).now ≡ false
-    by_clock true e = none_over (expired k.link k).version (expired k.link k).now (expired_none k.link k)
+    by_clock true e = expired_by (λ x. is_over x.version x.now ≡ false) k.link k refl refl
     by_clock false e = e
 
-    shut : Router
-    shut = record c { link = Closed; agreed = false; session = None; held = []; out = []; due = Some (sum_of c.now (retry_of c.version)) }
-
-    by_closed : (b : Bool) → is_over (if b then c else shut).version (if b then c else shut).now ≡ false
-    by_closed true = by_clock (is_over r.version (later r.now now)) refl
-    by_closed false = by_clock (is_over r.version (later r.now now)) refl
+    lasts : is_over (clocked now r).version (clocked now r).now ≡ false
+    lasts = by_clock (is_over r.version (later r.now now)) refl
 
 -- No byte changes the version of the next connection.
 bytes_speak : (memory : Bool) (bytes : List ℕ) (r : Router) (j : Judgement) → (with_bytes memory bytes r j).router.speaks ≡ r.speaks
 bytes_speak memory bytes r Begins = refl
 bytes_speak memory bytes r (Faulty fault) = refl
-bytes_speak memory bytes r (Whole u) = by_memory (may_lack r.link u r && not memory)
-  where
-    hand : Router
-    hand = record r { held = [] }
-
-    by_memory : (b : Bool) → (if b then lacks u hand else reads u hand).router.speaks ≡ r.speaks
-    by_memory true = refl
-    by_memory false = (unit_held r.link u hand).1
+bytes_speak memory bytes r (Whole u) =
+    let k : Router = record r { held = [] } in either_by (λ n. n.router.speaks ≡ r.speaks) u k (may_lack r.link u r && not memory) refl (unit_held r.link u k).1
 
 pub byte_speaks : (m : Receiving) (b : ℕ) → (router_byte m b).router.speaks ≡ m.router.speaks
 unfolding router_byte
@@ -265,11 +244,7 @@ module _ (w : World) (p : Present (instances w) w.present) where
   step_fresh (CacheSends most) wanting s is g h = cache_sends_fresh most s h
   step_fresh (RouterGets most) wanting s is g h = router_gets_fresh most wanting s g h
   step_fresh (Cut left) wanting s is g h = cut_fresh left s h
-  step_fresh RouterRestart wanting s is g h = absurd is
-  step_fresh (Speak version) wanting s is g h = absurd is
-  step_fresh NotifyRouter wanting s is g h = absurd is
-  step_fresh Ask wanting s is g h = absurd is
-  step_fresh (Tick now) wanting s is g h = absurd is
+  step_fresh _ wanting s is g h = absurd is
 
   part_fresh : (event : SideEvent) (bytes : ℕ) (wanting : Option ℕ) (s : Side) → IsMove event → GoodS s → FreshS s → FreshS (side_part w event bytes wanting s)
   part_fresh Connect bytes wanting s is g h = h
@@ -278,11 +253,7 @@ module _ (w : World) (p : Present (instances w) w.present) where
   part_fresh (CacheSends most) bytes wanting s is g h = cache_sends_fresh bytes s h
   part_fresh (RouterGets most) bytes wanting s is g h = router_gets_fresh bytes wanting s g h
   part_fresh (Cut left) bytes wanting s is g h = h
-  part_fresh RouterRestart bytes wanting s is g h = absurd is
-  part_fresh (Speak version) bytes wanting s is g h = absurd is
-  part_fresh NotifyRouter bytes wanting s is g h = absurd is
-  part_fresh Ask bytes wanting s is g h = absurd is
-  part_fresh (Tick now) bytes wanting s is g h = absurd is
+  part_fresh _ bytes wanting s is g h = absurd is
 
   pub refused_fresh : (event : SideEvent) (bytes : ℕ) (wanting : Option ℕ) (s : Side) → IsMove event → GoodS s → FreshS s → FreshS (side_refused w event bytes wanting s)
   unfolding side_refused

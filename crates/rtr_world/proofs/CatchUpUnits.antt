@@ -146,8 +146,7 @@ module _ (all : List Instance) (i : Instance) (p : Present all i) (pv : Version)
   -- a record, or the end of an answer
   staged_current : (r : Router) (u : Unit) (st : Staged) → is_over r.version r.now ≡ false → C (staged u st r)
   staged_current r u (Stays a) fresh = fresh
-  staged_current r u (Wrong code) fresh = tt
-  staged_current r u Over fresh = tt
+  staged_current r u _ fresh = tt
 
   ended_current : (r : Router) (a : Begun) (u : Unit) (one number : ℕ) (intervals : Intervals) → r.spoken ≡ pv → one ≡ h.session → (stands : Stands all pv one number (led_to (base_of a.question r.table) a.withdrawn a.announced)) → length h.sets ≤ length stands.older + 1
       → C (if one == a.session then commit a (record { version = r.spoken; session = one; serial = number; moment = r.now; intervals = intervals }) r else fails u r)

@@ -1,4 +1,5 @@
 -- Catching up, connection by connection.
+use Rattle.rtr_world.proofs.SideLaws.{inside}
 use Rattle.std.specs.Prelude.{◌≡◌, ◌⊎◌, ℕ, ◌+◌, ◌≤◌, ◌<◌, Bool, true, false, not, List, [], ◌∷◌, ◌++◌, length, Option, Some, None, IsSome, is_some, option_and_then, option_map, Result, Ok, Err, is_err, refl, ⊤}
 use Rattle.std.proofs.Common.{sym, ap, ◌∙◌, subst, append_assoc, arith, inl, inr}
 use Rattle.std.proofs.lemmas.List.{append-nil}
@@ -34,18 +35,7 @@ connections_more (x ∷ xs) ys = ap (λ n. connecting x.event + n) (connections_
 
 connects_not : (r : ℕ) (event : Event) → IsMoveOf r event → KeepsOpen event → connecting event ≡ 0
 connects_not r (On one Connect) is keeps = absurd keeps
-connects_not r (On one (Cut left)) is keeps = refl
-connects_not r (On one RouterRestart) is keeps = refl
-connects_not r (On one (Speak version)) is keeps = refl
-connects_not r (On one (RouterSends most)) is keeps = refl
-connects_not r (On one (CacheGets most)) is keeps = refl
-connects_not r (On one (CacheSends most)) is keeps = refl
-connects_not r (On one (RouterGets most)) is keeps = refl
-connects_not r (On one NotifyRouter) is keeps = refl
-connects_not r (On one Ask) is keeps = refl
-connects_not r (On one (Tick now)) is keeps = refl
-connects_not r (Publish set) is keeps = refl
-connects_not r (Restart session session0 start) is keeps = refl
+connects_not r _ is keeps = refl
 
 none_connect : (r : ℕ) (entries : List Entry) → AreMoves r entries → KeepOpen entries → connections entries ≡ 0
 none_connect r [] moves keep = refl
@@ -72,9 +62,7 @@ asked_or_rests s = by_link s.router.link
     by_link : (l : Link) → told_link l ≡ links.Asked → RestsSo s l → ⊥
     by_link Closed e h = let k : links.Closed ≡ links.Asked = e in cc
     by_link Idle e h = let k : links.Idle ≡ links.Asked = e in cc
-    by_link (Asked q) e h = h
-    by_link (Answering a) e h = h
-    by_link (Ended end) e h = h
+    by_link _ e h = h
 
 is_told_asked : (s : Side) → s.router.link ≡ Asked AskReset → told_link s.router.link ≡ links.Asked
 is_told_asked s is = ap told_link is
@@ -336,9 +324,6 @@ holds_now pv session [] version table now is h = absurd (let k : ◌≡◌ {A = 
 holds_now pv session (v ∷ older) None table now is h = absurd h
 holds_now pv session (v ∷ older) (Some version) table now is h =
     ((λ i. Some (h.0 i, h.1 i, (h.2 ∙ ap (λ (x : NumberedSet). x.serial) (inside is)) i)), h.3 ∙ ap (λ (x : NumberedSet). x.set) (inside is))
-  where
-    inside : {a b : NumberedSet} → Some a ≡ Some b → a ≡ b
-    inside h = cc
 
 none_newest : (start : ℕ) (sets : List VrpSet) → newest (versions_from start sets) ≡ None → sets ≡ []
 none_newest start [] h = refl

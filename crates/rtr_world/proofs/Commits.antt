@@ -7,27 +7,26 @@ use Rattle.vrps.specs.VrpSet.{VrpSet}
 use Rattle.rtr_pdu.specs.declared.version.Version.{Version}
 use Rattle.rtr_pdu.specs.Judging.{judge}
 use Rattle.rtr_pdu.specs.declared.unit.Unit.{Unit}
-use Rattle.rtr_pdu.specs.declared.unit.Unit.TheVariants.{SerialNotify, EndOfData, EndOfData0}
+use Rattle.rtr_pdu.specs.declared.unit.Unit.TheVariants.{EndOfData, EndOfData0}
 use Rattle.rtr_ends.specs.Answer.{session_in}
 use Rattle.rtr_ends.specs.Cache.{Conn, is_none, finds_memory}
 use Rattle.rtr_ends.specs.Feeding.{feed}
-use Rattle.rtr_ends.specs.LinkRules.{Router, on_unit, may_lack}
-use Rattle.rtr_ends.specs.Router.{Noted, Receiving, asked_by, reads, lacks, with_bytes, router_stops, router_byte}
+use Rattle.rtr_ends.specs.LinkRules.{Router, on_unit}
+use Rattle.rtr_ends.specs.Router.{Noted, Receiving, asked_by, reads, with_bytes, router_stops, router_byte}
 use Rattle.rtr_ends.specs.RouterLink.{Link, Closed, Idle, Asked, Answering, Ended, is_reading}
-use Rattle.rtr_ends.specs.Transcript.{Committed, Item, Reads, kept, is_commit, of_version}
+use Rattle.rtr_ends.specs.Transcript.{Committed, Item, Reads, kept, is_commit}
 use Rattle.rtr_ends.proofs.FeedingLaws.{feed_keeps}
 use Rattle.rtr_ends.proofs.KeptUnits.{Tells, live_unit}
 use Rattle.rtr_ends.proofs.KeptLaws.{byte_tells, none_is}
 use Rattle.rtr_world.specs.History.{conn_due}
-use Rattle.rtr_world.specs.OneAnswer.{NotifiesOf, without_notifies}
+use Rattle.rtr_world.specs.OneAnswer.{without_notifies}
 use Rattle.rtr_world.specs.VersionPlaces.{VersionPlace, version_place_of}
 use Rattle.rtr_world.specs.World.{places_of}
 use Rattle.rtr_world.proofs.Invariant.{Flow, GoodLink, GoodRouter, IfOpen, Live, Open, Shape}
 use Rattle.rtr_world.proofs.Places.{Found, Ordered, ordered_more, place_at, stands_found, young_enough}
-use Rattle.rtr_world.proofs.UnitsAtRouters.{right_response}
 use Rattle.rtr_world.proofs.SideSteps.{live_of, byte_good}
-use Rattle.rtr_world.proofs.UnitStreams.{ByteCase, partly, notified, wholly, byte_case, early_open}
-use Rattle.rtr_world.proofs.UnitCases.{Brings, goes_on, ends_other, ends_memory, commits, early_brings, unit_brings, is_end}
+use Rattle.rtr_world.proofs.UnitStreams.{ByteCase, byte_case}
+use Rattle.rtr_world.proofs.UnitCases.{Brings, goes_on, ends_other, ends_memory, commits, is_end, byte_by}
 use Rattle.rtr_world.proofs.Versions.{Stands, find_session, same_instance, some_is}
 use Rattle.rtr_world.proofs.LinkedSides.{Seen, IsReadAt, IsSeen}
 use Rattle.prefixes.proofs.Basics.{eq_self, true_of_not}
@@ -112,7 +111,7 @@ module _ (keep : ℕ) (past : List Instance) (i : Instance) (home read : Option 
       let is : session ≡ session_in pv i = own ∙ op.session ∙ ap (λ v. session_in v i) (sym of) in
       let same : a.i ≡ i = same_instance a.i i (find_session pv session (i ∷ past)) a.found (subst (λ s. find_session pv s (i ∷ past) ≡ Some i) (sym is) here) in
       let k = young_enough i a.newer set a.older (ap (λ x. x.sets) (sym same) ∙ a.sets) in
-      record { upward = op.upward; spoken = op.spoken; unheard = op.unheard; whole = op.whole; session = op.session; made = omega (arith, k); later = op.later }
+      record { upward = op.upward; spoken = op.spoken; unheard = op.unheard; linked = record { whole = op.whole; session = op.session; made = omega (arith, k); later = op.later } }
 
   raised : (down : List ℕ) (r : Router) (h : Seen) (pv : Version) (session serial : ℕ) (set : VrpSet) (a : Stands (i ∷ past) pv session serial set) → pv ≡ h.version → session ≡ h.session → r.link ≡ Idle
       → GoodRouter (i ∷ past) i (Some h) conn up down r → GoodRouter (i ∷ past) i (Some (record h { sets = set ∷ a.older })) conn up down r
@@ -124,19 +123,13 @@ module _ (keep : ℕ) (past : List Instance) (i : Instance) (home read : Option 
         record h { sets = set ∷ a.older },
         refl,
         record {
-          version = f.version;
           early = f.early;
           coming = f.coming;
           lost = f.lost;
           wanted = f.wanted;
+          said = record { version = f.version; are_early = f.are_early; early_notifies = f.early_notifies; notifies = f.notifies; own = f.own; mine = f.mine; shape = subst (λ x. Shape (i ∷ past) r.spoken (record h { sets = set ∷ a.older }) x r.agreed r.version r.table f.wanted (without_notifies f.coming)) (sym is) sh };
           downward = f.downward;
           open_at = raised_open r.spoken h r.out f.wanted f.coming r.agreed f.lost conn pv session serial set a (of ∙ f.version) own f.open_at;
-          are_early = f.are_early;
-          early_notifies = f.early_notifies;
-          notifies = f.notifies;
-          own = f.own;
-          mine = f.mine;
-          shape = subst (λ x. Shape (i ∷ past) r.spoken (record h { sets = set ∷ a.older }) x r.agreed r.version r.table f.wanted (without_notifies f.coming)) (sym is) sh;
         },
       ) in
       record { table = g.table; unmarked = g.unmarked; link = subst (λ x. GoodLink (i ∷ past) i (Some (record h { sets = set ∷ a.older })) x r conn up down) (sym is) live }
@@ -144,36 +137,11 @@ module _ (keep : ℕ) (past : List Instance) (i : Instance) (home read : Option 
   -- a byte is read
   byte_read : (seen : Option Seen) (down : List ℕ) (r : Router) (b : ℕ) (memory : Bool) (items : List Item) (h : Seen) (f : Flow (i ∷ past) i h r conn up (b ∷ down)) → is_reading r.link ≡ true → r.out ≡ [] → Tells r items
       → ByteCase r.spoken r.agreed r.held b (down ++ (conn_due conn ++ f.lost)) f.early f.coming → Adds past i h (with_bytes memory (r.held ++ b ∷ []) r (judge r.spoken (not r.agreed) (r.held ++ b ∷ []))) items
-  byte_read seen down r b memory items h f live none t (partly e s) = subst (λ j. Adds past i h (with_bytes memory (r.held ++ b ∷ []) r j) items) (sym e) (nothing refl)
-  byte_read seen down r b memory items h f live none t (notified session serial rest is e s) =
-      subst (λ j. Adds past i h (with_bytes memory (r.held ++ b ∷ []) r j) items) (sym e) (by_memory (may_lack r.link (SerialNotify session serial) r && not memory))
-    where
-      k : Router
-      k = record r { held = [] }
-
-      open_yet : r.agreed ≡ false
-      open_yet = early_open r.agreed session serial rest (λ a. sym is ∙ f.are_early.1 a)
-
-      by_memory : (w : Bool) → Adds past i h (if w then lacks (SerialNotify session serial) k else reads (SerialNotify session serial) k) items
-      by_memory true = nothing refl
-      by_memory false =
-          unit_adds past i h k (SerialNotify session serial) items f.version
-          (live_unit k r.link (SerialNotify session serial) items live refl (record { kept_is = t.kept_is; due_is = t.due_is; now_is = t.now_is; spoken_is = t.spoken_is; none = none }) t.link)
-          (early_brings (i ∷ past) h k session serial live open_yet)
-  byte_read seen down r b memory items h f live none t (wholly alone u more is e fit s) =
-      subst (λ j. Adds past i h (with_bytes memory (r.held ++ b ∷ []) r j) items) (sym e) (by_memory (may_lack r.link u r && not memory))
-    where
-      k : Router
-      k = record r { held = [] }
-
-      brings : Brings (i ∷ past) h k r.link u (on_unit r.link u k)
-      brings =
-          unit_brings (i ∷ past) h k r.link u more f.wanted refl live f.own f.mine (λ q. right_response (i ∷ past) i seen conn up down h.session q (of_version r.spoken r.version)) (subst (λ x. NotifiesOf h.session x) is f.notifies)
-          (subst (λ x. Shape (i ∷ past) r.spoken h r.link r.agreed r.version r.table f.wanted (without_notifies x)) is f.shape)
-
-      by_memory : (w : Bool) → Adds past i h (if w then lacks u k else reads u k) items
-      by_memory true = nothing refl
-      by_memory false = unit_adds past i h k u items f.version (live_unit k r.link u items live refl (record { kept_is = t.kept_is; due_is = t.due_is; now_is = t.now_is; spoken_is = t.spoken_is; none = none }) t.link) brings
+  byte_read seen down r b memory items h f live none t case =
+      let k : Router = record r { held = [] } in
+      byte_by (i ∷ past) i seen conn up (λ n. Adds past i h n items) down r b memory h f live case (nothing refl) (λ u. nothing refl)
+      (λ u brings. unit_adds past i h k u items f.version
+      (live_unit k r.link u items live refl (record { kept_is = t.kept_is; due_is = t.due_is; now_is = t.now_is; spoken_is = t.spoken_is; none = none }) t.link) brings)
 
   -- what holds between two bytes
   pub record Goes (items : List Item) (places : List (Option VersionPlace)) (down : List ℕ) (m : Receiving) : Type 0 where

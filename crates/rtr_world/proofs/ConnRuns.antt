@@ -1,5 +1,6 @@
 -- Each open connection of a world is one to which calls of the cache's machine lead.
-use Rattle.std.specs.Prelude.{◌≡◌, ℕ, Bool, true, false, List, [], ◌∷◌, ◌++◌, drop, take, Option, Some, None, IfSome, if◌then◌else◌, refl}
+use Rattle.rtr_world.proofs.EventCalls.{closed_by, Lessens, settle_keeps}
+use Rattle.std.specs.Prelude.{◌≡◌, ℕ, Bool, true, false, List, [], ◌∷◌, ◌++◌, drop, take, Option, Some, None, IfSome, if◌then◌else◌, refl, map}
 use Rattle.std.proofs.Common.{sym, ap, subst}
 use Rattle.std.specs.List.{AllByRecursion}
 use Rattle.vrps.specs.Instance.{Instance, IsInstance}
@@ -13,14 +14,12 @@ use Rattle.rtr_ends.proofs.FeedingLaws.{feed_takes}
 use Rattle.rtr_world.specs.Claims.{ConnsRun, IsConnRun}
 use Rattle.rtr_world.specs.History.{Outcome, Done, SessionUsed, TooManyVersions, NoSuchRouter, Memory, Entry, IsEvent, LeadsFrom, after}
 use Rattle.rtr_world.specs.World.{Side, World, instances, timing, SideEvent, RouterRestart, Speak, Connect, RouterSends, CacheGets, CacheSends, RouterGets, Cut, NotifyRouter, Ask, Tick, Event, Publish, Restart, On, cache_gets, cache_gone, cache_sends, close_ended, connects, cut, gets_at, goes_through, is_refused, new_world, noted, notifies_at, on_side, router_gets, router_restarts, router_sends, sends_from, settle, settle_conn, settle_link, settle_rest, settle_wire, settled, side_refused, side_step, speaks, tell_closed}
-use Rattle.rtr_world.proofs.Folding.{leads_keep}
-use Rattle.rtr_world.proofs.Histories.{Known}
 use Rattle.rtr_world.proofs.Invariant.{Good, GoodLink, IfOpen, Live, Open}
-use Rattle.rtr_world.proofs.KeptTables.{AllTell, SideTells, after_tells, new_side_tells}
-use Rattle.rtr_world.proofs.SideLaws.{all_both, all_map, all_new, all_on_side}
+use Rattle.rtr_world.proofs.KeptTables.{AllTell, SideTells}
+use Rattle.rtr_world.proofs.SideLaws.{all_both, all_map, all_new, all_on_side, all_weaker}
 use Rattle.rtr_world.proofs.UnitStreams.{all_bytes}
 use Rattle.rtr_world.proofs.WireBytes.{Low, low-append, low_drop, low_rest, low_stream, low_take}
-use Rattle.rtr_world.proofs.WorldSteps.{GoodWorld, after_good, new_good}
+use Rattle.rtr_world.proofs.WorldSteps.{GoodWorld, Known, known_leads, known_sides, first}
 
 -- A connection is a run, and what is on its way to it are bytes.
 record Runs (keep : ℕ) (present : Instance) (home : Option Instance) (up : List ℕ) (o : Conn) : Type 0 where
@@ -101,9 +100,7 @@ low_out w s o e known = by_link s.router.link known.0.router.link
     by_link : (l : Link) → GoodLink (instances w) w.present known.0.seen l s.router s.conn s.up s.down → Low s.router.out
     by_link Closed g = none g.3
     by_link (Ended end) g = none g
-    by_link Idle g = live g
-    by_link (Asked q) g = live g
-    by_link (Answering a) g = live g
+    by_link _ g = live g
 
 -- One event
 module _ (w : World) (is : IsInstance w.present) where
@@ -144,8 +141,7 @@ module _ (w : World) (is : IsInstance w.present) where
   step_runs (RouterGets most) wanting s known h = h
   step_runs (Cut left) wanting s known h = tt
   step_runs NotifyRouter wanting s known h = notified_runs s s.conn refl h
-  step_runs Ask wanting s known h = h
-  step_runs (Tick now) wanting s known h = h
+  step_runs _ wanting s known h = h
 
   refused_runs : (event : SideEvent) (bytes : ℕ) (wanting : Option ℕ) (s : Side) → R (side_refused w event bytes wanting s)
   unfolding side_refused cut
@@ -161,58 +157,20 @@ module _ (keep : ℕ) (present : Instance) (all : List Instance) where
   emptied home up None h = tt
   emptied home up (Some o) h = record { run = h.run; low = tt }
 
+  less_runs : Lessens (SideRuns keep present)
+  less_runs s false u d h = tt
+  less_runs s true true d h = h
+  less_runs s true false d h = emptied s.home s.up s.conn h
+
   told_runs : (s : Side) → SideRuns keep present s → SideRuns keep present (tell_closed all s)
-  told_runs s h = by_link (is_closed s.router.link)
-    where
-      by_link : (b : Bool) → SideRuns keep present (if b then record s { home = None; read_at = None } else record (noted all (closed_at s.router.now s.router) s) { home = None; read_at = None })
-      by_link true = unknown s.home s.up s.conn h
-      by_link false = unknown s.home s.up s.conn h
+  told_runs s h = closed_by (SideRuns keep present) all s (λ e. unknown s.home s.up s.conn h) (λ e. unknown s.home s.up s.conn h)
 
-  ended_runs : (s : Side) (ended : Bool) (due : List ℕ) → SideRuns keep present s → SideRuns keep present (close_ended s ended due)
-  ended_runs s true [] h = tt
-  ended_runs s true (b ∷ due) h = h
-  ended_runs s false due h = h
-
-  conn_runs : (s : Side) (o : Option Conn) → SideRuns keep present s → SideRuns keep present (settle_conn s o)
-  conn_runs s None h = h
-  conn_runs s (Some o) h = ended_runs s o.state.ended o.state.due h
-
-  link_runs : (s : Side) (l : Link) (out : List ℕ) → SideRuns keep present s → SideRuns keep present (settle_link all s l out)
-  link_runs s (Ended end) [] h = told_runs s h
-  link_runs s (Ended end) (b ∷ out) h = h
-  link_runs s Closed out h = h
-  link_runs s Idle out h = h
-  link_runs s (Asked q) out h = h
-  link_runs s (Answering a) out h = h
-
-  rest_runs : (s : Side) (l : Link) (up : List ℕ) → SideRuns keep present s → SideRuns keep present (settle_rest s l up)
-  rest_runs s Closed [] h = tt
-  rest_runs s Closed (b ∷ up) h = h
-  rest_runs s (Ended end) up h = h
-  rest_runs s Idle up h = h
-  rest_runs s (Asked q) up h = h
-  rest_runs s (Answering a) up h = h
-
-  wire_runs : (s : Side) (o : Option Conn) (down : List ℕ) → SideRuns keep present s → SideRuns keep present (settle_wire all s o down)
-  wire_runs s None [] h = emptied (tell_closed all s).home (tell_closed all s).up (tell_closed all s).conn (told_runs s h)
-  wire_runs s None (b ∷ down) h = h
-  wire_runs s (Some o) down h = h
-
-  settle_runs : (s : Side) → SideRuns keep present s → SideRuns keep present (settle all s)
-  unfolding settle
-  settle_runs s h =
-      let a : Side = settle_conn s s.conn in
-      let b : Side = settle_link all (settle_conn s s.conn) (settle_conn s s.conn).router.link (settle_conn s s.conn).router.out in
-      let c : Side = settle_rest b b.router.link b.up in
-      wire_runs c c.conn c.down (rest_runs b b.router.link b.up (link_runs a a.router.link a.router.out (conn_runs s s.conn h)))
+  settle_runs : (sides : List Side) → AllByRecursion (SideRuns keep present) sides → AllByRecursion (SideRuns keep present) (map (settle all) sides)
+  settle_runs sides h = all_map (SideRuns keep present) (SideRuns keep present) (settle all) sides (settle_keeps (SideRuns keep present) less_runs all told_runs) h
 
 -- Every event
 abbrev AllRun : World → Type 0
 AllRun w = AllByRecursion (SideRuns w.keep w.present) w.sides
-
-settled_runs : (w : World) → AllRun w → AllRun (settled w)
-unfolding settled
-settled_runs w h = all_map (SideRuns w.keep w.present) (SideRuns w.keep w.present) (settle (instances w)) w.sides (settle_runs w.keep w.present (instances w)) h
 
 published_runs : (keep : ℕ) (i : Instance) (set : VrpSet) → IsVrpSet set → (s : Side) → SideRuns keep i s → SideRuns keep (published set i) s
 published_runs keep i set fits s = by_conn s.conn
@@ -221,40 +179,22 @@ published_runs keep i set fits s = by_conn s.conn
     by_conn None h = tt
     by_conn (Some o) h = record { run = publishes_run keep i s.home o h.run set fits; low = h.low }
 
-all_published : (keep : ℕ) (i : Instance) (set : VrpSet) → IsVrpSet set → (sides : List Side) → AllByRecursion (SideRuns keep i) sides → AllByRecursion (SideRuns keep (published set i)) sides
-all_published keep i set fits [] h = tt
-all_published keep i set fits (s ∷ sides) h = (published_runs keep i set fits s h.0, all_published keep i set fits sides h.1)
-
-known : (w : World) → GoodWorld w → AllTell w → AllRun w → AllByRecursion (λ s. Known w s × SideRuns w.keep w.present s) w.sides
-known w g t h = all_both (Known w) (SideRuns w.keep w.present) w.sides (all_both (Good w.keep w.past w.present) SideTells w.sides g.sides t) h
-
-through : (event : Event) (wanting : Option ℕ) (w : World) → IsEvent event → GoodWorld w → AllTell w → AllRun w → AllRun (goes_through event wanting w)
-unfolding goes_through
-through (Publish set) wanting w fits g t h = all_published w.keep w.present set fits w.sides h
-through (Restart session session0 start) wanting w fits g t h =
-    all_map (SideRuns w.keep w.present) (SideRuns w.keep (record { session = session; session0 = session0; start = start; sets = [] })) cache_gone w.sides (λ s x. tt) h
-through (On r event) wanting w fits g t h =
-    all_on_side (λ s. Known w s × SideRuns w.keep w.present s) (SideRuns w.keep w.present) r (side_step w event wanting) w.sides (λ s x. x.1) (λ s x. step_runs w g.present.is event wanting s x.0 x.1) (known w g t h)
-
-refused_all : (event : Event) (bytes : ℕ) (wanting : Option ℕ) (w : World) → GoodWorld w → AllRun w → AllRun (is_refused event bytes wanting w)
-unfolding is_refused
-refused_all (Publish set) bytes wanting w g h = h
-refused_all (Restart session session0 start) bytes wanting w g h = h
-refused_all (On r event) bytes wanting w g h =
-    settled_runs (record w { sides = on_side r (side_refused w event bytes wanting) w.sides })
-    (all_on_side (SideRuns w.keep w.present) (SideRuns w.keep w.present) r (side_refused w event bytes wanting) w.sides (λ s x. x) (λ s x. refused_runs w g.present.is event bytes wanting s) h)
-
 after_runs : (event : Event) (outcome : Outcome) (w : World) → IsEvent event → GoodWorld w → AllTell w → AllRun w → AllRun (after event outcome w)
-after_runs event (Done wanting) w fits g t h = settled_runs (goes_through event wanting w) (through event wanting w fits g t h)
-after_runs event (Memory bytes wanting) w fits g t h = refused_all event bytes wanting w g h
-after_runs event SessionUsed w fits g t h = h
-after_runs event TooManyVersions w fits g t h = h
-after_runs event NoSuchRouter w fits g t h = h
-
-from_old : (old : World) (history : List Entry) (w : World) → LeadsFrom old history w → GoodWorld old → AllTell old → AllRun old → AllRun w
-from_old old history w leads g t h =
-    (leads_keep (λ x. GoodWorld x × AllTell x × AllRun x)
-    (λ event outcome x fits may k. (after_good event outcome x fits may k.0 k.1, after_tells event outcome x k.1, after_runs event outcome x fits k.0 k.1 k.2)) old history w leads (g, t, h)).2
+unfolding goes_through settled is_refused
+after_runs (Publish set) (Done wanting) w fits g t h =
+    let i : Instance = published set w.present in
+    settle_runs w.keep i (i ∷ w.past) w.sides (all_weaker (SideRuns w.keep w.present) (SideRuns w.keep i) w.sides (published_runs w.keep w.present set fits) h)
+after_runs (Restart session session0 start) (Done wanting) w fits g t h =
+    let n : World = goes_through (Restart session session0 start) wanting w in
+    settle_runs w.keep n.present (instances n) (map cache_gone w.sides) (all_map (SideRuns w.keep w.present) (SideRuns w.keep n.present) cache_gone w.sides (λ s x. tt) h)
+after_runs (On r event) (Done wanting) w fits g t h =
+    settle_runs w.keep w.present (instances w) (on_side r (side_step w event wanting) w.sides)
+    (all_on_side (λ s. Known w s × R w g.present.is s) (R w g.present.is) r (side_step w event wanting) w.sides (λ s x. x.1) (λ s x. step_runs w g.present.is event wanting s x.0 x.1)
+    (all_both (Known w) (R w g.present.is) w.sides (known_sides w g t) h))
+after_runs (On r event) (Memory bytes wanting) w fits g t h =
+    settle_runs w.keep w.present (instances w) (on_side r (side_refused w event bytes wanting) w.sides)
+    (all_on_side (R w g.present.is) (R w g.present.is) r (side_refused w event bytes wanting) w.sides (λ s x. x) (λ s x. refused_runs w g.present.is event bytes wanting s) h)
+after_runs _ _ w fits g t h = h
 
 run_of : (keep : ℕ) (present : Instance) (s : Side) → SideRuns keep present s → IfSome s.conn (IsConnRun keep present s.home)
 run_of keep present s = by_conn s.conn
@@ -264,14 +204,6 @@ run_of keep present s = by_conn s.conn
     by_conn (Some o) h = h.run
 
 pub conns_run : ConnsRun
-conns_run made history w leads = each w.sides all
-  where
-    start : World
-    start = new_world made.routers made.session made.session0 made.start made.keep
-
-    all : AllRun w
-    all = from_old start history w leads.1 (new_good made leads.0) (all_new SideTells new_side_tells made.routers) (all_new (SideRuns start.keep start.present) tt made.routers)
-
-    each : (sides : List Side) → AllByRecursion (SideRuns w.keep w.present) sides → AllByRecursion (λ s. IfSome s.conn (IsConnRun w.keep w.present s.home)) sides
-    each [] h = tt
-    each (s ∷ sides) h = (run_of w.keep w.present s h.0, each sides h.1)
+conns_run made history w leads =
+    all_weaker (SideRuns w.keep w.present) (λ s. IfSome s.conn (IsConnRun w.keep w.present s.home)) w.sides (run_of w.keep w.present)
+    (known_leads AllRun (λ event outcome x fits may g t h. after_runs event outcome x fits g t h) made history w leads (all_new (SideRuns (first made).keep (first made).present) tt made.routers)).2

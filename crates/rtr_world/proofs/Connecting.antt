@@ -1,4 +1,5 @@
 -- A connection is made.
+use Rattle.rtr_world.proofs.SideLaws.{inside}
 use Rattle.std.specs.Prelude.{◌≡◌, ℕ, ◌-◌, ◌<◌, ◌^◌, ◌==◌, true, List, [], ◌∷◌, length, find, Option, Some, None, is_some, Result, Ok, Err, if◌then◌else◌, refl, ⊤, false}
 use Rattle.std.proofs.Common.{sym, ap, ◌∙◌, subst, arith, inr, inl}
 use Rattle.std.proofs.lemmas.Bool.{cases_Bool}
@@ -32,9 +33,6 @@ current_none start (set ∷ older) serial is fits h = absurd (let k : ◌≡◌ 
 pub current_some : (start : ℕ) (sets : List VrpSet) (v : NumberedSet) → Some v ≡ newest (versions_from start sets) → v.serial ≡ serial_at start (length sets - 1)
 current_some start [] v h = absurd (let k : ◌≡◌ {A = Option NumberedSet} (Some v) None = h in cc)
 current_some start (now ∷ older) v h = ap (λ (x : NumberedSet). x.serial) (inside h) ∙ ap (serial_at start) (let n : length older ≡ length (now ∷ older) - 1 = omega arith in n)
-  where
-    inside : {a b : NumberedSet} → Some a ≡ Some b → a ≡ b
-    inside h = cc
 
 -- a connection that is made now
 since_now : (i : Instance) (serial : Serial) → serial.0 ≡ serial_at i.start (length i.sets - 1) → IsSince i i (Some serial)

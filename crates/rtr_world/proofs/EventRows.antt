@@ -1,22 +1,20 @@
--- Events of the world that other rows do not have: a second router, notifies, questions, ticks, restarts of routers, refusals for want of
--- memory, and ends of links.
+-- Events of the world, worked out: one router that asks and is answered, a second one, notifies, questions, ticks, restarts, refusals
+-- where memory ran out, and ends of links. Further steps are played by the scripts of tests/cases/world.py.
 use Rattle.std.specs.Prelude.{◌≡◌, ℕ, ◌≤◌, Bool, true, false, List, [], ◌∷◌, ◌++◌, length, take, drop, Some, None, refl}
 use Rattle.std.proofs.Common.{Option, ap, arith}
 use Rattle.std.specs.Str.{chars, is_utf8}
 use Rattle.vrps.specs.Instance.{Instance, versions}
-use Rattle.vrps.specs.Store.{is_current}
 use Rattle.vrps.specs.VrpSet.{VrpSet, empty, set_of}
 use Rattle.vrps.proofs.SetLaws.{listing-set_of}
 use Rattle.rtr_pdu.specs.Judging.{judge}
 use Rattle.rtr_pdu.specs.Stream.{as_read}
-use Rattle.rtr_pdu.specs.declared.unit.Unit.TheVariants.{SerialNotify, SerialQuery, ResetQuery}
-use Rattle.rtr_ends.specs.declared.link.End.TheVariants as ends
+use Rattle.rtr_pdu.specs.declared.unit.Unit.TheVariants.{SerialNotify, SerialQuery}
 use Rattle.rtr_pdu.specs.declared.version.Version.{Version}
 use Rattle.rtr_pdu.specs.declared.version.Version.TheVariants.{V0, V1}
 use Rattle.rtr_ends.specs.Answer.{report, sent, sent_all}
 use Rattle.rtr_ends.specs.Cache.{Conn, new_conn, conn_takes, conn_byte, conn_pulled, conn_notified}
 use Rattle.rtr_ends.specs.LinkRules.{Router, new_router, on_unit}
-use Rattle.rtr_ends.specs.Router.{router_byte, receives, clocked, connects_at, closed_at, ticks_at, asks, router_pulled}
+use Rattle.rtr_ends.specs.Router.{router_byte, receives, clocked, closed_at, ticks_at, asks, connects_at, router_pulled}
 use Rattle.rtr_ends.specs.RouterLink.{Idle, Asked, Answering}
 use Rattle.rtr_ends.specs.Timing.{default_intervals}
 use Rattle.rtr_ends.specs.Transcript.{At, Opened, Asks, Reads, Refused, Restarts, Shut, Item, AskReset, AskSerial, Committed}
@@ -24,12 +22,13 @@ use Rattle.rtr_ends.proofs.WholeAnswerRows.{v, v_ascends, cache, with_all_of, re
 use Rattle.rtr_world.specs.CatchUp.{HoldsNewest}
 use Rattle.rtr_world.specs.Claims.{OfAnother, told}
 use Rattle.rtr_world.specs.SideShown.{held_of}
-use Rattle.rtr_world.specs.declared.event.CatchFault.TheVariants as catch_faults
-use Rattle.rtr_world.specs.declared.event.WorldFault.TheVariants as faults
 use Rattle.rtr_world.specs.VersionPlaces.{position_of, version_place_of}
 use Rattle.rtr_world.specs.Events.{catch_fault_number, outcome_fault, world_fault_number}
-use Rattle.rtr_world.specs.History.{Done, SessionUsed, TooManyVersions, NoSuchRouter, Memory, Entry, after, refusal, may_refuse, moved, MayEnd, has_connection, is_near, room_for, room_since}
-use Rattle.rtr_world.specs.World.{Side, World, Event, Publish, Restart, On, RouterRestart, Speak, Connect, RouterSends, CacheGets, CacheSends, RouterGets, Cut, NotifyRouter, Ask, Tick, new_side, connects, router_sends, cache_gets, cache_sends, router_gets, router_restarts, speaks, cut, side_step, side_refused, settle, goes_through, settled, is_refused}
+use Rattle.rtr_world.specs.History.{Done, SessionUsed, TooManyVersions, NoSuchRouter, Memory, Entry, after, refusal, may_refuse, moved, MayEnd, has_connection, is_near, room_for, room_since, wants_at}
+use Rattle.rtr_world.specs.World.{Side, World, Event, Publish, Restart, On, RouterRestart, Speak, Connect, RouterSends, CacheGets, CacheSends, RouterGets, Cut, NotifyRouter, Ask, Tick, new_side, connects, cache_gets, cache_sends, router_gets, router_restarts, speaks, cut, side_step, side_refused, settle, goes_through, settled, is_refused, new_world, router_sends}
+use Rattle.rtr_ends.specs.declared.link.End.TheVariants as ends
+use Rattle.rtr_world.specs.declared.event.CatchFault.TheVariants as catch_faults
+use Rattle.rtr_world.specs.declared.event.WorldFault.TheVariants as faults
 
 abbrev just_v : VrpSet
 just_v = set_of (v ∷ [])
@@ -50,15 +49,98 @@ opened = Asks AskReset ∷ Opened V1 ∷ At 0 ∷ []
 abbrev open_side : Router → Conn → List ℕ → List ℕ → List Item → Side
 open_side r o up down items = record { router = r; conn = Some o; up = up; down = down; home = Some with_v; read_at = None; items = items; endings = []; places = [] }
 
-second_connects : after (On 1 Connect) (Done None) (world (new_side ∷ new_side ∷ []))
-    ≡ world (new_side ∷ open_side (record asking { out = reset_bytes }) (new_conn with_v) [] [] opened ∷ [])
-unfolding goes_through settled settle side_step connects connects_at clocked
-second_connects = refl
+-- A world of one router, and its side once it has asked
+abbrev one : Side → World
+one s = world (s ∷ [])
 
-first_sends : after (On 0 (RouterSends 3)) (Done None) (world (open_side (record asking { out = reset_bytes }) (new_conn with_v) [] [] opened ∷ open_side (record asking { out = reset_bytes }) (new_conn with_v) [] [] opened ∷ []))
-    ≡ world (open_side (record asking { out = drop 3 reset_bytes }) (new_conn with_v) (take 3 reset_bytes) [] opened ∷ open_side (record asking { out = reset_bytes }) (new_conn with_v) [] [] opened ∷ [])
+abbrev asked_side : Router → Conn → List ℕ → List ℕ → Side
+asked_side r o up down = open_side r o up down opened
+
+-- A world of one router, session 0x1234 in both versions of the protocol, first serial 5
+abbrev begun_world : World
+begun_world = new_world 1 0x1234 0x1234 5 2
+
+publishes : after (Publish just_v) (Done None) begun_world ≡ one new_side
+unfolding goes_through settled settle
+publishes = refl
+
+is_connected : after (On 0 Connect) (Done None) (one new_side) ≡ one (asked_side (record asking { out = reset_bytes }) (new_conn with_v) [] [])
+unfolding goes_through settled settle side_step connects connects_at clocked
+is_connected = refl
+
+query_sent : after (On 0 (RouterSends 8)) (Done None) (one (asked_side (record asking { out = reset_bytes }) (new_conn with_v) [] [])) ≡ one (asked_side asking (new_conn with_v) reset_bytes [])
 unfolding goes_through settled settle side_step router_sends router_pulled
-first_sends = refl
+query_sent = refl
+
+-- The cache reads the query, and sends its answer of 52 bytes.
+abbrev answer_bytes : List ℕ
+answer_bytes = response_bytes ++ v_bytes ++ end_bytes 5
+
+abbrev replied : List ℕ → Conn
+replied due = record { state = record { cache = with_v; version = Some V1; ended = false; due = due; notified = false; seen = [] }; held = [] }
+
+query_read : after (On 0 (CacheGets 8)) (Done None) (one (asked_side asking (new_conn with_v) reset_bytes [])) ≡ one (record (asked_side asking (replied answer_bytes) [] []) { read_at = Some with_v })
+unfolding goes_through settled settle side_step cache_gets conn_takes conn_byte judge as_read
+query_read = ap (λ vs. one (record (asked_side asking (replied (sent_all V1 (with_all_of 5 just_v vs))) [] []) { read_at = Some with_v })) (listing-set_of (v ∷ []) v_ascends)
+
+answer_sent : after (On 0 (CacheSends 52)) (Done None) (one (asked_side asking (replied answer_bytes) [] [])) ≡ one (asked_side asking (replied []) [] answer_bytes)
+unfolding goes_through settled settle side_step cache_sends conn_pulled
+answer_sent = refl
+
+abbrev later : List VrpSet → Instance
+later sets = record { session = 0x2222; session0 = 0x2222; start = 9; sets = sets }
+
+abbrev restarted_world : List VrpSet → Side → World
+restarted_world sets s = record { keep = 2; past = with_v ∷ []; present = later sets; sides = s ∷ [] }
+
+abbrev left_side : Side
+left_side = record (asked_side asking (replied []) [] answer_bytes) { conn = None }
+
+restarted : after (Restart 0x2222 0x2222 9) (Done None) (one (asked_side asking (replied []) [] answer_bytes)) ≡ restarted_world [] left_side
+unfolding goes_through settled settle
+restarted = refl
+
+-- Refusals: a session that is used, a router that is not there
+session_used : refusal (one new_side) (Restart 0x1234 0x1234 1) ≡ Some SessionUsed
+unfolding refusal
+session_used = refl
+
+no_router : refusal (one new_side) (On 1 Connect) ≡ Some NoSuchRouter
+unfolding refusal
+no_router = refl
+
+-- Each session is one of its version: that of version 0 was used, or the number was used in the other version only.
+abbrev apart : World
+apart = new_world 1 0x1234 0x4321 5 2
+
+session0_used : refusal apart (Restart 0x2222 0x4321 9) ≡ Some SessionUsed
+unfolding refusal
+session0_used = refl
+
+-- Memory can run out at a Serial Query, when its last byte is there, and at no PDU after it.
+abbrev query_side : Side
+query_side = asked_side asking (new_conn with_v) (0x01 ∷ 0x01 ∷ 0x12 ∷ 0x34 ∷ 0 ∷ 0 ∷ 0 ∷ 0x0c ∷ 0 ∷ 0 ∷ 0 ∷ 0x05 ∷ []) []
+
+wants_memory : wants_at (one query_side) (CacheGets 12) 12 0 (Some query_side) ≡ true
+unfolding conn_takes conn_byte judge as_read
+wants_memory = refl
+
+too_early : wants_at (one query_side) (CacheGets 11) 11 0 (Some query_side) ≡ false
+unfolding conn_takes conn_byte judge as_read
+too_early = refl
+
+no_such_unit : wants_at (one query_side) (CacheGets 12) 12 1 (Some query_side) ≡ false
+unfolding conn_takes conn_byte judge as_read
+no_such_unit = refl
+
+-- Then an Internal Error is due in the answer's place, and the connection has ended.
+abbrev internal_error : List ℕ
+internal_error = 0x01 ∷ 0x0a ∷ 0x00 ∷ 0x01 ∷ 0 ∷ 0 ∷ 0 ∷ 0x10 ∷ 0 ∷ 0 ∷ 0 ∷ 0 ∷ 0 ∷ 0 ∷ 0 ∷ 0 ∷ []
+
+memory_wanted : after (On 0 (CacheGets 12)) (Done (Some 0)) (one query_side)
+    ≡ one (record (asked_side asking (record { state = record { cache = with_v; version = Some V1; ended = true; due = internal_error; notified = false; seen = [] }; held = [] }) [] []) { read_at = Some with_v })
+unfolding goes_through settled settle side_step cache_gets conn_takes conn_byte judge as_read
+memory_wanted = refl
 
 -- a notify is queued, and none while one is due
 abbrev notified : Conn
@@ -86,24 +168,12 @@ asks_again : after (On 0 Ask) (Done None) (world (open_side idle (new_conn with_
 unfolding goes_through settled settle side_step asks
 asks_again = refl
 
-asks_once : after (On 0 Ask) (Done None) (world (open_side asked_again (new_conn with_v) [] [] [] ∷ [])) ≡ world (open_side asked_again (new_conn with_v) [] [] [] ∷ [])
-unfolding goes_through settled settle side_step asks
-asks_once = refl
-
 -- The clock goes on where there is no connection: what has expired is emptied.
 abbrev closed_side : Router → List Item → Side
 closed_side r items = record new_side { router = r; items = items }
 
 abbrev closed : Router
 closed = record new_router { table = just_v; version = Some version_5; due = Some 600 }
-
-ticks : after (On 0 (Tick 7200)) (Done None) (world (closed_side closed [] ∷ [])) ≡ world (closed_side (record closed { now = 7200 }) (At 7200 ∷ []) ∷ [])
-unfolding goes_through settled settle side_step ticks_at clocked
-ticks = refl
-
-expires : after (On 0 (Tick 7201)) (Done None) (world (closed_side closed [] ∷ [])) ≡ world (closed_side (record new_router { due = Some 600; now = 7201 }) (At 7201 ∷ []) ∷ [])
-unfolding goes_through settled settle side_step ticks_at clocked
-expires = refl
 
 -- An expiry while a Serial Query is outstanding ends the link. That is noted, and the router is told in the same event.
 expires_asked : after (On 0 (Tick 7201)) (Done None) (world (open_side asked_again (new_conn with_v) [] [] (Asks (AskSerial 0x1234 5) ∷ []) ∷ []))
@@ -144,26 +214,6 @@ cuts : after (On 0 (Cut 2)) (Done None) (world (open_side asking (new_conn with_
 unfolding goes_through settled settle side_step cut
 cuts = refl
 
-cuts_fewer : after (On 0 (Cut 9)) (Done None) (world (open_side asking (new_conn with_v) (7 ∷ []) (1 ∷ 2 ∷ 3 ∷ []) opened ∷ [])) ≡ world (cut_side (1 ∷ 2 ∷ 3 ∷ []) ∷ [])
-unfolding goes_through settled settle side_step cut
-cuts_fewer = refl
-
-cuts_again : (after (On 0 (Cut 1)) (Done None) (world (cut_side (1 ∷ 2 ∷ []) ∷ [])) ≡ world (cut_side (1 ∷ []) ∷ []))
-    × (after (On 0 (Cut 9)) (Done None) (world (cut_side (1 ∷ []) ∷ [])) ≡ world (cut_side (1 ∷ []) ∷ []))
-unfolding goes_through settled settle side_step cut
-cuts_again = (refl, refl)
-
-cuts_none : after (On 0 (Cut 9)) (Done None) (world (closed_side closed [] ∷ [])) ≡ world (closed_side closed [] ∷ [])
-unfolding goes_through settled settle side_step cut
-cuts_none = refl
-
--- What a router sends behind a cut nobody receives.
-sends_to_none : (after (On 0 (RouterSends 8)) (Done None) (world (record (cut_side (1 ∷ [])) { router = record asking { out = reset_bytes } } ∷ []))
-    ≡ world (record (cut_side (1 ∷ [])) { up = reset_bytes } ∷ []))
-    × (after (On 0 (CacheGets 8)) (Done None) (world (record (cut_side (1 ∷ [])) { up = reset_bytes } ∷ [])) ≡ world (record (cut_side (1 ∷ [])) { up = reset_bytes } ∷ []))
-unfolding goes_through settled settle side_step router_sends router_pulled cache_gets
-sends_to_none = (refl, refl)
-
 -- Nothing that the cache still sends is on the wire to a closed link.
 sends_to_closed : after (On 0 (CacheSends 99)) (Done None) (world (record (open_side closed notified (1 ∷ []) [] []) { home = None } ∷ []))
     ≡ world (record (open_side closed (record notified { state = record (notified.state) { due = [] } }) (1 ∷ []) [] []) { home = None } ∷ [])
@@ -180,15 +230,6 @@ restarts_router = refl
 speaks_0 : after (On 0 (Speak V0)) (Done None) (world (closed_side closed [] ∷ [])) ≡ world (closed_side (record closed { speaks = V0 }) [] ∷ [])
 unfolding goes_through settled settle side_step speaks
 speaks_0 = refl
-
-connects_in_0 : after (On 0 Connect) (Done None) (world (closed_side (record closed { speaks = V0 }) [] ∷ []))
-    ≡ world (open_side (record closed { speaks = V0; spoken = V0; link = Asked AskReset; out = sent V0 ResetQuery }) (new_conn with_v) [] [] (Asks AskReset ∷ Opened V0 ∷ At 0 ∷ []) ∷ [])
-unfolding goes_through settled settle side_step connects connects_at clocked
-connects_in_0 = refl
-
-speaks_later : after (On 0 (Speak V0)) (Done None) (world (open_side asking notified [] (7 ∷ []) opened ∷ [])) ≡ world (open_side (record asking { speaks = V0 }) notified [] (7 ∷ []) opened ∷ [])
-unfolding goes_through settled settle side_step speaks
-speaks_later = refl
 
 -- Refused because memory ran out: what came before has moved, the connection is cut with nothing to arrive, and the router is told.
 cut_by_want : after (On 0 (CacheGets 8)) (Memory 3 None) (world (record (open_side (record asking { out = 9 ∷ [] }) (new_conn with_v) reset_bytes (7 ∷ []) opened) { read_at = Some with_v } ∷ []))
@@ -250,10 +291,6 @@ later_world o up = record { keep = 2; past = []; present = now_v; sides = record
 abbrev told_now : Option Version → List ℕ → Bool → Conn
 told_now version due is_notice = record { state = record { cache = now_v; version = version; ended = false; due = due; notified = is_notice; seen = [] }; held = [] }
 
-notifies_of_now : after (On 0 NotifyRouter) (Done None) (later_world (new_conn at_first) []) ≡ later_world (told_now None (sent V1 (SerialNotify 0x1234 6)) true) []
-unfolding goes_through settled settle side_step conn_notified
-notifies_of_now = refl
-
 abbrev read_now : Conn → World
 read_now o = record { keep = 2; past = []; present = now_v; sides = record (open_side asking o [] [] opened) { home = Some at_first; read_at = Some now_v } ∷ [] }
 
@@ -305,30 +342,6 @@ the_same_in_version_0 h = h refl
 -- A table of the other version may stay where nothing is published.
 held_of_the_other : (table : VrpSet) → HoldsNewest V0 0x4321 [] (Some version_5) table
 held_of_the_other table = (refl, λ e. absurd (let h : ◌≡◌ {A = Option Committed} (Some version_5) None = e in cc))
-
-never_too_many : (w : World) (set : VrpSet) → is_current w.present.sets set ≡ true → refusal w (Publish set) ≡ None
-unfolding refusal
-never_too_many w set current = rw current refl
-
--- A router that spoke version 0 restarts, and speaks version 1.
-restarts_in_1 : after (On 0 RouterRestart) (Done None) (world (closed_side (record closed { speaks = V0; spoken = V0; version = Some (record version_5 { version = V0 }) }) [] ∷ [])) ≡ world (closed_side new_router (Restarts ∷ []) ∷ [])
-unfolding goes_through settled settle side_step router_restarts
-restarts_in_1 = refl
-
--- A connection that could not be made: the old one is cut with nothing to arrive, and the router is told.
-connect_refused : after (On 0 Connect) (Memory 0 None) (world (open_side asking (new_conn with_v) (7 ∷ []) (1 ∷ 2 ∷ []) opened ∷ [])) ≡ world (closed_side (record new_router { due = Some 600 }) (Shut ∷ At 0 ∷ Refused ∷ opened) ∷ [])
-unfolding is_refused settled settle side_refused cut closed_at clocked
-connect_refused = refl
-
--- What is refused at one router leaves the others.
-refused_at_second : after (On 1 Connect) (Memory 0 None) (world (open_side asking (new_conn with_v) [] (7 ∷ []) opened ∷ new_side ∷ [])) ≡ world (open_side asking (new_conn with_v) [] (7 ∷ []) opened ∷ record new_side { items = Refused ∷ [] } ∷ [])
-unfolding is_refused settled settle side_refused cut
-refused_at_second = refl
-
--- Publishing changes nothing that a connection shows.
-publishes_to_open : after (Publish just_v) (Done None) (record (world (open_side asking (new_conn (cache 5 [])) (7 ∷ []) (1 ∷ 2 ∷ []) opened ∷ [])) { present = cache 5 [] }) ≡ world (open_side asking (new_conn (cache 5 [])) (7 ∷ []) (1 ∷ 2 ∷ []) opened ∷ [])
-unfolding goes_through settled settle
-publishes_to_open = refl
 
 -- No more is moved than the event says.
 no_more_than_said : (moved (world (open_side asking (new_conn with_v) [] (1 ∷ 3 ∷ 5 ∷ []) opened ∷ [])) (On 0 (RouterGets 1)) None ≡ 1)

@@ -1,4 +1,5 @@
 -- Every event keeps the invariant at each router.
+use Rattle.rtr_world.proofs.EventCalls.{closed_by, closed_link, part_by, lesser}
 use Rattle.std.specs.Prelude.{◌≡◌, ◌⊎◌, ℕ, Bool, true, false, List, [], ◌∷◌, ◌++◌, take, drop, Option, Some, None, if◌then◌else◌, refl}
 use Rattle.std.proofs.Common.{sym, ap, ◌∙◌, subst, arith, append_assoc, inl}
 use Rattle.std.proofs.lemmas.List.{append-nil, take-append-drop, take_min}
@@ -38,7 +39,7 @@ sent_first most held up out units s = subst (λ x. Stream held x units) (ap (λ 
 
 open_sent : (i : Instance) (pv : Version) (h : Seen) (most : ℕ) (out up : List ℕ) (wanted coming : List Unit) (agreed : Bool) (lost : List ℕ) (conn : Option Conn) → IfOpen conn (Open i pv h out up wanted coming agreed lost) → IfOpen conn (Open i pv h (drop most out) (up ++ take most out) wanted coming agreed lost)
 open_sent i pv h most out up wanted coming agreed lost None op = tt
-open_sent i pv h most out up wanted coming agreed lost (Some o) op = record { upward = sent_first most o.held up out (in_version pv wanted) op.upward; spoken = op.spoken; unheard = op.unheard; whole = op.whole; session = op.session; made = op.made; later = op.later }
+open_sent i pv h most out up wanted coming agreed lost (Some o) op = record { upward = sent_first most o.held up out (in_version pv wanted) op.upward; spoken = op.spoken; unheard = op.unheard; linked = op.linked }
 
 -- what was seen, where the cache read a PDU or not
 seen_read : (i : Instance) (keep : ℕ) (home : Option Instance) (read : Bool) (seen : Option Seen) → IsSeen keep home seen → IsSeen keep home (seen_after i read seen)
@@ -70,19 +71,13 @@ module _ (w : World) (p : Present (instances w) w.present) where
         l.0,
         l.1,
         record {
-          version = l.2.version;
           early = l.2.early;
           coming = l.2.coming;
           lost = l.2.lost;
           wanted = l.2.wanted;
+          said = l.2.said;
           downward = l.2.downward;
           open_at = open_sent w.present s.router.spoken l.0 most s.router.out s.up l.2.wanted l.2.coming s.router.agreed l.2.lost s.conn l.2.open_at;
-          are_early = l.2.are_early;
-          early_notifies = l.2.early_notifies;
-          notifies = l.2.notifies;
-          own = l.2.own;
-          mine = l.2.mine;
-          shape = l.2.shape;
         },
       ));
     };
@@ -113,19 +108,13 @@ module _ (w : World) (p : Present (instances w) w.present) where
             l.0,
             l.1,
             record {
-              version = f.version;
               early = f.early;
               coming = f.coming;
               lost = f.lost;
               wanted = f.wanted;
+              said = f.said;
               downward = subst (λ x. Stream s.router.held x (behind_early s.router.spoken f.early f.coming)) bytes f.downward;
-              open_at = record { upward = op.upward; spoken = op.spoken; unheard = op.unheard; whole = op.whole; session = op.session; made = op.made; later = op.later };
-              are_early = f.are_early;
-              early_notifies = f.early_notifies;
-              notifies = f.notifies;
-              own = f.own;
-              mine = f.mine;
-              shape = f.shape;
+              open_at = record { upward = op.upward; spoken = op.spoken; unheard = op.unheard; linked = op.linked };
             },
           ));
     };
@@ -196,21 +185,7 @@ module _ (w : World) (p : Present (instances w) w.present) where
           ap (λ x. x ++ (conn_due s.conn ++ f.lost)) (sym (take-append-drop left s.down)) ∙ append_assoc (take left s.down) (drop left s.down) (conn_due s.conn ++ f.lost) in (
             l.0,
             l.1,
-            record {
-              version = f.version;
-              early = f.early;
-              coming = f.coming;
-              lost = drop left s.down ++ (conn_due s.conn ++ f.lost);
-              wanted = f.wanted;
-              downward = subst (λ x. Stream s.router.held x (behind_early s.router.spoken f.early f.coming)) bytes f.downward;
-              open_at = tt;
-              are_early = f.are_early;
-              early_notifies = f.early_notifies;
-              notifies = f.notifies;
-              own = f.own;
-              mine = f.mine;
-              shape = f.shape;
-            },
+            record { early = f.early; coming = f.coming; lost = drop left s.down ++ (conn_due s.conn ++ f.lost); wanted = f.wanted; said = f.said; downward = subst (λ x. Stream s.router.held x (behind_early s.router.spoken f.early f.coming)) bytes f.downward; open_at = tt },
           ));
     };
   }
@@ -231,11 +206,11 @@ module _ (w : World) (p : Present (instances w) w.present) where
           seen_at w.keep c.speaks w.present,
           refl,
           record {
-            version = refl;
             early = [];
             coming = [];
             lost = [];
             wanted = query (choose (of_version c.speaks c.version) c.mark) ∷ [];
+            said = record { version = refl; are_early = (refl, λ e. refl); early_notifies = tt; notifies = tt; own = fresh_session (session_in c.speaks w.present) c.session shut.session; mine = λ e. absurd (let h : false ≡ true = sym shut.agreed ∙ e in cc); shape = (fits, inl (refl, refl)) };
             downward = record { whole = append-nil c.held ∙ shut.held; partial = inl shut.held; fit = tt };
             open_at = record {
               upward = record {
@@ -245,17 +220,8 @@ module _ (w : World) (p : Present (instances w) w.present) where
               };
               spoken = tt;
               unheard = (refl, shut.agreed);
-              whole = refl;
-              session = refl;
-              made = omega arith;
-              later = record { session = refl; session0 = refl; start = refl; more = []; sets = refl };
+              linked = record { whole = refl; session = refl; made = omega arith; later = record { session = refl; session0 = refl; start = refl; more = []; sets = refl } };
             };
-            are_early = (refl, λ e. refl);
-            early_notifies = tt;
-            notifies = tt;
-            own = fresh_session (session_in c.speaks w.present) c.session shut.session;
-            mine = λ e. absurd (let h : false ≡ true = sym shut.agreed ∙ e in cc);
-            shape = (fits, inl (refl, refl));
           },
         );
       }
@@ -276,35 +242,7 @@ module _ (w : World) (p : Present (instances w) w.present) where
   -- The version of the next connection changes nothing of this one.
   speaks_good : (version : Version) (s : Side) → GoodS s → GoodS (speaks version s)
   unfolding speaks
-  speaks_good version s g = record {
-    seen = g.seen;
-    is_seen = g.is_seen;
-    is_read = g.is_read;
-    order = g.order;
-    router = record {
-      table = g.router.table;
-      unmarked = g.router.unmarked;
-      link = live_map s.router.link (instances w) (instances w) w.present w.present g.seen g.seen s.router (record s.router { speaks = version }) s.conn s.conn s.up s.up s.down s.down (λ e. e) (λ e. e) refl refl g.router.link (λ l. (
-        l.0,
-        l.1,
-        record {
-          version = l.2.version;
-          early = l.2.early;
-          coming = l.2.coming;
-          lost = l.2.lost;
-          wanted = l.2.wanted;
-          downward = l.2.downward;
-          open_at = l.2.open_at;
-          are_early = l.2.are_early;
-          early_notifies = l.2.early_notifies;
-          notifies = l.2.notifies;
-          own = l.2.own;
-          mine = l.2.mine;
-          shape = l.2.shape;
-        },
-      ));
-    };
-  }
+  speaks_good version s g = record { seen = g.seen; is_seen = g.is_seen; is_read = g.is_read; order = g.order; router = record { table = g.router.table; unmarked = g.router.unmarked; link = g.router.link } }
 
   asks_so : (s : Side) (g : GoodS s) → GoodRouter (instances w) w.present g.seen s.conn s.up s.down (asks s.router).router
   unfolding asks
@@ -351,17 +289,7 @@ module _ (w : World) (p : Present (instances w) w.present) where
       record { seen = g.seen; is_seen = g.is_seen; is_read = g.is_read; order = no_places s g (places_of (instances w) ((asks_if b k).items ++ At now ∷ []) s.items) (ticks_places now b k s.items); router = ticks_so now s g }
 
   part_good : (event : SideEvent) (bytes : ℕ) (wanting : Option ℕ) (s : Side) → GoodS s → SideTells s → GoodS (side_part w event bytes wanting s)
-  part_good (RouterSends most) bytes wanting s g t = router_sends_good bytes s g
-  part_good (CacheGets most) bytes wanting s g t = cache_gets_good bytes wanting s g
-  part_good (CacheSends most) bytes wanting s g t = cache_sends_good bytes s g
-  part_good (RouterGets most) bytes wanting s g t = router_gets_good bytes wanting s g t
-  part_good RouterRestart bytes wanting s g t = g
-  part_good (Speak version) bytes wanting s g t = g
-  part_good Connect bytes wanting s g t = g
-  part_good (Cut left) bytes wanting s g t = g
-  part_good NotifyRouter bytes wanting s g t = g
-  part_good Ask bytes wanting s g t = g
-  part_good (Tick now) bytes wanting s g t = g
+  part_good event bytes wanting s g t = part_by GoodS w event bytes wanting s g (λ is. step_good (lesser event bytes) wanting s g t)
 
   pub refused_good : (event : SideEvent) (bytes : ℕ) (wanting : Option ℕ) (s : Side) → GoodS s → SideTells s → GoodS (side_refused w event bytes wanting s)
   unfolding side_refused
@@ -369,53 +297,29 @@ module _ (w : World) (p : Present (instances w) w.present) where
 
   -- After each event
 
-  closed_link : (r : Router) (home : Option Seen) (conn : Option Conn) (up down : List ℕ) → r.link ≡ Closed → r.held ≡ [] → r.agreed ≡ false → r.session ≡ None → r.out ≡ [] → GoodLink (instances w) w.present home r.link r conn up down
-  closed_link r home conn up down is held agreed session out = subst (λ l. GoodLink (instances w) w.present home l r conn up down) (sym is) (held, agreed, session, out)
+  shut_link : (r : Router) (home : Option Seen) (conn : Option Conn) (up down : List ℕ) → r.link ≡ Closed → r.held ≡ [] → r.agreed ≡ false → r.session ≡ None → r.out ≡ [] → GoodLink (instances w) w.present home r.link r conn up down
+  shut_link r home conn up down is held agreed session out = subst (λ l. GoodLink (instances w) w.present home l r conn up down) (sym is) (held, agreed, session, out)
 
   -- a closed router is so, whatever its connection
-  told_good : (s : Side) → GoodS s → (conn : Option Conn) (up down : List ℕ) → GoodRouter (instances w) w.present None conn up down (tell_closed (instances w) s).router
-  unfolding closed_at
-  told_good s g conn up down = by_link s.router.link refl g.router.link
-    where
-      r : Router
-      r = close (clocked s.router.now s.router)
+  shut_of : (s : Side) → s.router.link ≡ Closed → (g : GoodS s) (home : Option Seen) (conn : Option Conn) (up down : List ℕ) → GoodRouter (instances w) w.present home conn up down s.router
+  shut_of s is g home conn up down =
+      let h = subst (λ l. GoodLink (instances w) w.present g.seen l s.router s.conn s.up s.down) is g.router.link in
+      record { table = g.router.table; unmarked = g.router.unmarked; link = shut_link s.router home conn up down is h.0 h.1 h.2 h.3 }
 
-      so : GoodRouter (instances w) w.present None conn up down r
+  told_good : (s : Side) → GoodS s → (conn : Option Conn) (up down : List ℕ) → GoodS (record (tell_closed (instances w) s) { conn = conn; up = up; down = down })
+  unfolding closed_at
+  told_good s g conn up down =
+      closed_by (λ t. GoodS (record t { conn = conn; up = up; down = down })) (instances w) s
+      (λ e. record { seen = None; is_seen = tt; is_read = tt; order = none; router = shut_of s (closed_link s.router.link e) g None conn up down })
+      (λ e. record { seen = None; is_seen = tt; is_read = tt; order = none; router = so })
+    where
+      none : Ordered w.past w.present s.places None
+      none = ordered_none w.past w.present s.places g.seen g.order
+
+      so : GoodRouter (instances w) w.present None conn up down (close (clocked s.router.now s.router))
       so =
           let shut = close_shut (instances w) w.present g.seen s.conn s.up s.down (clocked s.router.now s.router) (clocked_good (instances w) w.present g.seen s.conn s.up s.down s.router.now s.router g.router) in
-          record { table = shut.table; unmarked = shut.unmarked; link = closed_link (close (clocked s.router.now s.router)) None conn up down shut.closed shut.held shut.agreed shut.session shut.out }
-
-      by_bool : (b : Bool) → is_closed s.router.link ≡ b → GoodRouter (instances w) w.present None conn up down (if b then s.router else r) → GoodRouter (instances w) w.present None conn up down (tell_closed (instances w) s).router
-      by_bool true e h = subst (λ b. GoodRouter (instances w) w.present None conn up down (if b then record s { home = None; read_at = None } else record (noted (instances w) (closed_at s.router.now s.router) s) { home = None; read_at = None }).router) (sym e) h
-      by_bool false e h = subst (λ b. GoodRouter (instances w) w.present None conn up down (if b then record s { home = None; read_at = None } else record (noted (instances w) (closed_at s.router.now s.router) s) { home = None; read_at = None }).router) (sym e) h
-
-      by_link : (l : Link) → s.router.link ≡ l → GoodLink (instances w) w.present g.seen l s.router s.conn s.up s.down → GoodRouter (instances w) w.present None conn up down (tell_closed (instances w) s).router
-      by_link Closed is h = by_bool true (ap is_closed is) (record { table = g.router.table; unmarked = g.router.unmarked; link = closed_link s.router None conn up down is h.0 h.1 h.2 h.3 })
-      by_link (Ended end) is h = by_bool false (ap is_closed is) so
-      by_link Idle is h = by_bool false (ap is_closed is) so
-      by_link (Asked q) is h = by_bool false (ap is_closed is) so
-      by_link (Answering a) is h = by_bool false (ap is_closed is) so
-
-  home_told : (s : Side) → (tell_closed (instances w) s).home ≡ None
-  home_told s = by_link (is_closed s.router.link)
-    where
-      by_link : (b : Bool) → (if b then record s { home = None; read_at = None } else record (noted (instances w) (closed_at s.router.now s.router) s) { home = None; read_at = None }).home ≡ None
-      by_link true = refl
-      by_link false = refl
-
-  places_told : (s : Side) → (tell_closed (instances w) s).places ≡ s.places
-  unfolding closed_at
-  places_told s = by_link (is_closed s.router.link)
-    where
-      by_link : (b : Bool) → (if b then record s { home = None; read_at = None } else record (noted (instances w) (closed_at s.router.now s.router) s) { home = None; read_at = None }).places ≡ s.places
-      by_link true = refl
-      by_link false = refl
-
-  seen_told : (s : Side) → IsSeen w.keep (tell_closed (instances w) s).home None
-  seen_told s = subst (λ h. IsSeen w.keep h None) (sym (home_told s)) tt
-
-  order_told : (s : Side) (g : GoodS s) → Ordered w.past w.present (tell_closed (instances w) s).places None
-  order_told s g = subst (λ x. Ordered w.past w.present x None) (sym (places_told s)) (ordered_none w.past w.present s.places g.seen g.order)
+          record { table = shut.table; unmarked = shut.unmarked; link = shut_link (close (clocked s.router.now s.router)) None conn up down shut.closed shut.held shut.agreed shut.session shut.out }
 
   ended_good : (s : Side) (o : Conn) (ended : Bool) (due : List ℕ) → s.conn ≡ Some o → o.state.due ≡ due → GoodS s → GoodS (close_ended s ended due)
   ended_good s o true [] e de g = record {
@@ -431,56 +335,28 @@ module _ (w : World) (p : Present (instances w) w.present) where
           let bytes : s.down ++ (conn_due s.conn ++ f.lost) ≡ s.down ++ ([] ++ f.lost) = ap (λ x. s.down ++ (conn_due x ++ f.lost)) e ∙ ap (λ x. s.down ++ (x ++ f.lost)) de in (
             l.0,
             l.1,
-            record {
-              version = f.version;
-              early = f.early;
-              coming = f.coming;
-              lost = f.lost;
-              wanted = f.wanted;
-              downward = subst (λ x. Stream s.router.held x (behind_early s.router.spoken f.early f.coming)) bytes f.downward;
-              open_at = tt;
-              are_early = f.are_early;
-              early_notifies = f.early_notifies;
-              notifies = f.notifies;
-              own = f.own;
-              mine = f.mine;
-              shape = f.shape;
-            },
+            record { early = f.early; coming = f.coming; lost = f.lost; wanted = f.wanted; said = f.said; downward = subst (λ x. Stream s.router.held x (behind_early s.router.spoken f.early f.coming)) bytes f.downward; open_at = tt },
           ));
     };
   }
-  ended_good s o true (b ∷ due) e de g = g
-  ended_good s o false due e de g = g
+  ended_good s o _ _ e de g = g
 
   conn_good : (s : Side) (o : Option Conn) → s.conn ≡ o → GoodS s → GoodS (settle_conn s o)
   conn_good s None e g = g
   conn_good s (Some o) e g = ended_good s o o.state.ended o.state.due e refl g
 
   link_good : (s : Side) (l : Link) (out : List ℕ) → GoodS s → GoodS (settle_link (instances w) s l out)
-  link_good s (Ended end) [] g = record { seen = None; is_seen = seen_told s; is_read = tt; order = order_told s g; router = told_good s g (tell_closed (instances w) s).conn (tell_closed (instances w) s).up (tell_closed (instances w) s).down }
-  link_good s (Ended end) (b ∷ out) g = g
-  link_good s Closed out g = g
-  link_good s Idle out g = g
-  link_good s (Asked q) out g = g
-  link_good s (Answering a) out g = g
-
-  shut_of : (s : Side) → s.router.link ≡ Closed → (g : GoodS s) (conn : Option Conn) (up down : List ℕ) → GoodRouter (instances w) w.present g.seen conn up down s.router
-  shut_of s is g conn up down =
-      let h = subst (λ l. GoodLink (instances w) w.present g.seen l s.router s.conn s.up s.down) is g.router.link in
-      record { table = g.router.table; unmarked = g.router.unmarked; link = closed_link s.router g.seen conn up down is h.0 h.1 h.2 h.3 }
+  link_good s (Ended end) [] g = let t : Side = tell_closed (instances w) s in told_good s g t.conn t.up t.down
+  link_good s _ _ g = g
 
   rest_good : (s : Side) (l : Link) (up : List ℕ) → s.router.link ≡ l → GoodS s → GoodS (settle_rest s l up)
-  rest_good s Closed [] is g = record { seen = g.seen; is_seen = g.is_seen; is_read = g.is_read; order = g.order; router = shut_of s is g None s.up [] }
-  rest_good s Closed (b ∷ up) is g = record { seen = g.seen; is_seen = g.is_seen; is_read = g.is_read; order = g.order; router = shut_of s is g s.conn s.up [] }
-  rest_good s (Ended end) up is g = g
-  rest_good s Idle up is g = g
-  rest_good s (Asked q) up is g = g
-  rest_good s (Answering a) up is g = g
+  rest_good s Closed [] is g = record { seen = g.seen; is_seen = g.is_seen; is_read = g.is_read; order = g.order; router = shut_of s is g g.seen None s.up [] }
+  rest_good s Closed (b ∷ up) is g = record { seen = g.seen; is_seen = g.is_seen; is_read = g.is_read; order = g.order; router = shut_of s is g g.seen s.conn s.up [] }
+  rest_good s _ up is g = g
 
   wire_good : (s : Side) (o : Option Conn) (down : List ℕ) → GoodS s → GoodS (settle_wire (instances w) s o down)
-  wire_good s None [] g = record { seen = None; is_seen = seen_told s; is_read = tt; order = order_told s g; router = told_good s g (tell_closed (instances w) s).conn [] (tell_closed (instances w) s).down }
-  wire_good s None (b ∷ down) g = g
-  wire_good s (Some o) down g = g
+  wire_good s None [] g = let t : Side = tell_closed (instances w) s in told_good s g t.conn [] t.down
+  wire_good s _ _ g = g
 
   pub settle_good : (s : Side) → GoodS s → GoodS (settle (instances w) s)
   unfolding settle

@@ -1,71 +1,108 @@
--- A fact of a side that each event keeps holds after every list of events.
-use Rattle.std.specs.Prelude.{ℕ, List, [], ◌∷◌, Option}
-use Rattle.std.proofs.Common.{sym, subst}
+-- What each call, each wire and each PDU keeps holds after every list of events.
+use Rattle.rtr_world.specs.Claims.{Always}
+use Rattle.std.specs.Prelude.{List, [], ◌∷◌, map, None, ◌≡◌, ℕ, Bool, true, false, not, ◌&&◌, ◌++◌, take, drop, Option, Some, if◌then◌else◌}
+use Rattle.std.proofs.Common.{sym, subst, ap, ◌∙◌, append_assoc}
 use Rattle.std.specs.List.{AllByRecursion}
+use Rattle.rtr_world.specs.History.{Outcome, Done, Memory, after, Entry, Made, Leads, conn_due}
+use Rattle.rtr_world.specs.World.{Side, World, Event, Publish, Restart, On, cache_gone, goes_through, settled, is_refused, new_side, new_world, instances}
+use Rattle.rtr_world.proofs.Invariant.{Good, Flow, GoodRouter, Shape}
+use Rattle.rtr_world.proofs.SideLaws.{all_new, all_map, all_both, all_weaker}
+use Rattle.rtr_world.proofs.KeptTables.{SideTells, AllTell}
+use Rattle.rtr_world.proofs.WorldSteps.{GoodWorld, Known, known_leads, known_sides}
+use Rattle.rtr_world.proofs.EventCalls.{if_gets, refusal_keeps, KeptByCalls, each_settles, done_keeps}
+use Rattle.std.proofs.lemmas.Bool.{and_parts}
+use Rattle.std.proofs.lemmas.List.{take-append-drop}
 use Rattle.vrps.specs.Instance.{Instance}
-use Rattle.rtr_world.specs.History.{Outcome, Done, SessionUsed, TooManyVersions, NoSuchRouter, Memory, after, Entry, LeadsFrom, Made, Leads}
-use Rattle.rtr_world.specs.World.{Side, World, instances, SideEvent, Event, Publish, Restart, On, cache_gone, on_side, goes_through, settled, is_refused, side_step, side_refused, settle, new_side, new_world}
-use Rattle.rtr_world.proofs.Invariant.{Good}
-use Rattle.rtr_world.proofs.SideLaws.{all_new, all_on_side, all_map, all_both}
-use Rattle.rtr_world.proofs.KeptTables.{SideTells, AllTell, after_tells, history_tells, new_side_tells}
-use Rattle.rtr_world.proofs.WorldSteps.{GoodWorld, after_good, history_good, new_good}
-
--- what is known of a side at an event
-abbrev pub Known : World → Side → Type 0
-Known w s = Good w.keep w.past w.present s × SideTells s
-
-pub history_known : (made : Made) (history : List Entry) (w : World) → Leads made history w → AllByRecursion (Known w) w.sides
-history_known made history w leads =
-    let told = history_tells (new_world made.routers made.session made.session0 made.start made.keep) history w leads.1 (all_new SideTells new_side_tells made.routers) in
-    let good = history_good (new_world made.routers made.session made.session0 made.start made.keep) history w leads.1 (new_good made leads.0) (all_new SideTells new_side_tells made.routers) in
-    all_both (Good w.keep w.past w.present) SideTells w.sides good.sides told
+use Rattle.rtr_pdu.specs.Judging.{judge}
+use Rattle.rtr_pdu.specs.declared.unit.Unit.{Unit}
+use Rattle.rtr_pdu.specs.declared.unit.Unit.TheVariants.{SerialNotify}
+use Rattle.rtr_ends.specs.Cache.{Conn, is_none, finds_memory}
+use Rattle.rtr_ends.specs.LinkRules.{Router, on_unit, may_lack}
+use Rattle.rtr_ends.specs.Router.{Noted, Receiving, asked_by, silent, reads, lacks, with_bytes, router_stops, router_byte, clocked, receives}
+use Rattle.rtr_ends.specs.RouterLink.{Ended, is_reading}
+use Rattle.rtr_ends.specs.Transcript.{Item, At, Reads, Lacks, of_version}
+use Rattle.rtr_ends.proofs.FeedingLaws.{feed_keeps}
+use Rattle.rtr_ends.proofs.KeptUnits.{Tells}
+use Rattle.rtr_ends.proofs.KeptLaws.{byte_tells, clocked_tells}
+use Rattle.rtr_world.specs.OneAnswer.{NotifiesOf, without_notifies}
+use Rattle.rtr_world.proofs.LinkedSides.{Seen}
+use Rattle.rtr_world.proofs.SideSteps.{live_of, byte_good, clocked_good}
+use Rattle.rtr_world.proofs.UnitCases.{Brings, byte_by}
+use Rattle.rtr_world.proofs.UnitStreams.{byte_case}
+use Rattle.prefixes.proofs.Basics.{true_of_not}
+use Rattle.rtr_ends.specs.declared.link.End.TheVariants as ends
 
 -- what each event keeps
 pub record Kept (P : Side → Type 0) : Type 0 where
   pub new : P new_side
-  pub gone : (s : Side) → P s → P (cache_gone s)
-  pub step : (w : World) (event : SideEvent) (wanting : Option ℕ) (s : Side) → Known w s → P s → P (side_step w event wanting s)
-  pub settles : (all : List Instance) (s : Side) → P s → P (settle all s)
-  pub refused : (w : World) (event : SideEvent) (bytes : ℕ) (wanting : Option ℕ) (s : Side) → Known w s → P s → P (settle (instances w) (side_refused w event bytes wanting s))
+  pub keeps : (w : World) → KeptByCalls w (λ s wanting. Known w s) P
 
 module _ (P : Side → Type 0) (k : Kept P) where
   abbrev AllP : World → Type 0
   AllP w = AllByRecursion P w.sides
 
-  known : (w : World) → GoodWorld w → AllTell w → AllP w → AllByRecursion (λ s. Known w s × P s) w.sides
-  known w g t h = all_both (Known w) P w.sides (all_both (Good w.keep w.past w.present) SideTells w.sides g.sides t) h
+  abbrev KnownP : World → Side → Type 0
+  KnownP w s = Known w s × P s
 
-  through : (event : Event) (wanting : Option ℕ) (w : World) → GoodWorld w → AllTell w → AllP w → AllP (goes_through event wanting w)
-  unfolding goes_through
-  through (Publish set) wanting w g t h = h
-  through (Restart session session0 start) wanting w g t h = all_map P P cache_gone w.sides k.gone h
-  through (On r event) wanting w g t h = all_on_side (λ s. Known w s × P s) P r (side_step w event wanting) w.sides (λ s x. x.1) (λ s x. k.step w event wanting s x.0 x.1) (known w g t h)
-
-  settle_all : (w : World) → AllP w → AllP (settled w)
-  unfolding settled
-  settle_all w h = all_map P P (settle (instances w)) w.sides (k.settles (instances w)) h
-
-  refused_all : (event : Event) (bytes : ℕ) (wanting : Option ℕ) (w : World) → GoodWorld w → AllTell w → AllP w → AllP (is_refused event bytes wanting w)
-  unfolding is_refused settled
-  refused_all (Publish set) bytes wanting w g t h = h
-  refused_all (Restart session session0 start) bytes wanting w g t h = h
-  refused_all (On r event) bytes wanting w g t h =
-      all_map (λ s. P (settle (instances w) s)) P (settle (instances w)) (on_side r (side_refused w event bytes wanting) w.sides) (λ s x. x)
-      (all_on_side (λ s. Known w s × P s) (λ s. P (settle (instances w) s)) r (side_refused w event bytes wanting) w.sides (λ s x. k.settles (instances w) s x.1) (λ s x. k.refused w event bytes wanting s x.0 x.1) (known w g t h))
+  known : (w : World) → GoodWorld w → AllTell w → AllP w → AllByRecursion (KnownP w) w.sides
+  known w g t h = all_both (Known w) P w.sides (known_sides w g t) h
 
   after_keeps : (event : Event) (outcome : Outcome) (w : World) → GoodWorld w → AllTell w → AllP w → AllP (after event outcome w)
-  after_keeps event (Done wanting) w g t h = settle_all (goes_through event wanting w) (through event wanting w g t h)
-  after_keeps event (Memory bytes wanting) w g t h = refused_all event bytes wanting w g t h
-  after_keeps event SessionUsed w g t h = h
-  after_keeps event TooManyVersions w g t h = h
-  after_keeps event NoSuchRouter w g t h = h
-
-  from_old : (old : World) (history : List Entry) (w : World) → LeadsFrom old history w → GoodWorld old → AllTell old → AllP old → AllP w
-  from_old old [] w leads g t h = subst AllP (sym leads) h
-  from_old old (entry ∷ history) w leads g t h =
-      from_old leads.0 history w leads.2 (subst GoodWorld (sym leads.1.2) (after_good entry.event entry.outcome old leads.1.0 leads.1.1 g t))
-      (subst AllTell (sym leads.1.2) (after_tells entry.event entry.outcome old t)) (subst AllP (sym leads.1.2) (after_keeps entry.event entry.outcome old g t h))
+  unfolding goes_through settled is_refused
+  after_keeps (Publish set) (Done wanting) w g t h = let n : World = goes_through (Publish set) wanting w in each_settles n (λ s wanting. Known n s) P (k.keeps n) w.sides h
+  after_keeps (Restart session session0 start) (Done wanting) w g t h =
+      let n : World = goes_through (Restart session session0 start) wanting w in
+      each_settles n (λ s wanting. Known n s) P (k.keeps n) (map cache_gone w.sides) (all_map P P cache_gone w.sides (λ s x. (k.keeps w).wires s x None [] s.down s.home s.read_at) h)
+  after_keeps (On r event) (Done wanting) w g t h =
+      done_keeps w (λ s wanting. Known w s) P (k.keeps w) (KnownP w) (λ s x. x.1) r event wanting (λ s x. if_gets event (Known w s) x.0) (known w g t h)
+  after_keeps (On r event) (Memory bytes wanting) w g t h =
+      refusal_keeps w (λ s wanting. Known w s) P (k.keeps w) (KnownP w) (λ s x. x.1) r event wanting (λ s x. if_gets event (Known w s) x.0) (known w g t h) bytes
+  after_keeps _ _ w g t h = h
 
   pub history_keeps : (made : Made) (history : List Entry) (w : World) → Leads made history w → AllByRecursion P w.sides
-  history_keeps made history w leads =
-      from_old (new_world made.routers made.session made.session0 made.start made.keep) history w leads.1 (new_good made leads.0) (all_new SideTells new_side_tells made.routers) (all_new P k.new made.routers)
+  history_keeps made history w leads = (known_leads AllP (λ event outcome x fits may g t h. after_keeps event outcome x g t h) made history w leads (all_new P k.new made.routers)).2
+
+  pub always_kept : (Q : World → Side → Type 0) → ((w : World) (s : Side) → P s → Q w s) → Always Q
+  always_kept Q each made history w leads = all_weaker P (Q w) w.sides (each w) (history_keeps made history w leads)
+
+-- What a PDU, or a part of one, that comes to a router on its wire keeps, a piece keeps.
+module _ (w : World) (s : Side) (known : Known w s) (Q : Router → List Item → Type 0)
+    (part : (r : Router) (held : List ℕ) (items : List Item) → Q r items → Q (record r { held = held }) items)
+    (lack : (r : Router) (u : Unit) (items : List Item) → Q (record r { link = Ended ends.Memory }) (Lacks u ∷ items))
+    (read : (h : Seen) (r : Router) (u : Unit) (items : List Item) → known.0.seen ≡ Some h → h.version ≡ r.spoken → Tells r items → Q r items → Brings (instances w) h r r.link u (on_unit r.link u r)
+      → Q (on_unit r.link u r) (asked_by (on_unit r.link u r).link (on_unit r.link u r).out ++ Reads u ∷ items)) where
+  record Goes (down : List ℕ) (m : Receiving) : Type 0 where
+    good : GoodRouter (instances w) w.present known.0.seen s.conn s.up down m.router
+    tells : Tells m.router (m.items ++ s.items)
+    holds : Q m.router (m.items ++ s.items)
+
+  byte_holds : (b : ℕ) (down : List ℕ) (m : Receiving) → router_stops m.router ≡ false → Goes (b ∷ down) m → Q (router_byte m b).router ((router_byte m b).items ++ s.items)
+  unfolding router_byte
+  byte_holds b down m on g =
+      let parts = and_parts (is_reading m.router.link) (is_none m.router.out) (true_of_not (is_reading m.router.link && is_none m.router.out) on) in
+      let l = live_of m.router.link (instances w) w.present known.0.seen m.router s.conn s.up (b ∷ down) g.good.link parts.0 in
+      let k : Router = record m.router { held = [] } in
+      let told : Tells k (m.items ++ s.items) = record { kept_is = g.tells.kept_is; due_is = g.tells.due_is; now_is = g.tells.now_is; spoken_is = g.tells.spoken_is; link = g.tells.link } in
+      let asked : Unit → List Item = λ u. asked_by (on_unit k.link u k).link (on_unit k.link u k).out in
+      byte_by (instances w) w.present known.0.seen s.conn s.up (λ n. Q n.router ((n.items ++ m.items) ++ s.items)) down m.router b (finds_memory m.wanting) l.0 l.2 parts.0
+      (byte_case m.router.spoken m.router.agreed m.router.held b (down ++ (conn_due s.conn ++ l.2.lost)) l.2.early l.2.coming l.2.are_early l.2.downward)
+      (part m.router (m.router.held ++ b ∷ []) (m.items ++ s.items) g.holds) (λ u. lack k u (m.items ++ s.items))
+      (λ u brings. subst (λ x. Q (on_unit k.link u k) x) (sym (append_assoc (asked u ++ Reads u ∷ []) m.items s.items ∙ append_assoc (asked u) (Reads u ∷ []) (m.items ++ s.items)))
+      (read l.0 k u (m.items ++ s.items) l.1 l.2.version told (part m.router [] (m.items ++ s.items) g.holds) brings))
+
+  pub received : (most : ℕ) (wanting : Option ℕ) → Q (clocked s.router.now s.router) (At s.router.now ∷ s.items)
+      → Q (receives s.router.now wanting (take most s.down) s.router).machine.router ((receives s.router.now wanting (take most s.down) s.router).machine.items ++ s.items)
+  unfolding receives
+  received most wanting start =
+      let tail : List ℕ = drop most s.down in
+      let good : GoodRouter (instances w) w.present known.0.seen s.conn s.up (take most s.down ++ tail) s.router =
+      subst (λ d. GoodRouter (instances w) w.present known.0.seen s.conn s.up d s.router) (sym (take-append-drop most s.down)) known.0.router in
+      (feed_keeps (λ x. router_stops x.router) router_byte (λ rest x. Goes (rest ++ tail) x) (λ b rest m on g. record {
+        good = byte_good (instances w) w.present known.0.seen s.conn s.up (rest ++ tail) m b on g.good;
+        tells = byte_tells m b s.items on g.tells;
+        holds = byte_holds b (rest ++ tail) m on g;
+      }) (record { router = clocked s.router.now s.router; items = At s.router.now ∷ []; wanting = wanting }) (take most s.down) (record {
+        good = clocked_good (instances w) w.present known.0.seen s.conn s.up (take most s.down ++ tail) s.router.now s.router good;
+        tells = clocked_tells s.router.now s.router s.items known.1.tells;
+        holds = start;
+      })).holds

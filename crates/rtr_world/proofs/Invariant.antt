@@ -25,8 +25,7 @@ use Rattle.rtr_world.proofs.LinkedSides.{Seen, IsReadAt, IsSeen}
 
 abbrev pub after_stage : Staged → (Begun → Type 0) → Type 0
 after_stage (Stays a) Goes = Goes a
-after_stage (Wrong code) Goes = ⊥
-after_stage Over Goes = ⊥
+after_stage _ Goes = ⊥
 
 -- These PDUs are the rest of an answer: they lead from the base, and from what is staged, to a set under a session and a serial.
 abbrev pub Leads : VrpSet → Begun → List Unit → ℕ → ℕ → VrpSet → Type 0
@@ -147,40 +146,68 @@ abbrev pub Unheard : Option Version → List Unit → Bool → Type 0
 Unheard None coming agreed = (coming ≡ []) × (agreed ≡ false)
 Unheard (Some version) coming agreed = ⊤
 
--- Open at the cache: what the router asked and the cache has not read whole are these PDUs.
-pub record Open (i : Instance) (pv : Version) (home : Seen) (out up : List ℕ) (wanted coming : List Unit) (agreed : Bool) (lost : List ℕ) (o : Conn) : Type 0 where
-  pub upward : Stream o.held (up ++ out) (in_version pv wanted)
-  pub spoken : MaySpeak pv o.state.version
-  pub unheard : Unheard (header_version o.state.version o.held) coming agreed
+-- The connection is to this instance, as it was or as it is, and nothing of what it sent is lost.
+pub record Linked (i : Instance) (pv : Version) (home : Seen) (lost : List ℕ) : Type 0 where
   pub whole : lost ≡ []
   pub session : home.session ≡ session_in pv i
   pub made : length home.sets ≤ length i.sets
   pub later : IsLater home.made i
 
-pub record Flow (all : List Instance) (i : Instance) (home : Seen) (r : Router) (conn : Option Conn) (up down : List ℕ) : Type 0 where
-  pub version : home.version ≡ r.spoken
+-- Open at the cache: what the router asked and the cache has not read whole are these PDUs.
+pub record Open (i : Instance) (pv : Version) (home : Seen) (out up : List ℕ) (wanted coming : List Unit) (agreed : Bool) (lost : List ℕ) (o : Conn) : Type 0 where
+  pub linked : Linked i pv home lost
+  pub open linked use *
+  pub upward : Stream o.held (up ++ out) (in_version pv wanted)
+  pub spoken : MaySpeak pv o.state.version
+  pub unheard : Unheard (header_version o.state.version o.held) coming agreed
+
+-- What of a router stays where only bytes move.
+pub record Talk : Type 0 where
+  pub spoken : Version
+  pub link : Link
+  pub agreed : Bool
+  pub session : Option ℕ
+  pub version : Option Committed
+  pub table : VrpSet
+
+abbrev pub talk : Router → Talk
+talk r = record { spoken = r.spoken; link = r.link; agreed = r.agreed; session = r.session; version = r.version; table = r.table }
+
+-- What holds of the units to come, however they lie on the wires.
+pub record Said (all : List Instance) (home : Seen) (t : Talk) (early wanted coming : List Unit) : Type 0 where
+  pub version : home.version ≡ t.spoken
+  pub are_early : AreEarly t.agreed early
+  pub early_notifies : NotifiesOf home.made.session early
+  pub notifies : NotifiesOf home.session coming
+  pub own : OwnSession home.session t.session
+  pub mine : t.agreed ≡ true → Mine home.session (of_version t.spoken t.version)
+  pub shape : Shape all t.spoken home t.link t.agreed t.version t.table wanted (without_notifies coming)
+
+pub record FlowOf (all : List Instance) (i : Instance) (home : Seen) (t : Talk) (held out : List ℕ) (conn : Option Conn) (up down : List ℕ) : Type 0 where
   pub early : List Unit
   pub coming : List Unit
   pub lost : List ℕ
   pub wanted : List Unit
-  pub downward : Stream r.held (down ++ (conn_due conn ++ lost)) (behind_early r.spoken early coming)
-  pub open_at : IfOpen conn (Open i r.spoken home r.out up wanted coming r.agreed lost)
-  pub are_early : AreEarly r.agreed early
-  pub early_notifies : NotifiesOf home.made.session early
-  pub notifies : NotifiesOf home.session coming
-  pub own : OwnSession home.session r.session
-  pub mine : r.agreed ≡ true → Mine home.session (of_version r.spoken r.version)
-  pub shape : Shape all r.spoken home r.link r.agreed r.version r.table wanted (without_notifies coming)
+  pub said : Said all home t early wanted coming
+  pub open said use *
+  pub downward : Stream held (down ++ (conn_due conn ++ lost)) (behind_early t.spoken early coming)
+  pub open_at : IfOpen conn (Open i t.spoken home out up wanted coming t.agreed lost)
+
+abbrev pub Flow : List Instance → Instance → Seen → Router → Option Conn → List ℕ → List ℕ → Type 0
+Flow all i home r conn up down = FlowOf all i home (talk r) r.held r.out conn up down
 
 abbrev pub Live : List Instance → Instance → Option Seen → Router → Option Conn → List ℕ → List ℕ → Type 0
 Live all i home r conn up down = (h : Seen) × (home ≡ Some h) × Flow all i h r conn up down
 
+abbrev pub GoodLinkOf : List Instance → Instance → Option Seen → Link → Talk → List ℕ → List ℕ → Option Conn → List ℕ → List ℕ → Type 0
+GoodLinkOf all i home Closed t held out conn up down = (held ≡ []) × (t.agreed ≡ false) × (t.session ≡ None) × (out ≡ [])
+GoodLinkOf all i home (Ended end) t held out conn up down = out ≡ []
+GoodLinkOf all i home Idle t held out conn up down = (h : Seen) × (home ≡ Some h) × FlowOf all i h t held out conn up down
+GoodLinkOf all i home (Asked q) t held out conn up down = (h : Seen) × (home ≡ Some h) × FlowOf all i h t held out conn up down
+GoodLinkOf all i home (Answering a) t held out conn up down = (h : Seen) × (home ≡ Some h) × FlowOf all i h t held out conn up down
+
 abbrev pub GoodLink : List Instance → Instance → Option Seen → Link → Router → Option Conn → List ℕ → List ℕ → Type 0
-GoodLink all i home Closed r conn up down = (r.held ≡ []) × (r.agreed ≡ false) × (r.session ≡ None) × (r.out ≡ [])
-GoodLink all i home (Ended end) r conn up down = r.out ≡ []
-GoodLink all i home Idle r conn up down = Live all i home r conn up down
-GoodLink all i home (Asked q) r conn up down = Live all i home r conn up down
-GoodLink all i home (Answering a) r conn up down = Live all i home r conn up down
+GoodLink all i home l r conn up down = GoodLinkOf all i home l (talk r) r.held r.out conn up down
 
 pub record GoodRouter (all : List Instance) (i : Instance) (home : Option Seen) (conn : Option Conn) (up down : List ℕ) (r : Router) : Type 0 where
   pub table : TableAt all r.version r.table

@@ -1,6 +1,5 @@
 pub mod ActingOnce
 pub mod AnswerLaws
-pub mod AnsweredNow
 pub mod AnswersRead
 pub mod CacheMoves
 pub mod CacheSteps
@@ -21,14 +20,12 @@ pub mod ConnRuns
 pub mod Connecting
 pub mod CutOff
 pub mod EarlyNotifies
-pub mod EndLaws
 pub mod Endings
-pub mod EndsKept
 pub mod EndsNoted
+pub mod EventCalls
 pub mod EventRows
 pub mod EventRuns
 pub mod EventSteps
-pub mod Folding
 pub mod Happening
 pub mod Histories
 pub mod HistoryLeads
@@ -39,7 +36,6 @@ pub mod MovedBytes
 pub mod MovesNoMore
 pub mod Moving
 pub mod OneAnswers
-pub mod OthersStay
 pub mod PlaceRows
 pub mod Places
 pub mod PlacesNoted
@@ -48,6 +44,7 @@ pub mod Restarting
 pub mod Rests
 pub mod Room
 pub mod Rounds
+pub mod RouterCases
 pub mod Routers
 pub mod Runs
 pub mod Showing
@@ -61,5 +58,4 @@ pub mod UnitsAtRouters
 pub mod Versions
 pub mod WantedEnds
 pub mod WireBytes
-pub mod WorldRows
 pub mod WorldSteps

@@ -1,6 +1,6 @@
 -- The bytes that an event moves.
 use Rattle.std.specs.Prelude.{◌≡◌, ℕ, ◌+◌, ◌-◌, ◌<◌, ◌≤◌, Bool, true, false, not, ◌||◌, List, [], ◌∷◌, ◌++◌, length, drop, take, min, Option, Some, None, IfSome, Result, Ok, Err, is_ok, if◌then◌else◌, refl, ⊤}
-use Rattle.std.proofs.Common.{sym, ap, ◌∙◌, subst, arith, append_assoc}
+use Rattle.std.proofs.Common.{sym, ap, ◌∙◌, subst, arith, append_assoc, subst₂}
 use Rattle.std.proofs.Math.Nat.{min-zero, zero-min}
 use Rattle.std.proofs.Math.Seq.{take-add, take-append_seam}
 use Rattle.std.proofs.lemmas.List.{append-nil, drop-drop, drop_min, length-append, length-drop, length-take, take-append-drop, take_min}
@@ -24,10 +24,24 @@ use Rattle.rtr_ends.specs.declared.cache.Conn.{Conn as Number}
 use Rattle.rtr_ends.specs.declared.router.Router as routers
 use Rattle.rtr_ends.proofs.FeedingLaws.{feed_takes}
 use Rattle.rtr_world.specs.History.{conn_wants, wants_at}
-use Rattle.rtr_world.specs.SideShown.{AloneAt, BeginsEvent, ConnIs, MadeAt, Moves, Passes, SendsSome, ShowsBoth, ShowsSide, state_of}
-use Rattle.rtr_world.specs.World.{World, Side, CacheGets, CacheSends, RouterGets, RouterSends, cache_gets, cache_sends, cut, gets_at, router_gets, router_sends, sends_from, side_step, timing}
+use Rattle.rtr_world.specs.SideShown.{AloneAt, BeginsEvent, ConnIs, MadeAt, Moves, Passes, SendsSome, ShowsBoth, ShowsSide, state_of, MadeTo}
+use Rattle.rtr_world.specs.World.{World, Side, CacheGets, CacheSends, RouterGets, RouterSends, cache_gets, cache_sends, cut, gets_at, router_gets, router_sends, sends_from, side_step, timing, instances}
 use Rattle.rtr_world.specs.declared.side.Side as values
 use Rattle.rtr_world.proofs.Moving.{OnConn, alone, and_then, clocked_same, conn_here, on_cache, on_conn, put, served_as}
+
+-- A side is shown that kept its connection and when that was made.
+shown_as : (w : World) (at : ℕ → Option Conn) (s t : Side) (v n : values.Side) → ShowsSide w at s v → t.conn ≡ s.conn → t.home ≡ s.home → n.conn ≡ v.conn → n.made ≡ v.made → IsShown t.router n.router → n.up ≡ t.up → n.down ≡ t.down → AloneAt w at t v n
+shown_as w at s t v n h conn home conn_is made_is router up down = record {
+  shows = record {
+    router = router;
+    conn = subst₂ (λ c o. ConnIs at c o) (sym conn_is) (sym conn) h.conn;
+    up = up;
+    down = down;
+    made = subst₂ (λ m o. MadeAt w.present o m) (sym made_is) (sym home) h.made;
+    made_to = subst (λ o. MadeTo (instances w) o) (sym home) h.made_to;
+  };
+  conn = conn_is;
+}
 
 -- What is left of a piece comes before what is behind it.
 drop_front : (front back : List ℕ) → drop (length front) (front ++ back) ≡ back
@@ -95,17 +109,8 @@ router_got w at s v n most count piece h is received same =
     record {
       wanting = received.0;
       wanted = wanted_now s w most received.0 there.wanted;
-      now = record {
-        shows = record {
-          router = subst (λ x. IsShown x n.router) (told_now (take most s.down) s.router received.0).router there.shown;
-          conn = subst (λ c. ConnIs at c s.conn) (sym (ap (λ x. x.conn) same)) h.conn;
-          up = ap (λ x. x.up) same ∙ h.up;
-          down = ap (λ x. x.down) same ∙ ap (drop count) h.down ∙ router_left (take most s.down) s.router received.0 s.down most count refl there.count_is;
-          made = subst (λ m. MadeAt w.present s.home m) (sym (ap (λ x. x.made) same)) h.made;
-          made_to = h.made_to;
-        };
-        conn = ap (λ x. x.conn) same;
-      };
+      now = shown_as w at s _ v n h refl refl (ap (λ x. x.conn) same) (ap (λ x. x.made) same) (subst (λ x. IsShown x n.router) (told_now (take most s.down) s.router received.0).router there.shown) (ap (λ x. x.up) same ∙ h.up)
+            (ap (λ x. x.down) same ∙ ap (drop count) h.down ∙ router_left (take most s.down) s.router received.0 s.down most count refl there.count_is);
     }
 
 -- What arrives at the cache
@@ -206,17 +211,8 @@ none_sent w at s v n most count room h p none same =
     record {
       wanting = None;
       wanted = tt;
-      now = record {
-        shows = record {
-          router = subst (λ r. IsShown r n.router) (pulled_as (min most 4096) most s.router (all_pulled most s.router.out p.fits)) p.router;
-          conn = subst (λ c. ConnIs at c s.conn) (sym (ap (λ x. x.conn) same)) h.conn;
-          up = ap (λ x. x.up) same ∙ h.up ∙ sym (append-nil s.up) ∙ ap (λ x. s.up ++ x) (sym nothing);
-          down = ap (λ x. x.down) same ∙ h.down;
-          made = subst (λ m. MadeAt w.present s.home m) (sym (ap (λ x. x.made) same)) h.made;
-          made_to = h.made_to;
-        };
-        conn = ap (λ x. x.conn) same;
-      };
+      now = shown_as w at s _ v n h refl refl (ap (λ x. x.conn) same) (ap (λ x. x.made) same) (subst (λ r. IsShown r n.router) (pulled_as (min most 4096) most s.router (all_pulled most s.router.out p.fits)) p.router) (ap (λ x. x.up) same ∙ h.up ∙ sym (append-nil s.up) ∙ ap (λ x. s.up ++ x) (sym nothing))
+            (ap (λ x. x.down) same ∙ h.down);
     }
 
 pub some_sent : (w : World) (at : ℕ → Option Conn) (s : Side) (v n : values.Side) (most count : ℕ) (room : List ℕ) (result : Result ⊤ AllocError) → ShowsSide w at s v → Pulled most count room s.router n.router → ¬ (count ≡ 0)
@@ -225,17 +221,8 @@ unfolding side_step router_sends cut
 some_sent w at s v n most count room (Ok done) h p some same = record {
   wanting = None;
   wanted = tt;
-  now = record {
-    shows = record {
-      router = subst (λ r. IsShown r n.router) (pulled_as (min most 4096) most s.router (all_pulled most s.router.out p.fits)) p.router;
-      conn = subst (λ c. ConnIs at c s.conn) (sym (ap (λ x. x.conn) same)) h.conn;
-      up = ap (λ x. x.up) same ∙ (λ i. h.up i ++ p.room_is i);
-      down = ap (λ x. x.down) same ∙ h.down;
-      made = subst (λ m. MadeAt w.present s.home m) (sym (ap (λ x. x.made) same)) h.made;
-      made_to = h.made_to;
-    };
-    conn = ap (λ x. x.conn) same;
-  };
+  now = shown_as w at s _ v n h refl refl (ap (λ x. x.conn) same) (ap (λ x. x.made) same) (subst (λ r. IsShown r n.router) (pulled_as (min most 4096) most s.router (all_pulled most s.router.out p.fits)) p.router) (ap (λ x. x.up) same ∙ (λ i. h.up i ++ p.room_is i))
+            (ap (λ x. x.down) same ∙ h.down);
 }
 some_sent w at s v n most count room (Err error) h p some same =
     let few : count ≡ min most (length s.router.out) = omega (arith, p.count_is, p.fits) in
@@ -246,17 +233,8 @@ some_sent w at s v n most count room (Err error) h p some same =
       may = λ none. some (p.count_is ∙ ap (λ (x : List ℕ). min (min most 4096) (length x)) none ∙ min-zero (min most 4096));
       part = record (router_sends count s) { up = s.up };
       cut_is = refl;
-      now = record {
-        shows = record {
-          router = subst (λ r. IsShown r n.router) (pulled_as (min most 4096) count s.router left) p.router;
-          conn = subst (λ c. ConnIs at c s.conn) (sym (ap (λ x. x.conn) same)) h.conn;
-          up = ap (λ x. x.up) same ∙ h.up;
-          down = ap (λ x. x.down) same ∙ h.down;
-          made = subst (λ m. MadeAt w.present s.home m) (sym (ap (λ x. x.made) same)) h.made;
-          made_to = h.made_to;
-        };
-        conn = ap (λ x. x.conn) same;
-      };
+      now = shown_as w at s _ v n h refl refl (ap (λ x. x.conn) same) (ap (λ x. x.made) same) (subst (λ r. IsShown r n.router) (pulled_as (min most 4096) count s.router left) p.router) (ap (λ x. x.up) same ∙ h.up)
+            (ap (λ x. x.down) same ∙ h.down);
     }
 
 -- What the cache puts on the wire

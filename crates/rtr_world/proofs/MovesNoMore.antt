@@ -1,4 +1,5 @@
 -- An event moves no more bytes than it says, and no more where memory runs out at a PDU of it.
+use Rattle.rtr_world.proofs.RouterCases.{none_counted}
 use Rattle.std.specs.Prelude.{◌≡◌, ◌⊎◌, ℕ, ◌-◌, ◌≤◌, Bool, true, false, not, ◌&&◌, nat_lt, List, [], ◌∷◌, ◌++◌, drop, length, take, Option, Some, None, if◌then◌else◌, refl}
 use Rattle.std.proofs.Common.{sym, ap, ◌∙◌, subst, arith, inl, inr}
 use Rattle.std.proofs.Math.Nat.{min-le_left}
@@ -42,11 +43,6 @@ module _ {M : Type 0} (stops : M → Bool) (step : M → ℕ → M) (Alike : M �
       by_test false is on =
           let e = ap (λ f. length f.rest) (goes_on stops step m b piece is) in
           let k = ap (λ f. length f.rest) (goes_on stops step n b piece (sym (same m n a) ∙ is)) in omega (arith, e, k, on)
-
-none_counted : (j : Judgement) → counted j None ≡ None
-none_counted Begins = refl
-none_counted (Whole u) = refl
-none_counted (Faulty fault) = refl
 
 -- At the cache: with memory, and with want of it
 module _ (keep : ℕ) (i : Instance) where
@@ -162,12 +158,7 @@ fewer w (RouterGets most) wanting (Some s) = (
   left_fewer most s.down (receives s.router.now None (take most s.down) s.router).rest (receives s.router.now wanting (take most s.down) s.router).rest (router_leaves s.router.now wanting (take most s.down) s.router),
 )
 fewer w RouterRestart wanting (Some s) = (omega arith, omega arith)
-fewer w (Speak version) wanting (Some s) = (omega arith, omega arith)
-fewer w Connect wanting (Some s) = (omega arith, omega arith)
-fewer w (Cut left) wanting (Some s) = (omega arith, omega arith)
-fewer w NotifyRouter wanting (Some s) = (omega arith, omega arith)
-fewer w Ask wanting (Some s) = (omega arith, omega arith)
-fewer w (Tick now) wanting (Some s) = (omega arith, omega arith)
+fewer w _ wanting (Some s) = (omega arith, omega arith)
 
 -- So many bytes are told at a refusal.
 told_fewer : (w : World) (r : ℕ) (event : SideEvent) (wanting : Option ℕ) (bytes : ℕ) → MayEnd (refusal w (On r event)) w (On r event) (Memory bytes wanting) → (bytes ≤ most_of event) × (bytes ≤ moved w (On r event) None)

@@ -211,18 +211,12 @@ tells_open w at s v router on h told = subst (λ b. ShowsSide w at (told_where (
 pub ended_told : (all : List Instance) (s : Side) (l : Link) (out : List ℕ) → is_ended l ≡ true → is_none out ≡ true → settle_link all s l out ≡ tell_closed all s
 ended_told all s (Ended end) [] e n = refl
 ended_told all s (Ended end) (b ∷ out) e n = absurd (let k : false ≡ true = n in cc)
-ended_told all s Closed out e n = absurd (let k : false ≡ true = e in cc)
-ended_told all s Idle out e n = absurd (let k : false ≡ true = e in cc)
-ended_told all s (Asked q) out e n = absurd (let k : false ≡ true = e in cc)
-ended_told all s (Answering a) out e n = absurd (let k : false ≡ true = e in cc)
+ended_told all s _ out e n = absurd (let k : false ≡ true = e in cc)
 
 pub rest_closed : (s : Side) (l : Link) (up : List ℕ) → is_closed l ≡ true → is_none up ≡ true → settle_rest s l up ≡ record s { conn = None; down = [] }
 rest_closed s Closed [] c n = refl
 rest_closed s Closed (b ∷ up) c n = absurd (let k : false ≡ true = n in cc)
-rest_closed s (Ended end) up c n = absurd (let k : false ≡ true = c in cc)
-rest_closed s Idle up c n = absurd (let k : false ≡ true = c in cc)
-rest_closed s (Asked q) up c n = absurd (let k : false ≡ true = c in cc)
-rest_closed s (Answering a) up c n = absurd (let k : false ≡ true = c in cc)
+rest_closed s _ up c n = absurd (let k : false ≡ true = c in cc)
 
 pub wire_cut : (all : List Instance) (s : Side) (o : Option Conn) (down : List ℕ) → o ≡ None → is_none down ≡ true → settle_wire all s o down ≡ record (tell_closed all s) { up = [] }
 wire_cut all s None [] c n = refl

@@ -1,4 +1,5 @@
 -- What is on its way to a router is at most one answer, after every list of events.
+use Rattle.rtr_world.proofs.WorldSteps.{Known, history_known}
 use Rattle.std.specs.Prelude.{◌≡◌, ◌⊎◌, ℕ, Bool, true, false, List, [], ◌∷◌, ◌++◌, Option, Some, None, refl}
 use Rattle.std.proofs.Common.{sym, ap, ◌∙◌, subst, inl, inr}
 use Rattle.std.specs.List.{AllByRecursion}
@@ -16,7 +17,7 @@ use Rattle.rtr_world.specs.Claims.{OneAnswerAlways}
 use Rattle.rtr_world.specs.OneAnswer.{Between, ComesOn, Fits, IfResponse, IsAnswer, IsReply, IsWholeAnswer, LeadsToPublished, NotifiesOf, OneAnswer, WasSo, answered, without_notifies}
 use Rattle.rtr_world.specs.World.{Side, World, instances, is_ended, timing}
 use Rattle.rtr_world.proofs.AnswersRead.{ReadsSo, SideReads, kept_reads}
-use Rattle.rtr_world.proofs.Histories.{Known, history_keeps, history_known}
+use Rattle.rtr_world.proofs.Histories.{history_keeps}
 use Rattle.rtr_world.proofs.Invariant.{FromCache, Flow, Good, GoodLink, IfOpen, OfAnswer, OneReply, Open, QuestionFits, Replies, Shape, WasCache, no_data, not_kept, other_session, no_memory, read_of, records_of, response}
 use Rattle.rtr_world.proofs.Rests.{Rests, history_rests}
 use Rattle.rtr_world.proofs.LinkedSides.{IsReadAt, IsSeen, Seen}
@@ -124,9 +125,7 @@ between w s g t k rests = by_link s.router.link refl g.router.link
     by_link : (l : Link) → s.router.link ≡ l → GoodLink (instances w) w.present g.seen l s.router s.conn s.up s.down → Between w s l
     by_link Closed is h = (h.0, h.3, rests.none_down (ap is_closed is))
     by_link (Ended end) is h = false_true (sym rests.link_on ∙ ap is_ended is)
-    by_link Idle is h = live_answer w s (ap is_reading is) g t k
-    by_link (Asked q) is h = live_answer w s (ap is_reading is) g t k
-    by_link (Answering a) is h = live_answer w s (ap is_reading is) g t k
+    by_link _ is h = live_answer w s (ap is_reading is) g t k
 
 -- One answer
 pub one_answer : OneAnswerAlways

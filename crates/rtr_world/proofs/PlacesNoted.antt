@@ -1,5 +1,5 @@
 -- Each commit has its place, and the last place is that of the version that is held.
-use Rattle.std.specs.Prelude.{◌≡◌, ◌⊎◌, ℕ, suc, Bool, true, false, ◌&&◌, ◌||◌, ◌==◌, List, [], ◌∷◌, ◌++◌, length, map, take, Option, Some, None, if◌then◌else◌, refl}
+use Rattle.std.specs.Prelude.{◌≡◌, ◌⊎◌, ℕ, suc, Bool, true, false, ◌&&◌, ◌||◌, ◌==◌, List, [], ◌∷◌, ◌++◌, length, map, take, Option, Some, None, if◌then◌else◌, refl, ⊤}
 use Rattle.std.proofs.Common.{sym, ap, ◌∙◌, subst, append_assoc, inl, inr}
 use Rattle.std.specs.List.{AllByRecursion}
 use Rattle.std.proofs.lemmas.Bool.{and_parts}
@@ -10,20 +10,19 @@ use Rattle.rtr_pdu.specs.declared.unit.Unit.TheVariants.{SerialNotify, SerialQue
 use Rattle.rtr_pdu.specs.declared.version.Version.{Version}
 use Rattle.rtr_ends.specs.Answer.{session_in}
 use Rattle.rtr_ends.specs.Timing.{default_intervals}
-use Rattle.rtr_ends.specs.Router.{Noted, asks, closed_at, connects_at, of_received, receives, ticks_at}
-use Rattle.rtr_ends.specs.RouterLink.{is_closed}
+use Rattle.rtr_ends.specs.Router.{Noted, Closes, called, Receives}
 use Rattle.rtr_ends.specs.Transcript.{Begun, Committed, Item, At, Opened, Asks, Reads, Lacks, Breaks, Refused, Shut, Restarts, Kept, acts_once, at_end_of_data, base_of, bounded, differs, does_commit, emptied_if, has_agreed, is_commit, is_over, is_serial, is_wrong, kept, later, led_to, moment, nothing, of_version, outstanding, responded, session_of, spoken, under_way, waiting}
 use Rattle.rtr_world.specs.Claims.{HasPlaces, IsLastPlace, PlacesNoted, commits_in}
-use Rattle.rtr_world.specs.History.{Outcome, Done, SessionUsed, TooManyVersions, NoSuchRouter, Memory, MayEnd, after, all_have_room, refusal, room_for, room_since}
+use Rattle.rtr_world.specs.History.{Outcome, Done, Memory, MayEnd, after, all_have_room, refusal, room_for, room_since}
 use Rattle.rtr_world.specs.VersionPlaces.{VersionPlace, version_place_of}
-use Rattle.rtr_world.specs.World.{Side, World, instances, SideEvent, RouterRestart, Speak, Connect, RouterSends, CacheGets, CacheSends, RouterGets, Cut, NotifyRouter, Ask, Tick, Event, Publish, Restart, On, cache_gets, cache_gone, cache_sends, connects, cut, goes_through, is_refused, new_world, noted, on_side, places_of, router_gets, router_restarts, router_sends, settle, settled, side_part, side_refused, side_step, speaks, tell_closed}
-use Rattle.rtr_world.proofs.Folding.{Blind, gets_keep, leads_keep, notifies_keep, sends_keep, settle_keeps}
+use Rattle.rtr_world.specs.World.{Side, World, instances, Event, Publish, Restart, On, cache_gone, goes_through, is_refused, new_world, noted, places_of, router_restarts, settled, tell_closed}
 use Rattle.rtr_world.proofs.Invariant.{Good}
 use Rattle.rtr_world.proofs.Places.{place_at, rank_of, rank_restarted, stands_found}
-use Rattle.rtr_world.proofs.SideLaws.{all_both, all_map, all_new, all_on_side}
-use Rattle.rtr_world.proofs.KeptTables.{AllTell, SideTells, after_tells, new_side_tells}
-use Rattle.rtr_world.proofs.Versions.{Present, TableAt, find_session, same_session_in, stands_published, stands_restarted}
-use Rattle.rtr_world.proofs.WorldSteps.{GoodWorld, after_good, begun, new_good, or_cases, published_so, room_after, unused_so}
+use Rattle.rtr_world.proofs.SideLaws.{all_both, all_map, all_new}
+use Rattle.rtr_world.proofs.KeptTables.{AllTell, SideTells}
+use Rattle.rtr_world.proofs.Versions.{Present, TableAt, find_session, same_session_in, stands_published, stands_restarted, some_is}
+use Rattle.rtr_world.proofs.WorldSteps.{GoodWorld, begun, or_cases, published_so, room_after, unused_so, known_leads}
+use Rattle.rtr_world.proofs.EventCalls.{if_gets, refusal_keeps, KeptByCalls, refused_at, each_settles, done_keeps, closed_by}
 
 -- What is no commit leaves the version, or none.
 abbrev Leaves : Option Committed → Option Committed → Type 0
@@ -103,57 +102,24 @@ module _ (all : List Instance) where
   noted_places : (n : Noted) (s : Side) → SidePlaces s → SidePlaces (noted all n s)
   noted_places n s h = more n.items s.items s.places h
 
-  blind_places : Blind SidePlaces
-  blind_places s conn up down read h = h
+  anew_places : (s : Side) → SidePlaces s → SidePlaces (router_restarts s)
+  unfolding router_restarts
+  anew_places s h = one_more Restarts s.items s.places h
 
-  told_places : (s : Side) → SidePlaces s → SidePlaces (tell_closed all s)
-  told_places s h = by_link (is_closed s.router.link)
-    where
-      by_link : (b : Bool) → SidePlaces (if b then record s { home = None; read_at = None } else record (noted all (closed_at s.router.now s.router) s) { home = None; read_at = None })
-      by_link true = h
-      by_link false = noted_places (closed_at s.router.now s.router) s h
+  refused_places : (s : Side) → SidePlaces s → SidePlaces (tell_closed all (refused_at s))
+  refused_places s h =
+      let k : SidePlaces (refused_at s) = one_more Refused s.items s.places h in closed_by SidePlaces all (refused_at s) (λ e. k) (λ e. noted_places (called (Closes s.router.now) s.router) (refused_at s) k)
 
-  settle_places : (s : Side) → SidePlaces s → SidePlaces (settle all s)
-  settle_places s h = settle_keeps SidePlaces blind_places all told_places s h
-
--- One event at a router
-step_places : (w : World) (event : SideEvent) (wanting : Option ℕ) (s : Side) → SidePlaces (instances w) s → SidePlaces (instances w) (side_step w event wanting s)
-unfolding side_step connects router_restarts speaks router_sends cache_sends cache_gets router_gets cut
-step_places w RouterRestart wanting s h = one_more (instances w) Restarts s.items s.places h
-step_places w (Speak version) wanting s h = h
-step_places w Connect wanting s h = noted_places (instances w) (connects_at s.router.now s.router) s h
-step_places w (RouterSends most) wanting s h = h
-step_places w (CacheGets most) wanting s h = gets_keep (SidePlaces (instances w)) (blind_places (instances w)) w most wanting s s.conn h
-step_places w (CacheSends most) wanting s h = sends_keep (SidePlaces (instances w)) (blind_places (instances w)) w.keep most s s.conn h
-step_places w (RouterGets most) wanting s h = noted_places (instances w) (of_received (receives s.router.now wanting (take most s.down) s.router)) s h
-step_places w (Cut left) wanting s h = h
-step_places w NotifyRouter wanting s h = notifies_keep (SidePlaces (instances w)) (blind_places (instances w)) w s s.conn h
-step_places w Ask wanting s h = noted_places (instances w) (asks s.router) s h
-step_places w (Tick now) wanting s h = noted_places (instances w) (ticks_at now s.router) s h
-
-part_places : (w : World) (event : SideEvent) (bytes : ℕ) (wanting : Option ℕ) (s : Side) → SidePlaces (instances w) s → SidePlaces (instances w) (side_part w event bytes wanting s)
-unfolding router_sends cache_sends cache_gets router_gets
-part_places w (RouterSends most) bytes wanting s h = h
-part_places w (CacheGets most) bytes wanting s h = gets_keep (SidePlaces (instances w)) (blind_places (instances w)) w bytes wanting s s.conn h
-part_places w (CacheSends most) bytes wanting s h = sends_keep (SidePlaces (instances w)) (blind_places (instances w)) w.keep bytes s s.conn h
-part_places w (RouterGets most) bytes wanting s h = noted_places (instances w) (of_received (receives s.router.now wanting (take bytes s.down) s.router)) s h
-part_places w RouterRestart bytes wanting s h = h
-part_places w (Speak version) bytes wanting s h = h
-part_places w Connect bytes wanting s h = h
-part_places w (Cut left) bytes wanting s h = h
-part_places w NotifyRouter bytes wanting s h = h
-part_places w Ask bytes wanting s h = h
-part_places w (Tick now) bytes wanting s h = h
-
-refused_places : (w : World) (event : SideEvent) (bytes : ℕ) (wanting : Option ℕ) (s : Side) → SidePlaces (instances w) s → SidePlaces (instances w) (side_refused w event bytes wanting s)
-unfolding side_refused cut
-refused_places w event bytes wanting s h =
-    let p : Side = side_part w event bytes wanting s in one_more (instances w) Refused p.items p.places (part_places w event bytes wanting s h)
+keeps_places : (w : World) → KeptByCalls w (λ s wanting. ⊤) (SidePlaces (instances w))
+keeps_places w = record {
+  wires = λ s h conn up down home read. h;
+  own = λ s call own h. noted_places (instances w) (called call s.router) s h;
+  gets = λ s most wanting comes h. noted_places (instances w) (called (Receives s.router.now wanting (take most s.down)) s.router) s h;
+  restart = anew_places (instances w);
+  refused = refused_places (instances w);
+}
 
 -- A version keeps its place when another is published, and when the cache restarts.
-same_rank : (m n : ℕ) → Some m ≡ Some n → m ≡ n
-same_rank m n e = cc
-
 place_published : (past : List Instance) (i : Instance) (y : VrpSet) → Present (i ∷ past) i → (version : Option Committed) (table : VrpSet) → room_for i version ≡ true → TableAt (i ∷ past) version table
     → version_place_of (i ∷ past) version ≡ version_place_of (record i { sets = y ∷ i.sets } ∷ past) version
 place_published past i y p None table room t = refl
@@ -163,7 +129,7 @@ place_published past i y p (Some version) table room t =
     let g = stands_found (record i { sets = y ∷ i.sets } ∷ past) version.version version.session version.serial table s.0 in
     let still : rank_of version.version version.session (i ∷ past) ≡ rank_of version.version version.session (record i { sets = y ∷ i.sets } ∷ past) =
     ap (λ n. if n == version.session then Some (length past) else rank_of version.version version.session past) (sym (same_session_in version.version i (y ∷ i.sets))) in
-    let ranks : f.rank ≡ g.rank = same_rank f.rank g.rank (sym f.is ∙ still ∙ g.is) in
+    let ranks : f.rank ≡ g.rank = some_is f.rank g.rank (sym f.is ∙ still ∙ g.is) in
     f.named ∙ (λ j. Some (place_at (ranks j) (length (sym s.1 j)))) ∙ sym g.named
 
 place_restarted : (all : List Instance) (i : Instance) → ((pv : Version) → find_session pv (session_in pv i) all ≡ None) → (version : Option Committed) (table : VrpSet) → TableAt all version table → version_place_of all version ≡ version_place_of (i ∷ all) version
@@ -172,7 +138,7 @@ place_restarted all i new (Some version) table t =
     let s = stands_restarted all i version.version version.session version.serial table (new version.version) t in
     let f = stands_found all version.version version.session version.serial table t in
     let g = stands_found (i ∷ all) version.version version.session version.serial table s.0 in
-    let ranks : f.rank ≡ g.rank = same_rank f.rank g.rank (sym (rank_restarted i all version.version version.session f.rank (new version.version) f.is) ∙ g.is) in
+    let ranks : f.rank ≡ g.rank = some_is f.rank g.rank (sym (rank_restarted i all version.version version.session f.rank (new version.version) f.is) ∙ g.is) in
     f.named ∙ (λ j. Some (place_at (ranks j) (length (sym s.1 j)))) ∙ sym g.named
 
 last_moved : (all more : List Instance) (version : Option Committed) (places : List (Option VersionPlace)) → version_place_of all version ≡ version_place_of more version → IsLastPlace all version places → IsLastPlace more version places
@@ -205,9 +171,9 @@ restarted_places keep past old i new sides h =
     all_map (λ s. Good keep past old s × (SideTells s × SidePlaces (old ∷ past) s)) (SidePlaces (i ∷ old ∷ past)) cache_gone sides
     (λ s k. places_moved (old ∷ past) (i ∷ old ∷ past) s k.1.0 (place_restarted (old ∷ past) i new s.router.version s.router.table k.0.router.table) k.1.1) h
 
-through_places : (event : Event) (wanting : Option ℕ) (w : World) → MayEnd (refusal w event) w event (Done wanting) → GoodWorld w → AllTell w → AllPlaces w → AllPlaces (goes_through event wanting w)
+published_all : (set : VrpSet) (wanting : Option ℕ) (w : World) → MayEnd (refusal w (Publish set)) w (Publish set) (Done wanting) → GoodWorld w → AllTell w → AllPlaces w → AllPlaces (goes_through (Publish set) wanting w)
 unfolding goes_through refusal
-through_places (Publish set) wanting w may g t h = by_current (is_current w.present.sets set) refl
+published_all set wanting w may g t h = by_current (is_current w.present.sets set) refl
   where
     i : Instance
     i = w.present
@@ -220,37 +186,23 @@ through_places (Publish set) wanting w may g t h = by_current (is_current w.pres
     by_current false e =
         subst (λ b. AllByRecursion (SidePlaces ((if b then i else record i { sets = set ∷ i.sets }) ∷ w.past)) w.sides) (sym e)
         (published_places w.keep w.past i set g.present w.sides (or_cases (is_current i.sets set) (all_have_room i w.sides) free e) g.sides t h)
-through_places (Restart session session0 start) wanting w may g t h =
-    restarted_places w.keep w.past w.present (begun session session0 start) (unused_so session session0 start wanting w may) w.sides
-    (all_both (Good w.keep w.past w.present) (λ s. SideTells s × SidePlaces (instances w) s) w.sides g.sides (all_both SideTells (SidePlaces (instances w)) w.sides t h))
-through_places (On r event) wanting w may g t h =
-    all_on_side (SidePlaces (instances w)) (SidePlaces (instances w)) r (side_step w event wanting) w.sides (λ s x. x) (step_places w event wanting) h
-
-settled_places : (w : World) → AllPlaces w → AllPlaces (settled w)
-unfolding settled
-settled_places w h = all_map (SidePlaces (instances w)) (SidePlaces (instances w)) (settle (instances w)) w.sides (settle_places (instances w)) h
-
-refused_all : (event : Event) (bytes : ℕ) (wanting : Option ℕ) (w : World) → AllPlaces w → AllPlaces (is_refused event bytes wanting w)
-unfolding is_refused
-refused_all (Publish set) bytes wanting w h = h
-refused_all (Restart session session0 start) bytes wanting w h = h
-refused_all (On r event) bytes wanting w h =
-    settled_places (record w { sides = on_side r (side_refused w event bytes wanting) w.sides })
-    (all_on_side (SidePlaces (instances w)) (SidePlaces (instances w)) r (side_refused w event bytes wanting) w.sides (λ s x. x) (refused_places w event bytes wanting) h)
 
 after_places : (event : Event) (outcome : Outcome) (w : World) → MayEnd (refusal w event) w event outcome → GoodWorld w → AllTell w → AllPlaces w → AllPlaces (after event outcome w)
-after_places event (Done wanting) w may g t h = settled_places (goes_through event wanting w) (through_places event wanting w may g t h)
-after_places event (Memory bytes wanting) w may g t h = refused_all event bytes wanting w h
-after_places event SessionUsed w may g t h = h
-after_places event TooManyVersions w may g t h = h
-after_places event NoSuchRouter w may g t h = h
+unfolding goes_through settled is_refused
+after_places (Publish set) (Done wanting) w may g t h =
+    let n : World = goes_through (Publish set) wanting w in each_settles n (λ s wanting. ⊤) (SidePlaces (instances n)) (keeps_places n) w.sides (published_all set wanting w may g t h)
+after_places (Restart session session0 start) (Done wanting) w may g t h =
+    let n : World = goes_through (Restart session session0 start) wanting w in
+    each_settles n (λ s wanting. ⊤) (SidePlaces (instances n)) (keeps_places n) (map cache_gone w.sides)
+    (restarted_places w.keep w.past w.present (begun session session0 start) (unused_so session session0 start wanting w may) w.sides
+    (all_both (Good w.keep w.past w.present) (λ s. SideTells s × SidePlaces (instances w) s) w.sides g.sides (all_both SideTells (SidePlaces (instances w)) w.sides t h)))
+after_places (On r event) (Done wanting) w may g t h =
+    done_keeps w (λ s wanting. ⊤) (SidePlaces (instances w)) (keeps_places w) (SidePlaces (instances w)) (λ s x. x) r event wanting (λ s x. if_gets event ⊤ tt) h
+after_places (On r event) (Memory bytes wanting) w may g t h =
+    refusal_keeps w (λ s wanting. ⊤) (SidePlaces (instances w)) (keeps_places w) (SidePlaces (instances w)) (λ s x. x) r event wanting (λ s x. if_gets event ⊤ tt) h bytes
+after_places _ _ w may g t h = h
 
 pub places_noted : PlacesNoted
 places_noted made history w leads =
-    (leads_keep (λ x. GoodWorld x × AllTell x × AllPlaces x)
-    (λ event outcome x fits may h. (after_good event outcome x fits may h.0 h.1, after_tells event outcome x h.1, after_places event outcome x may h.0 h.1 h.2))
-    (new_world made.routers made.session made.session0 made.start made.keep) history w leads.1 (
-      new_good made leads.0,
-      all_new SideTells new_side_tells made.routers,
-      all_new (λ s. HasPlaces (begun made.session made.session0 made.start ∷ []) s.items s.places) (record { count = refl; last = tt }) made.routers,
-    )).2
+    (known_leads AllPlaces (λ event outcome x fits may g t h. after_places event outcome x may g t h) made history w leads
+    (all_new (λ s. HasPlaces (begun made.session made.session0 made.start ∷ []) s.items s.places) (record { count = refl; last = tt }) made.routers)).2

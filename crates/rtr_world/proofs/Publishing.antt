@@ -1,4 +1,6 @@
 -- A set is published.
+use Rattle.std.proofs.lemmas.Bool.{and_parts}
+use Rattle.rtr_world.proofs.SideLaws.{inside}
 use Rattle.std.specs.Prelude.{◌≡◌, ℕ, ◌+◌, ◌-◌, ◌%◌, ◌^◌, ◌<◌, ◌==◌, ◌&&◌, ◌||◌, Bool, true, false, List, [], ◌∷◌, length, find, Option, Some, None, is_some, Result, Ok, Err, if◌then◌else◌, refl, ⊤}
 use Rattle.std.proofs.Common.{sym, ap, ◌∙◌, subst, arith, zero, suc}
 use Rattle.std.specs.declared.alloc.AllocError.{AllocError}
@@ -36,9 +38,6 @@ no_current (now ∷ older) start set h = absurd (let k : ◌≡◌ {A = Option N
 pub some_current : (sets : List VrpSet) (start : ℕ) (set : VrpSet) (v : NumberedSet) → Some v ≡ newest (versions_from start sets) → is_same v.set set ≡ is_current sets set
 some_current [] start set v h = absurd (let k : ◌≡◌ {A = Option NumberedSet} (Some v) None = h in cc)
 some_current (now ∷ older) start set v h = ap (λ (x : NumberedSet). is_same x.set set) (inside h)
-  where
-    inside : {a b : NumberedSet} → Some a ≡ Some b → a ≡ b
-    inside h = cc
 
 -- the serial of the next version
 pub first_next : (start : ℕ) (sets : List VrpSet) (serial : ℕ) → start ≡ serial → start < 2 ^ 32 → None ≡ newest (versions_from start sets) → serial ≡ serial_at start (length sets)
@@ -51,9 +50,6 @@ later_next start (now ∷ older) v h =
     let e : v.serial ≡ serial_at start (length older) = ap (λ (x : NumberedSet). x.serial) (inside h) in
     ap (λ n. (n + 1) % 2 ^ 32) e ∙ (let k : ((start + length older) % 2 ^ 32 + 1) % 2 ^ 32 ≡ (start + (length older + 1)) % 2 ^ 32 = omega arith in k)
     ∙ ap (λ n. (start + n) % 2 ^ 32) (let k : length older + 1 ≡ length (now ∷ older) = omega arith in k)
-  where
-    inside : {a b : NumberedSet} → Some a ≡ Some b → a ≡ b
-    inside h = cc
 
 -- What is refused
 pub not_refused : (w : World) (set : VrpSet) → (is_current w.present.sets set || all_have_room w.present w.sides) ≡ true → refusal w (Publish set) ≡ None
@@ -146,28 +142,13 @@ made_to_still w set (Some home) h = sym (used_still w set V1 home.session) ∙ h
 one_more_shown : (w : World) (set : VrpSet) (at : ℕ → Option Conn) (a : Option Side) (q : Option values.Side) → ((s : Side) → a ≡ Some s → room_since w.present s.home ≡ true) → ShowsAt w at a q → ShowsAt (with_set w set) at a q
 one_more_shown w set at None None room h = tt
 one_more_shown w set at (Some s) (Some v) room h = record { router = h.router; conn = h.conn; up = h.up; down = h.down; made = one_more_made w.present set s.home v.made (room s refl) h.made; made_to = made_to_still w set s.home h.made_to }
-one_more_shown w set at None (Some v) room h = h
-one_more_shown w set at (Some s) None room h = h
+one_more_shown w set at _ _ room h = h
 
 rooms : (i : Instance) (sides : List Side) → all_have_room i sides ≡ true → (r : ℕ) (s : Side) → side_at r sides ≡ Some s → room_since i s.home ≡ true
 rooms i [] h r s is = absurd (let k : ◌≡◌ {A = Option Side} None (Some s) = is in cc)
-rooms i (t ∷ sides) h zero s is = ap (λ (x : Side). room_since i x.home) (sym (inside is)) ∙ and_right (room_for i t.router.version) (room_since i t.home) (and_left (room_for i t.router.version && room_since i t.home) (all_have_room i sides) h)
-  where
-    inside : {a b : Side} → Some a ≡ Some b → a ≡ b
-    inside h = cc
-
-    and_left : (a b : Bool) → (a && b) ≡ true → a ≡ true
-    and_left true b h = refl
-    and_left false b h = h
-
-    and_right : (a b : Bool) → (a && b) ≡ true → b ≡ true
-    and_right true b h = h
-    and_right false b h = absurd (let k : false ≡ true = h in cc)
-rooms i (t ∷ sides) h (suc r) s is = rooms i sides (and_right (room_for i t.router.version && room_since i t.home) (all_have_room i sides) h) r s is
-  where
-    and_right : (a b : Bool) → (a && b) ≡ true → b ≡ true
-    and_right true b h = h
-    and_right false b h = absurd (let k : false ≡ true = h in cc)
+rooms i (t ∷ sides) h zero s is =
+    ap (λ (x : Side). room_since i x.home) (sym (inside is)) ∙ (and_parts (room_for i t.router.version) (room_since i t.home) (and_parts (room_for i t.router.version && room_since i t.home) (all_have_room i sides) h).0).1
+rooms i (t ∷ sides) h (suc r) s is = rooms i sides (and_parts (room_for i t.router.version && room_since i t.home) (all_have_room i sides) h).1 r s is
 
 pub publishes_new : (w : World) (v n : code.World) (set : VrpSet) (result : Result Published AllocError) (published : Published) → Reached w → (h : ShowsWorld w v) → IsVrpSet set → is_current w.present.sets set ≡ false → all_have_room w.present w.sides ≡ true
     → n ≡ record v { cache = n.cache } → result ≡ Ok published → Publishes (λ i cache. ShowsCache HoldsSteps (record (state_of w h.at) { cache = i }) cache) result set w.present n.cache → StepsOnce w (Publish set) (Ok tt) n

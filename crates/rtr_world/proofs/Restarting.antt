@@ -1,4 +1,5 @@
 -- The cache restarts.
+use Rattle.rtr_world.proofs.SideLaws.{map_there}
 use Rattle.std.specs.Prelude.{◌≡◌, ℕ, ◌<◌, ◌^◌, ◌==◌, ◌||◌, Bool, true, false, List, [], ◌∷◌, ◌++◌, map, find, Option, Some, None, is_some, Result, Ok, Err, is_err, is_ok, slice_get, if◌then◌else◌, refl, ⊤}
 use Rattle.std.proofs.Common.{sym, ap, ◌∙◌, subst, arith, zero, suc}
 use Rattle.std.specs.Option.{option_map}
@@ -103,25 +104,18 @@ gone_at w session session0 start at None None None free h lost = tt
 gone_at w session session0 start at (Some s) (Some v) (Some n) free h lost = gone_shown w session session0 start at s v n free h lost
 gone_at w session session0 start at None (Some v) n free h lost = absurd h
 gone_at w session session0 start at (Some s) None n free h lost = absurd h
-gone_at w session session0 start at None None (Some n) free h lost = absurd lost
-gone_at w session session0 start at (Some s) (Some v) None free h lost = absurd lost
-
-map_at : (r : ℕ) (f : Side → Side) (sides : List Side) → side_at r (map f sides) ≡ option_map f (side_at r sides)
-map_at r f [] = refl
-map_at zero f (s ∷ sides) = refl
-map_at (suc r) f (s ∷ sides) = map_at r f sides
+gone_at w session session0 start at _ _ _ free h lost = absurd lost
 
 lost_number : (q n : Option values.Side) (k : ℕ) → LostAt q n → HasAt n k → ⊥
 lost_number (Some v) (Some n) k lost has = subst (λ c. Has c k) lost.conn has
 lost_number None None k lost has = has
-lost_number None (Some n) k lost has = lost
-lost_number (Some v) None k lost has = lost
+lost_number _ _ k lost has = lost
 
 pub gone_parts : (w : World) (session session0 start : ℕ) (at : ℕ → Option Conn) (cache later : Cache Log) (olds news : List values.Side) → (is_used V1 (instances w) session || is_used V0 (instances w) session0) ≡ false → ShowsParts w at cache olds → LoseAll olds news
     → ShowsCache HoldsSteps (state_of (restarted w session session0 start) (λ d. None)) later → ShowsParts (restarted w session session0 start) (λ d. None) later news
 gone_parts w session session0 start at cache later olds news free parts lost served = record {
   serves = served;
-  each = λ r. subst (λ a. ShowsAt (restarted w session session0 start) (λ d. None) a (slice_get news r)) (sym (map_at r cache_gone w.sides)) (gone_at w session session0 start at (side_at r w.sides) (slice_get olds r) (slice_get news r) (neither_so (is_used V1 (instances w) session) (is_used V0 (instances w) session0) free).0 (parts.each r) (lost r));
+  each = λ r. subst (λ a. ShowsAt (restarted w session session0 start) (λ d. None) a (slice_get news r)) (sym (map_there r cache_gone w.sides)) (gone_at w session session0 start at (side_at r w.sides) (slice_get olds r) (slice_get news r) (neither_so (is_used V1 (instances w) session) (is_used V0 (instances w) session0) free).0 (parts.each r) (lost r));
   own = λ r d k has also. absurd (lost_number (slice_get olds r) (slice_get news r) k (lost r) has);
   all = λ n some. absurd (let k : false ≡ true = some in cc);
 }

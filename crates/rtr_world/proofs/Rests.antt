@@ -1,5 +1,5 @@
 -- Between events no link has ended, nothing is on the way to a closed one, and the clean-up has nothing to do.
-use Rattle.std.specs.Prelude.{◌≡◌, ℕ, Bool, true, false, List, [], ◌∷◌, Option, Some, None, if◌then◌else◌, ⊤, refl}
+use Rattle.std.specs.Prelude.{◌≡◌, ℕ, Bool, true, false, List, [], ◌∷◌, Option, Some, None, if◌then◌else◌, ⊤, refl, zero, suc, map}
 use Rattle.std.proofs.Common.{sym, ap, ◌∙◌, subst}
 use Rattle.std.specs.List.{AllByRecursion}
 use Rattle.vrps.specs.Instance.{Instance}
@@ -7,15 +7,15 @@ use Rattle.rtr_ends.specs.Cache.{Conn}
 use Rattle.rtr_ends.specs.Router.{closed_at}
 use Rattle.rtr_ends.specs.RouterLink.{Link, Closed, Idle, Asked, Answering, Ended, is_closed}
 use Rattle.rtr_ends.proofs.TableLaws.{false_true}
-use Rattle.rtr_world.specs.Claims.{Settles}
-use Rattle.rtr_world.specs.History.{Entry, IsEvent, Leads, LeadsFrom, Made, MayEnd, Memory, NoSuchRouter, Outcome, Done, SessionUsed, TooManyVersions, after, refusal}
-use Rattle.rtr_world.specs.World.{Event, On, Publish, Restart, Side, World, goes_through, close_ended, instances, is_ended, is_refused, new_world, noted, on_side, settle, settle_conn, settle_link, settle_rest, settle_wire, settled, side_refused, tell_closed}
-use Rattle.rtr_world.proofs.AnswersRead.{told_closes}
-use Rattle.rtr_world.proofs.Folding.{leads_keep}
+use Rattle.rtr_world.specs.Claims.{Settles, OthersStay}
+use Rattle.rtr_world.specs.History.{Entry, IsEvent, Leads, Made, MayEnd, Memory, NoSuchRouter, Outcome, Done, SessionUsed, TooManyVersions, after, refusal, side_at}
+use Rattle.rtr_world.specs.World.{Event, On, Publish, Restart, Side, World, goes_through, close_ended, instances, is_ended, is_refused, new_world, noted, on_side, settle, settle_conn, settle_link, settle_rest, settle_wire, settled, side_refused, tell_closed, side_step}
+use Rattle.rtr_world.proofs.EventCalls.{told_closes}
 use Rattle.rtr_world.proofs.Invariant.{Good, GoodLink}
-use Rattle.rtr_world.proofs.SideLaws.{all_map, all_new}
-use Rattle.rtr_world.proofs.KeptTables.{AllTell, SideTells, after_tells, new_side_tells}
-use Rattle.rtr_world.proofs.WorldSteps.{GoodWorld, after_good, new_good, part_so, through_good}
+use Rattle.rtr_world.proofs.SideLaws.{all_map, all_new, all_weaker, map_there, elsewhere}
+use Rattle.rtr_world.proofs.KeptTables.{AllTell}
+use Rattle.rtr_world.proofs.WorldSteps.{GoodWorld, part_so, through_good, known_leads}
+use Rattle.std.specs.Option.{option_map}
 
 -- a connection at the cache that has not ended, or has bytes due
 abbrev pub GoesOn : Option Conn → Type 0
@@ -38,9 +38,7 @@ pub record Rests (s : Side) : Type 0 where
 closed_goes_on : (l : Link) → is_closed l ≡ true → is_ended l ≡ false
 closed_goes_on Closed h = refl
 closed_goes_on (Ended end) h = false_true h
-closed_goes_on Idle h = refl
-closed_goes_on (Asked q) h = refl
-closed_goes_on (Answering a) h = refl
+closed_goes_on _ h = refl
 
 -- what being told changes, and what not
 record Tells (s n : Side) : Type 0 where
@@ -79,19 +77,12 @@ conn_router s (Some o) = by_end o.state.ended o.state.due
 -- a link that ended
 link_conn : (all : List Instance) (s : Side) (l : Link) (out : List ℕ) → (settle_link all s l out).conn ≡ s.conn
 link_conn all s (Ended end) [] = (tells all s).conn
-link_conn all s (Ended end) (b ∷ out) = refl
-link_conn all s Closed out = refl
-link_conn all s Idle out = refl
-link_conn all s (Asked q) out = refl
-link_conn all s (Answering a) out = refl
+link_conn all s _ _ = refl
 
 link_goes_on : (all : List Instance) (s : Side) (l : Link) (out : List ℕ) → s.router.link ≡ l → (is_ended l ≡ true → out ≡ []) → is_ended (settle_link all s l out).router.link ≡ false
 link_goes_on all s (Ended end) [] is none = closed_goes_on (tell_closed all s).router.link (told_closes all s)
 link_goes_on all s (Ended end) (b ∷ out) is none = absurd (let h : b ∷ out ≡ [] = none refl in cc)
-link_goes_on all s Closed out is none = ap is_ended is
-link_goes_on all s Idle out is none = ap is_ended is
-link_goes_on all s (Asked q) out is none = ap is_ended is
-link_goes_on all s (Answering a) out is none = ap is_ended is
+link_goes_on all s _ out is none = ap is_ended is
 
 -- what is on the way to a closed link
 record Cleared (s : Side) : Type 0 where
@@ -164,18 +155,12 @@ conn_stays s (Some o) on = by_end o.state.ended o.state.due on
 
 link_stays : (all : List Instance) (s : Side) (l : Link) (out : List ℕ) → is_ended l ≡ false → settle_link all s l out ≡ s
 link_stays all s (Ended end) out on = false_true (sym on)
-link_stays all s Closed out on = refl
-link_stays all s Idle out on = refl
-link_stays all s (Asked q) out on = refl
-link_stays all s (Answering a) out on = refl
+link_stays all s _ out on = refl
 
 rest_stays : (s : Side) (l : Link) (up : List ℕ) → s.router.link ≡ l → s.up ≡ up → Rests s → settle_rest s l up ≡ s
 rest_stays s Closed [] is e h = λ i. record s { conn = sym (h.none_open (ap is_closed is) e) i; down = sym (h.none_down (ap is_closed is)) i }
 rest_stays s Closed (b ∷ up) is e h = λ i. record s { down = sym (h.none_down (ap is_closed is)) i }
-rest_stays s (Ended end) up is e h = refl
-rest_stays s Idle up is e h = refl
-rest_stays s (Asked q) up is e h = refl
-rest_stays s (Answering a) up is e h = refl
+rest_stays s _ up is e h = refl
 
 wire_stays : (all : List Instance) (s : Side) (o : Option Conn) (down : List ℕ) → s.conn ≡ o → s.down ≡ down → Rests s → settle_wire all s o down ≡ s
 wire_stays all s None [] is e h =
@@ -200,9 +185,7 @@ none_out keep past i s g ended = by_link s.router.link g.router.link ended
     by_link : (l : Link) → GoodLink (i ∷ past) i g.seen l s.router s.conn s.up s.down → is_ended l ≡ true → s.router.out ≡ []
     by_link (Ended end) h e = h
     by_link Closed h e = h.3
-    by_link Idle h e = false_true e
-    by_link (Asked q) h e = false_true e
-    by_link (Answering a) h e = false_true e
+    by_link _ h e = false_true e
 
 settled_rests : (w : World) → GoodWorld w → AllByRecursion Rests (settled w).sides
 unfolding settled
@@ -217,24 +200,28 @@ refused_rests (On r event) bytes wanting w g t h = settled_rests (record w { sid
 after_rests : (event : Event) (outcome : Outcome) (w : World) → IsEvent event → MayEnd (refusal w event) w event outcome → GoodWorld w → AllTell w → AllByRecursion Rests w.sides → AllByRecursion Rests (after event outcome w).sides
 after_rests event (Done wanting) w fits may g t h = settled_rests (goes_through event wanting w) (through_good event wanting w fits may g t)
 after_rests event (Memory bytes wanting) w fits may g t h = refused_rests event bytes wanting w g t h
-after_rests event SessionUsed w fits may g t h = h
-after_rests event TooManyVersions w fits may g t h = h
-after_rests event NoSuchRouter w fits may g t h = h
-
-from_old : (old : World) (history : List Entry) (w : World) → LeadsFrom old history w → GoodWorld old → AllTell old → AllByRecursion Rests old.sides → AllByRecursion Rests w.sides
-from_old old history w leads g t h =
-    (leads_keep (λ x. GoodWorld x × AllTell x × AllByRecursion Rests x.sides)
-    (λ event outcome x fits may k. (after_good event outcome x fits may k.0 k.1, after_tells event outcome x k.1, after_rests event outcome x fits may k.0 k.1 k.2)) old history w leads (g, t, h)).2
+after_rests event _ w fits may g t h = h
 
 pub history_rests : (made : Made) (history : List Entry) (w : World) → Leads made history w → AllByRecursion Rests w.sides
 history_rests made history w leads =
-    from_old (new_world made.routers made.session made.session0 made.start made.keep) history w leads.1 (new_good made leads.0) (all_new SideTells new_side_tells made.routers)
-    (all_new Rests (record { conn_on = tt; link_on = refl; none_down = λ c. refl; none_open = λ c none. refl; told = λ n d. record { closed = refl; home = refl; read = refl; up = refl } }) made.routers)
+    (known_leads (λ x. AllByRecursion Rests x.sides) after_rests made history w leads
+    (all_new Rests (record { conn_on = tt; link_on = refl; none_down = λ c. refl; none_open = λ c none. refl; told = λ n d. record { closed = refl; home = refl; read = refl; up = refl } }) made.routers)).2
 
 -- The clean-up after an event leaves nothing to be done.
 pub settles : Settles
-settles made history w leads = each w.sides (history_rests made history w leads)
-  where
-    each : (sides : List Side) → AllByRecursion Rests sides → AllByRecursion (λ s. settle (instances w) s ≡ s) sides
-    each [] h = tt
-    each (s ∷ sides) h = (stays (instances w) s h.0, each sides h.1)
+settles made history w leads = all_weaker Rests (λ s. settle (instances w) s ≡ s) w.sides (stays (instances w)) (history_rests made history w leads)
+
+-- What happens at one router leaves the others.
+rests_there : (r : ℕ) (f : Side → Side) (sides : List Side) → AllByRecursion (λ s. f s ≡ s) sides → option_map f (side_at r sides) ≡ side_at r sides
+rests_there r f [] h = refl
+rests_there zero f (s ∷ sides) h = ap (λ x. Some x) h.0
+rests_there (suc r) f (s ∷ sides) h = rests_there r f sides h.1
+
+so : (r d : ℕ) (f g : Side → Side) (sides : List Side) → ¬ (d ≡ r) → AllByRecursion (λ s. f s ≡ s) sides → side_at d (map f (on_side r g sides)) ≡ side_at d sides
+so r d f g sides h rest = map_there d f (on_side r g sides) ∙ ap (option_map f) (elsewhere r d g sides h) ∙ rests_there d f sides rest
+
+pub others_stay : OthersStay
+unfolding goes_through is_refused settled
+others_stay made history w leads r d event (Done wanting) h = so r d (settle (instances w)) (side_step w event wanting) w.sides h (settles made history w leads)
+others_stay made history w leads r d event (Memory bytes wanting) h = so r d (settle (instances w)) (side_refused w event bytes wanting) w.sides h (settles made history w leads)
+others_stay made history w leads r d event _ h = refl

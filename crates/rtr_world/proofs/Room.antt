@@ -1,4 +1,5 @@
 -- Room for one version more.
+use Rattle.rtr_world.proofs.SideLaws.{inside}
 use Rattle.std.specs.Prelude.{◌≡◌, ℕ, ◌+◌, ◌-◌, ◌≤◌, ◌<◌, ◌^◌, ◌==◌, ◌&&◌, ◌||◌, Bool, true, false, nat_lt, List, [], ◌∷◌, length, Option, Some, None, IfSome, is_none, if◌then◌else◌, refl}
 use Rattle.std.proofs.Common.{sym, ap, ◌∙◌, subst, arith, inl, inr, zero, suc}
 use Rattle.std.proofs.lemmas.Bool.{cases_Bool}
@@ -15,11 +16,8 @@ use Rattle.rtr_world.specs.History.{Reached, all_have_room, is_near, room_for, r
 use Rattle.rtr_world.specs.VersionPlaces.{position_of}
 use Rattle.rtr_world.specs.SideShown.{MadeAt, MadeWhere, held_of}
 use Rattle.rtr_world.specs.World.{World, Side, instances}
-use Rattle.rtr_world.proofs.Histories.{Known, history_known}
 use Rattle.rtr_world.proofs.Versions.{Present, Stands, TableAt, of_present, position_at}
-use Rattle.rtr_world.proofs.WorldSteps.{GoodWorld, history_good, new_good}
-use Rattle.rtr_world.proofs.KeptTables.{new_side_tells}
-use Rattle.rtr_world.proofs.SideLaws.{all_new}
+use Rattle.rtr_world.proofs.WorldSteps.{GoodWorld, Known, history_known, good_world}
 use Rattle.prefixes.proofs.Basics.{eq_of}
 use Rattle.rtr_world.proofs.Routers.{low_of}
 
@@ -27,13 +25,10 @@ use Rattle.rtr_world.proofs.Routers.{low_of}
 pub all_at : (P : Side → Type 0) (r : ℕ) (sides : List Side) (s : Side) → side_at r sides ≡ Some s → AllByRecursion P sides → P s
 all_at P r [] s is h = absurd (let k : ◌≡◌ {A = Option Side} None (Some s) = is in cc)
 all_at P zero (t ∷ sides) s is h = subst P (inside is) h.0
-  where
-    inside : {a b : Side} → Some a ≡ Some b → a ≡ b
-    inside h = cc
 all_at P (suc r) (t ∷ sides) s is h = all_at P r sides s is h.1
 
 pub reached_good : (w : World) → Reached w → GoodWorld w
-reached_good w r = history_good _ r.history w r.leads.1 (new_good r.made r.leads.0) (all_new _ new_side_tells r.made.routers)
+reached_good w r = good_world r.made r.history w r.leads
 
 pub reached_known : (w : World) (r : ℕ) (s : Side) → Reached w → side_at r w.sides ≡ Some s → Known w s
 reached_known w r s reached found = all_at (Known w) r w.sides s found (history_known reached.made reached.history w reached.leads)
@@ -51,9 +46,6 @@ tests_some : (held : Option Serial) (next : ℕ) (answer : Bool) → Tests held 
 tests_some None next answer tests serial start position total is at after behind near = absurd (let k : ◌≡◌ {A = Option ℕ} None (Some serial) = is in cc)
 tests_some (Some s) next answer tests serial start position total is at after behind near =
     tests start position (total - position) near (inside is ∙ at) (after ∙ ap (serial_at start) (let e : total ≡ position + (total - position) = omega (arith, behind) in e))
-  where
-    inside : {a b : ℕ} → Some a ≡ Some b → a ≡ b
-    inside h = cc
 
 no_serial : (held : Option Serial) → option_map (λ s. s.0) held ≡ None → held ≡ None
 no_serial None h = refl
@@ -107,9 +99,6 @@ one_more w k s first is room r t low found = elim (cases_Bool (r == k)) [
   | inr other ↦ first r t (below r k low other) found
 ]
   where
-    inside : {a b : Side} → Some a ≡ Some b → a ≡ b
-    inside h = cc
-
     below : (r k : ℕ) → r < k + 1 → (r == k) ≡ false → r < k
     below r k low other = grind (arith, nat_tests)
 
@@ -123,9 +112,6 @@ all_first w k first all = sym (all_room w.present w.sides (λ r s is. first r s 
 one_far : (i : Instance) (r : ℕ) (sides : List Side) (s : Side) → side_at r sides ≡ Some s → (room_for i s.router.version && room_since i s.home) ≡ false → all_have_room i sides ≡ false
 one_far i r [] s is far = absurd (let k : ◌≡◌ {A = Option Side} None (Some s) = is in cc)
 one_far i zero (t ∷ sides) s is far = ap (λ b. b && all_have_room i sides) (ap (λ x. room_for i x.router.version && room_since i x.home) (inside is) ∙ far)
-  where
-    inside : {a b : Side} → Some a ≡ Some b → a ≡ b
-    inside h = cc
 one_far i (suc r) (t ∷ sides) s is far = and_false (room_for i t.router.version && room_since i t.home) (all_have_room i sides) (one_far i r sides s is far)
   where
     and_false : (a b : Bool) → b ≡ false → (a && b) ≡ false

@@ -52,10 +52,7 @@ step_of made history old new r e result l on =
 
 pub went : (o : Outcome) → AnswersOutcome (outcome_fault o) (Ok tt) → (wanting : Option ℕ) × (o ≡ Done wanting)
 went (Done wanting) h = (wanting, refl)
-went SessionUsed h = absurd (let k : Err _ ≡ Ok _ = sym h in cc)
-went TooManyVersions h = absurd (let k : Err _ ≡ Ok _ = sym h in cc)
-went NoSuchRouter h = absurd (let k : Err _ ≡ Ok _ = sym h in cc)
-went (Memory bytes wanting) h = absurd (let k : Err _ ≡ Ok _ = sym h in cc)
+went _ h = absurd (let k : Err _ ≡ Ok _ = sym h in cc)
 
 module _ (r : ℕ) (e : SideEvent) (w : World) (s : Side) (found : side_at r w.sides ≡ Some s) where
   no_refusal : (o : Outcome) → MayEnd (refusal w (On r e)) w (On r e) o → MayEnd None w (On r e) o

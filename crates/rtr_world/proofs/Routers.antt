@@ -4,7 +4,7 @@ use Rattle.std.proofs.Common.{ap, ◌∙◌, subst, arith, zero, suc}
 use Rattle.std.specs.List.{AllByRecursion}
 use Rattle.rtr_world.specs.History.{Outcome, Done, SessionUsed, TooManyVersions, NoSuchRouter, Memory, Entry, Made, Leads, after, side_at}
 use Rattle.rtr_world.specs.World.{World, Side, Event, Publish, Restart, On, goes_through, is_refused, new_sides, on_side, settled}
-use Rattle.rtr_world.proofs.Folding.{leads_keep}
+use Rattle.rtr_world.proofs.EventCalls.{leads_keep}
 
 on_length : (r : ℕ) (f : Side → Side) (sides : List Side) → length (on_side r f sides) ≡ length sides
 on_length r f [] = refl
@@ -34,9 +34,7 @@ refused_length (On r event) bytes wanting w = map_length _ _ ∙ on_length r _ w
 after_length : (event : Event) (outcome : Outcome) (w : World) → length (after event outcome w).sides ≡ length w.sides
 after_length event (Done wanting) w = through_length event wanting w
 after_length event (Memory bytes wanting) w = refused_length event bytes wanting w
-after_length event SessionUsed w = refl
-after_length event TooManyVersions w = refl
-after_length event NoSuchRouter w = refl
+after_length event _ w = refl
 
 pub routers_stay : (made : Made) (history : List Entry) (w : World) → Leads made history w → length w.sides ≡ made.routers
 routers_stay made history w leads =

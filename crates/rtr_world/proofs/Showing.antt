@@ -1,4 +1,5 @@
 -- A world of the program and its model.
+use Rattle.rtr_world.proofs.SideLaws.{inside, elsewhere}
 use Rattle.std.specs.Prelude.{◌≡◌, ℕ, ◌+◌, ◌<◌, ◌≤◌, ◌==◌, ◌||◌, Bool, true, false, nat_lt, List, [], ◌∷◌, ◌++◌, map, length, find, Option, Some, None, is_some, IsSome, Result, slice_get, slice_set, option_map, if◌then◌else◌, refl, ⊤}
 use Rattle.std.proofs.Common.{sym, ap, ◌∙◌, subst, arith, inl, inr, zero, suc}
 use Rattle.std.proofs.lemmas.Bool.{cases_Bool}
@@ -25,9 +26,6 @@ use Rattle.rtr_world.proofs.Moving.{none_some}
 use Rattle.rtr_world.proofs.Rests.{Rests, stays}
 use Rattle.rtr_world.proofs.Versions.{lt_of}
 use Rattle.prefixes.proofs.Basics.{eq_of, set_same, set_other, not_eq_of}
-
-inside : {A : Type 0} {a b : A} → Some a ≡ Some b → a ≡ b
-inside h = cc
 
 -- One event more
 leads_from : (old : World) (history : List Entry) (w : World) (entry : Entry) (n : World) → LeadsFrom old history w → WorldStep w entry.event entry.outcome n → LeadsFrom old (history ++ entry ∷ []) n
@@ -70,8 +68,7 @@ found_side w at None None v e h = absurd (let k : ◌≡◌ {A = Option values.S
 same_length : (w : World) (at : ℕ → Option Conn) (sides : List Side) (items : List values.Side) → ((r : ℕ) → ShowsAt w at (side_at r sides) (slice_get items r)) → length sides ≡ length items
 same_length w at [] [] h = refl
 same_length w at (s ∷ sides) (v ∷ items) h = ap suc (same_length w at sides items (λ r. h (suc r)))
-same_length w at [] (v ∷ items) h = absurd (h zero)
-same_length w at (s ∷ sides) [] h = absurd (h zero)
+same_length w at _ _ h = absurd (h zero)
 
 pub shown_length : (w : World) (at : ℕ → Option Conn) (cache : Cache Steps) (items : List values.Side) → ShowsParts w at cache items → length w.sides ≡ length items
 shown_length w at cache items h = same_length w at w.sides items h.each
@@ -81,13 +78,6 @@ on_same r f [] = refl
 on_same zero f (s ∷ sides) = refl
 on_same (suc r) f (s ∷ sides) = on_same r f sides
 
-on_other : (r d : ℕ) (f : Side → Side) (sides : List Side) → ¬ (d ≡ r) → side_at d (on_side r f sides) ≡ side_at d sides
-on_other r d f [] h = refl
-on_other zero zero f (s ∷ sides) h = absurd (h refl)
-on_other zero (suc d) f (s ∷ sides) h = refl
-on_other (suc r) zero f (s ∷ sides) h = refl
-on_other (suc r) (suc d) f (s ∷ sides) h = on_other r d f sides (λ e. h (ap suc e))
-
 -- other sides do not matter to one
 pub among : (w : World) (sides : List Side) (at : ℕ → Option Conn) (s : Side) (v : values.Side) → ShowsSide w at s v → ShowsSide (record w { sides = sides }) at s v
 among w sides at s v h = record { router = h.router; conn = h.conn; up = h.up; down = h.down; made = h.made; made_to = h.made_to }
@@ -96,14 +86,12 @@ module _ (w : World) (at now : ℕ → Option Conn) (sides : List Side) where
   still_conn : (n : Option Number) (o : Option Conn) → ((k : ℕ) → Has n k → IsSome (at k) → now k ≡ at k) → ConnIs at n o → ConnIs now n o
   still_conn None None keeps h = tt
   still_conn (Some n) (Some o) keeps h = keeps n.0 refl (subst IsSome (sym h) refl) ∙ h
-  still_conn None (Some o) keeps h = h
-  still_conn (Some n) None keeps h = h
+  still_conn _ _ keeps h = h
 
   pub still : (a : Option Side) (q : Option values.Side) → ((k : ℕ) → HasAt q k → IsSome (at k) → now k ≡ at k) → ShowsAt w at a q → ShowsAt (record w { sides = sides }) now a q
   still None None keeps h = tt
   still (Some s) (Some v) keeps h = record { router = h.router; conn = still_conn v.conn s.conn keeps h.conn; up = h.up; down = h.down; made = h.made; made_to = h.made_to }
-  still None (Some v) keeps h = h
-  still (Some s) None keeps h = h
+  still _ _ keeps h = h
 
 -- a number that a side has is one at the cache
 some_at : (w : World) (at : ℕ → Option Conn) (a : Option Side) (q : Option values.Side) (k : ℕ) → ShowsAt w at a q → HasAt q k → IsSome (at k)
@@ -114,8 +102,7 @@ some_at w at (Some s) (Some v) k h has = by_conn v.conn s.conn has h.conn
     by_conn (Some n) None e is = absurd is
     by_conn None o e is = absurd e
 some_at w at None None k h has = absurd has
-some_at w at None (Some v) k h has = absurd h
-some_at w at (Some s) None k h has = absurd h
+some_at w at _ _ k h has = absurd h
 
 module _ (w : World) (at : ℕ → Option Conn) (cache later : Cache Steps) (olds : List values.Side) (r : ℕ) (s : Side) (f : Side → Side) (old new : values.Side) (parts : ShowsParts w at cache olds) (low : r < length olds) (found : slice_get olds r ≡ Some old)
     (is : side_at r w.sides ≡ Some s) (m : Moves w at old.conn (f s) later new) where
@@ -124,7 +111,7 @@ module _ (w : World) (at : ℕ → Option Conn) (cache later : Cache Steps) (old
 
   there : (d : ℕ) → ¬ (d ≡ r) → ShowsAt (record w { sides = on_side r f w.sides }) m.now (side_at d (on_side r f w.sides)) (slice_get (slice_set olds r new) d)
   there d other =
-      subst (λ a. ShowsAt (record w { sides = on_side r f w.sides }) m.now a (slice_get (slice_set olds r new) d)) (sym (on_other r d f w.sides other))
+      subst (λ a. ShowsAt (record w { sides = on_side r f w.sides }) m.now a (slice_get (slice_set olds r new) d)) (sym (elsewhere r d f w.sides other))
       (subst (λ q. ShowsAt (record w { sides = on_side r f w.sides }) m.now (side_at d w.sides) q) (sym (set_other olds r d new other))
       (still w at m.now (on_side r f w.sides) (side_at d w.sides) (slice_get olds d) (λ k has some. m.others k some (λ mine. other (parts.own d r k has (had k mine)))) (parts.each d)))
 

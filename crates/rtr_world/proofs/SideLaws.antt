@@ -1,6 +1,8 @@
 -- What holds of each router of each world to which a history leads.
-use Rattle.std.specs.Prelude.{ℕ, List, [], ◌∷◌, map}
-use Rattle.std.proofs.Common.{zero, suc}
+use Rattle.rtr_world.specs.History.{side_at}
+use Rattle.std.specs.Option.{option_map}
+use Rattle.std.specs.Prelude.{ℕ, List, [], ◌∷◌, map, ◌≡◌, Some, refl}
+use Rattle.std.proofs.Common.{zero, suc, ap}
 use Rattle.std.specs.List.{AllByRecursion}
 use Rattle.rtr_world.specs.World.{Side, new_side, new_sides, on_side}
 
@@ -29,3 +31,24 @@ module _ (P : Side → Type 0) where
 pub all_both : (P Q : Side → Type 0) (sides : List Side) → AllByRecursion P sides → AllByRecursion Q sides → AllByRecursion (λ s. P s × Q s) sides
 all_both P Q [] h k = tt
 all_both P Q (s ∷ sides) h k = ((h.0, k.0), all_both P Q sides h.1 k.1)
+
+-- what follows from a fact of each side
+pub all_weaker : (P Q : Side → Type 0) (sides : List Side) → ((s : Side) → P s → Q s) → AllByRecursion P sides → AllByRecursion Q sides
+all_weaker P Q [] f h = tt
+all_weaker P Q (s ∷ sides) f h = (f s h.0, all_weaker P Q sides f h.1)
+
+pub inside : {A : Type 0} {a b : A} → Some a ≡ Some b → a ≡ b
+inside h = cc
+
+-- one of the sides
+pub map_there : (r : ℕ) (f : Side → Side) (sides : List Side) → side_at r (map f sides) ≡ option_map f (side_at r sides)
+map_there r f [] = refl
+map_there zero f (s ∷ sides) = refl
+map_there (suc r) f (s ∷ sides) = map_there r f sides
+
+pub elsewhere : (r d : ℕ) (f : Side → Side) (sides : List Side) → ¬ (d ≡ r) → side_at d (on_side r f sides) ≡ side_at d sides
+elsewhere r d f [] h = refl
+elsewhere zero zero f (s ∷ sides) h = absurd (h refl)
+elsewhere zero (suc d) f (s ∷ sides) h = refl
+elsewhere (suc r) zero f (s ∷ sides) h = refl
+elsewhere (suc r) (suc d) f (s ∷ sides) h = elsewhere r d f sides (λ e. h (ap suc e))

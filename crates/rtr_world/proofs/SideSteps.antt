@@ -32,16 +32,12 @@ pub live_map : (l : Link) (all all' : List Instance) (i i' : Instance) (home hom
     → (r.held ≡ [] → r'.held ≡ []) → (r.out ≡ [] → r'.out ≡ []) → r'.agreed ≡ r.agreed → r'.session ≡ r.session → GoodLink all i home l r conn up down → (Live all i home r conn up down → Live all' i' home' r' conn' up' down') → GoodLink all' i' home' l r' conn' up' down'
 live_map Closed all all' i i' home home' r r' conn conn' up up' down down' held out agreed session g f = (held g.0, agreed ∙ g.1, session ∙ g.2, out g.3)
 live_map (Ended end) all all' i i' home home' r r' conn conn' up up' down down' held out agreed session g f = out g
-live_map Idle all all' i i' home home' r r' conn conn' up up' down down' held out agreed session g f = f g
-live_map (Asked q) all all' i i' home home' r r' conn conn' up up' down down' held out agreed session g f = f g
-live_map (Answering a) all all' i i' home home' r r' conn conn' up up' down down' held out agreed session g f = f g
+live_map _ all all' i i' home home' r r' conn conn' up up' down down' held out agreed session g f = f g
 
 pub live_of : (l : Link) (all : List Instance) (i : Instance) (home : Option Seen) (r : Router) (conn : Option Conn) (up down : List ℕ) → GoodLink all i home l r conn up down → is_reading l ≡ true → Live all i home r conn up down
 live_of Closed all i home r conn up down g live = false_true live
 live_of (Ended end) all i home r conn up down g live = false_true live
-live_of Idle all i home r conn up down g live = g
-live_of (Asked q) all i home r conn up down g live = g
-live_of (Answering a) all i home r conn up down g live = g
+live_of _ all i home r conn up down g live = g
 
 -- A PDU is a notify, or stands among those that are none.
 pub data HeadCase (u : Unit) (more : List Unit) : Type 0 where
@@ -87,10 +83,7 @@ module _ (all : List Instance) (i : Instance) (home : Option Seen) (conn : Optio
     upward = op.upward;
     spoken = op.spoken;
     unheard = by_header (header_version o.state.version o.held) op.unheard;
-    whole = op.whole;
-    session = op.session;
-    made = op.made;
-    later = op.later;
+    linked = op.linked;
   }
     where
       by_header : (known : Option Version) → Unheard known (u ∷ more) agreed → Unheard known more now
@@ -100,10 +93,7 @@ module _ (all : List Instance) (i : Instance) (home : Option Seen) (conn : Optio
   -- A notify takes no memory.
   notify_frees : (l : Link) (session serial : ℕ) (r : Router) → may_lack l (SerialNotify session serial) r ≡ false
   notify_frees (Answering a) session serial r = refl
-  notify_frees Closed session serial r = refl
-  notify_frees Idle session serial r = refl
-  notify_frees (Asked q) session serial r = refl
-  notify_frees (Ended end) session serial r = refl
+  notify_frees _ session serial r = refl
 
   -- it reads a byte
   byte_read : (down : List ℕ) (r : Router) (b : ℕ) (memory : Bool) (h : Seen) (f : Flow all i h r conn up (b ∷ down)) → home ≡ Some h → is_reading r.link ≡ true → r.out ≡ [] → TableAt all r.version r.table → r.mark ≡ false
@@ -116,21 +106,7 @@ module _ (all : List Instance) (i : Instance) (home : Option Seen) (conn : Optio
         link = live_link all i home conn up down (record r { held = r.held ++ b ∷ [] }) r.link refl live (
           h,
           eh,
-          record {
-            version = f.version;
-            early = f.early;
-            coming = f.coming;
-            lost = f.lost;
-            wanted = f.wanted;
-            downward = s;
-            open_at = f.open_at;
-            are_early = f.are_early;
-            early_notifies = f.early_notifies;
-            notifies = f.notifies;
-            own = f.own;
-            mine = f.mine;
-            shape = f.shape;
-          },
+          record { early = f.early; coming = f.coming; lost = f.lost; wanted = f.wanted; said = f.said; downward = s; open_at = f.open_at },
         );
       })
   byte_read down r b memory h f eh live none table mark (notified session serial rest is e s) =
@@ -146,19 +122,13 @@ module _ (all : List Instance) (i : Instance) (home : Option Seen) (conn : Optio
 
       left : Flow all i h k conn up down
       left = record {
-        version = f.version;
         early = rest;
         coming = f.coming;
         lost = f.lost;
         wanted = f.wanted;
+        said = record { version = f.version; are_early = (subst (λ x. without_notifies x ≡ []) is f.are_early.0, λ a. false_true (sym open_yet ∙ a)); early_notifies = (subst (λ x. NotifiesOf h.made.session x) is f.early_notifies).1; notifies = f.notifies; own = f.own; mine = f.mine; shape = f.shape };
         downward = s;
         open_at = f.open_at;
-        are_early = (subst (λ x. without_notifies x ≡ []) is f.are_early.0, λ a. false_true (sym open_yet ∙ a));
-        early_notifies = (subst (λ x. NotifiesOf h.made.session x) is f.early_notifies).1;
-        notifies = f.notifies;
-        own = f.own;
-        mine = f.mine;
-        shape = f.shape;
       }
   byte_read down r b memory h f eh live none table mark (wholly alone u more is e fit s) =
       subst (λ j. GoodRouter all i home conn up down (with_bytes memory (r.held ++ b ∷ []) r j).router) (sym e) (by_memory (may_lack r.link u r && not memory))
@@ -171,14 +141,16 @@ module _ (all : List Instance) (i : Instance) (home : Option Seen) (conn : Optio
 
       d : Reads all i home conn up down k more
       d = record {
-        h = h;
-        is_home = eh;
-        version = f.version;
-        lost = f.lost;
-        wanted = f.wanted;
-        downward = s;
-        open_at = λ agreed. heard h r.spoken [] f.wanted u more r.agreed agreed f.lost conn (subst₂ (λ x y. IfOpen conn (Open i r.spoken h x up f.wanted y r.agreed f.lost)) none is f.open_at);
-        notifies = notifies_rest h.session u more notes;
+        comes = record {
+          h = h;
+          is_home = eh;
+          lost = f.lost;
+          wanted = f.wanted;
+          version = f.version;
+          downward = s;
+          open_at = λ agreed. heard h r.spoken [] f.wanted u more r.agreed agreed f.lost conn (subst₂ (λ x y. IfOpen conn (Open i r.spoken h x up f.wanted y r.agreed f.lost)) none is f.open_at);
+          notifies = notifies_rest h.session u more notes;
+        };
         own = f.own;
         mine = f.mine;
         none = none;
@@ -209,19 +181,13 @@ module _ (all : List Instance) (i : Instance) (home : Option Seen) (conn : Optio
       l.0,
       l.1,
       record {
-        version = l.2.version;
         early = l.2.early;
         coming = l.2.coming;
         lost = l.2.lost;
         wanted = l.2.wanted;
+        said = record { version = l.2.version; are_early = l.2.are_early; early_notifies = l.2.early_notifies; notifies = l.2.notifies; own = l.2.own; mine = λ e. tt; shape = k l.0 l.2.wanted (without_notifies l.2.coming) l.2.shape };
         downward = l.2.downward;
         open_at = l.2.open_at;
-        are_early = l.2.are_early;
-        early_notifies = l.2.early_notifies;
-        notifies = l.2.notifies;
-        own = l.2.own;
-        mine = λ e. tt;
-        shape = k l.0 l.2.wanted (without_notifies l.2.coming) l.2.shape;
       },
     )
 
@@ -248,29 +214,7 @@ module _ (all : List Instance) (i : Instance) (home : Option Seen) (conn : Optio
             (s.0, s.1, s.2, fits_nothing h.session a.question e, subst (λ base. OfAnswer all r.spoken h base a t) (sym (same_base a.question r.table e)) s.4))) g)
 
     told_good : (now : ℕ) (r : Router) → GoodR r → GoodR (record r { now = now })
-    told_good now r g = record {
-      table = g.table;
-      unmarked = g.unmarked;
-      link = live_map r.link all all i i home home r (record r { now = now }) conn conn up up down down (λ e. e) (λ e. e) refl refl g.link (λ l. (
-        l.0,
-        l.1,
-        record {
-          version = l.2.version;
-          early = l.2.early;
-          coming = l.2.coming;
-          lost = l.2.lost;
-          wanted = l.2.wanted;
-          downward = l.2.downward;
-          open_at = l.2.open_at;
-          are_early = l.2.are_early;
-          early_notifies = l.2.early_notifies;
-          notifies = l.2.notifies;
-          own = l.2.own;
-          mine = l.2.mine;
-          shape = l.2.shape;
-        },
-      ));
-    }
+    told_good now r g = record { table = g.table; unmarked = g.unmarked; link = g.link }
 
     pub clocked_good : (now : ℕ) (r : Router) → GoodR r → GoodR (clocked now r)
     unfolding clocked
@@ -309,9 +253,7 @@ module _ (all : List Instance) (i : Instance) (home : Option Seen) (conn : Optio
         by_link Closed is h =
             subst (λ b. Shut (if b then r else closed)) (ap is_closed (sym is)) (record { table = g.table; unmarked = g.unmarked; closed = is; held = h.0; agreed = h.1; session = h.2; out = h.3 })
         by_link (Ended end) is h = open_link (ap is_closed is)
-        by_link Idle is h = open_link (ap is_closed is)
-        by_link (Asked q) is h = open_link (ap is_closed is)
-        by_link (Answering a) is h = open_link (ap is_closed is)
+        by_link _ is h = open_link (ap is_closed is)
 
     -- an idle link asks
     open_quiet : (h : Seen) (pv : Version) (out : List ℕ) (wanted coming : List Unit) (agreed : Bool) (lost : List ℕ) (o : Option Conn) → wanted ≡ [] → IfOpen o (Open i pv h out up wanted coming agreed lost) → IfOpen o (Open i pv h [] up wanted coming agreed lost)
@@ -319,7 +261,7 @@ module _ (all : List Instance) (i : Instance) (home : Option Seen) (conn : Optio
     open_quiet h pv out wanted coming agreed lost (Some o) e op =
         let none : o.held ++ (up ++ out) ≡ [] = op.upward.whole ∙ ap (λ x. bytes_sent (in_version pv x)) e in
         let empty_out : out ≡ [] = nothing_right up out (nothing_right o.held (up ++ out) none) in
-        record { upward = subst (λ x. Stream o.held (up ++ x) (in_version pv wanted)) empty_out op.upward; spoken = op.spoken; unheard = op.unheard; whole = op.whole; session = op.session; made = op.made; later = op.later }
+        record { upward = subst (λ x. Stream o.held (up ++ x) (in_version pv wanted)) empty_out op.upward; spoken = op.spoken; unheard = op.unheard; linked = op.linked }
 
     pub asks_good : (l : Link) (r : Router) (b : Bool) → r.link ≡ l → (is_idle l ≡ false → b ≡ false) → GoodR r → GoodLink all i home l r conn up down → GoodR (asks_if b r).router
     asks_good l r false is idle g k = g
@@ -337,21 +279,15 @@ module _ (all : List Instance) (i : Instance) (home : Option Seen) (conn : Optio
             k.0,
             k.1,
             record {
-              version = k.2.version;
               early = k.2.early;
               coming = k.2.coming;
               lost = k.2.lost;
               wanted = query (choose (of_version r.spoken r.version) r.mark) ∷ [];
+              said = record { version = k.2.version; are_early = k.2.are_early; early_notifies = k.2.early_notifies; notifies = k.2.notifies; own = k.2.own; mine = k.2.mine; shape = (fits, inl (refl, s.1)) };
               downward = k.2.downward;
               open_at = open_asking all i home conn up down r.spoken k.0 k.2.wanted k.2.coming r.agreed k.2.lost (choose (of_version r.spoken r.version) r.mark) conn s.0
                   (query_unit all r.spoken k.0.session (choose (of_version r.spoken r.version) r.mark) (of_version r.spoken r.version) r.table fits (held_at all r.spoken r.version r.table g.table))
                   (open_quiet k.0 r.spoken r.out k.2.wanted k.2.coming r.agreed k.2.lost conn s.0 k.2.open_at);
-              are_early = k.2.are_early;
-              early_notifies = k.2.early_notifies;
-              notifies = k.2.notifies;
-              own = k.2.own;
-              mine = k.2.mine;
-              shape = (fits, inl (refl, s.1));
             },
           );
         }

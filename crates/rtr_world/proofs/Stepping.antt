@@ -63,10 +63,7 @@ no_such w v r e h high = record {
 -- What may fail is an event of a router that has a connection.
 links_out : (s : Side) (all : List Instance) (i : Instance) (seen : Option Seen) (l : Link) → GoodLink all i seen l s.router s.conn s.up s.down → ¬ (s.router.out ≡ []) → is_closed l ≡ false
 links_out s all i seen Closed g some = absurd (some g.3)
-links_out s all i seen (Ended end) g some = refl
-links_out s all i seen Idle g some = refl
-links_out s all i seen (Asked q) g some = refl
-links_out s all i seen (Answering a) g some = refl
+links_out s all i seen _ g some = refl
 
 open_conn : (o : Option Conn) → ¬ (o ≡ None) → is_some o ≡ true
 open_conn None h = absurd (h refl)
@@ -80,14 +77,7 @@ may_fail : (w : World) (s : Side) (e : SideEvent) → Good w.keep w.past w.prese
 may_fail w s Connect g h = refl
 may_fail w s (RouterSends most) g h = ap (λ b. not b || is_some s.conn) (links_out s (instances w) w.present g.seen s.router.link g.router.link h)
 may_fail w s (CacheSends most) g h = ap (λ b. not (is_closed s.router.link) || b) (open_conn s.conn h) ∙ or_true (not (is_closed s.router.link))
-may_fail w s RouterRestart g h = absurd h
-may_fail w s (Speak version) g h = absurd h
-may_fail w s (CacheGets most) g h = absurd h
-may_fail w s (RouterGets most) g h = absurd h
-may_fail w s (Cut left) g h = absurd h
-may_fail w s NotifyRouter g h = absurd h
-may_fail w s Ask g h = absurd h
-may_fail w s (Tick now) g h = absurd h
+may_fail w s _ g h = absurd h
 
 module _ (w : World) (v n : code.World) (r : ℕ) (e : SideEvent) (s : Side) (old new : values.Side) (was : Reached w) (h : ShowsWorld w v) (low : r < length v.sides.items) (found : slice_get v.sides.items r ≡ Some old) (is : side_at r w.sides ≡ Some s)
     (same : n ≡ record v { cache = n.cache; sides = n.sides }) (items : n.sides.items ≡ slice_set v.sides.items r new) (router : ℕ) (router_is : r ≡ router) where

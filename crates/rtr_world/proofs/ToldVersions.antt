@@ -1,4 +1,5 @@
 -- A router of a world speaks what it was told.
+use Rattle.rtr_world.proofs.RouterCases.{asks_by, clocked_by, close_by}
 use Rattle.std.specs.Prelude.{◌≡◌, ℕ, zero, suc, Bool, true, false, ◌==◌, List, [], ◌∷◌, map, take, Option, Some, None, if◌then◌else◌, ⊤, refl}
 use Rattle.std.proofs.Common.{sym, ap, ◌∙◌, subst}
 use Rattle.std.specs.Option.{option_map}
@@ -6,52 +7,27 @@ use Rattle.prefixes.proofs.Basics.{eq_of, eq_true}
 use Rattle.vrps.specs.Instance.{Instance}
 use Rattle.rtr_pdu.specs.declared.version.Version.{Version}
 use Rattle.rtr_pdu.specs.declared.version.Version.TheVariants.{V1}
-use Rattle.rtr_ends.specs.declared.link.End.TheVariants as ends
 use Rattle.rtr_ends.specs.LinkRules.{Router, emptied}
 use Rattle.rtr_ends.specs.Router.{Receiving, asks, asks_if, clocked, close, closed_at, connects_at, expired, receives, router_byte, router_pulled, router_stops, ticks_at}
 use Rattle.rtr_ends.specs.RouterLink.{Link, Closed, Idle, Asked, Answering, Ended, is_closed, is_due, is_idle}
 use Rattle.rtr_ends.specs.Transcript.{At, AskReset, AskSerial, is_over, is_serial, later, retry_of, sum_of}
 use Rattle.rtr_ends.proofs.FeedingLaws.{feed_keeps}
-use Rattle.rtr_world.specs.Claims.{EachSpeaks, told_by, told_since}
-use Rattle.rtr_world.specs.History.{Outcome, Done, SessionUsed, TooManyVersions, NoSuchRouter, Memory, Entry, LeadsFrom, after, side_at}
-use Rattle.rtr_world.specs.World.{Side, World, instances, SideEvent, RouterRestart, Speak, Connect, RouterSends, CacheGets, CacheSends, RouterGets, Cut, NotifyRouter, Ask, Tick, Event, Publish, Restart, On, cache_gets, cache_gone, cache_sends, connects, cut, goes_through, is_refused, new_sides, new_world, noted, on_side, router_gets, router_restarts, router_sends, settle, settled, side_part, side_refused, side_step, speaks, tell_closed}
+use Rattle.rtr_world.specs.Claims.{EachSpeaks, told_since, told_by}
+use Rattle.rtr_world.specs.History.{Outcome, Done, Memory, Entry, LeadsFrom, after, side_at}
+use Rattle.rtr_world.specs.World.{Side, World, instances, SideEvent, RouterRestart, Speak, Connect, RouterGets, Ask, Tick, Event, Publish, Restart, On, cache_gone, cut, goes_through, is_refused, new_sides, new_world, on_side, router_restarts, settle, settled, side_refused, side_step, speaks}
 use Rattle.rtr_world.proofs.CatchUpSides.{byte_speaks}
-use Rattle.rtr_world.proofs.Folding.{Blind, gets_keep, notifies_keep, sends_keep, settle_keeps}
+use Rattle.rtr_world.proofs.EventCalls.{IsNoRestart, call_of, lesser, step_by, part_by, IsMoving, after_call, closed_by, settle_keeps}
+use Rattle.rtr_ends.specs.declared.link.End.TheVariants as ends
 
 -- The clock and a close leave it.
-expired_speaks : (l : Link) (r : Router) → (expired l r).speaks ≡ r.speaks
-expired_speaks Closed r = refl
-expired_speaks (Ended end) r = refl
-expired_speaks Idle r = refl
-expired_speaks (Asked AskReset) r = refl
-expired_speaks (Asked (AskSerial session serial)) r = refl
-expired_speaks (Answering a) r = by_question (is_serial (Some a.question))
-  where
-    by_question : (b : Bool) → (if b then record (emptied r) { link = Ended ends.Expired; out = [] } else emptied r).speaks ≡ r.speaks
-    by_question true = refl
-    by_question false = refl
-
 clocked_speaks : (now : ℕ) (r : Router) → (clocked now r).speaks ≡ r.speaks
-unfolding clocked
-clocked_speaks now r = by_clock (is_over r.version (later r.now now))
-  where
-    moved : Router
-    moved = record r { now = later r.now now }
-
-    by_clock : (b : Bool) → (if b then expired moved.link moved else moved).speaks ≡ r.speaks
-    by_clock true = expired_speaks moved.link moved
-    by_clock false = refl
+clocked_speaks now r = clocked_by (λ k. k.speaks ≡ r.speaks) now r refl refl refl
 
 close_speaks : (r : Router) → (close r).speaks ≡ r.speaks
-close_speaks r = by_test (is_closed r.link)
-  where
-    by_test : (b : Bool) → (if b then r else record r { link = Closed; agreed = false; session = None; held = []; out = []; due = Some (sum_of r.now (retry_of r.version)) }).speaks ≡ r.speaks
-    by_test true = refl
-    by_test false = refl
+close_speaks r = close_by (λ k. k.speaks ≡ r.speaks) r (λ e. refl) (λ e. refl)
 
 asks_speak : (b : Bool) (r : Router) → (asks_if b r).router.speaks ≡ r.speaks
-asks_speak true r = refl
-asks_speak false r = refl
+asks_speak b r = asks_by (λ n. n.router.speaks ≡ r.speaks) b r refl refl
 
 receives_speaks : (now : ℕ) (wanting : Option ℕ) (piece : List ℕ) (r : Router) → (receives now wanting piece r).machine.router.speaks ≡ r.speaks
 unfolding receives
@@ -63,56 +39,41 @@ receives_speaks now wanting piece r =
 abbrev Says : Version → Side → Type 0
 Says version s = s.router.speaks ≡ version
 
-blind_says : (version : Version) → Blind (Says version)
-blind_says version s conn up down read h = h
-
-told_says : (version : Version) (all : List Instance) (s : Side) → Says version s → Says version (tell_closed all s)
-unfolding closed_at
-told_says version all s h = by_link (is_closed s.router.link)
-  where
-    by_link : (b : Bool) → Says version (if b then record s { home = None; read_at = None } else record (noted all (closed_at s.router.now s.router) s) { home = None; read_at = None })
-    by_link true = h
-    by_link false = close_speaks (clocked s.router.now s.router) ∙ clocked_speaks s.router.now s.router ∙ h
-
-settle_says : (version : Version) (all : List Instance) (s : Side) → Says version s → Says version (settle all s)
-settle_says version all s h = settle_keeps (Says version) (blind_says version) all (told_says version all) s h
-
 abbrev says_after : SideEvent → Version → Version
 says_after (Speak new) version = new
 says_after RouterRestart version = V1
 says_after event version = version
 
-step_says : (w : World) (event : SideEvent) (wanting : Option ℕ) (s : Side) → Says (says_after event s.router.speaks) (side_step w event wanting s)
-unfolding side_step speaks connects connects_at router_restarts router_sends router_pulled router_gets cache_gets cache_sends cut asks ticks_at
-step_says w RouterRestart wanting s = refl
-step_says w (Speak version) wanting s = refl
-step_says w Connect wanting s = close_speaks (clocked s.router.now s.router) ∙ clocked_speaks s.router.now s.router
-step_says w (RouterSends most) wanting s = refl
-step_says w (CacheGets most) wanting s = gets_keep (Says s.router.speaks) (blind_says s.router.speaks) w most wanting s s.conn refl
-step_says w (CacheSends most) wanting s = sends_keep (Says s.router.speaks) (blind_says s.router.speaks) w.keep most s s.conn refl
-step_says w (RouterGets most) wanting s = receives_speaks s.router.now wanting (take most s.down) s.router
-step_says w (Cut left) wanting s = refl
-step_says w NotifyRouter wanting s = notifies_keep (Says s.router.speaks) (blind_says s.router.speaks) w s s.conn refl
-step_says w Ask wanting s = asks_speak (is_idle s.router.link) s.router
-step_says w (Tick now) wanting s = let k : Router = clocked now s.router in asks_speak (is_due k.link k.due k.now) k ∙ clocked_speaks now s.router
+call_says : (all : List Instance) (event : SideEvent) (wanting : Option ℕ) (s : Side) → IsNoRestart event → Says (says_after event s.router.speaks) (after_call all s (call_of event wanting s))
+unfolding connects_at ticks_at asks router_pulled
+call_says all RouterRestart wanting s on = absurd on
+call_says all (Speak version) wanting s on = refl
+call_says all Connect wanting s on = close_speaks (clocked s.router.now s.router) ∙ clocked_speaks s.router.now s.router
+call_says all (RouterGets most) wanting s on = receives_speaks s.router.now wanting (take most s.down) s.router
+call_says all Ask wanting s on = asks_speak (is_idle s.router.link) s.router
+call_says all (Tick now) wanting s on = let k : Router = clocked now s.router in asks_speak (is_due k.link k.due k.now) k ∙ clocked_speaks now s.router
+call_says all _ wanting s on = refl
 
-part_says : (w : World) (event : SideEvent) (bytes : ℕ) (wanting : Option ℕ) (s : Side) → Says s.router.speaks (side_part w event bytes wanting s)
-unfolding side_step
-part_says w (RouterSends most) bytes wanting s = step_says w (RouterSends bytes) wanting s
-part_says w (CacheGets most) bytes wanting s = step_says w (CacheGets bytes) wanting s
-part_says w (CacheSends most) bytes wanting s = step_says w (CacheSends bytes) wanting s
-part_says w (RouterGets most) bytes wanting s = step_says w (RouterGets bytes) wanting s
-part_says w RouterRestart bytes wanting s = refl
-part_says w (Speak version) bytes wanting s = refl
-part_says w Connect bytes wanting s = refl
-part_says w (Cut left) bytes wanting s = refl
-part_says w NotifyRouter bytes wanting s = refl
-part_says w Ask bytes wanting s = refl
-part_says w (Tick now) bytes wanting s = refl
+step_says : (w : World) (event : SideEvent) (wanting : Option ℕ) (s : Side) → Says (says_after event s.router.speaks) (side_step w event wanting s)
+unfolding router_restarts
+step_says w event wanting s =
+    step_by (Says (says_after event s.router.speaks)) w wanting s event (λ on conn up down home read. call_says (instances w) event wanting s on) (λ e. ap (λ x. says_after x s.router.speaks) (sym e))
+
+lesser_says : (event : SideEvent) (bytes : ℕ) (version : Version) → IsMoving event → says_after (lesser event bytes) version ≡ version
+lesser_says RouterRestart bytes version is = absurd is
+lesser_says (Speak new) bytes version is = absurd is
+lesser_says _ bytes version is = refl
 
 refused_says : (w : World) (event : SideEvent) (bytes : ℕ) (wanting : Option ℕ) (s : Side) → Says s.router.speaks (side_refused w event bytes wanting s)
 unfolding side_refused cut
-refused_says w event bytes wanting s = part_says w event bytes wanting s
+refused_says w event bytes wanting s =
+    part_by (Says s.router.speaks) w event bytes wanting s refl (λ is. step_says w (lesser event bytes) wanting s ∙ lesser_says event bytes s.router.speaks is)
+
+settle_says : (all : List Instance) (s : Side) → Says s.router.speaks (settle all s)
+unfolding closed_at
+settle_says all s =
+    settle_keeps (Says s.router.speaks) (λ t c u d h. h) all
+    (λ t h. closed_by (Says s.router.speaks) all t (λ e. h) (λ e. close_speaks (clocked t.router.now t.router) ∙ clocked_speaks t.router.now t.router ∙ h)) s refl
 
 -- All routers: the version of the one with this number
 abbrev spoken_at : ℕ → List Side → Option Version
@@ -158,15 +119,7 @@ unchanged false v = refl
 told_on : (r d : ℕ) (event : SideEvent) (wanting : Option ℕ) (v : Version) → (if d == r then says_after event v else v) ≡ told_by r (On d event) (Done wanting) v
 told_on r d RouterRestart wanting v = refl
 told_on r d (Speak version) wanting v = refl
-told_on r d Connect wanting v = unchanged (d == r) v
-told_on r d (RouterSends most) wanting v = unchanged (d == r) v
-told_on r d (CacheGets most) wanting v = unchanged (d == r) v
-told_on r d (CacheSends most) wanting v = unchanged (d == r) v
-told_on r d (RouterGets most) wanting v = unchanged (d == r) v
-told_on r d (Cut left) wanting v = unchanged (d == r) v
-told_on r d NotifyRouter wanting v = unchanged (d == r) v
-told_on r d Ask wanting v = unchanged (d == r) v
-told_on r d (Tick now) wanting v = unchanged (d == r) v
+told_on r d _ wanting v = unchanged (d == r) v
 
 -- What is refused tells nothing.
 abbrev IsRefused : Outcome → Type 0
@@ -190,25 +143,21 @@ untold r event outcome h (Some v) = ap (λ x. Some x) (sym (only_through r event
 after_says : (r : ℕ) (event : Event) (outcome : Outcome) (w : World) → spoken_at r (after event outcome w).sides ≡ option_map (told_by r event outcome) (spoken_at r w.sides)
 unfolding goes_through settled is_refused
 after_says r (Publish set) (Done wanting) w =
-    let all : List Instance = instances (goes_through (Publish set) wanting w) in all_same r (settle all) (λ s. settle_says s.router.speaks all s refl) w.sides ∙ sym (same_option (spoken_at r w.sides))
+    let all : List Instance = instances (goes_through (Publish set) wanting w) in all_same r (settle all) (λ s. settle_says all s) w.sides ∙ sym (same_option (spoken_at r w.sides))
 after_says r (Restart session session0 start) (Done wanting) w =
     let all : List Instance = instances (goes_through (Restart session session0 start) wanting w) in
-    all_same r (settle all) (λ s. settle_says s.router.speaks all s refl) (map cache_gone w.sides) ∙ all_same r cache_gone (λ s. refl) w.sides ∙ sym (same_option (spoken_at r w.sides))
+    all_same r (settle all) (λ s. settle_says all s) (map cache_gone w.sides) ∙ all_same r cache_gone (λ s. refl) w.sides ∙ sym (same_option (spoken_at r w.sides))
 after_says r (On d event) (Done wanting) w =
-    all_same r (settle (instances w)) (λ s. settle_says s.router.speaks (instances w) s refl) (on_side d (side_step w event wanting) w.sides)
+    all_same r (settle (instances w)) (λ s. settle_says (instances w) s) (on_side d (side_step w event wanting) w.sides)
     ∙ at_one d r (side_step w event wanting) (says_after event) (step_says w event wanting) w.sides
     ∙ mapped (λ v. if d == r then says_after event v else v) (told_by r (On d event) (Done wanting)) (told_on r d event wanting) (spoken_at r w.sides)
-after_says r (Publish set) (Memory bytes wanting) w = untold r (Publish set) (Memory bytes wanting) tt (spoken_at r w.sides)
-after_says r (Restart session session0 start) (Memory bytes wanting) w = untold r (Restart session session0 start) (Memory bytes wanting) tt (spoken_at r w.sides)
 after_says r (On d event) (Memory bytes wanting) w =
-    all_same r (settle (instances w)) (λ s. settle_says s.router.speaks (instances w) s refl) (on_side d (side_refused w event bytes wanting) w.sides)
+    all_same r (settle (instances w)) (λ s. settle_says (instances w) s) (on_side d (side_refused w event bytes wanting) w.sides)
     ∙ at_one d r (side_refused w event bytes wanting) (λ v. v) (refused_says w event bytes wanting) w.sides
     ∙ mapped (λ v. if d == r then v else v) (λ v. v) (unchanged (d == r)) (spoken_at r w.sides)
     ∙ same_option (spoken_at r w.sides)
     ∙ untold r (On d event) (Memory bytes wanting) tt (spoken_at r w.sides)
-after_says r event SessionUsed w = untold r event SessionUsed tt (spoken_at r w.sides)
-after_says r event TooManyVersions w = untold r event TooManyVersions tt (spoken_at r w.sides)
-after_says r event NoSuchRouter w = untold r event NoSuchRouter tt (spoken_at r w.sides)
+after_says r event outcome w = untold r event outcome tt (spoken_at r w.sides)
 
 -- A history
 twice : (f g : Version → Version) (o : Option Version) → option_map f (option_map g o) ≡ option_map (λ v. f (g v)) o

@@ -1,26 +1,31 @@
 -- What a PDU that comes to the router does to its link.
-use Rattle.std.specs.Prelude.{◌≡◌, ℕ, ◌+◌, ◌≤◌, ◌<◌, Bool, true, false, ◌&&◌, ◌==◌, List, [], ◌∷◌, ◌++◌, length, Some, if◌then◌else◌, refl}
+use Rattle.std.specs.Prelude.{◌≡◌, ℕ, ◌+◌, ◌≤◌, ◌<◌, Bool, true, false, ◌&&◌, ◌==◌, List, [], ◌∷◌, ◌++◌, length, Some, if◌then◌else◌, refl, not, Option}
 use Rattle.std.proofs.Common.{sym, ap, ◌∙◌, subst, subst₂, inl, inr}
 use Rattle.prefixes.specs.Payload.{Payload}
 use Rattle.vrps.specs.Instance.{Instance}
 use Rattle.vrps.specs.VrpSet.{VrpSet}
 use Rattle.rtr_pdu.specs.declared.unit.Unit.{Unit}
 use Rattle.rtr_pdu.specs.declared.unit.Unit.TheVariants.{SerialNotify, CacheResponse, Prefix, EndOfData, EndOfData0, CacheReset}
-use Rattle.rtr_ends.specs.declared.link.End.TheVariants as ends
 use Rattle.rtr_ends.specs.Answer.{report}
-use Rattle.rtr_ends.specs.LinkRules.{Router, Staged, Stays, Wrong, Over, ask, fails, is_strange, is_news, stage, staged, commit, on_unit}
+use Rattle.rtr_ends.specs.LinkRules.{Router, Staged, Stays, Wrong, Over, ask, fails, is_strange, is_news, stage, staged, commit, on_unit, may_lack}
 use Rattle.rtr_ends.specs.Timing.{Intervals, default_intervals}
 use Rattle.rtr_ends.specs.RouterLink.{Link, Closed, Idle, Asked, Answering, Ended, is_reading}
 use Rattle.rtr_ends.specs.Transcript.{Begun, Committed, Question, AskReset, AskSerial, base_of, led_to, session_of, differs, is_wrong, bounded, of_version}
 use Rattle.rtr_ends.proofs.TableLaws.{false_true}
 use Rattle.rtr_world.specs.OneAnswer.{NotifiesOf, without_notifies}
 use Rattle.rtr_world.specs.World.{is_ended}
-use Rattle.rtr_world.proofs.Invariant.{after_stage, InOrder, read_of, Leads, Mine, OwnSession, QuestionFits, IsOwn, OfAnswer, Replies, no_data, not_kept, other_session, no_memory, response, Shape, nothing_yet}
-use Rattle.rtr_world.proofs.UnitsAtRouters.{stage_reads, no_difference, first_is, no_unit}
+use Rattle.rtr_world.proofs.Invariant.{after_stage, InOrder, read_of, Leads, Mine, OwnSession, QuestionFits, IsOwn, OfAnswer, Replies, no_data, not_kept, other_session, no_memory, response, Shape, nothing_yet, Flow}
+use Rattle.rtr_world.proofs.UnitsAtRouters.{stage_reads, no_difference, first_is, no_unit, right_response}
 use Rattle.rtr_world.proofs.SideSteps.{HeadCase, a_notify, another, head_case}
 use Rattle.rtr_world.proofs.Versions.{Stands, find_session}
 use Rattle.rtr_world.proofs.LinkedSides.{Seen}
 use Rattle.prefixes.proofs.Basics.{eq_true}
+use Rattle.rtr_pdu.specs.Judging.{judge}
+use Rattle.rtr_ends.specs.Cache.{Conn}
+use Rattle.rtr_ends.specs.Router.{Noted, silent, reads, lacks, with_bytes}
+use Rattle.rtr_world.specs.History.{conn_due}
+use Rattle.rtr_world.proofs.UnitStreams.{ByteCase, partly, notified, wholly, early_open}
+use Rattle.rtr_ends.specs.declared.link.End.TheVariants as ends
 
 abbrev pub is_end : Unit → Bool
 is_end (EndOfData session serial refresh retry expire) = true
@@ -56,19 +61,19 @@ module _ (all : List Instance) (h : Seen) (r : Router) where
       by_agreed true a = no_difference h.session one r.session (of_version r.spoken r.version) e own (mine a)
 
   -- a notify
-  notified : (l : Link) (one serial : ℕ) → r.link ≡ l → is_reading l ≡ true → is_strange r one ≡ false → Brings all h r l (SerialNotify one serial) (on_unit l (SerialNotify one serial) r)
+  notify_brings : (l : Link) (one serial : ℕ) → r.link ≡ l → is_reading l ≡ true → is_strange r one ≡ false → Brings all h r l (SerialNotify one serial) (on_unit l (SerialNotify one serial) r)
   unfolding on_unit
-  notified Closed one serial is live q = false_true live
-  notified (Ended end) one serial is live q = false_true live
-  notified Idle one serial is live q =
+  notify_brings Closed one serial is live q = false_true live
+  notify_brings (Ended end) one serial is live q = false_true live
+  notify_brings Idle one serial is live q =
       subst (λ b. Brings all h r Idle (SerialNotify one serial) (if b then fails (SerialNotify one serial) r else if is_news (of_version r.spoken r.version) serial then ask r else r)) (sym q) (by_news (is_news (of_version r.spoken r.version) serial))
     where
       by_news : (b : Bool) → Brings all h r Idle (SerialNotify one serial) (if b then ask r else r)
       by_news true = goes_on refl refl (leaves refl)
       by_news false = goes_on (ap is_ended is) refl (stays one serial refl is)
-  notified (Asked q) one serial is live quiet =
+  notify_brings (Asked q) one serial is live quiet =
       subst (λ b. Brings all h r (Asked q) (SerialNotify one serial) (if b then fails (SerialNotify one serial) r else r)) (sym quiet) (goes_on (ap is_ended is) refl (stays one serial refl is))
-  notified (Answering a) one serial is live quiet =
+  notify_brings (Answering a) one serial is live quiet =
       subst (λ b. Brings all h r (Answering a) (SerialNotify one serial) (if b then fails (SerialNotify one serial) r else r)) (sym quiet) (goes_on (ap is_ended is) refl (stays one serial refl is))
 
   -- a reply
@@ -106,8 +111,7 @@ module _ (all : List Instance) (h : Seen) (r : Router) where
   record_brings : (a : Begun) (announce : Bool) (v : Payload) (rest : List Unit) (base : VrpSet) (st : Staged) (Goes : Begun → Type 0) → stage base a announce v ≡ st → InOrder a (Prefix announce v ∷ rest) → after_stage st Goes
       → Brings all h r (Answering a) (Prefix announce v) (staged (Prefix announce v) st r)
   record_brings a announce v rest base (Stays b) Goes e order on = goes_on refl refl (stages a b announce v refl refl refl (stage_reads base a announce v b rest e order).0)
-  record_brings a announce v rest base (Wrong code) Goes e order on = absurd on
-  record_brings a announce v rest base Over Goes e order on = absurd on
+  record_brings a announce v rest base _ Goes e order on = absurd on
 
   ended_brings : (a : Begun) (u : Unit) (one number : ℕ) (intervals : Intervals) → one ≡ a.session → one ≡ h.session → (stands : Stands all r.spoken one number (led_to (base_of a.question r.table) a.withdrawn a.announced))
       → length h.sets ≤ length stands.older + 1
@@ -141,7 +145,7 @@ module _ (all : List Instance) (h : Seen) (r : Router) where
 
   -- a notify that was sent before the cache had read a header
   pub early_brings : (one serial : ℕ) → is_reading r.link ≡ true → r.agreed ≡ false → Brings all h r r.link (SerialNotify one serial) (on_unit r.link (SerialNotify one serial) r)
-  early_brings one serial live open_yet = notified r.link one serial refl live (ap (λ b. b && differs (session_of r.session (of_version r.spoken r.version)) one) open_yet)
+  early_brings one serial live open_yet = notify_brings r.link one serial refl live (ap (λ b. b && differs (session_of r.session (of_version r.spoken r.version)) one) open_yet)
 
   -- every PDU
   pub unit_brings : (l : Link) (u : Unit) (more wanted : List Unit) → r.link ≡ l → is_reading l ≡ true → OwnSession h.session r.session → (r.agreed ≡ true → Mine h.session (of_version r.spoken r.version))
@@ -163,5 +167,27 @@ module _ (all : List Instance) (h : Seen) (r : Router) where
       by_head : HeadCase u more → Brings all h r l u (on_unit l u r)
       by_head (a_notify session serial e) =
           let n : (session ≡ h.session) × NotifiesOf h.session more = subst (λ x. NotifiesOf h.session (x ∷ more)) e notes in
-          subst (λ x. Brings all h r l x (on_unit l x r)) (sym e) (notified l session serial is live (quiet session own mine n.0))
+          subst (λ x. Brings all h r l x (on_unit l x r)) (sym e) (notify_brings l session serial is live (quiet session own mine n.0))
       by_head (another e) = others l live (subst (λ x. Shape all r.spoken h l r.agreed r.version r.table wanted x) e shape)
+
+-- A byte that comes on a link that lives is kept, or a PDU is whole with it that belongs there, or memory runs out at that PDU.
+pub either_by : (P : Noted → Type 0) (u : Unit) (k : Router) (b : Bool) → P (lacks u k) → P (reads u k) → P (if b then lacks u k else reads u k)
+either_by P u k true l d = l
+either_by P u k false l d = d
+
+module _ (all : List Instance) (i : Instance) (seen : Option Seen) (conn : Option Conn) (up : List ℕ) where
+  pub byte_by : (P : Noted → Type 0) (down : List ℕ) (r : Router) (b : ℕ) (memory : Bool) (h : Seen) (f : Flow all i h r conn up (b ∷ down)) → is_reading r.link ≡ true
+      → ByteCase r.spoken r.agreed r.held b (down ++ (conn_due conn ++ f.lost)) f.early f.coming → P (silent (record r { held = r.held ++ b ∷ [] })) → ((u : Unit) → P (lacks u (record r { held = [] })))
+      → ((u : Unit) → Brings all h (record r { held = [] }) r.link u (on_unit r.link u (record r { held = [] })) → P (reads u (record r { held = [] })))
+      → P (with_bytes memory (r.held ++ b ∷ []) r (judge r.spoken (not r.agreed) (r.held ++ b ∷ [])))
+  byte_by P down r b memory h f live (partly e s) part lack read = subst (λ j. P (with_bytes memory (r.held ++ b ∷ []) r j)) (sym e) part
+  byte_by P down r b memory h f live (notified session serial rest is e s) part lack read =
+      let k : Router = record r { held = [] } in
+      let u : Unit = SerialNotify session serial in
+      subst (λ j. P (with_bytes memory (r.held ++ b ∷ []) r j)) (sym e) (either_by P u k (may_lack r.link u r && not memory) (lack u)
+      (read u (early_brings all h k session serial live (early_open r.agreed session serial rest (λ a. sym is ∙ f.are_early.1 a)))))
+  byte_by P down r b memory h f live (wholly alone u more is e fit s) part lack read =
+      let k : Router = record r { held = [] } in
+      subst (λ j. P (with_bytes memory (r.held ++ b ∷ []) r j)) (sym e) (either_by P u k (may_lack r.link u r && not memory) (lack u) (read u
+      (unit_brings all h k r.link u more f.wanted refl live f.own f.mine (λ q. right_response all i seen conn up down h.session q (of_version r.spoken r.version)) (subst (λ x. NotifiesOf h.session x) is f.notifies)
+      (subst (λ x. Shape all r.spoken h r.link r.agreed r.version r.table f.wanted (without_notifies x)) is f.shape))))

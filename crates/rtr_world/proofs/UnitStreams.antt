@@ -183,10 +183,7 @@ first_sent version (Prefix announce v) more = by_family v.prefix
     by_family (V4 p) = first_byte version _
     by_family (V6 p) = first_byte version _
 first_sent version (EndOfData session serial refresh retry expire) more = first_byte version _
-first_sent version (EndOfData0 session serial) more = first_byte version _
-first_sent version CacheReset more = first_byte version _
-first_sent version (RouterKey key) more = first_byte version _
-first_sent version (ErrorReport r) more = first_byte version _
+first_sent version _ more = first_byte version _
 
 -- The beginning of a PDU tells its version.
 pub part_version : (version : Version) (agreed : Option Version) (u : Unit) (held rest : List ℕ) → MaySpeak version agreed → held ++ rest ≡ sent version u → 0 < length held → version_in agreed held ≡ version

@@ -139,16 +139,21 @@ module _ (all : List Instance) (i : Instance) (home : Option Seen) (conn : Optio
   abbrev GoodR : Router → Type 0
   GoodR r = GoodRouter all i home conn up down r
 
-  -- what is known when a PDU has just been read, and `more` are to come
-  pub record Reads (r : Router) (more : List Unit) : Type 0 where
+  -- what is known of the wires when a PDU has just been read, and `more` are to come
+  pub record Comes (pv : Version) (more : List Unit) : Type 0 where
     pub h : Seen
     pub is_home : home ≡ Some h
     pub lost : List ℕ
     pub wanted : List Unit
-    pub version : h.version ≡ r.spoken
-    pub downward : Stream [] (down ++ (conn_due conn ++ lost)) (behind_early r.spoken [] more)
-    pub open_at : (agreed : Bool) → IfOpen conn (Open i r.spoken h [] up wanted more agreed lost)
+    pub version : h.version ≡ pv
+    pub downward : Stream [] (down ++ (conn_due conn ++ lost)) (behind_early pv [] more)
+    pub open_at : (agreed : Bool) → IfOpen conn (Open i pv h [] up wanted more agreed lost)
     pub notifies : NotifiesOf h.session more
+
+  -- and of the router
+  pub record Reads (r : Router) (more : List Unit) : Type 0 where
+    pub comes : Comes r.spoken more
+    pub open comes use *
     pub own : OwnSession h.session r.session
     pub mine : r.agreed ≡ true → Mine h.session (of_version r.spoken r.version)
     pub none : r.out ≡ []
@@ -160,9 +165,7 @@ module _ (all : List Instance) (i : Instance) (home : Option Seen) (conn : Optio
   pub live_link : (r : Router) (l : Link) → r.link ≡ l → is_reading l ≡ true → Live all i home r conn up down → GoodLink all i home r.link r conn up down
   live_link r Closed is live h = false_true live
   live_link r (Ended end) is live h = false_true live
-  live_link r Idle is live h = subst (λ x. GoodLink all i home x r conn up down) (sym is) h
-  live_link r (Asked q) is live h = subst (λ x. GoodLink all i home x r conn up down) (sym is) h
-  live_link r (Answering a) is live h = subst (λ x. GoodLink all i home x r conn up down) (sym is) h
+  live_link r _ is live h = subst (λ x. GoodLink all i home x r conn up down) (sym is) h
 
   -- a router in this link, of which all else is known
   same_good : (r : Router) (more : List Unit) (l : Link) (d : Reads r more) → r.link ≡ l → is_reading l ≡ true → Shape all r.spoken d.h l r.agreed r.version r.table d.wanted (without_notifies more) → GoodR r
@@ -173,19 +176,13 @@ module _ (all : List Instance) (i : Instance) (home : Option Seen) (conn : Optio
       d.h,
       d.is_home,
       record {
-        version = d.version;
         early = [];
         coming = more;
         lost = d.lost;
         wanted = d.wanted;
+        said = record { version = d.version; are_early = (refl, λ e. refl); early_notifies = tt; notifies = d.notifies; own = d.own; mine = d.mine; shape = subst (λ x. Shape all r.spoken d.h x r.agreed r.version r.table d.wanted (without_notifies more)) (sym is) shape };
         downward = subst (λ x. Stream x (down ++ (conn_due conn ++ d.lost)) (behind_early r.spoken [] more)) (sym d.held) d.downward;
         open_at = subst (λ x. IfOpen conn (Open i r.spoken d.h x up d.wanted more r.agreed d.lost)) (sym d.none) (d.open_at r.agreed);
-        are_early = (refl, λ e. refl);
-        early_notifies = tt;
-        notifies = d.notifies;
-        own = d.own;
-        mine = d.mine;
-        shape = subst (λ x. Shape all r.spoken d.h x r.agreed r.version r.table d.wanted (without_notifies more)) (sym is) shape;
       },
     );
   }
@@ -201,10 +198,7 @@ module _ (all : List Instance) (i : Instance) (home : Option Seen) (conn : Optio
         upward = subst (λ x. Stream o.held x (in_version pv (query q ∷ []))) (ap (λ x. x ++ sent_all pv (query q ∷ [])) (append-nil up) ∙ ap (λ x. up ++ x) (append-nil (sent pv (query q)))) after;
         spoken = op.spoken;
         unheard = op.unheard;
-        whole = op.whole;
-        session = op.session;
-        made = op.made;
-        later = op.later;
+        linked = op.linked;
       }
 
   asking_good : (r : Router) (more : List Unit) (q : Question) (d : Reads r more) → d.wanted ≡ [] → without_notifies more ≡ [] → QuestionFits d.h.session q (of_version r.spoken r.version) → GoodR (asking q r)
@@ -215,19 +209,13 @@ module _ (all : List Instance) (i : Instance) (home : Option Seen) (conn : Optio
       d.h,
       d.is_home,
       record {
-        version = d.version;
         early = [];
         coming = more;
         lost = d.lost;
         wanted = query q ∷ [];
+        said = record { version = d.version; are_early = (refl, λ e. refl); early_notifies = tt; notifies = d.notifies; own = d.own; mine = d.mine; shape = (fits, inl (refl, rest)) };
         downward = subst (λ x. Stream x (down ++ (conn_due conn ++ d.lost)) (behind_early r.spoken [] more)) (sym d.held) d.downward;
         open_at = open_asking r.spoken d.h d.wanted more r.agreed d.lost q conn wanted (query_unit all r.spoken d.h.session q (of_version r.spoken r.version) r.table fits (held_at all r.spoken r.version r.table d.table)) (d.open_at r.agreed);
-        are_early = (refl, λ e. refl);
-        early_notifies = tt;
-        notifies = d.notifies;
-        own = d.own;
-        mine = d.mine;
-        shape = (fits, inl (refl, rest));
       },
     );
   }
@@ -265,22 +253,7 @@ module _ (all : List Instance) (i : Instance) (home : Option Seen) (conn : Optio
 
   -- the first PDU is no notify
   agreed_reads : (r : Router) (more : List Unit) (d : Reads r more) → Mine d.h.session (of_version r.spoken r.version) → Reads (record r { agreed = true }) more
-  agreed_reads r more d m = record {
-    h = d.h;
-    is_home = d.is_home;
-    version = d.version;
-    lost = d.lost;
-    wanted = d.wanted;
-    downward = d.downward;
-    open_at = d.open_at;
-    notifies = d.notifies;
-    own = d.own;
-    mine = λ e. m;
-    none = d.none;
-    held = d.held;
-    table = d.table;
-    unmarked = d.unmarked;
-  }
+  agreed_reads r more d m = record { comes = d.comes; own = d.own; mine = λ e. m; none = d.none; held = d.held; table = d.table; unmarked = d.unmarked }
 
   -- a question of what is committed is of the connection's session
   fits_mine : (session : ℕ) (q : Question) (version : Option Committed) → QuestionFits session q version → IsOwn session q → Mine session version
@@ -299,22 +272,7 @@ module _ (all : List Instance) (i : Instance) (home : Option Seen) (conn : Optio
   data_good r more copy d wanted rest m =
       let k : Router = record r { agreed = true; link = Idle; due = Some (sum_of r.now (retry_of r.version)); no_data = true } in
       same_good (record r { agreed = true; link = Idle; due = Some (sum_of r.now (retry_of r.version)); no_data = true }) more Idle
-      (record {
-        h = d.h;
-        is_home = d.is_home;
-        version = d.version;
-        lost = d.lost;
-        wanted = d.wanted;
-        downward = d.downward;
-        open_at = d.open_at;
-        notifies = d.notifies;
-        own = d.own;
-        mine = λ e. m;
-        none = d.none;
-        held = d.held;
-        table = d.table;
-        unmarked = d.unmarked;
-      }) refl refl (wanted, rest, refl)
+      (record { comes = d.comes; own = d.own; mine = λ e. m; none = d.none; held = d.held; table = d.table; unmarked = d.unmarked }) refl refl (wanted, rest, refl)
 
   zero_good : (r : Router) (q : Question) (copy : List ℕ) → TableAt all r.version r.table → r.mark ≡ false → r.out ≡ [] → GoodR (on_unit (Asked q) (report 0 copy) r)
   unfolding on_unit
@@ -340,22 +298,7 @@ module _ (all : List Instance) (i : Instance) (home : Option Seen) (conn : Optio
       let k : Router = record r { agreed = true; session = Some d.h.session; link = Answering (nothing_yet q d.h.session) } in
       subst (λ b. GoodR (if b then fails (CacheResponse d.h.session) r else record r { agreed = true; session = Some d.h.session; link = Answering (nothing_yet q d.h.session) })) (sym (right_response d.h.session q (of_version r.spoken r.version) f own))
       (same_good (record r { agreed = true; session = Some d.h.session; link = Answering (nothing_yet q d.h.session) }) more (Answering (nothing_yet q d.h.session))
-      (record {
-        h = d.h;
-        is_home = d.is_home;
-        version = d.version;
-        lost = d.lost;
-        wanted = d.wanted;
-        downward = d.downward;
-        open_at = d.open_at;
-        notifies = d.notifies;
-        own = refl;
-        mine = λ e. fits_mine d.h.session q (of_version r.spoken r.version) f own;
-        none = d.none;
-        held = d.held;
-        table = d.table;
-        unmarked = d.unmarked;
-      }) refl refl (wanted, refl, refl, f, a))
+      (record { comes = d.comes; own = refl; mine = λ e. fits_mine d.h.session q (of_version r.spoken r.version) f own; none = d.none; held = d.held; table = d.table; unmarked = d.unmarked }) refl refl (wanted, refl, refl, f, a))
 
   replied : (r : Router) (more : List Unit) (q : Question) (u : Unit) (d : Reads r more) → d.wanted ≡ [] → QuestionFits d.h.session q (of_version r.spoken r.version) → Replies all r.spoken d.h q (base_of q r.table) (u ∷ without_notifies more) → GoodR (on_unit (Asked q) u r)
   replied r more q u d w f (no_data copy qe e) =
@@ -380,22 +323,7 @@ module _ (all : List Instance) (i : Instance) (home : Option Seen) (conn : Optio
   staged_good r more a announce v d o (Stays b) e w ag se f l =
       let same = stage_keeps (base_of a.question r.table) a announce v b e in
       same_good (record r { link = Answering b }) more (Answering b)
-      (record {
-        h = d.h;
-        is_home = d.is_home;
-        version = d.version;
-        lost = d.lost;
-        wanted = d.wanted;
-        downward = d.downward;
-        open_at = d.open_at;
-        notifies = d.notifies;
-        own = d.own;
-        mine = d.mine;
-        none = d.none;
-        held = d.held;
-        table = d.table;
-        unmarked = d.unmarked;
-      }) refl refl (
+      (record { comes = d.comes; own = d.own; mine = d.mine; none = d.none; held = d.held; table = d.table; unmarked = d.unmarked }) refl refl (
         w,
         ag,
         same.1 ∙ se,
@@ -416,22 +344,7 @@ module _ (all : List Instance) (i : Instance) (home : Option Seen) (conn : Optio
   ended_so r more a one number intervals d w e ag oe stands =
       let version : Committed = record { version = r.spoken; session = one; serial = number; moment = r.now; intervals = intervals } in
       same_good (commit a (record { version = r.spoken; session = one; serial = number; moment = r.now; intervals = intervals }) r) more Idle
-      (record {
-        h = d.h;
-        is_home = d.is_home;
-        version = d.version;
-        lost = d.lost;
-        wanted = d.wanted;
-        downward = d.downward;
-        open_at = d.open_at;
-        notifies = d.notifies;
-        own = d.own;
-        mine = λ x. committed_mine r.spoken (record { version = r.spoken; session = one; serial = number; moment = r.now; intervals = intervals }) d.h.session oe;
-        none = d.none;
-        held = d.held;
-        table = stands;
-        unmarked = refl;
-      }) refl refl (w, e, ag)
+      (record { comes = d.comes; own = d.own; mine = λ x. committed_mine r.spoken (record { version = r.spoken; session = one; serial = number; moment = r.now; intervals = intervals }) d.h.session oe; none = d.none; held = d.held; table = stands; unmarked = refl }) refl refl (w, e, ag)
 
   committed_good : (r : Router) (more : List Unit) (a : Begun) (u : Unit) (one number : ℕ) (intervals : Intervals) (d : Reads r more) → d.wanted ≡ [] → without_notifies more ≡ [] → r.agreed ≡ true → a.session ≡ d.h.session → one ≡ d.h.session
       → Stands all r.spoken one number (led_to (base_of a.question r.table) a.withdrawn a.announced)

@@ -72,8 +72,7 @@ held_at all pv (Some version) table t = by_same (is_same pv version.version) ref
     same_of : (a b : Version) → is_same a b ≡ true → a ≡ b
     same_of V0 V0 e = refl
     same_of V1 V1 e = refl
-    same_of V0 V1 e = absurd (let h : false ≡ true = e in cc)
-    same_of V1 V0 e = absurd (let h : false ≡ true = e in cc)
+    same_of _ _ e = absurd (let h : false ≡ true = e in cc)
 
     by_same : (b : Bool) → is_same pv version.version ≡ b → HeldAt all pv (if b then Some version else None) table
     by_same true e = subst (λ v. Stands all v version.session version.serial table) (sym (same_of pv version.version e)) t

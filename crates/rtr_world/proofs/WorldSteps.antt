@@ -1,5 +1,6 @@
 -- Every event keeps the invariant of the world, and so the headline holds.
-use Rattle.std.specs.Prelude.{◌≡◌, ℕ, suc, ◌+◌, ◌-◌, ◌<◌, ◌≤◌, ◌^◌, Bool, true, false, ◌&&◌, ◌||◌, ◌==◌, nat_lt, List, [], ◌∷◌, ◌++◌, length, Option, Some, None, is_some, if◌then◌else◌, refl}
+use Rattle.rtr_ends.proofs.KeptLaws.{is_kept}
+use Rattle.std.specs.Prelude.{◌≡◌, ℕ, suc, ◌+◌, ◌-◌, ◌<◌, ◌≤◌, ◌^◌, Bool, true, false, ◌&&◌, ◌||◌, ◌==◌, nat_lt, List, [], ◌∷◌, ◌++◌, length, Option, Some, None, is_some, if◌then◌else◌, refl, ⊤}
 use Rattle.std.proofs.Common.{sym, ap, ◌∙◌, subst, arith, inl, inr}
 use Rattle.std.specs.List.{AllByRecursion}
 use Rattle.std.proofs.lemmas.Bool.{and_parts}
@@ -21,19 +22,19 @@ use Rattle.rtr_ends.specs.LinkRules.{Router}
 use Rattle.rtr_ends.specs.RouterLaws.{IsKept}
 use Rattle.rtr_ends.specs.RouterLink.{Link, Closed, Idle, Asked, Answering, Ended}
 use Rattle.rtr_ends.specs.Transcript.{Begun, Committed, Question, base_of, kept}
-use Rattle.rtr_world.specs.Claims.{ActExactlyOnce, Always, EachOnce, HoldsNamed, IsRouteJudged, IsNamed, Headline, NoWayBack, RouteStates}
-use Rattle.rtr_world.specs.History.{Outcome, Done, SessionUsed, TooManyVersions, NoSuchRouter, Memory, is_near, room_for, room_since, all_have_room, is_used, refusal, MayEnd, after, IsEvent, Entry, LeadsFrom, Made, IsMade, conn_due}
+use Rattle.rtr_world.specs.Claims.{ActExactlyOnce, Always, EachOnce, HoldsNamed, IsRouteJudged, IsNamed, Headline, NoWayBack, RouteStates, AnswersNow, Tables}
+use Rattle.rtr_world.specs.History.{Outcome, Done, SessionUsed, TooManyVersions, NoSuchRouter, Memory, is_near, room_for, room_since, all_have_room, is_used, refusal, MayEnd, after, IsEvent, Entry, LeadsFrom, Made, IsMade, conn_due, Leads}
 use Rattle.rtr_world.specs.OneAnswer.{without_notifies}
 use Rattle.rtr_world.specs.VersionPlaces.{NeverBack, position_of}
-use Rattle.rtr_world.specs.World.{Side, SideEvent, World, instances, Event, Publish, Restart, On, cache_gone, on_side, goes_through, settled, is_refused, side_step, side_refused, settle, new_world}
-use Rattle.rtr_world.proofs.EventSteps.{step_good, refused_good, settle_good}
-use Rattle.rtr_world.proofs.Folding.{leads_keep}
+use Rattle.rtr_world.specs.World.{Side, SideEvent, World, instances, Event, Publish, Restart, On, cache_gone, on_side, goes_through, settled, is_refused, side_step, side_refused, settle, new_world, cache_gets}
+use Rattle.rtr_world.proofs.EventSteps.{step_good, refused_good, settle_good, gets_now}
+use Rattle.rtr_world.proofs.EventCalls.{leads_keep}
 use Rattle.rtr_world.proofs.Invariant.{WasCache, OfAnswer, OneReply, Replies, no_data, not_kept, other_session, no_memory, response, Shape, IfOpen, Open, Flow, Good}
 use Rattle.rtr_world.proofs.Places.{IfSeen, IsHome, ordered_published, ordered_restarted}
-use Rattle.rtr_world.proofs.SideLaws.{all_new, all_on_side, all_map, all_both}
+use Rattle.rtr_world.proofs.SideLaws.{all_new, all_on_side, all_map, all_both, all_weaker}
 use Rattle.rtr_world.proofs.SideSteps.{live_map}
 use Rattle.rtr_world.proofs.UnitStreams.{Stream, behind_early}
-use Rattle.rtr_world.proofs.KeptTables.{AllTell, SideTells, after_tells, new_side_tells, tables}
+use Rattle.rtr_world.proofs.KeptTables.{AllTell, SideTells, after_tells, new_side_tells}
 use Rattle.rtr_world.proofs.Versions.{Stands, TableAt, Present, table_named, position_at, of_present, stands_published, stands_restarted, find_session, lt_of, same_session_in, some_is}
 use Rattle.rtr_world.proofs.LinkedSides.{Seen, IsSeen}
 use Rattle.rtr_world.proofs.ActingOnce.{each_once}
@@ -72,19 +73,13 @@ shape_map (Answering a) all all' pv h agreed version table wanted rest stays s =
 flow_map : (all all' : List Instance) (i i' : Instance) (h : Seen) (r : Router) (conn conn' : Option Conn) (up up' down : List ℕ) (f : Flow all i h r conn up down) (lost : List ℕ) → conn_due conn ++ f.lost ≡ conn_due conn' ++ lost
     → IfOpen conn' (Open i' r.spoken h r.out up' f.wanted f.coming r.agreed lost) → StaysAnswer all all' r.spoken h → Flow all' i' h r conn' up' down
 flow_map all all' i i' h r conn conn' up up' down f lost bytes opens stays = record {
-  version = f.version;
   early = f.early;
   coming = f.coming;
   lost = lost;
   wanted = f.wanted;
+  said = record { version = f.version; are_early = f.are_early; early_notifies = f.early_notifies; notifies = f.notifies; own = f.own; mine = f.mine; shape = shape_map r.link all all' r.spoken h r.agreed r.version r.table f.wanted (without_notifies f.coming) stays f.shape };
   downward = subst (λ x. Stream r.held (down ++ x) (behind_early r.spoken f.early f.coming)) bytes f.downward;
   open_at = opens;
-  are_early = f.are_early;
-  early_notifies = f.early_notifies;
-  notifies = f.notifies;
-  own = f.own;
-  mine = f.mine;
-  shape = shape_map r.link all all' r.spoken h r.agreed r.version r.table f.wanted (without_notifies f.coming) stays f.shape;
 }
 
 -- A set is published
@@ -156,7 +151,7 @@ module _ (keep : ℕ) (past : List Instance) (i : Instance) (y : VrpSet) (p : Pr
 
   open_published : (pv : Version) (h : Seen) (out up : List ℕ) (wanted coming : List Unit) (agreed : Bool) (lost : List ℕ) (conn : Option Conn) → IfOpen conn (Open i pv h out up wanted coming agreed lost) → IfOpen conn (Open next pv h out up wanted coming agreed lost)
   open_published pv h out up wanted coming agreed lost None op = tt
-  open_published pv h out up wanted coming agreed lost (Some o) op = record { upward = op.upward; spoken = op.spoken; unheard = op.unheard; whole = op.whole; session = op.session ∙ sym (same_session_in pv i (y ∷ i.sets)); made = (let m = op.made in omega (arith, m)); later = (let l = op.later in record { session = l.session; session0 = l.session0; start = l.start; more = y ∷ l.more; sets = ap (λ x. y ∷ x) l.sets }) }
+  open_published pv h out up wanted coming agreed lost (Some o) op = record { upward = op.upward; spoken = op.spoken; unheard = op.unheard; linked = record { whole = op.whole; session = op.session ∙ sym (same_session_in pv i (y ∷ i.sets)); made = (let m = op.made in omega (arith, m)); later = (let l = op.later in record { session = l.session; session0 = l.session0; start = l.start; more = y ∷ l.more; sets = ap (λ x. y ∷ x) l.sets }) } }
 
   side_published : (s : Side) → (room_for i s.router.version && room_since i s.home) ≡ true → Good keep past i s → Good keep past next s
   side_published s room g =
@@ -318,15 +313,12 @@ refused_so (On r event) bytes wanting w g t = settled_good (record w { sides = o
 pub after_good : (event : Event) (outcome : Outcome) (w : World) → IsEvent event → MayEnd (refusal w event) w event outcome → GoodWorld w → AllTell w → GoodWorld (after event outcome w)
 after_good event (Done wanting) w fits may g t = settled_good (goes_through event wanting w) (through_good event wanting w fits may g t)
 after_good event (Memory bytes wanting) w fits may g t = refused_so event bytes wanting w g t
-after_good event SessionUsed w fits may g t = g
-after_good event TooManyVersions w fits may g t = g
-after_good event NoSuchRouter w fits may g t = g
+after_good event _ w fits may g t = g
 
-pub history_good : (old : World) (history : List Entry) (w : World) → LeadsFrom old history w → GoodWorld old → AllTell old → GoodWorld w
-history_good old history w leads g t =
-    (leads_keep (λ x. GoodWorld x × AllTell x) (λ event outcome x fits may h. (after_good event outcome x fits may h.0 h.1, after_tells event outcome x h.1)) old history w leads (g, t)).0
+abbrev pub first : Made → World
+first made = new_world made.routers made.session made.session0 made.start made.keep
 
-pub new_good : (made : Made) → IsMade made → GoodWorld (new_world made.routers made.session made.session0 made.start made.keep)
+pub new_good : (made : Made) → IsMade made → GoodWorld (first made)
 new_good made is = record {
   present = record {
     found = λ pv. ap (λ b. if b then Some (begun made.session made.session0 made.start) else None) (eq_self (session_in pv (begun made.session made.session0 made.start)));
@@ -335,14 +327,41 @@ new_good made is = record {
   sides = all_new (Good made.keep [] (begun made.session made.session0 made.start)) (record { seen = None; is_seen = tt; is_read = tt; order = record { never_back = tt; current = tt; at_seen = tt; at_home = tt }; router = record { table = refl; unmarked = refl; link = (refl, refl, refl, refl) } }) made.routers;
 }
 
+-- What each event keeps of good worlds holds after every list of events.
+pub known_leads : (P : World → Type 0) → ((event : Event) (outcome : Outcome) (w : World) → IsEvent event → MayEnd (refusal w event) w event outcome → GoodWorld w → AllTell w → P w → P (after event outcome w))
+    → (made : Made) (history : List Entry) (w : World) → Leads made history w → P (first made) → GoodWorld w × AllTell w × P w
+known_leads P keeps made history w leads h =
+    leads_keep (λ x. GoodWorld x × AllTell x × P x)
+    (λ event outcome x fits may k. (after_good event outcome x fits may k.0 k.1, after_tells event outcome x k.1, keeps event outcome x fits may k.0 k.1 k.2)) (first made) history w leads.1
+    (new_good made leads.0, all_new SideTells new_side_tells made.routers, h)
+
+pub good_world : (made : Made) (history : List Entry) (w : World) → Leads made history w → GoodWorld w
+good_world made history w leads = (known_leads (λ x. ⊤) (λ event outcome x fits may g t h. tt) made history w leads tt).0
+
+-- what is known of a side at an event
+abbrev pub Known : World → Side → Type 0
+Known w s = Good w.keep w.past w.present s × SideTells s
+
+pub known_sides : (w : World) → GoodWorld w → AllTell w → AllByRecursion (Known w) w.sides
+known_sides w g t = all_both (Good w.keep w.past w.present) SideTells w.sides g.sides t
+
+pub history_known : (made : Made) (history : List Entry) (w : World) → Leads made history w → AllByRecursion (Known w) w.sides
+history_known made history w leads = let k = known_leads (λ x. ⊤) (λ event outcome x fits may g t h. tt) made history w leads tt in known_sides w k.0 k.1
+
+-- What follows from that holds always.
+pub always : (Q : World → Side → Type 0) → ((w : World) → Present (instances w) w.present → (s : Side) → Known w s → Q w s) → Always Q
+always Q each made history w leads = all_weaker (Known w) (Q w) w.sides (each w (good_world made history w leads).present) (history_known made history w leads)
+
+-- Each router holds what its transcript keeps.
+pub tables : Tables
+tables = always (λ w s. IsKept s.router s.items) (λ w p s k. is_kept s.router s.items k.1.tells)
+
 -- The headline
+named_so : (w : World) (s : Side) → Known w s → IsNamed (instances w) (kept s.items).version s.router.table
+named_so w s k = subst (λ v. IsNamed (instances w) v s.router.table) (is_kept s.router s.items k.1.tells).version (table_named (instances w) s.router.version s.router.table k.0.router.table)
+
 pub headline : Headline
-headline made history w leads =
-    named_all w.sides (history_good (new_world made.routers made.session made.session0 made.start made.keep) history w leads.1 (new_good made leads.0) (all_new SideTells new_side_tells made.routers)).sides (tables made history w leads)
-  where
-    named_all : (sides : List Side) → AllByRecursion (Good w.keep w.past w.present) sides → AllByRecursion (λ s. IsKept s.router s.items) sides → AllByRecursion (λ s. IsNamed (instances w) (kept s.items).version s.router.table) sides
-    named_all [] g k = tt
-    named_all (s ∷ sides) g k = (subst (λ v. IsNamed (instances w) v s.router.table) k.0.version (table_named (instances w) s.router.version s.router.table g.0.router.table), named_all sides g.1 k.1)
+headline = always (λ w s. IsNamed (instances w) (kept s.items).version s.router.table) (λ w p s k. named_so w s k)
 
 -- and so do the states of routes
 judged : (all : List Instance) (version : Option Committed) (table : VrpSet) (route : Route) → IsNamed all version table → IsRouteJudged all version route (state table route)
@@ -350,34 +369,25 @@ judged all None table route is = subst (λ t. HasState t route (state table rout
 judged all (Some version) table route is = (table, is, state_is table route)
 
 pub route_states : RouteStates
-route_states made history w leads = each w.sides (headline made history w leads)
-  where
-    each : (sides : List Side) → AllByRecursion (λ s. IsNamed (instances w) (kept s.items).version s.router.table) sides
-        → AllByRecursion (λ s. (route : Route) → IsRouteJudged (instances w) (kept s.items).version route (state s.router.table route)) sides
-    each [] h = tt
-    each (s ∷ sides) h = (λ route. judged (instances w) (kept s.items).version s.router.table route h.0, each sides h.1)
+route_states =
+    always (λ w s. (route : Route) → IsRouteJudged (instances w) (kept s.items).version route (state s.router.table route)) (λ w p s k route. judged (instances w) (kept s.items).version s.router.table route (named_so w s k))
 
 -- No way back
 pub no_way_back : NoWayBack
-no_way_back made history w leads =
-    each w.sides (history_good (new_world made.routers made.session made.session0 made.start made.keep) history w leads.1 (new_good made leads.0) (all_new SideTells new_side_tells made.routers)).sides
-  where
-    each : (sides : List Side) → AllByRecursion (Good w.keep w.past w.present) sides → AllByRecursion (λ s. NeverBack s.places) sides
-    each [] g = tt
-    each (s ∷ sides) g = (g.0.order.never_back, each sides g.1)
+no_way_back = always (λ w s. NeverBack s.places) (λ w p s k. k.0.order.never_back)
 
 -- the set and the answers over it
 pub sentence : Always (λ w s. HoldsNamed (instances w) s.items s.router.table)
-sentence made history w leads = each w.sides (headline made history w leads) (route_states made history w leads)
-  where
-    each : (sides : List Side) → AllByRecursion (λ s. IsNamed (instances w) (kept s.items).version s.router.table) sides → AllByRecursion (λ s. (route : Route) → IsRouteJudged (instances w) (kept s.items).version route (state s.router.table route)) sides
-        → AllByRecursion (λ s. HoldsNamed (instances w) s.items s.router.table) sides
-    each [] h k = tt
-    each (s ∷ sides) h k = (record { named_so = h.0; once = each_once s.items; routes = k.0 }, each sides h.1 k.1)
+sentence = always (λ w s. HoldsNamed (instances w) s.items s.router.table) (λ w p s k. record {
+  named_so = named_so w s k;
+  once = each_once s.items;
+  routes = λ route. judged (instances w) (kept s.items).version s.router.table route (named_so w s k);
+})
 
 pub act_once : ActExactlyOnce
-act_once made history w leads = each w.sides
-  where
-    each : (sides : List Side) → AllByRecursion (λ s. EachOnce s.items) sides
-    each [] = tt
-    each (s ∷ sides) = (each_once s.items, each sides)
+act_once = always (λ w s. EachOnce s.items) (λ w p s k. each_once s.items)
+
+-- A question is answered as the cache is when it is read.
+pub answers_now : AnswersNow
+unfolding cache_gets
+answers_now = always _ (λ w p s k live most wanting. gets_now w p most wanting s s.conn refl live k.0)

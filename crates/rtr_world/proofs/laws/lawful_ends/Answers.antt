@@ -1,6 +1,5 @@
-use Rattle.rtr_world.proofs.EndLaws.{lawful_ends}
-use Rattle.rtr_world.proofs.EndsKept.{ends_kept}
-use Rattle.rtr_world.proofs.EndsNoted.{ends_noted}
+use Rattle.rtr_world.proofs.Endings.{lawful_ends}
+use Rattle.rtr_world.proofs.EndsNoted.{ends_noted, ends_kept}
 use Rattle.rtr_world.proofs.WantedEnds.{none_by_memory}
 use Rattle.rtr_world.proofs.laws.lawful_ends.Goals as goal
 

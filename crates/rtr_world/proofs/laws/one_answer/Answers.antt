@@ -1,4 +1,4 @@
-use Rattle.rtr_world.proofs.AnsweredNow.{answers_now}
+use Rattle.rtr_world.proofs.WorldSteps.{answers_now}
 use Rattle.rtr_world.proofs.OneAnswers.{one_answer}
 use Rattle.rtr_world.proofs.laws.one_answer.Goals as goal
 

@@ -1,4 +1,4 @@
-use Rattle.rtr_world.proofs.KeptTables.{tables}
+use Rattle.rtr_world.proofs.WorldSteps.{tables}
 use Rattle.rtr_world.proofs.laws.tables.Goals as goal
 
 pub returns : goal.returns
