@@ -104,13 +104,12 @@ module _ (all : List Instance) (i : Instance) (p : Present all i) (keep : ℕ) (
   whole_question : (h : Seen) (l : Link) (u : Unit) (more rest : List Unit) → is_reading l ≡ true → Shape all r.spoken h l r.agreed r.version r.table (u ∷ more) rest → IsWhole h l u more rest
   whole_question h Closed u more rest live s = false_true live
   whole_question h (Ended end) u more rest live s = false_true live
-  whole_question h Idle u more rest live s = absurd (let e : u ∷ more ≡ [] = s.0 in cc)
-  whole_question h (Answering a) u more rest live s = absurd (let e : u ∷ more ≡ [] = s.0 in cc)
   whole_question h (Asked q) u more rest live s =
       elim (s.1) [
         | inl w ↦ (let e : u ∷ more ≡ query q ∷ [] = w.0 in record { q = q; asks = refl; is = cc; no_more = cc; none = w.1; fits = s.0 })
         | inr w ↦ absurd (let e : u ∷ more ≡ [] = w.0 in cc)
       ]
+  whole_question h _ u more rest live s = absurd (let e : u ∷ more ≡ [] = s.0 in cc)
 
   -- The cache has read the question, and these PDUs are the answer.
   answered : (o : Conn) (up bs : List ℕ) (h : Seen) (f : Flow all i h r (Some o) up down) (q : Question) (units : List Unit) (st : Connection) → st.version ≡ Some r.spoken → o.state.due ≡ [] → st.due ≡ sent_all r.spoken units → Stream [] (bs ++ r.out) [] → r.link ≡ Asked q

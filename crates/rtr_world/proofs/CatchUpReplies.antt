@@ -142,8 +142,7 @@ module _ (all : List Instance) (h : Seen) (pv : Version) (q : Question) (lacking
   staged_on rest k a u announce v (Stays b) more serial set e none own s leads o of =
       let same = stage_keeps (base_of a.question k.table) a announce v b e in
       goes_on b more serial set refl none (same.1 ∙ own) s (subst (λ x. Leads (base_of x k.table) b more h.session serial set) (sym same.0) leads) o of
-  staged_on rest k a u announce v (Wrong code) more serial set e none own s leads o of = absurd leads
-  staged_on rest k a u announce v Over more serial set e none own s leads o of = absurd leads
+  staged_on rest k a u announce v _ more serial set e none own s leads o of = absurd leads
 
   commits_on : (rest : List ℕ) (k : Router) (a : Begun) (u : Unit) (one number : ℕ) (intervals : Intervals) → one ≡ a.session → k.out ≡ [] → rest ≡ [] → stays
       → Phase rest (if one == a.session then commit a (record { version = k.spoken; session = one; serial = number; moment = k.now; intervals = intervals }) k else fails u k)

@@ -120,10 +120,9 @@ clocked_lasts now r = close_by (λ x. is_over x.version x.now ≡ false) (clocke
 
 -- No byte changes the version of the next connection.
 bytes_speak : (memory : Bool) (bytes : List ℕ) (r : Router) (j : Judgement) → (with_bytes memory bytes r j).router.speaks ≡ r.speaks
-bytes_speak memory bytes r Begins = refl
-bytes_speak memory bytes r (Faulty fault) = refl
 bytes_speak memory bytes r (Whole u) =
     let k : Router = record r { held = [] } in either_by (λ n. n.router.speaks ≡ r.speaks) u k (may_lack r.link u r && not memory) refl (unit_held r.link u k).1
+bytes_speak memory bytes r _ = refl
 
 pub byte_speaks : (m : Receiving) (b : ℕ) → (router_byte m b).router.speaks ≡ m.router.speaks
 unfolding router_byte

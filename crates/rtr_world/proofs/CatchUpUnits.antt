@@ -101,8 +101,6 @@ module _ (all : List Instance) (i : Instance) (p : Present all i) (pv : Version)
   -- a notify
   pub on_notice : (r : Router) (l : Link) (one serial : ℕ) → r.link ≡ l → is_reading l ≡ true → Current pv i l r.version r.table r.now → C (on_unit l (SerialNotify one serial) r)
   unfolding on_unit
-  on_notice r Closed one serial is live c = false_true live
-  on_notice r (Ended end) one serial is live c = false_true live
   on_notice r Idle one serial is live c =
       if_current pv i (is_strange r one) (fails (SerialNotify one serial) r) (if is_news (of_version r.spoken r.version) serial then ask r else r) tt
       (if_current pv i (is_news (of_version r.spoken r.version) serial) (ask r) r c.1 (subst (λ l. Current pv i l r.version r.table r.now) (sym is) c))
@@ -110,6 +108,7 @@ module _ (all : List Instance) (i : Instance) (p : Present all i) (pv : Version)
       if_current pv i (is_strange r one) (fails (SerialNotify one serial) r) r tt (subst (λ l. Current pv i l r.version r.table r.now) (sym is) c)
   on_notice r (Answering a) one serial is live c =
       if_current pv i (is_strange r one) (fails (SerialNotify one serial) r) r tt (subst (λ l. Current pv i l r.version r.table r.now) (sym is) c)
+  on_notice r _ one serial is live c = false_true live
 
   -- the reply to a question
   data_current : (r : Router) (copy : List ℕ) → Current pv i Idle r.version r.table r.now → C (on_unit (Asked AskReset) (report 2 copy) r)
@@ -186,8 +185,6 @@ module _ (all : List Instance) (i : Instance) (p : Present all i) (pv : Version)
   answered r a u rest of o fresh = absurd o.leads
 
   others : (r : Router) (l : Link) (u : Unit) (more wanted : List Unit) → r.spoken ≡ pv → is_reading l ≡ true → TableAt all r.version r.table → Shape all pv h l r.agreed r.version r.table wanted (u ∷ without_notifies more) → Current pv i l r.version r.table r.now → C (on_unit l u r)
-  others r Closed u more wanted of live t s c = false_true live
-  others r (Ended end) u more wanted of live t s c = false_true live
   others r Idle u more wanted of live t s c = absurd (no_unit u (without_notifies more) s.1)
   others r (Asked q) u more wanted of live t s c =
       elim (s.1) [
@@ -195,6 +192,7 @@ module _ (all : List Instance) (i : Instance) (p : Present all i) (pv : Version)
         | inr w ↦ replied r q u (without_notifies more) (base_of q r.table) s.0 t w.1 w.2 c
       ]
   others r (Answering a) u more wanted of live t s c = answered r a u (without_notifies more) of s.4 c
+  others r _ u more wanted of live t s c = false_true live
 
   -- every PDU
   pub unit_current : (r : Router) (l : Link) (u : Unit) (more wanted : List Unit) → r.spoken ≡ pv → r.link ≡ l → is_reading l ≡ true → TableAt all r.version r.table → Shape all pv h l r.agreed r.version r.table wanted (without_notifies (u ∷ more)) → Current pv i l r.version r.table r.now → C (on_unit l u r)

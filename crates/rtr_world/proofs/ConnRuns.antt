@@ -133,12 +133,10 @@ module _ (w : World) (is : IsInstance w.present) where
   step_runs : (event : SideEvent) (wanting : Option ℕ) (s : Side) → Known w s → R s → R (side_step w event wanting s)
   unfolding side_step connects router_restarts speaks router_sends router_gets cache_sends cache_gets cut
   step_runs RouterRestart wanting s known h = tt
-  step_runs (Speak version) wanting s known h = h
   step_runs Connect wanting s known h = record { run = new_run w.keep w.present is; low = tt }
   step_runs (RouterSends most) wanting s known h = sends_runs most s s.conn refl known h
   step_runs (CacheGets most) wanting s known h = gets_runs most wanting s s.conn refl h
   step_runs (CacheSends most) wanting s known h = given_runs most s s.conn refl h
-  step_runs (RouterGets most) wanting s known h = h
   step_runs (Cut left) wanting s known h = tt
   step_runs NotifyRouter wanting s known h = notified_runs s s.conn refl h
   step_runs _ wanting s known h = h

@@ -1,4 +1,5 @@
 -- Every event keeps the invariant at each router.
+use Rattle.rtr_world.proofs.RouterCases.{asks_by}
 use Rattle.rtr_world.proofs.EventCalls.{closed_by, closed_link, part_by, lesser}
 use Rattle.std.specs.Prelude.{◌≡◌, ◌⊎◌, ℕ, Bool, true, false, List, [], ◌∷◌, ◌++◌, take, drop, Option, Some, None, if◌then◌else◌, refl}
 use Rattle.std.proofs.Common.{sym, ap, ◌∙◌, subst, arith, append_assoc, inl}
@@ -126,9 +127,8 @@ module _ (w : World) (p : Present (instances w) w.present) where
 
   keeps_so : (home : Option Instance) (seen : Option Seen) → IsSeen w.keep home seen → (h : Seen) → seen ≡ Some h → h.keep ≡ w.keep
   keeps_so None None s h e = absurd (let k : ◌≡◌ {A = Option Seen} None (Some h) = e in cc)
-  keeps_so None (Some k) s h e = absurd s
-  keeps_so (Some home) None s h e = absurd s
   keeps_so (Some home) (Some k) s h e = let same : k ≡ h = cc in ap (λ x. x.keep) (sym same) ∙ s.1
+  keeps_so _ _ s h e = absurd s
 
   gets_good : (most : ℕ) (wanting : Option ℕ) (s : Side) (o : Option Conn) → s.conn ≡ o → GoodS s → GoodS (gets_at w most wanting s o)
   unfolding conn_takes
@@ -261,12 +261,10 @@ module _ (w : World) (p : Present (instances w) w.present) where
 
   -- asking commits nothing
   asks_places : (b : Bool) (r : Router) (items : List Item) → places_of (instances w) (asks_if b r).items items ≡ []
-  asks_places true r items = refl
-  asks_places false r items = refl
+  asks_places b r items = asks_by (λ n. places_of (instances w) n.items items ≡ []) b r refl refl
 
   ticks_places : (now : ℕ) (b : Bool) (r : Router) (items : List Item) → places_of (instances w) ((asks_if b r).items ++ At now ∷ []) items ≡ []
-  ticks_places now true r items = refl
-  ticks_places now false r items = refl
+  ticks_places now b r items = asks_by (λ n. places_of (instances w) (n.items ++ At now ∷ []) items ≡ []) b r refl refl
 
   no_places : (s : Side) (g : GoodS s) (more : List (Option VersionPlace)) → more ≡ [] → Ordered w.past w.present (more ++ s.places) g.seen
   no_places s g more e = subst (λ x. Ordered w.past w.present (x ++ s.places) g.seen) (sym e) g.order

@@ -29,13 +29,12 @@ after_stage _ Goes = ⊥
 
 -- These PDUs are the rest of an answer: they lead from the base, and from what is staged, to a set under a session and a serial.
 abbrev pub Leads : VrpSet → Begun → List Unit → ℕ → ℕ → VrpSet → Type 0
-Leads base a [] session serial set = ⊥
 Leads base a (Prefix announce v ∷ units) session serial set = after_stage (stage base a announce v) (λ b. Leads base b units session serial set)
 Leads base a (EndOfData one number refresh retry expire ∷ units) session serial set =
     (units ≡ []) × (one ≡ session) × (number ≡ serial) × (led_to base a.withdrawn a.announced ≡ set)
 Leads base a (EndOfData0 one number ∷ units) session serial set =
     (units ≡ []) × (one ≡ session) × (number ≡ serial) × (led_to base a.withdrawn a.announced ≡ set)
-Leads base a (unit ∷ units) session serial set = ⊥
+Leads base a _ session serial set = ⊥
 
 -- what is committed is of this session
 abbrev pub Mine : ℕ → Option Committed → Type 0
@@ -129,13 +128,12 @@ abbrev pub Waits : List Instance → Version → Seen → Question → VrpSet �
 Waits all pv home q base wanted rest = ((wanted ≡ query q ∷ []) × (rest ≡ [])) ⊎ ((wanted ≡ []) × Replies all pv home q base rest × OneReply all pv home q rest)
 
 abbrev pub Shape : List Instance → Version → Seen → Link → Bool → Option Committed → VrpSet → List Unit → List Unit → Type 0
-Shape all pv home Closed agreed version table wanted rest = ⊤
-Shape all pv home (Ended end) agreed version table wanted rest = ⊤
 Shape all pv home Idle agreed version table wanted rest = (wanted ≡ []) × (rest ≡ []) × (agreed ≡ true)
 Shape all pv home (Asked q) agreed version table wanted rest = QuestionFits home.session q (of_version pv version) × Waits all pv home q (base_of q table) wanted rest
 Shape all pv home (Answering a) agreed version table wanted rest =
     (wanted ≡ []) × (agreed ≡ true) × (a.session ≡ home.session) × QuestionFits home.session a.question (of_version pv version)
     × OfAnswer all pv home (base_of a.question table) a rest
+Shape all pv home _ agreed version table wanted rest = ⊤
 
 abbrev pub IfOpen : Option Conn → (Conn → Type 0) → Type 0
 IfOpen None P = ⊤
@@ -202,9 +200,7 @@ Live all i home r conn up down = (h : Seen) × (home ≡ Some h) × Flow all i h
 abbrev pub GoodLinkOf : List Instance → Instance → Option Seen → Link → Talk → List ℕ → List ℕ → Option Conn → List ℕ → List ℕ → Type 0
 GoodLinkOf all i home Closed t held out conn up down = (held ≡ []) × (t.agreed ≡ false) × (t.session ≡ None) × (out ≡ [])
 GoodLinkOf all i home (Ended end) t held out conn up down = out ≡ []
-GoodLinkOf all i home Idle t held out conn up down = (h : Seen) × (home ≡ Some h) × FlowOf all i h t held out conn up down
-GoodLinkOf all i home (Asked q) t held out conn up down = (h : Seen) × (home ≡ Some h) × FlowOf all i h t held out conn up down
-GoodLinkOf all i home (Answering a) t held out conn up down = (h : Seen) × (home ≡ Some h) × FlowOf all i h t held out conn up down
+GoodLinkOf all i home _ t held out conn up down = (h : Seen) × (home ≡ Some h) × FlowOf all i h t held out conn up down
 
 abbrev pub GoodLink : List Instance → Instance → Option Seen → Link → Router → Option Conn → List ℕ → List ℕ → Type 0
 GoodLink all i home l r conn up down = GoodLinkOf all i home l (talk r) r.held r.out conn up down

@@ -1,6 +1,5 @@
 pub mod ActingOnce
 pub mod AnswerLaws
-pub mod AnswersRead
 pub mod CacheMoves
 pub mod CacheSteps
 pub mod CatchUpAnswers
@@ -11,16 +10,12 @@ pub mod CatchUpReplies
 pub mod CatchUpRounds
 pub mod CatchUpSettling
 pub mod CatchUpSides
-pub mod CatchUpSizes
 pub mod CatchUpSteps
 pub mod CatchUpUnits
 pub mod CaughtUpLaws
 pub mod Commits
 pub mod ConnRuns
 pub mod Connecting
-pub mod CutOff
-pub mod EarlyNotifies
-pub mod Endings
 pub mod EndsNoted
 pub mod EventCalls
 pub mod EventRows

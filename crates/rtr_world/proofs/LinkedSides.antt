@@ -22,8 +22,7 @@ seen_at keep version i = record { made = i; keep = keep; version = version; sess
 abbrev pub IsSeen : ℕ → Option Instance → Option Seen → Type 0
 IsSeen keep None None = ⊤
 IsSeen keep (Some home) (Some seen) = (seen.made ≡ home) × (seen.keep ≡ keep) × (seen.session ≡ session_in seen.version home) × (length home.sets ≤ length seen.sets)
-IsSeen keep None (Some seen) = ⊥
-IsSeen keep (Some home) None = ⊥
+IsSeen keep _ _ = ⊥
 
 abbrev pub IsReadAt : Option Instance → Option Seen → Type 0
 IsReadAt read None = ⊤

@@ -50,8 +50,6 @@ module _ (keep : ℕ) (i : Instance) where
   behind o memory version bytes j = with_moment keep timing bytes o (conn_moment_of i memory version bytes j)
 
   moment_same : (o : Conn) (memory : Bool) (version : Version) (bytes : List ℕ) (j : Judgement) → (behind o memory version bytes j ≡ behind o true version bytes j) ⊎ (conn_stops (behind o memory version bytes j) ≡ true)
-  moment_same o memory version bytes Begins = inl refl
-  moment_same o memory version bytes (Faulty fault) = inl refl
   moment_same o memory version bytes (Whole u) = by_memory (takes_memory version i u) memory
     where
       read : Bool → Conn
@@ -61,6 +59,7 @@ module _ (keep : ℕ) (i : Instance) where
       by_memory true true = inl refl
       by_memory true false = inr refl
       by_memory false b = inl refl
+  moment_same o memory version bytes _ = inl refl
 
   abbrev ConnsAlike : Taking → Taking → Type 0
   ConnsAlike m n = (n.conn ≡ m.conn) × (m.wanting ≡ None)
@@ -88,8 +87,6 @@ module _ (keep : ℕ) (i : Instance) where
 
 -- At the router
 unit_same : (memory : Bool) (bytes : List ℕ) (r : Router) (j : Judgement) → ((with_bytes memory bytes r j).router ≡ (with_bytes true bytes r j).router) ⊎ (router_stops (with_bytes memory bytes r j).router ≡ true)
-unit_same memory bytes r Begins = inl refl
-unit_same memory bytes r (Faulty fault) = inl refl
 unit_same memory bytes r (Whole u) = by_memory (may_lack r.link u r) memory
   where
     read : Bool → Router
@@ -99,6 +96,7 @@ unit_same memory bytes r (Whole u) = by_memory (may_lack r.link u r) memory
     by_memory true true = inl refl
     by_memory true false = inr refl
     by_memory false b = inl refl
+unit_same memory bytes r _ = inl refl
 
 abbrev RoutersAlike : Receiving → Receiving → Type 0
 RoutersAlike m n = (n.router ≡ m.router) × (m.wanting ≡ None)

@@ -165,11 +165,10 @@ ordered_none past i places seen o = record { never_back = o.never_back; current 
 
 -- the cache reads a PDU on it, or not
 pub ordered_read : (past : List Instance) (i : Instance) (places : List (Option VersionPlace)) (read : Bool) (seen : Option Seen) → Ordered past i places seen → Ordered past i places (seen_after i read seen)
-ordered_read past i places false seen o = o
-ordered_read past i places true None o = o
 ordered_read past i places true (Some h) o =
     let b : Below (i ∷ past) places h = o.at_seen in
     record { never_back = o.never_back; current = o.current; at_seen = record { rank = b.rank; is = b.is; below = b.below }; at_home = o.at_home }
+ordered_read past i places _ _ o = o
 
 -- a new one
 pub ordered_connects : (keep : ℕ) (pv : Version) (past : List Instance) (i : Instance) (places : List (Option VersionPlace)) (seen : Option Seen) → Ordered past i places seen → Ordered past i places (Some (seen_at keep pv i))

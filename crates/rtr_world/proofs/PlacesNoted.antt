@@ -48,21 +48,11 @@ item_leaves (Reads (EndOfData session serial refresh retry expire)) items none =
 item_leaves (Reads (EndOfData0 session serial)) items none =
     end_leaves (under_way items) (record { version = spoken items; session = session; serial = serial; moment = moment items; intervals = default_intervals }) (kept items) none
 item_leaves (Reads (SerialNotify session serial)) items none = emptied_leaves (has_agreed items && differs (session_of (responded items) (of_version (spoken items) (kept items).version)) session) (kept items)
-item_leaves (Reads (SerialQuery session serial)) items none = inr refl
-item_leaves (Reads ResetQuery) items none = inr refl
 item_leaves (Reads (CacheResponse session)) items none = emptied_leaves (is_wrong (waiting items) (of_version (spoken items) (kept items).version) session) (kept items)
-item_leaves (Reads (Prefix announce v)) items none = inr refl
-item_leaves (Reads CacheReset) items none = inr refl
-item_leaves (Reads (RouterKey key)) items none = inr refl
 item_leaves (Reads (ErrorReport r)) items none = emptied_leaves (r.code == 0 && is_serial (outstanding items)) (kept items)
 item_leaves (At now) items none = emptied_leaves (is_over (kept items).version (later (moment items) now)) (kept items)
-item_leaves (Opened version) items none = inr refl
-item_leaves (Asks question) items none = inr refl
-item_leaves (Lacks unit) items none = inr refl
-item_leaves (Breaks fault) items none = inr refl
-item_leaves Refused items none = inr refl
-item_leaves Shut items none = inr refl
 item_leaves Restarts items none = inl refl
+item_leaves _ items none = inr refl
 
 -- What a transcript gains
 module _ (all : List Instance) where

@@ -36,7 +36,6 @@ pub record Rests (s : Side) : Type 0 where
   pub told : s.conn ≡ None → s.down ≡ [] → IsTold s
 
 closed_goes_on : (l : Link) → is_closed l ≡ true → is_ended l ≡ false
-closed_goes_on Closed h = refl
 closed_goes_on (Ended end) h = false_true h
 closed_goes_on _ h = refl
 
@@ -193,9 +192,8 @@ settled_rests w g = all_map (Good w.keep w.past w.present) Rests (settle (instan
 
 refused_rests : (event : Event) (bytes : ℕ) (wanting : Option ℕ) (w : World) → GoodWorld w → AllTell w → AllByRecursion Rests w.sides → AllByRecursion Rests (is_refused event bytes wanting w).sides
 unfolding is_refused
-refused_rests (Publish set) bytes wanting w g t h = h
-refused_rests (Restart session session0 start) bytes wanting w g t h = h
 refused_rests (On r event) bytes wanting w g t h = settled_rests (record w { sides = on_side r (side_refused w event bytes wanting) w.sides }) (part_so r event bytes wanting w g t)
+refused_rests _ bytes wanting w g t h = h
 
 after_rests : (event : Event) (outcome : Outcome) (w : World) → IsEvent event → MayEnd (refusal w event) w event outcome → GoodWorld w → AllTell w → AllByRecursion Rests w.sides → AllByRecursion Rests (after event outcome w).sides
 after_rests event (Done wanting) w fits may g t h = settled_rests (goes_through event wanting w) (through_good event wanting w fits may g t)

@@ -4,18 +4,47 @@ use Rattle.std.proofs.Common.{sym, ◌∙◌, subst, append_assoc, arith}
 use Rattle.std.specs.List.{AllByRecursion}
 use Rattle.std.proofs.lemmas.List.{append-nil}
 use Rattle.rtr_world.specs.CatchUp.{AreMoves, IsMove, IsMoveOf, stepped}
-use Rattle.rtr_world.specs.CaughtUp.{AllWent, AreDone, By, GoesRound, IsCutOff, IsDone, KeepOpen, KeepsOpen, Lacks, Rounded, all_bytes}
+use Rattle.rtr_world.specs.CaughtUp.{AllWent, AreDone, By, GoesRound, IsCutOff, IsDone, KeepOpen, KeepsOpen, Lacks, Rounded, all_bytes, IsOff}
 use Rattle.rtr_world.specs.Events.{AnswersOutcome, outcome_fault}
 use Rattle.rtr_world.specs.History.{Outcome, Done, SessionUsed, TooManyVersions, NoSuchRouter, Memory, Entry, Made, Leads, MayEnd, Reached, after, refusal, side_at}
 use Rattle.rtr_world.specs.Reached.{LeadsTo, ShowsWorld, StepsOnce}
-use Rattle.rtr_world.specs.World.{World, Side, SideEvent, RouterSends, CacheGets, CacheSends, RouterGets, Cut, On}
+use Rattle.rtr_world.specs.World.{World, Side, SideEvent, RouterSends, CacheGets, CacheSends, RouterGets, Cut, On, cut, instances, is_refused, settle, settled, side_refused, side_step, tell_closed}
 use Rattle.rtr_world.specs.declared.event.WorldFault.{WorldFault}
-use Rattle.rtr_world.specs.declared.world.World as code
-use Rattle.rtr_world.proofs.CatchUpSteps.{gives_none, sends_none}
-use Rattle.rtr_world.proofs.CutOff.{after_cut, after_refused}
+use Rattle.rtr_world.proofs.CatchUpSteps.{gives_none, sends_none, map_same, on_same, stepped_at}
 use Rattle.rtr_world.proofs.Routers.{low_of, routers_stay, side_in}
 use Rattle.rtr_world.proofs.Showing.{leads_on, reached_by}
 use Rattle.rtr_world.proofs.Stepping.{found_router}
+use Rattle.vrps.specs.Instance.{Instance}
+use Rattle.rtr_world.proofs.EventCalls.{told_closes, closed_link, still_by, closed_by}
+use Rattle.rtr_world.specs.declared.world.World as code
+
+-- A connection that is cut with nothing to arrive is gone after the clean-up.
+settle_off : (all : List Instance) (s : Side) → s.conn ≡ None → s.down ≡ [] → IsOff (settle all s)
+settle_off all s none down =
+    still_by IsOff all s none down (record {
+      link = closed_link (tell_closed all s).router.link (told_closes all s);
+      conn = closed_by (λ t. t.conn ≡ None) all s (λ e. none) (λ e. none);
+      up = refl;
+      down = closed_by (λ t. t.down ≡ []) all s (λ e. down) (λ e. down);
+    })
+
+-- So it is after a cut,
+pub after_cut : (r : ℕ) (wanting : Option ℕ) (w : World) (s : Side) → side_at r w.sides ≡ Some s → IsCutOff r (after (On r (Cut 0)) (Done wanting) w)
+unfolding side_step cut
+after_cut r wanting w s e = record {
+  side = settle (instances w) (side_step w (Cut 0) wanting s);
+  found = stepped_at r (Cut 0) wanting w s e;
+  off = settle_off (instances w) (side_step w (Cut 0) wanting s) refl refl;
+}
+
+-- and after an event that was refused because memory ran out.
+pub after_refused : (r : ℕ) (event : SideEvent) (bytes : ℕ) (wanting : Option ℕ) (w : World) (s : Side) → side_at r w.sides ≡ Some s → IsCutOff r (after (On r event) (Memory bytes wanting) w)
+unfolding is_refused settled side_refused cut
+after_refused r event bytes wanting w s e = record {
+  side = settle (instances w) (side_refused w event bytes wanting s);
+  found = map_same r (settle (instances w)) _ (side_refused w event bytes wanting s) (on_same r (side_refused w event bytes wanting) w.sides s e);
+  off = settle_off (instances w) (side_refused w event bytes wanting s) refl refl;
+}
 
 -- what is said of both lists
 pub both : (P : Entry → Type 0) (xs ys : List Entry) → AllByRecursion P xs → AllByRecursion P ys → AllByRecursion P (xs ++ ys)

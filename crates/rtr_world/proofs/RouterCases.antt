@@ -16,7 +16,6 @@ expired_by P (Answering a) r on ended = by_question (is_serial (Some a.question)
     by_question : (b : Bool) → P (if b then record (emptied r) { link = Ended ends.Expired; out = [] } else emptied r)
     by_question true = ended
     by_question false = on
-expired_by P (Asked AskReset) r on ended = on
 expired_by P _ r on ended = on
 
 pub clocked_by : (P : Router → Type 0) (now : ℕ) (r : Router) → let k : Router = record r { now = later r.now now } in P k → P (emptied k) → P (record (emptied k) { link = Ended ends.Expired; out = [] }) → P (clocked now r)

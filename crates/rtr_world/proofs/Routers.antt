@@ -27,9 +27,8 @@ through_length (On r event) wanting w = map_length _ _ ∙ on_length r _ w.sides
 
 refused_length : (event : Event) (bytes : ℕ) (wanting : Option ℕ) (w : World) → length (is_refused event bytes wanting w).sides ≡ length w.sides
 unfolding is_refused settled
-refused_length (Publish set) bytes wanting w = refl
-refused_length (Restart session session0 start) bytes wanting w = refl
 refused_length (On r event) bytes wanting w = map_length _ _ ∙ on_length r _ w.sides
+refused_length _ bytes wanting w = refl
 
 after_length : (event : Event) (outcome : Outcome) (w : World) → length (after event outcome w).sides ≡ length w.sides
 after_length event (Done wanting) w = through_length event wanting w

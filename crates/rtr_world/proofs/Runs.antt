@@ -50,9 +50,8 @@ since_call (x ∷ xs) items h = by_item x h.0 ∙ ap (λ l. x ∷ l) (since_call
 -- What calls add
 
 asked_of_call : (l : Link) (out : List ℕ) → AreOfCall (asked_by l out)
-asked_of_call (Asked question) [] = tt
 asked_of_call (Asked question) (b ∷ out) = (tt, tt)
-asked_of_call _ out = tt
+asked_of_call _ _ = tt
 
 read_of_call : (memory : Bool) (bytes : List ℕ) (r : Router) (j : Judgement) → AreOfCall (with_bytes memory bytes r j).items
 read_of_call memory bytes r Begins = tt
@@ -76,13 +75,12 @@ call_of_call : (call : RouterCall) (r : Router) → AreOfCall (called call r).it
 unfolding connects_at closed_at ticks_at asks
 call_of_call (Connects now) r = (tt, (tt, (tt, tt)))
 call_of_call (Receives now wanting piece) r = receives_of_call now wanting piece r
-call_of_call (Pulls most) r = tt
 call_of_call (Closes now) r = (tt, (tt, tt))
 call_of_call AsksNow r = asks_of_call (is_idle r.link) r
-call_of_call (Speaks version) r = tt
 call_of_call (Ticks now) r =
     let told : Router = clocked now r in
     both_of_call (asks_if (is_due told.link told.due told.now) told).items (At now ∷ []) (asks_of_call (is_due told.link told.due told.now) told) (tt, tt)
+call_of_call _ r = tt
 
 -- one call more
 one_more : (call : RouterCall) (r : Router) (items : List Item) → IsRouterCall call → IsRun r items → IsRun (called call r).router ((called call r).items ++ items)

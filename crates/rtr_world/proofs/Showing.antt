@@ -60,9 +60,8 @@ pub record FoundSide (w : World) (at : ℕ → Option Conn) (a : Option Side) (v
 
 pub found_side : (w : World) (at : ℕ → Option Conn) (a : Option Side) (q : Option values.Side) (v : values.Side) → q ≡ Some v → ShowsAt w at a q → FoundSide w at a v
 found_side w at (Some s) (Some u) v e h = record { side = s; is = refl; shows = subst (λ x. ShowsSide w at s x) (inside e) h }
-found_side w at None (Some u) v e h = absurd h
-found_side w at (Some s) None v e h = absurd h
 found_side w at None None v e h = absurd (let k : ◌≡◌ {A = Option values.Side} None (Some v) = e in cc)
+found_side w at _ _ v e h = absurd h
 
 -- so many sides
 same_length : (w : World) (at : ℕ → Option Conn) (sides : List Side) (items : List values.Side) → ((r : ℕ) → ShowsAt w at (side_at r sides) (slice_get items r)) → length sides ≡ length items

@@ -266,9 +266,6 @@ module _ (all : List Instance) (i : Instance) (home : Option Seen) (conn : Optio
     pub asks_good : (l : Link) (r : Router) (b : Bool) → r.link ≡ l → (is_idle l ≡ false → b ≡ false) → GoodR r → GoodLink all i home l r conn up down → GoodR (asks_if b r).router
     asks_good l r false is idle g k = g
     asks_good Closed r true is idle g k = false_true (sym (idle refl))
-    asks_good (Ended end) r true is idle g k = false_true (sym (idle refl))
-    asks_good (Asked q) r true is idle g k = false_true (sym (idle refl))
-    asks_good (Answering a) r true is idle g k = false_true (sym (idle refl))
     asks_good Idle r true is idle g k =
         let s = subst (λ x. Shape all r.spoken k.0 x r.agreed r.version r.table k.2.wanted (without_notifies k.2.coming)) is k.2.shape in
         let fits = question_fits k.0.session (of_version r.spoken r.version) r.mark g.unmarked (k.2.mine s.2) in
@@ -291,3 +288,4 @@ module _ (all : List Instance) (i : Instance) (home : Option Seen) (conn : Optio
             },
           );
         }
+    asks_good _ r true is idle g k = false_true (sym (idle refl))

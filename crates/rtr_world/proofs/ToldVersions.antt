@@ -47,7 +47,6 @@ says_after event version = version
 call_says : (all : List Instance) (event : SideEvent) (wanting : Option ℕ) (s : Side) → IsNoRestart event → Says (says_after event s.router.speaks) (after_call all s (call_of event wanting s))
 unfolding connects_at ticks_at asks router_pulled
 call_says all RouterRestart wanting s on = absurd on
-call_says all (Speak version) wanting s on = refl
 call_says all Connect wanting s on = close_speaks (clocked s.router.now s.router) ∙ clocked_speaks s.router.now s.router
 call_says all (RouterGets most) wanting s on = receives_speaks s.router.now wanting (take most s.down) s.router
 call_says all Ask wanting s on = asks_speak (is_idle s.router.link) s.router

@@ -63,8 +63,6 @@ module _ (all : List Instance) (h : Seen) (r : Router) where
   -- a notify
   notify_brings : (l : Link) (one serial : ℕ) → r.link ≡ l → is_reading l ≡ true → is_strange r one ≡ false → Brings all h r l (SerialNotify one serial) (on_unit l (SerialNotify one serial) r)
   unfolding on_unit
-  notify_brings Closed one serial is live q = false_true live
-  notify_brings (Ended end) one serial is live q = false_true live
   notify_brings Idle one serial is live q =
       subst (λ b. Brings all h r Idle (SerialNotify one serial) (if b then fails (SerialNotify one serial) r else if is_news (of_version r.spoken r.version) serial then ask r else r)) (sym q) (by_news (is_news (of_version r.spoken r.version) serial))
     where
@@ -75,6 +73,7 @@ module _ (all : List Instance) (h : Seen) (r : Router) where
       subst (λ b. Brings all h r (Asked q) (SerialNotify one serial) (if b then fails (SerialNotify one serial) r else r)) (sym quiet) (goes_on (ap is_ended is) refl (stays one serial refl is))
   notify_brings (Answering a) one serial is live quiet =
       subst (λ b. Brings all h r (Answering a) (SerialNotify one serial) (if b then fails (SerialNotify one serial) r else r)) (sym quiet) (goes_on (ap is_ended is) refl (stays one serial refl is))
+  notify_brings _ one serial is live q = false_true live
 
   -- a reply
   no_data_brings : (copy : List ℕ) → Brings all h r (Asked AskReset) (report 2 copy) (on_unit (Asked AskReset) (report 2 copy) r)

@@ -14,13 +14,42 @@ use Rattle.rtr_pdu.specs.declared.unit.Unit.TheVariants.{SerialNotify, SerialQue
 use Rattle.rtr_pdu.proofs.VersionLaws.{version_in-append}
 use Rattle.rtr_pdu.specs.Judging.{Begins, Whole, judge}
 use Rattle.rtr_pdu.specs.Payloads.{AreBytes}
-use Rattle.rtr_pdu.specs.Unit.{IsUnit, IsUnitOf, prefix_bytes, zeros}
+use Rattle.rtr_pdu.specs.Unit.{IsUnit, IsUnitOf, prefix_bytes, zeros, Reads}
 use Rattle.rtr_pdu.specs.declared.unit.Unit.{Unit}
 use Rattle.rtr_pdu.proofs.NextLaws.{judge_sent, judge_part, some_sent}
 use Rattle.rtr_ends.specs.Answer.{sent, sent_all}
 use Rattle.rtr_ends.specs.Connection.{Sent, bytes_sent, in_version}
 use Rattle.rtr_world.specs.OneAnswer.{AreEarly, IsPart, without_notifies}
-use Rattle.rtr_world.proofs.EarlyNotifies.{judge_notify, judge_notify_part}
+use Rattle.std.proofs.lemmas.Bool.{cases_lt}
+use Rattle.rtr_pdu.specs.Stream.{as_read, IsPartial}
+use Rattle.rtr_pdu.proofs.DeviceLaws.{strict}
+use Rattle.rtr_pdu.proofs.JudgingLaws.{begins_exactly, reads_judged}
+use Rattle.rtr_pdu.proofs.ModeLaws.{as_read-append}
+use Rattle.rtr_pdu.proofs.ReaderLaws.{partial_short}
+use Rattle.rtr_pdu.proofs.StreamLaws.{written_is_read}
+
+-- A notify of another version, which a router reads where it has not agreed on a version.
+-- It is read as one of the expected version.
+read_as : (version other : Version) (session serial : ℕ) → as_read version true (sent other (SerialNotify session serial)) ≡ sent version (SerialNotify session serial)
+unfolding as_read
+read_as version other session serial = refl
+
+pub judge_notify : (version other : Version) (session serial : ℕ) → IsUnit (SerialNotify session serial) → judge version true (sent other (SerialNotify session serial)) ≡ Whole (SerialNotify session serial)
+judge_notify version other session serial fits =
+    reads_judged version true (sent other (SerialNotify session serial)) (SerialNotify session serial)
+    (subst (λ x. Reads version (SerialNotify session serial) x) (sym (read_as version other session serial)) (written_is_read version (SerialNotify session serial) fits refl))
+
+-- So is a beginning of it.
+pub judge_notify_part : (version other : Version) (session serial : ℕ) (part rest : List ℕ) (b : ℕ) → IsUnit (SerialNotify session serial) → part ++ b ∷ rest ≡ sent other (SerialNotify session serial) → judge version true part ≡ Begins
+judge_notify_part version other session serial part rest b fits e =
+    elim (cases_lt (length part) 8) [
+      | inl short ↦ (begins_exactly version true part).1 (partial_short version true part short)
+      | inr long ↦ (
+          let whole : as_read version true part ++ b ∷ rest ≡ sent version (SerialNotify session serial) =
+          sym (as_read-append version true part (b ∷ rest) long) ∙ ap (as_read version true) e ∙ read_as version other session serial in
+          let begun : judge version false (as_read version true part) ≡ Begins = judge_part version false (SerialNotify session serial) (as_read version true part) rest b fits refl whole in
+          (begins_exactly version true part).1 (subst (IsPartial version) (strict version (as_read version true part)) ((begins_exactly version false (as_read version true part)).0 begun)))
+    ]
 
 -- the bytes of a PDU in its version, and that it is one
 abbrev pub bytes_in : Sent → List ℕ
@@ -173,16 +202,11 @@ first_byte V0 more = refl
 first_byte V1 more = refl
 
 pub first_sent : (version : Version) (u : Unit) (more : List ℕ) → first_version (sent version u ++ more) ≡ version
-first_sent version (SerialNotify session serial) more = first_byte version _
-first_sent version (SerialQuery session serial) more = first_byte version _
-first_sent version ResetQuery more = first_byte version _
-first_sent version (CacheResponse session) more = first_byte version _
 first_sent version (Prefix announce v) more = by_family v.prefix
   where
     by_family : (p : IpPrefix) → first_version (prefix_bytes version announce p v.max_len v.asn zeros ++ more) ≡ version
     by_family (V4 p) = first_byte version _
     by_family (V6 p) = first_byte version _
-first_sent version (EndOfData session serial refresh retry expire) more = first_byte version _
 first_sent version _ more = first_byte version _
 
 -- The beginning of a PDU tells its version.

@@ -227,8 +227,6 @@ module _ (all : List Instance) (i : Instance) (home : Option Seen) (conn : Optio
   -- a notify comes
   pub on_notify : (r : Router) (more : List Unit) (l : Link) (one serial : ℕ) (d : Reads r more) → r.link ≡ l → is_reading l ≡ true → one ≡ d.h.session → Shape all r.spoken d.h l r.agreed r.version r.table d.wanted (without_notifies more) → GoodR (on_unit l (SerialNotify one serial) r)
   unfolding on_unit
-  on_notify r more Closed one serial d is live own shape = false_true live
-  on_notify r more (Ended end) one serial d is live own shape = false_true live
   on_notify r more Idle one serial d is live own shape =
       let mine : Mine d.h.session (of_version r.spoken r.version) = d.mine shape.2 in
       let quiet : is_strange r one ≡ false = λ j. shape.2 j && no_difference d.h.session one r.session (of_version r.spoken r.version) own d.own mine j in
@@ -250,6 +248,7 @@ module _ (all : List Instance) (i : Instance) (home : Option Seen) (conn : Optio
       quiet : (b : Bool) → r.agreed ≡ b → (b && differs (session_of r.session (of_version r.spoken r.version)) one) ≡ false
       quiet false e = refl
       quiet true e = no_difference d.h.session one r.session (of_version r.spoken r.version) own d.own (d.mine e)
+  on_notify r more _ one serial d is live own shape = false_true live
 
   -- the first PDU is no notify
   agreed_reads : (r : Router) (more : List Unit) (d : Reads r more) → Mine d.h.session (of_version r.spoken r.version) → Reads (record r { agreed = true }) more
@@ -318,8 +317,6 @@ module _ (all : List Instance) (i : Instance) (home : Option Seen) (conn : Optio
   -- a record comes
   staged_good : (r : Router) (more : List Unit) (a : Begun) (announce : Bool) (v : Payload) (d : Reads r more) (o : OfAnswer all r.spoken d.h (base_of a.question r.table) a (Prefix announce v ∷ without_notifies more)) (st : Staged) → stage (base_of a.question r.table) a announce v ≡ st → d.wanted ≡ [] → r.agreed ≡ true → a.session ≡ d.h.session
       → QuestionFits d.h.session a.question (of_version r.spoken r.version) → after_stage st (λ b. Leads (base_of a.question r.table) b (without_notifies more) d.h.session o.serial o.set) → GoodR (staged (Prefix announce v) st r)
-  staged_good r more a announce v d o (Wrong code) e w ag se f l = absurd l
-  staged_good r more a announce v d o Over e w ag se f l = absurd l
   staged_good r more a announce v d o (Stays b) e w ag se f l =
       let same = stage_keeps (base_of a.question r.table) a announce v b e in
       same_good (record r { link = Answering b }) more (Answering b)
@@ -330,6 +327,7 @@ module _ (all : List Instance) (i : Instance) (home : Option Seen) (conn : Optio
         subst (λ x. QuestionFits d.h.session x (of_version r.spoken r.version)) (sym same.0) f,
         subst (λ x. OfAnswer all r.spoken d.h (base_of x r.table) b (without_notifies more)) (sym same.0) (staged_answer all r.spoken d.h (base_of a.question r.table) a announce v b (without_notifies more) e o l),
       )
+  staged_good r more a announce v d o _ e w ag se f l = absurd l
 
   -- the answer ends
   committed_mine : (pv : Version) (version : Committed) (session : ℕ) → version.session ≡ session → Mine session (of_version pv (Some version))
@@ -370,8 +368,6 @@ module _ (all : List Instance) (i : Instance) (home : Option Seen) (conn : Optio
   -- a notify comes that was sent before the cache had read a header: the router has not agreed on a version, and does nothing
   pub on_early : (r : Router) (l : Link) (one serial : ℕ) (h : Seen) (f : Flow all i h r conn up down) → home ≡ Some h → r.link ≡ l → is_reading l ≡ true → r.agreed ≡ false → TableAt all r.version r.table → r.mark ≡ false → GoodR (on_unit l (SerialNotify one serial) r)
   unfolding on_unit
-  on_early r Closed one serial h f eh is live open_yet table mark = false_true live
-  on_early r (Ended end) one serial h f eh is live open_yet table mark = false_true live
   on_early r Idle one serial h f eh is live open_yet table mark =
       let s : Shape all r.spoken h Idle r.agreed r.version r.table f.wanted (without_notifies f.coming) = subst (λ x. Shape all r.spoken h x r.agreed r.version r.table f.wanted (without_notifies f.coming)) is f.shape in
       false_true (sym open_yet ∙ s.2)
@@ -381,11 +377,10 @@ module _ (all : List Instance) (i : Instance) (home : Option Seen) (conn : Optio
   on_early r (Asked q) one serial h f eh is live open_yet table mark =
       subst (λ b. GoodR (if b then fails (SerialNotify one serial) r else r)) (ap (λ b. b && differs (session_of r.session (of_version r.spoken r.version)) one) (sym open_yet))
       (record { table = table; unmarked = mark; link = live_link r (Asked q) is refl (h, eh, f) })
+  on_early r _ one serial h f eh is live open_yet table mark = false_true live
 
   -- a PDU comes that is no notify
   pub on_other : (r : Router) (more : List Unit) (l : Link) (u : Unit) (d : Reads r more) → is_reading l ≡ true → Shape all r.spoken d.h l r.agreed r.version r.table d.wanted (u ∷ without_notifies more) → GoodR (on_unit l u r)
-  on_other r more Closed u d live shape = false_true live
-  on_other r more (Ended end) u d live shape = false_true live
   on_other r more Idle u d live shape = absurd (no_unit u (without_notifies more) shape.1)
   on_other r more (Asked q) u d live shape =
       elim (shape.1) [
@@ -394,3 +389,4 @@ module _ (all : List Instance) (i : Instance) (home : Option Seen) (conn : Optio
       ]
   on_other r more (Answering a) u d live shape =
       answering r more a u d shape.0 shape.1 shape.2 shape.3 shape.4
+  on_other r more _ u d live shape = false_true live

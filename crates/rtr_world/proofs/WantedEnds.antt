@@ -27,10 +27,7 @@ use Rattle.rtr_ends.specs.declared.link.End.TheVariants as ends
 
 abbrev Free : Link → Type 0
 Free (Ended end) = NotByMemory end
-Free Closed = ⊤
-Free Idle = ⊤
-Free (Asked question) = ⊤
-Free (Answering answer) = ⊤
+Free _ = ⊤
 
 -- What a router does when it reads a PDU
 strange_free : (b : Bool) (u : Unit) (r : Router) → Free r.link → Free (if b then fails u r else r).link
@@ -71,14 +68,7 @@ unit_free Closed u r h = h
 unit_free (Ended end) u r h = h
 unit_free Idle (SerialNotify session serial) r h = notified_free (is_strange r session) (is_news (of_version r.spoken r.version) serial) (SerialNotify session serial) r h
 unit_free Idle (ErrorReport e) r h = report_free (e.code == 2) e.code r h
-unit_free Idle (SerialQuery session serial) r h = tt
-unit_free Idle ResetQuery r h = tt
-unit_free Idle (CacheResponse session) r h = tt
-unit_free Idle (Prefix announce v) r h = tt
-unit_free Idle (EndOfData session serial refresh retry expire) r h = tt
-unit_free Idle (EndOfData0 session serial) r h = tt
-unit_free Idle CacheReset r h = tt
-unit_free Idle (RouterKey key) r h = tt
+unit_free Idle _ r h = tt
 unit_free (Asked question) (SerialNotify session serial) r h = strange_free (is_strange r session) (SerialNotify session serial) r h
 unit_free (Asked question) (CacheResponse session) r h = by_wrong (is_wrong (Some question) (of_version r.spoken r.version) session)
   where
@@ -88,12 +78,7 @@ unit_free (Asked question) (CacheResponse session) r h = by_wrong (is_wrong (Som
 unit_free (Asked AskReset) CacheReset r h = tt
 unit_free (Asked (AskSerial session serial)) CacheReset r h = tt
 unit_free (Asked question) (ErrorReport e) r h = told_free question e.code (record r { agreed = true })
-unit_free (Asked question) (SerialQuery session serial) r h = tt
-unit_free (Asked question) ResetQuery r h = tt
-unit_free (Asked question) (Prefix announce v) r h = tt
-unit_free (Asked question) (EndOfData session serial refresh retry expire) r h = tt
-unit_free (Asked question) (EndOfData0 session serial) r h = tt
-unit_free (Asked question) (RouterKey key) r h = tt
+unit_free (Asked question) _ r h = tt
 unit_free (Answering a) (SerialNotify session serial) r h = strange_free (is_strange r session) (SerialNotify session serial) r h
 unit_free (Answering a) (Prefix announce v) r h = staged_free (Prefix announce v) (stage (base_of a.question r.table) a announce v) r
 unit_free (Answering a) (RouterKey key) r h = h

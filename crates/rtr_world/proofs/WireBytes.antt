@@ -39,9 +39,8 @@ low_rest [] ys h = h
 low_rest (x ∷ xs) ys h = low_rest xs ys h.1
 
 pub low_take : (most : ℕ) (xs : List ℕ) → Low xs → Low (take most xs)
-low_take zero xs h = tt
-low_take (suc most) [] h = tt
 low_take (suc most) (x ∷ xs) h = (h.0, low_take most xs h.1)
+low_take _ _ h = tt
 
 pub low_drop : (most : ℕ) (xs : List ℕ) → Low xs → Low (drop most xs)
 low_drop zero xs h = h

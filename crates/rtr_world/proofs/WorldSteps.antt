@@ -62,12 +62,11 @@ one_map all all' pv h q units stays (inl a) = inl (record { cache = a.cache; was
 one_map all all' pv h q units stays (inr a) = inr (record { cache = a.0.cache; was = stays.1 a.0.cache a.0.was; takes = a.0.takes }, a.1)
 
 shape_map : (l : Link) (all all' : List Instance) (pv : Version) (h : Seen) (agreed : Bool) (version : Option Committed) (table : VrpSet) (wanted rest : List Unit) → StaysAnswer all all' pv h → Shape all pv h l agreed version table wanted rest → Shape all' pv h l agreed version table wanted rest
-shape_map Closed all all' pv h agreed version table wanted rest stays s = tt
-shape_map (Ended end) all all' pv h agreed version table wanted rest stays s = tt
 shape_map Idle all all' pv h agreed version table wanted rest stays s = s
 shape_map (Asked q) all all' pv h agreed version table wanted rest stays s =
     (s.0, elim (s.1) [ inl w ↦ inl w | inr w ↦ inr (w.0, replies_map all all' pv h q (base_of q table) rest stays w.1, one_map all all' pv h q rest stays w.2) ])
 shape_map (Answering a) all all' pv h agreed version table wanted rest stays s = (s.0, s.1, s.2, s.3, stays.0 (base_of a.question table) a rest s.4)
+shape_map _ all all' pv h agreed version table wanted rest stays s = tt
 
 -- a flow whose answer and connection stay
 flow_map : (all all' : List Instance) (i i' : Instance) (h : Seen) (r : Router) (conn conn' : Option Conn) (up up' down : List ℕ) (f : Flow all i h r conn up down) (lost : List ℕ) → conn_due conn ++ f.lost ≡ conn_due conn' ++ lost
@@ -306,9 +305,8 @@ part_so r event bytes wanting w g t = record {
 
 refused_so : (event : Event) (bytes : ℕ) (wanting : Option ℕ) (w : World) → GoodWorld w → AllTell w → GoodWorld (is_refused event bytes wanting w)
 unfolding is_refused
-refused_so (Publish set) bytes wanting w g t = g
-refused_so (Restart session session0 start) bytes wanting w g t = g
 refused_so (On r event) bytes wanting w g t = settled_good (record w { sides = on_side r (side_refused w event bytes wanting) w.sides }) (part_so r event bytes wanting w g t)
+refused_so _ bytes wanting w g t = g
 
 pub after_good : (event : Event) (outcome : Outcome) (w : World) → IsEvent event → MayEnd (refusal w event) w event outcome → GoodWorld w → AllTell w → GoodWorld (after event outcome w)
 after_good event (Done wanting) w fits may g t = settled_good (goes_through event wanting w) (through_good event wanting w fits may g t)

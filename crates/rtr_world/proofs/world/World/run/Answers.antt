@@ -3,7 +3,7 @@ use Rattle.std.proofs.Common.{sym, ap, ◌∙◌, subst, arith}
 use Rattle.std.proofs.lemmas.List.{take_all}
 use Rattle.rtr_world.specs.Events.{event_of}
 use Rattle.rtr_world.specs.Reached.{RunsTo}
-use Rattle.rtr_world.proofs.Endings.{lawful_ends}
+use Rattle.rtr_world.proofs.EndsNoted.{lawful_ends}
 use Rattle.rtr_world.proofs.EventRuns.{at_most, bool_is, came_more, none_yet, one_more, so}
 use Rattle.rtr_world.proofs.OneAnswers.{one_answer}
 use Rattle.rtr_world.proofs.WorldSteps.{tables}
