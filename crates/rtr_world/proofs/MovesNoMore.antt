@@ -80,11 +80,6 @@ module _ (keep : ℕ) (i : Instance) where
       leaves_more (λ (m : Taking). conn_stops m.conn) (conn_byte keep timing i) ConnsAlike (λ m n a. ap conn_stops (sym a.0)) conn_goes
       (record { conn = o; moments = []; wanting = None }) (record { conn = o; moments = []; wanting = wanting }) piece (refl, refl)
 
-  conn_short : (wanting : Option ℕ) (piece : List ℕ) (o : Conn) → length (conn_takes keep timing i wanting piece o).rest ≤ length piece
-  unfolding conn_takes
-  conn_short wanting piece o =
-      no_longer (λ (m : Taking). conn_stops m.conn) (conn_byte keep timing i) ConnsAlike (λ m n a. ap conn_stops (sym a.0)) conn_goes (record { conn = o; moments = []; wanting = wanting }) piece
-
 -- At the router
 unit_same : (memory : Bool) (bytes : List ℕ) (r : Router) (j : Judgement) → ((with_bytes memory bytes r j).router ≡ (with_bytes true bytes r j).router) ⊎ (router_stops (with_bytes memory bytes r j).router ≡ true)
 unit_same memory bytes r (Whole u) = by_memory (may_lack r.link u r) memory

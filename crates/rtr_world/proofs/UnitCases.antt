@@ -15,7 +15,7 @@ use Rattle.rtr_ends.proofs.TableLaws.{false_true}
 use Rattle.rtr_world.specs.OneAnswer.{NotifiesOf, without_notifies}
 use Rattle.rtr_world.specs.World.{is_ended}
 use Rattle.rtr_world.proofs.Invariant.{after_stage, InOrder, read_of, Leads, Mine, OwnSession, QuestionFits, IsOwn, OfAnswer, Replies, no_data, not_kept, other_session, no_memory, response, Shape, nothing_yet, Flow}
-use Rattle.rtr_world.proofs.UnitsAtRouters.{stage_reads, no_difference, first_is, no_unit, right_response}
+use Rattle.rtr_world.proofs.UnitsAtRouters.{stage_reads, first_is, no_unit, right_response, not_strange}
 use Rattle.rtr_world.proofs.SideSteps.{HeadCase, a_notify, another, head_case}
 use Rattle.rtr_world.proofs.Versions.{Stands, find_session}
 use Rattle.rtr_world.proofs.LinkedSides.{Seen}
@@ -53,13 +53,6 @@ pub data Brings (all : List Instance) (h : Seen) (r : Router) (l : Link) (u : Un
       → (stands : Stands all version.version version.session version.serial table) → length h.sets ≤ length stands.older + 1 → Brings all h r l u k
 
 module _ (all : List Instance) (h : Seen) (r : Router) where
-  quiet : (one : ℕ) → OwnSession h.session r.session → (r.agreed ≡ true → Mine h.session (of_version r.spoken r.version)) → one ≡ h.session → is_strange r one ≡ false
-  quiet one own mine e = by_agreed r.agreed refl
-    where
-      by_agreed : (b : Bool) → r.agreed ≡ b → (b && differs (session_of r.session (of_version r.spoken r.version)) one) ≡ false
-      by_agreed false a = refl
-      by_agreed true a = no_difference h.session one r.session (of_version r.spoken r.version) e own (mine a)
-
   -- a notify
   notify_brings : (l : Link) (one serial : ℕ) → r.link ≡ l → is_reading l ≡ true → is_strange r one ≡ false → Brings all h r l (SerialNotify one serial) (on_unit l (SerialNotify one serial) r)
   unfolding on_unit
@@ -166,7 +159,7 @@ module _ (all : List Instance) (h : Seen) (r : Router) where
       by_head : HeadCase u more → Brings all h r l u (on_unit l u r)
       by_head (a_notify session serial e) =
           let n : (session ≡ h.session) × NotifiesOf h.session more = subst (λ x. NotifiesOf h.session (x ∷ more)) e notes in
-          subst (λ x. Brings all h r l x (on_unit l x r)) (sym e) (notify_brings l session serial is live (quiet session own mine n.0))
+          subst (λ x. Brings all h r l x (on_unit l x r)) (sym e) (notify_brings l session serial is live (not_strange h.session session r n.0 own mine))
       by_head (another e) = others l live (subst (λ x. Shape all r.spoken h l r.agreed r.version r.table wanted x) e shape)
 
 -- A byte that comes on a link that lives is kept, or a PDU is whole with it that belongs there, or memory runs out at that PDU.

@@ -50,10 +50,17 @@ first_fits session (Some version) false unmarked = (refl, refl)
 same_session : (one session : ℕ) → one ≡ session → not (one == session) ≡ false
 same_session one session e = ap not (eq_true one session e)
 
-pub no_difference : (session one : ℕ) (own : Option ℕ) (version : Option Committed) → one ≡ session → OwnSession session own → Mine session version → differs (session_of own version) one ≡ false
+no_difference : (session one : ℕ) (own : Option ℕ) (version : Option Committed) → one ≡ session → OwnSession session own → Mine session version → differs (session_of own version) one ≡ false
 no_difference session one (Some s) version e own mine = same_session s one (own ∙ sym e)
 no_difference session one None None e own mine = refl
 no_difference session one None (Some v) e own mine = same_session v.session one (mine ∙ sym e)
+
+pub not_strange : (session one : ℕ) (r : Router) → one ≡ session → OwnSession session r.session → (r.agreed ≡ true → Mine session (of_version r.spoken r.version)) → is_strange r one ≡ false
+not_strange session one r e own mine = by_agreed r.agreed refl
+  where
+    by_agreed : (b : Bool) → r.agreed ≡ b → (b && differs (session_of r.session (of_version r.spoken r.version)) one) ≡ false
+    by_agreed false a = refl
+    by_agreed true a = no_difference session one r.session (of_version r.spoken r.version) e own (mine a)
 
 pub first_is : (u v : Unit) (us vs : List Unit) → u ∷ us ≡ v ∷ vs → u ≡ v
 first_is u v us vs e = cc
@@ -229,7 +236,7 @@ module _ (all : List Instance) (i : Instance) (home : Option Seen) (conn : Optio
   unfolding on_unit
   on_notify r more Idle one serial d is live own shape =
       let mine : Mine d.h.session (of_version r.spoken r.version) = d.mine shape.2 in
-      let quiet : is_strange r one ≡ false = λ j. shape.2 j && no_difference d.h.session one r.session (of_version r.spoken r.version) own d.own mine j in
+      let quiet : is_strange r one ≡ false = not_strange d.h.session one r own d.own d.mine in
       subst (λ b. GoodR (if b then fails (SerialNotify one serial) r else if is_news (of_version r.spoken r.version) serial then ask r else r)) (sym quiet)
       (by_news (is_news (of_version r.spoken r.version) serial) mine)
     where
@@ -237,17 +244,9 @@ module _ (all : List Instance) (i : Instance) (home : Option Seen) (conn : Optio
       by_news true mine = asking_good r more (choose (of_version r.spoken r.version) r.mark) d shape.0 shape.1 (question_fits d.h.session (of_version r.spoken r.version) r.mark d.unmarked mine)
       by_news false mine = same_good r more Idle d is refl shape
   on_notify r more (Asked q) one serial d is live own shape =
-      subst (λ b. GoodR (if b then fails (SerialNotify one serial) r else r)) (sym (quiet r.agreed refl)) (same_good r more (Asked q) d is refl shape)
-    where
-      quiet : (b : Bool) → r.agreed ≡ b → (b && differs (session_of r.session (of_version r.spoken r.version)) one) ≡ false
-      quiet false e = refl
-      quiet true e = no_difference d.h.session one r.session (of_version r.spoken r.version) own d.own (d.mine e)
+      subst (λ b. GoodR (if b then fails (SerialNotify one serial) r else r)) (sym (not_strange d.h.session one r own d.own d.mine)) (same_good r more (Asked q) d is refl shape)
   on_notify r more (Answering a) one serial d is live own shape =
-      subst (λ b. GoodR (if b then fails (SerialNotify one serial) r else r)) (sym (quiet r.agreed refl)) (same_good r more (Answering a) d is refl shape)
-    where
-      quiet : (b : Bool) → r.agreed ≡ b → (b && differs (session_of r.session (of_version r.spoken r.version)) one) ≡ false
-      quiet false e = refl
-      quiet true e = no_difference d.h.session one r.session (of_version r.spoken r.version) own d.own (d.mine e)
+      subst (λ b. GoodR (if b then fails (SerialNotify one serial) r else r)) (sym (not_strange d.h.session one r own d.own d.mine)) (same_good r more (Answering a) d is refl shape)
   on_notify r more _ one serial d is live own shape = false_true live
 
   -- the first PDU is no notify
