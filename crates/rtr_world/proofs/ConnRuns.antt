@@ -6,7 +6,7 @@ use Rattle.std.specs.List.{AllByRecursion}
 use Rattle.vrps.specs.Instance.{Instance, IsInstance}
 use Rattle.vrps.specs.Store.{published}
 use Rattle.vrps.specs.VrpSet.{IsVrpSet, VrpSet}
-use Rattle.rtr_ends.specs.Cache.{Conn, Gives, Notifies, Publishes, Taking, Takes, conn_byte, conn_notified, conn_pulled, conn_stops, conn_takes, new_conn}
+use Rattle.rtr_ends.specs.Cache.{Conn, Gives, Notifies, Publishes, Taking, Takes, conn_byte, conn_notified, conn_pulled, conn_stops, conn_takes, new_conn, ConnCall, IsConnCall, serving}
 use Rattle.rtr_ends.specs.Connection.{in_version}
 use Rattle.rtr_ends.specs.Router.{closed_at}
 use Rattle.rtr_ends.specs.RouterLink.{Link, Closed, Idle, Asked, Answering, Ended, is_closed}
@@ -37,49 +37,28 @@ new_run keep i is = record { opened = i; can_open = is; home_is = refl; calls = 
 
 -- one call more, at the same cache
 module _ (keep : ℕ) (i : Instance) (home : Option Instance) (o : Conn) (h : IsConnRun keep i home o) where
-  takes_run : (wanting : Option ℕ) (piece : List ℕ) → Low piece → IsConnRun keep i home (conn_takes keep timing i wanting piece o).machine.conn
-  takes_run wanting piece low = record {
+  called_run : (call : ConnCall) (next : Conn) (now : Instance) → IsConnCall call → (serving keep timing h.opened (call ∷ h.calls)).conn ≡ next → (serving keep timing h.opened (call ∷ h.calls)).cache ≡ now → IsConnRun keep now home next
+  called_run call next now can conn cache = record {
     opened = h.opened;
     can_open = h.can_open;
     home_is = h.home_is;
-    calls = Takes wanting piece ∷ h.calls;
-    can_be = (all_bytes piece low, h.can_be);
-    conn_is = λ k. (conn_takes keep timing (h.cache_is k) wanting piece (h.conn_is k)).machine.conn;
-    cache_is = h.cache_is;
+    calls = call ∷ h.calls;
+    can_be = (can, h.can_be);
+    conn_is = conn;
+    cache_is = cache;
   }
+
+  takes_run : (wanting : Option ℕ) (piece : List ℕ) → Low piece → IsConnRun keep i home (conn_takes keep timing i wanting piece o).machine.conn
+  takes_run wanting piece low = called_run (Takes wanting piece) _ i (all_bytes piece low) (λ k. (conn_takes keep timing (h.cache_is k) wanting piece (h.conn_is k)).machine.conn) h.cache_is
 
   gives_run : (most : ℕ) → IsConnRun keep i home (conn_pulled keep timing most o)
-  gives_run most = record {
-    opened = h.opened;
-    can_open = h.can_open;
-    home_is = h.home_is;
-    calls = Gives most ∷ h.calls;
-    can_be = (tt, h.can_be);
-    conn_is = λ k. conn_pulled keep timing most (h.conn_is k);
-    cache_is = h.cache_is;
-  }
+  gives_run most = called_run (Gives most) _ i tt (λ k. conn_pulled keep timing most (h.conn_is k)) h.cache_is
 
   notifies_run : IsConnRun keep i home (conn_notified keep timing i o)
-  notifies_run = record {
-    opened = h.opened;
-    can_open = h.can_open;
-    home_is = h.home_is;
-    calls = Notifies ∷ h.calls;
-    can_be = (tt, h.can_be);
-    conn_is = λ k. conn_notified keep timing (h.cache_is k) (h.conn_is k);
-    cache_is = h.cache_is;
-  }
+  notifies_run = called_run Notifies _ i tt (λ k. conn_notified keep timing (h.cache_is k) (h.conn_is k)) h.cache_is
 
   publishes_run : (set : VrpSet) → IsVrpSet set → IsConnRun keep (published set i) home o
-  publishes_run set fits = record {
-    opened = h.opened;
-    can_open = h.can_open;
-    home_is = h.home_is;
-    calls = Publishes set ∷ h.calls;
-    can_be = (fits, h.can_be);
-    conn_is = h.conn_is;
-    cache_is = ap (published set) h.cache_is;
-  }
+  publishes_run set fits = called_run (Publishes set) o (published set i) fits h.conn_is (ap (published set) h.cache_is)
 
   -- The router was told that it is closed.
   unknown_run : IsConnRun keep i None o

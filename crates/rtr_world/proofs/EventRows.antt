@@ -183,7 +183,7 @@ expires_asked : after (On 0 (Tick 7201)) (Done None) (world (open_side asked_aga
 unfolding goes_through settled settle side_step ticks_at clocked closed_at
 expires_asked = refl
 
--- The cache began anew: the router is told so, is emptied, and is told that the connection is closed. Its end is noted.
+-- The cache began anew: the router is told so.
 abbrev ended_conn : List ℕ → Conn
 ended_conn due = record { state = record { cache = with_v; version = Some V1; ended = true; due = due; notified = false; seen = [] }; held = [] }
 
@@ -198,13 +198,6 @@ last_byte : after (On 0 (CacheSends 99)) (Done None) (world (open_side other (en
     ≡ world (record (open_side other (new_conn with_v) [] corrupt (Asks (AskSerial 0x2222 5) ∷ [])) { conn = None } ∷ [])
 unfolding goes_through settled settle side_step cache_sends conn_pulled
 last_byte = refl
-
-is_corrupt : after (On 0 (RouterGets 99)) (Done None) (world (record (open_side other (new_conn with_v) [] corrupt (Asks (AskSerial 0x2222 5) ∷ [])) { conn = None } ∷ []))
-    ≡ world (record (closed_side (record new_router { due = Some 600 }) (Shut ∷ At 0 ∷ Reads (report 0 (sent V1 (SerialQuery 0x2222 5))) ∷ At 0 ∷ Asks (AskSerial 0x2222 5) ∷ [])) {
-      endings = record { end = ends.Told 0; question = Some (AskSerial 0x2222 5); version = V1; home = Some with_v } ∷ [];
-    } ∷ [])
-unfolding goes_through settled settle side_step router_gets receives clocked router_byte on_unit judge as_read closed_at is_utf8 chars
-is_corrupt = refl
 
 -- A cut leaves no more than it says, and no more than there is. A later one only shortens, and without a connection it changes nothing.
 abbrev cut_side : List ℕ → Side

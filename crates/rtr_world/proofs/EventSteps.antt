@@ -23,7 +23,7 @@ use Rattle.rtr_world.specs.History.{conn_due}
 use Rattle.rtr_world.specs.World.{Side, World, instances, is_read, timing, SideEvent, RouterRestart, Speak, Connect, RouterSends, CacheGets, CacheSends, RouterGets, Cut, NotifyRouter, Ask, Tick, noted, places_of, connects, router_restarts, speaks, router_sends, sends_from, cache_sends, gets_at, cache_gets, router_gets, cut, notifies_at, side_step, side_part, side_refused, tell_closed, close_ended, settle_conn, settle_link, settle_rest, settle_wire, settle}
 use Rattle.rtr_world.proofs.CacheMoves as cache
 use Rattle.rtr_world.proofs.Commits.{goes_fed}
-use Rattle.rtr_world.proofs.Invariant.{OwnSession, IfOpen, Open, GoodLink, GoodRouter, Good}
+use Rattle.rtr_world.proofs.Invariant.{OwnSession, IfOpen, Open, GoodLink, GoodRouter, Good, Flow}
 use Rattle.rtr_world.proofs.Places.{Ordered, ordered_connects, ordered_none, ordered_read}
 use Rattle.rtr_world.proofs.UnitsAtRouters.{first_fits, query_unit}
 use Rattle.rtr_ends.proofs.ByteLists.{drop_none}
@@ -84,11 +84,9 @@ module _ (w : World) (p : Present (instances w) w.present) where
     };
   }
 
-  -- bytes are pulled from the cache
-  sends_good : (most : ℕ) (s : Side) (o : Option Conn) → s.conn ≡ o → GoodS s → GoodS (sends_from w.keep most s o)
-  unfolding conn_pulled
-  sends_good most s None e g = g
-  sends_good most s (Some o) e g = record {
+  -- Other bytes are on the wires of the same router.
+  wired_good : (s : Side) (conn : Option Conn) (up down : List ℕ) → GoodS s → ((h : Seen) → Flow (instances w) w.present h s.router s.conn s.up s.down → Flow (instances w) w.present h s.router conn up down) → GoodS (record s { conn = conn; up = up; down = down })
+  wired_good s conn up down g flow = record {
     seen = g.seen;
     is_seen = g.is_seen;
     is_read = g.is_read;
@@ -96,30 +94,32 @@ module _ (w : World) (p : Present (instances w) w.present) where
     router = record {
       table = g.router.table;
       unmarked = g.router.unmarked;
-      link = live_map s.router.link (instances w) (instances w) w.present w.present g.seen g.seen s.router s.router s.conn (Some (conn_pulled w.keep timing most o)) s.up s.up s.down (s.down ++ take most o.state.due) (λ x. x) (λ x. x) refl refl g.router.link (λ l.
-          let f = l.2 in
-          let op : Open w.present s.router.spoken l.0 s.router.out s.up f.wanted f.coming s.router.agreed f.lost o = subst (λ x. IfOpen x (Open w.present s.router.spoken l.0 s.router.out s.up f.wanted f.coming s.router.agreed f.lost)) e f.open_at in
-          let due : List ℕ = o.state.due in
-          let split : o.state.due ≡ take most o.state.due ++ drop (pulled_count most o) o.state.due =
-          sym (take-append-drop (pulled_count most o) o.state.due) ∙ ap (λ x. x ++ drop (pulled_count most o) o.state.due) (take_min most o.state.due) in
-          let bytes : s.down ++ (conn_due s.conn ++ f.lost) ≡ (s.down ++ take most o.state.due) ++ (drop (pulled_count most o) o.state.due ++ f.lost) =
-          ap (λ x. s.down ++ (conn_due x ++ f.lost)) e ∙ ap (λ x. s.down ++ (x ++ f.lost)) split
-          ∙ ap (λ x. s.down ++ x) (append_assoc (take most o.state.due) (drop (pulled_count most o) o.state.due) f.lost)
-          ∙ sym (append_assoc s.down (take most o.state.due) (drop (pulled_count most o) o.state.due ++ f.lost)) in (
-            l.0,
-            l.1,
-            record {
-              early = f.early;
-              coming = f.coming;
-              lost = f.lost;
-              wanted = f.wanted;
-              said = f.said;
-              downward = subst (λ x. Stream s.router.held x (behind_early s.router.spoken f.early f.coming)) bytes f.downward;
-              open_at = record { upward = op.upward; spoken = op.spoken; unheard = op.unheard; linked = op.linked };
-            },
-          ));
+      link = live_map s.router.link (instances w) (instances w) w.present w.present g.seen g.seen s.router s.router s.conn conn s.up up s.down down (λ x. x) (λ x. x) refl refl g.router.link (λ l. (l.0, l.1, flow l.0 l.2));
     };
   }
+
+  -- bytes are pulled from the cache
+  sends_good : (most : ℕ) (s : Side) (o : Option Conn) → s.conn ≡ o → GoodS s → GoodS (sends_from w.keep most s o)
+  unfolding conn_pulled
+  sends_good most s None e g = g
+  sends_good most s (Some o) e g = wired_good s (Some (conn_pulled w.keep timing most o)) s.up (s.down ++ take most o.state.due) g (λ h f.
+        let op : Open w.present s.router.spoken h s.router.out s.up f.wanted f.coming s.router.agreed f.lost o = subst (λ x. IfOpen x (Open w.present s.router.spoken h s.router.out s.up f.wanted f.coming s.router.agreed f.lost)) e f.open_at in
+        let due : List ℕ = o.state.due in
+        let split : o.state.due ≡ take most o.state.due ++ drop (pulled_count most o) o.state.due =
+        sym (take-append-drop (pulled_count most o) o.state.due) ∙ ap (λ x. x ++ drop (pulled_count most o) o.state.due) (take_min most o.state.due) in
+        let bytes : s.down ++ (conn_due s.conn ++ f.lost) ≡ (s.down ++ take most o.state.due) ++ (drop (pulled_count most o) o.state.due ++ f.lost) =
+        ap (λ x. s.down ++ (conn_due x ++ f.lost)) e ∙ ap (λ x. s.down ++ (x ++ f.lost)) split
+        ∙ ap (λ x. s.down ++ x) (append_assoc (take most o.state.due) (drop (pulled_count most o) o.state.due) f.lost)
+        ∙ sym (append_assoc s.down (take most o.state.due) (drop (pulled_count most o) o.state.due ++ f.lost)) in
+        record {
+          early = f.early;
+          coming = f.coming;
+          lost = f.lost;
+          wanted = f.wanted;
+          said = f.said;
+          downward = subst (λ x. Stream s.router.held x (behind_early s.router.spoken f.early f.coming)) bytes f.downward;
+          open_at = record { upward = op.upward; spoken = op.spoken; unheard = op.unheard; linked = op.linked };
+          })
 
   cache_sends_good : (most : ℕ) (s : Side) → GoodS s → GoodS (cache_sends w most s)
   unfolding cache_sends
@@ -170,25 +170,11 @@ module _ (w : World) (p : Present (instances w) w.present) where
 
   cut_good : (left : ℕ) (s : Side) → GoodS s → GoodS (cut left s)
   unfolding cut
-  cut_good left s g = record {
-    seen = g.seen;
-    is_seen = g.is_seen;
-    is_read = g.is_read;
-    order = g.order;
-    router = record {
-      table = g.router.table;
-      unmarked = g.router.unmarked;
-      link = live_map s.router.link (instances w) (instances w) w.present w.present g.seen g.seen s.router s.router s.conn None s.up [] s.down (take left s.down) (λ x. x) (λ x. x) refl refl g.router.link (λ l.
-          let f = l.2 in
+  cut_good left s g = wired_good s None [] (take left s.down) g (λ h f.
           let after : List ℕ = conn_due s.conn ++ f.lost in
           let bytes : s.down ++ (conn_due s.conn ++ f.lost) ≡ take left s.down ++ ([] ++ (drop left s.down ++ (conn_due s.conn ++ f.lost))) =
-          ap (λ x. x ++ (conn_due s.conn ++ f.lost)) (sym (take-append-drop left s.down)) ∙ append_assoc (take left s.down) (drop left s.down) (conn_due s.conn ++ f.lost) in (
-            l.0,
-            l.1,
-            record { early = f.early; coming = f.coming; lost = drop left s.down ++ (conn_due s.conn ++ f.lost); wanted = f.wanted; said = f.said; downward = subst (λ x. Stream s.router.held x (behind_early s.router.spoken f.early f.coming)) bytes f.downward; open_at = tt },
-          ));
-    };
-  }
+          ap (λ x. x ++ (conn_due s.conn ++ f.lost)) (sym (take-append-drop left s.down)) ∙ append_assoc (take left s.down) (drop left s.down) (conn_due s.conn ++ f.lost) in
+          record { early = f.early; coming = f.coming; lost = drop left s.down ++ (conn_due s.conn ++ f.lost); wanted = f.wanted; said = f.said; downward = subst (λ x. Stream s.router.held x (behind_early s.router.spoken f.early f.coming)) bytes f.downward; open_at = tt })
 
   -- a connection is made
   fresh_session : (session : ℕ) (o : Option ℕ) → o ≡ None → OwnSession session o
@@ -320,23 +306,9 @@ module _ (w : World) (p : Present (instances w) w.present) where
           record { table = shut.table; unmarked = shut.unmarked; link = shut_link (close (clocked s.router.now s.router)) None conn up down shut.closed shut.held shut.agreed shut.session shut.out }
 
   ended_good : (s : Side) (o : Conn) (ended : Bool) (due : List ℕ) → s.conn ≡ Some o → o.state.due ≡ due → GoodS s → GoodS (close_ended s ended due)
-  ended_good s o true [] e de g = record {
-    seen = g.seen;
-    is_seen = g.is_seen;
-    is_read = g.is_read;
-    order = g.order;
-    router = record {
-      table = g.router.table;
-      unmarked = g.router.unmarked;
-      link = live_map s.router.link (instances w) (instances w) w.present w.present g.seen g.seen s.router s.router s.conn None s.up s.up s.down s.down (λ x. x) (λ x. x) refl refl g.router.link (λ l.
-          let f = l.2 in
-          let bytes : s.down ++ (conn_due s.conn ++ f.lost) ≡ s.down ++ ([] ++ f.lost) = ap (λ x. s.down ++ (conn_due x ++ f.lost)) e ∙ ap (λ x. s.down ++ (x ++ f.lost)) de in (
-            l.0,
-            l.1,
-            record { early = f.early; coming = f.coming; lost = f.lost; wanted = f.wanted; said = f.said; downward = subst (λ x. Stream s.router.held x (behind_early s.router.spoken f.early f.coming)) bytes f.downward; open_at = tt },
-          ));
-    };
-  }
+  ended_good s o true [] e de g = wired_good s None s.up s.down g (λ h f.
+          let bytes : s.down ++ (conn_due s.conn ++ f.lost) ≡ s.down ++ ([] ++ f.lost) = ap (λ x. s.down ++ (conn_due x ++ f.lost)) e ∙ ap (λ x. s.down ++ (x ++ f.lost)) de in
+          record { early = f.early; coming = f.coming; lost = f.lost; wanted = f.wanted; said = f.said; downward = subst (λ x. Stream s.router.held x (behind_early s.router.spoken f.early f.coming)) bytes f.downward; open_at = tt })
   ended_good s o _ _ e de g = g
 
   conn_good : (s : Side) (o : Option Conn) → s.conn ≡ o → GoodS s → GoodS (settle_conn s o)
