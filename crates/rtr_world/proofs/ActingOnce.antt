@@ -1,8 +1,8 @@
 -- What a transcript commits, acts, and acts once.
 use Rattle.std.specs.Prelude.{◌≡◌, Bool, true, false, ◌&&◌, ◌==◌, List, [], ◌∷◌, Option, Some, None, if◌then◌else◌, refl}
-use Rattle.rtr_pdu.specs.declared.unit.Unit.TheVariants.{SerialNotify, SerialQuery, ResetQuery, CacheResponse, Prefix, EndOfData, EndOfData0, CacheReset, RouterKey, ErrorReport}
+use Rattle.rtr_pdu.specs.declared.unit.Unit.TheVariants.{EndOfData, EndOfData0}
 use Rattle.rtr_ends.specs.Timing.{default_intervals}
-use Rattle.rtr_ends.specs.Transcript.{Begun, Committed, Item, At, Opened, Asks, Reads, Lacks, Breaks, Refused, Shut, Restarts, Kept, acts_once, at_end_of_data, base_of, bounded, does_commit, kept, led_to, moment, nothing, spoken, under_way}
+use Rattle.rtr_ends.specs.Transcript.{Begun, Committed, Item, Reads, Kept, acts_once, at_end_of_data, base_of, bounded, does_commit, kept, led_to, moment, nothing, spoken, under_way}
 use Rattle.rtr_ends.proofs.TableLaws.{acts_exactly}
 use Rattle.rtr_world.specs.Claims.{ActsOnce, EachOnce}
 

@@ -11,7 +11,7 @@ use Rattle.vrps.specs.Instance.{Instance, versions, versions_from}
 use Rattle.vrps.specs.VrpSet.{VrpSet}
 use Rattle.rtr_pdu.specs.declared.version.Version.{Version}
 use Rattle.rtr_pdu.specs.declared.version.Version.TheVariants.{V1}
-use Rattle.rtr_pdu.specs.Judging.{Judgement, Begins, Whole, Faulty, judge}
+use Rattle.rtr_pdu.specs.Judging.{Judgement, judge}
 use Rattle.rtr_pdu.specs.Unit.{IsUnitOf}
 use Rattle.rtr_pdu.specs.Version.{first_version, header_version}
 use Rattle.rtr_pdu.specs.declared.unit.Unit.{Unit}
@@ -21,7 +21,7 @@ use Rattle.rtr_ends.specs.Cache.{Conn, Taking, and_moment, is_none, conn_stops, 
 use Rattle.rtr_ends.specs.Connection.{Connection, ConnMoment, Read, Wanting, Notify, conn_after, notice, is_published, spoken_in, takes_memory, in_version}
 use Rattle.rtr_ends.specs.Feeding.{feed}
 use Rattle.rtr_ends.specs.LinkRules.{Router}
-use Rattle.rtr_ends.specs.RouterLink.{Link, Closed, Idle, Asked, Answering, Ended, is_reading}
+use Rattle.rtr_ends.specs.RouterLink.{Link, Closed, Asked, Ended, is_reading}
 use Rattle.rtr_ends.specs.Transcript.{Question, query, base_of, of_version}
 use Rattle.rtr_ends.proofs.TableLaws.{false_true}
 use Rattle.rtr_ends.proofs.FeedingLaws.{feed_keeps}
@@ -40,11 +40,11 @@ none_is : (out : List ℕ) → not (is_none out) ≡ false → out ≡ []
 none_is [] h = refl
 none_is (b ∷ out) h = absurd (let e : true ≡ false = h in cc)
 
--- A link that does not live asks for nothing.
-pub dead_link : (l : Link) (all : List Instance) (i : Instance) (home : Option Seen) (r : Router) (conn conn' : Option Conn) (up up' down down' : List ℕ) → is_reading l ≡ false → GoodLink all i home l r conn up down → GoodLink all i home l r conn' up' down'
-dead_link Closed all i home r conn conn' up up' down down' dead g = g
-dead_link (Ended end) all i home r conn conn' up up' down down' dead g = g
-dead_link _ all i home r conn conn' up up' down down' dead g = absurd (let e : true ≡ false = dead in cc)
+-- A link that does not live asks for nothing, and does not look at what was seen.
+dead_link : (l : Link) (all : List Instance) (i : Instance) (home home' : Option Seen) (r : Router) (conn conn' : Option Conn) (up up' down down' : List ℕ) → is_reading l ≡ false → GoodLink all i home l r conn up down → GoodLink all i home' l r conn' up' down'
+dead_link Closed all i home home' r conn conn' up up' down down' dead g = g
+dead_link (Ended end) all i home home' r conn conn' up up' down down' dead g = g
+dead_link _ all i home home' r conn conn' up up' down down' dead g = false_true (sym dead)
 
 -- PDUs are added at the cache's end, where nothing was to be pulled
 more_bytes : (down due lost sent : List ℕ) → due ≡ [] → lost ≡ [] → (down ++ (due ++ lost)) ++ sent ≡ down ++ (sent ++ lost)
@@ -75,12 +75,6 @@ unheard_more None held more coming agrees u = by_length (nat_lt (length (held ++
     by_length : (b : Bool) → nat_lt (length (held ++ more)) 8 ≡ b → Unheard (if b then None else Some (first_version (held ++ more))) coming agrees
     by_length true e = subst (λ b. Unheard (if b then None else Some (first_version held)) coming agrees) (shorter (length held) (length more) (length (held ++ more)) (length-append held more) e) u
     by_length false e = tt
-
--- nor does it look at what was seen
-dead_seen : (l : Link) (all : List Instance) (i : Instance) (home home' : Option Seen) (r : Router) (conn : Option Conn) (up down : List ℕ) → is_reading l ≡ false → GoodLink all i home l r conn up down → GoodLink all i home' l r conn up down
-dead_seen Closed all i home home' r conn up down dead g = g
-dead_seen (Ended end) all i home home' r conn up down dead g = g
-dead_seen _ all i home home' r conn up down dead g = false_true (sym dead)
 
 -- a PDU was read at this moment, if there is one
 abbrev moment_reads : Option ConnMoment → Bool
@@ -224,8 +218,7 @@ module _ (all : List Instance) (i : Instance) (p : Present all i) (keep : ℕ) (
 
       by_link : (live : Bool) → is_reading r.link ≡ live → GoodLink all i (seen_after i (moment_reads (came (version_at m.conn (b ∷ [])))) home) r.link r (Some (behind (version_at m.conn (b ∷ [])))) bs down
       by_link false dead =
-          dead_seen r.link all i home (seen_after i (moment_reads (came (version_at m.conn (b ∷ [])))) home) r (Some (behind (version_at m.conn (b ∷ [])))) bs down dead
-          (dead_link r.link all i home r (Some m.conn) (Some (behind (version_at m.conn (b ∷ [])))) (b ∷ bs) bs down down dead g.link)
+          dead_link r.link all i home (seen_after i (moment_reads (came (version_at m.conn (b ∷ [])))) home) r (Some m.conn) (Some (behind (version_at m.conn (b ∷ [])))) (b ∷ bs) bs down down dead g.link
       by_link true live =
           let l = live_of r.link all i home r (Some m.conn) (b ∷ bs) down g.link live in
           let op : Open i r.spoken l.0 r.out (b ∷ bs) l.2.wanted l.2.coming r.agreed l.2.lost m.conn = l.2.open_at in
@@ -340,10 +333,18 @@ module _ (all : List Instance) (i : Instance) (p : Present all i) (keep : ℕ) (
           coming = f.coming;
           lost = f.lost;
           wanted = f.wanted;
-          said = record { version = f.version; are_early = (
-            without-append f.early (notice i.session (versions i)) ∙ ap (λ x. x ++ without_notifies (notice i.session (versions i))) f.are_early.0 ∙ notice_silent i.session i.sets,
-            λ e. false_true (sym nothing.1 ∙ e),
-          ); early_notifies = notifies-append l.0.made.session f.early (notice i.session (versions i)) f.early_notifies (notice_own l.0.made.session i.session op.later.session i.sets); notifies = f.notifies; own = f.own; mine = f.mine; shape = f.shape };
+          said = record {
+            version = f.version;
+            are_early = (
+              without-append f.early (notice i.session (versions i)) ∙ ap (λ x. x ++ without_notifies (notice i.session (versions i))) f.are_early.0 ∙ notice_silent i.session i.sets,
+              λ e. false_true (sym nothing.1 ∙ e),
+            );
+            early_notifies = notifies-append l.0.made.session f.early (notice i.session (versions i)) f.early_notifies (notice_own l.0.made.session i.session op.later.session i.sets);
+            notifies = f.notifies;
+            own = f.own;
+            mine = f.mine;
+            shape = f.shape;
+          };
           downward = stream_earlier r.spoken r.held down o.state.due f.lost f.early f.coming (notice i.session (versions i)) nothing.0 due op.whole (notice_fit V1 i.sets) f.downward;
           open_at = record { upward = op.upward; spoken = op.spoken; unheard = op.unheard; linked = op.linked };
         },
@@ -361,7 +362,7 @@ module _ (all : List Instance) (i : Instance) (p : Present all i) (keep : ℕ) (
       o' = told o (speaks_in o)
 
       by_link : (live : Bool) → is_reading r.link ≡ live → o.state.due ≡ [] → GoodLink all i home r.link r (Some o') up down
-      by_link false dead due = dead_link r.link all i home r (Some o) (Some o') up up down down dead g.link
+      by_link false dead due = dead_link r.link all i home home r (Some o) (Some o') up up down down dead g.link
       by_link true live due =
           by_header (header_version o.state.version o.held) refl (held_version r.spoken o.state.version o.held (up ++ r.out) l.2.wanted op.spoken op.upward)
         where

@@ -1,7 +1,6 @@
 -- Rounds end at each router that connects, after every list of events, and where memory does not run out they end in an idle link.
-use Rattle.std.specs.Prelude.{◌≡◌, ◌⊎◌, ℕ, true, false, List, [], ◌∷◌, Option, Some, None, IsSome, refl}
+use Rattle.std.specs.Prelude.{◌≡◌, ◌⊎◌, ℕ, true, false, [], Option, Some, None, IsSome, refl}
 use Rattle.std.proofs.Common.{sym, ap, ◌∙◌, subst, subst₂, arith, inl, inr}
-use Rattle.std.specs.List.{AllByRecursion}
 use Rattle.rtr_ends.specs.Answer.{sent, session_in}
 use Rattle.rtr_ends.specs.Cache.{new_conn}
 use Rattle.rtr_ends.specs.LinkRules.{Router}
@@ -10,19 +9,16 @@ use Rattle.rtr_ends.specs.RouterLink.{Idle, Asked}
 use Rattle.rtr_ends.specs.Transcript.{AskReset, Committed, Question, choose, is_serial, of_version, query}
 use Rattle.rtr_ends.proofs.TableLaws.{false_true}
 use Rattle.rtr_world.specs.CatchUp.{EachCatchesUp, IdleAfter, IdleNext, IdleSoon, Rests, RestsNext, RestsSo, RestsSoon, RoundsEnd, round}
-use Rattle.rtr_world.specs.History.{Entry, Leads, Made}
-use Rattle.rtr_world.specs.World.{Side, World, instances, connects, new_world, settle}
+use Rattle.rtr_world.specs.World.{Side, World, instances, connects, settle}
 use Rattle.rtr_world.proofs.CatchUpQuestions.{Asks}
 use Rattle.rtr_world.proofs.CatchUpRounds.{Ends, asks_all, closes, idles, round_ends}
 use Rattle.rtr_world.proofs.CatchUpSettling.{Emptied, clocked_emptied, clocked_none, settle_open}
 use Rattle.rtr_world.proofs.Invariant.{Good, Mine, QuestionFits}
 use Rattle.rtr_world.proofs.UnitsAtRouters.{first_fits}
 use Rattle.rtr_world.proofs.LinkedSides.{Seen, seen_at}
-use Rattle.rtr_world.proofs.SideLaws.{all_new}
 use Rattle.rtr_world.proofs.SideSteps.{clocked_good, close_shut}
-use Rattle.rtr_world.proofs.KeptTables.{SideTells}
 use Rattle.rtr_world.proofs.Versions.{Present, TableAt}
-use Rattle.rtr_world.proofs.WorldSteps.{GoodWorld, always}
+use Rattle.rtr_world.proofs.WorldSteps.{always}
 
 module _ (w : World) (p : Present (instances w) w.present) where
   -- wherever memory ran out

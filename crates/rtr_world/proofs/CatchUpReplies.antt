@@ -9,7 +9,7 @@ use Rattle.prefixes.specs.Payload.{Payload}
 use Rattle.vrps.specs.Instance.{Instance}
 use Rattle.vrps.specs.VrpSet.{VrpSet, empty}
 use Rattle.rtr_pdu.specs.declared.version.Version.{Version}
-use Rattle.rtr_pdu.specs.Judging.{Judgement, Begins, Whole, Faulty, judge}
+use Rattle.rtr_pdu.specs.Judging.{Judgement, judge}
 use Rattle.rtr_pdu.specs.declared.unit.Unit.{Unit}
 use Rattle.rtr_pdu.specs.declared.unit.Unit.TheVariants.{SerialNotify, CacheResponse, Prefix, EndOfData, EndOfData0, CacheReset, ErrorReport}
 use Rattle.rtr_pdu.proofs.NextLaws.{some_sent}
@@ -18,7 +18,7 @@ use Rattle.rtr_ends.specs.declared.link.End.TheVariants as ends
 use Rattle.rtr_ends.specs.Answer.{report, sent}
 use Rattle.rtr_ends.specs.Cache.{counted, finds_memory, is_none}
 use Rattle.rtr_ends.specs.Connection.{bytes_sent, in_version}
-use Rattle.rtr_ends.specs.LinkRules.{Router, Staged, Stays, Wrong, Over, commit, fails, may_lack, on_unit, stage, staged}
+use Rattle.rtr_ends.specs.LinkRules.{Router, Staged, Stays, commit, fails, may_lack, on_unit, stage, staged}
 use Rattle.rtr_ends.specs.Router.{Receiving, clocked, expired, lacks, reads, receives, router_byte, router_stops, with_bytes}
 use Rattle.rtr_ends.specs.RouterLink.{Idle, Asked, Answering, Ended, is_reading}
 use Rattle.rtr_ends.specs.Timing.{Intervals, default_intervals}

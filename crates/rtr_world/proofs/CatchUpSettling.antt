@@ -6,16 +6,15 @@ use Rattle.vrps.specs.Instance.{Instance}
 use Rattle.vrps.specs.VrpSet.{empty}
 use Rattle.rtr_ends.specs.declared.link.End.{End}
 use Rattle.rtr_ends.specs.Cache.{Conn}
-use Rattle.rtr_ends.specs.LinkRules.{Router, emptied}
+use Rattle.rtr_ends.specs.LinkRules.{Router}
 use Rattle.rtr_ends.specs.Router.{clocked, close, closed_at, expired}
-use Rattle.rtr_ends.specs.RouterLink.{Link, Closed, Idle, Asked, Answering, Ended, is_closed, is_reading}
-use Rattle.rtr_ends.specs.Transcript.{AskReset, AskSerial, is_over, is_serial, later, retry_of, sum_of}
+use Rattle.rtr_ends.specs.RouterLink.{Link, Closed, Ended, is_closed, is_reading}
+use Rattle.rtr_ends.specs.Transcript.{is_over, later, retry_of, sum_of}
 use Rattle.rtr_ends.proofs.TableLaws.{false_true}
-use Rattle.rtr_world.specs.World.{Side, close_ended, is_ended, noted, settle, settle_conn, settle_link, settle_rest, settle_wire, tell_closed}
+use Rattle.rtr_world.specs.World.{Side, close_ended, noted, settle, settle_conn, settle_link, settle_rest, settle_wire, tell_closed}
 use Rattle.rtr_world.proofs.EventCalls.{told_closes, closed_link, rest_keeps, wire_keeps, Lessens, reading_on}
 use Rattle.rtr_world.proofs.Rests.{GoesOn, stays, conn_router}
 use Rattle.rtr_ends.proofs.FetchStreamLaws.{open_link}
-use Rattle.rtr_ends.specs.declared.link.End.TheVariants as ends
 
 -- A live link whose connection goes on is left as it is.
 pub settle_open : (all : List Instance) (s : Side) (o : Conn) → s.conn ≡ Some o → (o.state.ended ≡ true → o.state.due ≡ [] → ⊥) → is_reading s.router.link ≡ true → settle all s ≡ s

@@ -17,7 +17,7 @@ use Rattle.rtr_world.specs.CaughtUp.{AllWent, By, Caught, CatchesUp, ComesToRest
 use Rattle.rtr_world.specs.Events.{AnswersOutcome, outcome_fault}
 use Rattle.rtr_world.specs.History.{Done, Entry, Made, Leads, after, side_at}
 use Rattle.rtr_world.specs.Reached.{LeadsTo}
-use Rattle.rtr_world.specs.World.{World, Side, RouterRestart, Speak, Connect, RouterSends, CacheGets, CacheSends, RouterGets, Cut, NotifyRouter, Ask, Tick, Event, Publish, Restart, On, connects, instances, settle}
+use Rattle.rtr_world.specs.World.{World, Side, Connect, Cut, Event, On, connects, instances, settle}
 use Rattle.rtr_world.specs.declared.event.CatchFault.{CatchFault}
 use Rattle.rtr_world.specs.declared.event.CatchFault.TheVariants as faults
 use Rattle.rtr_world.specs.declared.event.WorldFault.{WorldFault}

@@ -1,6 +1,6 @@
 -- Each open connection of a world is one to which calls of the cache's machine lead.
 use Rattle.rtr_world.proofs.EventCalls.{closed_by, Lessens, settle_keeps}
-use Rattle.std.specs.Prelude.{◌≡◌, ℕ, Bool, true, false, List, [], ◌∷◌, ◌++◌, drop, take, Option, Some, None, IfSome, if◌then◌else◌, refl, map}
+use Rattle.std.specs.Prelude.{◌≡◌, ℕ, true, false, List, [], ◌∷◌, ◌++◌, drop, take, Option, Some, None, IfSome, refl, map}
 use Rattle.std.proofs.Common.{sym, ap, subst}
 use Rattle.std.specs.List.{AllByRecursion}
 use Rattle.vrps.specs.Instance.{Instance, IsInstance}
@@ -8,14 +8,13 @@ use Rattle.vrps.specs.Store.{published}
 use Rattle.vrps.specs.VrpSet.{IsVrpSet, VrpSet}
 use Rattle.rtr_ends.specs.Cache.{Conn, Gives, Notifies, Publishes, Taking, Takes, conn_byte, conn_notified, conn_pulled, conn_stops, conn_takes, new_conn, ConnCall, IsConnCall, serving}
 use Rattle.rtr_ends.specs.Connection.{in_version}
-use Rattle.rtr_ends.specs.Router.{closed_at}
-use Rattle.rtr_ends.specs.RouterLink.{Link, Closed, Idle, Asked, Answering, Ended, is_closed}
+use Rattle.rtr_ends.specs.RouterLink.{Link, Closed, Ended}
 use Rattle.rtr_ends.proofs.FeedingLaws.{feed_takes}
 use Rattle.rtr_world.specs.Claims.{ConnsRun, IsConnRun}
-use Rattle.rtr_world.specs.History.{Outcome, Done, SessionUsed, TooManyVersions, NoSuchRouter, Memory, Entry, IsEvent, LeadsFrom, after}
-use Rattle.rtr_world.specs.World.{Side, World, instances, timing, SideEvent, RouterRestart, Speak, Connect, RouterSends, CacheGets, CacheSends, RouterGets, Cut, NotifyRouter, Ask, Tick, Event, Publish, Restart, On, cache_gets, cache_gone, cache_sends, close_ended, connects, cut, gets_at, goes_through, is_refused, new_world, noted, notifies_at, on_side, router_gets, router_restarts, router_sends, sends_from, settle, settle_conn, settle_link, settle_rest, settle_wire, settled, side_refused, side_step, speaks, tell_closed}
-use Rattle.rtr_world.proofs.Invariant.{Good, GoodLink, IfOpen, Live, Open}
-use Rattle.rtr_world.proofs.KeptTables.{AllTell, SideTells}
+use Rattle.rtr_world.specs.History.{Outcome, Done, Memory, IsEvent, after}
+use Rattle.rtr_world.specs.World.{Side, World, instances, timing, SideEvent, RouterRestart, Connect, RouterSends, CacheGets, CacheSends, Cut, NotifyRouter, Event, Publish, Restart, On, cache_gets, cache_gone, cache_sends, connects, cut, gets_at, goes_through, is_refused, notifies_at, on_side, router_gets, router_restarts, router_sends, sends_from, settle, settled, side_refused, side_step, speaks, tell_closed}
+use Rattle.rtr_world.proofs.Invariant.{GoodLink, IfOpen, Live, Open}
+use Rattle.rtr_world.proofs.KeptTables.{AllTell}
 use Rattle.rtr_world.proofs.SideLaws.{all_both, all_map, all_new, all_on_side, all_weaker}
 use Rattle.rtr_world.proofs.UnitStreams.{all_bytes}
 use Rattle.rtr_world.proofs.WireBytes.{Low, low-append, low_drop, low_rest, low_stream, low_take}

@@ -1,14 +1,14 @@
 -- Each link ends lawfully, each end is noted, where an event is refused too, and none is dropped.
 use Rattle.rtr_world.proofs.SideLaws.{all_weaker}
-use Rattle.std.specs.Prelude.{◌≡◌, ℕ, true, false, List, [], ◌∷◌, ◌++◌, drop, Option, Some, None, zero, suc, Bool, map, refl, take, if◌then◌else◌, ⊤}
+use Rattle.std.specs.Prelude.{◌≡◌, ℕ, true, false, List, [], ◌∷◌, ◌++◌, drop, Option, Some, None, zero, suc, Bool, map, refl, take, ⊤}
 use Rattle.std.proofs.Common.{sym, ap, ◌∙◌, subst, inl, inr, subst₂, append_assoc}
 use Rattle.std.specs.List.{AllByRecursion}
 use Rattle.vrps.specs.Instance.{Instance}
 use Rattle.rtr_ends.specs.declared.link.End.{End}
-use Rattle.rtr_ends.specs.Router.{Noted, called, RouterCall, clocked, close, closed_at, Connects, Receives, Pulls, Closes, AsksNow, Ticks, Speaks, silent, router_pulled, asked_by, expired, asks_if, connects_at, ticks_at, asks, receives, of_received}
-use Rattle.rtr_ends.specs.RouterLink.{Link, Ended, Closed, Idle, Asked, Answering, is_reading, is_closed, is_due, is_idle}
-use Rattle.rtr_ends.specs.Transcript.{outstanding, spoken, Item, Question, AskReset, AskSerial, At, Reads, question_of, is_serial, is_over, later, sum_of, retry_of}
-use Rattle.rtr_world.specs.World.{Ending, Side, World, instances, SideEvent, is_ended, ending_of, noted, router_restarts, cut, side_refused, side_step, Publish, Restart, On, cache_gone, goes_through, is_refused, on_side, settle, settled, tell_closed, speaks}
+use Rattle.rtr_ends.specs.Router.{Noted, called, RouterCall, clocked, close, closed_at, Connects, Receives, Pulls, Closes, AsksNow, Ticks, Speaks, silent, router_pulled, asked_by, asks_if, connects_at, ticks_at, asks, receives, of_received}
+use Rattle.rtr_ends.specs.RouterLink.{Link, Ended, Asked, is_due, is_idle}
+use Rattle.rtr_ends.specs.Transcript.{outstanding, spoken, Item, Question, AskSerial, At, Reads, question_of}
+use Rattle.rtr_world.specs.World.{Ending, Side, World, instances, SideEvent, is_ended, ending_of, noted, router_restarts, cut, side_refused, side_step, Publish, Restart, On, cache_gone, goes_through, is_refused, on_side, settle, settled, tell_closed}
 use Rattle.rtr_world.specs.Claims.{EndsNoted, NotesEnds, EndsKept, NoneDropped, OneMore, IsLawfulEnd, OfAnother, LawfulEnds}
 use Rattle.rtr_world.proofs.Rests.{Rests, history_rests}
 use Rattle.rtr_world.proofs.EventCalls.{call_of, lesser, part_by, after_call, step_by, closed_by, settle_keeps, KeptByCalls, refused_at, IsOwnCall, closed_link}
@@ -16,14 +16,12 @@ use Rattle.rtr_world.specs.History.{Done, Memory}
 use Rattle.rtr_world.proofs.RouterCases.{asks_by, clocked_by, close_by}
 use Rattle.rtr_world.proofs.WorldSteps.{Known}
 use Rattle.rtr_pdu.specs.declared.unit.Unit.{Unit}
-use Rattle.rtr_ends.specs.LinkRules.{Router, on_unit, emptied}
+use Rattle.rtr_ends.specs.LinkRules.{Router, on_unit}
 use Rattle.rtr_ends.specs.RouterLaws.{LinkTells}
 use Rattle.rtr_ends.proofs.KeptUnits.{Tells}
-use Rattle.rtr_ends.proofs.TableLaws.{false_true}
 use Rattle.rtr_world.proofs.Histories.{always_kept, received}
 use Rattle.rtr_world.proofs.UnitCases.{Brings, goes_on, ends_other, ends_memory, commits}
 use Rattle.rtr_world.proofs.LinkedSides.{Seen, IsSeen}
-use Rattle.rtr_ends.specs.declared.link.End.TheVariants as ends
 
 -- Each link ends lawfully.
 -- a link that ended did so lawfully, at the last item

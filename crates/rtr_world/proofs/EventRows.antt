@@ -2,7 +2,6 @@
 -- where memory ran out, and ends of links. Further steps are played by the scripts of tests/cases/world.py.
 use Rattle.std.specs.Prelude.{◌≡◌, ℕ, ◌≤◌, Bool, true, false, List, [], ◌∷◌, ◌++◌, length, take, drop, Some, None, refl}
 use Rattle.std.proofs.Common.{Option, ap, arith}
-use Rattle.std.specs.Str.{chars, is_utf8}
 use Rattle.vrps.specs.Instance.{Instance, versions}
 use Rattle.vrps.specs.VrpSet.{VrpSet, empty, set_of}
 use Rattle.vrps.proofs.SetLaws.{listing-set_of}
@@ -17,7 +16,7 @@ use Rattle.rtr_ends.specs.LinkRules.{Router, new_router, on_unit}
 use Rattle.rtr_ends.specs.Router.{router_byte, receives, clocked, closed_at, ticks_at, asks, connects_at, router_pulled}
 use Rattle.rtr_ends.specs.RouterLink.{Idle, Asked, Answering}
 use Rattle.rtr_ends.specs.Timing.{default_intervals}
-use Rattle.rtr_ends.specs.Transcript.{At, Opened, Asks, Reads, Refused, Restarts, Shut, Item, AskReset, AskSerial, Committed}
+use Rattle.rtr_ends.specs.Transcript.{At, Opened, Asks, Refused, Restarts, Shut, Item, AskReset, AskSerial, Committed}
 use Rattle.rtr_ends.proofs.WholeAnswerRows.{v, v_ascends, cache, with_all_of, reset_bytes, response_bytes, v_bytes, end_bytes}
 use Rattle.rtr_world.specs.CatchUp.{HoldsNewest}
 use Rattle.rtr_world.specs.Claims.{OfAnother, told}

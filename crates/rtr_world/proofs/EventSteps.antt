@@ -14,13 +14,13 @@ use Rattle.rtr_ends.specs.Connection.{Sent, in_version}
 use Rattle.rtr_ends.specs.Feeding.{FedPiece, feed}
 use Rattle.rtr_ends.specs.LinkRules.{Router, ask}
 use Rattle.rtr_ends.specs.Router.{close, clocked, asks_if, connects_at, closed_at, ticks_at, asks, receives, router_pulled}
-use Rattle.rtr_ends.specs.RouterLink.{Link, Closed, Idle, Asked, Answering, Ended, is_closed, is_reading, is_due, is_idle}
+use Rattle.rtr_ends.specs.RouterLink.{Link, Closed, Ended, is_reading, is_due, is_idle}
 use Rattle.rtr_ends.specs.Transcript.{choose, of_version, At, Item, query}
 use Rattle.rtr_ends.proofs.KeptLaws.{clocked_tells}
 use Rattle.rtr_world.specs.OneAnswer.{IsOfNow}
 use Rattle.rtr_world.specs.VersionPlaces.{VersionPlace}
 use Rattle.rtr_world.specs.History.{conn_due}
-use Rattle.rtr_world.specs.World.{Side, World, instances, is_read, timing, SideEvent, RouterRestart, Speak, Connect, RouterSends, CacheGets, CacheSends, RouterGets, Cut, NotifyRouter, Ask, Tick, noted, places_of, connects, router_restarts, speaks, router_sends, sends_from, cache_sends, gets_at, cache_gets, router_gets, cut, notifies_at, side_step, side_part, side_refused, tell_closed, close_ended, settle_conn, settle_link, settle_rest, settle_wire, settle}
+use Rattle.rtr_world.specs.World.{Side, World, instances, is_read, timing, SideEvent, RouterRestart, Speak, Connect, RouterSends, CacheGets, CacheSends, RouterGets, Cut, NotifyRouter, Ask, Tick, places_of, connects, router_restarts, speaks, router_sends, sends_from, cache_sends, gets_at, cache_gets, router_gets, cut, notifies_at, side_step, side_part, side_refused, tell_closed, close_ended, settle_conn, settle_link, settle_rest, settle_wire, settle}
 use Rattle.rtr_world.proofs.CacheMoves as cache
 use Rattle.rtr_world.proofs.Commits.{goes_fed}
 use Rattle.rtr_world.proofs.Invariant.{OwnSession, IfOpen, Open, GoodLink, GoodRouter, Good, Flow}
@@ -103,23 +103,23 @@ module _ (w : World) (p : Present (instances w) w.present) where
   unfolding conn_pulled
   sends_good most s None e g = g
   sends_good most s (Some o) e g = wired_good s (Some (conn_pulled w.keep timing most o)) s.up (s.down ++ take most o.state.due) g (λ h f.
-        let op : Open w.present s.router.spoken h s.router.out s.up f.wanted f.coming s.router.agreed f.lost o = subst (λ x. IfOpen x (Open w.present s.router.spoken h s.router.out s.up f.wanted f.coming s.router.agreed f.lost)) e f.open_at in
-        let due : List ℕ = o.state.due in
-        let split : o.state.due ≡ take most o.state.due ++ drop (pulled_count most o) o.state.due =
-        sym (take-append-drop (pulled_count most o) o.state.due) ∙ ap (λ x. x ++ drop (pulled_count most o) o.state.due) (take_min most o.state.due) in
-        let bytes : s.down ++ (conn_due s.conn ++ f.lost) ≡ (s.down ++ take most o.state.due) ++ (drop (pulled_count most o) o.state.due ++ f.lost) =
-        ap (λ x. s.down ++ (conn_due x ++ f.lost)) e ∙ ap (λ x. s.down ++ (x ++ f.lost)) split
-        ∙ ap (λ x. s.down ++ x) (append_assoc (take most o.state.due) (drop (pulled_count most o) o.state.due) f.lost)
-        ∙ sym (append_assoc s.down (take most o.state.due) (drop (pulled_count most o) o.state.due ++ f.lost)) in
-        record {
-          early = f.early;
-          coming = f.coming;
-          lost = f.lost;
-          wanted = f.wanted;
-          said = f.said;
-          downward = subst (λ x. Stream s.router.held x (behind_early s.router.spoken f.early f.coming)) bytes f.downward;
-          open_at = record { upward = op.upward; spoken = op.spoken; unheard = op.unheard; linked = op.linked };
-          })
+      let op : Open w.present s.router.spoken h s.router.out s.up f.wanted f.coming s.router.agreed f.lost o = subst (λ x. IfOpen x (Open w.present s.router.spoken h s.router.out s.up f.wanted f.coming s.router.agreed f.lost)) e f.open_at in
+      let due : List ℕ = o.state.due in
+      let split : o.state.due ≡ take most o.state.due ++ drop (pulled_count most o) o.state.due =
+      sym (take-append-drop (pulled_count most o) o.state.due) ∙ ap (λ x. x ++ drop (pulled_count most o) o.state.due) (take_min most o.state.due) in
+      let bytes : s.down ++ (conn_due s.conn ++ f.lost) ≡ (s.down ++ take most o.state.due) ++ (drop (pulled_count most o) o.state.due ++ f.lost) =
+      ap (λ x. s.down ++ (conn_due x ++ f.lost)) e ∙ ap (λ x. s.down ++ (x ++ f.lost)) split
+      ∙ ap (λ x. s.down ++ x) (append_assoc (take most o.state.due) (drop (pulled_count most o) o.state.due) f.lost)
+      ∙ sym (append_assoc s.down (take most o.state.due) (drop (pulled_count most o) o.state.due ++ f.lost)) in
+      record {
+        early = f.early;
+        coming = f.coming;
+        lost = f.lost;
+        wanted = f.wanted;
+        said = f.said;
+        downward = subst (λ x. Stream s.router.held x (behind_early s.router.spoken f.early f.coming)) bytes f.downward;
+        open_at = record { upward = op.upward; spoken = op.spoken; unheard = op.unheard; linked = op.linked };
+      })
 
   cache_sends_good : (most : ℕ) (s : Side) → GoodS s → GoodS (cache_sends w most s)
   unfolding cache_sends
@@ -171,10 +171,10 @@ module _ (w : World) (p : Present (instances w) w.present) where
   cut_good : (left : ℕ) (s : Side) → GoodS s → GoodS (cut left s)
   unfolding cut
   cut_good left s g = wired_good s None [] (take left s.down) g (λ h f.
-          let after : List ℕ = conn_due s.conn ++ f.lost in
-          let bytes : s.down ++ (conn_due s.conn ++ f.lost) ≡ take left s.down ++ ([] ++ (drop left s.down ++ (conn_due s.conn ++ f.lost))) =
-          ap (λ x. x ++ (conn_due s.conn ++ f.lost)) (sym (take-append-drop left s.down)) ∙ append_assoc (take left s.down) (drop left s.down) (conn_due s.conn ++ f.lost) in
-          record { early = f.early; coming = f.coming; lost = drop left s.down ++ (conn_due s.conn ++ f.lost); wanted = f.wanted; said = f.said; downward = subst (λ x. Stream s.router.held x (behind_early s.router.spoken f.early f.coming)) bytes f.downward; open_at = tt })
+      let after : List ℕ = conn_due s.conn ++ f.lost in
+      let bytes : s.down ++ (conn_due s.conn ++ f.lost) ≡ take left s.down ++ ([] ++ (drop left s.down ++ (conn_due s.conn ++ f.lost))) =
+      ap (λ x. x ++ (conn_due s.conn ++ f.lost)) (sym (take-append-drop left s.down)) ∙ append_assoc (take left s.down) (drop left s.down) (conn_due s.conn ++ f.lost) in
+      record { early = f.early; coming = f.coming; lost = drop left s.down ++ (conn_due s.conn ++ f.lost); wanted = f.wanted; said = f.said; downward = subst (λ x. Stream s.router.held x (behind_early s.router.spoken f.early f.coming)) bytes f.downward; open_at = tt })
 
   -- a connection is made
   fresh_session : (session : ℕ) (o : Option ℕ) → o ≡ None → OwnSession session o
@@ -307,8 +307,8 @@ module _ (w : World) (p : Present (instances w) w.present) where
 
   ended_good : (s : Side) (o : Conn) (ended : Bool) (due : List ℕ) → s.conn ≡ Some o → o.state.due ≡ due → GoodS s → GoodS (close_ended s ended due)
   ended_good s o true [] e de g = wired_good s None s.up s.down g (λ h f.
-          let bytes : s.down ++ (conn_due s.conn ++ f.lost) ≡ s.down ++ ([] ++ f.lost) = ap (λ x. s.down ++ (conn_due x ++ f.lost)) e ∙ ap (λ x. s.down ++ (x ++ f.lost)) de in
-          record { early = f.early; coming = f.coming; lost = f.lost; wanted = f.wanted; said = f.said; downward = subst (λ x. Stream s.router.held x (behind_early s.router.spoken f.early f.coming)) bytes f.downward; open_at = tt })
+      let bytes : s.down ++ (conn_due s.conn ++ f.lost) ≡ s.down ++ ([] ++ f.lost) = ap (λ x. s.down ++ (conn_due x ++ f.lost)) e ∙ ap (λ x. s.down ++ (x ++ f.lost)) de in
+      record { early = f.early; coming = f.coming; lost = f.lost; wanted = f.wanted; said = f.said; downward = subst (λ x. Stream s.router.held x (behind_early s.router.spoken f.early f.coming)) bytes f.downward; open_at = tt })
   ended_good s o _ _ e de g = g
 
   conn_good : (s : Side) (o : Option Conn) → s.conn ≡ o → GoodS s → GoodS (settle_conn s o)

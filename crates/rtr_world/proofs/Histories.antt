@@ -1,30 +1,26 @@
 -- What each call, each wire and each PDU keeps holds after every list of events.
 use Rattle.rtr_world.specs.Claims.{Always}
-use Rattle.std.specs.Prelude.{List, [], ◌∷◌, map, None, ◌≡◌, ℕ, Bool, true, false, not, ◌&&◌, ◌++◌, take, drop, Option, Some, if◌then◌else◌}
-use Rattle.std.proofs.Common.{sym, subst, ap, ◌∙◌, append_assoc}
+use Rattle.std.specs.Prelude.{List, [], ◌∷◌, map, None, ◌≡◌, ℕ, false, ◌&&◌, ◌++◌, take, drop, Option, Some}
+use Rattle.std.proofs.Common.{sym, subst, ◌∙◌, append_assoc}
 use Rattle.std.specs.List.{AllByRecursion}
 use Rattle.rtr_world.specs.History.{Outcome, Done, Memory, after, Entry, Made, Leads, conn_due}
-use Rattle.rtr_world.specs.World.{Side, World, Event, Publish, Restart, On, cache_gone, goes_through, settled, is_refused, new_side, new_world, instances}
-use Rattle.rtr_world.proofs.Invariant.{Good, Flow, GoodRouter, Shape}
+use Rattle.rtr_world.specs.World.{Side, World, Event, Publish, Restart, On, cache_gone, goes_through, settled, is_refused, new_side, instances}
+use Rattle.rtr_world.proofs.Invariant.{GoodRouter}
 use Rattle.rtr_world.proofs.SideLaws.{all_new, all_map, all_both, all_weaker}
-use Rattle.rtr_world.proofs.KeptTables.{SideTells, AllTell}
+use Rattle.rtr_world.proofs.KeptTables.{AllTell}
 use Rattle.rtr_world.proofs.WorldSteps.{GoodWorld, Known, known_leads, known_sides}
 use Rattle.rtr_world.proofs.EventCalls.{if_gets, refusal_keeps, KeptByCalls, each_settles, done_keeps}
 use Rattle.std.proofs.lemmas.Bool.{and_parts}
 use Rattle.std.proofs.lemmas.List.{take-append-drop}
-use Rattle.vrps.specs.Instance.{Instance}
-use Rattle.rtr_pdu.specs.Judging.{judge}
 use Rattle.rtr_pdu.specs.declared.unit.Unit.{Unit}
-use Rattle.rtr_pdu.specs.declared.unit.Unit.TheVariants.{SerialNotify}
-use Rattle.rtr_ends.specs.Cache.{Conn, is_none, finds_memory}
-use Rattle.rtr_ends.specs.LinkRules.{Router, on_unit, may_lack}
-use Rattle.rtr_ends.specs.Router.{Noted, Receiving, asked_by, silent, reads, lacks, with_bytes, router_stops, router_byte, clocked, receives}
+use Rattle.rtr_ends.specs.Cache.{is_none, finds_memory}
+use Rattle.rtr_ends.specs.LinkRules.{Router, on_unit}
+use Rattle.rtr_ends.specs.Router.{Receiving, asked_by, router_stops, router_byte, clocked, receives}
 use Rattle.rtr_ends.specs.RouterLink.{Ended, is_reading}
-use Rattle.rtr_ends.specs.Transcript.{Item, At, Reads, Lacks, of_version}
+use Rattle.rtr_ends.specs.Transcript.{Item, At, Reads, Lacks}
 use Rattle.rtr_ends.proofs.FeedingLaws.{feed_keeps}
 use Rattle.rtr_ends.proofs.KeptUnits.{Tells}
 use Rattle.rtr_ends.proofs.KeptLaws.{byte_tells, clocked_tells}
-use Rattle.rtr_world.specs.OneAnswer.{NotifiesOf, without_notifies}
 use Rattle.rtr_world.proofs.LinkedSides.{Seen}
 use Rattle.rtr_world.proofs.SideSteps.{live_of, byte_good, clocked_good}
 use Rattle.rtr_world.proofs.UnitCases.{Brings, byte_by}
@@ -70,7 +66,7 @@ module _ (w : World) (s : Side) (known : Known w s) (Q : Router → List Item �
     (part : (r : Router) (held : List ℕ) (items : List Item) → Q r items → Q (record r { held = held }) items)
     (lack : (r : Router) (u : Unit) (items : List Item) → Q (record r { link = Ended ends.Memory }) (Lacks u ∷ items))
     (read : (h : Seen) (r : Router) (u : Unit) (items : List Item) → known.0.seen ≡ Some h → h.version ≡ r.spoken → Tells r items → Q r items → Brings (instances w) h r r.link u (on_unit r.link u r)
-      → Q (on_unit r.link u r) (asked_by (on_unit r.link u r).link (on_unit r.link u r).out ++ Reads u ∷ items)) where
+    → Q (on_unit r.link u r) (asked_by (on_unit r.link u r).link (on_unit r.link u r).out ++ Reads u ∷ items)) where
   record Goes (down : List ℕ) (m : Receiving) : Type 0 where
     good : GoodRouter (instances w) w.present known.0.seen s.conn s.up down m.router
     tells : Tells m.router (m.items ++ s.items)

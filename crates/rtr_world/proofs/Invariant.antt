@@ -12,7 +12,7 @@ use Rattle.rtr_ends.specs.Answer.{answer, report, session_in}
 use Rattle.rtr_ends.specs.Cache.{Conn}
 use Rattle.rtr_ends.specs.Commit.{Commits}
 use Rattle.rtr_ends.specs.Connection.{IsLater, in_version, takes_memory}
-use Rattle.rtr_ends.specs.LinkRules.{Router, Staged, Stays, Wrong, Over, stage}
+use Rattle.rtr_ends.specs.LinkRules.{Router, Staged, Stays, stage}
 use Rattle.rtr_ends.specs.RouterLink.{Link, Closed, Idle, Asked, Answering, Ended}
 use Rattle.rtr_ends.specs.Transcript.{Begun, Committed, Question, AskReset, AskSerial, query, base_of, led_to, of_version}
 use Rattle.rtr_world.specs.History.{conn_due}

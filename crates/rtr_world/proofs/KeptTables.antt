@@ -1,13 +1,13 @@
 -- Each router of a world holds what its transcript keeps.
-use Rattle.std.specs.Prelude.{List, [], ◌∷◌, take, refl, ⊤, map}
+use Rattle.std.specs.Prelude.{List, take, refl, ⊤, map}
 use Rattle.std.specs.List.{AllByRecursion}
 use Rattle.vrps.specs.Instance.{Instance}
 use Rattle.rtr_ends.specs.Router.{Receives}
 use Rattle.rtr_ends.proofs.KeptUnits.{Tells}
 use Rattle.rtr_ends.proofs.KeptLaws.{called_tells, new_tells, refused_closed, refused_closes}
-use Rattle.rtr_world.specs.World.{Side, World, instances, Event, Publish, Restart, On, router_restarts, tell_closed, cache_gone, goes_through, settled, is_refused, new_side, new_world}
-use Rattle.rtr_world.specs.History.{Outcome, Done, Memory, after, Entry, LeadsFrom}
-use Rattle.rtr_world.proofs.SideLaws.{all_new, all_map}
+use Rattle.rtr_world.specs.World.{Side, World, instances, Event, Publish, Restart, On, router_restarts, tell_closed, cache_gone, goes_through, settled, is_refused, new_side}
+use Rattle.rtr_world.specs.History.{Outcome, Done, Memory, after}
+use Rattle.rtr_world.proofs.SideLaws.{all_map}
 use Rattle.rtr_world.proofs.EventCalls.{if_gets, refusal_keeps, closed_link, KeptByCalls, refused_at, each_settles, done_keeps, closed_by}
 
 pub record SideTells (s : Side) : Type 0 where

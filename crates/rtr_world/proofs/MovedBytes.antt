@@ -110,7 +110,7 @@ router_got w at s v n most count piece h is received same =
       wanting = received.0;
       wanted = wanted_now s w most received.0 there.wanted;
       now = shown_as w at s _ v n h refl refl (ap (λ x. x.conn) same) (ap (λ x. x.made) same) (subst (λ x. IsShown x n.router) (told_now (take most s.down) s.router received.0).router there.shown) (ap (λ x. x.up) same ∙ h.up)
-            (ap (λ x. x.down) same ∙ ap (drop count) h.down ∙ router_left (take most s.down) s.router received.0 s.down most count refl there.count_is);
+          (ap (λ x. x.down) same ∙ ap (drop count) h.down ∙ router_left (take most s.down) s.router received.0 s.down most count refl there.count_is);
     }
 
 -- What arrives at the cache
@@ -212,7 +212,7 @@ none_sent w at s v n most count room h p none same =
       wanting = None;
       wanted = tt;
       now = shown_as w at s _ v n h refl refl (ap (λ x. x.conn) same) (ap (λ x. x.made) same) (subst (λ r. IsShown r n.router) (pulled_as (min most 4096) most s.router (all_pulled most s.router.out p.fits)) p.router) (ap (λ x. x.up) same ∙ h.up ∙ sym (append-nil s.up) ∙ ap (λ x. s.up ++ x) (sym nothing))
-            (ap (λ x. x.down) same ∙ h.down);
+          (ap (λ x. x.down) same ∙ h.down);
     }
 
 pub some_sent : (w : World) (at : ℕ → Option Conn) (s : Side) (v n : values.Side) (most count : ℕ) (room : List ℕ) (result : Result ⊤ AllocError) → ShowsSide w at s v → Pulled most count room s.router n.router → ¬ (count ≡ 0)
@@ -222,7 +222,7 @@ some_sent w at s v n most count room (Ok done) h p some same = record {
   wanting = None;
   wanted = tt;
   now = shown_as w at s _ v n h refl refl (ap (λ x. x.conn) same) (ap (λ x. x.made) same) (subst (λ r. IsShown r n.router) (pulled_as (min most 4096) most s.router (all_pulled most s.router.out p.fits)) p.router) (ap (λ x. x.up) same ∙ (λ i. h.up i ++ p.room_is i))
-            (ap (λ x. x.down) same ∙ h.down);
+      (ap (λ x. x.down) same ∙ h.down);
 }
 some_sent w at s v n most count room (Err error) h p some same =
     let few : count ≡ min most (length s.router.out) = omega (arith, p.count_is, p.fits) in
@@ -234,7 +234,7 @@ some_sent w at s v n most count room (Err error) h p some same =
       part = record (router_sends count s) { up = s.up };
       cut_is = refl;
       now = shown_as w at s _ v n h refl refl (ap (λ x. x.conn) same) (ap (λ x. x.made) same) (subst (λ r. IsShown r n.router) (pulled_as (min most 4096) count s.router left) p.router) (ap (λ x. x.up) same ∙ h.up)
-            (ap (λ x. x.down) same ∙ h.down);
+          (ap (λ x. x.down) same ∙ h.down);
     }
 
 -- What the cache puts on the wire

@@ -5,7 +5,7 @@ use Rattle.std.proofs.Common.{sym, ap, ◌∙◌, subst, arith, inl, inr}
 use Rattle.std.proofs.Math.Nat.{min-le_left}
 use Rattle.std.proofs.lemmas.List.{length-append, length-drop, length-take}
 use Rattle.vrps.specs.Instance.{Instance}
-use Rattle.rtr_pdu.specs.Judging.{Judgement, Begins, Whole, Faulty, judge}
+use Rattle.rtr_pdu.specs.Judging.{Judgement, Whole, judge}
 use Rattle.rtr_pdu.specs.declared.version.Version.{Version}
 use Rattle.rtr_ends.specs.Cache.{Conn, Taking, conn_byte, conn_moment_of, conn_stops, conn_takes, counted, finds_memory, version_at, with_moment}
 use Rattle.rtr_ends.specs.Connection.{Read, Wanting, conn_after, takes_memory}
@@ -16,7 +16,7 @@ use Rattle.rtr_ends.specs.Transcript.{At}
 use Rattle.rtr_ends.proofs.FeedingLaws.{feed_takes, goes_on, stopped}
 use Rattle.rtr_world.specs.Claims.{MovesNoMore}
 use Rattle.rtr_world.specs.History.{Memory, NoSuchRouter, MayEnd, moved, moved_at, most_of, refusal, side_at}
-use Rattle.rtr_world.specs.World.{Side, World, SideEvent, RouterRestart, Speak, Connect, RouterSends, CacheGets, CacheSends, RouterGets, Cut, NotifyRouter, Ask, Tick, On, cache_gets, gets_at, router_gets, timing}
+use Rattle.rtr_world.specs.World.{Side, World, SideEvent, RouterRestart, RouterSends, CacheGets, CacheSends, RouterGets, On, cache_gets, gets_at, router_gets, timing}
 
 -- Two machines that are alike until one of them stops: that one leaves no less of a piece.
 module _ {M : Type 0} (stops : M → Bool) (step : M → ℕ → M) (Alike : M → M → Type 0) (same : (m n : M) → Alike m n → stops m ≡ stops n) (goes : (m n : M) (b : ℕ) → Alike m n → Alike (step m b) (step n b) ⊎ (stops (step n b) ≡ true)) where

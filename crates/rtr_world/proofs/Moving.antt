@@ -10,7 +10,7 @@ use Rattle.rtr_ends.specs.Cache.{Conn, conn_notified, is_none}
 use Rattle.rtr_ends.specs.CacheState.{ShowsCache, has_bytes_at, is_open_at, notified}
 use Rattle.rtr_ends.specs.LinkRules.{Router}
 use Rattle.rtr_ends.specs.Router.{Closes, called, clocked, close, closed_at, judged_by_clock}
-use Rattle.rtr_ends.specs.RouterLink.{Link, Closed, Idle, Asked, Answering, Ended, is_closed}
+use Rattle.rtr_ends.specs.RouterLink.{Link, Closed, Ended, is_closed}
 use Rattle.rtr_ends.specs.RouterShown.{IsShown}
 use Rattle.rtr_ends.specs.Transcript.{later}
 use Rattle.rtr_ends.specs.declared.cache.Cache.{Cache}

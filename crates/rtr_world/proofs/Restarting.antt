@@ -1,7 +1,7 @@
 -- The cache restarts.
 use Rattle.rtr_world.proofs.SideLaws.{map_there}
 use Rattle.std.specs.Prelude.{◌≡◌, ℕ, ◌<◌, ◌^◌, ◌==◌, ◌||◌, Bool, true, false, List, [], ◌∷◌, ◌++◌, map, find, Option, Some, None, is_some, Result, Ok, Err, is_err, is_ok, slice_get, if◌then◌else◌, refl, ⊤}
-use Rattle.std.proofs.Common.{sym, ap, ◌∙◌, subst, arith, zero, suc}
+use Rattle.std.proofs.Common.{sym, ap, ◌∙◌, subst, arith}
 use Rattle.std.specs.Option.{option_map}
 use Rattle.std.specs.List.{list_any}
 use Rattle.vrps.specs.Instance.{Instance}

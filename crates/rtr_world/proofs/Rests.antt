@@ -8,8 +8,8 @@ use Rattle.rtr_ends.specs.Router.{closed_at}
 use Rattle.rtr_ends.specs.RouterLink.{Link, Closed, Idle, Asked, Answering, Ended, is_closed}
 use Rattle.rtr_ends.proofs.TableLaws.{false_true}
 use Rattle.rtr_world.specs.Claims.{Settles, OthersStay}
-use Rattle.rtr_world.specs.History.{Entry, IsEvent, Leads, Made, MayEnd, Memory, NoSuchRouter, Outcome, Done, SessionUsed, TooManyVersions, after, refusal, side_at}
-use Rattle.rtr_world.specs.World.{Event, On, Publish, Restart, Side, World, goes_through, close_ended, instances, is_ended, is_refused, new_world, noted, on_side, settle, settle_conn, settle_link, settle_rest, settle_wire, settled, side_refused, tell_closed, side_step}
+use Rattle.rtr_world.specs.History.{Entry, IsEvent, Leads, Made, MayEnd, Memory, Outcome, Done, after, refusal, side_at}
+use Rattle.rtr_world.specs.World.{Event, On, Side, World, goes_through, close_ended, instances, is_ended, is_refused, noted, on_side, settle, settle_conn, settle_link, settle_rest, settle_wire, settled, side_refused, tell_closed, side_step}
 use Rattle.rtr_world.proofs.EventCalls.{told_closes}
 use Rattle.rtr_world.proofs.Invariant.{Good, GoodLink}
 use Rattle.rtr_world.proofs.SideLaws.{all_map, all_new, all_weaker, map_there, elsewhere}

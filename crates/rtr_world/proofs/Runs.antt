@@ -2,19 +2,18 @@
 use Rattle.rtr_world.proofs.UnitCases.{either_by}
 use Rattle.rtr_world.proofs.RouterCases.{asks_by, clocked_by}
 use Rattle.rtr_world.proofs.WorldSteps.{Known}
-use Rattle.std.specs.Prelude.{◌≡◌, ℕ, Bool, true, false, not, ◌&&◌, List, [], ◌∷◌, ◌++◌, take, Option, if◌then◌else◌, refl, ⊤}
+use Rattle.std.specs.Prelude.{◌≡◌, ℕ, Bool, true, false, not, ◌&&◌, List, [], ◌∷◌, ◌++◌, take, Option, refl, ⊤}
 use Rattle.std.proofs.Common.{◌∙◌, sym, ap, subst}
 use Rattle.std.specs.List.{AllByRecursion}
 use Rattle.rtr_pdu.specs.Judging.{Judgement, Begins, Whole, Faulty, judge}
 use Rattle.rtr_ends.specs.Cache.{finds_memory, is_none}
 use Rattle.rtr_ends.specs.Consumed.{IsRouterCall}
 use Rattle.rtr_ends.specs.LinkRules.{Router, on_unit, may_lack}
-use Rattle.rtr_ends.specs.Router.{Receiving, expired, RouterCall, Connects, Receives, Pulls, Closes, AsksNow, Ticks, Speaks, called, asked_by, reads, lacks, with_bytes, router_stops, router_byte, clocked, asks, asks_if, connects_at, closed_at, ticks_at, receives}
-use Rattle.rtr_ends.specs.RouterLink.{Link, Closed, Idle, Asked, Answering, Ended, is_due, is_idle, is_reading}
-use Rattle.rtr_ends.specs.Transcript.{Item, At, Reads, Refused, Restarts, is_over, later}
+use Rattle.rtr_ends.specs.Router.{Receiving, RouterCall, Connects, Receives, Pulls, Closes, AsksNow, Ticks, Speaks, called, asked_by, with_bytes, router_stops, router_byte, clocked, asks, asks_if, connects_at, closed_at, ticks_at, receives}
+use Rattle.rtr_ends.specs.RouterLink.{Link, Asked, is_due, is_idle, is_reading}
+use Rattle.rtr_ends.specs.Transcript.{Item, At, Reads, Refused, Restarts}
 use Rattle.rtr_ends.proofs.ByteLists.{none_bytes}
 use Rattle.rtr_ends.proofs.FeedingLaws.{feed_keeps, stopped}
-use Rattle.rtr_ends.proofs.TableLaws.{false_true}
 use Rattle.rtr_world.specs.Claims.{IsRun, RoutersRun, since_restart}
 use Rattle.rtr_world.specs.History.{conn_due}
 use Rattle.rtr_world.specs.World.{Side, World, instances, noted, router_restarts, tell_closed}

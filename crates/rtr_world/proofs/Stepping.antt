@@ -6,11 +6,11 @@ use Rattle.std.specs.List.{list_any}
 use Rattle.std.specs.declared.alloc.AllocError.{AllocError}
 use Rattle.vrps.specs.Instance.{Instance}
 use Rattle.rtr_ends.specs.Cache.{Conn}
-use Rattle.rtr_ends.specs.RouterLink.{Link, Closed, Idle, Asked, Answering, Ended, is_closed}
+use Rattle.rtr_ends.specs.RouterLink.{Link, Closed, is_closed}
 use Rattle.rtr_world.specs.History.{Done, Memory, NoSuchRouter, MayEnd, IsWanted, Reached, after, may_refuse_at, most_of, moved_at, refusal, side_at, wants_at}
 use Rattle.rtr_world.specs.Reached.{ShowsParts, ShowsRest, ShowsWorld, StepsOnce}
 use Rattle.rtr_world.specs.SideShown.{Happens, MayFail, Moves}
-use Rattle.rtr_world.specs.World.{World, Side, SideEvent, RouterRestart, Speak, Connect, RouterSends, CacheGets, CacheSends, RouterGets, Cut, NotifyRouter, Ask, Tick, On, goes_through, instances, is_refused, on_side, settle, settled, side_refused, side_step}
+use Rattle.rtr_world.specs.World.{World, Side, SideEvent, Connect, RouterSends, CacheSends, On, goes_through, instances, is_refused, on_side, settle, settled, side_refused, side_step}
 use Rattle.rtr_world.specs.declared.event.WorldFault.{WorldFault}
 use Rattle.rtr_world.specs.declared.event.WorldFault.TheVariants as faults
 use Rattle.rtr_world.specs.declared.side.Side as values

@@ -7,17 +7,16 @@ use Rattle.prefixes.proofs.Basics.{eq_of, eq_true}
 use Rattle.vrps.specs.Instance.{Instance}
 use Rattle.rtr_pdu.specs.declared.version.Version.{Version}
 use Rattle.rtr_pdu.specs.declared.version.Version.TheVariants.{V1}
-use Rattle.rtr_ends.specs.LinkRules.{Router, emptied}
-use Rattle.rtr_ends.specs.Router.{Receiving, asks, asks_if, clocked, close, closed_at, connects_at, expired, receives, router_byte, router_pulled, router_stops, ticks_at}
-use Rattle.rtr_ends.specs.RouterLink.{Link, Closed, Idle, Asked, Answering, Ended, is_closed, is_due, is_idle}
-use Rattle.rtr_ends.specs.Transcript.{At, AskReset, AskSerial, is_over, is_serial, later, retry_of, sum_of}
+use Rattle.rtr_ends.specs.LinkRules.{Router}
+use Rattle.rtr_ends.specs.Router.{Receiving, asks, asks_if, clocked, close, closed_at, connects_at, receives, router_byte, router_pulled, router_stops, ticks_at}
+use Rattle.rtr_ends.specs.RouterLink.{is_due, is_idle}
+use Rattle.rtr_ends.specs.Transcript.{At}
 use Rattle.rtr_ends.proofs.FeedingLaws.{feed_keeps}
 use Rattle.rtr_world.specs.Claims.{EachSpeaks, told_since, told_by}
 use Rattle.rtr_world.specs.History.{Outcome, Done, Memory, Entry, LeadsFrom, after, side_at}
-use Rattle.rtr_world.specs.World.{Side, World, instances, SideEvent, RouterRestart, Speak, Connect, RouterGets, Ask, Tick, Event, Publish, Restart, On, cache_gone, cut, goes_through, is_refused, new_sides, new_world, on_side, router_restarts, settle, settled, side_refused, side_step, speaks}
+use Rattle.rtr_world.specs.World.{Side, World, instances, SideEvent, RouterRestart, Speak, Connect, RouterGets, Ask, Tick, Event, Publish, Restart, On, cache_gone, cut, goes_through, is_refused, new_sides, new_world, on_side, router_restarts, settle, settled, side_refused, side_step}
 use Rattle.rtr_world.proofs.CatchUpSides.{byte_speaks}
 use Rattle.rtr_world.proofs.EventCalls.{IsNoRestart, call_of, lesser, step_by, part_by, IsMoving, after_call, closed_by, settle_keeps}
-use Rattle.rtr_ends.specs.declared.link.End.TheVariants as ends
 
 -- The clock and a close leave it.
 clocked_speaks : (now : ℕ) (r : Router) → (clocked now r).speaks ≡ r.speaks

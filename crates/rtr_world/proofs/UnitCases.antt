@@ -7,7 +7,7 @@ use Rattle.vrps.specs.VrpSet.{VrpSet}
 use Rattle.rtr_pdu.specs.declared.unit.Unit.{Unit}
 use Rattle.rtr_pdu.specs.declared.unit.Unit.TheVariants.{SerialNotify, CacheResponse, Prefix, EndOfData, EndOfData0, CacheReset}
 use Rattle.rtr_ends.specs.Answer.{report}
-use Rattle.rtr_ends.specs.LinkRules.{Router, Staged, Stays, Wrong, Over, ask, fails, is_strange, is_news, stage, staged, commit, on_unit, may_lack}
+use Rattle.rtr_ends.specs.LinkRules.{Router, Staged, Stays, ask, fails, is_strange, is_news, stage, staged, commit, on_unit, may_lack}
 use Rattle.rtr_ends.specs.Timing.{Intervals, default_intervals}
 use Rattle.rtr_ends.specs.RouterLink.{Link, Closed, Idle, Asked, Answering, Ended, is_reading}
 use Rattle.rtr_ends.specs.Transcript.{Begun, Committed, Question, AskReset, AskSerial, base_of, led_to, session_of, differs, is_wrong, bounded, of_version}

@@ -1,26 +1,26 @@
 -- No link ends by running out of memory at its router where no outcome names a PDU.
 use Rattle.rtr_world.proofs.RouterCases.{asks_by, clocked_by, close_by, none_counted}
 use Rattle.rtr_world.proofs.WorldSteps.{first}
-use Rattle.std.specs.Prelude.{◌≡◌, ℕ, Bool, true, false, not, ◌&&◌, ◌==◌, List, [], ◌∷◌, ◌++◌, take, Option, Some, None, if◌then◌else◌, refl, ⊤, map}
+use Rattle.std.specs.Prelude.{◌≡◌, ℕ, Bool, true, false, not, ◌&&◌, ◌==◌, List, [], ◌∷◌, ◌++◌, take, Option, Some, None, if◌then◌else◌, ⊤, map}
 use Rattle.std.proofs.Common.{sym, ap, ◌∙◌, subst}
 use Rattle.std.specs.List.{AllByRecursion}
 use Rattle.vrps.specs.Instance.{Instance}
 use Rattle.rtr_pdu.specs.Judging.{Judgement, Begins, Whole, Faulty, judge}
 use Rattle.rtr_pdu.specs.Stream.{type_of}
 use Rattle.rtr_pdu.specs.declared.unit.Unit.{Unit}
-use Rattle.rtr_pdu.specs.declared.unit.Unit.TheVariants.{SerialNotify, SerialQuery, ResetQuery, CacheResponse, Prefix, EndOfData, EndOfData0, CacheReset, RouterKey, ErrorReport}
+use Rattle.rtr_pdu.specs.declared.unit.Unit.TheVariants.{SerialNotify, CacheResponse, Prefix, EndOfData, EndOfData0, CacheReset, RouterKey, ErrorReport}
 use Rattle.rtr_ends.specs.Timing.{default_intervals}
 use Rattle.rtr_ends.specs.Cache.{counted, finds_memory}
 use Rattle.rtr_ends.specs.Connection.{agreed_version, fault_code}
 use Rattle.rtr_ends.specs.Feeding.{feed}
 use Rattle.rtr_ends.specs.LinkRules.{Router, Staged, Stays, ask, commit, emptied, fails, is_news, is_strange, may_lack, on_unit, stage, staged, ended_by, told_off}
-use Rattle.rtr_ends.specs.Router.{Noted, Receiving, asks, asks_if, clocked, close, closed_at, connects_at, expired, lacks, of_received, reads, receives, router_byte, router_pulled, router_stops, ticks_at, with_bytes, Speaks, Connects, Closes, called, Pulls, Ticks, RouterCall, Receives, AsksNow}
-use Rattle.rtr_ends.specs.RouterLink.{Link, Closed, Idle, Asked, Answering, Ended, is_closed, is_due, is_idle}
-use Rattle.rtr_ends.specs.Transcript.{At, Question, AskReset, AskSerial, base_of, Begun, Committed, bounded, is_over, is_serial, is_wrong, of_version, later, retry_of, sum_of}
+use Rattle.rtr_ends.specs.Router.{Noted, Receiving, asks, clocked, closed_at, connects_at, lacks, of_received, reads, receives, router_byte, router_pulled, router_stops, ticks_at, with_bytes, Speaks, Connects, Closes, called, Pulls, Ticks, RouterCall, Receives, AsksNow}
+use Rattle.rtr_ends.specs.RouterLink.{Link, Closed, Idle, Asked, Answering, Ended, is_due, is_idle}
+use Rattle.rtr_ends.specs.Transcript.{At, Question, AskReset, AskSerial, base_of, Begun, Committed, bounded, is_serial, is_wrong, of_version, retry_of, sum_of}
 use Rattle.rtr_ends.proofs.FeedingLaws.{feed_keeps}
 use Rattle.rtr_world.specs.Claims.{NamesNone, NoneByMemory, NotByMemory}
 use Rattle.rtr_world.specs.History.{Outcome, Done, Memory, Entry, LeadsFrom, after}
-use Rattle.rtr_world.specs.World.{Ending, Side, World, instances, SideEvent, RouterGets, Event, Publish, Restart, On, cache_gone, ending_of, goes_through, is_ended, is_refused, new_world, noted, router_restarts, settled, tell_closed}
+use Rattle.rtr_world.specs.World.{Ending, Side, World, instances, SideEvent, RouterGets, Event, Publish, Restart, On, cache_gone, ending_of, goes_through, is_ended, is_refused, noted, router_restarts, settled, tell_closed}
 use Rattle.rtr_world.proofs.SideLaws.{all_map, all_new, all_weaker}
 use Rattle.rtr_world.proofs.EventCalls.{refusal_keeps, IfGets, KeptByCalls, refused_at, each_settles, IsOwnCall, done_keeps, closed_by}
 use Rattle.rtr_ends.specs.declared.link.End.TheVariants as ends
