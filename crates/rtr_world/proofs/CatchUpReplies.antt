@@ -29,7 +29,7 @@ use Rattle.rtr_world.proofs.CatchUpAnswers.{other_report}
 use Rattle.rtr_world.proofs.Invariant.{after_stage, Leads, Mine, QuestionFits, Replies, no_data, not_kept, other_session, no_memory, response, nothing_yet}
 use Rattle.rtr_world.proofs.UnitsAtRouters.{first_is, no_unit, rest_is, right_response, stage_keeps}
 use Rattle.rtr_world.proofs.LinkedSides.{Seen}
-use Rattle.rtr_world.proofs.UnitStreams.{Begun as BegunUnit, ByteCase, partly, notified, wholly, byte_case, Stream}
+use Rattle.rtr_world.proofs.UnitStreams.{Begun as BegunUnit, byte_case, Stream, case_by}
 use Rattle.rtr_world.proofs.Versions.{TableAt}
 use Rattle.prefixes.proofs.Basics.{eq_true, true_of_not}
 
@@ -159,36 +159,23 @@ module _ (all : List Instance) (h : Seen) (pv : Version) (q : Question) (lacking
       commits_on rest k a (EndOfData0 one number) one number default_intervals (leads.1 ∙ sym own) none (none_after k.spoken rest more leads.0 (subst (λ x. Stream x rest (in_version k.spoken more)) held s)) o
   answered rest k a u more serial set none held own s leads o of = absurd leads
 
-  -- a PDU is read, or memory for it runs out
-  by_memory : (rest : List ℕ) (k : Router) (u : Unit) (w : Bool) → (w ≡ true → lacking) → k.out ≡ [] → Phase rest (on_unit k.link u k) → Phase rest (if w then lacks u k else reads u k).router
-  by_memory rest k u true lack none on = ended ends.Memory refl none (inl (lack refl))
-  by_memory rest k u false lack none on = on
-
   wants : (may memory : Bool) → (memory ≡ false → lacking) → (may && not memory) ≡ true → lacking
   wants may true lack e = false_true (sym (and-false may) ∙ e)
   wants may false lack e = lack refl
 
   bytes_read : (rest : List ℕ) (r : Router) (b : ℕ) (memory : Bool) → (memory ≡ false → lacking) → is_reading r.link ≡ true → Phase (b ∷ rest) r → Phase rest (with_bytes memory (r.held ++ b ∷ []) r (judge r.spoken (not r.agreed) (r.held ++ b ∷ []))).router
-  bytes_read rest r b memory lack live (waits units is none f t s replies lacked shown of) = by_case (byte_case r.spoken r.agreed r.held b rest [] units (refl, λ e. refl) s)
-    where
-      by_case : ByteCase r.spoken r.agreed r.held b rest [] units → Phase rest (with_bytes memory (r.held ++ b ∷ []) r (judge r.spoken (not r.agreed) (r.held ++ b ∷ []))).router
-      by_case (partly e s) = subst (λ j. Phase rest (with_bytes memory (r.held ++ b ∷ []) r j).router) (sym e) (waits units is none f t s replies lacked shown of)
-      by_case (notified session serial rest none e s) = absurd (no_unit (SerialNotify session serial) rest (sym none))
-      by_case (wholly none_early u more units_are e fit s) =
-          let k : Router = record r { held = [] } in
-          subst (λ j. Phase rest (with_bytes memory (r.held ++ b ∷ []) r j).router) (sym e)
-          (by_memory rest (record r { held = [] }) u (may_lack r.link u r && not memory) (wants (may_lack r.link u r) memory lack) none
-          (subst (λ l. Phase rest (on_unit l u (record r { held = [] }))) (sym is) (replied rest (record r { held = [] }) u more none refl f t s (subst (λ x. Replies all r.spoken h q (base_of q r.table) x) units_are replies)
-          (λ e. lacked (units_are ∙ e)) (subst Shown units_are shown) of)))
-  bytes_read rest r b memory lack live (goes_on a units serial set is none own s leads o of) = by_case (byte_case r.spoken r.agreed r.held b rest [] units (refl, λ e. refl) s)
-    where
-      by_case : ByteCase r.spoken r.agreed r.held b rest [] units → Phase rest (with_bytes memory (r.held ++ b ∷ []) r (judge r.spoken (not r.agreed) (r.held ++ b ∷ []))).router
-      by_case (partly e s) = subst (λ j. Phase rest (with_bytes memory (r.held ++ b ∷ []) r j).router) (sym e) (goes_on a units serial set is none own s leads o of)
-      by_case (notified session serial rest none e s) = absurd (no_unit (SerialNotify session serial) rest (sym none))
-      by_case (wholly none_early u more units_are e fit s) =
-          subst (λ j. Phase rest (with_bytes memory (r.held ++ b ∷ []) r j).router) (sym e)
-          (by_memory rest (record r { held = [] }) u (may_lack r.link u r && not memory) (wants (may_lack r.link u r) memory lack) none
-          (subst (λ l. Phase rest (on_unit l u (record r { held = [] }))) (sym is) (answered rest (record r { held = [] }) a u more serial set none refl own s (subst (λ x. Leads (base_of a.question r.table) a x h.session serial set) units_are leads) o of)))
+  bytes_read rest r b memory lack live (waits units is none f t s replies lacked shown of) =
+      let k : Router = record r { held = [] } in
+      case_by (λ n. Phase rest n.router) r b memory rest [] units (byte_case r.spoken r.agreed r.held b rest [] units (refl, λ e. refl) s) (λ s. waits units is none f t s replies lacked shown of)
+      (λ u w. ended ends.Memory refl none (inl (wants (may_lack r.link u r) memory lack w))) (λ session serial left e s. absurd (no_unit (SerialNotify session serial) left (sym e)))
+      (λ u more alone units_are s. subst (λ l. Phase rest (on_unit l u k)) (sym is)
+      (replied rest k u more none refl f t s (subst (λ x. Replies all r.spoken h q (base_of q r.table) x) units_are replies) (λ e. lacked (units_are ∙ e)) (subst Shown units_are shown) of))
+  bytes_read rest r b memory lack live (goes_on a units serial set is none own s leads o of) =
+      let k : Router = record r { held = [] } in
+      case_by (λ n. Phase rest n.router) r b memory rest [] units (byte_case r.spoken r.agreed r.held b rest [] units (refl, λ e. refl) s) (λ s. goes_on a units serial set is none own s leads o of)
+      (λ u w. ended ends.Memory refl none (inl (wants (may_lack r.link u r) memory lack w))) (λ session serial left e s. absurd (no_unit (SerialNotify session serial) left (sym e)))
+      (λ u more alone units_are s. subst (λ l. Phase rest (on_unit l u k)) (sym is)
+      (answered rest k a u more serial set none refl own s (subst (λ x. Leads (base_of a.question r.table) a x h.session serial set) units_are leads) o of))
   bytes_read rest r b memory lack live (rests is none e o) = absurd (let k : b ∷ rest ≡ [] = e in cc)
   bytes_read rest r b memory lack live (again serial is out held m t e o of) = absurd (let k : b ∷ rest ≡ [] = e in cc)
   bytes_read rest r b memory lack live (ended end is none why) = false_true (ap is_reading (sym is) ∙ live)

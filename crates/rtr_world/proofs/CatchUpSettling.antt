@@ -19,10 +19,7 @@ use Rattle.rtr_ends.proofs.FetchStreamLaws.{open_link}
 -- A live link whose connection goes on is left as it is.
 pub settle_open : (all : List Instance) (s : Side) (o : Conn) → s.conn ≡ Some o → (o.state.ended ≡ true → o.state.due ≡ [] → ⊥) → is_reading s.router.link ≡ true → settle all s ≡ s
 settle_open all s o e goes live = stays all s (record {
-  conn_on = subst GoesOn (sym e) goes;
-  link_on = reading_on s.router.link live;
-  none_down = λ c. false_true (sym (open_link s.router.link live) ∙ c);
-  none_open = λ c. false_true (sym (open_link s.router.link live) ∙ c);
+  cleared = record { conn_on = subst GoesOn (sym e) goes; link_on = reading_on s.router.link live; none_down = λ c. false_true (sym (open_link s.router.link live) ∙ c); none_open = λ c. false_true (sym (open_link s.router.link live) ∙ c) };
   told = λ n. absurd (let k : Some o ≡ None = sym e ∙ n in cc);
 })
 

@@ -1,6 +1,5 @@
 -- A router that connected holds the newest version where its link is idle: its own moves keep that.
 use Rattle.rtr_world.proofs.RouterCases.{expired_by, close_by}
-use Rattle.rtr_world.proofs.UnitCases.{either_by}
 use Rattle.std.specs.Prelude.{◌≡◌, ℕ, ◌≤◌, Bool, true, false, not, ◌&&◌, nat_lt, List, [], ◌∷◌, ◌++◌, length, take, drop, Option, Some, if◌then◌else◌, refl}
 use Rattle.std.proofs.Common.{sym, ap, ◌∙◌, subst, subst₂}
 use Rattle.std.proofs.lemmas.Bool.{and_parts}
@@ -24,12 +23,12 @@ use Rattle.rtr_world.specs.CatchUp.{IsMove}
 use Rattle.rtr_world.specs.History.{conn_due}
 use Rattle.rtr_world.specs.OneAnswer.{without_notifies}
 use Rattle.rtr_world.specs.World.{Side, World, instances, SideEvent, Connect, RouterSends, CacheGets, CacheSends, RouterGets, Cut, connects, router_sends, cache_sends, cache_gets, router_gets, cut, side_step, side_part, side_refused, settle, tell_closed}
-use Rattle.rtr_world.proofs.EventCalls.{told_closes, gets_keep, sends_keep, settle_keeps}
+use Rattle.rtr_world.proofs.EventCalls.{told_closes, gets_keep, sends_keep, settle_keeps, lesser, part_by}
 use Rattle.rtr_world.proofs.CatchUpUnits.{Current, IsCurrent, on_notice, unit_current}
 use Rattle.rtr_world.proofs.Invariant.{Flow, Good, GoodRouter, Live, Shape}
 use Rattle.rtr_world.proofs.LinkedSides.{Seen, IsSeen}
 use Rattle.rtr_world.proofs.SideSteps.{byte_good, clocked_good, live_of}
-use Rattle.rtr_world.proofs.UnitStreams.{ByteCase, partly, notified, wholly, byte_case}
+use Rattle.rtr_world.proofs.UnitStreams.{ByteCase, byte_case, either_by, case_by}
 use Rattle.rtr_world.proofs.Versions.{Present, TableAt, some_is}
 use Rattle.prefixes.proofs.Basics.{true_of_not}
 
@@ -94,9 +93,7 @@ clocked_fresh i home r h = by_clock (is_over r.version (later r.now r.now)) refl
     expires : (l : Link) → r.link ≡ l → is_over r.version (later r.now r.now) ≡ true → FreshLink i home (expired l k)
     expires Closed is over = dead_fresh i home (emptied k) (ap is_reading is)
     expires (Ended end) is over = dead_fresh i home (emptied k) (ap is_reading is)
-    expires Idle is over = absurd (live_over Idle is refl over)
-    expires (Asked q) is over = absurd (live_over (Asked q) is refl over)
-    expires (Answering a) is over = absurd (live_over (Answering a) is refl over)
+    expires l is over = absurd (live_over l is refl over)
 
     by_clock : (b : Bool) → is_over r.version (later r.now r.now) ≡ b → FreshLink i home (if b then expired k.link k else k)
     by_clock true over = expires r.link refl over
@@ -120,7 +117,7 @@ clocked_lasts now r = close_by (λ x. is_over x.version x.now ≡ false) (clocke
 -- No byte changes the version of the next connection.
 bytes_speak : (memory : Bool) (bytes : List ℕ) (r : Router) (j : Judgement) → (with_bytes memory bytes r j).router.speaks ≡ r.speaks
 bytes_speak memory bytes r (Whole u) =
-    let k : Router = record r { held = [] } in either_by (λ n. n.router.speaks ≡ r.speaks) u k (may_lack r.link u r && not memory) refl (unit_held r.link u k).1
+    let k : Router = record r { held = [] } in either_by (λ n. n.router.speaks ≡ r.speaks) u k (may_lack r.link u r && not memory) (λ e. refl) (unit_held r.link u k).1
 bytes_speak memory bytes r _ = refl
 
 pub byte_speaks : (m : Receiving) (b : ℕ) → (router_byte m b).router.speaks ≡ m.router.speaks
@@ -141,28 +138,12 @@ seen_made keep i pv home seen h of he se is =
 module _ (all : List Instance) (i : Instance) (p : Present all i) (keep : ℕ) (home : Option Instance) (seen : Option Seen) (is_seen : IsSeen keep home seen) (conn : Option Conn) (up : List ℕ) where
   byte_current : (down : List ℕ) (r : Router) (b : ℕ) (memory : Bool) (h : Seen) (m : Made i r.spoken h) (f : Flow all i h r conn up (b ∷ down)) → is_reading r.link ≡ true → TableAt all r.version r.table → IsCurrent r.spoken i r
       → ByteCase r.spoken r.agreed r.held b (down ++ (conn_due conn ++ f.lost)) f.early f.coming → IsCurrent r.spoken i (with_bytes memory (r.held ++ b ∷ []) r (judge r.spoken (not r.agreed) (r.held ++ b ∷ []))).router
-  byte_current down r b memory h m f live table c (partly e s) = subst (λ j. IsCurrent r.spoken i (with_bytes memory (r.held ++ b ∷ []) r j).router) (sym e) c
-  byte_current down r b memory h m f live table c (notified session serial rest is e s) =
-      subst (λ j. IsCurrent r.spoken i (with_bytes memory (r.held ++ b ∷ []) r j).router) (sym e) (by_memory (may_lack r.link (SerialNotify session serial) r && not memory))
-    where
-      k : Router
-      k = record r { held = [] }
-
-      by_memory : (w : Bool) → IsCurrent r.spoken i (if w then lacks (SerialNotify session serial) k else reads (SerialNotify session serial) k).router
-      by_memory true = tt
-      by_memory false = on_notice all i p r.spoken h m.made m.session m.sets k r.link session serial refl live c
-  byte_current down r b memory h m f live table c (wholly none u more is e fit s) =
-      subst (λ j. IsCurrent r.spoken i (with_bytes memory (r.held ++ b ∷ []) r j).router) (sym e) (by_memory (may_lack r.link u r && not memory))
-    where
-      k : Router
-      k = record r { held = [] }
-
-      shape : Shape all r.spoken h r.link r.agreed r.version r.table f.wanted (without_notifies (u ∷ more))
-      shape = subst (λ x. Shape all r.spoken h r.link r.agreed r.version r.table f.wanted (without_notifies x)) is f.shape
-
-      by_memory : (w : Bool) → IsCurrent r.spoken i (if w then lacks u k else reads u k).router
-      by_memory true = tt
-      by_memory false = unit_current all i p r.spoken h m.made m.session m.sets k r.link u more f.wanted refl refl live table shape c
+  byte_current down r b memory h m f live table c case =
+      let k : Router = record r { held = [] } in
+      case_by (λ n. IsCurrent r.spoken i n.router) r b memory (down ++ (conn_due conn ++ f.lost)) f.early f.coming case (λ s. c) (λ u w. tt)
+      (λ session serial left is s. on_notice all i p r.spoken h m.made m.session m.sets k r.link session serial refl live c)
+      (λ u more alone is s. unit_current all i p r.spoken h m.made m.session m.sets k r.link u more f.wanted refl refl live table
+      (subst (λ x. Shape all r.spoken h r.link r.agreed r.version r.table f.wanted (without_notifies x)) is f.shape) c)
 
   abbrev Stays : List ℕ → Receiving → Type 0
   Stays down m = GoodRouter all i seen conn up down m.router × FreshLink i home m.router
@@ -244,14 +225,12 @@ module _ (w : World) (p : Present (instances w) w.present) where
   step_fresh (Cut left) wanting s is g h = cut_fresh left s h
   step_fresh _ wanting s is g h = absurd is
 
+  lesser_move : (event : SideEvent) (bytes : ℕ) → IsMove event → IsMove (lesser event bytes)
+  lesser_move Connect bytes is = is
+  lesser_move _ bytes is = is
+
   part_fresh : (event : SideEvent) (bytes : ℕ) (wanting : Option ℕ) (s : Side) → IsMove event → GoodS s → FreshS s → FreshS (side_part w event bytes wanting s)
-  part_fresh Connect bytes wanting s is g h = h
-  part_fresh (RouterSends most) bytes wanting s is g h = sends_fresh bytes s h
-  part_fresh (CacheGets most) bytes wanting s is g h = cache_gets_fresh bytes wanting s h
-  part_fresh (CacheSends most) bytes wanting s is g h = cache_sends_fresh bytes s h
-  part_fresh (RouterGets most) bytes wanting s is g h = router_gets_fresh bytes wanting s g h
-  part_fresh (Cut left) bytes wanting s is g h = h
-  part_fresh _ bytes wanting s is g h = absurd is
+  part_fresh event bytes wanting s is g h = part_by FreshS w event bytes wanting s h (λ m. step_fresh (lesser event bytes) wanting s (lesser_move event bytes is) g h)
 
   pub refused_fresh : (event : SideEvent) (bytes : ℕ) (wanting : Option ℕ) (s : Side) → IsMove event → GoodS s → FreshS s → FreshS (side_refused w event bytes wanting s)
   unfolding side_refused

@@ -28,11 +28,16 @@ pub record IsTold (s : Side) : Type 0 where
   pub read : s.read_at ≡ None
   pub up : s.up ≡ []
 
-pub record Rests (s : Side) : Type 0 where
+-- no link has ended, and nothing is on the way to a closed one
+pub record Cleared (s : Side) : Type 0 where
   pub conn_on : GoesOn s.conn
   pub link_on : is_ended s.router.link ≡ false
   pub none_down : is_closed s.router.link ≡ true → s.down ≡ []
   pub none_open : is_closed s.router.link ≡ true → s.up ≡ [] → s.conn ≡ None
+
+pub record Rests (s : Side) : Type 0 where
+  pub cleared : Cleared s
+  pub open cleared use *
   pub told : s.conn ≡ None → s.down ≡ [] → IsTold s
 
 closed_goes_on : (l : Link) → is_closed l ≡ true → is_ended l ≡ false
@@ -84,12 +89,6 @@ link_goes_on all s (Ended end) (b ∷ out) is none = absurd (let h : b ∷ out �
 link_goes_on all s _ out is none = ap is_ended is
 
 -- what is on the way to a closed link
-record Cleared (s : Side) : Type 0 where
-  pub conn_on : GoesOn s.conn
-  pub link_on : is_ended s.router.link ≡ false
-  pub none_down : is_closed s.router.link ≡ true → s.down ≡ []
-  pub none_open : is_closed s.router.link ≡ true → s.up ≡ [] → s.conn ≡ None
-
 not_closed : (s : Side) (l : Link) → s.router.link ≡ l → is_closed l ≡ false → GoesOn s.conn → is_ended s.router.link ≡ false → Cleared s
 not_closed s l is differs on h = record {
   conn_on = on;
@@ -101,34 +100,27 @@ not_closed s l is differs on h = record {
 rest_clears : (s : Side) (l : Link) (up : List ℕ) → s.router.link ≡ l → s.up ≡ up → GoesOn s.conn → is_ended s.router.link ≡ false → Cleared (settle_rest s l up)
 rest_clears s Closed [] is e on h = record { conn_on = tt; link_on = h; none_down = λ c. refl; none_open = λ c none. refl }
 rest_clears s Closed (b ∷ up) is e on h = record { conn_on = on; link_on = h; none_down = λ c. refl; none_open = λ c none. absurd (let k : b ∷ up ≡ [] = sym e ∙ none in cc) }
-rest_clears s (Ended end) up is e on h = not_closed s (Ended end) is refl on h
-rest_clears s Idle up is e on h = not_closed s Idle is refl on h
-rest_clears s (Asked q) up is e on h = not_closed s (Asked q) is refl on h
-rest_clears s (Answering a) up is e on h = not_closed s (Answering a) is refl on h
+rest_clears s l up is e on h = not_closed s l is refl on h
 
 -- no connection
 wire_rests : (all : List Instance) (s : Side) (o : Option Conn) (down : List ℕ) → s.conn ≡ o → s.down ≡ down → Cleared s → Rests (settle_wire all s o down)
 wire_rests all s None [] is e h =
     let t = tells all s in
     record {
-      conn_on = subst GoesOn (sym (t.conn ∙ is)) tt;
-      link_on = closed_goes_on (tell_closed all s).router.link (told_closes all s);
-      none_down = λ c. t.down ∙ e;
-      none_open = λ c none. t.conn ∙ is;
+      cleared = record {
+        conn_on = subst GoesOn (sym (t.conn ∙ is)) tt;
+        link_on = closed_goes_on (tell_closed all s).router.link (told_closes all s);
+        none_down = λ c. t.down ∙ e;
+        none_open = λ c none. t.conn ∙ is;
+      };
       told = λ n d. record { closed = told_closes all s; home = t.home; read = t.read; up = refl };
     }
 wire_rests all s None (b ∷ down) is e h = record {
-  conn_on = h.conn_on;
-  link_on = h.link_on;
-  none_down = h.none_down;
-  none_open = h.none_open;
+  cleared = h;
   told = λ n d. absurd (let k : b ∷ down ≡ [] = sym e ∙ d in cc);
 }
 wire_rests all s (Some o) down is e h = record {
-  conn_on = h.conn_on;
-  link_on = h.link_on;
-  none_down = h.none_down;
-  none_open = h.none_open;
+  cleared = h;
   told = λ n d. absurd (let k : Some o ≡ None = sym is ∙ n in cc);
 }
 
@@ -203,7 +195,7 @@ after_rests event _ w fits may g t h = h
 pub history_rests : (made : Made) (history : List Entry) (w : World) → Leads made history w → AllByRecursion Rests w.sides
 history_rests made history w leads =
     (known_leads (λ x. AllByRecursion Rests x.sides) after_rests made history w leads
-    (all_new Rests (record { conn_on = tt; link_on = refl; none_down = λ c. refl; none_open = λ c none. refl; told = λ n d. record { closed = refl; home = refl; read = refl; up = refl } }) made.routers)).2
+    (all_new Rests (record { cleared = record { conn_on = tt; link_on = refl; none_down = λ c. refl; none_open = λ c none. refl }; told = λ n d. record { closed = refl; home = refl; read = refl; up = refl } }) made.routers)).2
 
 -- The clean-up after an event leaves nothing to be done.
 pub settles : Settles

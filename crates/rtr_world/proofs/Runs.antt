@@ -1,5 +1,4 @@
 -- Each router of a world is one to which calls lead.
-use Rattle.rtr_world.proofs.UnitCases.{either_by}
 use Rattle.rtr_world.proofs.RouterCases.{asks_by, clocked_by}
 use Rattle.rtr_world.proofs.WorldSteps.{Known}
 use Rattle.std.specs.Prelude.{◌≡◌, ℕ, Bool, true, false, not, ◌&&◌, List, [], ◌∷◌, ◌++◌, take, Option, refl, ⊤}
@@ -19,7 +18,7 @@ use Rattle.rtr_world.specs.History.{conn_due}
 use Rattle.rtr_world.specs.World.{Side, World, instances, noted, router_restarts, tell_closed}
 use Rattle.rtr_world.proofs.Histories.{history_keeps, Kept}
 use Rattle.rtr_world.proofs.SideSteps.{live_of}
-use Rattle.rtr_world.proofs.UnitStreams.{all_bytes, behind_early}
+use Rattle.rtr_world.proofs.UnitStreams.{all_bytes, behind_early, either_by}
 use Rattle.rtr_world.proofs.WireBytes.{low_front, low_stream, low_take}
 use Rattle.rtr_world.proofs.EventCalls.{refused_at, IsOwnCall, closed_by}
 
@@ -57,7 +56,7 @@ read_of_call memory bytes r Begins = tt
 read_of_call memory bytes r (Faulty fault) = (tt, tt)
 read_of_call memory bytes r (Whole u) =
     let n : Router = on_unit r.link u (record r { held = [] }) in
-    either_by (λ x. AreOfCall x.items) u (record r { held = [] }) (may_lack r.link u r && not memory) (tt, tt) (both_of_call (asked_by n.link n.out) (Reads u ∷ []) (asked_of_call n.link n.out) (tt, tt))
+    either_by (λ x. AreOfCall x.items) u (record r { held = [] }) (may_lack r.link u r && not memory) (λ e. (tt, tt)) (both_of_call (asked_by n.link n.out) (Reads u ∷ []) (asked_of_call n.link n.out) (tt, tt))
 
 receives_of_call : (now : ℕ) (wanting : Option ℕ) (piece : List ℕ) (r : Router) → AreOfCall (receives now wanting piece r).machine.items
 unfolding receives router_byte
@@ -118,12 +117,7 @@ gets_run w s most wanting known h = by_link (is_reading s.router.link) refl
 
 own_runs : (w : World) (s : Side) (call : RouterCall) → IsOwnCall call → SideRuns s → SideRuns (noted (instances w) (called call s.router) s)
 own_runs w s (Receives now wanting piece) own h = absurd own
-own_runs w s (Connects now) own h = one_more (Connects now) s.router s.items tt h
-own_runs w s (Pulls most) own h = one_more (Pulls most) s.router s.items tt h
-own_runs w s (Closes now) own h = one_more (Closes now) s.router s.items tt h
-own_runs w s AsksNow own h = one_more AsksNow s.router s.items tt h
-own_runs w s (Ticks now) own h = one_more (Ticks now) s.router s.items tt h
-own_runs w s (Speaks version) own h = one_more (Speaks version) s.router s.items tt h
+own_runs w s l own h = one_more l s.router s.items tt h
 
 runs_anew : (s : Side) → SideRuns s → SideRuns (router_restarts s)
 unfolding router_restarts

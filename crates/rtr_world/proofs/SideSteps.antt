@@ -13,7 +13,7 @@ use Rattle.rtr_ends.specs.declared.link.End.TheVariants as ends
 use Rattle.rtr_ends.specs.Connection.{bytes_sent, in_version}
 use Rattle.rtr_ends.specs.Cache.{Conn, is_none, finds_memory}
 use Rattle.rtr_ends.specs.LinkRules.{Router, emptied, on_unit, may_lack}
-use Rattle.rtr_ends.specs.Router.{Receiving, lacks, reads, with_bytes, router_stops, router_byte, expired, clocked, close, asks_if}
+use Rattle.rtr_ends.specs.Router.{Receiving, reads, with_bytes, router_stops, router_byte, expired, clocked, close, asks_if}
 use Rattle.rtr_ends.specs.RouterLink.{Link, Closed, Idle, Asked, Answering, Ended, is_reading, is_closed, is_idle}
 use Rattle.rtr_ends.specs.Transcript.{choose, Question, AskReset, AskSerial, query, is_serial, is_over, later, of_version, sum_of, retry_of}
 use Rattle.rtr_ends.proofs.KeptLaws.{none_is, same_base}
@@ -22,7 +22,7 @@ use Rattle.rtr_world.specs.History.{conn_due}
 use Rattle.rtr_world.specs.OneAnswer.{NotifiesOf, without_notifies}
 use Rattle.rtr_world.proofs.Invariant.{OfAnswer, Shape, QuestionFits, IfOpen, Open, Unheard, Flow, Live, GoodLink, GoodRouter}
 use Rattle.rtr_world.proofs.UnitsAtRouters.{Reads, on_early, on_notify, on_other, live_link, question_fits, query_unit, open_asking}
-use Rattle.rtr_world.proofs.UnitStreams.{Stream, ByteCase, partly, notified, wholly, byte_case, early_open}
+use Rattle.rtr_world.proofs.UnitStreams.{Stream, ByteCase, byte_case, early_open, case_by, behind_early}
 use Rattle.rtr_world.proofs.Versions.{TableAt, held_at}
 use Rattle.rtr_world.proofs.LinkedSides.{Seen}
 use Rattle.prefixes.proofs.Basics.{true_of_not}
@@ -90,17 +90,11 @@ module _ (all : List Instance) (i : Instance) (home : Option Seen) (conn : Optio
       by_header None n = absurd (let e : u ∷ more ≡ [] = n.0 in cc)
       by_header (Some version) n = tt
 
-  -- A notify takes no memory.
-  notify_frees : (l : Link) (session serial : ℕ) (r : Router) → may_lack l (SerialNotify session serial) r ≡ false
-  notify_frees (Answering a) session serial r = refl
-  notify_frees _ session serial r = refl
-
   -- it reads a byte
   byte_read : (down : List ℕ) (r : Router) (b : ℕ) (memory : Bool) (h : Seen) (f : Flow all i h r conn up (b ∷ down)) → home ≡ Some h → is_reading r.link ≡ true → r.out ≡ [] → TableAt all r.version r.table → r.mark ≡ false
       → ByteCase r.spoken r.agreed r.held b (down ++ (conn_due conn ++ f.lost)) f.early f.coming → GoodRouter all i home conn up down (with_bytes memory (r.held ++ b ∷ []) r (judge r.spoken (not r.agreed) (r.held ++ b ∷ []))).router
-  byte_read down r b memory h f eh live none table mark (partly e s) =
-      let k : Router = record r { held = r.held ++ b ∷ [] } in
-      subst (λ j. GoodRouter all i home conn up down (with_bytes memory (r.held ++ b ∷ []) r j).router) (sym e) (record {
+  byte_read down r b memory h f eh live none table mark case =
+      case_by (λ n. GoodRouter all i home conn up down n.router) r b memory (down ++ (conn_due conn ++ f.lost)) f.early f.coming case (λ s. record {
         table = table;
         unmarked = mark;
         link = live_link all i home conn up down (record r { held = r.held ++ b ∷ [] }) r.link refl live (
@@ -108,60 +102,45 @@ module _ (all : List Instance) (i : Instance) (home : Option Seen) (conn : Optio
           eh,
           record { early = f.early; coming = f.coming; lost = f.lost; wanted = f.wanted; said = f.said; downward = s; open_at = f.open_at },
         );
-      })
-  byte_read down r b memory h f eh live none table mark (notified session serial rest is e s) =
-      subst (λ j. GoodRouter all i home conn up down (with_bytes memory (r.held ++ b ∷ []) r j).router) (sym e)
-      (subst (λ w. GoodRouter all i home conn up down (if w && not memory then lacks (SerialNotify session serial) k else reads (SerialNotify session serial) k).router) (sym (notify_frees r.link session serial r))
-      (on_early all i home conn up down k r.link session serial h left eh refl live open_yet table mark))
+      }) (λ u w. record { table = table; unmarked = mark; link = none }) early read
     where
       k : Router
       k = record r { held = [] }
 
-      open_yet : r.agreed ≡ false
-      open_yet = early_open r.agreed session serial rest (λ a. sym is ∙ f.are_early.1 a)
+      early : (session serial : ℕ) (rest : List Unit) → f.early ≡ SerialNotify session serial ∷ rest → Stream [] (down ++ (conn_due conn ++ f.lost)) (behind_early r.spoken rest f.coming) → GoodRouter all i home conn up down (on_unit r.link (SerialNotify session serial) k)
+      early session serial rest is s =
+          let open_yet : r.agreed ≡ false = early_open r.agreed session serial rest (λ a. sym is ∙ f.are_early.1 a) in
+          on_early all i home conn up down k r.link session serial h (record {
+            early = rest;
+            coming = f.coming;
+            lost = f.lost;
+            wanted = f.wanted;
+            said = record { version = f.version; are_early = (subst (λ x. without_notifies x ≡ []) is f.are_early.0, λ a. false_true (sym open_yet ∙ a)); early_notifies = (subst (λ x. NotifiesOf h.made.session x) is f.early_notifies).1; notifies = f.notifies; own = f.own; mine = f.mine; shape = f.shape };
+            downward = s;
+            open_at = f.open_at;
+          }) eh refl live open_yet table mark
 
-      left : Flow all i h k conn up down
-      left = record {
-        early = rest;
-        coming = f.coming;
-        lost = f.lost;
-        wanted = f.wanted;
-        said = record { version = f.version; are_early = (subst (λ x. without_notifies x ≡ []) is f.are_early.0, λ a. false_true (sym open_yet ∙ a)); early_notifies = (subst (λ x. NotifiesOf h.made.session x) is f.early_notifies).1; notifies = f.notifies; own = f.own; mine = f.mine; shape = f.shape };
-        downward = s;
-        open_at = f.open_at;
-      }
-  byte_read down r b memory h f eh live none table mark (wholly alone u more is e fit s) =
-      subst (λ j. GoodRouter all i home conn up down (with_bytes memory (r.held ++ b ∷ []) r j).router) (sym e) (by_memory (may_lack r.link u r && not memory))
-    where
-      k : Router
-      k = record r { held = [] }
-
-      notes : NotifiesOf h.session (u ∷ more)
-      notes = subst (λ x. NotifiesOf h.session x) is f.notifies
-
-      d : Reads all i home conn up down k more
-      d = record {
-        comes = record {
-          h = h;
-          is_home = eh;
-          lost = f.lost;
-          wanted = f.wanted;
-          version = f.version;
-          downward = s;
-          open_at = λ agreed. heard h r.spoken [] f.wanted u more r.agreed agreed f.lost conn (subst₂ (λ x y. IfOpen conn (Open i r.spoken h x up f.wanted y r.agreed f.lost)) none is f.open_at);
-          notifies = notifies_rest h.session u more notes;
-        };
-        own = f.own;
-        mine = f.mine;
-        none = none;
-        held = refl;
-        table = table;
-        unmarked = mark;
-      }
-
-      by_memory : (w : Bool) → GoodRouter all i home conn up down (if w then lacks u k else reads u k).router
-      by_memory true = record { table = table; unmarked = mark; link = none }
-      by_memory false = unit_read down k more u (head_case u more) d live notes (subst (λ x. Shape all r.spoken h r.link r.agreed r.version r.table f.wanted (without_notifies x)) is f.shape)
+      read : (u : Unit) (more : List Unit) → f.early ≡ [] → f.coming ≡ u ∷ more → Stream [] (down ++ (conn_due conn ++ f.lost)) (behind_early r.spoken [] more) → GoodRouter all i home conn up down (on_unit r.link u k)
+      read u more alone is s =
+          let notes : NotifiesOf h.session (u ∷ more) = subst (λ x. NotifiesOf h.session x) is f.notifies in
+          unit_read down k more u (head_case u more) (record {
+            comes = record {
+              h = h;
+              is_home = eh;
+              lost = f.lost;
+              wanted = f.wanted;
+              version = f.version;
+              downward = s;
+              open_at = λ agreed. heard h r.spoken [] f.wanted u more r.agreed agreed f.lost conn (subst₂ (λ x y. IfOpen conn (Open i r.spoken h x up f.wanted y r.agreed f.lost)) none is f.open_at);
+              notifies = notifies_rest h.session u more notes;
+            };
+            own = f.own;
+            mine = f.mine;
+            none = none;
+            held = refl;
+            table = table;
+            unmarked = mark;
+          }) live notes (subst (λ x. Shape all r.spoken h r.link r.agreed r.version r.table f.wanted (without_notifies x)) is f.shape)
 
   pub byte_good : (down : List ℕ) (m : Receiving) (b : ℕ) → router_stops m.router ≡ false → GoodRouter all i home conn up (b ∷ down) m.router → GoodRouter all i home conn up down (router_byte m b).router
   unfolding router_byte

@@ -7,7 +7,7 @@ use Rattle.vrps.specs.VrpSet.{VrpSet}
 use Rattle.rtr_pdu.specs.declared.unit.Unit.{Unit}
 use Rattle.rtr_pdu.specs.declared.unit.Unit.TheVariants.{SerialNotify, CacheResponse, Prefix, EndOfData, EndOfData0, CacheReset}
 use Rattle.rtr_ends.specs.Answer.{report}
-use Rattle.rtr_ends.specs.LinkRules.{Router, Staged, Stays, ask, fails, is_strange, is_news, stage, staged, commit, on_unit, may_lack}
+use Rattle.rtr_ends.specs.LinkRules.{Router, Staged, Stays, ask, fails, is_strange, is_news, stage, staged, commit, on_unit}
 use Rattle.rtr_ends.specs.Timing.{Intervals, default_intervals}
 use Rattle.rtr_ends.specs.RouterLink.{Link, Closed, Idle, Asked, Answering, Ended, is_reading}
 use Rattle.rtr_ends.specs.Transcript.{Begun, Committed, Question, AskReset, AskSerial, base_of, led_to, session_of, differs, is_wrong, bounded, of_version}
@@ -24,7 +24,7 @@ use Rattle.rtr_pdu.specs.Judging.{judge}
 use Rattle.rtr_ends.specs.Cache.{Conn}
 use Rattle.rtr_ends.specs.Router.{Noted, silent, reads, lacks, with_bytes}
 use Rattle.rtr_world.specs.History.{conn_due}
-use Rattle.rtr_world.proofs.UnitStreams.{ByteCase, partly, notified, wholly, early_open}
+use Rattle.rtr_world.proofs.UnitStreams.{ByteCase, early_open, case_by}
 use Rattle.rtr_ends.specs.declared.link.End.TheVariants as ends
 
 abbrev pub is_end : Unit → Bool
@@ -163,23 +163,15 @@ module _ (all : List Instance) (h : Seen) (r : Router) where
       by_head (another e) = others l live (subst (λ x. Shape all r.spoken h l r.agreed r.version r.table wanted x) e shape)
 
 -- A byte that comes on a link that lives is kept, or a PDU is whole with it that belongs there, or memory runs out at that PDU.
-pub either_by : (P : Noted → Type 0) (u : Unit) (k : Router) (b : Bool) → P (lacks u k) → P (reads u k) → P (if b then lacks u k else reads u k)
-either_by P u k true l d = l
-either_by P u k false l d = d
-
 module _ (all : List Instance) (i : Instance) (seen : Option Seen) (conn : Option Conn) (up : List ℕ) where
   pub byte_by : (P : Noted → Type 0) (down : List ℕ) (r : Router) (b : ℕ) (memory : Bool) (h : Seen) (f : Flow all i h r conn up (b ∷ down)) → is_reading r.link ≡ true
       → ByteCase r.spoken r.agreed r.held b (down ++ (conn_due conn ++ f.lost)) f.early f.coming → P (silent (record r { held = r.held ++ b ∷ [] })) → ((u : Unit) → P (lacks u (record r { held = [] })))
       → ((u : Unit) → Brings all h (record r { held = [] }) r.link u (on_unit r.link u (record r { held = [] })) → P (reads u (record r { held = [] })))
       → P (with_bytes memory (r.held ++ b ∷ []) r (judge r.spoken (not r.agreed) (r.held ++ b ∷ [])))
-  byte_by P down r b memory h f live (partly e s) part lack read = subst (λ j. P (with_bytes memory (r.held ++ b ∷ []) r j)) (sym e) part
-  byte_by P down r b memory h f live (notified session serial rest is e s) part lack read =
+  byte_by P down r b memory h f live case part lack read =
       let k : Router = record r { held = [] } in
-      let u : Unit = SerialNotify session serial in
-      subst (λ j. P (with_bytes memory (r.held ++ b ∷ []) r j)) (sym e) (either_by P u k (may_lack r.link u r && not memory) (lack u)
-      (read u (early_brings all h k session serial live (early_open r.agreed session serial rest (λ a. sym is ∙ f.are_early.1 a)))))
-  byte_by P down r b memory h f live (wholly alone u more is e fit s) part lack read =
-      let k : Router = record r { held = [] } in
-      subst (λ j. P (with_bytes memory (r.held ++ b ∷ []) r j)) (sym e) (either_by P u k (may_lack r.link u r && not memory) (lack u) (read u
+      case_by P r b memory (down ++ (conn_due conn ++ f.lost)) f.early f.coming case (λ s. part) (λ u w. lack u)
+      (λ session serial rest is s. read (SerialNotify session serial) (early_brings all h k session serial live (early_open r.agreed session serial rest (λ a. sym is ∙ f.are_early.1 a))))
+      (λ u more alone is s. read u
       (unit_brings all h k r.link u more f.wanted refl live f.own f.mine (λ q. right_response all i seen conn up down h.session q (of_version r.spoken r.version)) (subst (λ x. NotifiesOf h.session x) is f.notifies)
-      (subst (λ x. Shape all r.spoken h r.link r.agreed r.version r.table f.wanted (without_notifies x)) is f.shape))))
+      (subst (λ x. Shape all r.spoken h r.link r.agreed r.version r.table f.wanted (without_notifies x)) is f.shape)))

@@ -1,5 +1,7 @@
 -- A stream of bytes that spells PDUs, read byte by byte.
-use Rattle.std.specs.Prelude.{◌≡◌, ◌⊎◌, ℕ, ◌<◌, nat_lt, Bool, true, false, not, List, [], ◌∷◌, ◌++◌, length, Option, Some, None, if◌then◌else◌, ⊤, refl}
+use Rattle.rtr_ends.specs.Router.{Noted, silent, reads, lacks, with_bytes}
+use Rattle.rtr_ends.specs.LinkRules.{Router, may_lack}
+use Rattle.std.specs.Prelude.{◌≡◌, ◌⊎◌, ℕ, ◌<◌, nat_lt, Bool, true, false, not, List, [], ◌∷◌, ◌++◌, length, Option, Some, None, if◌then◌else◌, ⊤, refl, ◌&&◌}
 use Rattle.std.proofs.Common.{sym, ap, ◌∙◌, subst, subst₂, arith, append_assoc, inl, inr, zero, suc}
 use Rattle.std.specs.List.{AllByRecursion}
 use Rattle.std.proofs.lemmas.Bool.Decides.{nat_tests}
@@ -299,3 +301,21 @@ pub all_bytes : (bytes : List ℕ) → AllByRecursion (λ b. b < 256) bytes → 
 all_bytes [] h i = omega arith
 all_bytes (b ∷ bytes) h zero = h.0
 all_bytes (b ∷ bytes) h (suc i) = all_bytes bytes h.1 i
+
+pub either_by : (P : Noted → Type 0) (u : Unit) (k : Router) (b : Bool) → (b ≡ true → P (lacks u k)) → P (reads u k) → P (if b then lacks u k else reads u k)
+either_by P u k true l d = l refl
+either_by P u k false l d = d
+
+-- What holds where a byte is kept, where memory runs out at the PDU that is whole with it, and where that is read, holds behind each byte.
+pub case_by : (P : Noted → Type 0) (r : Router) (b : ℕ) (memory : Bool) (rest : List ℕ) (early coming : List Unit) → ByteCase r.spoken r.agreed r.held b rest early coming
+    → (Stream (r.held ++ b ∷ []) rest (behind_early r.spoken early coming) → P (silent (record r { held = r.held ++ b ∷ [] })))
+    → ((u : Unit) → (may_lack r.link u r && not memory) ≡ true → P (lacks u (record r { held = [] })))
+    → ((session serial : ℕ) (left : List Unit) → early ≡ SerialNotify session serial ∷ left → Stream [] rest (behind_early r.spoken left coming) → P (reads (SerialNotify session serial) (record r { held = [] })))
+    → ((u : Unit) (more : List Unit) → early ≡ [] → coming ≡ u ∷ more → Stream [] rest (behind_early r.spoken [] more) → P (reads u (record r { held = [] })))
+    → P (with_bytes memory (r.held ++ b ∷ []) r (judge r.spoken (not r.agreed) (r.held ++ b ∷ [])))
+case_by P r b memory rest early coming (partly e s) part lack notify read = subst (λ j. P (with_bytes memory (r.held ++ b ∷ []) r j)) (sym e) (part s)
+case_by P r b memory rest early coming (notified session serial left is e s) part lack notify read =
+    let u : Unit = SerialNotify session serial in
+    subst (λ j. P (with_bytes memory (r.held ++ b ∷ []) r j)) (sym e) (either_by P u (record r { held = [] }) (may_lack r.link u r && not memory) (lack u) (notify session serial left is s))
+case_by P r b memory rest early coming (wholly alone u more is e fit s) part lack notify read =
+    subst (λ j. P (with_bytes memory (r.held ++ b ∷ []) r j)) (sym e) (either_by P u (record r { held = [] }) (may_lack r.link u r && not memory) (lack u) (read u more alone is s))
