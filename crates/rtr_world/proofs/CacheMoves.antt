@@ -33,8 +33,7 @@ use Rattle.rtr_world.proofs.Invariant.{OneReply, QuestionFits, Replies, no_memor
 use Rattle.rtr_world.proofs.UnitsAtRouters.{live_link, no_unit}
 use Rattle.rtr_world.proofs.SideSteps.{live_of}
 use Rattle.rtr_world.proofs.UnitStreams.{MaySpeak, Stream, byte_version, held_version, ByteCase, partly, notified, wholly, behind_early, byte_case, stream-append, stream-early, all_bytes}
-use Rattle.rtr_world.proofs.Versions.{TableAt, Present, held_at}
-use Rattle.rtr_world.proofs.LinkedSides.{Seen, reads_now, seen_after}
+use Rattle.rtr_world.proofs.Versions.{TableAt, Present, held_at, Seen, reads_now, seen_after}
 
 none_is : (out : List ℕ) → not (is_none out) ≡ false → out ≡ []
 none_is [] h = refl

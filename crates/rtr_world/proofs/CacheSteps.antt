@@ -31,8 +31,7 @@ use Rattle.rtr_world.specs.World.{timing}
 use Rattle.rtr_world.proofs.AnswerLaws.{Plain, plain-append, plain_records, change_leads, whole_leads}
 use Rattle.rtr_world.proofs.Invariant.{FromCache, WasCache, Leads, NoneWithdrawn, WithdrawsFirst, QuestionFits, IsOwn, Replies, nothing_yet, no_data, not_kept, other_session, response}
 use Rattle.rtr_world.proofs.UnitStreams.{all-append, all_bytes}
-use Rattle.rtr_world.proofs.Versions.{HeldAt, Stands, Present, kept_at, has_sets, of_present, find_session}
-use Rattle.rtr_world.proofs.LinkedSides.{Seen}
+use Rattle.rtr_world.proofs.Versions.{HeldAt, Stands, Present, kept_at, has_sets, of_present, find_session, Seen}
 use Rattle.prefixes.proofs.Basics.{eq_of, eq_true}
 
 not_both : (b : Bool) → b ≡ true → b ≡ false → ⊥

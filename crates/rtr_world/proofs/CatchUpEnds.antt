@@ -10,14 +10,12 @@ use Rattle.rtr_ends.specs.Transcript.{AskReset, Committed, Question, choose, is_
 use Rattle.rtr_ends.proofs.TableLaws.{false_true}
 use Rattle.rtr_world.specs.CatchUp.{EachCatchesUp, IdleAfter, IdleNext, IdleSoon, Rests, RestsNext, RestsSo, RestsSoon, RoundsEnd, round}
 use Rattle.rtr_world.specs.World.{Side, World, instances, connects, settle}
-use Rattle.rtr_world.proofs.CatchUpQuestions.{Asks}
-use Rattle.rtr_world.proofs.CatchUpRounds.{Ends, asks_all, closes, idles, round_ends}
+use Rattle.rtr_world.proofs.CatchUpRounds.{Ends, asks_all, closes, idles, round_ends, Asks}
 use Rattle.rtr_world.proofs.CatchUpSettling.{Emptied, clocked_emptied, clocked_none, settle_open}
 use Rattle.rtr_world.proofs.Invariant.{Good, Mine, QuestionFits}
 use Rattle.rtr_world.proofs.UnitsAtRouters.{first_fits}
-use Rattle.rtr_world.proofs.LinkedSides.{Seen, seen_at}
 use Rattle.rtr_world.proofs.SideSteps.{clocked_good, close_shut}
-use Rattle.rtr_world.proofs.Versions.{Present, TableAt}
+use Rattle.rtr_world.proofs.Versions.{Present, TableAt, Seen, seen_at}
 use Rattle.rtr_world.proofs.WorldSteps.{always}
 
 module _ (w : World) (p : Present (instances w) w.present) where

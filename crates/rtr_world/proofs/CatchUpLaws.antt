@@ -8,8 +8,7 @@ use Rattle.rtr_ends.specs.RouterLink.{Link, Closed, Idle, Ended, is_reading}
 use Rattle.rtr_world.specs.CatchUp.{AreMoves, IdleIsCurrent, IsFresh, IsMove, IsMoveOf}
 use Rattle.rtr_world.specs.History.{Outcome, Done, Memory, after, Entry, LeadsFrom, side_at}
 use Rattle.rtr_world.specs.World.{Side, World, instances, SideEvent, Connect, Event, On, goes_through, is_refused, new_world, on_side, settle, settled, side_refused, side_step}
-use Rattle.rtr_world.proofs.CatchUpSides.{Fresh, FreshLink, connects_fresh, refused_fresh, settle_fresh, step_fresh}
-use Rattle.rtr_world.proofs.CatchUpUnits.{Current}
+use Rattle.rtr_world.proofs.CatchUpSides.{Fresh, FreshLink, connects_fresh, refused_fresh, settle_fresh, step_fresh, Current}
 use Rattle.rtr_world.proofs.Invariant.{Good}
 use Rattle.rtr_world.proofs.SideLaws.{all_new}
 use Rattle.rtr_world.proofs.KeptTables.{AllTell, SideTells, after_tells, new_side_tells}

@@ -28,9 +28,8 @@ use Rattle.rtr_ends.proofs.TableLaws.{false_true}
 use Rattle.rtr_world.proofs.CatchUpAnswers.{other_report}
 use Rattle.rtr_world.proofs.Invariant.{after_stage, Leads, Mine, QuestionFits, Replies, no_data, not_kept, other_session, no_memory, response, nothing_yet}
 use Rattle.rtr_world.proofs.UnitsAtRouters.{first_is, no_unit, rest_is, right_response, stage_keeps}
-use Rattle.rtr_world.proofs.LinkedSides.{Seen}
 use Rattle.rtr_world.proofs.UnitStreams.{Begun as BegunUnit, byte_case, Stream, case_by}
-use Rattle.rtr_world.proofs.Versions.{TableAt}
+use Rattle.rtr_world.proofs.Versions.{TableAt, Seen}
 use Rattle.prefixes.proofs.Basics.{eq_true, true_of_not}
 
 -- Where no byte is to come, no PDU is.

@@ -12,27 +12,98 @@ use Rattle.rtr_pdu.specs.declared.unit.Unit.{Unit}
 use Rattle.rtr_pdu.proofs.NextLaws.{sent_most, some_sent}
 use Rattle.rtr_ends.specs.Answer.{answer, report, sent, sent_all, session_in, and_end, and_on, announcements, end_of_data, response, serial_answer, step_answer, whole_answer, withdrawals}
 use Rattle.rtr_ends.specs.Cache.{Conn, conn_pulled, conn_takes}
-use Rattle.rtr_ends.specs.Connection.{in_version}
-use Rattle.rtr_ends.specs.Router.{clocked, receives}
-use Rattle.rtr_ends.specs.RouterLink.{Closed, Idle, Asked, is_reading}
+use Rattle.rtr_ends.specs.Connection.{in_version, IsLater}
+use Rattle.rtr_ends.specs.Router.{clocked, receives, router_pulled}
+use Rattle.rtr_ends.specs.RouterLink.{Closed, Idle, Asked, is_reading, Link}
 use Rattle.rtr_ends.specs.Transcript.{AskReset, Committed, Question, base_of, is_serial, of_version, query, AskSerial}
 use Rattle.rtr_world.specs.CatchUp.{IsAll, IsQuiet, read_up, round, sent_down, sent_up}
 use Rattle.rtr_world.specs.History.{conn_due}
-use Rattle.rtr_world.specs.World.{Side, World, instances, timing, cache_gets, cache_sends, gets_at, router_gets, sends_from, settle}
+use Rattle.rtr_world.specs.World.{Side, World, instances, timing, cache_gets, cache_sends, gets_at, router_gets, sends_from, settle, router_sends}
 use Rattle.rtr_world.proofs.CacheSteps.{answer_answers, answered_report, from_now}
 use Rattle.rtr_world.proofs.CatchUpAnswers.{IsDue, goes_or_other, is_read, no_wanting}
 use Rattle.rtr_world.proofs.CatchUpReplies.{Phase, WasRead, is_idle, asks_again, has_ended, clocked_waits, no_reply, reply_read}
 use Rattle.rtr_world.proofs.CatchUpSettling.{Emptied, settle_closes, settle_empties, settle_full, settle_none, settle_open}
-use Rattle.rtr_world.proofs.Invariant.{Mine, Replies, no_memory}
+use Rattle.rtr_world.proofs.Invariant.{Mine, Replies, no_memory, QuestionFits}
 use Rattle.rtr_world.proofs.UnitsAtRouters.{query_unit}
-use Rattle.rtr_world.proofs.LinkedSides.{Seen}
 use Rattle.rtr_world.proofs.UnitStreams.{MaySpeak, Stream, all_bytes, all_sent, bytes_of_version}
-use Rattle.rtr_world.proofs.Versions.{Present, TableAt, held_at}
-use Rattle.rtr_world.proofs.CatchUpQuestions.{Asks, Knows, Quiet, Sent, reading, sends_all}
+use Rattle.rtr_world.proofs.Versions.{Present, TableAt, held_at, Seen}
 use Rattle.vrps.specs.Instance.{Instance, NumberedSet, versions_from, with_serial}
 use Rattle.vrps.specs.Serial.{serial_at}
 use Rattle.vrps.proofs.Listed.{part_is_set, size_of_listing}
 use Rattle.rtr_pdu.specs.declared.unit.Unit.TheVariants.{Prefix, SerialQuery}
+
+-- A question that is open goes to the cache whole.
+module _ (w : World) (p : Present (instances w) w.present) (h : Seen) where
+  -- What is known of the connection and of the question: it fits what is committed.
+  pub record Knows (pv : Version) (q : Question) (version : Option Committed) (table : VrpSet) : Type 0 where
+    pub session : h.session ≡ session_in pv w.present
+    pub made : length h.sets ≤ length w.present.sets
+    pub later : IsLater h.made w.present
+    pub read : h.read ≡ Some w.present
+    pub keeps : h.keep ≡ w.keep
+    pub fits : QuestionFits h.session q (of_version pv version)
+    pub table_at : TableAt (instances w) version table
+
+  -- The question is still to be pulled,
+  pub record Asks (q : Question) (s : Side) : Type 0 where
+    pub knows : Knows s.router.spoken q s.router.version s.router.table
+    pub conn : Conn
+    pub conn_is : s.conn ≡ Some conn
+    pub held : conn.held ≡ []
+    pub spoken : MaySpeak s.router.spoken conn.state.version
+    pub due : conn.state.due ≡ []
+    pub on : conn.state.ended ≡ false
+    pub up : s.up ≡ []
+    pub down : s.down ≡ []
+    pub link : s.router.link ≡ Asked q
+    pub out : s.router.out ≡ sent s.router.spoken (query q)
+    pub router_held : s.router.held ≡ []
+
+  -- is on the wire,
+  pub record Sent (q : Question) (s : Side) : Type 0 where
+    pub knows : Knows s.router.spoken q s.router.version s.router.table
+    pub conn : Conn
+    pub conn_is : s.conn ≡ Some conn
+    pub held : conn.held ≡ []
+    pub spoken : MaySpeak s.router.spoken conn.state.version
+    pub due : conn.state.due ≡ []
+    pub on : conn.state.ended ≡ false
+    pub up : s.up ≡ sent s.router.spoken (query q)
+    pub down : s.down ≡ []
+    pub link : s.router.link ≡ Asked q
+    pub out : s.router.out ≡ []
+    pub router_held : s.router.held ≡ []
+
+  pub record Quiet (pv : Version) (conn : Option Conn) : Type 0 where
+    pub o : Conn
+    pub is : conn ≡ Some o
+    pub held : o.held ≡ []
+    pub spoken : MaySpeak pv o.state.version
+    pub due : o.state.due ≡ []
+    pub on : o.state.ended ≡ false
+
+  pub reading : (q : Question) (l : Link) → l ≡ Asked q → is_reading l ≡ true
+  reading q l e = ap is_reading e
+
+  -- the router sends
+  pub sends_all : (q : Question) (most : ℕ) (s : Side) → length s.router.out ≤ most → Asks q s → Sent q (sent_up w most s)
+  unfolding router_sends router_pulled
+  sends_all q most s all a =
+      let same : settle (instances w) (router_sends most s) ≡ router_sends most s = settle_open (instances w) (router_sends most s) a.conn a.conn_is (λ e. absurd (let k : true ≡ false = sym e ∙ a.on in cc)) (reading q s.router.link a.link) in
+      subst (λ x. Sent q x) (sym same) (record {
+        knows = a.knows;
+        conn = a.conn;
+        conn_is = a.conn_is;
+        held = a.held;
+        spoken = a.spoken;
+        due = a.due;
+        on = a.on;
+        up = ap (λ x. x ++ take most s.router.out) a.up ∙ take_all most s.router.out all ∙ a.out;
+        down = a.down;
+        link = a.link;
+        out = drop_of_length-le s.router.out all;
+        router_held = a.router_held;
+      })
 
 -- How many bytes a question and its answer have at most.
 bytes_of : (pv : Version) (units : List Unit) → AllByRecursion (IsUnitOf pv) units → length (sent_all pv units) ≤ length units * 4096
@@ -295,62 +366,45 @@ module _ (w : World) (p : Present (instances w) w.present) (h : Seen) where
         settled : (c : Quiet w p h s.router.spoken s.conn) → is_reading n.router.link ≡ true → settle (instances w) n ≡ n
         settled c live = settle_open (instances w) n c.o c.is (λ e. absurd (let k : true ≡ false = sym e ∙ c.on in cc)) live
 
-        by_read : WasRead (instances w) h s.router.spoken q Lacking Stays (receives s.router.now at_router (take most s.down) s.router).rest (receives s.router.now at_router (take most s.down) s.router).machine.router → Ends q (settle (instances w) n)
-        by_read (is_idle is out none on) = by_conn on
-          where
-            quiet : Quiet w p h s.router.spoken s.conn → Ends q (settle (instances w) n)
-            quiet c =
-                subst (λ x. Ends q x) (sym (settled c (ap is_reading is)))
-                (idles is (record { is_open = ap is_some c.is; out = out; up = a.up; due = ap conn_due c.is ∙ c.due; down = none_down none }))
+        -- Where memory ran out the connection may be closed.
+        waits_or : is_reading n.router.link ≡ true → (receives s.router.now at_router (take most s.down) s.router).rest ≡ [] → (Quiet w p h s.router.spoken s.conn → Ends q (settle (instances w) n)) → Stays → Ends q (settle (instances w) n)
+        waits_or live none goes (inl c) = goes c
+        waits_or live none goes (inr l) = elim (a.conn) [ inl shut ↦ closes (settle_none (instances w) n shut (none_down none) live) (inl l) | inr c ↦ goes c ]
 
-            by_conn : Stays → Ends q (settle (instances w) n)
-            by_conn (inl c) = quiet c
-            by_conn (inr l) = elim (a.conn) [ inl shut ↦ closes (settle_none (instances w) n shut (none_down none) (ap is_reading is)) (inl l) | inr c ↦ quiet c ]
+        by_read : WasRead (instances w) h s.router.spoken q Lacking Stays (receives s.router.now at_router (take most s.down) s.router).rest (receives s.router.now at_router (take most s.down) s.router).machine.router → Ends q (settle (instances w) n)
+        by_read (is_idle is out none on) =
+            waits_or (ap is_reading is) none
+            (λ c. subst (λ x. Ends q x) (sym (settled c (ap is_reading is)))
+            (idles is (record { is_open = ap is_some c.is; out = out; up = a.up; due = ap conn_due c.is ∙ c.due; down = none_down none }))) on
         by_read (has_ended end is none (inl l)) = closes (settle_closes (instances w) n end is none) (inl l)
         by_read (has_ended end is none (inr e)) = closes (settle_closes (instances w) n end is none) (inr (e.0, settle_empties (instances w) n end is none e.1 e.2))
-        by_read (asks_again serial is out held mine table none on same) = by_conn on
-          where
-            asks : Quiet w p h s.router.spoken s.conn → Ends q (settle (instances w) n)
-            asks c =
-                asks_all serial (subst (λ x. Asks w p h AskReset x) (sym (settled c (ap is_reading is))) (record {
-                  knows = knows_again s.router.spoken n.router.spoken q s.router.version n.router.version s.router.table n.router.table mine table same a.knows;
-                  conn = c.o;
-                  conn_is = c.is;
-                  held = c.held;
-                  spoken = subst (λ v. MaySpeak v c.o.state.version) (sym same) c.spoken;
-                  due = c.due;
-                  on = c.on;
-                  up = a.up;
-                  down = none_down none;
-                  link = is;
-                  out = out;
-                  router_held = held;
-                }))
-
-            by_conn : Stays → Ends q (settle (instances w) n)
-            by_conn (inl c) = asks c
-            by_conn (inr l) =
-                elim (a.conn) [
-                  | inl shut ↦ closes (settle_none (instances w) n shut (none_down none) (ap is_reading is)) (inl l)
-                  | inr c ↦ asks c
-                ]
+        by_read (asks_again serial is out held mine table none on same) = waits_or (ap is_reading is) none (λ c. asks_all serial (subst (λ x. Asks w p h AskReset x) (sym (settled c (ap is_reading is))) (record {
+              knows = knows_again s.router.spoken n.router.spoken q s.router.version n.router.version s.router.table n.router.table mine table same a.knows;
+              conn = c.o;
+              conn_is = c.is;
+              held = c.held;
+              spoken = subst (λ v. MaySpeak v c.o.state.version) (sym same) c.spoken;
+              due = c.due;
+              on = c.on;
+              up = a.up;
+              down = none_down none;
+              link = is;
+              out = out;
+              router_held = held;
+            }))) on
 
     -- All bytes go.
-    asks_few : (q : Question) (most : ℕ) (s : Side) → IsAll most → Asks w p h q s → length s.router.out ≤ most
-    asks_few q most s enough a =
-        let k = a.knows in
+    question_few : (q : Question) (most : ℕ) (s : Side) → IsAll most → Knows w p h s.router.spoken q s.router.version s.router.table → length (sent s.router.spoken (query q)) ≤ most
+    question_few q most s enough k =
         let unit = query_unit (instances w) s.router.spoken h.session q (of_version s.router.spoken s.router.version) s.router.table k.fits (held_at (instances w) s.router.spoken s.router.version s.router.table k.table_at) in
         let few = sent_most s.router.spoken (query q) unit.0 unit.1 in
-        let size = ap length a.out in
-        omega (arith, enough, few, size)
+        omega (arith, enough, few)
+
+    asks_few : (q : Question) (most : ℕ) (s : Side) → IsAll most → Asks w p h q s → length s.router.out ≤ most
+    asks_few q most s enough a = subst (λ x. length x ≤ most) (sym a.out) (question_few q most s enough a.knows)
 
     sent_few : (q : Question) (most : ℕ) (s : Side) → IsAll most → Sent w p h q s → length s.up ≤ most
-    sent_few q most s enough a =
-        let k = a.knows in
-        let unit = query_unit (instances w) s.router.spoken h.session q (of_version s.router.spoken s.router.version) s.router.table k.fits (held_at (instances w) s.router.spoken s.router.version s.router.table k.table_at) in
-        let few = sent_most s.router.spoken (query q) unit.0 unit.1 in
-        let size = ap length a.up in
-        omega (arith, enough, few, size)
+    sent_few q most s enough a = subst (λ x. length x ≤ most) (sym a.up) (question_few q most s enough a.knows)
 
     got_few : (q : Question) (most : ℕ) (s : Side) → IsAll most → Got q s → length (conn_due s.conn) ≤ most
     got_few q most s enough a =

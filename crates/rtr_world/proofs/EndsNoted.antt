@@ -14,14 +14,13 @@ use Rattle.rtr_world.proofs.Rests.{Rests, history_rests}
 use Rattle.rtr_world.proofs.EventCalls.{call_of, lesser, part_by, after_call, step_by, closed_by, settle_keeps, KeptByCalls, refused_at, IsOwnCall, closed_link}
 use Rattle.rtr_world.specs.History.{Done, Memory}
 use Rattle.rtr_world.proofs.RouterCases.{asks_by, clocked_by, close_by}
-use Rattle.rtr_world.proofs.WorldSteps.{Known}
+use Rattle.rtr_world.proofs.WorldSteps.{Known, always_kept, received}
 use Rattle.rtr_pdu.specs.declared.unit.Unit.{Unit}
 use Rattle.rtr_ends.specs.LinkRules.{Router, on_unit}
 use Rattle.rtr_ends.specs.RouterLaws.{LinkTells}
 use Rattle.rtr_ends.proofs.KeptUnits.{Tells}
-use Rattle.rtr_world.proofs.Histories.{always_kept, received}
 use Rattle.rtr_world.proofs.UnitCases.{Brings, goes_on, ends_other, ends_memory, commits}
-use Rattle.rtr_world.proofs.LinkedSides.{Seen, IsSeen}
+use Rattle.rtr_world.proofs.Versions.{Seen, IsSeen}
 
 -- Each link ends lawfully.
 -- a link that ended did so lawfully, at the last item

@@ -22,7 +22,7 @@ use Rattle.rtr_world.specs.VersionPlaces.{VersionPlace}
 use Rattle.rtr_world.specs.History.{conn_due}
 use Rattle.rtr_world.specs.World.{Side, World, instances, is_read, timing, SideEvent, RouterRestart, Speak, Connect, RouterSends, CacheGets, CacheSends, RouterGets, Cut, NotifyRouter, Ask, Tick, places_of, connects, router_restarts, speaks, router_sends, sends_from, cache_sends, gets_at, cache_gets, router_gets, cut, notifies_at, side_step, side_part, side_refused, tell_closed, close_ended, settle_conn, settle_link, settle_rest, settle_wire, settle}
 use Rattle.rtr_world.proofs.CacheMoves as cache
-use Rattle.rtr_world.proofs.Commits.{goes_fed}
+use Rattle.rtr_world.proofs.UnitCases.{goes_fed}
 use Rattle.rtr_world.proofs.Invariant.{OwnSession, IfOpen, Open, GoodLink, GoodRouter, Good, Flow}
 use Rattle.rtr_world.proofs.Places.{Ordered, ordered_connects, ordered_none, ordered_read}
 use Rattle.rtr_world.proofs.UnitsAtRouters.{first_fits, query_unit}
@@ -31,8 +31,7 @@ use Rattle.rtr_ends.proofs.KeptLaws.{not_due}
 use Rattle.rtr_world.proofs.SideSteps.{live_map, clocked_good, Shut, close_shut, asks_good}
 use Rattle.rtr_world.proofs.UnitStreams.{Stream, behind_early}
 use Rattle.rtr_world.proofs.KeptTables.{SideTells}
-use Rattle.rtr_world.proofs.Versions.{Present, held_at}
-use Rattle.rtr_world.proofs.LinkedSides.{Seen, IsReadAt, IsSeen, seen_after, seen_at}
+use Rattle.rtr_world.proofs.Versions.{Present, held_at, Seen, IsReadAt, IsSeen, seen_after, seen_at}
 
 -- what is sent, and what is left of it
 sent_first : (most : ℕ) (held up out : List ℕ) (units : List Sent) → Stream held (up ++ out) units → Stream held ((up ++ take most out) ++ drop most out) units

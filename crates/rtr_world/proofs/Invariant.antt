@@ -20,8 +20,7 @@ use Rattle.rtr_world.specs.OneAnswer.{AreEarly, EndsWith, NotifiesOf, announced_
 use Rattle.rtr_world.specs.World.{Side, timing}
 use Rattle.rtr_world.proofs.Places.{Ordered}
 use Rattle.rtr_world.proofs.UnitStreams.{MaySpeak, Stream, behind_early}
-use Rattle.rtr_world.proofs.Versions.{Stands, TableAt, find_session}
-use Rattle.rtr_world.proofs.LinkedSides.{Seen, IsReadAt, IsSeen}
+use Rattle.rtr_world.proofs.Versions.{Stands, TableAt, find_session, Seen, IsReadAt, IsSeen}
 
 abbrev pub after_stage : Staged → (Begun → Type 0) → Type 0
 after_stage (Stays a) Goes = Goes a

@@ -5,15 +5,12 @@ pub mod CacheSteps
 pub mod CatchUpAnswers
 pub mod CatchUpEnds
 pub mod CatchUpLaws
-pub mod CatchUpQuestions
 pub mod CatchUpReplies
 pub mod CatchUpRounds
 pub mod CatchUpSettling
 pub mod CatchUpSides
 pub mod CatchUpSteps
-pub mod CatchUpUnits
 pub mod CaughtUpLaws
-pub mod Commits
 pub mod ConnRuns
 pub mod Connecting
 pub mod EndsNoted
@@ -22,11 +19,9 @@ pub mod EventRows
 pub mod EventRuns
 pub mod EventSteps
 pub mod Happening
-pub mod Histories
 pub mod HistoryLeads
 pub mod Invariant
 pub mod KeptTables
-pub mod LinkedSides
 pub mod MovedBytes
 pub mod MovesNoMore
 pub mod Moving

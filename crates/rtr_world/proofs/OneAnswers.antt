@@ -1,5 +1,5 @@
 -- What is on its way to a router is at most one answer, after every list of events.
-use Rattle.rtr_world.proofs.WorldSteps.{Known, history_known}
+use Rattle.rtr_world.proofs.WorldSteps.{Known, history_known, history_keeps, Kept, received}
 use Rattle.std.specs.Prelude.{◌≡◌, ◌⊎◌, ℕ, Bool, true, false, List, [], ◌∷◌, ◌++◌, Option, Some, None, refl, take, ⊤}
 use Rattle.std.proofs.Common.{sym, ap, ◌∙◌, subst, inl, inr, append_assoc}
 use Rattle.std.specs.List.{AllByRecursion}
@@ -16,14 +16,12 @@ use Rattle.rtr_ends.proofs.TableLaws.{false_true}
 use Rattle.rtr_world.specs.Claims.{OneAnswerAlways}
 use Rattle.rtr_world.specs.OneAnswer.{Between, ComesOn, Fits, IfResponse, IsAnswer, IsReply, IsWholeAnswer, LeadsToPublished, NotifiesOf, OneAnswer, WasSo, answered, without_notifies}
 use Rattle.rtr_world.specs.World.{Side, World, instances, is_ended, timing, noted, router_restarts, tell_closed}
-use Rattle.rtr_world.proofs.Histories.{history_keeps, Kept, received}
 use Rattle.rtr_world.proofs.Invariant.{FromCache, Flow, Good, GoodLink, IfOpen, OfAnswer, OneReply, Open, QuestionFits, Replies, Shape, WasCache, no_data, not_kept, other_session, no_memory, read_of, records_of, response}
 use Rattle.rtr_world.proofs.Rests.{Rests, history_rests}
-use Rattle.rtr_world.proofs.LinkedSides.{IsReadAt, IsSeen, Seen}
 use Rattle.rtr_world.proofs.SideSteps.{live_of}
 use Rattle.rtr_world.proofs.UnitStreams.{behind_early, part_of}
 use Rattle.rtr_world.proofs.KeptTables.{SideTells}
-use Rattle.rtr_world.proofs.Versions.{named_at}
+use Rattle.rtr_world.proofs.Versions.{named_at, IsReadAt, IsSeen, Seen}
 use Rattle.rtr_world.proofs.RouterCases.{asks_by, clocked_by}
 use Rattle.rtr_pdu.specs.declared.unit.Unit.TheVariants.{SerialNotify, Prefix}
 use Rattle.rtr_ends.specs.LinkRules.{Router, on_unit}

@@ -8,8 +8,7 @@ use Rattle.vrps.specs.VrpSet.{VrpSet}
 use Rattle.rtr_pdu.specs.declared.version.Version.{Version}
 use Rattle.rtr_ends.specs.Answer.{session_in}
 use Rattle.rtr_world.specs.VersionPlaces.{VersionPlace, position_of, place_named, IsNotAfter, NeverBack}
-use Rattle.rtr_world.proofs.Versions.{Stands, position_at, find_session, same_session_in, some_is}
-use Rattle.rtr_world.proofs.LinkedSides.{Seen, seen_after, seen_at}
+use Rattle.rtr_world.proofs.Versions.{Stands, position_at, find_session, same_session_in, some_is, Seen, seen_after, seen_at}
 use Rattle.prefixes.proofs.Basics.{eq_self, eq_of}
 
 -- how many instances came before that of a session

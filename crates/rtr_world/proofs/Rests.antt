@@ -182,15 +182,11 @@ settled_rests : (w : World) → GoodWorld w → AllByRecursion Rests (settled w)
 unfolding settled
 settled_rests w g = all_map (Good w.keep w.past w.present) Rests (settle (instances w)) w.sides (λ s h. settle_rests (instances w) s (none_out w.keep w.past w.present s h)) g.sides
 
-refused_rests : (event : Event) (bytes : ℕ) (wanting : Option ℕ) (w : World) → GoodWorld w → AllTell w → AllByRecursion Rests w.sides → AllByRecursion Rests (is_refused event bytes wanting w).sides
-unfolding is_refused
-refused_rests (On r event) bytes wanting w g t h = settled_rests (record w { sides = on_side r (side_refused w event bytes wanting) w.sides }) (part_so r event bytes wanting w g t)
-refused_rests _ bytes wanting w g t h = h
-
 after_rests : (event : Event) (outcome : Outcome) (w : World) → IsEvent event → MayEnd (refusal w event) w event outcome → GoodWorld w → AllTell w → AllByRecursion Rests w.sides → AllByRecursion Rests (after event outcome w).sides
+unfolding is_refused
 after_rests event (Done wanting) w fits may g t h = settled_rests (goes_through event wanting w) (through_good event wanting w fits may g t)
-after_rests event (Memory bytes wanting) w fits may g t h = refused_rests event bytes wanting w g t h
-after_rests event _ w fits may g t h = h
+after_rests (On r event) (Memory bytes wanting) w fits may g t h = settled_rests (record w { sides = on_side r (side_refused w event bytes wanting) w.sides }) (part_so r event bytes wanting w g t)
+after_rests _ _ w fits may g t h = h
 
 pub history_rests : (made : Made) (history : List Entry) (w : World) → Leads made history w → AllByRecursion Rests w.sides
 history_rests made history w leads =

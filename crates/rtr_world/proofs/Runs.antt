@@ -1,6 +1,6 @@
 -- Each router of a world is one to which calls lead.
 use Rattle.rtr_world.proofs.RouterCases.{asks_by, clocked_by}
-use Rattle.rtr_world.proofs.WorldSteps.{Known}
+use Rattle.rtr_world.proofs.WorldSteps.{Known, history_keeps, Kept}
 use Rattle.std.specs.Prelude.{◌≡◌, ℕ, Bool, true, false, not, ◌&&◌, List, [], ◌∷◌, ◌++◌, take, Option, refl, ⊤}
 use Rattle.std.proofs.Common.{◌∙◌, sym, ap, subst}
 use Rattle.std.specs.List.{AllByRecursion}
@@ -16,7 +16,6 @@ use Rattle.rtr_ends.proofs.FeedingLaws.{feed_keeps, stopped}
 use Rattle.rtr_world.specs.Claims.{IsRun, RoutersRun, since_restart}
 use Rattle.rtr_world.specs.History.{conn_due}
 use Rattle.rtr_world.specs.World.{Side, World, instances, noted, router_restarts, tell_closed}
-use Rattle.rtr_world.proofs.Histories.{history_keeps, Kept}
 use Rattle.rtr_world.proofs.SideSteps.{live_of}
 use Rattle.rtr_world.proofs.UnitStreams.{all_bytes, behind_early, either_by}
 use Rattle.rtr_world.proofs.WireBytes.{low_front, low_stream, low_take}

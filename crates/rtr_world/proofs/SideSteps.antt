@@ -23,8 +23,7 @@ use Rattle.rtr_world.specs.OneAnswer.{NotifiesOf, without_notifies}
 use Rattle.rtr_world.proofs.Invariant.{OfAnswer, Shape, QuestionFits, IfOpen, Open, Unheard, Flow, Live, GoodLink, GoodRouter}
 use Rattle.rtr_world.proofs.UnitsAtRouters.{Reads, on_early, on_notify, on_other, live_link, question_fits, query_unit, open_asking}
 use Rattle.rtr_world.proofs.UnitStreams.{Stream, ByteCase, byte_case, early_open, case_by, behind_early}
-use Rattle.rtr_world.proofs.Versions.{TableAt, held_at}
-use Rattle.rtr_world.proofs.LinkedSides.{Seen}
+use Rattle.rtr_world.proofs.Versions.{TableAt, held_at, Seen}
 use Rattle.prefixes.proofs.Basics.{true_of_not}
 
 -- A link keeps its state; what lives goes on to live.

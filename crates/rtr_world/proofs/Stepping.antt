@@ -18,7 +18,7 @@ use Rattle.rtr_world.specs.declared.world.World as code
 use Rattle.rtr_world.proofs.Invariant.{Good, GoodLink}
 use Rattle.rtr_world.proofs.Rests.{history_rests}
 use Rattle.rtr_world.proofs.Room.{reached_known}
-use Rattle.rtr_world.proofs.LinkedSides.{Seen}
+use Rattle.rtr_world.proofs.Versions.{Seen}
 use Rattle.rtr_world.proofs.Showing.{moved, settled_on, shown_length}
 use Rattle.prefixes.proofs.Basics.{lt_true}
 

@@ -1,30 +1,37 @@
 -- What a PDU that comes to the router does to its link.
-use Rattle.std.specs.Prelude.{◌≡◌, ℕ, ◌+◌, ◌≤◌, ◌<◌, Bool, true, false, ◌&&◌, ◌==◌, List, [], ◌∷◌, ◌++◌, length, Some, if◌then◌else◌, refl, not, Option}
-use Rattle.std.proofs.Common.{sym, ap, ◌∙◌, subst, subst₂, inl, inr}
+use Rattle.std.specs.Prelude.{◌≡◌, ℕ, ◌+◌, ◌≤◌, ◌<◌, Bool, true, false, ◌&&◌, ◌==◌, List, [], ◌∷◌, ◌++◌, length, Some, if◌then◌else◌, refl, not, Option, None}
+use Rattle.std.proofs.Common.{sym, ap, ◌∙◌, subst, subst₂, inl, inr, arith, append_assoc}
 use Rattle.prefixes.specs.Payload.{Payload}
 use Rattle.vrps.specs.Instance.{Instance}
 use Rattle.vrps.specs.VrpSet.{VrpSet}
 use Rattle.rtr_pdu.specs.declared.unit.Unit.{Unit}
 use Rattle.rtr_pdu.specs.declared.unit.Unit.TheVariants.{SerialNotify, CacheResponse, Prefix, EndOfData, EndOfData0, CacheReset}
-use Rattle.rtr_ends.specs.Answer.{report}
+use Rattle.rtr_ends.specs.Answer.{report, session_in}
 use Rattle.rtr_ends.specs.LinkRules.{Router, Staged, Stays, ask, fails, is_strange, is_news, stage, staged, commit, on_unit}
 use Rattle.rtr_ends.specs.Timing.{Intervals, default_intervals}
 use Rattle.rtr_ends.specs.RouterLink.{Link, Closed, Idle, Asked, Answering, Ended, is_reading}
-use Rattle.rtr_ends.specs.Transcript.{Begun, Committed, Question, AskReset, AskSerial, base_of, led_to, session_of, differs, is_wrong, bounded, of_version}
+use Rattle.rtr_ends.specs.Transcript.{Begun, Committed, Question, AskReset, AskSerial, base_of, led_to, session_of, differs, is_wrong, bounded, of_version, Item, Reads, kept, is_commit}
 use Rattle.rtr_ends.proofs.TableLaws.{false_true}
 use Rattle.rtr_world.specs.OneAnswer.{NotifiesOf, without_notifies}
-use Rattle.rtr_world.specs.World.{is_ended}
-use Rattle.rtr_world.proofs.Invariant.{after_stage, InOrder, read_of, Leads, Mine, OwnSession, QuestionFits, IsOwn, OfAnswer, Replies, no_data, not_kept, other_session, no_memory, response, Shape, nothing_yet, Flow}
+use Rattle.rtr_world.specs.World.{is_ended, places_of}
+use Rattle.rtr_world.proofs.Invariant.{after_stage, InOrder, read_of, Leads, Mine, OwnSession, QuestionFits, IsOwn, OfAnswer, Replies, no_data, not_kept, other_session, no_memory, response, Shape, nothing_yet, Flow, GoodLink, GoodRouter, IfOpen, Live, Open}
 use Rattle.rtr_world.proofs.UnitsAtRouters.{stage_reads, first_is, no_unit, right_response, not_strange}
-use Rattle.rtr_world.proofs.SideSteps.{HeadCase, a_notify, another, head_case}
-use Rattle.rtr_world.proofs.Versions.{Stands, find_session}
-use Rattle.rtr_world.proofs.LinkedSides.{Seen}
-use Rattle.prefixes.proofs.Basics.{eq_true}
+use Rattle.rtr_world.proofs.SideSteps.{HeadCase, a_notify, another, head_case, live_of, byte_good}
+use Rattle.rtr_world.proofs.Versions.{Stands, find_session, Seen, same_instance, some_is, IsReadAt, IsSeen}
+use Rattle.prefixes.proofs.Basics.{eq_true, eq_self, true_of_not}
 use Rattle.rtr_pdu.specs.Judging.{judge}
-use Rattle.rtr_ends.specs.Cache.{Conn}
-use Rattle.rtr_ends.specs.Router.{Noted, silent, reads, lacks, with_bytes}
+use Rattle.rtr_ends.specs.Cache.{Conn, is_none, finds_memory}
+use Rattle.rtr_ends.specs.Router.{Noted, silent, reads, lacks, with_bytes, Receiving, asked_by, router_stops, router_byte}
 use Rattle.rtr_world.specs.History.{conn_due}
-use Rattle.rtr_world.proofs.UnitStreams.{ByteCase, early_open, case_by}
+use Rattle.rtr_world.proofs.UnitStreams.{ByteCase, early_open, case_by, byte_case}
+use Rattle.std.proofs.lemmas.Bool.{and_parts}
+use Rattle.rtr_pdu.specs.declared.version.Version.{Version}
+use Rattle.rtr_ends.specs.Feeding.{feed}
+use Rattle.rtr_ends.proofs.FeedingLaws.{feed_keeps}
+use Rattle.rtr_ends.proofs.KeptUnits.{Tells, live_unit}
+use Rattle.rtr_ends.proofs.KeptLaws.{byte_tells, none_is}
+use Rattle.rtr_world.specs.VersionPlaces.{VersionPlace, version_place_of}
+use Rattle.rtr_world.proofs.Places.{Found, Ordered, ordered_more, place_at, stands_found, young_enough}
 use Rattle.rtr_ends.specs.declared.link.End.TheVariants as ends
 
 abbrev pub is_end : Unit → Bool
@@ -175,3 +182,162 @@ module _ (all : List Instance) (i : Instance) (seen : Option Seen) (conn : Optio
       (λ u more alone is s. read u
       (unit_brings all h k r.link u more f.wanted refl live f.own f.mine (λ q. right_response all i seen conn up down h.session q (of_version r.spoken r.version)) (subst (λ x. NotifiesOf h.session x) is f.notifies)
       (subst (λ x. Shape all r.spoken h r.link r.agreed r.version r.table f.wanted (without_notifies x)) is f.shape)))
+
+-- What a router commits of a piece, and where that stands.
+-- the places of items that come after others
+places-append : (all : List Instance) (xs ys before : List Item) → places_of all (xs ++ ys) before ≡ places_of all xs (ys ++ before) ++ places_of all ys before
+places-append all [] ys before = refl
+places-append all (x ∷ xs) ys before =
+    (λ j. (if is_commit (x ∷ append_assoc xs ys before j) then version_place_of all (kept (x ∷ append_assoc xs ys before j)).version ∷ [] else []) ++ places-append all xs ys before j)
+    ∙ sym (append_assoc (if is_commit (x ∷ (xs ++ (ys ++ before))) then version_place_of all (kept (x ∷ (xs ++ (ys ++ before)))).version ∷ [] else []) (places_of all xs (ys ++ before)) (places_of all ys before))
+
+-- only an End of Data commits
+no_commit : (u : Unit) (items : List Item) → is_end u ≡ false → is_commit (Reads u ∷ items) ≡ false
+no_commit (EndOfData session serial refresh retry expire) items h = absurd (let e : true ≡ false = h in cc)
+no_commit (EndOfData0 session serial) items h = absurd (let e : true ≡ false = h in cc)
+no_commit u items h = refl
+
+one_place : (b : Bool) (p : Option VersionPlace) → ((if b then p ∷ [] else []) ++ []) ≡ (if b then p ∷ [] else [])
+one_place true p = refl
+one_place false p = refl
+
+unit_places : (all : List Instance) (l : Link) (out : List ℕ) (u : Unit) (items : List Item) (b : Bool) → is_commit (Reads u ∷ items) ≡ b
+    → places_of all (asked_by l out ++ Reads u ∷ []) items ≡ (if b then version_place_of all (kept (Reads u ∷ items)).version ∷ [] else [])
+unit_places all l out u items b e = asked l out ∙ one_place (is_commit (Reads u ∷ items)) p ∙ ap (λ x. if x then version_place_of all (kept (Reads u ∷ items)).version ∷ [] else []) e
+  where
+    p : Option VersionPlace
+    p = version_place_of all (kept (Reads u ∷ items)).version
+
+    asked : (l : Link) (out : List ℕ) → places_of all (asked_by l out ++ Reads u ∷ []) items ≡ (if is_commit (Reads u ∷ items) then version_place_of all (kept (Reads u ∷ items)).version ∷ [] else []) ++ []
+    asked (Asked q) [] = refl
+    asked (Asked q) (c ∷ out) = refl
+    asked Closed out = refl
+    asked Idle out = refl
+    asked (Answering a) out = refl
+    asked (Ended end) out = refl
+
+-- What reading adds to the places: nothing, or that of a version that stands no earlier than what was seen
+pub data Adds (past : List Instance) (i : Instance) (h : Seen) (n : Noted) (items : List Item) : Type 0 where
+  nothing : places_of (i ∷ past) n.items items ≡ [] → Adds past i h n items
+  one : (version : Committed) (table : VrpSet) (stands : Stands (i ∷ past) version.version version.session version.serial table) (f : Found (i ∷ past) version.version version.session version.serial (length stands.older))
+      → n.router.link ≡ Idle → version.version ≡ h.version → version.session ≡ h.session → length h.sets ≤ length stands.older + 1
+      → places_of (i ∷ past) n.items items ≡ Some (place_at f.rank (length stands.older)) ∷ [] → Adds past i h n items
+
+unit_adds : (past : List Instance) (i : Instance) (h : Seen) (r : Router) (u : Unit) (items : List Item) → h.version ≡ r.spoken → Tells (on_unit r.link u r) (asked_by (on_unit r.link u r).link (on_unit r.link u r).out ++ Reads u ∷ items)
+    → Brings (i ∷ past) h r r.link u (on_unit r.link u r) → Adds past i h (reads u r) items
+unit_adds past i h r u items of t (goes_on on none c) = nothing (unit_places (i ∷ past) (on_unit r.link u r).link (on_unit r.link u r).out u items false (no_commit u items none))
+unit_adds past i h r u items of t (ends_other session serial is other e none) = nothing (unit_places (i ∷ past) (on_unit r.link u r).link (on_unit r.link u r).out u items false (no_commit u items none))
+unit_adds past i h r u items of t (ends_memory e none) = nothing (unit_places (i ∷ past) (on_unit r.link u r).link (on_unit r.link u r).out u items false (no_commit u items none))
+unit_adds past i h r u items of t (commits version table e v spoken own stands since) = by_commit (is_commit (Reads u ∷ items)) refl
+  where
+    k : Router
+    k = on_unit r.link u r
+
+    f : Found (i ∷ past) version.version version.session version.serial (length stands.older)
+    f = stands_found (i ∷ past) version.version version.session version.serial table stands
+
+    told : Tells k (Reads u ∷ items)
+    told = subst (λ l. Tells k (asked_by l k.out ++ Reads u ∷ items)) e t
+
+    place : version_place_of (i ∷ past) (kept (Reads u ∷ items)).version ≡ Some (place_at f.rank (length stands.older))
+    place = ap (λ x. version_place_of (i ∷ past) x.version) told.kept_is ∙ ap (version_place_of (i ∷ past)) v ∙ f.named
+
+    by_commit : (b : Bool) → is_commit (Reads u ∷ items) ≡ b → Adds past i h (reads u r) items
+    by_commit false c = nothing (unit_places (i ∷ past) k.link k.out u items false c)
+    by_commit true c = one version table stands f e (spoken ∙ sym of) own since (unit_places (i ∷ past) k.link k.out u items true c ∙ ap (λ x. x ∷ []) place)
+
+-- what a later version is seen as
+seen_more : (keep : ℕ) (home : Option Instance) (h : Seen) (set : VrpSet) (older : List VrpSet) → length h.sets ≤ length older + 1 → IsSeen keep home (Some h) → IsSeen keep home (Some (record h { sets = set ∷ older }))
+seen_more keep None h set older since s = s
+seen_more keep (Some home) h set older since s = let k = s.3 in (s.0, s.1, s.2, omega (arith, k, since))
+
+module _ (keep : ℕ) (past : List Instance) (i : Instance) (home read : Option Instance) (conn : Option Conn) (up : List ℕ) where
+  abbrev all : List Instance
+  all = i ∷ past
+
+  -- an idle router whose version stands later
+  raised_open : (spoken : Version) (h : Seen) (out : List ℕ) (wanted coming : List Unit) (agreed : Bool) (lost : List ℕ) (o : Option Conn) (pv : Version) (session serial : ℕ) (set : VrpSet) (a : Stands (i ∷ past) pv session serial set) → pv ≡ spoken → session ≡ h.session
+      → IfOpen o (Open i spoken h out up wanted coming agreed lost) → IfOpen o (Open i spoken (record h { sets = set ∷ a.older }) out up wanted coming agreed lost)
+  raised_open spoken h out wanted coming agreed lost None pv session serial set a of own op = tt
+  raised_open spoken h out wanted coming agreed lost (Some o) pv session serial set a of own op =
+      let here : find_session pv (session_in pv i) (i ∷ past) ≡ Some i = ap (λ b. if b then Some i else find_session pv (session_in pv i) past) (eq_self (session_in pv i)) in
+      let is : session ≡ session_in pv i = own ∙ op.session ∙ ap (λ v. session_in v i) (sym of) in
+      let same : a.i ≡ i = same_instance a.i i (find_session pv session (i ∷ past)) a.found (subst (λ s. find_session pv s (i ∷ past) ≡ Some i) (sym is) here) in
+      let k = young_enough i a.newer set a.older (ap (λ x. x.sets) (sym same) ∙ a.sets) in
+      record { upward = op.upward; spoken = op.spoken; unheard = op.unheard; linked = record { whole = op.whole; session = op.session; made = omega (arith, k); later = op.later } }
+
+  raised : (down : List ℕ) (r : Router) (h : Seen) (pv : Version) (session serial : ℕ) (set : VrpSet) (a : Stands (i ∷ past) pv session serial set) → pv ≡ h.version → session ≡ h.session → r.link ≡ Idle
+      → GoodRouter (i ∷ past) i (Some h) conn up down r → GoodRouter (i ∷ past) i (Some (record h { sets = set ∷ a.older })) conn up down r
+  raised down r h pv session serial set a of own is g =
+      let l : Live (i ∷ past) i (Some h) r conn up down = subst (λ x. GoodLink (i ∷ past) i (Some h) x r conn up down) is g.link in
+      let f : Flow (i ∷ past) i h r conn up down = subst (λ x. Flow (i ∷ past) i x r conn up down) (sym (some_is h l.0 l.1)) l.2 in
+      let sh : Shape (i ∷ past) r.spoken h Idle r.agreed r.version r.table f.wanted (without_notifies f.coming) = subst (λ x. Shape (i ∷ past) r.spoken h x r.agreed r.version r.table f.wanted (without_notifies f.coming)) is f.shape in
+      let live : Live (i ∷ past) i (Some (record h { sets = set ∷ a.older })) r conn up down = (
+        record h { sets = set ∷ a.older },
+        refl,
+        record {
+          early = f.early;
+          coming = f.coming;
+          lost = f.lost;
+          wanted = f.wanted;
+          said = record { version = f.version; are_early = f.are_early; early_notifies = f.early_notifies; notifies = f.notifies; own = f.own; mine = f.mine; shape = subst (λ x. Shape (i ∷ past) r.spoken (record h { sets = set ∷ a.older }) x r.agreed r.version r.table f.wanted (without_notifies f.coming)) (sym is) sh };
+          downward = f.downward;
+          open_at = raised_open r.spoken h r.out f.wanted f.coming r.agreed f.lost conn pv session serial set a (of ∙ f.version) own f.open_at;
+        },
+      ) in
+      record { table = g.table; unmarked = g.unmarked; link = subst (λ x. GoodLink (i ∷ past) i (Some (record h { sets = set ∷ a.older })) x r conn up down) (sym is) live }
+
+  -- a byte is read
+  byte_read : (seen : Option Seen) (down : List ℕ) (r : Router) (b : ℕ) (memory : Bool) (items : List Item) (h : Seen) (f : Flow (i ∷ past) i h r conn up (b ∷ down)) → is_reading r.link ≡ true → r.out ≡ [] → Tells r items
+      → ByteCase r.spoken r.agreed r.held b (down ++ (conn_due conn ++ f.lost)) f.early f.coming → Adds past i h (with_bytes memory (r.held ++ b ∷ []) r (judge r.spoken (not r.agreed) (r.held ++ b ∷ []))) items
+  byte_read seen down r b memory items h f live none t case =
+      let k : Router = record r { held = [] } in
+      byte_by (i ∷ past) i seen conn up (λ n. Adds past i h n items) down r b memory h f live case (nothing refl) (λ u. nothing refl)
+      (λ u brings. unit_adds past i h k u items f.version
+      (live_unit k r.link u items live refl (record { kept_is = t.kept_is; due_is = t.due_is; now_is = t.now_is; spoken_is = t.spoken_is; none = none }) t.link) brings)
+
+  -- what holds between two bytes
+  pub record Goes (items : List Item) (places : List (Option VersionPlace)) (down : List ℕ) (m : Receiving) : Type 0 where
+    pub seen : Option Seen
+    pub good : GoodRouter (i ∷ past) i seen conn up down m.router
+    pub tells : Tells m.router (m.items ++ items)
+    pub is_seen : IsSeen keep home seen
+    pub is_read : IsReadAt read seen
+    pub order : Ordered past i (places_of (i ∷ past) m.items items ++ places) seen
+
+  adds_goes : (items : List Item) (places : List (Option VersionPlace)) (down : List ℕ) (m : Receiving) (n : Noted) (wanting : Option ℕ) (seen : Option Seen) (h : Seen) → seen ≡ Some h → Adds past i h n (m.items ++ items) → GoodRouter (i ∷ past) i seen conn up down n.router
+      → Tells n.router ((n.items ++ m.items) ++ items) → IsSeen keep home seen → IsReadAt read seen → Ordered past i (places_of (i ∷ past) m.items items ++ places) seen → Goes items places down (record { router = n.router; items = n.items ++ m.items; wanting = wanting })
+  adds_goes items places down m n wanting seen h e (nothing none) g t s d o = record {
+    seen = seen;
+    good = g;
+    tells = t;
+    is_seen = s;
+    is_read = d;
+    order = subst (λ x. Ordered past i (x ++ places) seen) (sym (places-append (i ∷ past) n.items m.items items ∙ ap (λ x. x ++ places_of (i ∷ past) m.items items) none)) o;
+  }
+  adds_goes items places down m n wanting seen h e (one version table stands f is of own since more) g t s d o = record {
+    seen = Some (record h { sets = table ∷ stands.older });
+    good = raised down n.router h version.version version.session version.serial table stands of own is (subst (λ x. GoodRouter (i ∷ past) i x conn up down n.router) e g);
+    tells = t;
+    is_seen = seen_more keep home h table stands.older since (subst (λ x. IsSeen keep home x) e s);
+    is_read = subst (λ x. IsReadAt read x) e d;
+    order = subst (λ x. Ordered past i (x ++ places) (Some (record h { sets = table ∷ stands.older })))
+        (sym (places-append (i ∷ past) n.items m.items items ∙ ap (λ x. x ++ places_of (i ∷ past) m.items items) more))
+        (ordered_more past i h (places_of (i ∷ past) m.items items ++ places) version.version version.session version.serial table stands f of own since (subst (λ x. Ordered past i (places_of (i ∷ past) m.items items ++ places) x) e o));
+  }
+
+  goes_byte : (items : List Item) (places : List (Option VersionPlace)) (tail : List ℕ) (b : ℕ) (rest : List ℕ) (m : Receiving) → router_stops m.router ≡ false → Goes items places (b ∷ rest ++ tail) m → Goes items places (rest ++ tail) (router_byte m b)
+  unfolding router_byte
+  goes_byte items places tail b rest m on g =
+      let parts = and_parts (is_reading m.router.link) (is_none m.router.out) (true_of_not (is_reading m.router.link && is_none m.router.out) on) in
+      let l = live_of m.router.link (i ∷ past) i g.seen m.router conn up (b ∷ rest ++ tail) g.good.link parts.0 in
+      let n : Noted = with_bytes (finds_memory m.wanting) (m.router.held ++ b ∷ []) m.router (judge m.router.spoken (not m.router.agreed) (m.router.held ++ b ∷ [])) in
+      adds_goes items places (rest ++ tail) m n (router_byte m b).wanting g.seen l.0 l.1
+      (byte_read g.seen (rest ++ tail) m.router b (finds_memory m.wanting) (m.items ++ items) l.0 l.2 parts.0 (none_is m.router.out parts.1) g.tells
+      (byte_case m.router.spoken m.router.agreed m.router.held b ((rest ++ tail) ++ (conn_due conn ++ l.2.lost)) l.2.early l.2.coming l.2.are_early l.2.downward))
+      (byte_good (i ∷ past) i g.seen conn up (rest ++ tail) m b on g.good) (byte_tells m b items on g.tells) g.is_seen g.is_read g.order
+
+  -- it is handed a piece
+  pub goes_fed : (items : List Item) (places : List (Option VersionPlace)) (tail : List ℕ) (m : Receiving) (piece : List ℕ) → Goes items places (piece ++ tail) m
+      → Goes items places ((feed (λ x. router_stops x.router) router_byte m piece).rest ++ tail) (feed (λ x. router_stops x.router) router_byte m piece).machine
+  goes_fed items places tail m piece g = feed_keeps (λ x. router_stops x.router) router_byte (λ rest x. Goes items places (rest ++ tail) x) (goes_byte items places tail) m piece g

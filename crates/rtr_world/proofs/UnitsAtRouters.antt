@@ -24,8 +24,7 @@ use Rattle.rtr_world.specs.History.{conn_due}
 use Rattle.rtr_world.specs.OneAnswer.{EndsWith, NotifiesOf, announced_in, withdrawn_in, without_notifies}
 use Rattle.rtr_world.proofs.Invariant.{after_stage, FromCache, InOrder, Leads, NoneWithdrawn, WithdrawsFirst, read_of, records_of, Mine, OwnSession, QuestionFits, IsOwn, OfAnswer, nothing_yet, Replies, no_data, not_kept, other_session, no_memory, response, Shape, IfOpen, Open, Flow, Live, GoodLink, GoodRouter}
 use Rattle.rtr_world.proofs.UnitStreams.{Stream, behind_early, stream-append}
-use Rattle.rtr_world.proofs.Versions.{HeldAt, Stands, TableAt, held_at}
-use Rattle.rtr_world.proofs.LinkedSides.{Seen}
+use Rattle.rtr_world.proofs.Versions.{HeldAt, Stands, TableAt, held_at, Seen}
 use Rattle.prefixes.proofs.Basics.{eq_true}
 
 -- a query fits its fields

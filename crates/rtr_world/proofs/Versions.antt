@@ -1,5 +1,5 @@
 -- Versions at their places.
-use Rattle.std.specs.Prelude.{◌≡◌, ◌⊎◌, ℕ, ◌+◌, ◌<◌, ◌^◌, Bool, true, false, ◌==◌, nat_lt, List, [], ◌∷◌, ◌++◌, length, take, find, Option, Some, None, option_and_then, if◌then◌else◌, refl, ⊤}
+use Rattle.std.specs.Prelude.{◌≡◌, ◌⊎◌, ℕ, ◌+◌, ◌<◌, ◌^◌, Bool, true, false, ◌==◌, nat_lt, List, [], ◌∷◌, ◌++◌, length, take, find, Option, Some, None, option_and_then, if◌then◌else◌, refl, ⊤, ◌≤◌}
 use Rattle.std.proofs.Common.{sym, ap, ◌∙◌, subst, arith, inl, inr}
 use Rattle.std.specs.Option.{option_map}
 use Rattle.std.proofs.lemmas.Bool.Decides.{nat_tests}
@@ -191,3 +191,35 @@ stands_restarted all i pv session serial set new a = (
     by_session : (b : Bool) → (session_in pv i == session) ≡ b → find_session pv session (i ∷ all) ≡ Some a.i
     by_session true e = absurd (none_some (find_session pv session all) (subst (λ s. find_session pv s all ≡ None) (eq_of (session_in pv i) session e) new) a.found)
     by_session false e = ap (λ b. if b then Some i else find_session pv session all) e ∙ a.found
+
+-- What an invariant knows of a connection.
+-- The instance as it was when the connection was made, how many versions the cache keeps, the version of the connection, and the session in
+-- it and the sets of that instance then, or when what was committed on the connection last was its newest version; and the cache as it was
+-- when it last read a PDU on it
+pub record Seen : Type 0 where
+  pub made : Instance
+  pub keep : ℕ
+  pub version : Version
+  pub session : ℕ
+  pub sets : List VrpSet
+  pub read : Option Instance
+
+abbrev pub seen_at : ℕ → Version → Instance → Seen
+seen_at keep version i = record { made = i; keep = keep; version = version; session = session_in version i; sets = i.sets; read = None }
+
+abbrev pub IsSeen : ℕ → Option Instance → Option Seen → Type 0
+IsSeen keep None None = ⊤
+IsSeen keep (Some home) (Some seen) = (seen.made ≡ home) × (seen.keep ≡ keep) × (seen.session ≡ session_in seen.version home) × (length home.sets ≤ length seen.sets)
+IsSeen keep _ _ = ⊥
+
+abbrev pub IsReadAt : Option Instance → Option Seen → Type 0
+IsReadAt read None = ⊤
+IsReadAt read (Some seen) = seen.read ≡ read
+
+-- The cache reads a PDU now.
+abbrev pub reads_now : Instance → Option Seen → Option Seen
+reads_now i None = None
+reads_now i (Some seen) = Some (record seen { read = Some i })
+
+abbrev pub seen_after : Instance → Bool → Option Seen → Option Seen
+seen_after i read seen = if read then reads_now i seen else seen
