@@ -30,9 +30,9 @@ use Rattle.rtr_ends.specs.Transcript.{Committed, Question, AskReset, AskSerial, 
 use Rattle.rtr_world.specs.World.{timing}
 use Rattle.rtr_world.proofs.AnswerLaws.{Plain, plain-append, plain_records, change_leads, whole_leads}
 use Rattle.rtr_world.proofs.Invariant.{FromCache, WasCache, Leads, NoneWithdrawn, WithdrawsFirst, QuestionFits, IsOwn, Replies, nothing_yet, no_data, not_kept, other_session, response}
-use Rattle.rtr_world.proofs.UnitStreams.{all-append, all_bytes}
+use Rattle.rtr_world.proofs.UnitStreams.{all_bytes}
 use Rattle.rtr_world.proofs.Versions.{HeldAt, Stands, Present, kept_at, has_sets, of_present, find_session, Seen}
-use Rattle.prefixes.proofs.Basics.{eq_of, eq_true}
+use Rattle.prefixes.proofs.Basics.{eq_of, eq_true, all_both}
 
 not_both : (b : Bool) → b ≡ true → b ≡ false → ⊥
 not_both b h k = let e : true ≡ false = sym h ∙ k in cc
@@ -43,7 +43,7 @@ pub record IsAnswered (pv : Version) (units : List Unit) : Type 0 where
   pub fit : AllByRecursion (IsUnitOf pv) units
 
 answered-append : (pv : Version) (us vs : List Unit) → IsAnswered pv us → IsAnswered pv vs → IsAnswered pv (us ++ vs)
-answered-append pv us vs h k = record { plain = plain-append us vs h.plain k.plain; fit = all-append (IsUnitOf pv) us vs h.fit k.fit }
+answered-append pv us vs h k = record { plain = plain-append us vs h.plain k.plain; fit = all_both (IsUnitOf pv) us vs h.fit k.fit }
 
 fit_records : (pv : Version) (announce : Bool) (vs : List Payload) → All IsPayload vs → AllByRecursion (IsUnitOf pv) (map (λ v. Prefix announce v) vs)
 fit_records pv announce [] h = tt

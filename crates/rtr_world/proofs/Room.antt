@@ -19,19 +19,13 @@ use Rattle.rtr_world.specs.World.{World, Side, instances}
 use Rattle.rtr_world.proofs.Versions.{Present, Stands, TableAt, of_present, position_at}
 use Rattle.rtr_world.proofs.WorldSteps.{GoodWorld, Known, history_known, good_world}
 use Rattle.prefixes.proofs.Basics.{eq_of}
-use Rattle.rtr_world.proofs.Routers.{low_of}
-
--- a fact of each side is one of this
-pub all_at : (P : Side → Type 0) (r : ℕ) (sides : List Side) (s : Side) → side_at r sides ≡ Some s → AllByRecursion P sides → P s
-all_at P r [] s is h = absurd (let k : ◌≡◌ {A = Option Side} None (Some s) = is in cc)
-all_at P zero (t ∷ sides) s is h = subst P (inside is) h.0
-all_at P (suc r) (t ∷ sides) s is h = all_at P r sides s is h.1
+use Rattle.rtr_world.proofs.Routers.{low_of, each_at}
 
 pub reached_good : (w : World) → Reached w → GoodWorld w
 reached_good w r = good_world r.made r.history w r.leads
 
 pub reached_known : (w : World) (r : ℕ) (s : Side) → Reached w → side_at r w.sides ≡ Some s → Known w s
-reached_known w r s reached found = all_at (Known w) r w.sides s found (history_known reached.made reached.history w reached.leads)
+reached_known w r s reached found = each_at (Known w) r w.sides s (history_known reached.made reached.history w reached.leads) found
 
 -- What the test of two serials answers
 abbrev pub Tests : Option Serial → ℕ → Bool → Type 0

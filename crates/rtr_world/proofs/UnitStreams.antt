@@ -1,4 +1,5 @@
 -- A stream of bytes that spells PDUs, read byte by byte.
+use Rattle.prefixes.proofs.Basics.{all_both}
 use Rattle.rtr_ends.specs.Router.{Noted, silent, reads, lacks, with_bytes}
 use Rattle.rtr_ends.specs.LinkRules.{Router, may_lack}
 use Rattle.std.specs.Prelude.{◌≡◌, ◌⊎◌, ℕ, ◌<◌, nat_lt, Bool, true, false, not, List, [], ◌∷◌, ◌++◌, length, Option, Some, None, if◌then◌else◌, ⊤, refl, ◌&&◌}
@@ -250,10 +251,6 @@ begun-append : (held : List ℕ) (units more : List Sent) → (held ≡ []) ⊎ 
 begun-append held units more (inl e) = inl e
 begun-append held units more (inr p) = inr (record { first = p.first; more = p.more ++ more; is = ap (λ x. x ++ more) p.is; byte = p.byte; rest = p.rest; begins = p.begins })
 
-pub all-append : {A : Type 0} (P : A → Type 0) (xs ys : List A) → AllByRecursion P xs → AllByRecursion P ys → AllByRecursion P (xs ++ ys)
-all-append P [] ys h k = k
-all-append P (x ∷ xs) ys h k = (h.0, all-append P xs ys h.1 k)
-
 pub all_sent : (version : Version) (units : List Unit) → AllByRecursion (IsUnitOf version) units → AllByRecursion IsSent (in_version version units)
 all_sent version [] h = tt
 all_sent version (u ∷ units) h = (h.0, all_sent version units h.1)
@@ -271,7 +268,7 @@ stream_and : (held after : List ℕ) (units more : List Sent) → Stream held af
 stream_and held after units more s fit = record {
   whole = sym (append_assoc held after (bytes_sent more)) ∙ ap (λ x. x ++ bytes_sent more) s.whole ∙ sym (flat_map-append bytes_in units more);
   partial = begun-append held units more s.partial;
-  fit = all-append IsSent units more s.fit fit;
+  fit = all_both IsSent units more s.fit fit;
 }
 
 -- of the version of those that come
