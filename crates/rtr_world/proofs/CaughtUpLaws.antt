@@ -22,8 +22,8 @@ use Rattle.rtr_world.specs.declared.event.CatchFault.{CatchFault}
 use Rattle.rtr_world.specs.declared.event.CatchFault.TheVariants as faults
 use Rattle.rtr_world.specs.declared.event.WorldFault.{WorldFault}
 use Rattle.rtr_world.specs.declared.world.World as code
-use Rattle.rtr_world.proofs.CatchUpLaws.{idle_is_current}
-use Rattle.rtr_world.proofs.CatchUpEnds.{catches_up, rounds_end}
+use Rattle.rtr_world.proofs.CatchUpSides.{idle_is_current}
+use Rattle.rtr_world.proofs.CatchUpRounds.{catches_up, rounds_end}
 use Rattle.rtr_world.proofs.CatchUpSteps.{SameCache, round_same, rounded_cache, rounds_are_steps, same_cache, stepped_cache}
 use Rattle.rtr_world.proofs.Rounds.{Along, Stepped, both, cut_leaves, entry_of, further, lacked, lacks_behind, parted, went}
 use Rattle.rtr_world.proofs.Routers.{each_at, routers_stay, side_in}

@@ -1,10 +1,7 @@
-pub mod ActingOnce
 pub mod AnswerLaws
 pub mod CacheMoves
 pub mod CacheSteps
 pub mod CatchUpAnswers
-pub mod CatchUpEnds
-pub mod CatchUpLaws
 pub mod CatchUpReplies
 pub mod CatchUpRounds
 pub mod CatchUpSettling
@@ -19,7 +16,6 @@ pub mod EventRows
 pub mod EventRuns
 pub mod EventSteps
 pub mod Happening
-pub mod HistoryLeads
 pub mod Invariant
 pub mod KeptTables
 pub mod MovedBytes
@@ -46,6 +42,5 @@ pub mod UnitCases
 pub mod UnitStreams
 pub mod UnitsAtRouters
 pub mod Versions
-pub mod WantedEnds
 pub mod WireBytes
 pub mod WorldSteps

@@ -1,5 +1,5 @@
 -- What is on its way to a router is at most one answer, after every list of events.
-use Rattle.rtr_world.proofs.WorldSteps.{Known, history_known, history_keeps, Kept, received}
+use Rattle.rtr_world.proofs.WorldSteps.{Known, history_known, history_keeps, KeptAlways, received}
 use Rattle.std.specs.Prelude.{◌≡◌, ◌⊎◌, ℕ, Bool, true, false, List, [], ◌∷◌, ◌++◌, Option, Some, None, refl, take, ⊤}
 use Rattle.std.proofs.Common.{sym, ap, ◌∙◌, subst, inl, inr, append_assoc}
 use Rattle.std.specs.List.{AllByRecursion}
@@ -104,7 +104,7 @@ anew_so : (s : Side) → SideReads s → SideReads (router_restarts s)
 unfolding router_restarts
 anew_so s h = record { reads_so = tt }
 
-pub kept_reads : Kept SideReads
+pub kept_reads : KeptAlways SideReads
 kept_reads = record {
   new = record { reads_so = tt };
   keeps = λ w. record {

@@ -1,6 +1,6 @@
 -- Each router of a world is one to which calls lead.
 use Rattle.rtr_world.proofs.RouterCases.{asks_by, clocked_by}
-use Rattle.rtr_world.proofs.WorldSteps.{Known, history_keeps, Kept}
+use Rattle.rtr_world.proofs.WorldSteps.{Known, history_keeps, KeptAlways}
 use Rattle.std.specs.Prelude.{◌≡◌, ℕ, Bool, true, false, not, ◌&&◌, List, [], ◌∷◌, ◌++◌, take, Option, refl, ⊤}
 use Rattle.std.proofs.Common.{◌∙◌, sym, ap, subst}
 use Rattle.std.specs.List.{AllByRecursion}
@@ -127,7 +127,7 @@ refused_runs w s h =
     let k : SideRuns (refused_at s) = record { calls = h.calls; can_be = h.can_be; router_is = h.router_is; items_are = h.items_are } in
     closed_by SideRuns (instances w) (refused_at s) (λ e. k) (λ e. one_more (Closes s.router.now) s.router (Refused ∷ s.items) tt k)
 
-kept : Kept SideRuns
+kept : KeptAlways SideRuns
 kept = record {
   new = record { calls = []; can_be = tt; router_is = refl; items_are = refl };
   keeps = λ w. record { wires = λ s h conn up down home read. h; own = own_runs w; gets = gets_run w; restart = runs_anew; refused = refused_runs w };

@@ -21,9 +21,9 @@ use Rattle.rtr_ends.specs.Connection.{IsLater}
 use Rattle.rtr_ends.specs.LinkRules.{Router, on_unit}
 use Rattle.rtr_ends.specs.RouterLaws.{IsKept}
 use Rattle.rtr_ends.specs.RouterLink.{Link, Idle, Asked, Answering, Ended, is_reading}
-use Rattle.rtr_ends.specs.Transcript.{Begun, Committed, Question, base_of, kept, Item, At, Reads, Lacks}
-use Rattle.rtr_world.specs.Claims.{ActExactlyOnce, Always, EachOnce, HoldsNamed, IsRouteJudged, IsNamed, Headline, NoWayBack, RouteStates, AnswersNow, Tables}
-use Rattle.rtr_world.specs.History.{Outcome, Done, SessionUsed, TooManyVersions, Memory, is_near, room_for, room_since, all_have_room, is_used, refusal, MayEnd, after, IsEvent, Entry, Made, IsMade, conn_due, Leads}
+use Rattle.rtr_ends.specs.Transcript.{Begun, Committed, Question, base_of, kept, Item, At, Reads, Lacks, Kept, acts_once, at_end_of_data, bounded, does_commit, led_to, moment, nothing, spoken, under_way}
+use Rattle.rtr_world.specs.Claims.{ActExactlyOnce, Always, EachOnce, HoldsNamed, IsRouteJudged, IsNamed, Headline, NoWayBack, RouteStates, AnswersNow, Tables, ActsOnce, OneWorld, EachLeads, RefusesRightly}
+use Rattle.rtr_world.specs.History.{Outcome, Done, SessionUsed, TooManyVersions, Memory, is_near, room_for, room_since, all_have_room, is_used, refusal, MayEnd, after, IsEvent, Entry, Made, IsMade, conn_due, Leads, LeadsFrom}
 use Rattle.rtr_world.specs.OneAnswer.{without_notifies}
 use Rattle.rtr_world.specs.VersionPlaces.{NeverBack, position_of}
 use Rattle.rtr_world.specs.World.{Side, SideEvent, World, instances, Event, Publish, Restart, On, cache_gone, on_side, goes_through, settled, is_refused, side_step, side_refused, settle, new_world, cache_gets, new_side}
@@ -36,13 +36,34 @@ use Rattle.rtr_world.proofs.SideSteps.{live_map, live_of, byte_good, clocked_goo
 use Rattle.rtr_world.proofs.UnitStreams.{Stream, behind_early, byte_case}
 use Rattle.rtr_world.proofs.KeptTables.{AllTell, SideTells, after_tells, new_side_tells}
 use Rattle.rtr_world.proofs.Versions.{Stands, TableAt, Present, table_named, position_at, of_present, stands_published, stands_restarted, find_session, lt_of, same_session_in, some_is, Seen, IsSeen}
-use Rattle.rtr_world.proofs.ActingOnce.{each_once}
 use Rattle.prefixes.proofs.Basics.{eq_self, eq_of, eq_true, lt_true, true_of_not}
 use Rattle.rtr_ends.specs.Router.{Receiving, asked_by, router_stops, router_byte, clocked, receives}
 use Rattle.rtr_ends.proofs.FeedingLaws.{feed_keeps}
 use Rattle.rtr_ends.proofs.KeptUnits.{Tells}
 use Rattle.rtr_world.proofs.UnitCases.{Brings, byte_by}
+use Rattle.rtr_pdu.specs.declared.unit.Unit.TheVariants.{EndOfData, EndOfData0}
+use Rattle.rtr_ends.specs.Timing.{default_intervals}
+use Rattle.rtr_ends.proofs.TableLaws.{acts_exactly}
 use Rattle.rtr_ends.specs.declared.link.End.TheVariants as ends
+
+-- What a transcript commits, acts, and acts once.
+at_end_once : (answer : Option Begun) (version : Committed) (k : Kept) → ActsOnce (does_commit answer version.session k.table) answer k.table (at_end_of_data answer version k).table
+at_end_once None version k = tt
+at_end_once (Some a) version k = by_test (version.session == a.session) (acts_once (base_of a.question k.table) a.withdrawn a.announced) refl
+  where
+    by_test : (same once : Bool) → acts_once (base_of a.question k.table) a.withdrawn a.announced ≡ once
+        → ActsOnce (same && once) (Some a) k.table (if same then (if once then record { version = Some version; table = led_to (base_of a.question k.table) a.withdrawn a.announced } else k) else nothing).table
+    by_test false once is = tt
+    by_test true false is = tt
+    by_test true true is = (acts_exactly (base_of a.question k.table) a.withdrawn a.announced).0 is
+
+pub each_once : (items : List Item) → EachOnce items
+each_once [] = tt
+each_once (Reads (EndOfData session serial refresh retry expire) ∷ items) =
+    (at_end_once (under_way items) (record { version = spoken items; session = session; serial = serial; moment = moment items; intervals = bounded refresh retry expire }) (kept items), each_once items)
+each_once (Reads (EndOfData0 session serial) ∷ items) =
+    (at_end_once (under_way items) (record { version = spoken items; session = session; serial = serial; moment = moment items; intervals = default_intervals }) (kept items), each_once items)
+each_once (_ ∷ items) = (tt, each_once items)
 
 pub record GoodWorld (w : World) : Type 0 where
   pub present : Present (instances w) w.present
@@ -392,11 +413,11 @@ answers_now = always _ (λ w p s k live most wanting. gets_now w p most wanting 
 
 -- What each call, each wire and each PDU keeps holds after every list of events.
 -- what each event keeps
-pub record Kept (P : Side → Type 0) : Type 0 where
+pub record KeptAlways (P : Side → Type 0) : Type 0 where
   pub new : P new_side
   pub keeps : (w : World) → KeptByCalls w (λ s wanting. Known w s) P
 
-module _ (P : Side → Type 0) (k : Kept P) where
+module _ (P : Side → Type 0) (k : KeptAlways P) where
   abbrev AllP : World → Type 0
   AllP w = AllByRecursion P w.sides
 
@@ -465,3 +486,45 @@ module _ (w : World) (s : Side) (known : Known w s) (Q : Router → List Item �
         tells = clocked_tells s.router.now s.router s.items known.1.tells;
         holds = start;
       })).holds
+
+-- Histories lead somewhere, and to one world.
+one_from : (old : World) (history : List Entry) (w v : World) → LeadsFrom old history w → LeadsFrom old history v → w ≡ v
+one_from old [] w v h k = h ∙ sym k
+one_from old (entry ∷ history) w v h k =
+    let same : h.0 ≡ k.0 = h.1.2 ∙ sym k.1.2 in
+    one_from k.0 history w v (subst (λ x. LeadsFrom x history w) same h.2) k.2
+
+pub one_world : OneWorld
+one_world made history w v h k = one_from (new_world made.routers made.session made.session0 made.start made.keep) history w v h.1 k.1
+
+-- an outcome that an event may have
+abbrev outcome_of : Option Outcome → Outcome
+outcome_of None = Done None
+outcome_of (Some refused) = refused
+
+may_end : (o : Option Outcome) (w : World) (event : Event) → MayEnd o w event (outcome_of o)
+may_end None w event = tt
+may_end (Some refused) w event = refl
+
+each_from : (old : World) (events : List Event) → AllByRecursion IsEvent events → (history : List Entry) × (w : World) × (map (λ e. e.event) history ≡ events) × LeadsFrom old history w
+each_from old [] fits = ([], old, refl, refl)
+each_from old (event ∷ events) fits =
+    let outcome : Outcome = outcome_of (refusal old event) in
+    let next : World = after event (outcome_of (refusal old event)) old in
+    let rest = each_from (after event (outcome_of (refusal old event)) old) events fits.1 in (
+      record { event = event; outcome = outcome_of (refusal old event) } ∷ rest.0,
+      rest.1,
+      ap (λ x. event ∷ x) rest.2,
+      (after event (outcome_of (refusal old event)) old, (fits.0, may_end (refusal old event) old event, refl), rest.3),
+    )
+
+pub each_leads : EachLeads
+each_leads made events is fits =
+    let k = each_from (new_world made.routers made.session made.session0 made.start made.keep) events fits in (k.0, k.1, k.2, (is, k.3))
+
+pub refuses_rightly : RefusesRightly
+unfolding refusal
+refuses_rightly w = record {
+  never = λ set current. ap (λ b. if b || all_have_room w.present w.sides then None else Some TooManyVersions) current;
+  alone = λ event refused outcome due ends. subst (λ o. MayEnd o w event outcome) due ends;
+}

@@ -1,4 +1,4 @@
-use Rattle.rtr_world.proofs.CatchUpEnds.{catches_up}
+use Rattle.rtr_world.proofs.CatchUpRounds.{catches_up}
 use Rattle.rtr_world.proofs.laws.catches_up.Goals as goal
 
 pub returns : goal.returns

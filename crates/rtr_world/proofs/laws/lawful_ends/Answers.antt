@@ -1,5 +1,4 @@
-use Rattle.rtr_world.proofs.EndsNoted.{ends_noted, ends_kept, lawful_ends}
-use Rattle.rtr_world.proofs.WantedEnds.{none_by_memory}
+use Rattle.rtr_world.proofs.EndsNoted.{ends_noted, ends_kept, lawful_ends, none_by_memory}
 use Rattle.rtr_world.proofs.laws.lawful_ends.Goals as goal
 
 pub returns : goal.returns

@@ -1,4 +1,4 @@
-use Rattle.rtr_world.proofs.CatchUpEnds.{rounds_end}
+use Rattle.rtr_world.proofs.CatchUpRounds.{rounds_end}
 use Rattle.rtr_world.proofs.CatchUpSteps.{rounds_are_steps}
 use Rattle.rtr_world.proofs.laws.rounds_end.Goals as goal
 

@@ -1,5 +1,5 @@
 use Rattle.rtr_world.proofs.Rests.{settles, others_stay}
-use Rattle.rtr_world.proofs.HistoryLeads.{each_leads, one_world, refuses_rightly}
+use Rattle.rtr_world.proofs.WorldSteps.{each_leads, one_world, refuses_rightly}
 use Rattle.rtr_world.proofs.Rounds.{after_refused}
 use Rattle.rtr_world.proofs.MovesNoMore.{moves_no_more}
 use Rattle.rtr_world.proofs.laws.steps.Goals as goal
