@@ -19,7 +19,7 @@ use Rattle.rtr_ends.specs.Answer.{report, sent}
 use Rattle.rtr_ends.specs.Cache.{counted, finds_memory, is_none}
 use Rattle.rtr_ends.specs.Connection.{bytes_sent, in_version}
 use Rattle.rtr_ends.specs.LinkRules.{Router, Staged, Stays, commit, fails, may_lack, on_unit, stage, staged}
-use Rattle.rtr_ends.specs.Router.{Receiving, clocked, expired, lacks, reads, receives, router_byte, router_stops, with_bytes}
+use Rattle.rtr_ends.specs.Router.{Receiving, clocked, expired, receives, router_byte, router_stops, with_bytes}
 use Rattle.rtr_ends.specs.RouterLink.{Idle, Asked, Answering, Ended, is_reading}
 use Rattle.rtr_ends.specs.Timing.{Intervals, default_intervals}
 use Rattle.rtr_ends.specs.Transcript.{At, AskReset, AskSerial, Begun, Committed, Question, base_of, bounded, is_over, is_serial, is_wrong, later, of_version, query}

@@ -383,19 +383,19 @@ module _ (w : World) (p : Present (instances w) w.present) (h : Seen) where
         by_read (has_ended end is none (inl l)) = closes (settle_closes (instances w) n end is none) (inl l)
         by_read (has_ended end is none (inr e)) = closes (settle_closes (instances w) n end is none) (inr (e.0, settle_empties (instances w) n end is none e.1 e.2))
         by_read (asks_again serial is out held mine table none on same) = waits_or (ap is_reading is) none (λ c. asks_all serial (subst (λ x. Asks w p h AskReset x) (sym (settled c (ap is_reading is))) (record {
-              knows = knows_again s.router.spoken n.router.spoken q s.router.version n.router.version s.router.table n.router.table mine table same a.knows;
-              conn = c.o;
-              conn_is = c.is;
-              held = c.held;
-              spoken = subst (λ v. MaySpeak v c.o.state.version) (sym same) c.spoken;
-              due = c.due;
-              on = c.on;
-              up = a.up;
-              down = none_down none;
-              link = is;
-              out = out;
-              router_held = held;
-            }))) on
+          knows = knows_again s.router.spoken n.router.spoken q s.router.version n.router.version s.router.table n.router.table mine table same a.knows;
+          conn = c.o;
+          conn_is = c.is;
+          held = c.held;
+          spoken = subst (λ v. MaySpeak v c.o.state.version) (sym same) c.spoken;
+          due = c.due;
+          on = c.on;
+          up = a.up;
+          down = none_down none;
+          link = is;
+          out = out;
+          router_held = held;
+        }))) on
 
     -- All bytes go.
     question_few : (q : Question) (most : ℕ) (s : Side) → IsAll most → Knows w p h s.router.spoken q s.router.version s.router.table → length (sent s.router.spoken (query q)) ≤ most

@@ -13,7 +13,7 @@ use Rattle.rtr_ends.specs.Answer.{session_in, report, whole_answer}
 use Rattle.rtr_ends.specs.Cache.{Conn, is_none, finds_memory}
 use Rattle.rtr_ends.specs.Feeding.{feed}
 use Rattle.rtr_ends.specs.LinkRules.{Router, emptied, may_lack, Staged, Stays, ask, fails, is_strange, is_news, stage, staged, commit, on_unit}
-use Rattle.rtr_ends.specs.Router.{Receiving, clocked, close, connects_at, expired, lacks, reads, receives, router_byte, router_pulled, router_stops, with_bytes}
+use Rattle.rtr_ends.specs.Router.{Receiving, clocked, close, connects_at, expired, receives, router_byte, router_pulled, router_stops, with_bytes}
 use Rattle.rtr_ends.specs.RouterLink.{Link, Closed, Idle, Asked, Answering, Ended, is_closed, is_reading}
 use Rattle.rtr_ends.specs.Transcript.{Committed, is_over, later, At, Begun, Question, AskReset, AskSerial, base_of, bounded, is_wrong, led_to, of_version}
 use Rattle.rtr_ends.proofs.ConsumedUnits.{unit_held}

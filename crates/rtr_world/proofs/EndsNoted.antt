@@ -291,7 +291,6 @@ unit_free Closed u r h = h
 unit_free (Ended end) u r h = h
 unit_free Idle (SerialNotify session serial) r h = notified_free (is_strange r session) (is_news (of_version r.spoken r.version) serial) (SerialNotify session serial) r h
 unit_free Idle (ErrorReport e) r h = report_free (e.code == 2) e.code r h
-unit_free Idle _ r h = tt
 unit_free (Asked question) (SerialNotify session serial) r h = strange_free (is_strange r session) (SerialNotify session serial) r h
 unit_free (Asked question) (CacheResponse session) r h = by_wrong (is_wrong (Some question) (of_version r.spoken r.version) session)
   where
@@ -301,7 +300,6 @@ unit_free (Asked question) (CacheResponse session) r h = by_wrong (is_wrong (Som
 unit_free (Asked AskReset) CacheReset r h = tt
 unit_free (Asked (AskSerial session serial)) CacheReset r h = tt
 unit_free (Asked question) (ErrorReport e) r h = told_free question e.code (record r { agreed = true })
-unit_free (Asked question) _ r h = tt
 unit_free (Answering a) (SerialNotify session serial) r h = strange_free (is_strange r session) (SerialNotify session serial) r h
 unit_free (Answering a) (Prefix announce v) r h = staged_free (Prefix announce v) (stage (base_of a.question r.table) a announce v) r
 unit_free (Answering a) (RouterKey key) r h = h
@@ -310,7 +308,7 @@ unit_free (Answering a) (EndOfData session serial refresh retry expire) r h =
 unit_free (Answering a) (EndOfData0 session serial) r h =
     ended_free a (EndOfData0 session serial) (record { version = r.spoken; session = session; serial = serial; moment = r.now; intervals = default_intervals }) r (session == a.session)
 unit_free (Answering a) (ErrorReport e) r h = told_free a.question e.code r
-unit_free (Answering a) _ r h = tt
+unit_free _ _ r h = tt
 
 -- a byte, where memory does not run out
 byte_free : (bytes : List ℕ) (r : Router) (j : Judgement) → Free r.link → Free (with_bytes true bytes r j).router.link

@@ -22,7 +22,6 @@ pub mod MovedBytes
 pub mod MovesNoMore
 pub mod Moving
 pub mod OneAnswers
-pub mod PlaceRows
 pub mod Places
 pub mod PlacesNoted
 pub mod Publishing

@@ -5,7 +5,7 @@ use Rattle.std.specs.List.{AllByRecursion}
 use Rattle.vrps.specs.Instance.{Instance}
 use Rattle.rtr_ends.specs.Cache.{Conn}
 use Rattle.rtr_ends.specs.Router.{closed_at}
-use Rattle.rtr_ends.specs.RouterLink.{Link, Closed, Idle, Asked, Answering, Ended, is_closed}
+use Rattle.rtr_ends.specs.RouterLink.{Link, Closed, Ended, is_closed}
 use Rattle.rtr_ends.proofs.TableLaws.{false_true}
 use Rattle.rtr_world.specs.Claims.{Settles, OthersStay}
 use Rattle.rtr_world.specs.History.{Entry, IsEvent, Leads, Made, MayEnd, Memory, Outcome, Done, after, refusal, side_at}

@@ -8,7 +8,7 @@ use Rattle.rtr_pdu.specs.Judging.{Judgement, Begins, Whole, Faulty, judge}
 use Rattle.rtr_ends.specs.Cache.{finds_memory, is_none}
 use Rattle.rtr_ends.specs.Consumed.{IsRouterCall}
 use Rattle.rtr_ends.specs.LinkRules.{Router, on_unit, may_lack}
-use Rattle.rtr_ends.specs.Router.{Receiving, RouterCall, Connects, Receives, Pulls, Closes, AsksNow, Ticks, Speaks, called, asked_by, with_bytes, router_stops, router_byte, clocked, asks, asks_if, connects_at, closed_at, ticks_at, receives}
+use Rattle.rtr_ends.specs.Router.{Receiving, RouterCall, Connects, Receives, Closes, AsksNow, Ticks, called, asked_by, with_bytes, router_stops, router_byte, clocked, asks, asks_if, connects_at, closed_at, ticks_at, receives}
 use Rattle.rtr_ends.specs.RouterLink.{Link, Asked, is_due, is_idle, is_reading}
 use Rattle.rtr_ends.specs.Transcript.{Item, At, Reads, Refused, Restarts}
 use Rattle.rtr_ends.proofs.ByteLists.{none_bytes}

@@ -12,8 +12,8 @@ use Rattle.rtr_pdu.specs.declared.unit.Unit.TheVariants.{SerialNotify}
 use Rattle.rtr_ends.specs.declared.link.End.TheVariants as ends
 use Rattle.rtr_ends.specs.Connection.{bytes_sent, in_version}
 use Rattle.rtr_ends.specs.Cache.{Conn, is_none, finds_memory}
-use Rattle.rtr_ends.specs.LinkRules.{Router, emptied, on_unit, may_lack}
-use Rattle.rtr_ends.specs.Router.{Receiving, reads, with_bytes, router_stops, router_byte, expired, clocked, close, asks_if}
+use Rattle.rtr_ends.specs.LinkRules.{Router, emptied, on_unit}
+use Rattle.rtr_ends.specs.Router.{Receiving, with_bytes, router_stops, router_byte, expired, clocked, close, asks_if}
 use Rattle.rtr_ends.specs.RouterLink.{Link, Closed, Idle, Asked, Answering, Ended, is_reading, is_closed, is_idle}
 use Rattle.rtr_ends.specs.Transcript.{choose, Question, AskReset, AskSerial, query, is_serial, is_over, later, of_version, sum_of, retry_of}
 use Rattle.rtr_ends.proofs.KeptLaws.{none_is, same_base}
