@@ -1,8 +1,7 @@
 -- What the cache reads and sends keeps the invariant.
-use Rattle.rtr_world.proofs.RouterCases.{none_counted}
 use Rattle.std.specs.Prelude.{◌≡◌, ◌⊎◌, ℕ, ◌+◌, Bool, true, false, not, ◌&&◌, ◌||◌, nat_lt, List, [], ◌∷◌, ◌++◌, length, Option, Some, None, IsSome, if◌then◌else◌, refl}
-use Rattle.std.proofs.Common.{sym, ap, ◌∙◌, subst, arith, inl, inr}
 use Rattle.std.specs.List.{AllByRecursion, list_any}
+use Rattle.std.proofs.Common.{sym, ap, ◌∙◌, subst, arith, inl, inr}
 use Rattle.std.proofs.lemmas.Bool.{and_parts, or_parts}
 use Rattle.std.proofs.lemmas.Bool.Decides.{nat_tests}
 use Rattle.std.proofs.lemmas.List.{append-nil, length-append}
@@ -27,6 +26,7 @@ use Rattle.rtr_ends.proofs.TableLaws.{false_true}
 use Rattle.rtr_ends.proofs.FeedingLaws.{feed_keeps}
 use Rattle.rtr_world.specs.OneAnswer.{IsOfNow, NotifiesOf, without_notifies}
 use Rattle.rtr_world.specs.World.{is_read, timing}
+use Rattle.rtr_world.proofs.RouterCases.{none_counted}
 use Rattle.rtr_world.proofs.AnswerLaws.{plain_stays, plain_notifies, without-append, notifies-append}
 use Rattle.rtr_world.proofs.CacheSteps.{from_now, is_now, IsAnswered, answered_report, answer_answers, serial_low, session_low}
 use Rattle.rtr_world.proofs.Invariant.{OneReply, QuestionFits, Replies, no_memory, Shape, Open, Unheard, Flow, Live, GoodLink, GoodRouter}

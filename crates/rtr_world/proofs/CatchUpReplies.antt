@@ -1,5 +1,4 @@
 -- A router that is handed a whole reply reads it: its link is idle then, or has ended, or it asks anew after a Cache Reset.
-use Rattle.rtr_world.proofs.RouterCases.{none_counted}
 use Rattle.std.specs.Prelude.{◌≡◌, ◌⊎◌, ℕ, ◌<◌, Bool, true, false, not, ◌&&◌, ◌==◌, List, [], ◌∷◌, ◌++◌, length, Option, Some, None, if◌then◌else◌, refl}
 use Rattle.std.proofs.Common.{sym, ap, ◌∙◌, subst, subst₂, arith, inl, inr}
 use Rattle.std.proofs.lemmas.Bool.{and_parts}
@@ -25,6 +24,7 @@ use Rattle.rtr_ends.specs.Timing.{Intervals, default_intervals}
 use Rattle.rtr_ends.specs.Transcript.{At, AskReset, AskSerial, Begun, Committed, Question, base_of, bounded, is_over, is_serial, is_wrong, later, of_version, query}
 use Rattle.rtr_ends.proofs.FeedingLaws.{feed_keeps, feed_takes}
 use Rattle.rtr_ends.proofs.TableLaws.{false_true}
+use Rattle.rtr_world.proofs.RouterCases.{none_counted}
 use Rattle.rtr_world.proofs.CatchUpAnswers.{other_report}
 use Rattle.rtr_world.proofs.Invariant.{after_stage, Leads, Mine, QuestionFits, Replies, no_data, not_kept, other_session, no_memory, response, nothing_yet}
 use Rattle.rtr_world.proofs.UnitsAtRouters.{first_is, no_unit, rest_is, right_response, stage_keeps}

@@ -1,5 +1,4 @@
 -- What the clean-up after an event does to a side on which bytes go on, and to one whose link has ended.
-use Rattle.rtr_world.proofs.RouterCases.{expired_by}
 use Rattle.std.specs.Prelude.{◌≡◌, ◌⊎◌, ℕ, Bool, true, false, List, [], ◌∷◌, Option, Some, None, if◌then◌else◌, refl}
 use Rattle.std.proofs.Common.{sym, ap, ◌∙◌, subst, inl, inr}
 use Rattle.vrps.specs.Instance.{Instance}
@@ -11,10 +10,11 @@ use Rattle.rtr_ends.specs.Router.{clocked, close, closed_at, expired}
 use Rattle.rtr_ends.specs.RouterLink.{Link, Closed, Ended, is_closed, is_reading}
 use Rattle.rtr_ends.specs.Transcript.{is_over, later, retry_of, sum_of}
 use Rattle.rtr_ends.proofs.TableLaws.{false_true}
+use Rattle.rtr_ends.proofs.FetchStreamLaws.{open_link}
 use Rattle.rtr_world.specs.World.{Side, close_ended, noted, settle, settle_conn, settle_link, settle_rest, settle_wire, tell_closed}
+use Rattle.rtr_world.proofs.RouterCases.{expired_by}
 use Rattle.rtr_world.proofs.EventCalls.{told_closes, closed_link, rest_keeps, wire_keeps, Lessens, reading_on}
 use Rattle.rtr_world.proofs.Rests.{GoesOn, stays, conn_router}
-use Rattle.rtr_ends.proofs.FetchStreamLaws.{open_link}
 
 -- A live link whose connection goes on is left as it is.
 pub settle_open : (all : List Instance) (s : Side) (o : Conn) → s.conn ≡ Some o → (o.state.ended ≡ true → o.state.due ≡ [] → ⊥) → is_reading s.router.link ≡ true → settle all s ≡ s

@@ -1,14 +1,17 @@
 -- A router that connected holds the newest version where its link is idle: its own moves keep that.
-use Rattle.rtr_world.proofs.RouterCases.{expired_by, close_by}
 use Rattle.std.specs.Prelude.{◌≡◌, ℕ, ◌≤◌, Bool, true, false, not, ◌&&◌, nat_lt, List, [], ◌∷◌, ◌++◌, length, take, drop, Option, Some, if◌then◌else◌, refl, ◌+◌, ◌-◌, ◌<◌, ◌==◌, None, ⊤, map}
+use Rattle.std.specs.List.{AllByRecursion}
 use Rattle.std.proofs.Common.{sym, ap, ◌∙◌, subst, subst₂, arith, inl, inr, zero, suc}
 use Rattle.std.proofs.lemmas.Bool.{and_parts}
 use Rattle.std.proofs.lemmas.List.{take-append-drop, length-append}
+use Rattle.std.proofs.lemmas.Bool.Decides.{nat_tests}
 use Rattle.vrps.specs.Instance.{Instance, versions, versions_from}
 use Rattle.vrps.specs.VrpSet.{VrpSet}
+use Rattle.vrps.specs.Serial.{serial_at}
 use Rattle.rtr_pdu.specs.Judging.{Judgement, Whole, judge}
 use Rattle.rtr_pdu.specs.declared.unit.Unit.TheVariants.{SerialNotify, CacheResponse, Prefix, EndOfData, EndOfData0, CacheReset, ErrorReport}
 use Rattle.rtr_pdu.specs.declared.version.Version.{Version}
+use Rattle.rtr_pdu.specs.declared.unit.Unit.{Unit}
 use Rattle.rtr_ends.specs.Answer.{session_in, report, whole_answer}
 use Rattle.rtr_ends.specs.Cache.{Conn, is_none, finds_memory}
 use Rattle.rtr_ends.specs.Feeding.{feed}
@@ -16,6 +19,7 @@ use Rattle.rtr_ends.specs.LinkRules.{Router, emptied, may_lack, Staged, Stays, a
 use Rattle.rtr_ends.specs.Router.{Receiving, clocked, close, connects_at, expired, receives, router_byte, router_pulled, router_stops, with_bytes}
 use Rattle.rtr_ends.specs.RouterLink.{Link, Closed, Idle, Asked, Answering, Ended, is_closed, is_reading}
 use Rattle.rtr_ends.specs.Transcript.{Committed, is_over, later, At, Begun, Question, AskReset, AskSerial, base_of, bounded, is_wrong, led_to, of_version}
+use Rattle.rtr_ends.specs.Timing.{Intervals, default_intervals}
 use Rattle.rtr_ends.proofs.ConsumedUnits.{unit_held}
 use Rattle.rtr_ends.proofs.FeedingLaws.{feed_keeps}
 use Rattle.rtr_ends.proofs.TableLaws.{false_true}
@@ -23,21 +27,17 @@ use Rattle.rtr_world.specs.CatchUp.{IsMove, HoldsNewest, AreMoves, IdleIsCurrent
 use Rattle.rtr_world.specs.History.{conn_due, Outcome, Done, Memory, after, Entry, LeadsFrom, side_at}
 use Rattle.rtr_world.specs.OneAnswer.{without_notifies}
 use Rattle.rtr_world.specs.World.{Side, World, instances, SideEvent, Connect, RouterSends, CacheGets, CacheSends, RouterGets, Cut, connects, router_sends, cache_sends, cache_gets, router_gets, cut, side_step, side_part, side_refused, settle, tell_closed, timing, Event, On, goes_through, is_refused, new_world, on_side, settled}
+use Rattle.rtr_world.proofs.RouterCases.{expired_by, close_by}
 use Rattle.rtr_world.proofs.EventCalls.{told_closes, gets_keep, sends_keep, settle_keeps, lesser, part_by}
 use Rattle.rtr_world.proofs.Invariant.{Flow, Good, GoodRouter, Live, Shape, Mine, OneReply, QuestionFits, OfAnswer, Replies, no_data, not_kept, other_session, no_memory, response, nothing_yet}
 use Rattle.rtr_world.proofs.SideSteps.{byte_good, clocked_good, live_of, HeadCase, a_notify, another, head_case}
 use Rattle.rtr_world.proofs.UnitStreams.{ByteCase, byte_case, either_by, case_by}
 use Rattle.rtr_world.proofs.Versions.{Present, TableAt, some_is, Seen, IsSeen, HeldAt, Stands, find_session, has_sets, held_at, of_present}
-use Rattle.prefixes.proofs.Basics.{true_of_not}
-use Rattle.std.proofs.lemmas.Bool.Decides.{nat_tests}
-use Rattle.vrps.specs.Serial.{serial_at}
-use Rattle.rtr_pdu.specs.declared.unit.Unit.{Unit}
-use Rattle.rtr_ends.specs.Timing.{Intervals, default_intervals}
 use Rattle.rtr_world.proofs.UnitsAtRouters.{first_is, no_unit}
-use Rattle.std.specs.List.{AllByRecursion}
 use Rattle.rtr_world.proofs.SideLaws.{all_new}
 use Rattle.rtr_world.proofs.KeptTables.{AllTell, SideTells, after_tells, new_side_tells}
 use Rattle.rtr_world.proofs.WorldSteps.{GoodWorld, after_good, new_good}
+use Rattle.prefixes.proofs.Basics.{true_of_not}
 
 -- A PDU that makes a link idle brings the newest version.
 no_elements : {A : Type 0} (xs : List A) → length xs ≤ 0 → xs ≡ []

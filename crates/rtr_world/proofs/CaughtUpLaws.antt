@@ -1,5 +1,4 @@
 -- Catching up, connection by connection.
-use Rattle.rtr_world.proofs.SideLaws.{inside}
 use Rattle.std.specs.Prelude.{◌≡◌, ◌⊎◌, ℕ, ◌+◌, ◌≤◌, ◌<◌, Bool, true, false, not, List, [], ◌∷◌, ◌++◌, length, Option, Some, None, IsSome, is_some, option_and_then, option_map, Result, Ok, Err, is_err, refl, ⊤}
 use Rattle.std.proofs.Common.{sym, ap, ◌∙◌, subst, append_assoc, arith, inl, inr}
 use Rattle.std.proofs.lemmas.List.{append-nil}
@@ -22,6 +21,7 @@ use Rattle.rtr_world.specs.declared.event.CatchFault.{CatchFault}
 use Rattle.rtr_world.specs.declared.event.CatchFault.TheVariants as faults
 use Rattle.rtr_world.specs.declared.event.WorldFault.{WorldFault}
 use Rattle.rtr_world.specs.declared.world.World as code
+use Rattle.rtr_world.proofs.SideLaws.{inside}
 use Rattle.rtr_world.proofs.CatchUpSides.{idle_is_current}
 use Rattle.rtr_world.proofs.CatchUpRounds.{catches_up, rounds_end}
 use Rattle.rtr_world.proofs.CatchUpSteps.{SameCache, round_same, rounded_cache, rounds_are_steps, same_cache, stepped_cache}

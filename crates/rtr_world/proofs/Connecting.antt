@@ -1,9 +1,8 @@
 -- A connection is made.
-use Rattle.rtr_world.proofs.SideLaws.{inside}
 use Rattle.std.specs.Prelude.{◌≡◌, ℕ, ◌-◌, ◌<◌, ◌^◌, ◌==◌, true, List, [], ◌∷◌, length, find, Option, Some, None, is_some, Result, Ok, Err, if◌then◌else◌, refl, ⊤, false}
+use Rattle.std.specs.declared.alloc.AllocError.{AllocError}
 use Rattle.std.proofs.Common.{sym, ap, ◌∙◌, subst, arith, inr, inl}
 use Rattle.std.proofs.lemmas.Bool.{cases_Bool}
-use Rattle.std.specs.declared.alloc.AllocError.{AllocError}
 use Rattle.vrps.specs.Instance.{Instance, NumberedSet, versions_from}
 use Rattle.vrps.specs.Serial.{serial_at}
 use Rattle.vrps.specs.Steps.{HoldsSteps, Steps}
@@ -22,6 +21,7 @@ use Rattle.rtr_world.specs.History.{is_used}
 use Rattle.rtr_world.specs.SideShown.{BeginsEvent, ConnIs, Has, IsSince, MadeAt, MadeWhere, Moves, ShowsSide, state_of}
 use Rattle.rtr_world.specs.World.{World, Side, Connect, connects, cut, instances, side_step}
 use Rattle.rtr_world.specs.declared.side.Side as values
+use Rattle.rtr_world.proofs.SideLaws.{inside}
 use Rattle.rtr_world.proofs.Moving.{and_then, clocked_same, none_conn, none_some, put, put_here, put_there}
 use Rattle.prefixes.proofs.Basics.{eq_self, eq_of}
 

@@ -1,35 +1,35 @@
 -- Each link ends lawfully, each end is noted, where an event is refused too, and none is dropped.
-use Rattle.rtr_world.proofs.SideLaws.{all_weaker, all_map, all_new}
 use Rattle.std.specs.Prelude.{◌≡◌, ℕ, true, false, List, [], ◌∷◌, ◌++◌, drop, Option, Some, None, zero, suc, Bool, map, refl, take, ⊤, not, ◌&&◌, ◌==◌, if◌then◌else◌}
-use Rattle.std.proofs.Common.{sym, ap, ◌∙◌, subst, inl, inr, subst₂, append_assoc}
 use Rattle.std.specs.List.{AllByRecursion}
+use Rattle.std.proofs.Common.{sym, ap, ◌∙◌, subst, inl, inr, subst₂, append_assoc}
 use Rattle.vrps.specs.Instance.{Instance}
+use Rattle.rtr_pdu.specs.declared.unit.Unit.{Unit}
+use Rattle.rtr_pdu.specs.Judging.{Judgement, Begins, Whole, Faulty, judge}
+use Rattle.rtr_pdu.specs.Stream.{type_of}
+use Rattle.rtr_pdu.specs.declared.unit.Unit.TheVariants.{SerialNotify, CacheResponse, Prefix, EndOfData, EndOfData0, CacheReset, RouterKey, ErrorReport}
 use Rattle.rtr_ends.specs.declared.link.End.{End}
 use Rattle.rtr_ends.specs.Router.{Noted, called, RouterCall, clocked, close, closed_at, Connects, Receives, Pulls, Closes, AsksNow, Ticks, Speaks, silent, router_pulled, asked_by, asks_if, connects_at, ticks_at, asks, receives, of_received, Receiving, lacks, reads, router_byte, router_stops, with_bytes}
 use Rattle.rtr_ends.specs.RouterLink.{Link, Ended, Asked, is_due, is_idle, Closed, Idle, Answering}
 use Rattle.rtr_ends.specs.Transcript.{outstanding, spoken, Item, Question, AskSerial, At, Reads, question_of, AskReset, base_of, Begun, Committed, bounded, is_serial, is_wrong, of_version, retry_of, sum_of}
-use Rattle.rtr_world.specs.World.{Ending, Side, World, instances, SideEvent, is_ended, ending_of, noted, router_restarts, cut, side_refused, side_step, Publish, Restart, On, cache_gone, goes_through, is_refused, on_side, settle, settled, tell_closed, RouterGets, Event}
-use Rattle.rtr_world.specs.Claims.{EndsNoted, NotesEnds, EndsKept, NoneDropped, OneMore, IsLawfulEnd, OfAnother, LawfulEnds, NamesNone, NoneByMemory, NotByMemory}
-use Rattle.rtr_world.proofs.Rests.{Rests, history_rests}
-use Rattle.rtr_world.proofs.EventCalls.{call_of, lesser, part_by, after_call, step_by, closed_by, settle_keeps, KeptByCalls, refused_at, IsOwnCall, closed_link, refusal_keeps, IfGets, each_settles, done_keeps}
-use Rattle.rtr_world.specs.History.{Done, Memory, Outcome, Entry, LeadsFrom, after}
-use Rattle.rtr_world.proofs.RouterCases.{asks_by, clocked_by, close_by, none_counted}
-use Rattle.rtr_world.proofs.WorldSteps.{Known, always_kept, received, first}
-use Rattle.rtr_pdu.specs.declared.unit.Unit.{Unit}
 use Rattle.rtr_ends.specs.LinkRules.{Router, on_unit, Staged, Stays, ask, commit, emptied, fails, is_news, is_strange, may_lack, stage, staged, ended_by, told_off}
 use Rattle.rtr_ends.specs.RouterLaws.{LinkTells}
-use Rattle.rtr_ends.proofs.KeptUnits.{Tells}
-use Rattle.rtr_world.proofs.UnitCases.{Brings, goes_on, ends_other, ends_memory, commits}
-use Rattle.rtr_world.proofs.Versions.{Seen, IsSeen}
-use Rattle.rtr_pdu.specs.Judging.{Judgement, Begins, Whole, Faulty, judge}
-use Rattle.rtr_pdu.specs.Stream.{type_of}
-use Rattle.rtr_pdu.specs.declared.unit.Unit.TheVariants.{SerialNotify, CacheResponse, Prefix, EndOfData, EndOfData0, CacheReset, RouterKey, ErrorReport}
 use Rattle.rtr_ends.specs.Timing.{default_intervals}
 use Rattle.rtr_ends.specs.Cache.{counted, finds_memory}
 use Rattle.rtr_ends.specs.Connection.{agreed_version, fault_code}
 use Rattle.rtr_ends.specs.Feeding.{feed}
-use Rattle.rtr_ends.proofs.FeedingLaws.{feed_keeps}
 use Rattle.rtr_ends.specs.declared.link.End.TheVariants as ends
+use Rattle.rtr_ends.proofs.KeptUnits.{Tells}
+use Rattle.rtr_ends.proofs.FeedingLaws.{feed_keeps}
+use Rattle.rtr_world.specs.World.{Ending, Side, World, instances, SideEvent, is_ended, ending_of, noted, router_restarts, cut, side_refused, side_step, Publish, Restart, On, cache_gone, goes_through, is_refused, on_side, settle, settled, tell_closed, RouterGets, Event}
+use Rattle.rtr_world.specs.Claims.{EndsNoted, NotesEnds, EndsKept, NoneDropped, OneMore, IsLawfulEnd, OfAnother, LawfulEnds, NamesNone, NoneByMemory, NotByMemory}
+use Rattle.rtr_world.specs.History.{Done, Memory, Outcome, Entry, LeadsFrom, after}
+use Rattle.rtr_world.proofs.SideLaws.{all_weaker, all_map, all_new}
+use Rattle.rtr_world.proofs.Rests.{Rests, history_rests}
+use Rattle.rtr_world.proofs.EventCalls.{call_of, lesser, part_by, after_call, step_by, closed_by, settle_keeps, KeptByCalls, refused_at, IsOwnCall, closed_link, refusal_keeps, IfGets, each_settles, done_keeps}
+use Rattle.rtr_world.proofs.RouterCases.{asks_by, clocked_by, close_by, none_counted}
+use Rattle.rtr_world.proofs.WorldSteps.{Known, always_kept, received, first}
+use Rattle.rtr_world.proofs.UnitCases.{Brings, goes_on, ends_other, ends_memory, commits}
+use Rattle.rtr_world.proofs.Versions.{Seen, IsSeen}
 
 -- Each link ends lawfully.
 -- a link that ended did so lawfully, at the last item

@@ -1,8 +1,7 @@
 -- What happens at a side is at most one call on its router, and changes of its wires: what each call and each wire keeps, each event keeps.
-use Rattle.rtr_world.proofs.RouterCases.{close_by}
 use Rattle.std.specs.Prelude.{◌≡◌, ℕ, Bool, true, false, List, [], ◌∷◌, ◌++◌, map, take, Option, Some, None, refl, ⊤, if◌then◌else◌}
-use Rattle.std.proofs.Common.{◌∙◌, sym, ap, subst}
 use Rattle.std.specs.List.{AllByRecursion}
+use Rattle.std.proofs.Common.{◌∙◌, sym, ap, subst}
 use Rattle.vrps.specs.Instance.{Instance}
 use Rattle.rtr_ends.specs.Cache.{Conn, new_conn}
 use Rattle.rtr_ends.specs.LinkRules.{Router}
@@ -11,8 +10,9 @@ use Rattle.rtr_ends.specs.RouterLink.{Link, Closed, Ended, is_closed, is_reading
 use Rattle.rtr_ends.specs.Transcript.{Item, Refused}
 use Rattle.rtr_ends.proofs.TableLaws.{false_true}
 use Rattle.rtr_world.specs.World.{Side, World, instances, Ending, SideEvent, RouterRestart, Speak, Connect, RouterSends, CacheGets, CacheSends, RouterGets, Cut, NotifyRouter, Ask, Tick, ending_of, is_ended, noted, connects, router_restarts, speaks, router_sends, sends_from, cache_sends, gets_at, cache_gets, notifies_at, router_gets, cut, on_side, side_step, side_part, side_refused, tell_closed, settle, settle_link, settle_rest, settle_wire, Event, close_ended, settle_conn}
-use Rattle.rtr_world.proofs.SideLaws.{all_map, all_on_side}
 use Rattle.rtr_world.specs.History.{Outcome, MayEnd, after, refusal, Entry, IsEvent, LeadsFrom}
+use Rattle.rtr_world.proofs.RouterCases.{close_by}
+use Rattle.rtr_world.proofs.SideLaws.{all_map, all_on_side}
 
 -- What each event keeps holds after every list of events; what the parts of the clean-up keep, the clean-up keeps.
 -- a fact of worlds that each event keeps

@@ -1,10 +1,8 @@
 -- Every event keeps the invariant at each router.
-use Rattle.rtr_world.proofs.RouterCases.{asks_by}
-use Rattle.rtr_world.proofs.EventCalls.{closed_by, closed_link, part_by, lesser}
 use Rattle.std.specs.Prelude.{◌≡◌, ◌⊎◌, ℕ, Bool, true, false, List, [], ◌∷◌, ◌++◌, take, drop, Option, Some, None, if◌then◌else◌, refl}
+use Rattle.std.specs.List.{list_any}
 use Rattle.std.proofs.Common.{sym, ap, ◌∙◌, subst, arith, append_assoc, inl}
 use Rattle.std.proofs.lemmas.List.{append-nil, take-append-drop, take_min}
-use Rattle.std.specs.List.{list_any}
 use Rattle.vrps.specs.Instance.{Instance}
 use Rattle.rtr_pdu.specs.declared.unit.Unit.{Unit}
 use Rattle.rtr_pdu.specs.declared.version.Version.{Version}
@@ -17,17 +15,19 @@ use Rattle.rtr_ends.specs.Router.{close, clocked, asks_if, connects_at, closed_a
 use Rattle.rtr_ends.specs.RouterLink.{Link, Closed, Ended, is_reading, is_due, is_idle}
 use Rattle.rtr_ends.specs.Transcript.{choose, of_version, At, Item, query}
 use Rattle.rtr_ends.proofs.KeptLaws.{clocked_tells}
+use Rattle.rtr_ends.proofs.ByteLists.{drop_none}
+use Rattle.rtr_ends.proofs.KeptLaws.{not_due}
 use Rattle.rtr_world.specs.OneAnswer.{IsOfNow}
 use Rattle.rtr_world.specs.VersionPlaces.{VersionPlace}
 use Rattle.rtr_world.specs.History.{conn_due}
 use Rattle.rtr_world.specs.World.{Side, World, instances, is_read, timing, SideEvent, RouterRestart, Speak, Connect, RouterSends, CacheGets, CacheSends, RouterGets, Cut, NotifyRouter, Ask, Tick, places_of, connects, router_restarts, speaks, router_sends, sends_from, cache_sends, gets_at, cache_gets, router_gets, cut, notifies_at, side_step, side_part, side_refused, tell_closed, close_ended, settle_conn, settle_link, settle_rest, settle_wire, settle}
+use Rattle.rtr_world.proofs.RouterCases.{asks_by}
+use Rattle.rtr_world.proofs.EventCalls.{closed_by, closed_link, part_by, lesser}
 use Rattle.rtr_world.proofs.CacheMoves as cache
 use Rattle.rtr_world.proofs.UnitCases.{goes_fed}
 use Rattle.rtr_world.proofs.Invariant.{OwnSession, IfOpen, Open, GoodLink, GoodRouter, Good, Flow}
 use Rattle.rtr_world.proofs.Places.{Ordered, ordered_connects, ordered_none, ordered_read}
 use Rattle.rtr_world.proofs.UnitsAtRouters.{first_fits, query_unit}
-use Rattle.rtr_ends.proofs.ByteLists.{drop_none}
-use Rattle.rtr_ends.proofs.KeptLaws.{not_due}
 use Rattle.rtr_world.proofs.SideSteps.{live_map, clocked_good, Shut, close_shut, asks_good}
 use Rattle.rtr_world.proofs.UnitStreams.{Stream, behind_early}
 use Rattle.rtr_world.proofs.KeptTables.{SideTells}

@@ -8,7 +8,6 @@ pub mod CatchUpSettling
 pub mod CatchUpSides
 pub mod CatchUpSteps
 pub mod CaughtUpLaws
-pub mod ConnRuns
 pub mod Connecting
 pub mod EndsNoted
 pub mod EventCalls

@@ -1,5 +1,4 @@
 -- An event moves no more bytes than it says, and no more where memory runs out at a PDU of it.
-use Rattle.rtr_world.proofs.RouterCases.{none_counted}
 use Rattle.std.specs.Prelude.{◌≡◌, ◌⊎◌, ℕ, ◌-◌, ◌≤◌, Bool, true, false, not, ◌&&◌, nat_lt, List, [], ◌∷◌, ◌++◌, drop, length, take, Option, Some, None, if◌then◌else◌, refl}
 use Rattle.std.proofs.Common.{sym, ap, ◌∙◌, subst, arith, inl, inr}
 use Rattle.std.proofs.Math.Nat.{min-le_left}
@@ -17,6 +16,7 @@ use Rattle.rtr_ends.proofs.FeedingLaws.{feed_takes, goes_on, stopped}
 use Rattle.rtr_world.specs.Claims.{MovesNoMore}
 use Rattle.rtr_world.specs.History.{Memory, NoSuchRouter, MayEnd, moved, moved_at, most_of, refusal, side_at}
 use Rattle.rtr_world.specs.World.{Side, World, SideEvent, RouterRestart, RouterSends, CacheGets, CacheSends, RouterGets, On, cache_gets, gets_at, router_gets, timing}
+use Rattle.rtr_world.proofs.RouterCases.{none_counted}
 
 -- Two machines that are alike until one of them stops: that one leaves no less of a piece.
 module _ {M : Type 0} (stops : M → Bool) (step : M → ℕ → M) (Alike : M → M → Type 0) (same : (m n : M) → Alike m n → stops m ≡ stops n) (goes : (m n : M) (b : ℕ) → Alike m n → Alike (step m b) (step n b) ⊎ (stops (step n b) ≡ true)) where

@@ -1,21 +1,24 @@
 -- What is on its way to a router is at most one answer, after every list of events.
-use Rattle.rtr_world.proofs.WorldSteps.{Known, history_known, history_keeps, KeptAlways, received}
 use Rattle.std.specs.Prelude.{◌≡◌, ◌⊎◌, ℕ, Bool, true, false, List, [], ◌∷◌, ◌++◌, Option, Some, None, refl, take, ⊤}
-use Rattle.std.proofs.Common.{sym, ap, ◌∙◌, subst, inl, inr, append_assoc}
 use Rattle.std.specs.List.{AllByRecursion}
+use Rattle.std.proofs.Common.{sym, ap, ◌∙◌, subst, inl, inr, append_assoc}
 use Rattle.vrps.specs.Instance.{Instance}
 use Rattle.vrps.specs.VrpSet.{VrpSet}
 use Rattle.rtr_pdu.specs.declared.unit.Unit.{Unit}
 use Rattle.rtr_pdu.specs.declared.version.Version.{Version}
+use Rattle.rtr_pdu.specs.declared.unit.Unit.TheVariants.{SerialNotify, Prefix}
 use Rattle.rtr_ends.specs.Answer.{answer, session_in}
 use Rattle.rtr_ends.specs.Cache.{Conn}
 use Rattle.rtr_ends.specs.RouterLaws.{LinkTells}
 use Rattle.rtr_ends.specs.RouterLink.{Link, Closed, Idle, Asked, Answering, Ended, is_closed, is_reading, is_due, is_idle}
 use Rattle.rtr_ends.specs.Transcript.{AskReset, AskSerial, Begun, Committed, Question, base_of, of_version, query, under_way, Item, At, Reads, Shut}
+use Rattle.rtr_ends.specs.LinkRules.{Router, on_unit}
+use Rattle.rtr_ends.specs.Router.{asked_by, clocked, close, asks_if, connects_at, closed_at, ticks_at, asks, router_pulled, Connects, Closes, called, Ticks, Receives, AsksNow, RouterCall}
 use Rattle.rtr_ends.proofs.TableLaws.{false_true}
 use Rattle.rtr_world.specs.Claims.{OneAnswerAlways}
 use Rattle.rtr_world.specs.OneAnswer.{Between, ComesOn, Fits, IfResponse, IsAnswer, IsReply, IsWholeAnswer, LeadsToPublished, NotifiesOf, OneAnswer, WasSo, answered, without_notifies}
 use Rattle.rtr_world.specs.World.{Side, World, instances, is_ended, timing, noted, router_restarts, tell_closed}
+use Rattle.rtr_world.proofs.WorldSteps.{Known, history_known, history_keeps, KeptAlways, received}
 use Rattle.rtr_world.proofs.Invariant.{FromCache, Flow, Good, GoodLink, IfOpen, OfAnswer, OneReply, Open, QuestionFits, Replies, Shape, WasCache, no_data, not_kept, other_session, no_memory, read_of, records_of, response}
 use Rattle.rtr_world.proofs.Rests.{Rests, history_rests}
 use Rattle.rtr_world.proofs.SideSteps.{live_of}
@@ -23,9 +26,6 @@ use Rattle.rtr_world.proofs.UnitStreams.{behind_early, part_of}
 use Rattle.rtr_world.proofs.KeptTables.{SideTells}
 use Rattle.rtr_world.proofs.Versions.{named_at, IsReadAt, IsSeen, Seen}
 use Rattle.rtr_world.proofs.RouterCases.{asks_by, clocked_by}
-use Rattle.rtr_pdu.specs.declared.unit.Unit.TheVariants.{SerialNotify, Prefix}
-use Rattle.rtr_ends.specs.LinkRules.{Router, on_unit}
-use Rattle.rtr_ends.specs.Router.{asked_by, clocked, close, asks_if, connects_at, closed_at, ticks_at, asks, router_pulled, Connects, Closes, called, Ticks, Receives, AsksNow, RouterCall}
 use Rattle.rtr_world.proofs.UnitCases.{Brings, goes_on, ends_other, ends_memory, commits, stays, begins, stages, leaves, is_answering}
 use Rattle.rtr_world.proofs.EventCalls.{refused_at, IsOwnCall, told_closes, closes}
 

@@ -1,9 +1,8 @@
 -- A set is published.
-use Rattle.std.proofs.lemmas.Bool.{and_parts}
-use Rattle.rtr_world.proofs.SideLaws.{inside}
 use Rattle.std.specs.Prelude.{◌≡◌, ℕ, ◌+◌, ◌-◌, ◌%◌, ◌^◌, ◌<◌, ◌==◌, ◌&&◌, ◌||◌, Bool, true, false, List, [], ◌∷◌, length, find, Option, Some, None, is_some, Result, Ok, Err, if◌then◌else◌, refl, ⊤}
-use Rattle.std.proofs.Common.{sym, ap, ◌∙◌, subst, arith, zero, suc}
 use Rattle.std.specs.declared.alloc.AllocError.{AllocError}
+use Rattle.std.proofs.lemmas.Bool.{and_parts}
+use Rattle.std.proofs.Common.{sym, ap, ◌∙◌, subst, arith, zero, suc}
 use Rattle.vrps.specs.Instance.{Instance, NumberedSet, versions_from}
 use Rattle.vrps.specs.Serial.{serial_at}
 use Rattle.vrps.specs.Store.{is_current, is_same, published}
@@ -25,6 +24,7 @@ use Rattle.rtr_world.specs.declared.event.WorldFault.{WorldFault}
 use Rattle.rtr_world.specs.declared.event.WorldFault.TheVariants as faults
 use Rattle.rtr_world.specs.declared.side.Side as values
 use Rattle.rtr_world.specs.declared.world.World as code
+use Rattle.rtr_world.proofs.SideLaws.{inside}
 use Rattle.rtr_world.proofs.Rests.{history_rests}
 use Rattle.rtr_world.proofs.Showing.{unsettled}
 use Rattle.rtr_world.proofs.Stepping.{same_rest}

@@ -1,9 +1,8 @@
 -- The cache restarts.
-use Rattle.rtr_world.proofs.SideLaws.{map_there}
 use Rattle.std.specs.Prelude.{◌≡◌, ℕ, ◌<◌, ◌^◌, ◌==◌, ◌||◌, Bool, true, false, List, [], ◌∷◌, ◌++◌, map, find, Option, Some, None, is_some, Result, Ok, Err, is_err, is_ok, slice_get, if◌then◌else◌, refl, ⊤}
-use Rattle.std.proofs.Common.{sym, ap, ◌∙◌, subst, arith}
 use Rattle.std.specs.Option.{option_map}
 use Rattle.std.specs.List.{list_any}
+use Rattle.std.proofs.Common.{sym, ap, ◌∙◌, subst, arith}
 use Rattle.vrps.specs.Instance.{Instance}
 use Rattle.vrps.specs.Steps.{HoldsSteps, Steps as Log}
 use Rattle.rtr_pdu.specs.declared.version.Version.TheVariants.{V0, V1}
@@ -20,6 +19,7 @@ use Rattle.rtr_world.specs.declared.event.WorldFault.{WorldFault}
 use Rattle.rtr_world.specs.declared.event.WorldFault.TheVariants as faults
 use Rattle.rtr_world.specs.declared.side.Side as values
 use Rattle.rtr_world.specs.declared.world.World as code
+use Rattle.rtr_world.proofs.SideLaws.{map_there}
 use Rattle.rtr_world.proofs.Showing.{used_more}
 use Rattle.rtr_world.proofs.WorldSteps.{begun, neither_so}
 use Rattle.prefixes.proofs.Basics.{eq_of}

@@ -1,7 +1,8 @@
 -- Between events no link has ended, nothing is on the way to a closed one, and the clean-up has nothing to do.
 use Rattle.std.specs.Prelude.{◌≡◌, ℕ, Bool, true, false, List, [], ◌∷◌, Option, Some, None, if◌then◌else◌, ⊤, refl, zero, suc, map}
-use Rattle.std.proofs.Common.{sym, ap, ◌∙◌, subst}
 use Rattle.std.specs.List.{AllByRecursion}
+use Rattle.std.specs.Option.{option_map}
+use Rattle.std.proofs.Common.{sym, ap, ◌∙◌, subst}
 use Rattle.vrps.specs.Instance.{Instance}
 use Rattle.rtr_ends.specs.Cache.{Conn}
 use Rattle.rtr_ends.specs.Router.{closed_at}
@@ -15,7 +16,6 @@ use Rattle.rtr_world.proofs.Invariant.{Good, GoodLink}
 use Rattle.rtr_world.proofs.SideLaws.{all_map, all_new, all_weaker, map_there, elsewhere}
 use Rattle.rtr_world.proofs.KeptTables.{AllTell}
 use Rattle.rtr_world.proofs.WorldSteps.{GoodWorld, part_so, through_good, known_leads}
-use Rattle.std.specs.Option.{option_map}
 
 -- a connection at the cache that has not ended, or has bytes due
 abbrev pub GoesOn : Option Conn → Type 0

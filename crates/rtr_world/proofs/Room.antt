@@ -1,10 +1,9 @@
 -- Room for one version more.
-use Rattle.rtr_world.proofs.SideLaws.{inside}
 use Rattle.std.specs.Prelude.{◌≡◌, ℕ, ◌+◌, ◌-◌, ◌≤◌, ◌<◌, ◌^◌, ◌==◌, ◌&&◌, ◌||◌, Bool, true, false, nat_lt, List, [], ◌∷◌, length, Option, Some, None, IfSome, is_none, if◌then◌else◌, refl}
+use Rattle.std.specs.Option.{option_map}
 use Rattle.std.proofs.Common.{sym, ap, ◌∙◌, subst, arith, inl, inr, zero, suc}
 use Rattle.std.proofs.lemmas.Bool.{cases_Bool}
 use Rattle.std.proofs.lemmas.Bool.Decides.{nat_tests}
-use Rattle.std.specs.Option.{option_map}
 use Rattle.std.proofs.lemmas.List.{length-append}
 use Rattle.vrps.specs.Instance.{Instance, versions}
 use Rattle.vrps.specs.Serial.{serial_at}
@@ -15,10 +14,11 @@ use Rattle.rtr_world.specs.History.{Reached, all_have_room, is_near, room_for, r
 use Rattle.rtr_world.specs.VersionPlaces.{position_of}
 use Rattle.rtr_world.specs.SideShown.{MadeAt, MadeWhere, held_of}
 use Rattle.rtr_world.specs.World.{World, Side, instances}
+use Rattle.rtr_world.proofs.SideLaws.{inside}
 use Rattle.rtr_world.proofs.Versions.{Present, Stands, TableAt, of_present, position_at}
 use Rattle.rtr_world.proofs.WorldSteps.{GoodWorld, Known, history_known, good_world}
-use Rattle.prefixes.proofs.Basics.{eq_of}
 use Rattle.rtr_world.proofs.Routers.{low_of, each_at}
+use Rattle.prefixes.proofs.Basics.{eq_of}
 
 pub reached_good : (w : World) → Reached w → GoodWorld w
 reached_good w r = good_world r.made r.history w r.leads

@@ -1,11 +1,10 @@
 -- A world of the program and its model.
-use Rattle.rtr_world.proofs.SideLaws.{inside, elsewhere}
 use Rattle.std.specs.Prelude.{◌≡◌, ℕ, ◌+◌, ◌<◌, ◌≤◌, ◌==◌, ◌||◌, Bool, true, false, nat_lt, List, [], ◌∷◌, ◌++◌, map, length, find, Option, Some, None, is_some, IsSome, Result, slice_get, slice_set, option_map, if◌then◌else◌, refl, ⊤}
+use Rattle.std.specs.List.{AllByRecursion, list_any}
 use Rattle.std.proofs.Common.{sym, ap, ◌∙◌, subst, arith, inl, inr, zero, suc}
 use Rattle.std.proofs.lemmas.Bool.{cases_Bool}
 use Rattle.std.proofs.lemmas.Bool.Decides.{nat_tests}
 use Rattle.std.proofs.lemmas.List.Folds.{list_any-append}
-use Rattle.std.specs.List.{AllByRecursion, list_any}
 use Rattle.vrps.specs.Instance.{Instance}
 use Rattle.vrps.specs.Steps.{Steps}
 use Rattle.rtr_pdu.specs.declared.version.Version.{Version}
@@ -22,6 +21,7 @@ use Rattle.rtr_world.specs.World.{World, Side, Event, instances, new_side, new_s
 use Rattle.rtr_world.specs.declared.event.WorldFault.{WorldFault}
 use Rattle.rtr_world.specs.declared.side.Side as values
 use Rattle.rtr_world.specs.declared.world.World as code
+use Rattle.rtr_world.proofs.SideLaws.{inside, elsewhere}
 use Rattle.rtr_world.proofs.Moving.{none_some}
 use Rattle.rtr_world.proofs.Rests.{Rests, stays}
 use Rattle.rtr_world.proofs.Versions.{lt_of}

@@ -1,9 +1,9 @@
 -- What holds of each router of each world to which a history leads.
-use Rattle.rtr_world.specs.History.{side_at}
 use Rattle.std.specs.Option.{option_map}
 use Rattle.std.specs.Prelude.{ℕ, List, [], ◌∷◌, map, ◌≡◌, Some, refl}
-use Rattle.std.proofs.Common.{zero, suc, ap}
 use Rattle.std.specs.List.{AllByRecursion}
+use Rattle.std.proofs.Common.{zero, suc, ap}
+use Rattle.rtr_world.specs.History.{side_at}
 use Rattle.rtr_world.specs.World.{Side, new_side, new_sides, on_side}
 
 -- a fact of each side

@@ -1,9 +1,7 @@
 -- A router of a world speaks what it was told.
-use Rattle.rtr_world.proofs.RouterCases.{asks_by, clocked_by, close_by}
 use Rattle.std.specs.Prelude.{◌≡◌, ℕ, zero, suc, Bool, true, false, ◌==◌, List, [], ◌∷◌, map, take, Option, Some, None, if◌then◌else◌, ⊤, refl}
-use Rattle.std.proofs.Common.{sym, ap, ◌∙◌, subst}
 use Rattle.std.specs.Option.{option_map}
-use Rattle.prefixes.proofs.Basics.{eq_of, eq_true}
+use Rattle.std.proofs.Common.{sym, ap, ◌∙◌, subst}
 use Rattle.vrps.specs.Instance.{Instance}
 use Rattle.rtr_pdu.specs.declared.version.Version.{Version}
 use Rattle.rtr_pdu.specs.declared.version.Version.TheVariants.{V1}
@@ -15,8 +13,10 @@ use Rattle.rtr_ends.proofs.FeedingLaws.{feed_keeps}
 use Rattle.rtr_world.specs.Claims.{EachSpeaks, told_since, told_by}
 use Rattle.rtr_world.specs.History.{Outcome, Done, Memory, Entry, LeadsFrom, after, side_at}
 use Rattle.rtr_world.specs.World.{Side, World, instances, SideEvent, RouterRestart, Speak, Connect, RouterGets, Ask, Tick, Event, Publish, Restart, On, cache_gone, cut, goes_through, is_refused, new_sides, new_world, on_side, router_restarts, settle, settled, side_refused, side_step}
+use Rattle.rtr_world.proofs.RouterCases.{asks_by, clocked_by, close_by}
 use Rattle.rtr_world.proofs.CatchUpSides.{byte_speaks}
 use Rattle.rtr_world.proofs.EventCalls.{IsNoRestart, call_of, lesser, step_by, part_by, IsMoving, after_call, closed_by, settle_keeps}
+use Rattle.prefixes.proofs.Basics.{eq_of, eq_true}
 
 -- The clock and a close leave it.
 clocked_speaks : (now : ℕ) (r : Router) → (clocked now r).speaks ≡ r.speaks

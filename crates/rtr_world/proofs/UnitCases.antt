@@ -1,38 +1,38 @@
 -- What a PDU that comes to the router does to its link.
 use Rattle.std.specs.Prelude.{◌≡◌, ℕ, ◌+◌, ◌≤◌, ◌<◌, Bool, true, false, ◌&&◌, ◌==◌, List, [], ◌∷◌, ◌++◌, length, Some, if◌then◌else◌, refl, not, Option, None}
 use Rattle.std.proofs.Common.{sym, ap, ◌∙◌, subst, subst₂, inl, inr, arith, append_assoc}
+use Rattle.std.proofs.lemmas.Bool.{and_parts}
 use Rattle.prefixes.specs.Payload.{Payload}
 use Rattle.vrps.specs.Instance.{Instance}
 use Rattle.vrps.specs.VrpSet.{VrpSet}
 use Rattle.rtr_pdu.specs.declared.unit.Unit.{Unit}
 use Rattle.rtr_pdu.specs.declared.unit.Unit.TheVariants.{SerialNotify, CacheResponse, Prefix, EndOfData, EndOfData0, CacheReset}
+use Rattle.rtr_pdu.specs.Judging.{judge}
+use Rattle.rtr_pdu.specs.declared.version.Version.{Version}
 use Rattle.rtr_ends.specs.Answer.{report, session_in}
 use Rattle.rtr_ends.specs.LinkRules.{Router, Staged, Stays, ask, fails, is_strange, is_news, stage, staged, commit, on_unit}
 use Rattle.rtr_ends.specs.Timing.{Intervals, default_intervals}
 use Rattle.rtr_ends.specs.RouterLink.{Link, Closed, Idle, Asked, Answering, Ended, is_reading}
 use Rattle.rtr_ends.specs.Transcript.{Begun, Committed, Question, AskReset, AskSerial, base_of, led_to, session_of, differs, is_wrong, bounded, of_version, Item, Reads, kept, is_commit}
+use Rattle.rtr_ends.specs.Cache.{Conn, is_none, finds_memory}
+use Rattle.rtr_ends.specs.Router.{Noted, silent, reads, lacks, with_bytes, Receiving, asked_by, router_stops, router_byte}
+use Rattle.rtr_ends.specs.Feeding.{feed}
+use Rattle.rtr_ends.specs.declared.link.End.TheVariants as ends
 use Rattle.rtr_ends.proofs.TableLaws.{false_true}
+use Rattle.rtr_ends.proofs.FeedingLaws.{feed_keeps}
+use Rattle.rtr_ends.proofs.KeptUnits.{Tells, live_unit}
+use Rattle.rtr_ends.proofs.KeptLaws.{byte_tells, none_is}
 use Rattle.rtr_world.specs.OneAnswer.{NotifiesOf, without_notifies}
 use Rattle.rtr_world.specs.World.{is_ended, places_of}
+use Rattle.rtr_world.specs.History.{conn_due}
+use Rattle.rtr_world.specs.VersionPlaces.{VersionPlace, version_place_of}
 use Rattle.rtr_world.proofs.Invariant.{after_stage, InOrder, read_of, Leads, Mine, OwnSession, QuestionFits, IsOwn, OfAnswer, Replies, no_data, not_kept, other_session, no_memory, response, Shape, nothing_yet, Flow, GoodLink, GoodRouter, IfOpen, Live, Open}
 use Rattle.rtr_world.proofs.UnitsAtRouters.{stage_reads, first_is, no_unit, right_response, not_strange}
 use Rattle.rtr_world.proofs.SideSteps.{HeadCase, a_notify, another, head_case, live_of, byte_good}
 use Rattle.rtr_world.proofs.Versions.{Stands, find_session, Seen, same_instance, some_is, IsReadAt, IsSeen}
-use Rattle.prefixes.proofs.Basics.{eq_true, eq_self, true_of_not}
-use Rattle.rtr_pdu.specs.Judging.{judge}
-use Rattle.rtr_ends.specs.Cache.{Conn, is_none, finds_memory}
-use Rattle.rtr_ends.specs.Router.{Noted, silent, reads, lacks, with_bytes, Receiving, asked_by, router_stops, router_byte}
-use Rattle.rtr_world.specs.History.{conn_due}
 use Rattle.rtr_world.proofs.UnitStreams.{ByteCase, early_open, case_by, byte_case}
-use Rattle.std.proofs.lemmas.Bool.{and_parts}
-use Rattle.rtr_pdu.specs.declared.version.Version.{Version}
-use Rattle.rtr_ends.specs.Feeding.{feed}
-use Rattle.rtr_ends.proofs.FeedingLaws.{feed_keeps}
-use Rattle.rtr_ends.proofs.KeptUnits.{Tells, live_unit}
-use Rattle.rtr_ends.proofs.KeptLaws.{byte_tells, none_is}
-use Rattle.rtr_world.specs.VersionPlaces.{VersionPlace, version_place_of}
 use Rattle.rtr_world.proofs.Places.{Found, Ordered, ordered_more, place_at, stands_found, young_enough}
-use Rattle.rtr_ends.specs.declared.link.End.TheVariants as ends
+use Rattle.prefixes.proofs.Basics.{eq_true, eq_self, true_of_not}
 
 abbrev pub is_end : Unit → Bool
 is_end (EndOfData session serial refresh retry expire) = true

@@ -1,35 +1,35 @@
 -- A stream of bytes that spells PDUs, read byte by byte.
-use Rattle.prefixes.proofs.Basics.{all_both}
-use Rattle.rtr_ends.specs.Router.{Noted, silent, reads, lacks, with_bytes}
-use Rattle.rtr_ends.specs.LinkRules.{Router, may_lack}
 use Rattle.std.specs.Prelude.{◌≡◌, ◌⊎◌, ℕ, ◌<◌, nat_lt, Bool, true, false, not, List, [], ◌∷◌, ◌++◌, length, Option, Some, None, if◌then◌else◌, ⊤, refl, ◌&&◌}
-use Rattle.std.proofs.Common.{sym, ap, ◌∙◌, subst, subst₂, arith, append_assoc, inl, inr, zero, suc}
 use Rattle.std.specs.List.{AllByRecursion}
+use Rattle.std.proofs.Common.{sym, ap, ◌∙◌, subst, subst₂, arith, append_assoc, inl, inr, zero, suc}
 use Rattle.std.proofs.lemmas.Bool.Decides.{nat_tests}
 use Rattle.std.proofs.lemmas.List.{append-nil, append_cancel_left, length-append}
 use Rattle.std.proofs.lemmas.List.Concat.{flat_map-append}
+use Rattle.std.proofs.lemmas.Bool.{cases_lt}
 use Rattle.prefixes.specs.declared.prefix.IpPrefix.TheVariants.{V4, V6}
 use Rattle.prefixes.specs.declared.prefix.IpPrefix.{IpPrefix}
 use Rattle.rtr_pdu.specs.Version.{first_version, header_version, version_in, version_number}
 use Rattle.rtr_pdu.specs.declared.version.Version.{Version}
 use Rattle.rtr_pdu.specs.declared.version.Version.TheVariants.{V0, V1}
 use Rattle.rtr_pdu.specs.declared.unit.Unit.TheVariants.{SerialNotify, Prefix}
-use Rattle.rtr_pdu.proofs.VersionLaws.{version_in-append}
 use Rattle.rtr_pdu.specs.Judging.{Begins, Whole, judge}
 use Rattle.rtr_pdu.specs.Payloads.{AreBytes}
 use Rattle.rtr_pdu.specs.Unit.{IsUnit, IsUnitOf, prefix_bytes, zeros, Reads}
 use Rattle.rtr_pdu.specs.declared.unit.Unit.{Unit}
-use Rattle.rtr_pdu.proofs.NextLaws.{judge_sent, judge_part, some_sent}
-use Rattle.rtr_ends.specs.Answer.{sent, sent_all}
-use Rattle.rtr_ends.specs.Connection.{Sent, bytes_sent, in_version}
-use Rattle.rtr_world.specs.OneAnswer.{AreEarly, IsPart, without_notifies}
-use Rattle.std.proofs.lemmas.Bool.{cases_lt}
 use Rattle.rtr_pdu.specs.Stream.{as_read, IsPartial}
+use Rattle.rtr_pdu.proofs.VersionLaws.{version_in-append}
+use Rattle.rtr_pdu.proofs.NextLaws.{judge_sent, judge_part, some_sent}
 use Rattle.rtr_pdu.proofs.DeviceLaws.{strict}
 use Rattle.rtr_pdu.proofs.JudgingLaws.{begins_exactly, reads_judged}
 use Rattle.rtr_pdu.proofs.ModeLaws.{as_read-append}
 use Rattle.rtr_pdu.proofs.ReaderLaws.{partial_short}
 use Rattle.rtr_pdu.proofs.StreamLaws.{written_is_read}
+use Rattle.rtr_ends.specs.Router.{Noted, silent, reads, lacks, with_bytes}
+use Rattle.rtr_ends.specs.LinkRules.{Router, may_lack}
+use Rattle.rtr_ends.specs.Answer.{sent, sent_all}
+use Rattle.rtr_ends.specs.Connection.{Sent, bytes_sent, in_version}
+use Rattle.rtr_world.specs.OneAnswer.{AreEarly, IsPart, without_notifies}
+use Rattle.prefixes.proofs.Basics.{all_both}
 
 -- A notify of another version, which a router reads where it has not agreed on a version.
 -- It is read as one of the expected version.

@@ -1,4 +1,4 @@
-use Rattle.rtr_world.proofs.ConnRuns.{conns_run}
+use Rattle.rtr_world.proofs.Runs.{conns_run}
 use Rattle.rtr_world.proofs.laws.conns_run.Goals as goal
 
 pub returns : goal.returns
