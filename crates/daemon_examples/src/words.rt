@@ -74,9 +74,9 @@ const LINES: &[(&str, &str)] = &[
     ("-h --once", "Usage: rpkirtrd "),
     ("--help --keep 0", "Usage: rpkirtrd "),
     ("--version --help", "Usage: rpkirtrd "),
-    ("--version --vrps a", "rpkirtrd 0.9.0"),
-    ("--version", "rpkirtrd 0.9.0"),
-    ("-V", "rpkirtrd 0.9.0"),
+    ("--version --vrps a", "rpkirtrd 1.0.0"),
+    ("--version", "rpkirtrd 1.0.0"),
+    ("-V", "rpkirtrd 1.0.0"),
 ];
 
 #[test]
@@ -92,59 +92,59 @@ fn lines_are_read(rt: HostRuntime) -> Result<(), Fail> {
 const REFUSED: &[(&str, &str)] = &[
     (
         "",
-        "at least one of --vrps and --points is wanted, for something to serve",
+        "at least one of --vrps and --points is required, for something to serve",
     ),
     (
         "--slurm s",
-        "at least one of --vrps and --points is wanted, for something to serve",
+        "at least one of --vrps and --points is required, for something to serve",
     ),
     (
         "--vrps a --keep 0",
-        "--keep \"0\": a number from 1 to 65536 is wanted",
+        "--keep \"0\": a number from 1 to 65536 is required",
     ),
     (
         "--vrps a --keep 65537",
-        "--keep \"65537\": a number from 1 to 65536 is wanted",
+        "--keep \"65537\": a number from 1 to 65536 is required",
     ),
     (
         "--vrps a --keep 016",
-        "--keep \"016\": a number from 1 to 65536 is wanted",
+        "--keep \"016\": a number from 1 to 65536 is required",
     ),
     (
         "--vrps a --keep +16",
-        "--keep \"+16\": a number from 1 to 65536 is wanted",
+        "--keep \"+16\": a number from 1 to 65536 is required",
     ),
     (
         "--vrps a --keep=-16",
-        "--keep \"-16\": a number from 1 to 65536 is wanted",
+        "--keep \"-16\": a number from 1 to 65536 is required",
     ),
     (
         "--vrps a --keep -16",
-        "--keep \"-16\": a number from 1 to 65536 is wanted",
+        "--keep \"-16\": a number from 1 to 65536 is required",
     ),
     (
         "--vrps a --keep=",
-        "--keep \"\": a number from 1 to 65536 is wanted",
+        "--keep \"\": a number from 1 to 65536 is required",
     ),
     (
         "--vrps a --keep 16s",
-        "--keep \"16s\": a number from 1 to 65536 is wanted",
+        "--keep \"16s\": a number from 1 to 65536 is required",
     ),
     (
         "--vrps a --session 00",
-        "--session \"00\": a number from 0 to 65535 is wanted",
+        "--session \"00\": a number from 0 to 65535 is required",
     ),
     (
         "--vrps a --start -0",
-        "--start \"-0\": a number from 0 to 4294967295 is wanted",
+        "--start \"-0\": a number from 0 to 4294967295 is required",
     ),
     (
         "--vrps a --keep 0x10",
-        "--keep \"0x10\": a number from 1 to 65536 is wanted",
+        "--keep \"0x10\": a number from 1 to 65536 is required",
     ),
     (
         "--vrps a --keep 18446744073709551616",
-        "--keep \"18446744073709551616\": a number from 1 to 65536 is wanted",
+        "--keep \"18446744073709551616\": a number from 1 to 65536 is required",
     ),
     (
         "--vrps a --keep 1 --keep 2",
@@ -158,140 +158,140 @@ const REFUSED: &[(&str, &str)] = &[
         "--vrps a --slurm s --slurm s",
         "the argument '--slurm <FILE>' cannot be used multiple times",
     ),
-    ("--vrps=", "--vrps \"\": a path is wanted"),
-    ("--vrps a --points=", "--points \"\": a path is wanted"),
-    ("--vrps a --slurm=", "--slurm \"\": a path is wanted"),
+    ("--vrps=", "--vrps \"\": a path is required"),
+    ("--vrps a --points=", "--points \"\": a path is required"),
+    ("--vrps a --slurm=", "--slurm \"\": a path is required"),
     (
         "--vrps a --session 65536",
-        "--session \"65536\": a number from 0 to 65535 is wanted",
+        "--session \"65536\": a number from 0 to 65535 is required",
     ),
     (
         "--vrps a --session0 65536",
-        "--session0 \"65536\": a number from 0 to 65535 is wanted",
+        "--session0 \"65536\": a number from 0 to 65535 is required",
     ),
     (
         "--vrps a --start 4294967296",
-        "--start \"4294967296\": a number from 0 to 4294967295 is wanted",
+        "--start \"4294967296\": a number from 0 to 4294967295 is required",
     ),
     (
         "--vrps a --refresh 86401",
-        "--refresh \"86401\": a number from 1 to 86400 is wanted",
+        "--refresh \"86401\": a number from 1 to 86400 is required",
     ),
     (
         "--vrps a --refresh 0",
-        "--refresh \"0\": a number from 1 to 86400 is wanted",
+        "--refresh \"0\": a number from 1 to 86400 is required",
     ),
     (
         "--vrps a --retry 0",
-        "--retry \"0\": a number from 1 to 7200 is wanted",
+        "--retry \"0\": a number from 1 to 7200 is required",
     ),
     (
         "--vrps a --retry 7201",
-        "--retry \"7201\": a number from 1 to 7200 is wanted",
+        "--retry \"7201\": a number from 1 to 7200 is required",
     ),
     (
         "--vrps a --expire 599",
-        "--expire \"599\": a number from 600 to 172800 is wanted",
+        "--expire \"599\": a number from 600 to 172800 is required",
     ),
     (
         "--vrps a --expire 172801",
-        "--expire \"172801\": a number from 600 to 172800 is wanted",
+        "--expire \"172801\": a number from 600 to 172800 is required",
     ),
     (
         "--vrps a --retry 7200",
-        "--expire 7200: a number above --refresh (3600) and --retry (7200) is wanted",
+        "--expire 7200: a number above --refresh (3600) and --retry (7200) is required",
     ),
     (
         "--vrps a --refresh 7200",
-        "--expire 7200: a number above --refresh (7200) and --retry (600) is wanted",
+        "--expire 7200: a number above --refresh (7200) and --retry (600) is required",
     ),
     (
         "--vrps a --check 0",
-        "--check \"0\": a number from 1 to 4294967295 is wanted",
+        "--check \"0\": a number from 1 to 4294967295 is required",
     ),
     (
         "--vrps a --max-age 0",
-        "--max-age \"0\": a number from 1 to 4294967295 is wanted",
+        "--max-age \"0\": a number from 1 to 4294967295 is required",
     ),
     (
         "--vrps a --stop-when-old",
-        "--max-age is wanted beside --stop-when-old, as nothing is old without it",
+        "--max-age is required beside --stop-when-old, as nothing is old without it",
     ),
     (
         "--vrps a --clients 0",
-        "--clients \"0\": a number from 1 to 4294967295 is wanted",
+        "--clients \"0\": a number from 1 to 4294967295 is required",
     ),
     (
         "--vrps a --stall 0",
-        "--stall \"0\": a number from 1 to 4294967295 is wanted",
+        "--stall \"0\": a number from 1 to 4294967295 is required",
     ),
     (
         "--vrps a --check 4294967296",
-        "--check \"4294967296\": a number from 1 to 4294967295 is wanted",
+        "--check \"4294967296\": a number from 1 to 4294967295 is required",
     ),
     (
         "--vrps a --max-age 4294967296",
-        "--max-age \"4294967296\": a number from 1 to 4294967295 is wanted",
+        "--max-age \"4294967296\": a number from 1 to 4294967295 is required",
     ),
     (
         "--vrps a --clients 4294967296",
-        "--clients \"4294967296\": a number from 1 to 4294967295 is wanted",
+        "--clients \"4294967296\": a number from 1 to 4294967295 is required",
     ),
     (
         "--vrps a --stall 4294967296",
-        "--stall \"4294967296\": a number from 1 to 4294967295 is wanted",
+        "--stall \"4294967296\": a number from 1 to 4294967295 is required",
     ),
     (
         "--vrps a --listen localhost:323",
-        "--listen \"localhost:323\": an address with a port, as 192.0.2.1:3323 or [2001:db8::1]:3323, is wanted",
+        "--listen \"localhost:323\": an address with a port, as 192.0.2.1:3323 or [2001:db8::1]:3323, is required",
     ),
     (
         "--vrps a --listen=::1:3323",
-        "--listen \"::1:3323\": an address with a port, as 192.0.2.1:3323 or [2001:db8::1]:3323, is wanted",
+        "--listen \"::1:3323\": an address with a port, as 192.0.2.1:3323 or [2001:db8::1]:3323, is required",
     ),
     (
         "--vrps a --listen=[::1]",
-        "--listen \"[::1]\": an address with a port, as 192.0.2.1:3323 or [2001:db8::1]:3323, is wanted",
+        "--listen \"[::1]\": an address with a port, as 192.0.2.1:3323 or [2001:db8::1]:3323, is required",
     ),
     (
         "--vrps a --listen=127.0.0.1",
-        "--listen \"127.0.0.1\": an address with a port, as 192.0.2.1:3323 or [2001:db8::1]:3323, is wanted",
+        "--listen \"127.0.0.1\": an address with a port, as 192.0.2.1:3323 or [2001:db8::1]:3323, is required",
     ),
     (
         "--vrps a --listen=127.0.0.1:",
-        "--listen \"127.0.0.1:\": an address with a port, as 192.0.2.1:3323 or [2001:db8::1]:3323, is wanted",
+        "--listen \"127.0.0.1:\": an address with a port, as 192.0.2.1:3323 or [2001:db8::1]:3323, is required",
     ),
     (
         "--vrps a --listen=127.0.0.1:65536",
-        "--listen \"127.0.0.1:65536\": an address with a port, as 192.0.2.1:3323 or [2001:db8::1]:3323, is wanted",
+        "--listen \"127.0.0.1:65536\": an address with a port, as 192.0.2.1:3323 or [2001:db8::1]:3323, is required",
     ),
     (
         "--vrps a --listen=127.0.0.1:03323",
-        "--listen \"127.0.0.1:03323\": an address with a port, as 192.0.2.1:3323 or [2001:db8::1]:3323, is wanted",
+        "--listen \"127.0.0.1:03323\": an address with a port, as 192.0.2.1:3323 or [2001:db8::1]:3323, is required",
     ),
     (
         "--vrps a --listen=127.0.0.1:+3323",
-        "--listen \"127.0.0.1:+3323\": an address with a port, as 192.0.2.1:3323 or [2001:db8::1]:3323, is wanted",
+        "--listen \"127.0.0.1:+3323\": an address with a port, as 192.0.2.1:3323 or [2001:db8::1]:3323, is required",
     ),
     (
         "--vrps a --listen=:3323",
-        "--listen \":3323\": an address with a port, as 192.0.2.1:3323 or [2001:db8::1]:3323, is wanted",
+        "--listen \":3323\": an address with a port, as 192.0.2.1:3323 or [2001:db8::1]:3323, is required",
     ),
     (
         "--vrps a --listen=",
-        "--listen \"\": an address with a port, as 192.0.2.1:3323 or [2001:db8::1]:3323, is wanted",
+        "--listen \"\": an address with a port, as 192.0.2.1:3323 or [2001:db8::1]:3323, is required",
     ),
     (
         "--vrps a --listen ::1",
-        "--listen \"::1\": an address with a port, as 192.0.2.1:3323 or [2001:db8::1]:3323, is wanted",
+        "--listen \"::1\": an address with a port, as 192.0.2.1:3323 or [2001:db8::1]:3323, is required",
     ),
     (
         "--vrps a --status 9323",
-        "--status \"9323\": an address with a port, as 192.0.2.1:3323 or [2001:db8::1]:3323, is wanted",
+        "--status \"9323\": an address with a port, as 192.0.2.1:3323 or [2001:db8::1]:3323, is required",
     ),
     (
         "--vrps a --log xml",
-        "--log \"xml\": text or json is wanted",
+        "--log \"xml\": text or json is required",
     ),
     (
         "--vrps",
@@ -341,7 +341,7 @@ const OPTIONS: &[(&str, &str)] = &[
         "--max-age SECONDS",
         "from 1 to 4294967295; by default no file is old.",
     ),
-    ("--stop-when-old", "It wants --max-age beside it."),
+    ("--stop-when-old", "It needs --max-age beside it."),
     (
         "--listen ADDRESS:PORT",
         "the default is 127.0.0.1:3323. Port 0 is one that is free. [::]:PORT takes IPv4 too, so 0.0.0.0:PORT beside it is refused as in use.",

@@ -30,8 +30,8 @@ pub enum WordsFault {
     /// A word that no option takes, an option without its value, or one twice that may stand once.
     #[error("{0}")]
     Unclear(String),
-    /// The value of an option is not what is wanted.
-    #[error("--{option} {value:?}: {wanted} is wanted")]
+    /// The value of an option is not what is required.
+    #[error("--{option} {value:?}: {wanted} is required")]
     Value {
         /// The option's name.
         option: &'static str,
@@ -41,7 +41,7 @@ pub enum WordsFault {
         wanted: Wanted,
     },
     /// The expire interval is not longer than both others (RFC 8210 section 6).
-    #[error("--expire {expire}: a number above --refresh ({refresh}) and --retry ({retry}) is wanted")]
+    #[error("--expire {expire}: a number above --refresh ({refresh}) and --retry ({retry}) is required")]
     Expire {
         /// Seconds until a router drops what it has.
         expire: u32,
@@ -51,10 +51,10 @@ pub enum WordsFault {
         retry: u32,
     },
     /// Neither `--vrps` nor `--points` stands there.
-    #[error("at least one of --vrps and --points is wanted, for something to serve")]
+    #[error("at least one of --vrps and --points is required, for something to serve")]
     NoSource,
     /// `--stop-when-old` stands there without `--max-age`.
-    #[error("--max-age is wanted beside --stop-when-old, as nothing is old without it")]
+    #[error("--max-age is required beside --stop-when-old, as nothing is old without it")]
     NoAge,
     /// Out of memory.
     #[error("out of memory")]

@@ -12,7 +12,7 @@ Usage: rpkirtrd (--vrps FILE | --points DIR).. [OPTION]..
 ";
 
 const TAIL: &str = "
-At least one of --vrps and --points is wanted. A file that cannot be taken at
+At least one of --vrps and --points is required. A file that cannot be taken at
 the start ends the daemon; later it is reported, and what is served stays.
 
 The daemon keeps nothing on disk. SIGTERM and SIGINT end it, and so does SIGHUP:
@@ -28,7 +28,7 @@ This is a cache for the routers of a network, beside rpki-client:
 ";
 
 /// The program's version.
-pub const VERSION: &str = "0.9.0";
+pub const VERSION: &str = "1.0.0";
 
 /// The text of `--version`.
 pub(crate) fn version(alloc: Global) -> Result<String, AllocError> {

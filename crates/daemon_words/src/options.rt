@@ -10,7 +10,7 @@ pub(crate) enum Kind {
     Once,
     /// Once at most, with a number.
     Number,
-    /// As often as is wanted, each time with a value.
+    /// As often as is required, each time with a value.
     Often,
 }
 
@@ -89,7 +89,7 @@ pub(crate) static MATTERS: [Matter; 7] = [
                 value: "",
                 help: &[
                     "The daemon ends as soon as a file is older than --max-age allows, so that",
-                    "routers let the records expire. It wants --max-age beside it.",
+                    "routers let the records expire. It needs --max-age beside it.",
                 ],
             },
         ],
