@@ -107,24 +107,14 @@ impl<S: VersionStore + Drop, T: Stream + Drop> Daemon<S, T> {
             slurm,
             points,
         } = sources;
-        let mut service = match Sources::new(alloc, files.len()) {
-            Ok(sources) => Service::new(server, sources),
-            Err(_) => return Err(StartFault::memory()),
-        };
-        let Ok(mut followed) = all_followed(alloc, files, slurm) else {
-            return Err(StartFault::memory());
-        };
-        let Ok(mut offered) = all_offered(alloc, points) else {
-            return Err(StartFault::memory());
-        };
+        let held = Sources::new(alloc, files.len())?;
+        let mut service = Service::new(server, held);
+        let mut followed = all_followed(alloc, files, slurm)?;
+        let mut offered = all_offered(alloc, points)?;
         read_all(&mut followed, &mut service, alloc, now, world)?;
         read_points(&mut offered, &mut service, alloc, now, world)?;
-        let Ok(gates) = Gates::new(alloc, plan.gates) else {
-            return Err(StartFault::memory());
-        };
-        let Ok(ledger) = Ledger::new(alloc) else {
-            return Err(StartFault::memory());
-        };
+        let gates = Gates::new(alloc, plan.gates)?;
+        let ledger = Ledger::new(alloc)?;
         let mut daemon = Daemon {
             alloc,
             plan,

@@ -3,7 +3,7 @@ use exports::ExportFault;
 use points::PointFault;
 use slurm::SlurmFault;
 use sources::TakeFault;
-use std::alloc::Global;
+use std::alloc::{AllocError, Global};
 use std::io;
 use thiserror::Error;
 use vrps::SetFault;
@@ -14,7 +14,7 @@ pub enum Refusal {
     /// It cannot be read.
     #[error("it cannot be read: {0}")]
     Device(io::Error),
-    /// It is no export.
+    /// It is no export, or no file of the sources has its number.
     #[error("{0}")]
     Export(TakeFault),
     /// It holds no local exceptions.
@@ -78,5 +78,12 @@ impl StartFault {
             path: String::from_str(alloc, path).ok(),
             refusal,
         }
+    }
+}
+
+/// As `memory`.
+impl From<AllocError> for StartFault {
+    fn from(_error: AllocError) -> StartFault {
+        StartFault::memory()
     }
 }
