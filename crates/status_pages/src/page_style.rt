@@ -12,11 +12,11 @@ h2{font-size:1rem;margin:1.6rem 0 .5rem}
 p{margin:.2rem 0}
 .dim{color:var(--dim)}
 .warn{color:var(--warn);font-weight:600}
-dl{display:grid;grid-template-columns:repeat(auto-fill,minmax(9.5rem,1fr));gap:.6rem 1.5rem;margin:1rem 0 0}
+dl{display:grid;grid-template-columns:repeat(auto-fill,minmax(min(11.8rem,42%),1fr));gap:.6rem 1.5rem;margin:1rem 0 0}
 dt{color:var(--dim)}
 dd{margin:0;font-weight:600}
 dd .dim{font-weight:400}
-dd time,dd .dim{white-space:nowrap}
+dd .dim{white-space:nowrap}
 .scroll{overflow-x:auto;border:1px solid var(--line);border-radius:4px}
 thead th{position:sticky;top:0}
 .pair .scroll{max-height:20rem;overflow-y:auto}
@@ -32,5 +32,6 @@ figure{margin:0}
 svg{display:block;width:100%;height:9rem;background:var(--soft);border:1px solid var(--line);border-radius:4px}
 path{fill:none;stroke:var(--plot);stroke-width:2;vector-effect:non-scaling-stroke}
 figcaption{margin-top:.3rem}
+@media (min-width:27rem){dd time{white-space:nowrap}}
 @media (min-width:70rem){.pair{display:grid;grid-template-columns:1fr 1fr;gap:0 2rem}.pair>*{min-width:0}.pair svg{height:16rem}}
 ";
