@@ -7,6 +7,7 @@ use crate::answers::Answers;
 use crate::told::Told;
 use crate::visitor::{Visit, Visitor};
 use std::alloc::Global;
+use std::fmt::{self, Debug};
 use std::hash::RandomState;
 use std::io::{Read, Write};
 use std::marker::Model;
@@ -63,6 +64,13 @@ impl<T: Read + Write> Place<T> {
         ensures came { self.new.came ≡ self.old.came }
     {
         self.visitor.serve(answers, budget)
+    }
+}
+
+/// How many there are.
+impl<T> Debug for Visitors<T> {
+    fn fmt<W: fmt::Write>(&self, f: &mut fmt::Formatter<W>) -> fmt::Result {
+        write!(f, "Visitors({})", self.places.len())
     }
 }
 
