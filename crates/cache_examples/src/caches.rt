@@ -1,6 +1,6 @@
 //! Caches over both stores of versions: the scripts, and each PDU cut at each byte.
 use crate::play::{Log, cache_of, play_each, pulled};
-use crate::scripts::SCRIPTS;
+use crate::scripts::{OF_CONNECTIONS, SCRIPTS};
 use example_values::hex::{Bytes, bytes};
 use example_values::sets::{Row, Rows, V, W};
 use example_values::units::{
@@ -296,9 +296,18 @@ fn ten_thousand_records_in_pieces<S: Log + Drop, R: AllocGlobal + Abort>(
     Ok(())
 }
 
+fn caches_answer_by_scripts<S: Log + Drop, R: AllocGlobal + Abort>(rt: &R) -> Result<(), Fail> {
+    play_each::<S, R>(rt, SCRIPTS)
+}
+
+fn connections_go_by_scripts<S: Log + Drop, R: AllocGlobal + Abort>(rt: &R) -> Result<(), Fail> {
+    play_each::<S, R>(rt, OF_CONNECTIONS)
+}
+
 /// All of these, over a store.
 fn each_example<S: Log + Drop, R: AllocGlobal + Abort>(rt: &R) -> Result<(), Fail> {
-    play_each::<S, R>(rt, SCRIPTS)?;
+    caches_answer_by_scripts::<S, R>(rt)?;
+    connections_go_by_scripts::<S, R>(rt)?;
     each_unit_in_every_cutting::<S, R>(rt)?;
     changes_in_each_version::<S, R>(rt)?;
     a_long_unit_is_copied_as_far_as_there_is_room::<S, R>(rt)?;

@@ -162,6 +162,10 @@ pub(crate) const SCRIPTS: &[Script] = &[
             Step::At(0, Event::Sends(&[ANSWER])),
         ],
     },
+];
+
+/// The versions and the numbers of connections.
+pub(crate) const OF_CONNECTIONS: &[Script] = &[
     Script {
         name: "a version that there is not",
         start: OF_V,

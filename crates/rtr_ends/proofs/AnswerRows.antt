@@ -1,7 +1,8 @@
--- The codes of faults, and the PDUs at which a cache takes no memory, worked out.
-use Rattle.std.proofs.Common.{Bool, None, Some, [], false, refl, true, ℕ, ◌≡◌}
+-- The codes of faults, and the PDUs at which memory may run out at a cache, worked out.
+use Rattle.std.proofs.Common.{Bool, None, Some, [], false, refl, true, ℕ, ◌≡◌, ◌∷◌}
 use Rattle.prefixes.specs.Payload.{Payload}
 use Rattle.vrps.specs.Instance.{Instance}
+use Rattle.vrps.specs.VrpSet.{VrpSet}
 use Rattle.rtr_pdu.specs.Payloads.{Key, Report}
 use Rattle.rtr_pdu.specs.declared.unit.Unit.{Unit}
 use Rattle.rtr_pdu.specs.declared.unit.Unit.TheVariants.{CacheReset, CacheResponse, EndOfData, EndOfData0, ErrorReport, Prefix, ResetQuery, RouterKey, SerialNotify, SerialQuery}
@@ -22,6 +23,11 @@ codes = ((refl, refl, refl), (refl, refl, refl), (refl, refl, refl), (refl, refl
 
 codes_agreed : (version : Version) → (agreed_version false version ≡ None) × (agreed_version true version ≡ Some version)
 codes_agreed version = (refl, refl)
+
+-- Where something is published memory may run out at a Serial Query of its session, and at one of another it does not.
+takes_some : (version : Version) (set : VrpSet) → (takes_memory version (cache 5 (set ∷ [])) (SerialQuery 0x1234 5) ≡ true) × (takes_memory version (cache 5 (set ∷ [])) (SerialQuery 0x2222 5) ≡ false)
+takes_some V0 set = (refl, refl)
+takes_some V1 set = (refl, refl)
 
 -- Memory never runs out where nothing is published, nor for a PDU that is no Serial Query.
 takes_none : (version : Version) (i : Instance) (start serial : ℕ) → (takes_memory version i ResetQuery ≡ false) × (takes_memory version (cache start []) (SerialQuery 0x1234 serial) ≡ false)

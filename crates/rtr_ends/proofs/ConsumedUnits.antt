@@ -1,5 +1,5 @@
 -- The transcript of a router has the split of what it consumed, after each PDU and fault.
-use Rattle.std.proofs.Common.{◌≡◌, ℕ, ◌<◌, Bool, true, false, not, ◌&&◌, List, [], ◌∷◌, ◌++◌, Option, None, if◌then◌else◌, refl, sym, ap, ◌∙◌, subst, subst₂, append_assoc}
+use Rattle.std.proofs.Common.{◌≡◌, ℕ, ◌<◌, Bool, true, false, not, ◌&&◌, List, [], ◌∷◌, ◌++◌, Option, None, refl, sym, ap, ◌∙◌, subst, subst₂, append_assoc}
 use Rattle.std.proofs.Math.Bool.{and-false, and-true}
 use Rattle.std.proofs.lemmas.List.{append-nil}
 use Rattle.vrps.specs.VrpSet.{VrpSet}
@@ -16,8 +16,8 @@ use Rattle.rtr_pdu.proofs.NextLaws.{next_size}
 use Rattle.rtr_pdu.proofs.ReaderLaws.{partial_empty}
 use Rattle.rtr_pdu.proofs.RunLaws.{AreRead-push, any_after-push}
 use Rattle.rtr_ends.specs.Consumed.{units_read_in, fault_in}
-use Rattle.rtr_ends.specs.LinkRules.{Router, may_lack, on_unit}
-use Rattle.rtr_ends.specs.Router.{Noted, asked_by, lacks, reads, with_bytes}
+use Rattle.rtr_ends.specs.LinkRules.{Router, on_unit}
+use Rattle.rtr_ends.specs.Router.{Noted, asked_by, reads, with_bytes}
 use Rattle.rtr_ends.specs.RouterLaws.{LinkTells}
 use Rattle.rtr_ends.specs.RouterLink.{Link, Closed, Asked, Ended, is_closed, is_reading}
 use Rattle.rtr_ends.specs.Transcript.{Question, Item, Asks, Reads, Lacks, has_agreed, is_connected, later, spoken}

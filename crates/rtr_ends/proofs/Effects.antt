@@ -18,9 +18,9 @@ either P true x y first second = first refl
 either P false x y first second = second refl
 
 -- A link that reads is open.
-pub open_link : (l : Link) → is_reading l ≡ true → is_closed l ≡ false
-open_link Closed h = sym h
-open_link _ h = refl
+pub reading_open_so : (l : Link) → is_reading l ≡ true → is_closed l ≡ false
+reading_open_so Closed h = sym h
+reading_open_so _ h = refl
 
 -- The question that a PDU makes a router put
 abbrev pub put_by : Unit → Router → Question
@@ -166,9 +166,9 @@ by_byte P items m b h =
     subst (λ x. P n.router x) (sym (append_assoc n.items m.items items)) h
 
 -- A router that does not stop reads, and has nothing to be pulled.
-pub none_is : (out : List ℕ) → is_none out ≡ true → out ≡ []
-none_is [] h = refl
-none_is (b ∷ out) h = absurd (let e : false ≡ true = h in cc)
+pub nothing_out : (out : List ℕ) → is_none out ≡ true → out ≡ []
+nothing_out [] h = refl
+nothing_out (b ∷ out) h = absurd (let e : false ≡ true = h in cc)
 
 pub goes_so : (r : Router) → router_stops r ≡ false → (is_reading r.link ≡ true) × (r.out ≡ [])
-goes_so r h = let parts = and_parts (is_reading r.link) (is_none r.out) (true_of_not (is_reading r.link && is_none r.out) h) in (parts.0, none_is r.out parts.1)
+goes_so r h = let parts = and_parts (is_reading r.link) (is_none r.out) (true_of_not (is_reading r.link && is_none r.out) h) in (parts.0, nothing_out r.out parts.1)

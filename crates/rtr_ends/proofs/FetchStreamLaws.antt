@@ -11,7 +11,6 @@ use Rattle.rtr_pdu.specs.Payloads.{AreBytes}
 use Rattle.rtr_pdu.specs.declared.device.WriteFailed.{WriteFailed as Failed}
 use Rattle.rtr_ends.specs.Cache.{finds_memory, is_none}
 use Rattle.rtr_ends.specs.Consumed.{came}
-use Rattle.rtr_ends.specs.Feeding.{FedPiece, feed}
 use Rattle.rtr_ends.specs.FetchStream.{AllAsked, Awaits, FetchEnds, FetchReads, FetchedAs, IsFetchCall, IsReached, StillAsks, Taken, TakenPart, is_asking, pulled_by, reached_by, calls_since}
 use Rattle.rtr_ends.specs.LinkRules.{Router}
 use Rattle.rtr_ends.specs.Router.{RouterCall, Connects, Receives, Pulls, Receiving, clocked, connects_at, played, receives, router_byte, router_pulled, router_stops, with_bytes}
@@ -23,8 +22,7 @@ use Rattle.rtr_ends.specs.declared.fetching.Fetched.TheVariants as outcomes
 use Rattle.rtr_ends.specs.declared.router.Router as code
 use Rattle.rtr_ends.specs.declared.streams.StreamFault.{StreamFault}
 use Rattle.rtr_ends.specs.declared.streams.StreamFault.TheVariants.{ReadFailed, WriteFailed}
-use Rattle.rtr_ends.proofs.Effects.{by_whole, clocked_keeps, goes_so, unit_keeps}
-use Rattle.rtr_ends.proofs.Effects as effects
+use Rattle.rtr_ends.proofs.Effects.{by_whole, clocked_keeps, goes_so, unit_keeps, reading_open_so}
 use Rattle.rtr_ends.proofs.FeedingLaws.{feed_keeps, none_fed}
 use Rattle.rtr_ends.proofs.ServeStreamLaws.{drop_none, part_after}
 use Rattle.rtr_ends.proofs.TableLaws.{false_true}
@@ -55,7 +53,7 @@ none_received now wanting piece r out none =
 
 -- A connection stays open while bytes come.
 pub open_link : (l : Link) → is_reading l ≡ true → is_closed l ≡ false
-open_link l h = effects.open_link l h
+open_link l h = reading_open_so l h
 
 open_after : (memory : Bool) (bytes : List ℕ) (r : Router) (j : Judgement) → is_reading r.link ≡ true → is_closed (with_bytes memory bytes r j).router.link ≡ false
 open_after memory bytes r Begins h = open_link r.link h

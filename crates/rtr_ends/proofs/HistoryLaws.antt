@@ -12,7 +12,7 @@ use Rattle.rtr_pdu.specs.Unit.{Reads}
 use Rattle.rtr_pdu.specs.declared.unit.Unit.{Unit}
 use Rattle.rtr_pdu.specs.declared.unit.UnitFault.{UnitFault}
 use Rattle.rtr_ends.specs.Answer.{Reply, sent, sent_all}
-use Rattle.rtr_ends.specs.Connection.{ConnMoment, Read, Wanting, Fault, Notify, Pull, Connection, IsHistory, MayHold, PulledAreReplies, HistorySplits, conn_after, after_all, Sent, bytes_sent, in_version, opened, pulled, replies_from, reply, sent_by, units_of, version_after}
+use Rattle.rtr_ends.specs.Connection.{ConnMoment, Read, Wanting, Fault, Pull, Connection, IsHistory, MayHold, PulledAreReplies, HistorySplits, conn_after, after_all, Sent, bytes_sent, in_version, opened, pulled, replies_from, reply, sent_by, units_of, version_after}
 use Rattle.rtr_ends.specs.Timing.{Intervals}
 use Rattle.prefixes.proofs.Basics.{not_both}
 

@@ -10,15 +10,14 @@ use Rattle.rtr_ends.specs.RouterLaws.{LinkTells, IsKept, RouterKeeps}
 use Rattle.rtr_ends.specs.RouterLink.{Link, Closed, Idle, Answering, Ended, is_closed, is_due, is_idle}
 use Rattle.rtr_ends.specs.Transcript.{choose, of_version, spoken, Question, AskReset, AskSerial, Item, At, Opened, Asks, Refused, Shut, is_connected, moment, later, acts_once, base_of, is_serial, emptied_if, kept, is_over, sum_of, retry_of, due}
 use Rattle.rtr_ends.proofs.TableLaws.{false_true}
-use Rattle.rtr_ends.proofs.Effects as effects
-use Rattle.rtr_ends.proofs.Effects.{by_byte, by_clock, goes_on, goes_so}
+use Rattle.rtr_ends.proofs.Effects.{by_byte, by_clock, goes_on, goes_so, nothing_out}
 use Rattle.rtr_ends.proofs.FeedingLaws.{feed_keeps}
 use Rattle.rtr_ends.proofs.KeptUnits.{holds, Tells, bytes_add, connected}
 use Rattle.prefixes.proofs.Basics.{false_of_not}
 
 -- a piece
 pub none_is : (out : List ℕ) → is_none out ≡ true → out ≡ []
-none_is out h = effects.none_is out h
+none_is out h = nothing_out out h
 
 abbrev MTells : Receiving → List Item → Type 0
 MTells m items = Tells m.router (m.items ++ items)

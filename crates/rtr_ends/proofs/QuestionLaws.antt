@@ -6,12 +6,10 @@ use Rattle.vrps.specs.VrpSet.{VrpSet, has, size}
 use Rattle.rtr_pdu.specs.Judging.{Judgement, Begins, Whole, Faulty, judge}
 use Rattle.rtr_pdu.specs.declared.unit.Unit.{Unit}
 use Rattle.rtr_pdu.specs.declared.unit.Unit.TheVariants.{Prefix, EndOfData, EndOfData0, CacheReset}
-use Rattle.rtr_ends.specs.declared.link.End.{End}
-use Rattle.rtr_ends.specs.declared.link.End.TheVariants as ends
 use Rattle.rtr_ends.specs.Cache.{finds_memory}
 use Rattle.rtr_ends.specs.Answer.{sent}
-use Rattle.rtr_ends.specs.LinkRules.{Router, Staged, Stays, Wrong, Over, asking, commit, fails, on_unit, reports, stage, staged}
-use Rattle.rtr_ends.specs.Router.{RouterCall, Connects, Receives, Pulls, Closes, AsksNow, Ticks, Speaks, called, played, Receiving, router_byte, router_stops, asks, asks_if, clocked, close, closed_at, connects_at, receives, router_pulled, ticks_at, asked_by, reads, with_bytes}
+use Rattle.rtr_ends.specs.LinkRules.{Router, Staged, Stays, Wrong, Over, asking, commit, fails, on_unit, stage, staged}
+use Rattle.rtr_ends.specs.Router.{RouterCall, Connects, Receives, Closes, AsksNow, Ticks, called, played, Receiving, router_byte, router_stops, asks, asks_if, clocked, close, closed_at, connects_at, receives, router_pulled, ticks_at, asked_by, reads, with_bytes}
 use Rattle.rtr_ends.specs.RouterLaws.{RouterAsks, LinkTells}
 use Rattle.rtr_ends.specs.RouterLink.{is_due, Link, Closed, Idle, Asked, Answering, Ended, is_idle, is_reading}
 use Rattle.rtr_ends.specs.Timing.{Intervals, default_intervals}

@@ -23,7 +23,7 @@ use Rattle.rtr_ends.specs.Transcript.{Item, At}
 use Rattle.rtr_ends.specs.declared.machine.Machine.{Machine}
 use Rattle.rtr_ends.specs.declared.router.Router as code
 use Rattle.rtr_ends.proofs.ConsumedLaws.{router_splits, idle_reads}
-use Rattle.rtr_ends.proofs.Effects.{Clocks, Keeps, by_close, clocked_keeps, goes_so, open_link, unit_keeps}
+use Rattle.rtr_ends.proofs.Effects.{Clocks, Keeps, by_close, clocked_keeps, goes_so, reading_open_so, unit_keeps}
 use Rattle.rtr_ends.proofs.KeptLaws.{router_keeps}
 use Rattle.rtr_ends.proofs.MachineCells.{seen_so}
 use Rattle.rtr_ends.proofs.QuestionLaws.{router_asks}
@@ -104,7 +104,7 @@ module _ (old : code.Router) (piece rest : List ℕ) (takes : (is_reading (seen_
         record {
           machine = machine;
           reader = λ h. told_reader m.agreed n (cleared r) k (agreed_is m n machine) (made_so r s) ∙ (λ i. reading (sym k.spoken i) (sym (agreed_is m n machine) i) (sym k.held i));
-          closed = λ c. false_true (sym (k.connected (open_link r.link (reads_of r (on r s)))) ∙ c);
+          closed = λ c. false_true (sym (k.connected (reading_open_so r.link (reads_of r (on r s)))) ∙ c);
         }
 
     pub unit_goes : (lacking : Bool) → ReadsOrLacks lacking u mid m → TakesOn true old piece after_unit rest

@@ -2,7 +2,7 @@
 use Rattle.std.proofs.Common.{◌≡◌, Bool, true, false, ℕ, ◌+◌, ◌-◌, ◌<◌, ◌≤◌, not, List, [], ◌∷◌, ◌++◌, length, take, drop, min, Option, Some, None, option_map, slice_get, get_or, refl, sym, ap, ◌∙◌, subst, arith, append_assoc, add-one, inl, inr, suc, zero}
 use Rattle.std.proofs.Math.Seq.{drop-cons, drop-append-add, take-add}
 use Rattle.std.specs.Option.{is_some}
-use Rattle.std.proofs.lemmas.List.{length-append, length-drop, length-take, drop_all, drop_min, drop-drop, length-map, take-append-drop, take-append-le, drop-append-le, take_at}
+use Rattle.std.proofs.lemmas.List.{length-append, length-drop, length-take, drop_all, drop_min, drop-drop, length-map, take-append-drop, take_at}
 use Rattle.std.proofs.lemmas.Slice.{take-put_mid, drop-put_mid}
 use borrow.Rule.Slice.PartMut.{put_mid}
 use Rattle.std.proofs.lemmas.Option.{slice_get-map, slice_get_within, slice_get_cases, get_or_from_slice_get, slice_get_read}

@@ -14,7 +14,6 @@ use Rattle.rtr_pdu.specs.Payloads.{AreBytes}
 use Rattle.rtr_pdu.specs.declared.device.WriteFailed.{WriteFailed as Failed}
 use Rattle.rtr_ends.specs.Cache.{ConnCall, Conn, Gives as Pulled, IsConnCall, IsServed, Notifies, Publishes, Takes, Taking, conn_byte, conn_pulled, conn_stops, conn_takes, is_none}
 use Rattle.rtr_ends.specs.CacheState.{CacheState, GivesBytes, ShowsCache, ShowsSlot, TakesPiece, conn_consumed, due_at, is_open_at, peer_at, with_conn}
-use Rattle.rtr_ends.specs.Feeding.{FedPiece, feed}
 use Rattle.rtr_ends.specs.Sender.{PullsBytes}
 use Rattle.rtr_ends.specs.ServeStream.{AllOut, Answered, EndedAs, EndsSo, IsTurn, Partly, ReadsWithin, ServesConnection, StandsAt, Waits, ended_within, is_within, stood}
 use Rattle.rtr_ends.specs.Timing.{Intervals}

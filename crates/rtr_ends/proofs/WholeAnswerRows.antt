@@ -1,5 +1,5 @@
 -- PDUs and answers, byte by byte, and a history of a connection.
-use Rattle.std.proofs.Common.{List, [], arith, inl, inr, map, refl, true, ℕ, ◌++◌, ◌∷◌, ◌≡◌}
+use Rattle.std.proofs.Common.{List, [], arith, inl, map, refl, true, ℕ, ◌++◌, ◌∷◌, ◌≡◌}
 use Rattle.std.specs.List.Sorted.{IsStrictlySortedBy}
 use Rattle.prefixes.specs.Payload.{Payload, vrp_cmp}
 use Rattle.prefixes.specs.declared.prefix.IpPrefix.TheVariants.{V4}
