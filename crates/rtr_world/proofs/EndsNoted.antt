@@ -1,5 +1,5 @@
 -- Each link ends lawfully, each end is noted, where an event is refused too, and none is dropped.
-use Rattle.std.specs.Prelude.{◌≡◌, ℕ, true, false, List, [], ◌∷◌, ◌++◌, drop, Option, Some, None, zero, suc, Bool, map, refl, take, ⊤, not, ◌&&◌, ◌==◌, if◌then◌else◌}
+use Rattle.std.specs.Prelude.{◌≡◌, ℕ, true, false, List, [], ◌∷◌, ◌++◌, Option, Some, None, zero, suc, Bool, map, refl, take, ⊤, not, ◌&&◌, ◌==◌, if◌then◌else◌}
 use Rattle.std.specs.List.{AllByRecursion}
 use Rattle.std.proofs.Common.{sym, ap, ◌∙◌, subst, inl, inr, subst₂, append_assoc}
 use Rattle.vrps.specs.Instance.{Instance}
@@ -20,7 +20,7 @@ use Rattle.rtr_ends.specs.Feeding.{feed}
 use Rattle.rtr_ends.specs.declared.link.End.TheVariants as ends
 use Rattle.rtr_ends.proofs.KeptUnits.{Tells}
 use Rattle.rtr_ends.proofs.FeedingLaws.{feed_keeps}
-use Rattle.rtr_world.specs.World.{Ending, Side, World, instances, SideEvent, is_ended, ending_of, noted, router_restarts, cut, side_refused, side_step, Publish, Restart, On, cache_gone, goes_through, is_refused, on_side, settle, settled, tell_closed, RouterGets, Event}
+use Rattle.rtr_world.specs.World.{Ending, Side, World, instances, SideEvent, is_ended, ending_at, newly_ended, noted, outstanding_before_last, router_restarts, cut, side_part, side_refused, side_step, with_end, Publish, Restart, On, cache_gone, goes_through, is_refused, on_side, settle, settled, tell_closed, RouterGets, Event}
 use Rattle.rtr_world.specs.Claims.{EndsNoted, NotesEnds, EndsKept, NoneDropped, OneMore, IsLawfulEnd, OfAnother, LawfulEnds, NamesNone, NoneByMemory, NotByMemory}
 use Rattle.rtr_world.specs.History.{Done, Memory, Outcome, Entry, LeadsFrom, after}
 use Rattle.rtr_world.proofs.SideLaws.{all_weaker, all_map, all_new}
@@ -34,7 +34,7 @@ use Rattle.rtr_world.proofs.Versions.{Seen, IsSeen}
 -- Each link ends lawfully.
 -- a link that ended did so lawfully, at the last item
 abbrev pub LawfulLink : Link → List Item → Option Instance → Type 0
-LawfulLink (Ended end) items home = IsLawfulEnd end (outstanding (drop 1 items)) (spoken items) home
+LawfulLink (Ended end) items home = IsLawfulEnd end (outstanding_before_last items) (spoken items) home
 LawfulLink _ items home = ⊤
 
 lawful_on : (l : Link) (items : List Item) (home : Option Instance) → is_ended l ≡ false → LawfulLink l items home
@@ -76,15 +76,12 @@ pub record SideLawful (s : Side) : Type 0 where
   pub endings : AllByRecursion (λ (e : Ending). IsLawfulEnd e.end e.question e.version e.home) s.endings
 
 noted_lawful : (all : List Instance) (n : Noted) (s : Side) → (is_ended s.router.link ≡ false → LawfulLink n.router.link (n.items ++ s.items) s.home) → SideLawful s → SideLawful (noted all n s)
-noted_lawful all n s end h = record { endings = by_ended (is_ended s.router.link) refl }
+noted_lawful all n s end h = record { endings = by_links s.router.link n.router.link end }
   where
-    by_link : (l : Link) → LawfulLink l (n.items ++ s.items) s.home → AllByRecursion (λ (e : Ending). IsLawfulEnd e.end e.question e.version e.home) (ending_of false l s.home (n.items ++ s.items) ++ s.endings)
-    by_link (Ended end) is = (is, h.endings)
-    by_link _ is = h.endings
-
-    by_ended : (b : Bool) → is_ended s.router.link ≡ b → AllByRecursion (λ (e : Ending). IsLawfulEnd e.end e.question e.version e.home) (ending_of b n.router.link s.home (n.items ++ s.items) ++ s.endings)
-    by_ended true is = h.endings
-    by_ended false is = by_link n.router.link (end is)
+    by_links : (l k : Link) → (is_ended l ≡ false → LawfulLink k (n.items ++ s.items) s.home) → AllByRecursion (λ (e : Ending). IsLawfulEnd e.end e.question e.version e.home) (with_end (newly_ended l k) s (n.items ++ s.items))
+    by_links (Ended end) k is = h.endings
+    by_links _ (Ended end) is = (is refl, h.endings)
+    by_links _ _ is = h.endings
 
 asks_lawful : (r : Router) (b : Bool) (items : List Item) (home : Option Instance) → LawfulLink r.link items home → LawfulLink (asks_if b r).router.link ((asks_if b r).items ++ items) home
 asks_lawful r b items home h = asks_by (λ n. LawfulLink n.router.link (n.items ++ items) home) b r tt h
@@ -138,23 +135,22 @@ lawful_ends = always_kept SideLawful (record { new = record { endings = tt }; ke
 -- No end that was noted is dropped.
 -- What is noted adds one at most, and a close adds none.
 noted_more : (all : List Instance) (n : Noted) (s : Side) → OneMore s.endings (noted all n s).endings
-noted_more all n s = by_link (is_ended s.router.link) n.router.link
+noted_more all n s = by_end (newly_ended s.router.link n.router.link)
   where
-    by_link : (b : Bool) (l : Link) → OneMore s.endings (ending_of b l s.home (n.items ++ s.items) ++ s.endings)
-    by_link true l = inl refl
-    by_link false (Ended end) = inr (_, refl)
-    by_link false _ = inl refl
+    by_end : (end : Option End) → OneMore s.endings (with_end end s (n.items ++ s.items))
+    by_end None = inl refl
+    by_end (Some end) = inr (_, refl)
 
-no_ending : (b : Bool) (l : Link) (home : Option Instance) (items : List Item) → is_ended l ≡ false → ending_of b l home items ≡ []
-no_ending true l home items on = refl
-no_ending false (Ended end) home items on = absurd (let e : true ≡ false = on in cc)
-no_ending false _ home items on = refl
+no_ending : (l k : Link) → is_ended k ≡ false → newly_ended l k ≡ None
+no_ending (Ended end) k on = refl
+no_ending _ (Ended end) on = absurd (let e : true ≡ false = on in cc)
+no_ending _ _ on = refl
 
 -- The clean-up notes none, and drops none.
 told_endings : (all : List Instance) (s : Side) → (tell_closed all s).endings ≡ s.endings
 unfolding closed_at
 told_endings all s = closed_by (λ t. t.endings ≡ s.endings) all s (λ e. refl)
-    (λ e. ap (λ x. x ++ s.endings) (no_ending (is_ended s.router.link) (close (clocked s.router.now s.router)).link s.home ((closed_at s.router.now s.router).items ++ s.items) (closed_so (clocked s.router.now s.router))))
+    (λ e. ap (λ x. with_end x s ((closed_at s.router.now s.router).items ++ s.items)) (no_ending s.router.link (close (clocked s.router.now s.router)).link (closed_so (clocked s.router.now s.router))))
 
 pub settled_endings : (all : List Instance) (s : Side) → (settle all s).endings ≡ s.endings
 settled_endings all s = settle_keeps (λ (x : Side). x.endings ≡ s.endings) (λ x c u d h. h) all (λ x h. told_endings all x ∙ h) s refl
@@ -212,30 +208,34 @@ no_end : {A : Type 0} (l : Link) (end : End) → is_ended l ≡ false → l ≡ 
 no_end l end on e = absurd (let x : true ≡ false = ap is_ended (sym e) ∙ on in cc)
 
 of_noted : (all : List Instance) (n : Noted) (s : Side) → is_ended s.router.link ≡ false → (end : End) → n.router.link ≡ Ended end →
-    (noted all n s).endings ≡ record { end = end; question = outstanding (drop 1 (n.items ++ s.items)); version = spoken (n.items ++ s.items); home = s.home } ∷ s.endings
-of_noted all n s on end e = λ i. ending_of (on i) (e i) s.home (n.items ++ s.items) ++ s.endings
+    (noted all n s).endings ≡ ending_at s end (n.items ++ s.items) ∷ s.endings
+of_noted all n s on end e = ap (λ x. with_end x s (n.items ++ s.items)) (ap (newly_ended s.router.link) e ∙ now s.router.link on)
+  where
+    now : (l : Link) → is_ended l ≡ false → newly_ended l (Ended end) ≡ Some end
+    now (Ended end) on = absurd (let x : true ≡ false = on in cc)
+    now _ on = refl
 
-abbrev Notes : Option Instance → List Ending → Side → Type 0
-Notes home before t = (end : End) → t.router.link ≡ Ended end → t.endings ≡ record { end = end; question = outstanding (drop 1 t.items); version = spoken t.items; home = home } ∷ before
+abbrev Notes : Side → Side → Type 0
+Notes s t = (end : End) → t.router.link ≡ Ended end → t.endings ≡ ending_at s end t.items ∷ s.endings
 
-call_notes : (all : List Instance) (s : Side) (o : Option RouterCall) → is_ended s.router.link ≡ false → Notes s.home s.endings (after_call all s o)
+call_notes : (all : List Instance) (s : Side) (o : Option RouterCall) → is_ended s.router.link ≡ false → Notes s (after_call all s o)
 call_notes all s None on end e = no_end s.router.link end on e
 call_notes all s (Some call) on end e = of_noted all (called call s.router) s on end e
 
-notes : (w : World) (s : Side) → is_ended s.router.link ≡ false → (event : SideEvent) (wanting : Option ℕ) → Notes s.home s.endings (side_step w event wanting s)
+notes : (w : World) (s : Side) → is_ended s.router.link ≡ false → (event : SideEvent) (wanting : Option ℕ) → Notes s (side_step w event wanting s)
 unfolding router_restarts
 notes w s on event wanting =
-    step_by (Notes s.home s.endings) w wanting s event (λ is conn up down home read. call_notes (instances w) s (call_of event wanting s) on) (λ is end e. absurd (let x : false ≡ true = ap is_ended e in cc))
+    step_by (Notes s) w wanting s event (λ is conn up down home read. call_notes (instances w) s (call_of event wanting s) on) (λ is end e. absurd (let x : false ≡ true = ap is_ended e in cc))
 
 -- what moved before a refusal
 abbrev PartNotes : World → SideEvent → ℕ → Option ℕ → Side → Type 0
 PartNotes w event bytes wanting s =
-    (end : End) → (side_refused w event bytes wanting s).router.link ≡ Ended end →
-    (side_refused w event bytes wanting s).endings ≡ record { end = end; question = outstanding (drop 2 (side_refused w event bytes wanting s).items); version = spoken (side_refused w event bytes wanting s).items; home = s.home } ∷ s.endings
+    let part : Side = side_part w event bytes wanting s in
+    (end : End) → part.router.link ≡ Ended end → (side_refused w event bytes wanting s).endings ≡ ending_at s end part.items ∷ s.endings
 
 notes_part : (w : World) (s : Side) → is_ended s.router.link ≡ false → (event : SideEvent) (bytes : ℕ) (wanting : Option ℕ) → PartNotes w event bytes wanting s
 unfolding side_refused cut
-notes_part w s on event bytes wanting = part_by (Notes s.home s.endings) w event bytes wanting s (λ end e. no_end s.router.link end on e) (λ is. notes w s on (lesser event bytes) wanting)
+notes_part w s on event bytes wanting = part_by (Notes s) w event bytes wanting s (λ end e. no_end s.router.link end on e) (λ is. notes w s on (lesser event bytes) wanting)
 
 -- and still is after the clean-up
 all_note : (w : World) (s : Side) → is_ended s.router.link ≡ false → NotesEnds w s
@@ -348,12 +348,12 @@ record Spared (s : Side) : Type 0 where
   endings : AllByRecursion (λ (e : Ending). NotByMemory e.end) s.endings
 
 noted_spared : (all : List Instance) (n : Noted) (s : Side) → Free n.router.link → Spared s → Spared (noted all n s)
-noted_spared all n s free h = record { free = free; endings = by_link (is_ended s.router.link) n.router.link free }
+noted_spared all n s free h = record { free = free; endings = by_links s.router.link n.router.link free }
   where
-    by_link : (b : Bool) (l : Link) → Free l → AllByRecursion (λ (e : Ending). NotByMemory e.end) (ending_of b l s.home (n.items ++ s.items) ++ s.endings)
-    by_link true l f = h.endings
-    by_link false (Ended end) f = (f, h.endings)
-    by_link false _ f = h.endings
+    by_links : (l k : Link) → Free k → AllByRecursion (λ (e : Ending). NotByMemory e.end) (with_end (newly_ended l k) s (n.items ++ s.items))
+    by_links (Ended end) k f = h.endings
+    by_links _ (Ended end) f = (f, h.endings)
+    by_links _ _ f = h.endings
 
 gets_spared : (w : World) (s : Side) (most : ℕ) (wanting : Option ℕ) → wanting ≡ None → Spared s → Spared (noted (instances w) (called (Receives s.router.now wanting (take most s.down)) s.router) s)
 unfolding receives

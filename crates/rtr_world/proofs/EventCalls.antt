@@ -7,9 +7,9 @@ use Rattle.rtr_ends.specs.Cache.{Conn, new_conn}
 use Rattle.rtr_ends.specs.LinkRules.{Router}
 use Rattle.rtr_ends.specs.Router.{RouterCall, Connects, Receives, Pulls, Closes, AsksNow, Ticks, Speaks, called, silent, clocked, close, router_pulled, closed_at}
 use Rattle.rtr_ends.specs.RouterLink.{Link, Closed, Ended, is_closed, is_reading}
-use Rattle.rtr_ends.specs.Transcript.{Item, Refused}
+use Rattle.rtr_ends.specs.Transcript.{Refused}
 use Rattle.rtr_ends.proofs.TableLaws.{false_true}
-use Rattle.rtr_world.specs.World.{Side, World, instances, Ending, SideEvent, RouterRestart, Speak, Connect, RouterSends, CacheGets, CacheSends, RouterGets, Cut, NotifyRouter, Ask, Tick, ending_of, is_ended, noted, connects, router_restarts, speaks, router_sends, sends_from, cache_sends, gets_at, cache_gets, notifies_at, router_gets, cut, on_side, side_step, side_part, side_refused, tell_closed, settle, settle_link, settle_rest, settle_wire, Event, close_ended, settle_conn}
+use Rattle.rtr_world.specs.World.{Side, World, instances, SideEvent, RouterRestart, Speak, Connect, RouterSends, CacheGets, CacheSends, RouterGets, Cut, NotifyRouter, Ask, Tick, is_ended, newly_ended, noted, with_end, connects, router_restarts, speaks, router_sends, sends_from, cache_sends, gets_at, cache_gets, notifies_at, router_gets, cut, on_side, side_step, side_part, side_refused, tell_closed, settle, settle_link, settle_rest, settle_wire, Event, close_ended, settle_conn}
 use Rattle.rtr_world.specs.History.{Outcome, MayEnd, after, refusal, Entry, IsEvent, LeadsFrom}
 use Rattle.rtr_world.proofs.RouterCases.{close_by}
 use Rattle.rtr_world.proofs.SideLaws.{all_map, all_on_side}
@@ -93,14 +93,13 @@ IsNoRestart event = ⊤
 abbrev pub Rewired : (Side → Type 0) → Side → Type 0
 Rewired P s = (conn : Option Conn) (up down : List ℕ) (home read : Option Instance) → P (record s { conn = conn; up = up; down = down; home = home; read_at = read })
 
-no_end : (l : Link) (home : Option Instance) (items : List Item) → ending_of (is_ended l) l home items ≡ []
-no_end (Ended end) home items = refl
-no_end _ home items = refl
+no_end : (l : Link) → newly_ended l l ≡ None
+no_end (Ended end) = refl
+no_end _ = refl
 
 silent_noted : (all : List Instance) (r : Router) (s : Side) → r.link ≡ s.router.link → noted all (silent r) s ≡ record s { router = r }
 silent_noted all r s e =
-    ap (λ (x : List Ending). record s { router = r; endings = x ++ s.endings })
-    (ap (λ l. ending_of (is_ended s.router.link) l s.home s.items) e ∙ no_end s.router.link s.home s.items)
+    ap (λ x. record s { router = r; endings = with_end x s s.items }) (ap (newly_ended s.router.link) e ∙ no_end s.router.link)
 
 -- What holds after the call, with any wires, holds after the event.
 module _ (P : Side → Type 0) (w : World) (wanting : Option ℕ) (s : Side) where

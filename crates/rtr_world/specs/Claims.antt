@@ -1,5 +1,5 @@
 -- What holds after every list of events.
-use Rattle.std.specs.Prelude.{◌≡◌, ◌⊎◌, ℕ, ◌≤◌, ◌==◌, Bool, true, false, List, [], ◌∷◌, drop, length, if◌then◌else◌, Option, Some, None, IfSome, ⊤, zero, suc, map}
+use Rattle.std.specs.Prelude.{◌≡◌, ◌⊎◌, ℕ, ◌≤◌, ◌==◌, Bool, true, false, List, [], ◌∷◌, length, if◌then◌else◌, Option, Some, None, IfSome, ⊤, zero, suc, map}
 use Rattle.std.specs.List.{AllByRecursion}
 use Rattle.prefixes.specs.declared.route.Route.{Route}
 use Rattle.vrps.specs.Instance.{Instance, IsInstance, named}
@@ -18,10 +18,10 @@ use Rattle.rtr_ends.specs.LinkRules.{Router}
 use Rattle.rtr_ends.specs.Router.{RouterCall, played}
 use Rattle.rtr_ends.specs.RouterLaws.{IsKept}
 use Rattle.rtr_ends.specs.RouterLink.{Ended, is_reading}
-use Rattle.rtr_ends.specs.Transcript.{Begun, Item, Question, AskSerial, Committed, Refused, Restarts, base_of, is_commit, kept, outstanding, spoken, under_way}
+use Rattle.rtr_ends.specs.Transcript.{Begun, Item, Question, AskSerial, Committed, Refused, Restarts, base_of, is_commit, kept, under_way}
 use Rattle.rtr_ends.specs.Commit.{Commits}
 use Rattle.rtr_world.specs.VersionPlaces.{NeverBack, VersionPlace, version_place_of}
-use Rattle.rtr_world.specs.World.{Side, World, Event, On, Publish, Ending, RouterGets, RouterRestart, Speak, SideEvent, cache_gets, instances, settle, side_refused, side_step, timing}
+use Rattle.rtr_world.specs.World.{Side, World, Event, On, Publish, Ending, RouterGets, RouterRestart, Speak, SideEvent, cache_gets, ending_at, instances, settle, side_part, side_refused, side_step, timing}
 use Rattle.rtr_world.specs.History.{Outcome, Done, Memory, refusal, MayEnd, Made, IsMade, Entry, IsEvent, Leads, after, conn_due, moved, most_of, side_at}
 use Rattle.rtr_world.specs.OneAnswer.{Between, IsOfNow}
 
@@ -135,14 +135,14 @@ IsNoted w ending before s = (s.endings ≡ ending ∷ before) × ((settle (insta
 -- A link that ends by an event is noted, with its question and the version and the instance of its connection.
 abbrev pub NotesEnd : World → SideEvent → Option ℕ → Side → Type 0
 NotesEnd w event wanting s =
-    (end : End) → (side_step w event wanting s).router.link ≡ Ended end →
-    IsNoted w (record { end = end; question = outstanding (drop 1 (side_step w event wanting s).items); version = spoken (side_step w event wanting s).items; home = s.home }) s.endings (side_step w event wanting s)
+    let t : Side = side_step w event wanting s in
+    (end : End) → t.router.link ≡ Ended end → IsNoted w (ending_at s end t.items) s.endings t
 
--- So is one that ends by what came before the event is refused because memory ran out; the refusal is the last item then.
+-- So is one that ends by what moves before memory runs out and the event is refused.
 abbrev pub NotesRefused : World → SideEvent → ℕ → Option ℕ → Side → Type 0
 NotesRefused w event bytes wanting s =
-    (end : End) → (side_refused w event bytes wanting s).router.link ≡ Ended end →
-    IsNoted w (record { end = end; question = outstanding (drop 2 (side_refused w event bytes wanting s).items); version = spoken (side_refused w event bytes wanting s).items; home = s.home }) s.endings (side_refused w event bytes wanting s)
+    let part : Side = side_part w event bytes wanting s in
+    (end : End) → part.router.link ≡ Ended end → IsNoted w (ending_at s end part.items) s.endings (side_refused w event bytes wanting s)
 
 pub record NotesEnds (w : World) (s : Side) : Type 0 where
   pub through : (event : SideEvent) (wanting : Option ℕ) → NotesEnd w event wanting s

@@ -87,14 +87,25 @@ pub data Event : Type 0 where
 
 -- What the transcript gains, with the end of a link, and the places of commits
 
-abbrev pub is_ended : Link → Bool
-is_ended (Ended end) = true
-is_ended link = false
+-- how a link ended that had not ended before
+abbrev pub newly_ended : Link → Link → Option End
+newly_ended (Ended end) after = None
+newly_ended before (Ended end) = Some end
+newly_ended before after = None
 
--- the last item is the one at which the link ended
-abbrev pub ending_of : Bool → Link → Option Instance → List Item → List Ending
-ending_of false (Ended end) home items = record { end = end; question = outstanding (drop 1 items); version = spoken items; home = home } ∷ []
-ending_of ended link home items = []
+-- the question that was outstanding before the last item
+abbrev pub outstanding_before_last : List Item → Option Question
+outstanding_before_last [] = None
+outstanding_before_last (last ∷ items) = outstanding items
+
+-- A link ends at the last item of its transcript.
+abbrev pub ending_at : Side → End → List Item → Ending
+ending_at s end items = record { end = end; question = outstanding_before_last items; version = spoken items; home = s.home }
+
+-- The last end of a link, if any, stands first.
+abbrev pub with_end : Option End → Side → List Item → List Ending
+with_end None s items = s.endings
+with_end (Some end) s items = ending_at s end items ∷ s.endings
 
 -- Each item is judged as a commit by what the transcript keeps of it and of those before it.
 abbrev pub places_of : List Instance → List Item → List Item → List (Option VersionPlace)
@@ -107,7 +118,7 @@ abbrev pub noted : List Instance → Noted → Side → Side
 noted all n s = record s {
   router = n.router;
   items = n.items ++ s.items;
-  endings = ending_of (is_ended s.router.link) n.router.link s.home (n.items ++ s.items) ++ s.endings;
+  endings = with_end (newly_ended s.router.link n.router.link) s (n.items ++ s.items);
   places = places_of all n.items s.items ++ s.places;
 }
 
@@ -211,6 +222,10 @@ close_ended s ended due = s
 abbrev pub settle_conn : Side → Option Conn → Side
 settle_conn s None = s
 settle_conn s (Some o) = close_ended s o.state.ended o.state.due
+
+abbrev pub is_ended : Link → Bool
+is_ended (Ended end) = true
+is_ended link = false
 
 -- A router whose link ended, with nothing left to pull, is notified.
 abbrev pub settle_link : List Instance → Side → Link → List ℕ → Side
