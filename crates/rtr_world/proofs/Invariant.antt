@@ -16,10 +16,10 @@ use Rattle.rtr_ends.specs.LinkRules.{Router, Staged, Stays, stage}
 use Rattle.rtr_ends.specs.RouterLink.{Link, Closed, Idle, Asked, Answering, Ended}
 use Rattle.rtr_ends.specs.Transcript.{Begun, Committed, Question, AskReset, AskSerial, query, base_of, led_to, of_version}
 use Rattle.rtr_world.specs.History.{conn_due}
-use Rattle.rtr_world.specs.OneAnswer.{AreEarly, EndsWith, NotifiesOf, announced_in, withdrawn_in, without_notifies}
+use Rattle.rtr_world.specs.OneAnswer.{EndsWith, NotifiesOf, announced_in, withdrawn_in, without_notifies}
 use Rattle.rtr_world.specs.World.{Side, timing}
 use Rattle.rtr_world.proofs.Places.{Ordered}
-use Rattle.rtr_world.proofs.UnitStreams.{MaySpeak, Stream, behind_early}
+use Rattle.rtr_world.proofs.UnitStreams.{AreEarly, MaySpeak, Stream, behind_early}
 use Rattle.rtr_world.proofs.Versions.{Stands, TableAt, find_session, Seen, IsReadAt, IsSeen}
 
 abbrev pub after_stage : Staged → (Begun → Type 0) → Type 0

@@ -28,7 +28,7 @@ use Rattle.rtr_ends.specs.Router.{Noted, silent, reads, lacks, with_bytes}
 use Rattle.rtr_ends.specs.LinkRules.{Router, may_lack}
 use Rattle.rtr_ends.specs.Answer.{sent, sent_all}
 use Rattle.rtr_ends.specs.Connection.{Sent, bytes_sent, in_version}
-use Rattle.rtr_world.specs.OneAnswer.{AreEarly, IsPart, without_notifies}
+use Rattle.rtr_world.specs.OneAnswer.{IsPart, without_notifies}
 use Rattle.prefixes.proofs.Basics.{all_both}
 
 -- A notify of another version, which a router reads where it has not agreed on a version.
@@ -75,6 +75,10 @@ pub record Stream (held after : List ℕ) (units : List Sent) : Type 0 where
   pub whole : held ++ after ≡ bytes_sent units
   pub partial : (held ≡ []) ⊎ Begun held units
   pub fit : AllByRecursion IsSent units
+
+-- these are notifies alone, and there are none once a version is agreed on
+abbrev pub AreEarly : Bool → List Unit → Type 0
+AreEarly agreed units = (without_notifies units ≡ []) × (agreed ≡ true → units ≡ [])
 
 -- notifies of version 1 that were sent before the cache had read a header, and the PDUs behind them
 abbrev pub behind_early : Version → List Unit → List Unit → List Sent

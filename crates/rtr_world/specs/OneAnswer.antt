@@ -1,5 +1,6 @@
 -- What is on its way to a router is at most one answer (RFC 8210 sections 5 and 8).
-use Rattle.std.specs.Prelude.{◌≡◌, ◌⊎◌, ℕ, ◌==◌, Bool, true, false, List, [], ◌∷◌, ◌++◌, find, Option, Some, None, IsSome, ⊤}
+use Rattle.std.specs.Prelude.{◌≡◌, ◌⊎◌, ℕ, ◌==◌, Bool, true, false, List, [], ◌∷◌, ◌++◌, find, map, Option, Some, None, IsSome, ⊤}
+use Rattle.std.specs.List.{AllByRecursion}
 use Rattle.prefixes.specs.Payload.{Payload}
 use Rattle.vrps.specs.Instance.{Instance, named}
 use Rattle.vrps.specs.VrpSet.{VrpSet}
@@ -10,7 +11,7 @@ use Rattle.rtr_pdu.specs.declared.version.Version.{Version}
 use Rattle.rtr_pdu.specs.declared.version.Version.TheVariants.{V1}
 use Rattle.rtr_ends.specs.Answer.{answer, report, sent, sent_all, session_in}
 use Rattle.rtr_ends.specs.Commit.{Commits}
-use Rattle.rtr_ends.specs.Connection.{IsLater, Sent, bytes_sent, in_version, takes_memory}
+use Rattle.rtr_ends.specs.Connection.{IsLater, Sent, bytes_sent, takes_memory}
 use Rattle.rtr_ends.specs.RouterLink.{Link, Closed, Idle, Asked, Answering, Ended}
 use Rattle.rtr_ends.specs.Transcript.{Question, AskReset, AskSerial, query, Item, At, Reads, Committed, base_of, of_version, under_way}
 use Rattle.rtr_world.specs.World.{Side, World, instances, timing}
@@ -120,25 +121,36 @@ ComesOn w home s (Answering a) rest =
     × IsWholeAnswer w s.router.spoken home s.read_at a.question s.router.table (answered s.items ++ rest)
 ComesOn w home s link rest = ⊤
 
--- these are notifies alone, and there are none once a version is agreed on
-abbrev pub AreEarly : Bool → List Unit → Type 0
-AreEarly agreed units = (without_notifies units ≡ []) × (agreed ≡ true → units ≡ [])
+abbrev pub units_in : List Sent → List Unit
+units_in coming = map (λ (p : Sent). p.unit) coming
 
--- The bytes that are held, on the wire, still to be pulled, and lost by a cut or a restart are the PDUs to come, in the version of the
--- connection. Notifies of version 1 may stand before them, which the cache sent before it had read a header.
+-- Each PDU is in this version, and each notify of the session that the instance has in it.
+abbrev pub AreIn : Version → Instance → List Sent → Type 0
+AreIn version home coming = AllByRecursion (λ (p : Sent). p.version ≡ version) coming × NotifiesOf (session_in version home) (units_in coming)
+
+-- PDUs come in the version of the connection; until it is agreed on, notifies of version 1 may come first (RFC 8210 section 7).
+abbrev pub OwnNotifies : Bool → Version → Instance → List Sent → Type 0
+OwnNotifies true version home coming = AreIn version home coming
+OwnNotifies false version home [] = ⊤
+OwnNotifies false version home (first ∷ coming) =
+    AreIn version home (first ∷ coming)
+    ⊎ ((serial : ℕ) × (first ≡ record { version = V1; unit = SerialNotify (session_in V1 home) serial }) × OwnNotifies false version home coming)
+
+-- the bytes that the router holds, those on the wire, those still to be pulled, and those lost by a cut or a restart
+abbrev pub in_flight : Side → List ℕ → List ℕ
+in_flight s lost = s.router.held ++ (s.down ++ (conn_due s.conn ++ lost))
+
+-- The bytes in flight are the PDUs to come: notifies of the connection, and the rest of one answer. Nothing is lost while it is open.
 pub record OneAnswer (w : World) (s : Side) : Type 0 where
   pub home : Instance
   pub home_is : s.home ≡ Some home
-  pub early : List Unit
-  pub coming : List Unit
+  pub coming : List Sent
   pub lost : List ℕ
-  pub bytes : s.router.held ++ (s.down ++ (conn_due s.conn ++ lost)) ≡ bytes_sent (in_version V1 early ++ in_version s.router.spoken coming)
-  pub part : IsPart s.router.held (in_version V1 early ++ in_version s.router.spoken coming)
-  pub whole : (s.conn ≡ None → ⊥) → lost ≡ []
-  pub are_early : AreEarly s.router.agreed early
-  pub early_notifies : NotifiesOf (session_in V1 home) early
-  pub notifies : NotifiesOf (session_in s.router.spoken home) coming
-  pub rest : ComesOn w home s s.router.link (without_notifies coming)
+  pub bytes : in_flight s lost ≡ bytes_sent coming
+  pub part : IsPart s.router.held coming
+  pub whole : IsSome s.conn → lost ≡ []
+  pub notifies : OwnNotifies s.router.agreed s.router.spoken home coming
+  pub rest : ComesOn w home s s.router.link (without_notifies (units_in coming))
 
 -- Between events a closed link holds nothing, nothing is to be pulled from it, and nothing is on the wire to it; no link has ended;
 -- and on any other there is one answer.
