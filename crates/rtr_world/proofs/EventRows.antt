@@ -23,7 +23,7 @@ use Rattle.rtr_world.specs.Claims.{OfAnother, told}
 use Rattle.rtr_world.specs.SideShown.{held_of}
 use Rattle.rtr_world.specs.VersionPlaces.{position_of, version_place_of, VersionPlace}
 use Rattle.rtr_world.specs.Events.{catch_fault_number, outcome_fault, world_fault_number}
-use Rattle.rtr_world.specs.History.{Done, SessionUsed, TooManyVersions, NoSuchRouter, Memory, Entry, after, refusal, may_refuse, moved, MayEnd, has_connection, is_near, room_for, room_since, wants_at}
+use Rattle.rtr_world.specs.History.{Done, SessionUsed, TooManyVersions, NoSuchRouter, Memory, Entry, after, refusal, may_refuse, moved, MayEnd, has_connection, is_near, room_for, room_since, readings_at}
 use Rattle.rtr_world.specs.World.{Side, World, Event, Publish, Restart, On, RouterRestart, Speak, Connect, RouterSends, CacheGets, CacheSends, RouterGets, Cut, NotifyRouter, Ask, Tick, new_side, connects, cache_gets, cache_sends, router_gets, router_restarts, speaks, cut, side_step, side_refused, settle, goes_through, settled, is_refused, new_world, router_sends}
 use Rattle.rtr_ends.proofs.StagingLaws.{led_none}
 use Rattle.rtr_ends.specs.declared.link.End.TheVariants as ends
@@ -121,17 +121,13 @@ session0_used = refl
 abbrev query_side : Side
 query_side = asked_side asking (new_conn with_v) (0x01 ∷ 0x01 ∷ 0x12 ∷ 0x34 ∷ 0 ∷ 0 ∷ 0 ∷ 0x0c ∷ 0 ∷ 0 ∷ 0 ∷ 0x05 ∷ []) []
 
-wants_memory : wants_at (one query_side) (CacheGets 12) 12 0 (Some query_side) ≡ true
+wants_memory : readings_at (one query_side) (CacheGets 12) 12 (Some query_side) ≡ true ∷ []
 unfolding conn_takes conn_byte judge as_read
 wants_memory = refl
 
-too_early : wants_at (one query_side) (CacheGets 11) 11 0 (Some query_side) ≡ false
+too_early : readings_at (one query_side) (CacheGets 11) 11 (Some query_side) ≡ []
 unfolding conn_takes conn_byte judge as_read
 too_early = refl
-
-no_such_unit : wants_at (one query_side) (CacheGets 12) 12 1 (Some query_side) ≡ false
-unfolding conn_takes conn_byte judge as_read
-no_such_unit = refl
 
 -- Then an Internal Error is due in the answer's place, and the connection has ended.
 abbrev internal_error : List ℕ
@@ -265,11 +261,11 @@ too_many_bytes h = let e : 9 ≤ 8 = h.2 in omega (arith, e)
 
 never_came : MayEnd (refusal connected (On 0 (CacheGets 7))) connected (On 0 (CacheGets 7)) (Done (Some 0)) → ⊥
 unfolding refusal conn_takes conn_byte judge as_read
-never_came h = absurd (let e : false ≡ true = h in cc)
+never_came h = absurd (let e : ◌≡◌ {A = Option Bool} None (Some true) = h in cc)
 
 no_unit : MayEnd (refusal connected (Restart 1 1 1)) connected (Restart 1 1 1) (Done (Some 0)) → ⊥
 unfolding refusal
-no_unit h = h
+no_unit h = absurd (let e : ◌≡◌ {A = Option Bool} None (Some true) = h in cc)
 
 -- The cache published {v} after the connection was made. What it tells now is the new version.
 abbrev at_first : Instance
@@ -352,23 +348,23 @@ abbrev ends_come : World
 ends_come = world (open_side answering (new_conn with_v) [] (end_bytes 5) [] ∷ [])
 
 wants_at_an_end : MayEnd (refusal ends_come (On 0 (RouterGets 24))) ends_come (On 0 (RouterGets 24)) (Done (Some 0)) × MayEnd (refusal ends_come (On 0 (RouterGets 24))) ends_come (On 0 (RouterGets 24)) (Done None)
-unfolding refusal receives clocked router_byte judge as_read
+unfolding refusal receives clocked router_byte judge as_read on_unit
 wants_at_an_end = (refl, tt)
 
 not_of_a_part : MayEnd (refusal ends_come (On 0 (RouterGets 23))) ends_come (On 0 (RouterGets 23)) (Done (Some 0)) → ⊥
 unfolding refusal receives clocked router_byte judge as_read
-not_of_a_part h = absurd (let e : false ≡ true = h in cc)
+not_of_a_part h = absurd (let e : ◌≡◌ {A = Option Bool} None (Some true) = h in cc)
 
 not_of_a_second : MayEnd (refusal ends_come (On 0 (RouterGets 24))) ends_come (On 0 (RouterGets 24)) (Done (Some 1)) → ⊥
 unfolding refusal receives clocked router_byte judge as_read on_unit
-not_of_a_second h = absurd (let e : false ≡ true = h in cc)
+not_of_a_second h = absurd (let e : ◌≡◌ {A = Option Bool} None (Some true) = h in cc)
 
 abbrev response_comes : World
 response_comes = world (open_side asking (new_conn with_v) [] (response_bytes ++ end_bytes 5) opened ∷ [])
 
 not_of_a_response : MayEnd (refusal response_comes (On 0 (RouterGets 32))) response_comes (On 0 (RouterGets 32)) (Done (Some 0)) → ⊥
 unfolding refusal receives clocked router_byte judge as_read on_unit
-not_of_a_response h = absurd (let e : false ≡ true = h in cc)
+not_of_a_response h = absurd (let e : ◌≡◌ {A = Option Bool} (Some false) (Some true) = h in cc)
 
 but_behind_it : MayEnd (refusal response_comes (On 0 (RouterGets 32))) response_comes (On 0 (RouterGets 32)) (Done (Some 1))
 unfolding refusal receives clocked router_byte judge as_read on_unit
@@ -376,7 +372,7 @@ but_behind_it = refl
 
 not_where_it_sends : MayEnd (refusal response_comes (On 0 (RouterSends 8))) response_comes (On 0 (RouterSends 8)) (Done (Some 0)) → ⊥
 unfolding refusal
-not_where_it_sends h = absurd (let e : false ≡ true = h in cc)
+not_where_it_sends h = absurd (let e : ◌≡◌ {A = Option Bool} None (Some true) = h in cc)
 
 -- Each refusal is told as its own.
 told_as : (bytes : ℕ) (wanting : Option ℕ) → (outcome_fault (Done wanting) ≡ None) × (outcome_fault SessionUsed ≡ Some faults.SessionUsed) × (outcome_fault TooManyVersions ≡ Some faults.TooManyVersions)

@@ -25,6 +25,7 @@ pub mod Places
 pub mod PlacesNoted
 pub mod Publishing
 pub mod Restarting
+pub mod Readings
 pub mod Rests
 pub mod Room
 pub mod Rounds

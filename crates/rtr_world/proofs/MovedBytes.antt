@@ -1,5 +1,5 @@
 -- The bytes that an event moves.
-use Rattle.std.specs.Prelude.{◌≡◌, ℕ, ◌+◌, ◌-◌, ◌<◌, ◌≤◌, Bool, true, false, not, ◌||◌, List, [], ◌∷◌, ◌++◌, length, drop, take, min, Option, Some, None, IfSome, Result, Ok, Err, is_ok, if◌then◌else◌, refl, ⊤}
+use Rattle.std.specs.Prelude.{◌≡◌, ℕ, ◌+◌, ◌-◌, ◌<◌, ◌≤◌, Bool, true, false, ◌||◌, List, [], ◌∷◌, ◌++◌, length, drop, take, min, Option, Some, None, IfSome, Result, Ok, Err, is_ok, slice_get, if◌then◌else◌, refl, ⊤}
 use Rattle.std.proofs.Common.{sym, ap, ◌∙◌, subst, arith, append_assoc, subst₂}
 use Rattle.std.proofs.Math.Nat.{min-zero, zero-min}
 use Rattle.std.proofs.Math.Seq.{take-add, take-append_seam}
@@ -8,7 +8,6 @@ use Rattle.std.proofs.lemmas.List.Folds.{list_any-append}
 use Rattle.std.specs.List.{list_any}
 use Rattle.std.specs.declared.alloc.AllocError.{AllocError}
 use Rattle.vrps.specs.Steps.{HoldsSteps, Steps}
-use Rattle.rtr_pdu.specs.Judging.{Judgement, judge}
 use Rattle.rtr_ends.specs.Cache.{Conn, Taking, conn_byte, conn_pulled, conn_stops, conn_takes, counted, finds_memory}
 use Rattle.rtr_ends.specs.CacheState.{GivesBytes, ShowsCache, TakesPiece, conn_consumed, due_at, is_wanted_at}
 use Rattle.rtr_ends.specs.Feeding.{FedPiece, feed}
@@ -23,10 +22,11 @@ use Rattle.rtr_ends.specs.declared.cache.Cache.{Cache}
 use Rattle.rtr_ends.specs.declared.cache.Conn.{Conn as Number}
 use Rattle.rtr_ends.specs.declared.router.Router as routers
 use Rattle.rtr_ends.proofs.FeedingLaws.{feed_takes}
-use Rattle.rtr_world.specs.History.{conn_wants, wants_at}
+use Rattle.rtr_world.specs.History.{conn_readings, readings_at}
 use Rattle.rtr_world.specs.SideShown.{AloneAt, BeginsEvent, ConnIs, MadeAt, Moves, Passes, SendsSome, ShowsBoth, ShowsSide, state_of, MadeTo}
 use Rattle.rtr_world.specs.World.{World, Side, CacheGets, CacheSends, RouterGets, RouterSends, cache_gets, cache_sends, cut, gets_at, router_gets, router_sends, sends_from, side_step, timing, instances}
 use Rattle.rtr_world.specs.declared.side.Side as values
+use Rattle.rtr_world.proofs.Readings.{came, conn_wants, has, has_so, router_lacks}
 use Rattle.rtr_world.proofs.Moving.{OnConn, alone, and_then, clocked_same, conn_here, on_cache, on_conn, put, served_as}
 
 -- A side is shown that kept its connection and when that was made.
@@ -61,10 +61,7 @@ record Alike (f g : FedPiece Receiving) : Type 0 where
   pub rest : f.rest ≡ g.rest
   pub lacks : list_any is_lacking f.machine.items ≡ list_any is_lacking g.machine.items
 
--- what the next byte brings, and what becomes of it
-abbrev came : Router → ℕ → Judgement
-came r b = judge r.spoken (not r.agreed) (r.held ++ b ∷ [])
-
+-- what becomes of the next byte
 abbrev brings : Router → Option ℕ → ℕ → Noted
 brings r wanting b = with_bytes (finds_memory wanting) (r.held ++ b ∷ []) r (came r b)
 
@@ -95,9 +92,10 @@ router_left piece r wanting bytes most count is count_is =
     ∙ ap (λ x. x ++ drop most bytes) (told_now piece r wanting).rest
 
 wanted_now : (s : Side) (w : World) (most : ℕ) (wanting : Option ℕ) → IfSome wanting (λ unit. list_any is_lacking (receives 0 (Some unit) (take most s.down) s.router).machine.items ≡ true)
-    → IfSome wanting (λ unit. wants_at w (RouterGets most) most unit (Some s) ≡ true)
+    → IfSome wanting (λ unit. slice_get (readings_at w (RouterGets most) most (Some s)) unit ≡ Some true)
 wanted_now s w most None h = tt
-wanted_now s w most (Some unit) h = sym (told_now (take most s.down) s.router (Some unit)).lacks ∙ h
+wanted_now s w most (Some unit) h =
+    has_so (slice_get (readings_at w (RouterGets most) most (Some s)) unit) (sym (router_lacks s.router.now (take most s.down) s.router unit) ∙ sym (told_now (take most s.down) s.router (Some unit)).lacks ∙ h)
 
 pub router_got : (w : World) (at : ℕ → Option Conn) (s : Side) (v n : values.Side) (most count : ℕ) (piece : List ℕ) → ShowsSide w at s v → piece ≡ take most v.down → ReceivesSo 0 piece count v.router n.router
     → n ≡ record v { router = n.router; down = drop count v.down } → Passes w at (RouterGets most) s (λ t. AloneAt w at t v n)
@@ -137,7 +135,7 @@ cache_got w at s cache later v n number most count piece h is piece_is took same
     let x : Conn = there.conn in
     let got : piece ≡ take most s.up = piece_is ∙ ap (take most) h.side.up in
     let served = served_as w at later number.0 (λ o. (conn_takes w.keep timing w.present took.wanting piece o).machine.conn) x there.at_is took.shows in
-    let wanted : IfSome took.wanting (λ unit. wants_at w (CacheGets most) most unit (Some s) ≡ true) = wants took.wanting took.wanted there got in
+    let wanted : IfSome took.wanting (λ unit. slice_get (readings_at w (CacheGets most) most (Some s)) unit ≡ Some true) = wants took.wanting took.wanted there got in
     let next : Conn = (conn_takes w.keep timing w.present took.wanting (take most s.up) x).machine.conn in
     let count_is : count ≡ length (take most s.up) - length (conn_takes w.keep timing w.present took.wanting (take most s.up) x).rest =
     took.result_is ∙ ap (λ o. conn_consumed took.wanting piece (state_of w at) o) there.at_is ∙ ap (λ p. length p - length (conn_takes w.keep timing w.present took.wanting p x).rest) got in
@@ -159,9 +157,11 @@ cache_got w at s cache later v n number most count piece h is piece_is took same
     }
   where
     wants : (wanting : Option ℕ) → IfSome wanting (λ unit. is_wanted_at piece (state_of w at) (at number.0) unit ≡ true) → OnConn at number s.conn → piece ≡ take most s.up
-        → IfSome wanting (λ unit. wants_at w (CacheGets most) most unit (Some s) ≡ true)
+        → IfSome wanting (λ unit. slice_get (readings_at w (CacheGets most) most (Some s)) unit ≡ Some true)
     wants None h t e = tt
-    wants (Some unit) h t e = ap (conn_wants w most unit s) t.is ∙ ap (λ p. is_wanted_by_peer w.keep timing w.present t.conn p unit) (sym e) ∙ ap (λ o. is_wanted_at piece (state_of w at) o unit) (sym t.at_is) ∙ h
+    wants (Some unit) h t e =
+        has_so (slice_get (readings_at w (CacheGets most) most (Some s)) unit)
+        (ap (λ o. has (slice_get (conn_readings w (take most s.up) o) unit)) t.is ∙ sym (conn_wants w.keep w.present (take most s.up) t.conn unit) ∙ ap (λ p. is_wanted_by_peer w.keep timing w.present t.conn p unit) (sym e) ∙ ap (λ o. is_wanted_at piece (state_of w at) o unit) (sym t.at_is) ∙ h)
 
 -- What a router puts on the wire
 front_of : (most count : ℕ) (bytes behind : List ℕ) → count ≡ min most (length bytes) → take count (take most bytes ++ behind) ≡ take most bytes

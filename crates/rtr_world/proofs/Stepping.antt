@@ -7,7 +7,7 @@ use Rattle.std.specs.declared.alloc.AllocError.{AllocError}
 use Rattle.vrps.specs.Instance.{Instance}
 use Rattle.rtr_ends.specs.Cache.{Conn}
 use Rattle.rtr_ends.specs.RouterLink.{Link, Closed, is_closed}
-use Rattle.rtr_world.specs.History.{Done, Memory, NoSuchRouter, MayEnd, IsWanted, Reached, after, may_refuse_at, most_of, moved_at, refusal, side_at, wants_at}
+use Rattle.rtr_world.specs.History.{Done, Memory, NoSuchRouter, MayEnd, IsWanted, Reached, after, may_refuse_at, most_moved, most_of, moved_at, readings_at, refusal, side_at}
 use Rattle.rtr_world.specs.Reached.{ShowsParts, ShowsRest, ShowsWorld, StepsOnce}
 use Rattle.rtr_world.specs.SideShown.{Happens, MayFail, Moves}
 use Rattle.rtr_world.specs.World.{World, Side, SideEvent, Connect, RouterSends, CacheSends, On, goes_through, instances, is_refused, on_side, settle, settled, side_refused, side_step}
@@ -91,9 +91,9 @@ module _ (w : World) (v n : code.World) (r : ℕ) (e : SideEvent) (s : Side) (ol
     parts = subst (λ l. ShowsParts (record w { sides = on_side r f w.sides }) m.now n.cache l) (sym items) (moved w h.at v.cache n.cache v.sides.items r s f old new h.parts low found is m);
   }
 
-  wanted : (wanting : Option ℕ) → IfSome wanting (λ unit. wants_at w e (most_of e) unit (Some s) ≡ true) → IsWanted w (On r e) most_of wanting
+  wanted : (wanting : Option ℕ) → IfSome wanting (λ unit. slice_get (readings_at w e (most_of e) (Some s)) unit ≡ Some true) → IsWanted w (On r e) (most_moved (On r e)) wanting
   wanted None h = tt
-  wanted (Some unit) h = ap (wants_at w e (most_of e) unit) is ∙ h
+  wanted (Some unit) h = ap (λ x. slice_get (readings_at w e (most_of e) x) unit) is ∙ h
 
   pub done : (result : Result ⊤ WorldFault) → result ≡ Ok tt → Happens w h.at e s (λ t. Moves w h.at old.conn t n.cache new) (Ok tt) → StepsOnce w (On router e) result n
   done result ok p = subst (λ k. StepsOnce w (On k e) result n) router_is (record {

@@ -1,18 +1,19 @@
 -- What is refused, and what a list of events with its outcomes leads to.
-use Rattle.std.specs.Prelude.{◌≡◌, ℕ, zero, suc, ◌-◌, ◌^◌, ◌<◌, ◌≤◌, Bool, true, false, not, ◌||◌, ◌&&◌, ◌==◌, nat_lt, List, [], ◌∷◌, length, take, find, Option, Some, None, is_some, if◌then◌else◌, IsTrue, ⊤}
-use Rattle.std.specs.List.{list_any}
+use Rattle.std.specs.Prelude.{◌≡◌, ℕ, zero, suc, ◌-◌, ◌^◌, ◌<◌, ◌≤◌, Bool, true, false, not, ◌||◌, ◌&&◌, ◌==◌, nat_lt, List, [], ◌∷◌, ◌++◌, length, take, find, Option, Some, None, is_some, IfSome, slice_get, if◌then◌else◌, ⊤}
+use Rattle.std.specs.List.{flat_map}
 use Rattle.vrps.specs.Instance.{Instance, versions}
 use Rattle.vrps.specs.Store.{is_current}
 use Rattle.vrps.specs.VrpSet.{IsVrpSet}
+use Rattle.rtr_pdu.specs.declared.unit.Unit.{Unit}
 use Rattle.rtr_pdu.specs.declared.version.Version.{Version}
 use Rattle.rtr_pdu.specs.declared.version.Version.TheVariants.{V0, V1}
 use Rattle.rtr_ends.specs.Answer.{session_in}
 use Rattle.rtr_ends.specs.Cache.{Conn, conn_takes}
-use Rattle.rtr_ends.specs.Connection.{is_wanting}
-use Rattle.rtr_ends.specs.Router.{receives}
+use Rattle.rtr_ends.specs.Connection.{ConnMoment, Read, takes_memory}
+use Rattle.rtr_ends.specs.LinkRules.{Router, may_lack}
+use Rattle.rtr_ends.specs.Router.{clocked, reads, receives}
 use Rattle.rtr_ends.specs.RouterLink.{is_closed}
-use Rattle.rtr_ends.specs.RouterShown.{is_lacking}
-use Rattle.rtr_ends.specs.Transcript.{Committed}
+use Rattle.rtr_ends.specs.Transcript.{Committed, Item, Reads}
 use Rattle.rtr_world.specs.VersionPlaces.{position_of}
 use Rattle.rtr_world.specs.World.{Side, World, instances, SideEvent, RouterRestart, Connect, RouterSends, CacheGets, CacheSends, RouterGets, Event, Publish, Restart, On, cache_gets, router_gets, goes_through, settled, is_refused, new_world, timing}
 
@@ -104,29 +105,51 @@ most_of (CacheSends most) = most
 most_of (RouterGets most) = most
 most_of event = 0
 
--- memory runs out at this PDU of so many bytes that arrive at the cache
-abbrev pub conn_wants : World → ℕ → ℕ → Side → Option Conn → Bool
-conn_wants w bytes unit s None = false
-conn_wants w bytes unit s (Some o) = list_any is_wanting (conn_takes w.keep timing w.present (Some unit) (take bytes s.up) o).machine.moments
+abbrev pub most_moved : Event → ℕ
+most_moved (On r event) = most_of event
+most_moved event = 0
 
--- Of so many bytes that arrive this PDU is read, and what is done with it takes memory.
-abbrev pub wants_at : World → SideEvent → ℕ → ℕ → Option Side → Bool
-wants_at w event bytes unit None = false
-wants_at w (CacheGets most) bytes unit (Some s) = conn_wants w bytes unit s s.conn
-wants_at w (RouterGets most) bytes unit (Some s) = list_any is_lacking (receives s.router.now (Some unit) (take bytes s.down) s.router).machine.items
-wants_at w event bytes unit (Some s) = false
+-- whether what the cache answers to a PDU takes memory, where one is read
+abbrev pub conn_reading : ConnMoment → List Bool
+conn_reading (Read version cache unit bytes) = takes_memory version cache unit ∷ []
+conn_reading m = []
 
--- Where an outcome names a PDU, memory ran out at it.
-abbrev pub IsWanted : World → Event → (SideEvent → ℕ) → Option ℕ → Type 0
-IsWanted w event bytes None = ⊤
-IsWanted w (On r event) bytes (Some unit) = IsTrue (wants_at w event (bytes event) unit (side_at r w.sides))
-IsWanted w event bytes (Some unit) = ⊥
+abbrev pub conn_readings : World → List ℕ → Option Conn → List Bool
+conn_readings w piece None = []
+conn_readings w piece (Some o) = flat_map conn_reading (conn_takes w.keep timing w.present None piece o).machine.moments
+
+-- the PDUs that a router read, the first one first
+abbrev pub units_read : List Item → List Unit
+units_read [] = []
+units_read (Reads unit ∷ items) = units_read items ++ unit ∷ []
+units_read (item ∷ items) = units_read items
+
+-- whether each PDU that a router reads takes memory there: it stages a record, or commits
+abbrev pub router_readings : Router → List Unit → List Bool
+router_readings r [] = []
+router_readings r (unit ∷ units) = may_lack r.link unit r ∷ router_readings (reads unit (record r { held = [] })).router units
+
+-- the PDUs that an event reads of so many bytes, in their order, each with whether what is done with it takes memory
+abbrev pub readings_at : World → SideEvent → ℕ → Option Side → List Bool
+readings_at w event bytes None = []
+readings_at w (CacheGets most) bytes (Some s) = conn_readings w (take bytes s.up) s.conn
+readings_at w (RouterGets most) bytes (Some s) =
+    router_readings (clocked s.router.now s.router) (units_read (receives s.router.now None (take bytes s.down) s.router).machine.items)
+readings_at w event bytes (Some s) = []
+
+abbrev pub readings : World → Event → ℕ → List Bool
+readings w (On r event) bytes = readings_at w event bytes (side_at r w.sides)
+readings w event bytes = []
+
+-- A PDU at which memory runs out, counted from 0, is read, and what is done with it takes memory.
+abbrev pub IsWanted : World → Event → ℕ → Option ℕ → Type 0
+IsWanted w event bytes wanting = IfSome wanting (λ unit. slice_get (readings w event bytes) unit ≡ Some true)
 
 -- the outcomes that an event may have
 abbrev pub MayEnd : Option Outcome → World → Event → Outcome → Type 0
 MayEnd (Some refused) w event outcome = outcome ≡ refused
-MayEnd None w event (Done wanting) = IsWanted w event most_of wanting
-MayEnd None w event (Memory bytes wanting) = (may_refuse w event ≡ true) × IsWanted w event (λ e. bytes) wanting × (bytes ≤ moved w event wanting)
+MayEnd None w event (Done wanting) = IsWanted w event (most_moved event) wanting
+MayEnd None w event (Memory bytes wanting) = (may_refuse w event ≡ true) × IsWanted w event bytes wanting × (bytes ≤ moved w event wanting)
 MayEnd None w event outcome = ⊥
 
 -- after SessionUsed, TooManyVersions and NoSuchRouter nothing has changed

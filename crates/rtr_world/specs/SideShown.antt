@@ -1,5 +1,5 @@
 -- What a world of the program has of its model.
-use Rattle.std.specs.Prelude.{◌≡◌, ◌⊎◌, ℕ, ◌-◌, ◌≤◌, ◌^◌, ◌==◌, Bool, true, false, List, [], length, min, Option, Some, None, IsSome, IfSome, Result, Ok, Err, if◌then◌else◌, ⊤}
+use Rattle.std.specs.Prelude.{◌≡◌, ◌⊎◌, ℕ, ◌-◌, ◌≤◌, ◌^◌, ◌==◌, Bool, true, false, List, [], length, min, Option, Some, None, IsSome, IfSome, Result, Ok, Err, slice_get, if◌then◌else◌, ⊤}
 use Rattle.std.specs.declared.alloc.AllocError.{AllocError}
 use Rattle.vrps.specs.Instance.{Instance}
 use Rattle.vrps.specs.Serial.{serial_at}
@@ -17,7 +17,7 @@ use Rattle.rtr_ends.specs.declared.cache.Cache.{Cache}
 use Rattle.rtr_ends.specs.declared.cache.Conn.{Conn as Number}
 use Rattle.rtr_ends.specs.declared.sessions.Sessions.{Sessions}
 use Rattle.rtr_world.specs.World.{World, Side, SideEvent, Connect, RouterSends, CacheSends, instances, timing, cut, settle, side_step, side_part, side_refused, sends_from}
-use Rattle.rtr_world.specs.History.{is_used, moved_at, most_of, wants_at}
+use Rattle.rtr_world.specs.History.{is_used, moved_at, most_of, readings_at}
 use Rattle.rtr_world.specs.declared.side.Side as values
 
 -- the cache of a world, with these connections
@@ -99,7 +99,7 @@ MayFail event s = ⊥
 -- An event goes through; memory runs out at this PDU of it, if at any.
 pub record Passes (w : World) (at : ℕ → Option Conn) (event : SideEvent) (s : Side) (Now : Side → Type 0) : Type 0 where
   pub wanting : Option ℕ
-  pub wanted : IfSome wanting (λ unit. wants_at w event (most_of event) unit (Some s) ≡ true)
+  pub wanted : IfSome wanting (λ unit. slice_get (readings_at w event (most_of event) (Some s)) unit ≡ Some true)
   pub now : Now (side_step w event wanting s)
 
 -- It fails because memory ran out after so many bytes, and the cut is still to come.
