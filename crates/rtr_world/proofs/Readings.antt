@@ -1,22 +1,23 @@
 -- Memory runs out at just those PDUs of an event that take memory, of all that it reads.
-use Rattle.std.specs.Prelude.{◌≡◌, ℕ, zero, suc, Bool, true, false, not, ◌&&◌, ◌||◌, List, [], ◌∷◌, ◌++◌, Option, Some, None, slice_get, if◌then◌else◌, refl}
+use Rattle.std.specs.Prelude.{◌≡◌, ℕ, zero, suc, Bool, true, false, not, ◌&&◌, ◌||◌, ◌==◌, List, [], ◌∷◌, ◌++◌, Option, Some, None, slice_get, if◌then◌else◌, refl}
 use Rattle.std.proofs.Common.{sym, ap, ◌∙◌, subst, append_assoc}
 use Rattle.std.proofs.lemmas.List.{append-nil}
 use Rattle.std.proofs.lemmas.List.Folds.{list_any-append}
 use Rattle.std.specs.List.{flat_map, list_any}
 use Rattle.vrps.specs.Instance.{Instance}
 use Rattle.rtr_pdu.specs.declared.unit.Unit.{Unit}
-use Rattle.rtr_pdu.specs.declared.unit.Unit.TheVariants.{Prefix}
+use Rattle.rtr_pdu.specs.declared.unit.Unit.TheVariants.{SerialNotify, CacheResponse, Prefix, EndOfData, EndOfData0, CacheReset, ErrorReport}
 use Rattle.rtr_pdu.specs.declared.version.Version.{Version}
 use Rattle.rtr_pdu.specs.Judging.{Judgement, Begins, Whole, Faulty, judge}
 use Rattle.rtr_ends.specs.Cache.{Conn, Taking, and_moment, conn_byte, conn_moment_of, conn_stops, conn_takes, counted, finds_memory, version_at, with_moment}
 use Rattle.rtr_ends.specs.Connection.{ConnMoment, Fault, Read, Wanting, is_wanting, takes_memory}
 use Rattle.rtr_ends.specs.Feeding.{FedPiece, feed}
-use Rattle.rtr_ends.specs.LinkRules.{Router, may_lack}
+use Rattle.rtr_ends.specs.LinkRules.{Router, Staged, Stays, ask, commit, emptied, ended_by, fails, is_news, is_strange, may_lack, on_unit, stage, staged, told_off}
 use Rattle.rtr_ends.specs.Router.{Noted, Receiving, asked_by, breaks, clocked, lacks, reads, receives, router_byte, router_stops, with_bytes}
-use Rattle.rtr_ends.specs.RouterLink.{Link, Asked, Answering}
+use Rattle.rtr_ends.specs.RouterLink.{Link, Closed, Idle, Asked, Answering, Ended}
 use Rattle.rtr_ends.specs.RouterShown.{fed, is_lacking, taking}
-use Rattle.rtr_ends.specs.Transcript.{Item, At, Breaks, Lacks, Reads}
+use Rattle.rtr_ends.specs.Transcript.{Item, At, AskReset, AskSerial, Breaks, Lacks, Question, Reads, base_of, bounded, is_serial, is_wrong, of_version, retry_of, sum_of}
+use Rattle.rtr_ends.specs.Timing.{default_intervals}
 use Rattle.rtr_ends.proofs.FeedingLaws.{stopped}
 use Rattle.rtr_ends.proofs.TableLaws.{false_true}
 use Rattle.rtr_world.specs.History.{conn_reading, router_readings, units_read}
@@ -95,14 +96,52 @@ reads_all (b ∷ bytes) r xs = by_test (router_stops r) (read_step bytes (reads_
     by_test true on = (sym (append-nil (units_read xs)), refl)
     by_test false on = on
 
--- What is held does not matter.
+-- What is held of the next PDU does not matter to what is done with one.
+either : (b : Bool) (f g : Router → Router) (r : Router) (held : List ℕ) → f (record r { held = held }) ≡ record (f r) { held = held } → g (record r { held = held }) ≡ record (g r) { held = held }
+    → (if b then f (record r { held = held }) else g (record r { held = held })) ≡ record (if b then f r else g r) { held = held }
+either true f g r held first second = first
+either false f g r held first second = second
+
+staged_aside : (u : Unit) (st : Staged) (r : Router) (held : List ℕ) → staged u st (record r { held = held }) ≡ record (staged u st r) { held = held }
+staged_aside u (Stays a) r held = refl
+staged_aside u _ r held = refl
+
+told_aside : (q : Question) (code : ℕ) (r : Router) (held : List ℕ) → told_off q code (record r { held = held }) ≡ record (told_off q code r) { held = held }
+told_aside q code r held =
+    either (code == 2) (λ x. record x { link = Idle; due = Some (sum_of x.now (retry_of x.version)); no_data = true }) (λ x. if code == 0 && is_serial (Some q) then ended_by code (emptied x) else ended_by code x) r held refl
+    (either (code == 0 && is_serial (Some q)) (λ x. ended_by code (emptied x)) (ended_by code) r held refl refl)
+
+unit_aside : (l : Link) (u : Unit) (r : Router) (held : List ℕ) → on_unit l u (record r { held = held }) ≡ record (on_unit l u r) { held = held }
+unfolding on_unit
+unit_aside Closed u r held = refl
+unit_aside (Ended end) u r held = refl
+unit_aside Idle (SerialNotify session serial) r held =
+    either (is_strange r session) (fails (SerialNotify session serial)) (λ x. if is_news (of_version x.spoken x.version) serial then ask x else x) r held refl
+    (either (is_news (of_version r.spoken r.version) serial) ask (λ x. x) r held refl refl)
+unit_aside Idle (ErrorReport e) r held = either (e.code == 2) (λ x. x) (ended_by e.code) r held refl refl
+unit_aside (Asked q) (SerialNotify session serial) r held = either (is_strange r session) (fails (SerialNotify session serial)) (λ x. x) r held refl refl
+unit_aside (Asked q) (CacheResponse session) r held =
+    either (is_wrong (Some q) (of_version r.spoken r.version) session) (fails (CacheResponse session)) (λ x. record x { agreed = true; session = Some session; link = Answering (record { question = q; session = session; withdrawn = []; announced = [] }) }) r held refl refl
+unit_aside (Asked AskReset) CacheReset r held = refl
+unit_aside (Asked (AskSerial session serial)) CacheReset r held = refl
+unit_aside (Asked q) (ErrorReport e) r held = told_aside q e.code (record r { agreed = true }) held
+unit_aside (Answering a) (SerialNotify session serial) r held = either (is_strange r session) (fails (SerialNotify session serial)) (λ x. x) r held refl refl
+unit_aside (Answering a) (Prefix announce v) r held = staged_aside (Prefix announce v) (stage (base_of a.question r.table) a announce v) r held
+unit_aside (Answering a) (EndOfData session serial refresh retry expire) r held =
+    either (session == a.session) (λ x. commit a (record { version = x.spoken; session = session; serial = serial; moment = x.now; intervals = bounded refresh retry expire }) x) (fails (EndOfData session serial refresh retry expire)) r held refl refl
+unit_aside (Answering a) (EndOfData0 session serial) r held =
+    either (session == a.session) (λ x. commit a (record { version = x.spoken; session = session; serial = serial; moment = x.now; intervals = default_intervals }) x) (fails (EndOfData0 session serial)) r held refl refl
+unit_aside (Answering a) (ErrorReport e) r held = told_aside a.question e.code r held
+unit_aside _ _ r held = refl
+
 lack_aside : (l : Link) (u : Unit) (r : Router) (held : List ℕ) → may_lack l u (record r { held = held }) ≡ may_lack l u r
 lack_aside (Answering a) (Prefix announce v) r held = refl
 lack_aside _ _ r held = refl
 
 held_aside : (r : Router) (held : List ℕ) (units : List Unit) → router_readings (record r { held = held }) units ≡ router_readings r units
 held_aside r held [] = refl
-held_aside r held (u ∷ units) = ap (λ x. x ∷ router_readings (reads u (record r { held = [] })).router units) (lack_aside r.link u r held)
+held_aside r held (u ∷ units) =
+    λ i. lack_aside r.link u r held i ∷ (ap (λ x. router_readings x units) (unit_aside r.link u r held) ∙ held_aside (on_unit r.link u r) held units) i
 
 abbrev Shows : Router → List Item → List ℕ → ℕ → Type 0
 Shows r xs piece unit = list_any is_lacking (fed r xs (Some unit) piece).machine.items ≡ has (slice_get (router_readings r (news r piece)) unit)
@@ -126,8 +165,9 @@ lack_step bytes on b zero r xs none (Whole u) = by_lack (may_lack r.link u r)
 lack_step bytes on b (suc unit) r xs none (Whole u) =
     let q : Router = record r { held = [] } in
     let k : Noted = reads u q in
-    subst (λ (n : Noted). list_any is_lacking (fed n.router (n.items ++ xs) (Some unit) bytes).machine.items ≡ has (slice_get (router_readings k.router (news n.router bytes)) unit)) (sym (with_memory (may_lack r.link u r) (lacks u q) (reads u q)))
-    (on unit k.router (k.items ++ xs) (asked_lacks k.router.link k.router.out u xs ∙ none))
+    subst (λ (n : Noted). list_any is_lacking (fed n.router (n.items ++ xs) (Some unit) bytes).machine.items ≡ has (slice_get (router_readings (on_unit r.link u r) (news n.router bytes)) unit)) (sym (with_memory (may_lack r.link u r) (lacks u q) (reads u q)))
+    (on unit k.router (k.items ++ xs) (asked_lacks k.router.link k.router.out u xs ∙ none)
+    ∙ ap (λ x. has (slice_get x unit)) (ap (λ x. router_readings x (news k.router bytes)) (unit_aside r.link u r []) ∙ held_aside (on_unit r.link u r) [] (news k.router bytes)))
 
 lacks_so : (piece : List ℕ) (unit : ℕ) (r : Router) (xs : List Item) → list_any is_lacking xs ≡ false → Shows r xs piece unit
 unfolding router_byte

@@ -10,8 +10,8 @@ use Rattle.rtr_pdu.specs.declared.version.Version.TheVariants.{V0, V1}
 use Rattle.rtr_ends.specs.Answer.{session_in}
 use Rattle.rtr_ends.specs.Cache.{Conn, conn_takes}
 use Rattle.rtr_ends.specs.Connection.{ConnMoment, Read, takes_memory}
-use Rattle.rtr_ends.specs.LinkRules.{Router, may_lack}
-use Rattle.rtr_ends.specs.Router.{clocked, reads, receives}
+use Rattle.rtr_ends.specs.LinkRules.{Router, may_lack, on_unit}
+use Rattle.rtr_ends.specs.Router.{clocked, receives}
 use Rattle.rtr_ends.specs.RouterLink.{is_closed}
 use Rattle.rtr_ends.specs.Transcript.{Committed, Item, Reads}
 use Rattle.rtr_world.specs.VersionPlaces.{position_of}
@@ -127,7 +127,7 @@ units_read (item ∷ items) = units_read items
 -- whether each PDU that a router reads takes memory there: it stages a record, or commits
 abbrev pub router_readings : Router → List Unit → List Bool
 router_readings r [] = []
-router_readings r (unit ∷ units) = may_lack r.link unit r ∷ router_readings (reads unit (record r { held = [] })).router units
+router_readings r (unit ∷ units) = may_lack r.link unit r ∷ router_readings (on_unit r.link unit r) units
 
 -- the PDUs that an event reads of so many bytes, in their order, each with whether what is done with it takes memory
 abbrev pub readings_at : World → SideEvent → ℕ → Option Side → List Bool
