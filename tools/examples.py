@@ -23,9 +23,9 @@ def read(path):
 
 
 def libraries():
-    """The libraries of crates.txt with code of their own: those that are no program and hold more than tests."""
+    """The libraries of crates.txt with code of their own: those that are no program, hold more than tests, and are no part of an example."""
     names = [line.split(":")[0].split()[0] for line in read(f"{TOP}/crates.txt").splitlines() if line.split("#")[0].strip()]
-    return [it for it in names if "example" not in it and os.path.isfile(f"{TOP}/crates/{it}/src/lib.rt")]
+    return [it for it in names if "example" not in it and it != "frames" and os.path.isfile(f"{TOP}/crates/{it}/src/lib.rt")]
 
 
 def example_of(name):
