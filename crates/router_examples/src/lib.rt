@@ -10,3 +10,5 @@ mod router_cells;
 mod routers;
 #[cfg(test)]
 mod scripts;
+#[cfg(test)]
+mod scripts_v0;

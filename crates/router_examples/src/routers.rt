@@ -1,11 +1,12 @@
 //! Routers: the scripts, hostile PDUs, and whole answers in pieces.
 use crate::play::{holds, play, played, sends};
 use crate::scripts::{
-    ASKED, ASKED_AT_100, ASKED_SINCE, AT_CALLS, AT_MOMENTS, AT_UNITS, IN_VERSION_0, SCRIPTS, Script,
+    ASKED, ASKED_AT_100, ASKED_SINCE, AT_CALLS, AT_MOMENTS, AT_UNITS, SCRIPTS, Script,
 };
+use crate::scripts_v0::IN_VERSION_0;
 use example_values::hex::{Bytes, bytes};
 use example_values::units::{ANSWER, END_5, RESET_QUERY, RESPONSE, bytes_in};
-use rtr_ends::{AskFault, End, Link, Router};
+use rtr_ends::{AskFault, End, Link, Router, StreamFault};
 use rtr_pdu::{Version, error_code};
 use std::alloc::{AllocGlobal, Global};
 use std::process::Abort;
@@ -25,7 +26,28 @@ fn play_each<R: AllocGlobal + Abort>(rt: &R, scripts: &[Script]) {
 #[test]
 fn routers_go_by_their_scripts(rt: HostRuntime) {
     play_each(&rt, SCRIPTS);
-    assert!(rt; AskFault::Busy.number() == 1);
+}
+
+#[test]
+fn each_fault_and_each_end_has_its_number(rt: HostRuntime) {
+    assert!(rt; (AskFault::Busy.number(), AskFault::NotConnected.number()) == (1, 2));
+    for (fault, number) in [
+        (StreamFault::ReadFailed, 1),
+        (StreamFault::WriteFailed, 2),
+        (StreamFault::Memory, 3),
+    ] {
+        assert!(rt; fault.number() == number);
+    }
+    for (end, number) in [
+        (End::Reported(7), 1),
+        (End::Told(2), 2),
+        (End::Malformed, 3),
+        (End::Memory, 4),
+        (End::Expired, 5),
+        (End::TooMany, 6),
+    ] {
+        assert!(rt; end.number() == number);
+    }
 }
 
 #[test]
