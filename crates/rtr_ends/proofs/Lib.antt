@@ -10,7 +10,6 @@ pub mod CountedRows
 pub mod ConsumedLaws
 pub mod ConsumedUnits
 pub mod Effects
-pub mod FaultRows
 pub mod FeedingLaws
 pub mod FetchStreamLaws
 pub mod FillingLaws
