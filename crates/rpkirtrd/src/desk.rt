@@ -10,6 +10,7 @@ use status_pages::{Status, Validity};
 use status_server::{Told, Visit, Visitors};
 use std::alloc::{AllocError, Global};
 use std::collections::VecDeque;
+use std::fmt::{self, Debug};
 use std::hash::RandomState;
 use std::io::Write;
 use std::mem;
@@ -41,6 +42,18 @@ pub struct Desk {
     /// Whether a connection may wait.
     waits: bool,
     shelf: Shelf,
+}
+
+/// How many visitors are there, and how many of them are to be served.
+impl Debug for Desk {
+    fn fmt<W: fmt::Write>(&self, f: &mut fmt::Formatter<W>) -> fmt::Result {
+        write!(
+            f,
+            "Desk({:?}, {} to be served)",
+            self.visitors,
+            self.queue.len()
+        )
+    }
 }
 
 /// What is asked of the daemon at a moment.

@@ -9,6 +9,7 @@ use payload_commands::{Directory, read_directories};
 use rtr_daemon::{Accepted, Disk, Journal, Ports, Ready, Stamp, StartFault, Time};
 use std::alloc::Global;
 use std::collections::VecDeque;
+use std::fmt::{self, Debug};
 use std::fs;
 use std::io::{self, ErrorKind, Write};
 use std::net::{Net, SocketAddr};
@@ -59,6 +60,18 @@ pub struct Host<'a, R, E> {
     seconds: u64,
     millis: u64,
     text: Vec<u8>,
+}
+
+/// How many addresses it listens at, and how much is ready.
+impl<R, E> Debug for Host<'_, R, E> {
+    fn fmt<W: fmt::Write>(&self, f: &mut fmt::Formatter<W>) -> fmt::Result {
+        write!(
+            f,
+            "Host({} listeners, {} ready)",
+            self.listeners.len(),
+            self.ready.len()
+        )
+    }
 }
 
 /// Why the sockets cannot be had: an address, if it was one, and what of it.

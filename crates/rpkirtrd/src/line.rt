@@ -1,6 +1,7 @@
 //! A connection of a socket.
 use mio::net::TcpStream;
 use rtr_server::{Moved, Stream};
+use std::fmt::{self, Debug};
 use std::io::{ErrorKind, Read, Write};
 use std::os::fd::AsRawFd;
 
@@ -11,6 +12,13 @@ const SEND_ROOM: i32 = 262_144;
 #[derive(Drop)]
 pub struct Line {
     stream: TcpStream,
+}
+
+/// The number of its descriptor.
+impl Debug for Line {
+    fn fmt<W: fmt::Write>(&self, f: &mut fmt::Formatter<W>) -> fmt::Result {
+        write!(f, "Line({})", self.stream.as_raw_fd())
+    }
 }
 
 impl Line {

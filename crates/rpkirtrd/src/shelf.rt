@@ -4,6 +4,7 @@ use payload_lists::write_list;
 use prefixes::Route;
 use status_pages::Validity;
 use std::alloc::{AllocError, Global};
+use std::fmt::{self, Debug};
 use vrps::{OriginIndex, Serial, VrpSet};
 
 /// A version: its serial, and its set.
@@ -17,6 +18,13 @@ pub struct Shelf {
     serial: Option<u32>,
     list: Option<Bytes>,
     index: Option<OriginIndex>,
+}
+
+/// The serial of which it has something.
+impl Debug for Shelf {
+    fn fmt<W: fmt::Write>(&self, f: &mut fmt::Formatter<W>) -> fmt::Result {
+        write!(f, "Shelf({:?})", self.serial)
+    }
 }
 
 impl Shelf {
