@@ -38,10 +38,6 @@ use Rattle.prefixes.proofs.Basics.{all_both}
 abbrev Bytes : List ℕ → Type 0
 Bytes bytes = AllByRecursion (λ b. b < 256) bytes
 
-bytes-append : (xs ys : List ℕ) → Bytes xs → Bytes ys → Bytes (xs ++ ys)
-bytes-append [] ys h k = k
-bytes-append (x ∷ xs) ys h k = (h.0, bytes-append xs ys h.1 k)
-
 low_rest : (x : ℕ) → x % 256 < 256
 low_rest x = omega arith
 
@@ -63,10 +59,10 @@ from_bytes [] h = tt
 from_bytes (b ∷ bytes) h = (h 0, from_bytes bytes (λ i. h (suc i)))
 
 header_bytes : (version : Version) (kind field size : ℕ) → kind < 256 → Bytes (version_number version ∷ kind ∷ big_bytes 2 field ++ big_bytes 4 size)
-header_bytes version kind field size h = (is_byte version, (h, bytes-append (big_bytes 2 field) (big_bytes 4 size) (number 2 field) (number 4 size)))
+header_bytes version kind field size h = (is_byte version, (h, all_both (λ b. b < 256) (big_bytes 2 field) (big_bytes 4 size) (number 2 field) (number 4 size)))
 
 headed : (version : Version) (kind field size : ℕ) (more : List ℕ) → kind < 256 → Bytes more → Bytes ((version_number version ∷ kind ∷ big_bytes 2 field ++ big_bytes 4 size) ++ more)
-headed version kind field size more h k = bytes-append (version_number version ∷ kind ∷ big_bytes 2 field ++ big_bytes 4 size) more (header_bytes version kind field size h) k
+headed version kind field size more h k = all_both (λ b. b < 256) (version_number version ∷ kind ∷ big_bytes 2 field ++ big_bytes 4 size) more (header_bytes version kind field size h) k
 
 flag_low : (b : Bool) → (if b then 1 else 0) + 2 * 0 < 256
 flag_low true = omega arith
@@ -75,10 +71,10 @@ flag_low false = omega arith
 prefix_bytes : (version : Version) (announce : Bool) (p : IpPrefix) (max_len asn : ℕ) → IsPayload (record { prefix = p; max_len = max_len; asn = asn }) → Bytes (sent version (Prefix announce (record { prefix = p; max_len = max_len; asn = asn })))
 prefix_bytes version announce (V4 p) max_len asn h =
     headed version 4 0 20 (((if announce then 1 else 0) + 2 * 0) ∷ p.len ∷ max_len ∷ 0 ∷ big_bytes 4 p.addr ++ big_bytes 4 asn) (omega arith)
-    (flag_low announce, (omega (arith, h.not_shorter, h.in_family), (omega (arith, h.in_family), (omega arith, bytes-append (big_bytes 4 p.addr) (big_bytes 4 asn) (number 4 p.addr) (number 4 asn)))))
+    (flag_low announce, (omega (arith, h.not_shorter, h.in_family), (omega (arith, h.in_family), (omega arith, all_both (λ b. b < 256) (big_bytes 4 p.addr) (big_bytes 4 asn) (number 4 p.addr) (number 4 asn)))))
 prefix_bytes version announce (V6 p) max_len asn h =
     headed version 6 0 32 (((if announce then 1 else 0) + 2 * 0) ∷ p.len ∷ max_len ∷ 0 ∷ big_bytes 16 p.addr ++ big_bytes 4 asn) (omega arith)
-    (flag_low announce, (omega (arith, h.not_shorter, h.in_family), (omega (arith, h.in_family), (omega arith, bytes-append (big_bytes 16 p.addr) (big_bytes 4 asn) (number 16 p.addr) (number 4 asn)))))
+    (flag_low announce, (omega (arith, h.not_shorter, h.in_family), (omega (arith, h.in_family), (omega arith, all_both (λ b. b < 256) (big_bytes 16 p.addr) (big_bytes 4 asn) (number 16 p.addr) (number 4 asn)))))
 
 -- an Error Report of these bytes
 report_fit : (code : ℕ) (copy : List ℕ) → code < 2 ^ 16 → AreBytes copy → IsUnit (report code copy)
@@ -166,14 +162,14 @@ answer_fit version i keep (Prefix announce v) is h = report_of version 3 (Prefix
 answer_fit version i keep (EndOfData session serial refresh retry expire) is h =
     report_of version 3 (EndOfData session serial refresh retry expire) (omega arith)
     (headed version 7 session (fixed_len version kinds.EndOfData) (big_bytes 4 serial ++ big_bytes 4 refresh ++ big_bytes 4 retry ++ big_bytes 4 expire) (omega arith)
-    (bytes-append (big_bytes 4 serial) (big_bytes 4 refresh ++ big_bytes 4 retry ++ big_bytes 4 expire) (number 4 serial)
-    (bytes-append (big_bytes 4 refresh) (big_bytes 4 retry ++ big_bytes 4 expire) (number 4 refresh) (bytes-append (big_bytes 4 retry) (big_bytes 4 expire) (number 4 retry) (number 4 expire)))))
+    (all_both (λ b. b < 256) (big_bytes 4 serial) (big_bytes 4 refresh ++ big_bytes 4 retry ++ big_bytes 4 expire) (number 4 serial)
+    (all_both (λ b. b < 256) (big_bytes 4 refresh) (big_bytes 4 retry ++ big_bytes 4 expire) (number 4 refresh) (all_both (λ b. b < 256) (big_bytes 4 retry) (big_bytes 4 expire) (number 4 retry) (number 4 expire)))))
 answer_fit version i keep (EndOfData0 session serial) is h =
     report_of version 3 (EndOfData0 session serial) (omega arith) (headed version 7 session (fixed_len version kinds.EndOfData) (big_bytes 4 serial) (omega arith) (number 4 serial))
 answer_fit version i keep CacheReset is h = report_of version 3 CacheReset (omega arith) (header_bytes version 8 0 8 (omega arith))
 answer_fit version i keep (RouterKey k) is h =
     report_of version 3 (RouterKey k) (omega arith)
-    (is_byte version, (omega arith, (flag_low k.announce, (omega arith, bytes-append (big_bytes 4 (32 + length k.info)) (k.identifier ++ big_bytes 4 k.asn ++ k.info) (number 4 (32 + length k.info)) (bytes-append (k.identifier ++ big_bytes 4 k.asn) k.info (bytes-append k.identifier (big_bytes 4 k.asn) (from_bytes k.identifier h.3) (number 4 k.asn)) (from_bytes k.info h.4))))))
+    (is_byte version, (omega arith, (flag_low k.announce, (omega arith, all_both (λ b. b < 256) (big_bytes 4 (32 + length k.info)) (k.identifier ++ big_bytes 4 k.asn ++ k.info) (number 4 (32 + length k.info)) (all_both (λ b. b < 256) (k.identifier ++ big_bytes 4 k.asn) k.info (all_both (λ b. b < 256) k.identifier (big_bytes 4 k.asn) (from_bytes k.identifier h.3) (number 4 k.asn)) (from_bytes k.info h.4))))))
 
 -- The report on a fault
 code_low : (agreed : Option Version) (fault : UnitFault) → fault_code agreed fault < 2 ^ 16

@@ -51,10 +51,8 @@ pub record IsStep (version : Version) (session keep : ℕ) (t : Intervals) (seri
 stepped : (version : Version) (session : ℕ) (t : Intervals) (now : NumberedSet) (found : Option NumberedSet) (change : Change) → Known change ≡ step_from now found
     → step_answer version session t now found ≡ response version session t now (withdrawals change.withdraw ++ announcements change.announce)
 stepped version session t now None change h = absurd (let e : Known change ≡ Unknown = h in cc)
-stepped version session t now (Some before) change h = ap (λ c. response version session t now (withdrawals c.withdraw ++ announcements c.announce)) (sym (inside h))
-  where
-    inside : {a b : Change} → Known a ≡ Known b → a ≡ b
-    inside h = cc
+stepped version session t now (Some before) change h =
+    let same : change ≡ _ = cc in ap (λ c. response version session t now (withdrawals c.withdraw ++ announcements c.announce)) (sym same)
 
 known_step : (version : Version) (session keep : ℕ) (t : Intervals) (serial : ℕ) (vs : List NumberedSet) (change : Change) → Known change ≡ since keep serial vs → IsStep version session keep t serial vs change
 known_step version session keep t serial [] change h = absurd (let e : Known change ≡ NoData = h in cc)

@@ -1,8 +1,9 @@
 -- Lists of bytes, and parts of them.
 use Rattle.std.proofs.Common.{◌≡◌, ℕ, zero, suc, ◌-◌, ◌<◌, List, [], ◌∷◌, ◌++◌, length, take, drop, ◌∙◌, ap, arith, subst}
-use Rattle.std.proofs.Math.Seq.{take-append_seam}
+use Rattle.std.proofs.Math.Seq.{drop-nil, take-append_seam}
 use Rattle.std.proofs.lemmas.List.{length-append}
 use Rattle.rtr_pdu.specs.Payloads.{AreBytes}
+use Rattle.rtr_pdu.proofs.ReadLaws.{AreBytes-take}
 
 -- no bytes, and one more
 pub none_bytes : AreBytes []
@@ -19,10 +20,7 @@ more_bytes (x ∷ held) b each h (suc i) = more_bytes held b (λ j. each (suc j)
 
 -- What is taken are bytes of the piece.
 pub bytes_front : (piece taken rest : List ℕ) → piece ≡ taken ++ rest → AreBytes piece → AreBytes taken
-bytes_front piece [] rest e each j = none_bytes j
-bytes_front [] (b ∷ taken) rest e each j = absurd (let h : ◌≡◌ {A = List ℕ} [] (b ∷ (taken ++ rest)) = e in cc)
-bytes_front (x ∷ piece) (b ∷ taken) rest e each zero = let same : x ≡ b = cc in let low : x < 256 = each 0 in subst (λ y. y < 256) same low
-bytes_front (x ∷ piece) (b ∷ taken) rest e each (suc j) = bytes_front piece taken rest (let h : x ∷ piece ≡ b ∷ (taken ++ rest) = e in cc) (λ k. each (suc k)) j
+bytes_front piece taken rest e each = subst AreBytes (ap (take (length taken)) e ∙ take-append_seam taken rest) (AreBytes-take (length taken) piece each)
 
 -- what is left tells what was taken
 pub front_of : (piece taken rest : List ℕ) → piece ≡ taken ++ rest → take (length piece - length rest) piece ≡ taken
@@ -32,5 +30,4 @@ front_of piece taken rest e =
 
 -- nothing is left of nothing
 pub drop_none : (most : ℕ) (out : List ℕ) → out ≡ [] → drop most out ≡ []
-drop_none zero out e = e
-drop_none (suc most) out e = ap (drop (suc most)) e
+drop_none most out e = ap (drop most) e ∙ drop-nil most

@@ -9,12 +9,6 @@ no_part : {X : Type 0} (front back : List X) → [] ≡ front ++ back → 0 < le
 no_part [] [] e some = absurd (omega (arith, some))
 no_part _ _ e some = cc
 
-head_of : {X : Type 0} (x y : X) (xs ys : List X) → x ∷ xs ≡ y ∷ ys → x ≡ y
-head_of x y xs ys e = cc
-
-tail_of : {X : Type 0} (x y : X) (xs ys : List X) → x ∷ xs ≡ y ∷ ys → xs ≡ ys
-tail_of x y xs ys e = cc
-
 module _ {M : Type 0} (stops : M → Bool) (step : M → ℕ → M) where
   pub run-append : (m : M) (xs ys : List ℕ) → run stops step m (xs ++ ys) ≡ run stops step (run stops step m xs) ys
   run-append m [] ys = refl
@@ -45,7 +39,9 @@ module _ {M : Type 0} (stops : M → Bool) (step : M → ℕ → M) where
       short : (front back : List ℕ) → b ∷ taken ≡ front ++ back → 0 < length back → stops (run stops step m front) ≡ false
       short [] back e some = h
       short (x ∷ front) back e some =
-          subst (λ y. stops (run stops step (step m y) front) ≡ false) (head_of b x taken (front ++ back) e) (t.shortest front back (tail_of b x taken (front ++ back) e) some)
+          let same : b ≡ x = cc in
+          let more : taken ≡ front ++ back = cc in
+          subst (λ y. stops (run stops step (step m y) front) ≡ false) same (t.shortest front back more some)
 
   takes_by : (m : M) (b : ℕ) (bytes : List ℕ) (s : Bool) → stops m ≡ s → Takes stops step (step m b) bytes → Takes stops step m (b ∷ bytes)
   takes_by m b bytes true h t = ([], subst (λ f. IsTaken stops step m (b ∷ bytes) [] f) (sym (stopped m b bytes h)) (takes_none m (b ∷ bytes) (λ some. h)))

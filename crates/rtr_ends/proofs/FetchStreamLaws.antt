@@ -11,7 +11,7 @@ use Rattle.rtr_pdu.specs.Payloads.{AreBytes}
 use Rattle.rtr_pdu.specs.declared.device.WriteFailed.{WriteFailed as Failed}
 use Rattle.rtr_ends.specs.Cache.{finds_memory, is_none}
 use Rattle.rtr_ends.specs.Consumed.{came}
-use Rattle.rtr_ends.specs.FetchStream.{AllAsked, Awaits, FetchEnds, FetchReads, FetchedAs, IsFetchCall, IsReached, StillAsks, Taken, TakenPart, is_asking, pulled_by, reached_by, calls_since}
+use Rattle.rtr_ends.specs.FetchStream.{AllAsked, Awaits, FetchEnds, FetchedAs, IsFetchCall, StillAsks, Taken, TakenPart, is_asking, pulled_by, reached_by, calls_since}
 use Rattle.rtr_ends.specs.LinkRules.{Router}
 use Rattle.rtr_ends.specs.Router.{RouterCall, Connects, Receives, Pulls, Receiving, clocked, connects_at, played, receives, router_byte, router_pulled, router_stops, with_bytes}
 use Rattle.rtr_ends.specs.RouterLink.{Link, Closed, Idle, Ended, is_closed, is_reading}
@@ -26,7 +26,8 @@ use Rattle.rtr_ends.proofs.Effects.{by_whole, clocked_keeps, goes_so, unit_keeps
 use Rattle.rtr_ends.proofs.FeedingLaws.{feed_keeps, none_fed}
 use Rattle.rtr_ends.proofs.ServeStreamLaws.{drop_none, part_after}
 use Rattle.rtr_ends.proofs.TableLaws.{false_true}
-use Rattle.prefixes.proofs.Basics.{all_both}
+use Rattle.prefixes.proofs.Basics.{all_both, false_of_not}
+use Rattle.std.proofs.Math.Bool.{and-true}
 
 -- What is pulled into room stands at its front.
 pub pulled_front : (out room now : List ℕ) (count : ℕ) → (count ≡ min (length room) (length out)) × (now ≡ take (length room) out ++ drop (length out) room) → take count now ≡ take (length room) out
@@ -45,11 +46,7 @@ unfolding receives
 none_received now wanting piece r out none =
     let n = none_fed (λ m. router_stops m.router) router_byte (record { router = clocked now r; items = At now ∷ []; wanting = wanting }) piece none in
     let silent = (clocked_keeps now r).out out in
-    (ap (λ (m : Receiving). m.router.out) n.0 ∙ silent, λ some. ap (λ (m : Receiving). is_reading m.router.link) n.0 ∙ not_reading (is_reading (clocked now r).link) (ap (λ x. not (is_reading (clocked now r).link && is_none x)) (sym silent) ∙ n.1 some))
-  where
-    not_reading : (b : Bool) → not (b && true) ≡ true → b ≡ false
-    not_reading true h = false_true h
-    not_reading false h = refl
+    (ap (λ (m : Receiving). m.router.out) n.0 ∙ silent, λ some. ap (λ (m : Receiving). is_reading m.router.link) n.0 ∙ sym (and-true (is_reading (clocked now r).link)) ∙ false_of_not _ (ap (λ x. not (is_reading (clocked now r).link && is_none x)) (sym silent) ∙ n.1 some))
 
 -- A connection stays open while bytes come.
 pub open_link : (l : Link) → is_reading l ≡ true → is_closed l ≡ false
@@ -329,10 +326,3 @@ module _ (now : ℕ) (calls : List RouterCall) (before : Option (List ℕ)) (had
 -- A router that was connected just now has read nothing.
 abbrev pub pends_first : (now : ℕ) (calls : List RouterCall) (before had : Option (List ℕ)) (router : code.Router) → CallsLead (Connects now ∷ calls) router → Pending now calls before had before 0 had router
 pends_first now calls before had router leads = record { turns = []; each = tt; leads = leads; consumed = Consumes-nil before; few = omega arith; out = Appends-nil had }
-
--- What was reached is told of any reads.
-pub reads_reached : (limit before now : ℕ) (fetched : Fetched) → IsReached fetched → before ≤ now → now ≤ before + limit → FetchReads limit before now (Ok fetched)
-reads_reached limit before now outcomes.Committed h least most = (least, most)
-reads_reached limit before now outcomes.NoData h least most = (least, most)
-reads_reached limit before now (outcomes.Ended end) h least most = (least, most)
-reads_reached limit before now _ h least most = absurd h

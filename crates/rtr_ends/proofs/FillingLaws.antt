@@ -11,15 +11,6 @@ use Rattle.rtr_ends.specs.declared.sender.AnswerCursor.{AnswerCursor}
 use Rattle.rtr_ends.specs.declared.sender.Sender.{Sender}
 use Rattle.rtr_ends.proofs.SenderLaws.{IsFilled, fills_first}
 
--- none yet
-pub none_written : (version : Version) (units : List Unit) (out : List ℕ) (filled : ℕ) → filled ≤ length out → FillsWith version units out filled 0 filled out
-none_written version units out filled low = record {
-  within = omega arith;
-  result_is = omega arith;
-  low = low;
-  now_is = sym (ap (λ x. x ++ drop filled out) (append-nil (take filled out)) ∙ take-append-drop filled out);
-}
-
 -- one more
 pub one_written : (version : Version) (units : List Unit) (given out now : List ℕ) (filled i end next : ℕ) (u : Unit) → filled ≤ length given → FillsWith version units given filled i end out → i < length units → get_or units i u ≡ u
     → now ≡ take end out ++ sent version u ++ drop next out → next ≡ end + length (sent version u) → next ≤ length given → FillsWith version units given filled (i + 1) next now

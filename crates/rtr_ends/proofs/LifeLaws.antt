@@ -4,7 +4,7 @@ use Rattle.std.specs.List.{AllByRecursion}
 use Rattle.vrps.specs.Instance.{Instance, IsInstance}
 use Rattle.vrps.specs.Store.{published}
 use Rattle.vrps.proofs.SetVersions.{published_is_instance}
-use Rattle.rtr_ends.specs.Cache.{ConnCall, Conn, Gives, IsConnCall, IsServed, Notifies, Publishes, Takes, conn_notified, conn_pulled, conn_takes, new_conn, serve, serving}
+use Rattle.rtr_ends.specs.Cache.{ConnCall, Conn, Gives, IsConnCall, IsServed, Notifies, Publishes, Takes, conn_notified, conn_pulled, conn_takes, serve, serving}
 use Rattle.rtr_ends.specs.declared.cache.Cache.{Cache}
 use Rattle.rtr_ends.specs.CacheState.{CacheCall, CacheIsServed, CacheState, Close, EachIsServed, Pull, IsCacheCall, IsLife, Life, Open, Publish, Receive, Notify, cache_called, life, life_after, ran, serves, without_conns}
 use Rattle.rtr_ends.specs.Timing.{Intervals}
@@ -38,31 +38,26 @@ module _ (keep : ℕ) (t : Intervals) (i : Instance) where
   own call F a None fits acts same stands = (ap (option_map F) same, stands)
   own call F a (Some x) fits acts same stands = (ap (option_map F) same ∙ ap Some (sym (acts x stands.now).0), more call i x fits (acts x stands.now).1 stands)
 
+-- Under the number that is called it is so, and under another it was
+by_number : (keep : ℕ) (t : Intervals) (i : Instance) (b : Bool) (here there : Option Conn) (now before : Option Life) → (b ≡ true → Agrees keep t i here now) → Agrees keep t i there before → Agrees keep t i (if b then here else there) (if b then now else before)
+by_number keep t i true here there now before own other = own refl
+by_number keep t i false here there now before own other = other
+
 -- A call on one connection, which is this one or another
 keeps_one : (m : CacheState) (c d : ℕ) (l : Option Life) (call : ConnCall) (F : Conn → Conn) → IsConnCall call
     → ((x : Life) → x.serving.cache ≡ m.cache → ((serve m.keep m.timing call x.serving).conn ≡ F x.serving.conn) × ((serve m.keep m.timing call x.serving).cache ≡ m.cache)) → Agrees m.keep m.timing m.cache (m.at c) l
     → Agrees m.keep m.timing m.cache (if c == d then option_map F (m.at d) else m.at c) (if c == d then option_map (serves m.keep m.timing call) l else l)
-keeps_one m c d l call F fits acts h = by_test (c == d) refl
-  where
-    by_test : (b : Bool) → (c == d) ≡ b → Agrees m.keep m.timing m.cache (if b then option_map F (m.at d) else m.at c) (if b then option_map (serves m.keep m.timing call) l else l)
-    by_test true e = let k = own m.keep m.timing m.cache call F (m.at d) l fits acts (ap m.at (sym (eq_of c d e)) ∙ h.same) h.stands in record { same = k.0; stands = k.1 }
-    by_test false e = record { same = h.same; stands = h.stands }
+keeps_one m c d l call F fits acts h = by_number m.keep m.timing m.cache (c == d) _ _ _ _ (λ e.
+    let k = own m.keep m.timing m.cache call F (m.at d) l fits acts (ap m.at (sym (eq_of c d e)) ∙ h.same) h.stands in record { same = k.0; stands = k.1 }) h
 
 -- A call keeps that.
 keeps : (call : CacheCall) (m : CacheState) (c : ℕ) (l : Option Life) → IsInstance m.cache → IsCacheCall call → Agrees m.keep m.timing m.cache (m.at c) l → Agrees m.keep m.timing (cache_called call m).cache ((cache_called call m).at c) (life_after call m c l)
 keeps (Publish set) m c None is fits h = record { same = h.same; stands = h.stands }
 keeps (Publish set) m c (Some x) is fits h =
     record { same = h.same; stands = more m.keep m.timing m.cache (Publishes set) (published set m.cache) x fits (ap (published set) h.stands.now) h.stands }
-keeps (Open d) m c l is fits h = by_test (c == d)
-  where
-    by_test : (b : Bool) → Agrees m.keep m.timing m.cache (if b then Some (new_conn m.cache) else m.at c) (if b then Some (record { opened = m.cache; serving = serving m.keep m.timing m.cache [] }) else l)
-    by_test true = record { same = refl; stands = record { calls = []; is = refl; opened = is; each = tt; now = refl } }
-    by_test false = record { same = h.same; stands = h.stands }
-keeps (Close d) m c l is fits h = by_test (c == d)
-  where
-    by_test : (b : Bool) → Agrees m.keep m.timing m.cache (if b then None else m.at c) (if b then None else l)
-    by_test true = record { same = refl; stands = tt }
-    by_test false = record { same = h.same; stands = h.stands }
+keeps (Open d) m c l is fits h =
+    by_number m.keep m.timing m.cache (c == d) _ _ _ _ (λ e. record { same = refl; stands = record { calls = []; is = refl; opened = is; each = tt; now = refl } }) h
+keeps (Close d) m c l is fits h = by_number m.keep m.timing m.cache (c == d) _ _ _ _ (λ e. record { same = refl; stands = tt }) h
 keeps (Receive d wanting piece) m c l is fits h =
     keeps_one m c d l (Takes wanting piece) (λ o. (conn_takes m.keep m.timing m.cache wanting piece o).machine.conn) fits (λ x now. (ap (λ j. (conn_takes m.keep m.timing j wanting piece x.serving.conn).machine.conn) now, now)) h
 keeps (Pull d most) m c l is fits h = keeps_one m c d l (Gives most) (conn_pulled m.keep m.timing most) tt (λ x now. (refl, now)) h

@@ -2,6 +2,7 @@
 use Rattle.std.proofs.Common.{◌≡◌, ℕ, ◌+◌, ◌<◌, ◌≤◌, ◌==◌, Bool, true, false, List, [], ◌∷◌, ◌++◌, length, Option, None, Some, slice_get, slice_set, get_or, unwrap_or, refl, Result, Ok, Err, IsOk, OnOk, sym, ap, ◌∙◌, subst, arith, inl, inr, zero, suc, cond}
 use Rattle.std.proofs.lemmas.Bool.{cases_Bool}
 use Rattle.std.proofs.lemmas.Bool.Decides.{nat_tests}
+use Rattle.std.proofs.lemmas.List.{nil_from_length}
 use Rattle.std.proofs.lemmas.List.Elements.{All-head}
 use Rattle.std.proofs.lemmas.List.Sorted.{le_from_greatest, sum_by_popped, sum_by_pushed}
 use Rattle.std.proofs.lemmas.List.Sums.{count_by-le-length, get_or-le-sum_by, sum_by-cons, sum_by-set, sum_by_push}
@@ -84,17 +85,13 @@ module _ (taken : List Bool) (old new : FreeNumbers) (was : AreFree taken old) w
   pub takes_none : heap_len old.numbers ≡ 0 → length (heap_items old.numbers) ≡ heap_len old.numbers → heap_items new.numbers ≡ heap_items old.numbers → heap_len new.numbers ≡ heap_len old.numbers → heap_capacity new.numbers ≡ heap_capacity old.numbers
       → TakesNumber taken None new
   takes_none none long items len capacity = (
-    λ n low. is_taken (slice_get taken n) (get_or taken n true) (slice_get-get_or taken n true low) (sym (was.each n) ∙ ap (times n) (empty (heap_items old.numbers) (long ∙ none))),
+    λ n low. is_taken (slice_get taken n) (get_or taken n true) (slice_get-get_or taken n true low) (sym (was.each n) ∙ ap (times n) (nil_from_length (heap_items old.numbers) (long ∙ none))),
     record {
       order = subst (λ xs. IsHeap (λ (a b : Reverse ℕ). nat_cmp b.0 a.0) xs) (sym items) was.order;
       each = λ n. ap (times n) items ∙ was.each n;
       room = omega (arith, was.room, len, capacity);
     },
   )
-    where
-      empty : {X : Type 0} (xs : List X) → length xs ≡ 0 → xs ≡ []
-      empty [] h = refl
-      empty (x ∷ xs) h = absurd (omega (arith, h))
 
   -- The least is taken.
   pub takes_least : (n : ℕ) → heap_len new.numbers + 1 ≡ heap_len old.numbers → heap_capacity new.numbers ≡ heap_capacity old.numbers → IsHeap (λ (a b : Reverse ℕ). nat_cmp b.0 a.0) (heap_items new.numbers)

@@ -1,6 +1,6 @@
 -- What is due of an answer under way.
 use Rattle.std.proofs.Common.{◌≡◌, Bool, true, false, ℕ, ◌+◌, ◌-◌, ◌<◌, ◌≤◌, not, List, [], ◌∷◌, ◌++◌, length, take, drop, min, Option, Some, None, option_map, slice_get, get_or, refl, sym, ap, ◌∙◌, subst, arith, append_assoc, add-one, inl, inr, suc, zero}
-use Rattle.std.proofs.Math.Seq.{drop-cons, drop-append-add, take-add}
+use Rattle.std.proofs.Math.Seq.{drop-append_seam, drop-cons, drop-append-add, take-add}
 use Rattle.std.specs.Option.{is_some}
 use Rattle.std.proofs.lemmas.List.{length-append, length-drop, length-take, drop_all, drop_min, drop-drop, length-map, take-append-drop, take_at}
 use Rattle.std.proofs.lemmas.Slice.{take-put_mid, drop-put_mid}
@@ -84,10 +84,7 @@ at_place xs i x e =
     rw add-one (drop-cons xs i x (slice_get_within xs i x e) ∙ ap (λ y. y ∷ drop (suc i) xs) is)
 
 past_place : {X : Type 0} (xs : List X) (i : ℕ) → slice_get xs i ≡ None → drop i xs ≡ []
-past_place xs i e = elim (slice_get_cases xs i).1 [ inl found ↦ absurd (some_none (slice_get xs i) found.0 found.2 e) | inr past ↦ drop_all i xs past.0 ]
-  where
-    some_none : {X : Type 0} (o : Option X) (x : X) → o ≡ Some x → o ≡ None → ⊥
-    some_none o x a b = let h : ◌≡◌ {A = Option _} (Some x) None = sym a ∙ b in cc
+past_place xs i e = elim (slice_get_cases xs i).1 [ inl found ↦ absurd (let h : ◌≡◌ {A = Option _} (Some found.0) None = sym found.2 ∙ e in cc) | inr past ↦ drop_all i xs past.0 ]
 
 get_before : {X : Type 0} (xs ys : List X) (i : ℕ) → i < length xs → slice_get (xs ++ ys) i ≡ slice_get xs i
 get_before [] ys i h = absurd (omega (arith, h))
@@ -201,7 +198,7 @@ fills_first start given s out filled result now new bytes f due_was result_is lo
       low = omega (arith, ap length is, length-append (take result (due_of start)) (drop result given), length-take result (due_of start), all);
       within = all;
       now = is;
-      due = sym (ap (drop (length bytes)) rest ∙ drop_front bytes (due_of new)) ∙ drop-drop (length bytes) filled (due_of start) ∙ ap (λ n. drop n (due_of start)) (sym result_is);
+      due = sym (ap (drop (length bytes)) rest ∙ drop-append_seam bytes (due_of new)) ∙ drop-drop (length bytes) filled (due_of start) ∙ ap (λ n. drop n (due_of start)) (sym result_is);
       stays = record {
         version = stays.version ∙ f.stays.version;
         sessions = stays.sessions ∙ f.stays.sessions;
@@ -210,10 +207,6 @@ fills_first start given s out filled result now new bytes f due_was result_is lo
         room = λ before. stays.room (f.stays.room before);
       };
     }
-  where
-    drop_front : (xs ys : List ℕ) → drop (length xs) (xs ++ ys) ≡ ys
-    drop_front [] ys = refl
-    drop_front (x ∷ xs) ys = drop_front xs ys
 
 module _ (start : Sender) (given : List ℕ) (s : Sender) (out : List ℕ) (filled result : ℕ) (now : List ℕ) (new : Sender) (f : IsFilled start given s out filled) (g : GivesFrom s out filled result now new) where
   -- what is left of the answer stays

@@ -1,6 +1,6 @@
 -- One connection of a cache over a reader and a writer, from call to call.
-use Rattle.std.proofs.Common.{◌≡◌, ◌⊎◌, ℕ, ◌+◌, ◌-◌, ◌*◌, ◌^◌, ◌<◌, ◌≤◌, ◌==◌, Bool, true, false, not, ◌||◌, min, List, [], ◌∷◌, ◌++◌, length, take, drop, Option, Some, None, Result, Ok, Err, option_map, if◌then◌else◌, refl, zero, suc, sym, ap, ◌∙◌, subst, arith, append_assoc, inl, inr}
-use Rattle.std.proofs.Math.Seq.{take-add, take-append-add}
+use Rattle.std.proofs.Common.{◌≡◌, ◌⊎◌, ℕ, ◌+◌, ◌-◌, ◌*◌, ◌^◌, ◌<◌, ◌≤◌, ◌==◌, Bool, true, false, not, ◌||◌, min, List, [], ◌∷◌, ◌++◌, length, take, drop, Option, Some, None, Result, Ok, Err, option_map, if◌then◌else◌, refl, sym, ap, ◌∙◌, subst, arith, append_assoc, inl, inr}
+use Rattle.std.proofs.Math.Seq.{drop-nil, take-add, take-append-add}
 use Rattle.std.proofs.lemmas.Bool.{cases_eq, cases_lt}
 use Rattle.std.proofs.lemmas.List.{append-nil, length-append, take-append-drop, take-append-le, length-take-le, take_all}
 use Rattle.std.specs.List.{AllByRecursion}
@@ -15,7 +15,7 @@ use Rattle.rtr_pdu.specs.declared.device.WriteFailed.{WriteFailed as Failed}
 use Rattle.rtr_ends.specs.Cache.{ConnCall, Conn, Gives as Pulled, IsConnCall, IsServed, Notifies, Publishes, Takes, Taking, conn_byte, conn_pulled, conn_stops, conn_takes, is_none}
 use Rattle.rtr_ends.specs.CacheState.{CacheState, GivesBytes, ShowsCache, ShowsSlot, TakesPiece, conn_consumed, due_at, is_open_at, peer_at, with_conn}
 use Rattle.rtr_ends.specs.Sender.{PullsBytes}
-use Rattle.rtr_ends.specs.ServeStream.{AllOut, Answered, EndedAs, EndsSo, IsTurn, Partly, ReadsWithin, ServesConnection, StandsAt, Waits, ended_within, is_within, stood}
+use Rattle.rtr_ends.specs.ServeStream.{AllOut, Answered, EndedAs, EndsSo, IsTurn, Partly, ReadsWithin, ServesConnection, Waits, ended_within, is_within, stood}
 use Rattle.rtr_ends.specs.Timing.{Intervals}
 use Rattle.rtr_ends.specs.declared.cache.Cache.{Cache}
 use Rattle.rtr_ends.specs.declared.serving.Served.{Served}
@@ -61,8 +61,7 @@ none_due [] out now rest g room = refl
 none_due (b ∷ due) out now rest g room = absurd (let c = g.count_is in omega (arith, c, room))
 
 pub drop_none : (n : ℕ) → drop {A = ℕ} n [] ≡ []
-drop_none zero = refl
-drop_none (suc n) = refl
+drop_none n = drop-nil n
 
 -- A connection of which nothing is due, and that takes nothing, is as it was; and has ended where there was a piece.
 pub none_taken : (keep : ℕ) (t : Intervals) (i : Instance) (wanting : Option ℕ) (piece : List ℕ) (o : Conn) → o.state.due ≡ [] → 0 ≡ length piece - length (conn_takes keep t i wanting piece o).rest
@@ -326,10 +325,6 @@ module _ {S : Type 0} (holds : ℕ → Instance → S → Type 0) (m : CacheStat
     -- So many reads were made as were allowed.
     pub limit_there : (more : ℕ) → reads ≤ more → EndedAs holds m c before left more had has (Ok Limit) cache
     limit_there more most = ends_there more left (Ok Limit) w.consumed (w.all_out, (refl, w.goes_on)) most
-
-  -- A connection that was opened waits.
-  pub waits_first : (before had : Option (List ℕ)) (cache : Cache S) → StandsAt holds m c [] cache → Waits holds m c before before 0 had had cache
-  waits_first before had cache stands = record { calls = []; turns = tt; stands = stands; consumed = Consumes-nil before; few = omega arith; goes_on = refl; all_out = (refl, Appends-nil had) }
 
 -- Without a connection nothing happens.
 pub nothing_served : (m : CacheState) (before had : Option (List ℕ)) (reads : ℕ) → ServesConnection m before before reads had had (Err Memory)
