@@ -1,5 +1,5 @@
 -- The transcript of a router has the split of what it consumed.
-use Rattle.std.proofs.Common.{◌≡◌, ℕ, ◌<◌, Bool, true, false, not, List, [], ◌∷◌, ◌++◌, drop, Option, refl, sym, ap, ◌∙◌, subst, subst₂, append_assoc}
+use Rattle.std.proofs.Common.{◌≡◌, ℕ, ◌<◌, Bool, true, false, not, List, [], ◌∷◌, ◌++◌, drop, Option, refl, sym, ap, ◌∙◌, subst, subst₂}
 use Rattle.std.proofs.lemmas.List.{append-nil}
 use Rattle.std.specs.List.{AllByRecursion}
 use Rattle.rtr_pdu.specs.declared.version.Version.TheVariants.{V1}
@@ -9,14 +9,15 @@ use Rattle.rtr_pdu.proofs.ReaderLaws.{partial_empty}
 use Rattle.rtr_ends.specs.Cache.{finds_memory}
 use Rattle.rtr_ends.specs.Consumed.{units_read_in, fault_in, consumed, came, IsRouterCall, IsSplit, RouterSplits}
 use Rattle.rtr_ends.specs.LinkRules.{Router, ask}
-use Rattle.rtr_ends.specs.Router.{Receiving, asks, asks_if, RouterCall, Connects, Receives, Pulls, Closes, AsksNow, Ticks, Speaks, clocked, close, closed_at, connects_at, played, receives, router_byte, router_pulled, router_stops, ticks_at}
-use Rattle.rtr_ends.specs.RouterLink.{Link, Idle, is_closed, is_due, is_idle, is_reading}
+use Rattle.rtr_ends.specs.Router.{Receiving, called, RouterCall, Connects, Receives, Pulls, Speaks, clocked, close, connects_at, played, receives, router_byte, router_pulled, router_stops}
+use Rattle.rtr_ends.specs.RouterLink.{is_closed, is_reading}
 use Rattle.rtr_ends.specs.Transcript.{choose, Item, At, Opened, Asks, Shut, has_agreed, later, of_version, spoken}
 use Rattle.rtr_ends.proofs.ByteLists.{none_bytes, drop_none}
 use Rattle.rtr_ends.proofs.Effects.{by_byte, by_close, clocked_keeps, goes_so}
 use Rattle.rtr_ends.proofs.FeedingLaws.{fed_keeps}
 use Rattle.rtr_ends.proofs.KeptUnits.{Tells}
-use Rattle.rtr_ends.proofs.KeptLaws.{called_tells, clocked_tells, new_tells}
+use Rattle.rtr_ends.proofs.KeptLaws.{called_tells, clocked_tells, new_tells, steps_tell}
+use Rattle.rtr_ends.proofs.CallSteps.{StepsKeep, by_call, idle_reads}
 use Rattle.rtr_ends.proofs.TableLaws.{false_true}
 use Rattle.rtr_ends.proofs.ConsumedUnits.{Live, Split, Comes, live_splits, live_split, reading_open, bytes_come}
 
@@ -86,32 +87,23 @@ record Shuts (r : Router) : Type 0 where
 closing_link : (r : Router) → (is_closed r.link ≡ true → r.held ≡ []) → (is_closed r.link ≡ true → r.out ≡ []) → Shuts (close r)
 closing_link r held out = by_close Shuts r (λ is. record { closed = is; held = held is; out = out is }) (λ is. record { closed = refl; held = refl; out = refl })
 
-pub idle_reads : (l : Link) → is_idle l ≡ true → is_reading l ≡ true
-idle_reads Idle h = refl
-idle_reads _ h = false_true h
-
-due_idle : (l : Link) (when : Option ℕ) (now : ℕ) → is_due l when now ≡ true → is_idle l ≡ true
-due_idle Idle when now h = refl
-due_idle _ when now h = false_true h
-
 -- the calls
-closed_comes : (now : ℕ) (r : Router) (items : List Item) (bytes : List ℕ) → Comes r items bytes → Tells (close (clocked now r)) (Shut ∷ At now ∷ items) → Comes (close (clocked now r)) (Shut ∷ At now ∷ items) bytes
-closed_comes now r items bytes c tells =
-    let k = clocked_comes now r items bytes c in
-    let shut = closing_link (clocked now r) k.none_held k.none_out in
-    record {
-      tells = tells;
-      live = λ h. absurd (reading_open (close (clocked now r)).link h shut.closed);
-      split = quiet_split (At now ∷ items) (Shut ∷ At now ∷ items) bytes (record { units = refl; fault = refl; agreed = refl; version = refl }) k.split;
-      none_held = λ h. shut.held;
-      none_out = λ h. shut.out;
-    }
-
-asks_comes : (r : Router) (items : List Item) (bytes : List ℕ) (b : Bool) → (b ≡ true → is_idle r.link ≡ true) → Comes r items bytes → Tells (asks_if b r).router ((asks_if b r).items ++ items) → Comes (asks_if b r).router ((asks_if b r).items ++ items) bytes
-asks_comes r items bytes false idle c tells = record { tells = tells; live = c.live; split = c.split; none_held = c.none_held; none_out = c.none_out }
-asks_comes r items bytes true idle c tells =
-    still_comes r (ask r) items (Asks (choose (of_version r.spoken r.version) r.mark) ∷ items) bytes
-    (record { held = refl; reads = λ h. idle_reads r.link (idle refl); closed = λ h. false_true h; out = λ h. false_true h }) (record { units = refl; fault = refl; agreed = refl; version = refl }) tells c
+steps_come : (bytes : List ℕ) → StepsKeep (λ r items. Comes r items bytes)
+steps_come bytes = record {
+  clock = λ now r items c. clocked_comes now r items bytes c;
+  closes = λ r items c.
+      let shut = closing_link r c.none_held c.none_out in
+      record {
+        tells = steps_tell.closes r items c.tells;
+        live = λ h. absurd (reading_open (close r).link h shut.closed);
+        split = quiet_split items (Shut ∷ items) bytes (record { units = refl; fault = refl; agreed = refl; version = refl }) c.split;
+        none_held = λ h. shut.held;
+        none_out = λ h. shut.out;
+      };
+  asks_it = λ r items idle c. still_comes r (ask r) items (Asks (choose (of_version r.spoken r.version) r.mark) ∷ items) bytes
+      (record { held = refl; reads = λ h. idle_reads r.link idle; closed = λ h. false_true h; out = λ h. false_true h }) (record { units = refl; fault = refl; agreed = refl; version = refl })
+      (steps_tell.asks_it r items idle c.tells) c;
+}
 
 connect_comes : (now : ℕ) (r : Router) (items : List Item) (bytes : List ℕ) → Comes r items bytes → Tells (connects_at now r).router ((connects_at now r).items ++ items) → Comes (connects_at now r).router ((connects_at now r).items ++ items) []
 unfolding connects_at
@@ -148,7 +140,7 @@ same_bytes : (r : Router) (items : List Item) (bytes : List ℕ) → Comes r ite
 same_bytes r items bytes c = subst (λ x. Comes r items x) (sym (append-nil bytes)) c
 
 called_comes : (call : RouterCall) (calls : List RouterCall) → IsRouterCall call → Comes (played calls).router (played calls).items (came calls) → Comes (played (call ∷ calls)).router (played (call ∷ calls)).items (came (call ∷ calls))
-unfolding closed_at ticks_at asks router_pulled
+unfolding router_pulled
 called_comes (Connects now) calls each c = connect_comes now (played calls).router (played calls).items (came calls) c (called_tells (Connects now) (played calls).router (played calls).items c.tells)
 called_comes (Receives now wanting piece) calls each c = receive_comes now wanting piece (played calls).router (played calls).items (came calls) each c
 called_comes (Pulls most) calls each c =
@@ -161,22 +153,9 @@ called_comes (Speaks version) calls each c =
     same_bytes (record r { speaks = version }) (played calls).items (came calls)
     (still_comes r (record r { speaks = version }) (played calls).items (played calls).items (came calls) (record { held = refl; reads = λ h. h; closed = λ h. h; out = λ h none. none })
     (same_items (played calls).items) (called_tells (Speaks version) r (played calls).items c.tells) c)
-called_comes (Closes now) calls each c =
-    same_bytes (close (clocked now (played calls).router)) (Shut ∷ At now ∷ (played calls).items) (came calls)
-    (closed_comes now (played calls).router (played calls).items (came calls) c (called_tells (Closes now) (played calls).router (played calls).items c.tells))
-called_comes AsksNow calls each c =
-    let r : Router = (played calls).router in
-    same_bytes (asks_if (is_idle r.link) r).router ((asks_if (is_idle r.link) r).items ++ (played calls).items) (came calls)
-    (asks_comes (played calls).router (played calls).items (came calls) (is_idle r.link) (λ h. h) c (called_tells AsksNow (played calls).router (played calls).items c.tells))
-called_comes (Ticks now) calls each c =
-    let k : Router = clocked now (played calls).router in
-    let b : Bool = is_due k.link k.due k.now in
-    let before = clocked_comes now (played calls).router (played calls).items (came calls) c in
-    let e = append_assoc (asks_if b k).items (At now ∷ []) (played calls).items in
-    let tells = subst (λ x. Tells (asks_if b k).router x) e (called_tells (Ticks now) (played calls).router (played calls).items c.tells) in
-    same_bytes (asks_if b k).router (((asks_if b k).items ++ At now ∷ []) ++ (played calls).items) (came calls)
-    (subst (λ x. Comes (asks_if b k).router x (came calls)) (sym e)
-    (asks_comes k (At now ∷ (played calls).items) (came calls) b (due_idle k.link k.due k.now) before tells))
+called_comes call calls each c =
+    same_bytes (called call (played calls).router).router ((called call (played calls).router).items ++ (played calls).items) (came calls)
+    (by_call (λ r items. Comes r items (came calls)) (steps_come (came calls)) call refl (played calls).router (played calls).items c)
 
 new_comes : Comes (played []).router (played []).items (came [])
 new_comes = record {

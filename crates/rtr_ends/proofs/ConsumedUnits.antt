@@ -22,7 +22,7 @@ use Rattle.rtr_ends.specs.RouterLaws.{LinkTells}
 use Rattle.rtr_ends.specs.RouterLink.{Link, Closed, Asked, Ended, is_closed, is_reading}
 use Rattle.rtr_ends.specs.Transcript.{Question, Item, Asks, Reads, Lacks, has_agreed, is_connected, later, spoken}
 use Rattle.rtr_ends.proofs.ByteLists.{none_bytes, more_bytes}
-use Rattle.rtr_ends.proofs.Effects.{by_whole, unit_keeps}
+use Rattle.rtr_ends.proofs.Effects.{by_whole, unit_keeps, reading_open_so}
 use Rattle.rtr_ends.proofs.KeptUnits.{Tells, bytes_add, connected}
 use Rattle.rtr_ends.proofs.TableLaws.{false_true}
 use Rattle.prefixes.proofs.Basics.{not_both}
@@ -159,7 +159,7 @@ reads_come r u items bytes none live before h any tells = record {
     vs = ap spoken later_is ∙ asked_leaves spoken n.link n.out (Reads u ∷ items) (λ q. refl)
 
     goes : is_connected later ≡ true
-    goes = ap is_connected later_is ∙ asked_leaves is_connected n.link n.out (Reads u ∷ items) (λ q. refl) ∙ connected r.link r.agreed r.session r.table items live before.link
+    goes = ap is_connected later_is ∙ asked_leaves is_connected n.link n.out (Reads u ∷ items) (λ q. refl) ∙ connected r.link r.agreed r.session r.table items (reading_open_so r.link live) before.link
 
 -- the next byte, as it is judged
 pub bytes_come : (memory : Bool) (b : ℕ) (r : Router) (items : List Item) (bytes : List ℕ) → b < 256 → is_reading r.link ≡ true → r.out ≡ [] → Tells r items → Live r items bytes

@@ -1,17 +1,15 @@
 -- A router holds what its transcript keeps.
-use Rattle.std.proofs.Common.{◌≡◌, ℕ, Bool, true, false, not, List, [], ◌∷◌, ◌++◌, Option, Some, None, if◌then◌else◌, refl, sym, ap, ◌∙◌, subst, append_assoc}
+use Rattle.std.proofs.Common.{◌≡◌, ℕ, Bool, true, false, List, [], ◌∷◌, ◌++◌, Option, Some, None, if◌then◌else◌, refl, sym, ap, ◌∙◌, subst}
 use Rattle.vrps.specs.VrpSet.{VrpSet, empty}
-use Rattle.rtr_pdu.specs.Judging.{judge}
-use Rattle.rtr_ends.specs.Cache.{is_none, finds_memory}
-use Rattle.rtr_ends.specs.Feeding.{feed}
-use Rattle.rtr_ends.specs.LinkRules.{Router, asking}
-use Rattle.rtr_ends.specs.Router.{Receiving, router_stops, router_byte, clocked, close, asks_if, connects_at, closed_at, ticks_at, asks, receives, router_pulled, RouterCall, Connects, Receives, Closes, AsksNow, Ticks, called, played}
+use Rattle.rtr_ends.specs.Cache.{is_none}
+use Rattle.rtr_ends.specs.LinkRules.{Router, asking, ask}
+use Rattle.rtr_ends.specs.Router.{Receiving, router_stops, router_byte, clocked, close, connects_at, closed_at, router_pulled, RouterCall, Connects, Receives, Pulls, Speaks, called, played}
 use Rattle.rtr_ends.specs.RouterLaws.{LinkTells, IsKept, RouterKeeps}
 use Rattle.rtr_ends.specs.RouterLink.{Link, Closed, Idle, Answering, Ended, is_closed, is_due, is_idle}
 use Rattle.rtr_ends.specs.Transcript.{choose, of_version, spoken, Question, AskReset, AskSerial, Item, At, Opened, Asks, Refused, Shut, is_connected, moment, later, acts_once, base_of, is_serial, emptied_if, kept, is_over, sum_of, retry_of, due}
+use Rattle.rtr_ends.proofs.CallSteps.{BytesKeep, StepsKeep, by_call, by_next, by_piece}
 use Rattle.rtr_ends.proofs.TableLaws.{false_true}
-use Rattle.rtr_ends.proofs.Effects.{by_byte, by_clock, goes_on, goes_so, nothing_out}
-use Rattle.rtr_ends.proofs.FeedingLaws.{feed_keeps}
+use Rattle.rtr_ends.proofs.Effects.{by_clock, goes_on, nothing_out}
 use Rattle.rtr_ends.proofs.KeptUnits.{holds, Tells, bytes_add, connected}
 use Rattle.prefixes.proofs.Basics.{false_of_not}
 
@@ -22,14 +20,11 @@ none_is out h = nothing_out out h
 abbrev MTells : Receiving → List Item → Type 0
 MTells m items = Tells m.router (m.items ++ items)
 
-pub byte_tells : (m : Receiving) (b : ℕ) (items : List Item) → router_stops m.router ≡ false → MTells m items → MTells (router_byte m b) items
-byte_tells m b items goes_on t =
-    let live = goes_so m.router goes_on in
-    by_byte Tells items m b
-    (bytes_add (finds_memory m.wanting) (m.router.held ++ b ∷ []) m.router (judge m.router.spoken (not m.router.agreed) (m.router.held ++ b ∷ [])) (m.items ++ items) live.0 live.1 t).tells
+bytes_keep : BytesKeep Tells
+bytes_keep memory bytes r j items some live none t = (bytes_add memory bytes r j items live none t).tells
 
-fed_tells : (m : Receiving) (piece : List ℕ) (items : List Item) → MTells m items → MTells (feed (λ x. router_stops x.router) router_byte m piece).machine items
-fed_tells m piece items t = feed_keeps (λ x. router_stops x.router) router_byte (λ rest n. MTells n items) (λ b rest n goes_on h. byte_tells n b items goes_on h) m piece t
+pub byte_tells : (m : Receiving) (b : ℕ) (items : List Item) → router_stops m.router ≡ false → MTells m items → MTells (router_byte m b) items
+byte_tells m b items goes_on t = by_next Tells bytes_keep items m b goes_on t
 
 -- the clock
 at_link : (l : Link) (agreed : Bool) (session : Option ℕ) (table : VrpSet) (now : ℕ) (items : List Item) → LinkTells l agreed session table items → LinkTells l agreed session table (At now ∷ items)
@@ -49,7 +44,7 @@ pub clocked_tells : (now : ℕ) (r : Router) (items : List Item) → Tells r ite
 clocked_tells now r items t = by_clock (λ n. Tells n (At now ∷ items)) now r
     (λ fresh. record { kept_is = kept_so false fresh; due_is = t.due_is; now_is = now_so; spoken_is = t.spoken_is; link = link })
     (λ over on. record { kept_is = kept_so true over; due_is = t.due_is; now_is = now_so; spoken_is = t.spoken_is; link = empty_link r.link r.agreed r.session r.table (At now ∷ items) on link })
-    (λ over live open_so. record { kept_is = kept_so true over; due_is = t.due_is; now_is = now_so; spoken_is = t.spoken_is; link = connected r.link r.agreed r.session r.table items live t.link })
+    (λ over live open_so. record { kept_is = kept_so true over; due_is = t.due_is; now_is = now_so; spoken_is = t.spoken_is; link = connected r.link r.agreed r.session r.table items open_so t.link })
   where
     kept_so : (b : Bool) → is_over r.version (later r.now now) ≡ b → kept (At now ∷ items) ≡ emptied_if b (holds r)
     kept_so b is = (λ i. emptied_if (is_over (t.kept_is i).version (later (t.now_is i) now)) (t.kept_is i)) ∙ ap (λ x. emptied_if x (holds r)) is
@@ -79,11 +74,15 @@ pub record Shuts (r : Router) (items : List Item) : Type 0 where
 
 closing : (l : Link) (r : Router) (items : List Item) → r.link ≡ l → Tells r items → LinkTells l r.agreed r.session r.table items → Shuts (if is_closed l then r else closed_by r) items
 closing Closed r items is t l = record { kept_is = t.kept_is; due_is = ap (λ b. if b then Some (sum_of (moment items) (retry_of (kept items).version)) else due items) l.0 ∙ t.due_is; now_is = t.now_is; spoken_is = t.spoken_is; closed = is; agreed = l.1; session = l.2 }
-closing (Ended end) r items is t l = closing_open r items t l
-  where
-    closing_open : (r : Router) (items : List Item) → Tells r items → is_connected items ≡ true → Shuts (closed_by r) items
-    closing_open r items t c = record { kept_is = t.kept_is; due_is = λ i. if c i then Some (sum_of (t.now_is i) (retry_of (t.kept_is i).version)) else due items; now_is = t.now_is; spoken_is = t.spoken_is; closed = refl; agreed = refl; session = refl }
-closing _ r items is t l = record { kept_is = t.kept_is; due_is = λ i. if l.0 i then Some (sum_of (t.now_is i) (retry_of (t.kept_is i).version)) else due items; now_is = t.now_is; spoken_is = t.spoken_is; closed = refl; agreed = refl; session = refl }
+closing l r items is t h = record {
+  kept_is = t.kept_is;
+  due_is = rw (connected l r.agreed r.session r.table items refl h, t.now_is, t.kept_is);
+  now_is = t.now_is;
+  spoken_is = t.spoken_is;
+  closed = refl;
+  agreed = refl;
+  session = refl;
+}
 
 shut_tells : (r : Router) (items : List Item) → Shuts r items → Tells r (Shut ∷ items)
 shut_tells r items s = record { kept_is = s.kept_is; due_is = s.due_is; now_is = s.now_is; spoken_is = s.spoken_is; link = subst (λ x. LinkTells x r.agreed r.session r.table (Shut ∷ items)) (sym s.closed) (refl, s.agreed, s.session) }
@@ -92,10 +91,16 @@ opened_tells : (r : Router) (items : List Item) (q : Question) → Shuts r items
 opened_tells r items q s = record { kept_is = s.kept_is; due_is = s.due_is; now_is = s.now_is; spoken_is = refl; link = (refl, refl, refl, sym s.agreed, sym s.session) }
 
 -- an idle link asks
-asks_tells : (l : Link) (r : Router) (items : List Item) (b : Bool) → r.link ≡ l → (is_idle l ≡ false → b ≡ false) → Tells r items → LinkTells l r.agreed r.session r.table items → Tells (asks_if b r).router ((asks_if b r).items ++ items)
-asks_tells l r items false is idle t h = t
-asks_tells Idle r items true is idle t h = record { kept_is = t.kept_is; due_is = t.due_is; now_is = t.now_is; spoken_is = t.spoken_is; link = (h.0, refl, refl, h.3, h.4) }
-asks_tells _ r items true is idle t h = false_true (sym (idle refl))
+asks_tells : (l : Link) (r : Router) (items : List Item) → is_idle l ≡ true → Tells r items → LinkTells l r.agreed r.session r.table items → Tells (ask r) (Asks (choose (of_version r.spoken r.version) r.mark) ∷ items)
+asks_tells Idle r items idle t h = record { kept_is = t.kept_is; due_is = t.due_is; now_is = t.now_is; spoken_is = t.spoken_is; link = (h.0, refl, refl, h.3, h.4) }
+asks_tells _ r items idle t h = false_true idle
+
+pub steps_tell : StepsKeep Tells
+steps_tell = record {
+  clock = clocked_tells;
+  closes = λ r items t. shut_tells (close r) items (closing r.link r items refl t t.link);
+  asks_it = λ r items idle t. asks_tells r.link r items idle t t.link;
+}
 
 pub not_due : (l : Link) (when : Option ℕ) (now : ℕ) → is_idle l ≡ false → is_due l when now ≡ false
 not_due Closed when now h = refl
@@ -105,23 +110,14 @@ not_due _ when now h = refl
 
 -- every call
 pub called_tells : (call : RouterCall) (r : Router) (items : List Item) → Tells r items → Tells (called call r).router ((called call r).items ++ items)
-unfolding connects_at closed_at ticks_at asks receives router_pulled
+unfolding connects_at router_pulled
 called_tells (Connects now) r items t =
-    let told_r : Router = clocked now r in
     let c = clocked_tells now r items t in
     opened_tells (close (clocked now r)) (At now ∷ items) (choose (of_version (close (clocked now r)).speaks (close (clocked now r)).version) (close (clocked now r)).mark) (closing (clocked now r).link (clocked now r) (At now ∷ items) refl c c.link)
-called_tells (Receives now wanting piece) r items t = fed_tells (record { router = clocked now r; items = At now ∷ []; wanting = wanting }) piece items (clocked_tells now r items t)
-called_tells (Closes now) r items t =
-    let c = clocked_tells now r items t in
-    shut_tells (close (clocked now r)) (At now ∷ items) (closing (clocked now r).link (clocked now r) (At now ∷ items) refl c c.link)
-called_tells AsksNow r items t = asks_tells r.link r items (is_idle r.link) refl (λ h. h) t t.link
-called_tells (Ticks now) r items t =
-    let c = clocked_tells now r items t in
-    let k : Router = clocked now r in
-    let b : Bool = is_due (clocked now r).link (clocked now r).due (clocked now r).now in
-    let done = asks_tells (clocked now r).link (clocked now r) (At now ∷ items) (is_due (clocked now r).link (clocked now r).due (clocked now r).now) refl (not_due (clocked now r).link (clocked now r).due (clocked now r).now) c c.link in
-    subst (λ x. Tells (asks_if (is_due (clocked now r).link (clocked now r).due (clocked now r).now) (clocked now r)).router x) (sym (append_assoc (asks_if (is_due (clocked now r).link (clocked now r).due (clocked now r).now) (clocked now r)).items (At now ∷ []) items)) done
-called_tells _ r items t = record { kept_is = t.kept_is; due_is = t.due_is; now_is = t.now_is; spoken_is = t.spoken_is; link = t.link }
+called_tells (Receives now wanting piece) r items t = by_piece Tells steps_tell bytes_keep now wanting piece r items t
+called_tells (Pulls most) r items t = record { kept_is = t.kept_is; due_is = t.due_is; now_is = t.now_is; spoken_is = t.spoken_is; link = t.link }
+called_tells (Speaks version) r items t = record { kept_is = t.kept_is; due_is = t.due_is; now_is = t.now_is; spoken_is = t.spoken_is; link = t.link }
+called_tells call r items t = by_call Tells steps_tell call refl r items t
 
 pub new_tells : Tells (played []).router (played []).items
 new_tells = record { kept_is = refl; due_is = refl; now_is = refl; spoken_is = refl; link = (refl, refl, refl) }

@@ -13,9 +13,10 @@ use Rattle.rtr_ends.specs.Answer.{sent}
 use Rattle.rtr_ends.specs.LinkRules.{Router, Stays, Wrong, Over, asking, ask, emptied, ended_by, fails, is_strange, is_news, staged, commit, told_off, on_unit}
 use Rattle.rtr_ends.specs.Router.{Noted, asked_by, reads, with_bytes}
 use Rattle.rtr_ends.specs.RouterLaws.{LinkTells}
-use Rattle.rtr_ends.specs.RouterLink.{Link, Closed, Idle, Asked, Answering, Ended, is_reading}
+use Rattle.rtr_ends.specs.RouterLink.{Link, Closed, Idle, Asked, Answering, Ended, is_reading, is_closed}
 use Rattle.rtr_ends.specs.Timing.{default_intervals}
-use Rattle.rtr_ends.proofs.Effects.{by_whole, either}
+use Rattle.rtr_ends.proofs.TableLaws.{false_true}
+use Rattle.rtr_ends.proofs.Effects.{by_whole, either, reading_open_so}
 use Rattle.rtr_ends.specs.Transcript.{choose, of_version, spoken, Question, AskReset, AskSerial, query, Item, Asks, Reads, Begun, outstanding, question_of, has_agreed, responded, is_connected, moment, is_among, led_to, Kept, bounded, base_of, is_serial, is_wrong, kept, sum_of, retry_of, due}
 
 abbrev pub holds : Router → Kept
@@ -162,10 +163,11 @@ live_unit r Idle u items live is h t = idle_unit r u items is h t
 live_unit r (Asked q) u items live is h t = asked_unit r q u items is h t
 live_unit r (Answering a) u items live is h t = answering_unit r a u items is h t
 
-pub connected : (l : Link) (agreed : Bool) (session : Option ℕ) (table : VrpSet) (items : List Item) → is_reading l ≡ true → LinkTells l agreed session table items → is_connected items ≡ true
-connected Closed agreed session table items live t = absurd (let e : false ≡ true = live in cc)
-connected (Ended end) agreed session table items live t = absurd (let e : false ≡ true = live in cc)
-connected _ agreed session table items live t = t.0
+-- A link that is not closed has a connection.
+pub connected : (l : Link) (agreed : Bool) (session : Option ℕ) (table : VrpSet) (items : List Item) → is_closed l ≡ false → LinkTells l agreed session table items → is_connected items ≡ true
+connected Closed agreed session table items open_so t = false_true (sym open_so)
+connected (Ended end) agreed session table items open_so t = t
+connected _ agreed session table items open_so t = t.0
 
 -- what a call adds stands before the transcript
 pub record Adds (n : Noted) (items : List Item) : Type 0 where
@@ -179,7 +181,7 @@ reads_adds r u items live none t =
 pub bytes_add : (memory : Bool) (bytes : List ℕ) (r : Router) (j : Judgement) (items : List Item) → is_reading r.link ≡ true → r.out ≡ [] → Tells r items → Adds (with_bytes memory bytes r j) items
 bytes_add memory bytes r Begins items live none t = record { tells = record { kept_is = t.kept_is; due_is = t.due_is; now_is = t.now_is; spoken_is = t.spoken_is; link = t.link } }
 bytes_add memory bytes r (Faulty fault) items live none t =
-    record { tells = record { kept_is = t.kept_is; due_is = t.due_is; now_is = t.now_is; spoken_is = t.spoken_is; link = connected r.link r.agreed r.session r.table items live t.link } }
+    record { tells = record { kept_is = t.kept_is; due_is = t.due_is; now_is = t.now_is; spoken_is = t.spoken_is; link = connected r.link r.agreed r.session r.table items (reading_open_so r.link live) t.link } }
 bytes_add memory bytes r (Whole u) items live none t = by_whole (λ n. Adds n items) memory bytes r u
-    (record { tells = record { kept_is = t.kept_is; due_is = t.due_is; now_is = t.now_is; spoken_is = t.spoken_is; link = connected r.link r.agreed r.session r.table items live t.link } })
+    (record { tells = record { kept_is = t.kept_is; due_is = t.due_is; now_is = t.now_is; spoken_is = t.spoken_is; link = connected r.link r.agreed r.session r.table items (reading_open_so r.link live) t.link } })
     (reads_adds (record r { held = [] }) u items live none (record { kept_is = t.kept_is; due_is = t.due_is; now_is = t.now_is; spoken_is = t.spoken_is; link = t.link }))

@@ -5,6 +5,7 @@ pub mod ByteLists
 pub mod CacheRows
 pub mod CacheStateLaws
 pub mod CallRows
+pub mod CallSteps
 pub mod CommitLaws
 pub mod CountedRows
 pub mod ConsumedLaws

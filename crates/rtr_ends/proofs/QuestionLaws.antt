@@ -3,21 +3,20 @@ use Rattle.std.specs.Prelude.{◌≡◌, ◌⊎◌, ℕ, Bool, true, false, not,
 use Rattle.std.proofs.Common.{sym, ap, ◌∙◌, subst, append_assoc, inl, inr}
 use Rattle.prefixes.specs.Payload.{Payload}
 use Rattle.vrps.specs.VrpSet.{VrpSet, has, size}
-use Rattle.rtr_pdu.specs.Judging.{Judgement, Begins, Whole, Faulty, judge}
+use Rattle.rtr_pdu.specs.Judging.{Begins, Whole, Faulty}
 use Rattle.rtr_pdu.specs.declared.unit.Unit.{Unit}
 use Rattle.rtr_pdu.specs.declared.unit.Unit.TheVariants.{Prefix, EndOfData, EndOfData0, CacheReset}
-use Rattle.rtr_ends.specs.Cache.{finds_memory}
 use Rattle.rtr_ends.specs.Answer.{sent}
 use Rattle.rtr_ends.specs.LinkRules.{Router, Staged, Stays, Wrong, Over, asking, commit, fails, on_unit, stage, staged}
-use Rattle.rtr_ends.specs.Router.{RouterCall, Connects, Receives, Closes, AsksNow, Ticks, called, played, Receiving, router_byte, router_stops, asks, asks_if, clocked, close, closed_at, connects_at, receives, router_pulled, ticks_at, asked_by, reads, with_bytes}
+use Rattle.rtr_ends.specs.Router.{RouterCall, Connects, Receives, Pulls, Speaks, called, played, clocked, close, connects_at, router_pulled, asked_by, reads}
 use Rattle.rtr_ends.specs.RouterLaws.{RouterAsks, LinkTells}
-use Rattle.rtr_ends.specs.RouterLink.{is_due, Link, Closed, Idle, Asked, Answering, Ended, is_idle, is_reading}
+use Rattle.rtr_ends.specs.RouterLink.{Link, Closed, Idle, Asked, Answering, Ended, is_idle, is_reading}
 use Rattle.rtr_ends.specs.Timing.{Intervals, default_intervals}
 use Rattle.rtr_ends.specs.Transcript.{Question, AskReset, AskSerial, AsksRightly, Begun, Item, At, Opened, Reads, acts_once, acts_wrongly, base_of, bounded, choose, does_commit, is_among, kept, later, led_to, marked, next_question, of_version, query, spoken, under_way}
-use Rattle.rtr_ends.proofs.Effects.{acts, by_byte, by_clock, by_close, by_unit, by_whole, either, goes_so, put_by}
-use Rattle.rtr_ends.proofs.FeedingLaws.{feed_keeps}
+use Rattle.rtr_ends.proofs.Effects.{acts, by_clock, by_close, by_unit, by_whole, either, put_by}
 use Rattle.rtr_ends.proofs.KeptUnits.{Tells, bytes_add, holds}
-use Rattle.rtr_ends.proofs.KeptLaws.{called_tells, clocked_tells, new_tells}
+use Rattle.rtr_ends.proofs.KeptLaws.{called_tells, clocked_tells, new_tells, steps_tell}
+use Rattle.rtr_ends.proofs.CallSteps.{BytesKeep, StepsKeep, by_call, by_piece}
 use Rattle.rtr_ends.proofs.TableLaws.{false_true}
 
 -- The mark is the one of the transcript, where something is committed.
@@ -209,21 +208,14 @@ reads_choose r u items live none c tells = record { tells = tells; mark = mark; 
     not_reset idle = ap is_reset later_is ∙ idle_so n.link n.out u items idle (not_reset_unit r u items live idle)
 
 -- bytes, as they are judged
-bytes_choose : (memory : Bool) (bytes : List ℕ) (r : Router) (j : Judgement) (items : List Item) → is_reading r.link ≡ true → r.out ≡ [] → Chooses r items → Chooses (with_bytes memory bytes r j).router ((with_bytes memory bytes r j).items ++ items)
-bytes_choose memory bytes r Begins items live none c = record { tells = (bytes_add memory bytes r Begins items live none c.tells).tells; mark = c.mark; asked = c.asked; not_reset = c.not_reset }
-bytes_choose memory bytes r (Faulty fault) items live none c = record { tells = (bytes_add memory bytes r (Faulty fault) items live none c.tells).tells; mark = c.mark; asked = c.asked; not_reset = λ h. false_true h }
-bytes_choose memory bytes r (Whole u) items live none c = by_whole (λ n. Tells n.router (n.items ++ items) → Chooses n.router (n.items ++ items)) memory bytes r u
+bytes_choose : BytesKeep Chooses
+bytes_choose memory bytes r Begins items some live none c = record { tells = (bytes_add memory bytes r Begins items live none c.tells).tells; mark = c.mark; asked = c.asked; not_reset = c.not_reset }
+bytes_choose memory bytes r (Faulty fault) items some live none c = record { tells = (bytes_add memory bytes r (Faulty fault) items live none c.tells).tells; mark = c.mark; asked = c.asked; not_reset = λ h. false_true h }
+bytes_choose memory bytes r (Whole u) items some live none c = by_whole (λ n. Tells n.router (n.items ++ items) → Chooses n.router (n.items ++ items)) memory bytes r u
     (λ tells. record { tells = tells; mark = c.mark; asked = c.asked; not_reset = λ h. false_true h })
     (λ tells. reads_choose (record r { held = [] }) u items live none
     (record { tells = record { kept_is = c.tells.kept_is; due_is = c.tells.due_is; now_is = c.tells.now_is; spoken_is = c.tells.spoken_is; link = c.tells.link }; mark = c.mark; asked = c.asked; not_reset = c.not_reset }) tells)
     (bytes_add memory bytes r (Whole u) items live none c.tells).tells
-
--- a piece, byte by byte
-byte_chooses : (items : List Item) (m : Receiving) (b : ℕ) → router_stops m.router ≡ false → Chooses m.router (m.items ++ items) → Chooses (router_byte m b).router ((router_byte m b).items ++ items)
-byte_chooses items m b goes_on c =
-    let live = goes_so m.router goes_on in
-    by_byte Chooses items m b
-    (bytes_choose (finds_memory m.wanting) (m.router.held ++ b ∷ []) m.router (judge m.router.spoken (not m.router.agreed) (m.router.held ++ b ∷ [])) (m.items ++ items) live.0 live.1 c)
 
 -- the clock
 clocked_mark : (now : ℕ) (r : Router) (items : List Item) → MarkTells r items → MarkTells (clocked now r) (At now ∷ items)
@@ -236,22 +228,22 @@ clocked_chooses now r items c = record { tells = clocked_tells now r items c.tel
 close_mark : (r : Router) (items : List Item) → MarkTells r items → MarkTells (close r) items
 close_mark r items m = by_close (λ n. MarkTells n items) r (λ is. m) (λ is. m)
 
--- the question of an idle link, or of a new connection
-asks_choose : (r : Router) (items : List Item) (b : Bool) → (b ≡ true → is_reset items ≡ false) → (b ≡ false → is_idle r.link ≡ true → is_reset items ≡ false) → kept items ≡ holds r → spoken items ≡ r.spoken → MarkTells r items → AsksRightly items
-    → Tells (asks_if b r).router ((asks_if b r).items ++ items) → Chooses (asks_if b r).router ((asks_if b r).items ++ items)
-asks_choose r items false resets idle k s m a tells = record { tells = tells; mark = m; asked = a; not_reset = idle refl }
-asks_choose r items true resets idle k s m a tells = record {
-  tells = tells;
-  mark = m;
-  asked = (choose_same r items k s m ∙ sym (next_is items (resets refl)), a);
-  not_reset = λ h. false_true h;
+steps_choose : StepsKeep Chooses
+steps_choose = record {
+  clock = clocked_chooses;
+  closes = λ r items c. record { tells = steps_tell.closes r items c.tells; mark = close_mark r items c.mark; asked = c.asked; not_reset = λ h. refl };
+  asks_it = λ r items idle c. record {
+    tells = steps_tell.asks_it r items idle c.tells;
+    mark = c.mark;
+    asked = (choose_same r items c.tells.kept_is c.tells.spoken_is c.mark ∙ sym (next_is items (c.not_reset idle)), c.asked);
+    not_reset = λ h. false_true h;
+  };
 }
 
 called_chooses : (call : RouterCall) (r : Router) (items : List Item) → Chooses r items → Chooses (called call r).router ((called call r).items ++ items)
-unfolding connects_at closed_at ticks_at asks receives router_pulled
+unfolding connects_at router_pulled
 called_chooses (Connects now) r items c =
     let k = clocked_chooses now r items c in
-    let shut : Router = close (clocked now r) in
     let m = close_mark (clocked now r) (At now ∷ items) k.mark in
     let tells = called_tells (Connects now) r items c.tells in
     record {
@@ -260,22 +252,10 @@ called_chooses (Connects now) r items c =
       asked = (choose_same (record (close (clocked now r)) { spoken = (close (clocked now r)).speaks }) (Opened (close (clocked now r)).speaks ∷ At now ∷ items) tells.kept_is refl m, c.asked);
       not_reset = λ h. false_true h;
     }
-called_chooses (Receives now wanting piece) r items c =
-    feed_keeps (λ (m : Receiving). router_stops m.router) router_byte (λ rest m. Chooses m.router (m.items ++ items)) (λ b rest m goes_on h. byte_chooses items m b goes_on h)
-    (record { router = clocked now r; items = At now ∷ []; wanting = wanting }) piece (clocked_chooses now r items c)
-called_chooses (Closes now) r items c =
-    let k = clocked_chooses now r items c in
-    record { tells = called_tells (Closes now) r items c.tells; mark = close_mark (clocked now r) (At now ∷ items) k.mark; asked = c.asked; not_reset = λ h. refl }
-called_chooses AsksNow r items c =
-    asks_choose r items (is_idle r.link) c.not_reset (λ off on. false_true (sym off ∙ on)) c.tells.kept_is c.tells.spoken_is c.mark c.asked (called_tells AsksNow r items c.tells)
-called_chooses (Ticks now) r items c =
-    let k = clocked_chooses now r items c in
-    let n : Router = clocked now r in
-    let b : Bool = is_due n.link n.due n.now in
-    let e = append_assoc (asks_if b n).items (At now ∷ []) items in
-    subst (λ x. Chooses (asks_if b n).router x) (sym e)
-    (asks_choose n (At now ∷ items) b (λ h. refl) (λ off on. refl) k.tells.kept_is k.tells.spoken_is k.mark k.asked (subst (λ x. Tells (asks_if b n).router x) e (called_tells (Ticks now) r items c.tells)))
-called_chooses call r items c = record { tells = called_tells call r items c.tells; mark = c.mark; asked = c.asked; not_reset = c.not_reset }
+called_chooses (Receives now wanting piece) r items c = by_piece Chooses steps_choose bytes_choose now wanting piece r items c
+called_chooses (Pulls most) r items c = record { tells = called_tells (Pulls most) r items c.tells; mark = c.mark; asked = c.asked; not_reset = c.not_reset }
+called_chooses (Speaks version) r items c = record { tells = called_tells (Speaks version) r items c.tells; mark = c.mark; asked = c.asked; not_reset = c.not_reset }
+called_chooses call r items c = by_call Chooses steps_choose call refl r items c
 
 played_choose : (calls : List RouterCall) → Chooses (played calls).router (played calls).items
 played_choose [] = record { tells = new_tells; mark = inl refl; asked = tt; not_reset = λ h. false_true h }

@@ -16,13 +16,14 @@ use Rattle.rtr_ends.specs.Cache.{finds_memory, is_none}
 use Rattle.rtr_ends.specs.Feeding.{FedPiece, feed}
 use Rattle.rtr_ends.specs.LinkRules.{Router, ask, may_lack, on_unit}
 use Rattle.rtr_ends.specs.Router.{RouterCall, Noted, Receiving, asks, asks_if, breaks, called, clocked, close, closed_at, connects_at, lacks, played, reads, receives, router_byte, router_pulled, router_stops, ticks_at, with_bytes, router_judged}
-use Rattle.rtr_ends.specs.RouterLink.{Link, Idle, Ended, is_closed, is_due, is_idle, is_reading}
+use Rattle.rtr_ends.specs.RouterLink.{Ended, is_closed, is_due, is_idle, is_reading}
 use Rattle.rtr_ends.specs.Seen.{Does, ReadsOrLacks, ShowsRouter, seen_link}
 use Rattle.rtr_ends.specs.RouterShown.{Arrives, Calls, GoesOn, IsShown, CallsLead, LeadsOn, Led, IsLacking, ReceivesSo, TakesOn, fed, is_lacking, is_wanted_by_router, reading, taking}
 use Rattle.rtr_ends.specs.Transcript.{Item, At}
 use Rattle.rtr_ends.specs.declared.machine.Machine.{Machine}
 use Rattle.rtr_ends.specs.declared.router.Router as code
-use Rattle.rtr_ends.proofs.ConsumedLaws.{router_splits, idle_reads}
+use Rattle.rtr_ends.proofs.ConsumedLaws.{router_splits}
+use Rattle.rtr_ends.proofs.CallSteps.{due_idle, idle_reads}
 use Rattle.rtr_ends.proofs.Effects.{Clocks, Keeps, by_close, clocked_keeps, goes_so, reading_open_so, unit_keeps}
 use Rattle.rtr_ends.proofs.KeptLaws.{router_keeps}
 use Rattle.rtr_ends.proofs.MachineCells.{seen_so}
@@ -280,10 +281,6 @@ asks_shown : (old new : code.Router) (r n : Router) (b : Bool) → Clocks r n �
 asks_shown old new r n true k idle s machine same = keeps_shown old new r (ask n) machine same s k.held k.agreed k.spoken (λ h. k.reads_on (idle refl)) (λ h. false_true h)
 asks_shown old new r n false k idle s machine same = keeps_shown old new r n machine same s k.held k.agreed k.spoken k.reads_on (λ h. sym k.closed_on ∙ h)
 
-due_reads : (l : Link) (due : Option ℕ) (now : ℕ) → is_due l due now ≡ true → is_reading l ≡ true
-due_reads Idle due now h = refl
-due_reads _ due now h = false_true h
-
 pub idle_shown : (old new : code.Router) (r : Router) → IsShown r old → ShowsRouter (asks r).router new.machine → new.reader ≡ old.reader → IsShown (asks r).router new
 unfolding asks
 idle_shown old new r s machine same =
@@ -310,7 +307,7 @@ pub ticks_shown : (old new : code.Router) (now : ℕ) (r : Router) → IsShown r
 unfolding ticks_at
 ticks_shown old new now r s machine same =
     let n : Router = clocked now r in
-    asks_shown old new r (clocked now r) (is_due n.link n.due n.now) (clocked_keeps now r) (due_reads n.link n.due n.now) s machine same
+    asks_shown old new r (clocked now r) (is_due n.link n.due n.now) (clocked_keeps now r) (λ h. idle_reads n.link (due_idle n.link n.due n.now h)) s machine same
 
 -- The PDU at which memory ran out took memory.
 wanted_so : (now : ℕ) (piece : List ℕ) (r : Router) (wanting : Option ℕ) → IsLacking wanting (fed (clocked now r) (At now ∷ []) wanting piece) → IfSome wanting (λ unit. is_wanted_by_router now piece r unit ≡ true)

@@ -1,28 +1,25 @@
 -- What a router gave are its questions and its report.
-use Rattle.std.proofs.Common.{◌≡◌, ℕ, Bool, true, false, not, List, [], ◌∷◌, ◌++◌, take, drop, Some, None, if◌then◌else◌, refl, sym, ap, ◌∙◌, subst, append_assoc, inl, inr}
+use Rattle.std.proofs.Common.{◌≡◌, ℕ, Bool, true, false, List, [], ◌∷◌, ◌++◌, take, drop, Some, None, if◌then◌else◌, refl, sym, ap, ◌∙◌, subst, append_assoc, inl, inr}
 use Rattle.std.proofs.lemmas.List.{append-nil, take-append-drop}
-use Rattle.rtr_pdu.specs.Judging.{Judgement, Begins, Whole, Faulty, judge}
+use Rattle.rtr_pdu.specs.Judging.{Begins, Whole, Faulty}
 use Rattle.rtr_pdu.specs.Stream.{is_kind}
 use Rattle.rtr_pdu.specs.declared.kind.Kind.TheVariants as kinds
 use Rattle.rtr_pdu.specs.declared.unit.Unit.{Unit}
 use Rattle.rtr_pdu.specs.declared.unit.UnitFault.{UnitFault}
 use Rattle.rtr_pdu.specs.declared.unit.UnitFault.TheVariants as faults
 use Rattle.rtr_pdu.specs.declared.version.Version.{Version}
-use Rattle.rtr_pdu.proofs.JudgingLaws as judging
 use Rattle.rtr_ends.specs.declared.link.End.{End}
 use Rattle.rtr_ends.specs.declared.link.End.TheVariants as ends
 use Rattle.rtr_ends.specs.Answer.{report, sent, sent_all}
-use Rattle.rtr_ends.specs.Cache.{finds_memory}
 use Rattle.rtr_ends.specs.Connection.{agreed_version, fault_code, fault_report}
-use Rattle.rtr_ends.specs.LinkRules.{Router, asking, commit, emptied, on_unit, reports, ended_by}
-use Rattle.rtr_ends.specs.Router.{RouterCall, Connects, Receives, Pulls, Closes, AsksNow, Ticks, Speaks, Receiving, asked_by, asks, asks_if, called, clocked, close, closed_at, connects_at, fault_end, played, reads, receives, router_byte, router_pulled, router_stops, ticks_at, with_bytes}
+use Rattle.rtr_ends.specs.LinkRules.{Router, ask, asking, commit, emptied, on_unit, reports, ended_by}
+use Rattle.rtr_ends.specs.Router.{RouterCall, Connects, Receives, Pulls, Speaks, asked_by, called, clocked, close, connects_at, fault_end, played, reads, router_pulled}
 use Rattle.rtr_ends.specs.RouterLaws.{HasSaid, RouterSays, SaysLast, is_cut, pulled_by, questions_in}
-use Rattle.rtr_ends.specs.RouterLink.{Link, Closed, Idle, Asked, Answering, Ended, is_due, is_idle, is_reading}
-use Rattle.rtr_ends.specs.Transcript.{Question, AskReset, AskSerial, Item, At, Reads, Shut, choose, later, of_version, query, retry_of, sum_of}
+use Rattle.rtr_ends.specs.RouterLink.{Link, Closed, Idle, Asked, Answering, Ended, is_idle, is_reading}
+use Rattle.rtr_ends.specs.Transcript.{Question, AskReset, AskSerial, Asks, Item, At, Reads, Shut, choose, later, of_version, query, retry_of, sum_of}
 use Rattle.rtr_ends.proofs.ByteLists.{drop_none}
-use Rattle.rtr_ends.proofs.Effects.{by_byte, by_clock, by_close, by_unit, by_whole, goes_so, put_by}
-use Rattle.rtr_ends.proofs.FeedingLaws.{feed_keeps}
-use Rattle.rtr_ends.proofs.KeptLaws.{not_due}
+use Rattle.rtr_ends.proofs.Effects.{by_clock, by_close, by_unit, by_whole, put_by}
+use Rattle.rtr_ends.proofs.CallSteps.{BytesKeep, StepsKeep, by_call, by_piece, idle_reads}
 use Rattle.rtr_ends.proofs.TableLaws.{false_true}
 
 -- the bytes of the question that a PDU made the router put
@@ -157,8 +154,7 @@ fault_says version agreed faults.Version bytes none = report_or_none version byt
 fault_says version agreed fault bytes none = report_or_none version bytes (is_kind kinds.ErrorReport bytes) (fault_code (agreed_version agreed version) fault)
 
 -- bytes, as they are judged
-bytes_say : (given : List ℕ) (memory : Bool) (bytes : List ℕ) (r : Router) (j : Judgement) (items : List Item) → (j ≡ Faulty faults.Truncated → ⊥) → is_reading r.link ≡ true → r.out ≡ [] → Says given r items
-    → Says given (with_bytes memory bytes r j).router ((with_bytes memory bytes r j).items ++ items)
+bytes_say : (given : List ℕ) → BytesKeep (Says given)
 bytes_say given memory bytes r Begins items some live none s =
     record { said = record { report = s.said.report; reported = s.said.reported; dropped = s.said.dropped; said = s.said.said; whole = s.said.whole }; idle = s.idle }
 bytes_say given memory bytes r (Faulty fault) items some live none s =
@@ -186,16 +182,6 @@ bytes_say given memory bytes r (Whole u) items some live none s = by_whole (λ n
       idle = λ k. false_true k;
     })
     (reads_says given u (record r { held = [] }) items live none (record { report = s.said.report; reported = s.said.reported; dropped = s.said.dropped; said = s.said.said; whole = s.said.whole }))
-
-never_truncated : (version : Version) (any : Bool) (bytes : List ℕ) → judge version any bytes ≡ Faulty faults.Truncated → ⊥
-never_truncated version any bytes e = (judging.faulty_exactly version any bytes faults.Truncated).0 e
-
-byte_says : (given : List ℕ) (items : List Item) (m : Receiving) (b : ℕ) → router_stops m.router ≡ false → Says given m.router (m.items ++ items) → Says given (router_byte m b).router ((router_byte m b).items ++ items)
-byte_says given items m b goes_on s =
-    let live = goes_so m.router goes_on in
-    by_byte (Says given) items m b
-    (bytes_say given (finds_memory m.wanting) (m.router.held ++ b ∷ []) m.router (judge m.router.spoken (not m.router.agreed) (m.router.held ++ b ∷ [])) (m.items ++ items)
-    (never_truncated m.router.spoken (not m.router.agreed) (m.router.held ++ b ∷ [])) live.0 live.1 s)
 
 -- A link is cut: what was not pulled is dropped. Nothing else is said.
 cuts : (given : List ℕ) (r n : Router) (items next : List Item) → n.out ≡ [] → n.spoken ≡ r.spoken → questions_in r.spoken next ≡ questions_in r.spoken items → is_idle n.link ≡ false → is_cut n.link ≡ true
@@ -235,22 +221,22 @@ close_says given r items s = by_close (λ n. Says given n (Shut ∷ items)) r
     (last_closed r.link r.spoken s.said.report s.said.reported))
 
 -- an idle link asks
-asks_say : (given : List ℕ) (l : Link) (r : Router) (items : List Item) (b : Bool) → r.link ≡ l → (is_idle l ≡ false → b ≡ false) → Says given r items → Says given (asks_if b r).router ((asks_if b r).items ++ items)
-asks_say given l r items false is idle s = s
-asks_say given Idle r items true is idle s =
-    let q : Question = choose (of_version r.spoken r.version) r.mark in
-    let out : List ℕ = sent r.spoken (query q) in
+asks_say : (given : List ℕ) (r : Router) (items : List Item) → is_idle r.link ≡ true → Says given r items → Says given (ask r) (Asks (choose (of_version r.spoken r.version) r.mark) ∷ items)
+asks_say given r items idle s =
+    let out : List ℕ = sent r.spoken (query (choose (of_version r.spoken r.version) r.mark)) in
     record {
       said = record {
         report = [];
         reported = refl;
         dropped = [];
-        said = ap (λ x. given ++ x) (append-nil out) ∙ ap (λ x. x ++ out) (given_all given r items Idle is refl (s.idle (ap is_idle is)) s.said) ∙ sym (append-nil (questions_in r.spoken items ++ out));
+        said = ap (λ x. given ++ x) (append-nil out) ∙ ap (λ x. x ++ out) (given_all given r items r.link refl (idle_reads r.link idle) (s.idle idle) s.said) ∙ sym (append-nil (questions_in r.spoken items ++ out));
         whole = λ k. refl;
       };
       idle = λ k. false_true k;
     }
-asks_say given _ r items true is idle s = false_true (sym (idle refl))
+
+steps_say : (given : List ℕ) → StepsKeep (Says given)
+steps_say given = record { clock = clocked_says given; closes = close_says given; asks_it = asks_say given }
 
 -- the bytes given after a call
 abbrev given_after : RouterCall → Router → List ℕ → List ℕ
@@ -259,14 +245,12 @@ given_after (Pulls most) r given = given ++ take most r.out
 given_after call r given = given
 
 called_says : (call : RouterCall) (given : List ℕ) (r : Router) (items : List Item) → Says given r items → Says (given_after call r given) (called call r).router ((called call r).items ++ items)
-unfolding connects_at closed_at ticks_at asks receives router_pulled
+unfolding connects_at router_pulled
 called_says (Connects now) given r items s = record {
   said = record { report = []; reported = refl; dropped = []; said = refl; whole = λ k. refl };
   idle = λ k. false_true k;
 }
-called_says (Receives now wanting piece) given r items s =
-    feed_keeps (λ (m : Receiving). router_stops m.router) router_byte (λ rest m. Says given m.router (m.items ++ items)) (λ b rest m goes_on h. byte_says given items m b goes_on h)
-    (record { router = clocked now r; items = At now ∷ []; wanting = wanting }) piece (clocked_says given now r items s)
+called_says (Receives now wanting piece) given r items s = by_piece (Says given) (steps_say given) (bytes_say given) now wanting piece r items s
 called_says (Pulls most) given r items s = record {
   said = record {
     report = s.said.report;
@@ -279,13 +263,7 @@ called_says (Pulls most) given r items s = record {
 }
 called_says (Speaks version) given r items s =
     record { said = record { report = s.said.report; reported = s.said.reported; dropped = s.said.dropped; said = s.said.said; whole = s.said.whole }; idle = s.idle }
-called_says (Closes now) given r items s = close_says given (clocked now r) (At now ∷ items) (clocked_says given now r items s)
-called_says AsksNow given r items s = asks_say given r.link r items (is_idle r.link) refl (λ h. h) s
-called_says (Ticks now) given r items s =
-    let n : Router = clocked now r in
-    let b : Bool = is_due n.link n.due n.now in
-    subst (λ x. Says given (asks_if b n).router x) (sym (append_assoc (asks_if b n).items (At now ∷ []) items))
-    (asks_say given n.link n (At now ∷ items) b refl (not_due n.link n.due n.now) (clocked_says given now r items s))
+called_says call given r items s = by_call (Says given) (steps_say given) call refl r items s
 
 given_is : (call : RouterCall) (calls : List RouterCall) → given_after call (played calls).router (pulled_by calls) ≡ pulled_by (call ∷ calls)
 given_is (Connects now) calls = refl
