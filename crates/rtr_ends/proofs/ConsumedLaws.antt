@@ -19,7 +19,7 @@ use Rattle.rtr_ends.proofs.KeptUnits.{Tells}
 use Rattle.rtr_ends.proofs.KeptLaws.{called_tells, clocked_tells, new_tells, steps_tell}
 use Rattle.rtr_ends.proofs.CallSteps.{StepsKeep, by_call, idle_reads}
 use Rattle.rtr_ends.proofs.TableLaws.{false_true}
-use Rattle.rtr_ends.proofs.ConsumedUnits.{Live, Split, Comes, live_splits, live_split, reading_open, bytes_come}
+use Rattle.rtr_ends.proofs.ConsumedUnits.{Live, Quiet, Split, Comes, live_splits, live_split, reading_open, bytes_come}
 
 -- a piece, byte by byte
 abbrev MComes : Receiving → List Item → List ℕ → Type 0
@@ -39,13 +39,6 @@ record Told (r n : Router) : Type 0 where
 
 clocked_told : (now : ℕ) (r : Router) → Told r (clocked now r)
 clocked_told now r = let k = clocked_keeps now r in record { held = k.held; reads = k.reads_on; closed = λ h. sym k.closed_on ∙ h; out = λ h. k.out }
-
--- what is noted of no PDU, no fault and no connection
-record Quiet (items later : List Item) : Type 0 where
-  pub units : units_read_in later ≡ units_read_in items
-  pub fault : fault_in later ≡ fault_in items
-  pub agreed : has_agreed later ≡ has_agreed items
-  pub version : spoken later ≡ spoken items
 
 quiet_split : (items later : List Item) (bytes : List ℕ) → Quiet items later → Split items bytes → Split later bytes
 quiet_split items later bytes q s = (s.0, subst (λ v. Splits v true bytes (units_read_in later) s.0 (fault_in later)) (sym q.version) (subst₂ (λ us f. Splits (spoken items) true bytes us s.0 f) (sym q.units) (sym q.fault) s.1))

@@ -20,12 +20,11 @@ use Rattle.rtr_ends.specs.LinkRules.{Router, on_unit}
 use Rattle.rtr_ends.specs.Router.{Noted, asked_by, reads, with_bytes}
 use Rattle.rtr_ends.specs.RouterLaws.{LinkTells}
 use Rattle.rtr_ends.specs.RouterLink.{Link, Closed, Asked, Ended, is_closed, is_reading}
-use Rattle.rtr_ends.specs.Transcript.{Question, Item, Asks, Reads, Lacks, has_agreed, is_connected, later, spoken}
+use Rattle.rtr_ends.specs.Transcript.{Item, Reads, Lacks, has_agreed, later, spoken}
 use Rattle.rtr_ends.proofs.ByteLists.{none_bytes, more_bytes}
 use Rattle.rtr_ends.proofs.Effects.{by_whole, unit_keeps, reading_open_so}
-use Rattle.rtr_ends.proofs.KeptUnits.{Tells, bytes_add, connected}
+use Rattle.rtr_ends.proofs.KeptUnits.{Tells, bytes_add}
 use Rattle.rtr_ends.proofs.TableLaws.{false_true}
-use Rattle.prefixes.proofs.Basics.{not_both}
 
 -- What a router that reads has consumed
 pub record Live (r : Router) (items : List Item) (bytes : List ℕ) : Type 0 where
@@ -67,15 +66,17 @@ agreed_of Closed agreed session table items live t = false_true live
 agreed_of (Ended end) agreed session table items live t = false_true live
 agreed_of _ agreed session table items live t = t.3
 
--- A closed link has no connection.
-closed_of : (l : Link) (agreed : Bool) (session : Option ℕ) (table : VrpSet) (items : List Item) → is_closed l ≡ true → LinkTells l agreed session table items → is_connected items ≡ false
-closed_of Closed agreed session table items c t = t.0
-closed_of _ agreed session table items c t = false_true c
+-- what is noted of no PDU, no fault and no connection
+pub record Quiet (items later : List Item) : Type 0 where
+  pub units : units_read_in later ≡ units_read_in items
+  pub fault : fault_in later ≡ fault_in items
+  pub agreed : has_agreed later ≡ has_agreed items
+  pub version : spoken later ≡ spoken items
 
--- A question that is noted leaves what does not look at questions.
-pub asked_leaves : {X : Type 0} (f : List Item → X) (l : Link) (out : List ℕ) (items : List Item) → ((q : Question) → f (Asks q ∷ items) ≡ f items) → f (asked_by l out ++ items) ≡ f items
-asked_leaves f (Asked q) (b ∷ out) items leaves = leaves q
-asked_leaves f _ _ items leaves = refl
+-- A question that is noted behind a PDU is none of that.
+pub asked_quiet : (l : Link) (out : List ℕ) (u : Unit) (items : List Item) → Quiet (Reads u ∷ items) ((asked_by l out ++ Reads u ∷ []) ++ items)
+asked_quiet (Asked q) (b ∷ out) u items = record { units = refl; fault = refl; agreed = refl; version = refl }
+asked_quiet _ _ u items = record { units = refl; fault = refl; agreed = refl; version = refl }
 
 -- A PDU agrees where it is no notify.
 agreed_more : (u : Unit) (items : List Item) → (not (has_agreed items) && is_notify u) ≡ not (has_agreed (Reads u ∷ items))
@@ -128,10 +129,10 @@ reads_come : (r : Router) (u : Unit) (items : List Item) (bytes : List ℕ) → 
     → Tells (reads u r).router ((reads u r).items ++ items) → Comes (reads u r).router ((reads u r).items ++ items) bytes
 reads_come r u items bytes none live before h any tells = record {
   tells = tells;
-  live = λ goes_on. read_live r n u items later bytes n_held h any us fs agreed vs;
-  split = unit_split u items later bytes h us fs vs;
+  live = λ goes_on. read_live r n u items later bytes n_held h any q.units q.fault q.agreed q.version;
+  split = unit_split u items later bytes h q.units q.fault q.version;
   none_held = λ c. n_held;
-  none_out = λ c. absurd (not_both (is_connected later) goes (closed_of n.link n.agreed n.session n.table later c tells.link));
+  none_out = λ c. false_true (sym ((unit_keeps r.link u r).connected (reading_open_so r.link live)) ∙ c);
 }
   where
     n : Router
@@ -140,26 +141,11 @@ reads_come r u items bytes none live before h any tells = record {
     later : List Item
     later = (asked_by n.link n.out ++ Reads u ∷ []) ++ items
 
-    later_is : later ≡ asked_by n.link n.out ++ Reads u ∷ items
-    later_is = append_assoc (asked_by n.link n.out) (Reads u ∷ []) items
+    q : Quiet (Reads u ∷ items) later
+    q = asked_quiet n.link n.out u items
 
     n_held : n.held ≡ []
-    n_held = (unit_held r.link u r).0 ∙ none
-
-    us : units_read_in later ≡ units_read_in items ++ u ∷ []
-    us = ap units_read_in later_is ∙ asked_leaves units_read_in n.link n.out (Reads u ∷ items) (λ q. refl)
-
-    fs : fault_in later ≡ fault_in items
-    fs = ap fault_in later_is ∙ asked_leaves fault_in n.link n.out (Reads u ∷ items) (λ q. refl)
-
-    agreed : has_agreed later ≡ has_agreed (Reads u ∷ items)
-    agreed = ap has_agreed later_is ∙ asked_leaves has_agreed n.link n.out (Reads u ∷ items) (λ q. refl)
-
-    vs : spoken later ≡ spoken items
-    vs = ap spoken later_is ∙ asked_leaves spoken n.link n.out (Reads u ∷ items) (λ q. refl)
-
-    goes : is_connected later ≡ true
-    goes = ap is_connected later_is ∙ asked_leaves is_connected n.link n.out (Reads u ∷ items) (λ q. refl) ∙ connected r.link r.agreed r.session r.table items (reading_open_so r.link live) before.link
+    n_held = (unit_keeps r.link u r).held ∙ none
 
 -- the next byte, as it is judged
 pub bytes_come : (memory : Bool) (b : ℕ) (r : Router) (items : List Item) (bytes : List ℕ) → b < 256 → is_reading r.link ≡ true → r.out ≡ [] → Tells r items → Live r items bytes
@@ -242,13 +228,10 @@ bytes_come memory b r items bytes byte live none t l =
         (record { kept_is = t.kept_is; due_is = t.due_is; now_is = t.now_is; spoken_is = t.spoken_is; link = t.link }) (unit_read u h) l.any_is tells)
         (added (Whole u))
 
-    so : (j : Judgement) → judge (spoken items) (not r.agreed) seen ≡ j → NowComes j → NowComes (judge (spoken items) (not r.agreed) seen)
-    so j e h = subst NowComes (sym e) h
-
     by_case : judging.Case (spoken items) (as_read (spoken items) (not r.agreed) seen) (judge (spoken items) (not r.agreed) seen) → NowComes (judge (spoken items) (not r.agreed) seen)
-    by_case (judging.begins e partial) = so Begins e (begins partial)
-    by_case (judging.shows fault e h) = so (Faulty fault) e (shows fault h)
+    by_case (judging.begins e partial) = rw e (begins partial)
+    by_case (judging.shows fault e h) = rw e (shows fault h)
     by_case (judging.whole e w sound) =
-        so (Whole (unit_in (spoken items) (as_read (spoken items) (not r.agreed) seen))) e
+        rw e
         (reads_it (unit_in (spoken items) (as_read (spoken items) (not r.agreed) seen))
         ((whole_exactly (spoken items) (not r.agreed) seen (unit_in (spoken items) (as_read (spoken items) (not r.agreed) seen)) each (next_size (spoken items) (not r.agreed) r.held b part w)).0 e))

@@ -1,18 +1,16 @@
 -- A router's questions are those that its transcript calls for.
-use Rattle.std.specs.Prelude.{◌≡◌, ◌⊎◌, ℕ, Bool, true, false, not, ◌&&◌, ◌||◌, ◌==◌, nat_lt, List, [], ◌∷◌, ◌++◌, Some, None, if◌then◌else◌, ⊤, refl}
+use Rattle.std.specs.Prelude.{◌≡◌, ◌⊎◌, ℕ, Bool, true, false, not, ◌&&◌, ◌||◌, ◌==◌, nat_lt, List, [], ◌∷◌, ◌++◌, Some, None, ⊤, refl}
 use Rattle.std.proofs.Common.{sym, ap, ◌∙◌, subst, append_assoc, inl, inr}
-use Rattle.prefixes.specs.Payload.{Payload}
-use Rattle.vrps.specs.VrpSet.{VrpSet, has, size}
+use Rattle.vrps.specs.VrpSet.{has, size}
 use Rattle.rtr_pdu.specs.Judging.{Begins, Whole, Faulty}
 use Rattle.rtr_pdu.specs.declared.unit.Unit.{Unit}
 use Rattle.rtr_pdu.specs.declared.unit.Unit.TheVariants.{Prefix, EndOfData, EndOfData0, CacheReset}
 use Rattle.rtr_ends.specs.Answer.{sent}
-use Rattle.rtr_ends.specs.LinkRules.{Router, Staged, Stays, Wrong, Over, asking, commit, fails, on_unit, stage, staged}
+use Rattle.rtr_ends.specs.LinkRules.{Router, asking, on_unit, staged}
 use Rattle.rtr_ends.specs.Router.{RouterCall, Connects, Receives, Pulls, Speaks, called, played, clocked, close, connects_at, router_pulled, asked_by, reads}
 use Rattle.rtr_ends.specs.RouterLaws.{RouterAsks, LinkTells}
 use Rattle.rtr_ends.specs.RouterLink.{Link, Closed, Idle, Asked, Answering, Ended, is_idle, is_reading}
-use Rattle.rtr_ends.specs.Timing.{Intervals, default_intervals}
-use Rattle.rtr_ends.specs.Transcript.{Question, AskReset, AskSerial, AsksRightly, Begun, Item, At, Opened, Reads, acts_once, acts_wrongly, base_of, bounded, choose, does_commit, is_among, kept, later, led_to, marked, next_question, of_version, query, spoken, under_way}
+use Rattle.rtr_ends.specs.Transcript.{Question, AskReset, AskSerial, AsksRightly, Begun, Item, At, Opened, Reads, acts_once, acts_wrongly, base_of, choose, does_commit, is_among, kept, later, led_to, marked, next_question, of_version, query, spoken, under_way}
 use Rattle.rtr_ends.proofs.Effects.{acts, by_clock, by_close, by_unit, by_whole, either, put_by}
 use Rattle.rtr_ends.proofs.KeptUnits.{Tells, bytes_add, holds}
 use Rattle.rtr_ends.proofs.KeptLaws.{called_tells, clocked_tells, new_tells, steps_tell}
@@ -25,10 +23,8 @@ MarkTells r items = (r.version ≡ None) ⊎ (marked items ≡ r.mark)
 
 choose_same : (r : Router) (items : List Item) → kept items ≡ holds r → spoken items ≡ r.spoken → MarkTells r items
     → choose (of_version r.spoken r.version) r.mark ≡ choose (of_version (spoken items) (kept items).version) (marked items)
-choose_same r items k s (inl none) =
-    ap (λ v. choose (of_version r.spoken v) r.mark) none
-    ∙ sym (ap (λ x. choose (of_version (spoken items) x.version) (marked items)) k ∙ ap (λ v. choose (of_version (spoken items) v) (marked items)) none)
-choose_same r items k s (inr e) = λ i. choose (of_version (sym s i) (sym k i).version) (sym e i)
+choose_same r items k s (inl none) = rw (s, k, none)
+choose_same r items k s (inr e) = rw (s, k, e)
 
 -- the question that a PDU made a router put
 abbrev Puts : Unit → Router → Link → List ℕ → Type 0
@@ -88,49 +84,21 @@ mark_stays (EndOfData session serial refresh retry expire) items w = ap (λ o. n
 mark_stays (EndOfData0 session serial) items w = ap (λ o. not (does_commit o session (kept items).table) && marked items) w
 mark_stays _ items w = refl
 
--- How a record acts tells whether the mark is set.
-abbrev IsMarked : Staged → Bool → Type 0
-IsMarked (Wrong code) b = b ≡ true
-IsMarked st b = b ≡ false
-
-record_marks : (table : VrpSet) (a : Begun) (announce : Bool) (v : Payload) → IsMarked (stage (base_of a.question table) a announce v) (acts_wrongly (Some a) table announce v)
-record_marks table a false v =
-    let acts_so : Bool = has (base_of a.question table) v && not (is_among v a.withdrawn) in
-    either (λ s. IsMarked s (not acts_so)) acts_so _ _ (λ is. ap not is) (λ is. ap not is)
-record_marks table a true v =
-    let known : Bool = has (base_of a.question table) v || is_among v a.announced in
-    either (λ s. IsMarked s known) known _ _ (λ is. is) (λ new. either (λ s. IsMarked s known) (nat_lt 16777215 (size (led_to (base_of a.question table) a.withdrawn (v ∷ a.announced)))) _ _ (λ over. new) (λ fits. new))
-
--- a mark that a record leaves
-left_so : (b : Bool) (r : Router) (items later : List Item) → b ≡ false → marked later ≡ (b || marked items) → MarkTells r items → MarkTells r later
-left_so b r items later k e (inl n) = inl n
-left_so b r items later k e (inr h) = inr (e ∙ ap (λ x. x || marked items) k ∙ h)
-
-staged_asks : (u : Unit) (st : Staged) (b : Bool) (r : Router) (items later : List Item) → r.out ≡ [] → IsMarked st b → marked later ≡ (b || marked items) → MarkTells r items → UnitAsks u (staged u st r) later
-staged_asks u (Stays a) b r items later none k e m = quiet u (record r { link = Answering a }) later none (left_so b r items later k e m)
-staged_asks u (Wrong code) b r items later none k e m = record { mark = inr (e ∙ ap (λ x. x || marked items) k); puts = tt }
-staged_asks u Over b r items later none k e m = record { mark = left_so b r items later k e m; puts = tt }
-
--- an End of Data in an answer
-end_asks : (a : Begun) (u : Unit) (session serial : ℕ) (t : Intervals) (r : Router) (items : List Item) → r.out ≡ [] → under_way items ≡ Some a → kept items ≡ holds r
-    → acts_once (base_of a.question r.table) a.withdrawn a.announced ≡ true
-    → marked (Reads u ∷ items) ≡ (not (does_commit (under_way items) session (kept items).table) && marked items)
-    → After u (if session == a.session then commit a (record { version = r.spoken; session = session; serial = serial; moment = r.now; intervals = t }) r else fails u r) items
-end_asks a u session serial t r items none w k once n =
-    let done : Router = commit a (record { version = r.spoken; session = session; serial = serial; moment = r.now; intervals = t }) r in
-    either (λ x. After u x items) (session == a.session) done (fails u r)
-    (λ same. quiet u done (Reads u ∷ items) none (inr (n ∙ (λ i. not (does_commit (w i) session (k i).table) && marked items) ∙ (λ i. not (same i && once i) && marked items))))
-    (λ other. record { mark = inl refl; puts = tt })
-
 answering_asks : (a : Begun) (u : Unit) (r : Router) (items : List Item) → r.out ≡ [] → under_way items ≡ Some a → kept items ≡ holds r → acts_once (base_of a.question r.table) a.withdrawn a.announced ≡ true → MarkTells r items
     → After u (on_unit (Answering a) u r) items
 unfolding on_unit
-answering_asks a (Prefix announce v) r items none w k once m =
-    staged_asks (Prefix announce v) (stage (base_of a.question r.table) a announce v) (acts_wrongly (Some a) r.table announce v) r items (Reads (Prefix announce v) ∷ items) none (record_marks r.table a announce v)
-    (λ i. acts_wrongly (w i) (k i).table announce v || marked items) m
-answering_asks a (EndOfData session serial refresh retry expire) r items none w k once m =
-    end_asks a (EndOfData session serial refresh retry expire) session serial (bounded refresh retry expire) r items none w k once refl
-answering_asks a (EndOfData0 session serial) r items none w k once m = end_asks a (EndOfData0 session serial) session serial default_intervals r items none w k once refl
+answering_asks a (Prefix false v) r items none w k once m =
+    either (λ s. After (Prefix false v) (staged (Prefix false v) s r) items) (has (base_of a.question r.table) v && not (is_among v a.withdrawn)) _ _
+    (λ one. record { mark = rw (w, k, one) m; puts = tt }) (λ wrong. record { mark = inr (rw (w, k, wrong)); puts = tt })
+answering_asks a (Prefix true v) r items none w k once m =
+    either (λ s. After (Prefix true v) (staged (Prefix true v) s r) items) (has (base_of a.question r.table) v || is_among v a.announced) _ _
+    (λ wrong. record { mark = inr (rw (w, k, wrong)); puts = tt })
+    (λ new. either (λ s. After (Prefix true v) (staged (Prefix true v) s r) items) (nat_lt 16777215 (size (led_to (base_of a.question r.table) a.withdrawn (v ∷ a.announced)))) _ _
+    (λ much. record { mark = rw (w, k, new) m; puts = tt }) (λ fits. record { mark = rw (w, k, new) m; puts = tt }))
+answering_asks a (EndOfData session serial refresh retry expire) r items none w k once m = either (λ n. After (EndOfData session serial refresh retry expire) n items) (session == a.session) _ _
+    (λ own. record { mark = inr (rw (w, k, own, once)); puts = tt }) (λ other. record { mark = inl refl; puts = tt })
+answering_asks a (EndOfData0 session serial) r items none w k once m = either (λ n. After (EndOfData0 session serial) n items) (session == a.session) _ _
+    (λ own. record { mark = inr (rw (w, k, own, once)); puts = tt }) (λ other. record { mark = inl refl; puts = tt })
 answering_asks a u r items none w k once m = quiet_asks (Answering a) u r items refl refl none m
 
 unit_asks : (l : Link) (u : Unit) (r : Router) (items : List Item) → is_reading l ≡ true → r.out ≡ [] → kept items ≡ holds r → LinkTells l r.agreed r.session r.table items → MarkTells r items → After u (on_unit l u r) items
