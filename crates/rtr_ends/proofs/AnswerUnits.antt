@@ -1,5 +1,5 @@
 -- What a cache sends are PDUs that can be sent.
-use Rattle.std.proofs.Common.{◌≡◌, ℕ, suc, zero, ◌+◌, ◌*◌, ◌/◌, ◌%◌, ◌<◌, ◌≤◌, ◌^◌, ◌==◌, Bool, true, false, List, [], ◌∷◌, ◌++◌, map, length, take, min, Option, Some, None, if◌then◌else◌, refl, subst, arith}
+use Rattle.std.proofs.Common.{◌≡◌, ℕ, suc, zero, ◌+◌, ◌*◌, ◌/◌, ◌%◌, ◌<◌, ◌^◌, ◌==◌, Bool, true, false, List, [], ◌∷◌, ◌++◌, map, length, take, Option, Some, None, if◌then◌else◌, refl, subst, arith}
 use Rattle.std.specs.Int.{byte_at}
 use Rattle.std.specs.List.{AllByRecursion, All}
 use Rattle.std.proofs.lemmas.List.{length-take}
@@ -18,13 +18,10 @@ use Rattle.rtr_pdu.specs.Payloads.{AreBytes}
 use Rattle.rtr_pdu.specs.Stream.{type_of}
 use Rattle.rtr_pdu.specs.Unit.{IsUnit, IsUnitOf}
 use Rattle.rtr_pdu.specs.declared.unit.Unit.{Unit}
-use Rattle.rtr_pdu.specs.declared.unit.Unit.TheVariants.{SerialNotify, SerialQuery, ResetQuery, CacheResponse, Prefix, EndOfData, EndOfData0, CacheReset, RouterKey, ErrorReport}
+use Rattle.rtr_pdu.specs.declared.unit.Unit.TheVariants.{SerialQuery, ResetQuery, Prefix, RouterKey, ErrorReport}
 use Rattle.rtr_pdu.specs.declared.unit.UnitFault.{UnitFault}
 use Rattle.rtr_pdu.specs.declared.unit.UnitFault.TheVariants as faults
 use Rattle.rtr_pdu.proofs.ReadLaws.{AreBytes-take}
-use Rattle.rtr_pdu.specs.Kind.{fixed_len}
-use Rattle.rtr_pdu.specs.Version.{version_number}
-use Rattle.rtr_pdu.specs.declared.kind.Kind.TheVariants as kinds
 use Rattle.rtr_pdu.proofs.VersionLaws.{is_byte}
 use Rattle.rtr_pdu.specs.declared.version.Version.{Version}
 use Rattle.rtr_pdu.specs.declared.version.Version.TheVariants.{V0, V1}
@@ -58,36 +55,22 @@ from_bytes : (bytes : List ℕ) → AreBytes bytes → Bytes bytes
 from_bytes [] h = tt
 from_bytes (b ∷ bytes) h = (h 0, from_bytes bytes (λ i. h (suc i)))
 
-header_bytes : (version : Version) (kind field size : ℕ) → kind < 256 → Bytes (version_number version ∷ kind ∷ big_bytes 2 field ++ big_bytes 4 size)
-header_bytes version kind field size h = (is_byte version, (h, all_both (λ b. b < 256) (big_bytes 2 field) (big_bytes 4 size) (number 2 field) (number 4 size)))
-
-headed : (version : Version) (kind field size : ℕ) (more : List ℕ) → kind < 256 → Bytes more → Bytes ((version_number version ∷ kind ∷ big_bytes 2 field ++ big_bytes 4 size) ++ more)
-headed version kind field size more h k = all_both (λ b. b < 256) (version_number version ∷ kind ∷ big_bytes 2 field ++ big_bytes 4 size) more (header_bytes version kind field size h) k
-
 flag_low : (b : Bool) → (if b then 1 else 0) + 2 * 0 < 256
 flag_low true = omega arith
 flag_low false = omega arith
 
 prefix_bytes : (version : Version) (announce : Bool) (p : IpPrefix) (max_len asn : ℕ) → IsPayload (record { prefix = p; max_len = max_len; asn = asn }) → Bytes (sent version (Prefix announce (record { prefix = p; max_len = max_len; asn = asn })))
 prefix_bytes version announce (V4 p) max_len asn h =
-    headed version 4 0 20 (((if announce then 1 else 0) + 2 * 0) ∷ p.len ∷ max_len ∷ 0 ∷ big_bytes 4 p.addr ++ big_bytes 4 asn) (omega arith)
-    (flag_low announce, (omega (arith, h.not_shorter, h.in_family), (omega (arith, h.in_family), (omega arith, all_both (λ b. b < 256) (big_bytes 4 p.addr) (big_bytes 4 asn) (number 4 p.addr) (number 4 asn)))))
+    let low : (p.len < 256) × (max_len < 256) = (omega (arith, h.not_shorter, h.in_family), omega (arith, h.in_family)) in search (arith, low_byte, is_byte, flag_low, low.0, low.1) parts 40
 prefix_bytes version announce (V6 p) max_len asn h =
-    headed version 6 0 32 (((if announce then 1 else 0) + 2 * 0) ∷ p.len ∷ max_len ∷ 0 ∷ big_bytes 16 p.addr ++ big_bytes 4 asn) (omega arith)
-    (flag_low announce, (omega (arith, h.not_shorter, h.in_family), (omega (arith, h.in_family), (omega arith, all_both (λ b. b < 256) (big_bytes 16 p.addr) (big_bytes 4 asn) (number 16 p.addr) (number 4 asn)))))
+    let low : (p.len < 256) × (max_len < 256) = (omega (arith, h.not_shorter, h.in_family), omega (arith, h.in_family)) in search (arith, low_byte, is_byte, flag_low, low.0, low.1) parts 40
 
 -- an Error Report of these bytes
 report_fit : (code : ℕ) (copy : List ℕ) → code < 2 ^ 16 → AreBytes copy → IsUnit (report code copy)
-report_fit code copy low each = (low, short (length (take 4080 copy)) (length-take 4080 copy), IsUtf8-nil, AreBytes-take 4080 copy each)
-  where
-    short : (n : ℕ) → n ≡ min 4080 (length copy) → n + 0 ≤ 4080
-    short n e = let m = min-le_left 4080 (length copy) in omega (arith, e, m)
+report_fit code copy low each = (low, omega (arith, length-take 4080 copy, min-le_left 4080 (length copy)), IsUtf8-nil, AreBytes-take 4080 copy each)
 
 report_of : (version : Version) (code : ℕ) (u : Unit) → code < 2 ^ 16 → Bytes (sent version u) → AllByRecursion (IsUnitOf version) (report code (sent version u) ∷ [])
 report_of version code u low h = ((report_fit code (sent version u) low (as_bytes (sent version u) h), refl), tt)
-
-serial_bytes : (version : Version) (kind session serial : ℕ) → kind < 256 → Bytes ((version_number version ∷ kind ∷ big_bytes 2 session ++ big_bytes 4 12) ++ big_bytes 4 serial)
-serial_bytes version kind session serial h = headed version kind session 12 (big_bytes 4 serial) h (number 4 serial)
 
 -- records of a set
 records_fit : (version : Version) (announce : Bool) (vs : List Payload) → All IsPayload vs → AllByRecursion (IsUnitOf version) (map (λ v. Prefix announce v) vs)
@@ -112,7 +95,7 @@ AreVersions vs = AllByRecursion (λ (v : NumberedSet). (v.serial < 2 ^ 32) × Is
 
 module _ (version : Version) (session : ℕ) (low : session < 2 ^ 16) where
   whole_fit : (vs : List NumberedSet) → AreVersions vs → AllByRecursion (IsUnitOf version) (whole_answer version session default_intervals vs)
-  whole_fit [] h = report_of version 2 ResetQuery (omega arith) (header_bytes version 2 0 8 (omega arith))
+  whole_fit [] h = report_of version 2 ResetQuery (omega arith) (search (arith, low_byte, is_byte) parts 40)
   whole_fit (now ∷ older) h = response_fit version session now (announcements now.set) low h.0.0 (records_fit version true (listing now.set) h.0.1.payloads)
 
   step_fit : (now : NumberedSet) (before : Option NumberedSet) → now.serial < 2 ^ 32 → IsVrpSet now.set → ((v : NumberedSet) → before ≡ Some v → IsVrpSet v.set) → AllByRecursion (IsUnitOf version) (step_answer version session default_intervals now before)
@@ -136,7 +119,7 @@ module _ (version : Version) (session : ℕ) (low : session < 2 ^ 16) where
   taken_fits (suc n) (v ∷ vs) h = (h.0, taken_fits n vs h.1)
 
   serial_fit : (keep serial : ℕ) (vs : List NumberedSet) → AreVersions vs → AllByRecursion (IsUnitOf version) (serial_answer version session keep default_intervals serial vs)
-  serial_fit keep serial [] h = report_of version 2 (SerialQuery session serial) (omega arith) (serial_bytes version 1 session serial (omega arith))
+  serial_fit keep serial [] h = report_of version 2 (SerialQuery session serial) (omega arith) (search (arith, low_byte, is_byte) parts 40)
   serial_fit keep serial (now ∷ older) h = step_fit now (with_serial serial (now ∷ take keep older)) h.0.0 h.0.1 (found_fits serial (now ∷ take keep older) (h.0, taken_fits keep older h.1))
 
 versions_fit : (start : ℕ) (sets : List VrpSet) → AllByRecursion IsVrpSet sets → AreVersions (versions_from start sets)
@@ -154,22 +137,13 @@ answer_fit version i keep (SerialQuery session serial) is h = by_test (session =
   where
     by_test : (b : Bool) → AllByRecursion (IsUnitOf version) (if b then and_on (serial_answer version (session_in version i) keep default_intervals serial (versions i)) else and_end (report 0 (sent version (SerialQuery session serial)) ∷ [])).units
     by_test true = serial_fit version (session_in version i) (session_low version i is) keep serial (versions i) (versions_fit i.start i.sets is.sets)
-    by_test false = report_of version 0 (SerialQuery session serial) (omega arith) (serial_bytes version 1 session serial (omega arith))
+    by_test false = report_of version 0 (SerialQuery session serial) (omega arith) (search (arith, low_byte, is_byte) parts 40)
 answer_fit version i keep (ErrorReport r) is h = tt
-answer_fit version i keep (SerialNotify session serial) is h = report_of version 3 (SerialNotify session serial) (omega arith) (serial_bytes version 0 session serial (omega arith))
-answer_fit version i keep (CacheResponse session) is h = report_of version 3 (CacheResponse session) (omega arith) (header_bytes version 3 session 8 (omega arith))
 answer_fit version i keep (Prefix announce v) is h = report_of version 3 (Prefix announce v) (omega arith) (prefix_bytes version announce v.prefix v.max_len v.asn h)
-answer_fit version i keep (EndOfData session serial refresh retry expire) is h =
-    report_of version 3 (EndOfData session serial refresh retry expire) (omega arith)
-    (headed version 7 session (fixed_len version kinds.EndOfData) (big_bytes 4 serial ++ big_bytes 4 refresh ++ big_bytes 4 retry ++ big_bytes 4 expire) (omega arith)
-    (all_both (λ b. b < 256) (big_bytes 4 serial) (big_bytes 4 refresh ++ big_bytes 4 retry ++ big_bytes 4 expire) (number 4 serial)
-    (all_both (λ b. b < 256) (big_bytes 4 refresh) (big_bytes 4 retry ++ big_bytes 4 expire) (number 4 refresh) (all_both (λ b. b < 256) (big_bytes 4 retry) (big_bytes 4 expire) (number 4 retry) (number 4 expire)))))
-answer_fit version i keep (EndOfData0 session serial) is h =
-    report_of version 3 (EndOfData0 session serial) (omega arith) (headed version 7 session (fixed_len version kinds.EndOfData) (big_bytes 4 serial) (omega arith) (number 4 serial))
-answer_fit version i keep CacheReset is h = report_of version 3 CacheReset (omega arith) (header_bytes version 8 0 8 (omega arith))
 answer_fit version i keep (RouterKey k) is h =
     report_of version 3 (RouterKey k) (omega arith)
-    (is_byte version, (omega arith, (flag_low k.announce, (omega arith, all_both (λ b. b < 256) (big_bytes 4 (32 + length k.info)) (k.identifier ++ big_bytes 4 k.asn ++ k.info) (number 4 (32 + length k.info)) (all_both (λ b. b < 256) (k.identifier ++ big_bytes 4 k.asn) k.info (all_both (λ b. b < 256) k.identifier (big_bytes 4 k.asn) (from_bytes k.identifier h.3) (number 4 k.asn)) (from_bytes k.info h.4))))))
+    (search (arith, low_byte, is_byte, flag_low, number, all_both (λ b. b < 256), from_bytes, h.3, h.4) parts 40)
+answer_fit version i keep u is h = report_of version 3 u (omega arith) (search (arith, low_byte, is_byte) parts 40)
 
 -- The report on a fault
 code_low : (agreed : Option Version) (fault : UnitFault) → fault_code agreed fault < 2 ^ 16

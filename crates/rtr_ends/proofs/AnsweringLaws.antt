@@ -1,5 +1,5 @@
 -- What the answers of a connection are.
-use Rattle.std.proofs.Common.{◌≡◌, ℕ, ◌==◌, Bool, true, false, not, ◌&&◌, List, [], ◌∷◌, ◌++◌, length, take, Option, Some, None, option_map, if◌then◌else◌, refl, sym, ap, ◌∙◌, subst, arith}
+use Rattle.std.proofs.Common.{◌≡◌, ℕ, ◌==◌, Bool, true, false, not, List, [], ◌∷◌, ◌++◌, length, take, Option, Some, None, option_map, if◌then◌else◌, refl, sym, ap, ◌∙◌, subst, arith}
 use Rattle.std.proofs.lemmas.Bool.Decides.{nat_tests}
 use Rattle.vrps.specs.Instance.{Instance, NumberedSet, versions, versions_from, with_serial}
 use Rattle.vrps.specs.Store.{Known, NoData, Unknown, since, step_from}
@@ -10,7 +10,7 @@ use Rattle.rtr_pdu.specs.declared.unit.Unit.{Unit}
 use Rattle.rtr_pdu.specs.declared.unit.Unit.TheVariants.{SerialQuery, ResetQuery, ErrorReport}
 use Rattle.rtr_pdu.specs.declared.version.Version.{Version}
 use Rattle.rtr_pdu.specs.declared.version.Version.TheVariants.{V0, V1}
-use Rattle.rtr_ends.specs.Answer.{and_on, and_end, announcements, answer, report, response, sent, sent_all, serial_answer, session_in, step_answer, withdrawals}
+use Rattle.rtr_ends.specs.Answer.{and_end, announcements, answer, report, response, sent, sent_all, serial_answer, session_in, step_answer, withdrawals}
 use Rattle.rtr_ends.specs.Connection.{is_published, takes_memory}
 use Rattle.rtr_ends.specs.Peer.{SendsReply, EndsConnection, Knows, no_memory, read_reply, since_reply}
 use Rattle.rtr_ends.specs.Sender.{Sends, Stays, StaysBut, newest_of, own_session, session_by}
@@ -90,11 +90,6 @@ module _ (keep : ℕ) (t : Intervals) (i : Instance) where
   with_memory : (version : Version) (u : Unit) → read_reply version keep t i true u ≡ answer version i keep t u
   with_memory version u = ap (λ b. if b then no_memory else answer version i keep t u) (and-false (takes_memory version i u))
 
-  same_session : (version : Version) (session serial : ℕ) → (session == session_in version i) ≡ true
-      → answer version i keep t (SerialQuery session serial) ≡ and_on (serial_answer version (session_in version i) keep t serial (versions i))
-  same_session version session serial h =
-      ap (λ b. if b then and_on (serial_answer version (session_in version i) keep t serial (versions i)) else and_end (report 0 (sent version (SerialQuery session serial)) ∷ [])) h
-
   abbrev pub Serial : ℕ → ℕ → Peer → Peer → Type 0
   Serial session serial old new = (memory : Bool) × SendsReply t i (read_reply old.sender.version keep t i memory (SerialQuery session serial)) old new
 
@@ -111,8 +106,8 @@ module _ (keep : ℕ) (t : Intervals) (i : Instance) where
       some_published (Some v) h e = published_some i v h
 
       by_memory : (session == session_in old.sender.version i) ≡ true → is_published i ≡ true → (memory : Bool) → read_reply old.sender.version keep t i memory (SerialQuery session serial) ≡ since_reply old.sender.version keep t i memory serial
-      by_memory test published true = with_memory old.sender.version (SerialQuery session serial) ∙ same_session old.sender.version session serial test
-      by_memory test published false = λ j. if (test j && published j) && not false then no_memory else answer old.sender.version i keep t (SerialQuery session serial)
+      by_memory test published true = rw (and-false (takes_memory old.sender.version i (SerialQuery session serial)), test)
+      by_memory test published false = rw (test, published)
 
   abbrev pub Unitwise : Unit → Peer → Peer → Type 0
   Unitwise u old new = (memory : Bool) × SendsReply t i (read_reply old.sender.version keep t i memory u) old new

@@ -9,11 +9,11 @@ use Rattle.vrps.specs.Serial.{serial_at}
 use Rattle.vrps.specs.Store.{is_current, published}
 use Rattle.vrps.specs.Stores.{newest}
 use Rattle.vrps.specs.VrpSet.{VrpSet}
-use Rattle.rtr_ends.specs.Cache.{Conn, can_notify, conn_notified, conn_pulled, conn_takes}
-use Rattle.rtr_ends.specs.CacheState.{AllHaveRoom, Brings, CacheState, can_notify_at, conn_consumed, due_at, GivesBytes, HandsOut, is_wanted_at, IsLeastFree, joined, notified, OffersAt, Opens, peer_at, ShowsCache, ShowsSlot, TakesPiece, unboxed, with_conn, taken_numbers}
+use Rattle.rtr_ends.specs.Cache.{Conn, can_notify, conn_notified}
+use Rattle.rtr_ends.specs.CacheState.{AllHaveRoom, Brings, CacheState, can_notify_at, GivesBytes, HandsOut, is_wanted_at, IsLeastFree, joined, notified, OffersAt, Opens, peer_at, ShowsCache, ShowsSlot, TakesPiece, unboxed, with_conn, taken_numbers}
 use Rattle.rtr_ends.specs.Numbers.{AreFree, TakesNumber}
 use Rattle.rtr_ends.specs.Peer.{HasBufferRoom, Pulls, Receives, ShowsPeer, held_by_peer}
-use Rattle.rtr_ends.specs.Sender.{PullsBytes, numbered_of}
+use Rattle.rtr_ends.specs.Sender.{numbered_of}
 use Rattle.rtr_ends.specs.Timing.{Intervals}
 use Rattle.std.specs.declared.alloc.AllocError.{AllocError}
 use Rattle.rtr_ends.specs.declared.cache.Cache.{Cache}
@@ -28,6 +28,21 @@ use Rattle.rtr_ends.proofs.TableLaws.{inside}
 -- what stands under a number that is set
 pub with_conn_at : (c : ℕ) (o : Option Conn) (m : CacheState) → (with_conn c o m).at c ≡ o
 with_conn_at c o m = ap (λ b. if b then o else m.at c) (eq_self c)
+
+-- A number that is set to what it has is as it was, and one that is set twice is what it was set to last.
+pub same_conn : (c : ℕ) (o : Option Conn) (m : CacheState) → m.at c ≡ o → with_conn c o m ≡ m
+same_conn c o m is = λ i. record m { at = λ d. by_test d (d == c) refl i }
+  where
+    by_test : (d : ℕ) (b : Bool) → (d == c) ≡ b → (if b then o else m.at d) ≡ m.at d
+    by_test d true e = sym (ap m.at (eq_of d c e) ∙ is)
+    by_test d false e = refl
+
+pub conn_twice : (c : ℕ) (x y : Option Conn) (m : CacheState) → with_conn c x (with_conn c y m) ≡ with_conn c x m
+conn_twice c x y m = λ i. record m { at = λ d. by_test d (d == c) i }
+  where
+    by_test : (d : ℕ) (b : Bool) → (if b then x else if b then y else m.at d) ≡ (if b then x else m.at d)
+    by_test d true = refl
+    by_test d false = refl
 
 -- what is found
 pub record Found (t : Intervals) (i : Instance) (a : Option Conn) (p : Peer) : Type 0 where
@@ -126,42 +141,33 @@ pub slot_none : {A : Type 0} (peers : List (Option (Box Peer A))) (c : ℕ) (cel
 slot_none peers c cell low at is =
     (ap (λ s. unboxed (joined s)) (slice_get_read peers (length peers) c cell refl low at) ∙ ap unboxed is, ap (slice_set peers c) at ∙ set-get_or peers c cell)
 
+-- What leaves the connections of a cache leaves what it shows.
+shows_same : {S : Type 0} (holds : ℕ → Instance → S → Type 0) (m : CacheState) (old new : Cache S) → ShowsCache holds m old → new.timing ≡ old.timing → new.session0 ≡ old.session0 → new.store ≡ old.store → new.peers.items ≡ old.peers.items
+    → AreFree (taken_numbers old.peers.items) new.free → ShowsCache holds m new
+shows_same holds m old new shows same_timing same_session0 same_store items numbers = record {
+  timing = same_timing ∙ shows.timing;
+  session0 = same_session0 ∙ shows.session0;
+  store = rw same_store shows.store;
+  slots = λ d. rw items (shows.slots d);
+  numbers = rw items numbers;
+}
+
 -- Where a number has no connection, nothing changes.
 module _ {S : Type 0} (holds : ℕ → Instance → S → Type 0) (m : CacheState) (old new : Cache S) (c : ℕ) (shows : ShowsCache holds m old) (same_timing : new.timing ≡ old.timing) (same_session0 : new.session0 ≡ old.session0) (same_store : new.store ≡ old.store) (same_free : new.free ≡ old.free) (none : peer_at old.peers.items c ≡ None) (items : new.peers.items ≡ old.peers.items) where
   nobody : m.at c ≡ None
   nobody = none_shown m.timing m.cache (m.at c) (peer_at old.peers.items c) none (shows.slots c)
 
   pub keeps_none : (o : Option Conn) → o ≡ None → ShowsCache holds (with_conn c o m) new
-  keeps_none o is = record {
-    timing = same_timing ∙ shows.timing;
-    session0 = same_session0 ∙ shows.session0;
-    store = subst (λ s. holds m.keep m.cache s) (sym same_store) shows.store;
-    slots = λ d. subst (λ a. ShowsSlot m.timing m.cache a (peer_at new.peers.items d)) (sym (same d)) (subst (λ peers. ShowsSlot m.timing m.cache (m.at d) (peer_at peers d)) (sym items) (shows.slots d));
-    numbers = subst (λ free. AreFree (taken_numbers new.peers.items) free) (sym same_free) (subst (λ peers. AreFree (taken_numbers peers) old.free) (sym items) shows.numbers);
-  }
-    where
-      same : (d : ℕ) → (with_conn c o m).at d ≡ m.at d
-      same d = elim (cases_Bool (d == c)) [
-        | inl h ↦ ap (λ b. if b then o else m.at d) h ∙ is ∙ sym (ap m.at (eq_of d c h) ∙ nobody)
-        | inr h ↦ ap (λ b. if b then o else m.at d) h
-      ]
+  keeps_none o is = rw (same_conn c o m (nobody ∙ sym is)) (shows_same holds m old new shows same_timing same_session0 same_store items (rw same_free shows.numbers))
 
   pub takes_nothing : (piece : List ℕ) → TakesPiece holds m c piece 0 new
-  takes_nothing piece =
-      let F : Conn → Conn = λ o. (conn_takes m.keep m.timing m.cache None piece o).machine.conn in
-      record { wanting = None; wanted = tt; shows = keeps_none (option_map F (m.at c)) (ap (option_map F) nobody); result_is = sym (ap (conn_consumed None piece m) nobody) }
+  takes_nothing piece = record { wanting = None; wanted = tt; shows = keeps_none _ (rw nobody); result_is = rw nobody }
 
   pub gives_nothing : (out : List ℕ) → GivesBytes holds m c out 0 out new
-  gives_nothing out =
-      let F : Conn → Conn = conn_pulled m.keep m.timing (length out) in
-      record {
-        gives = subst (λ a. PullsBytes (due_at (m.at c)) out 0 out (due_at a)) (sym (with_conn_at c (option_map F (m.at c)) m))
-            (subst (λ a. PullsBytes (due_at a) out 0 out (due_at (option_map F a))) (sym nobody) (record { count_is = omega arith; now_is = refl; rest_is = refl }));
-        shows = keeps_none (option_map F (m.at c)) (ap (option_map F) nobody);
-      }
+  gives_nothing out = record { gives = rw (with_conn_at c _ m, nobody) (record { count_is = omega arith; now_is = refl; rest_is = refl }); shows = keeps_none _ (rw nobody) }
 
   pub notifies_nobody : (false ≡ can_notify_at m.cache (m.at c)) × ShowsCache holds (notified c m) new
-  notifies_nobody = let F : Conn → Conn = conn_notified m.keep m.timing m.cache in (sym (ap (can_notify_at m.cache) nobody), keeps_none (option_map F (m.at c)) (ap (option_map F) nobody))
+  notifies_nobody = (rw nobody, keeps_none _ (rw nobody))
 
 module _ {S : Type 0} (holds : ℕ → Instance → S → Type 0) (m : CacheState) (old new : Cache S) (c : ℕ) (shows : ShowsCache holds m old) (low : c < length old.peers.items) (same_timing : new.timing ≡ old.timing) (same_session0 : new.session0 ≡ old.session0) (same_store : new.store ≡ old.store) where
   -- one connection is another now, or none
@@ -185,32 +191,21 @@ module _ {S : Type 0} (holds : ℕ → Instance → S → Type 0) (m : CacheStat
     pub takes_piece : (piece : List ℕ) (result : ℕ) → ((o : Conn) → ShowsPeer m.timing m.cache o p → Receives m.keep m.timing m.cache o piece result b.value) → TakesPiece holds m c piece result new
     takes_piece piece result receives =
         let r = receives there.conn there.shows in
-        let F : Conn → Conn = λ o. (conn_takes m.keep m.timing m.cache r.wanting piece o).machine.conn in
         record {
           wanting = r.wanting;
           wanted = by_wanting r.wanting (λ unit. subst (λ a. is_wanted_at piece m a unit ≡ true) (sym there.is)) r.wanted;
-          shows = sets (option_map F (m.at c)) (Some b) items numbers (subst (λ a. ShowsSlot m.timing m.cache (option_map F a) (Some b.value)) (sym there.is) r.shows);
-          result_is = subst (λ a. result ≡ conn_consumed r.wanting piece m a) (sym there.is) r.consumed_is;
+          shows = sets _ (Some b) items numbers (rw there.is r.shows);
+          result_is = rw there.is r.consumed_is;
         }
 
     pub gives_bytes : (out : List ℕ) (result : ℕ) (now : List ℕ) → ((o : Conn) → ShowsPeer m.timing m.cache o p → Pulls m.keep m.timing m.cache o out result now b.value) → GivesBytes holds m c out result now new
     gives_bytes out result now pulls =
         let r = pulls there.conn there.shows in
-        let F : Conn → Conn = conn_pulled m.keep m.timing (length out) in
-        record {
-          gives = subst (λ a. PullsBytes (due_at (m.at c)) out result now (due_at a)) (sym (with_conn_at c (option_map F (m.at c)) m))
-              (subst (λ a. PullsBytes (due_at a) out result now (due_at (option_map F a))) (sym there.is) r.gives);
-          shows = sets (option_map F (m.at c)) (Some b) items numbers (subst (λ a. ShowsSlot m.timing m.cache (option_map F a) (Some b.value)) (sym there.is) r.shows);
-        }
+        record { gives = rw (with_conn_at c _ m, there.is) r.gives; shows = sets _ (Some b) items numbers (rw there.is r.shows) }
 
     pub notifies : (result : Bool) → ((o : Conn) → ShowsPeer m.timing m.cache o p → (result ≡ can_notify m.cache o) × ShowsPeer m.timing m.cache (conn_notified m.keep m.timing m.cache o) b.value)
         → (result ≡ can_notify_at m.cache (m.at c)) × ShowsCache holds (notified c m) new
-    notifies result told =
-        let r = told there.conn there.shows in
-        let F : Conn → Conn = conn_notified m.keep m.timing m.cache in (
-          subst (λ a. result ≡ can_notify_at m.cache a) (sym there.is) r.0,
-          sets (option_map F (m.at c)) (Some b) items numbers (subst (λ a. ShowsSlot m.timing m.cache (option_map F a) (Some b.value)) (sym there.is) r.1),
-        )
+    notifies result told = let r = told there.conn there.shows in (rw there.is r.0, sets _ (Some b) items numbers (rw there.is r.1))
 
 -- Each connection that is shown has room.
 pub all_have_room : {S : Type 0} (holds : ℕ → Instance → S → Type 0) (m : CacheState) (cache : Cache S) → ShowsCache holds m cache → AllHaveRoom cache
@@ -283,13 +278,7 @@ next_free holds m old n free r shows is high takes =
 pub opens_none : {S : Type 0} (holds : ℕ → Instance → S → Type 0) (m : CacheState) (old new : Cache S) (r : Result Number AllocError) → IsErr r → ShowsCache holds m old → new.timing ≡ old.timing → new.session0 ≡ old.session0 → new.store ≡ old.store → new.peers.items ≡ old.peers.items
     → AreFree (taken_numbers old.peers.items) new.free → Opens holds m r new
 opens_none holds m old new (Ok conn) is shows same_timing same_session0 same_store items numbers = absurd (let k : false ≡ true = is in cc)
-opens_none holds m old new (Err e) is shows same_timing same_session0 same_store items numbers = record {
-  timing = same_timing ∙ shows.timing;
-  session0 = same_session0 ∙ shows.session0;
-  store = subst (λ s. holds m.keep m.cache s) (sym same_store) shows.store;
-  slots = λ d. subst (λ peers. ShowsSlot m.timing m.cache (m.at d) (peer_at peers d)) (sym items) (shows.slots d);
-  numbers = subst (λ peers. AreFree (taken_numbers peers) new.free) (sym items) numbers;
-}
+opens_none holds m old new (Err e) is shows same_timing same_session0 same_store items numbers = shows_same holds m old new shows same_timing same_session0 same_store items numbers
 
 -- One connection has a share of a newer version.
 pub offers_at : (old : List (Option (Box Peer Global))) (c : ℕ) (share : Share) (p : Peer) (b : Box Peer Global) → c < length old → peer_at old c ≡ Some p
@@ -340,22 +329,13 @@ module _ {X : Type 0} (f : X → VrpSet) (serial : ℕ) (start : List (Option (B
     taken = o.taken ∙ h.taken;
     count = omega (arith, h.count, ap length cut, length-append rest (x ∷ []));
     sets = λ set all. (last_set f set rest x (subst (λ l. AllByRecursion (λ s. s ≡ set) (map f l)) cut (h.sets set all))).0;
-    done = done;
+    done = λ set all c low. elim (cases_eq c n) [
+      | inl same ↦ (let last : f x ≡ set = (last_set f set rest x (subst (λ l. AllByRecursion (λ s. s ≡ set) (map f l)) cut (h.sets set all))).1 in
+          rw (same, ← h.left n (omega arith)) (rw (serial_is, set_is ∙ last) at o.here))
+      | inr other ↦ rw (o.others c other) (h.done set all c (omega (arith, low, other)))
+    ];
     left = λ c low. o.others c (λ e. absurd (omega (arith, e, low))) ∙ h.left c (omega (arith, low));
   }
-    where
-      done : (set : VrpSet) → AllByRecursion (λ s. s ≡ set) (map f given) → (c : ℕ) → c < n + 1 → Brings (record { serial = serial; set = set }) (peer_at start c) (peer_at now c)
-      done set all c low = elim (cases_eq c n) [ inl same ↦ here same | inr other ↦ there other ]
-        where
-          here : c ≡ n → Brings (record { serial = serial; set = set }) (peer_at start c) (peer_at now c)
-          here e =
-              let last : f x ≡ set = (last_set f set rest x (subst (λ l. AllByRecursion (λ s. s ≡ set) (map f l)) cut (h.sets set all))).1 in
-              let is : numbered_of share ≡ record { serial = serial; set = set } = λ j. record { serial = serial_is j; set = (set_is ∙ last) j } in
-              subst (λ k. Brings (record { serial = serial; set = set }) (peer_at start k) (peer_at now k)) (sym e)
-              (subst (λ q. Brings (record { serial = serial; set = set }) q (peer_at now n)) (h.left n (omega arith)) (subst (λ v. Brings v (peer_at peers n) (peer_at now n)) is o.here))
-
-          there : (c ≡ n → ⊥) → Brings (record { serial = serial; set = set }) (peer_at start c) (peer_at now c)
-          there e = subst (λ q. Brings (record { serial = serial; set = set }) (peer_at start c) q) (sym (o.others c e)) (h.done set all c (omega (arith, low, e)))
 
   pub handed_all : (n : ℕ) (peers : List (Option (Box Peer Global))) (shares : List X) → length start ≤ n → IsHandedOut f serial start given n peers shares → HandsOut start serial (map f given) peers
   handed_all n peers shares end h = (

@@ -1,5 +1,5 @@
 -- One connection of a cache over a reader and a writer, from call to call.
-use Rattle.std.proofs.Common.{◌≡◌, ◌⊎◌, ℕ, ◌+◌, ◌-◌, ◌*◌, ◌^◌, ◌<◌, ◌≤◌, ◌==◌, Bool, true, false, not, ◌||◌, min, List, [], ◌∷◌, ◌++◌, length, take, drop, Option, Some, None, Result, Ok, Err, option_map, if◌then◌else◌, refl, sym, ap, ◌∙◌, subst, arith, append_assoc, inl, inr}
+use Rattle.std.proofs.Common.{◌≡◌, ◌⊎◌, ℕ, ◌+◌, ◌-◌, ◌*◌, ◌^◌, ◌<◌, ◌≤◌, true, false, not, ◌||◌, min, List, [], ◌∷◌, ◌++◌, length, take, drop, Option, Some, None, Result, Ok, Err, option_map, refl, sym, ap, ◌∙◌, subst, arith, append_assoc, inl, inr}
 use Rattle.std.proofs.Math.Seq.{drop-nil, take-add, take-append-add}
 use Rattle.std.proofs.lemmas.Bool.{cases_eq, cases_lt}
 use Rattle.std.proofs.lemmas.List.{append-nil, length-append, take-append-drop, take-append-le, length-take-le, take_all}
@@ -13,7 +13,7 @@ use Rattle.rtr_pdu.specs.Device.{GoesOutInPart}
 use Rattle.rtr_pdu.specs.Payloads.{AreBytes}
 use Rattle.rtr_pdu.specs.declared.device.WriteFailed.{WriteFailed as Failed}
 use Rattle.rtr_ends.specs.Cache.{ConnCall, Conn, Gives as Pulled, IsConnCall, IsServed, Notifies, Publishes, Takes, Taking, conn_byte, conn_pulled, conn_stops, conn_takes, is_none}
-use Rattle.rtr_ends.specs.CacheState.{CacheState, GivesBytes, ShowsCache, ShowsSlot, TakesPiece, conn_consumed, due_at, is_open_at, peer_at, with_conn}
+use Rattle.rtr_ends.specs.CacheState.{CacheState, GivesBytes, ShowsCache, TakesPiece, conn_consumed, due_at, is_open_at, with_conn}
 use Rattle.rtr_ends.specs.Sender.{PullsBytes}
 use Rattle.rtr_ends.specs.ServeStream.{AllOut, Answered, EndedAs, EndsSo, IsTurn, Partly, ReadsWithin, ServesConnection, Waits, ended_within, is_within, stood}
 use Rattle.rtr_ends.specs.Timing.{Intervals}
@@ -22,11 +22,11 @@ use Rattle.rtr_ends.specs.declared.serving.Served.{Served}
 use Rattle.rtr_ends.specs.declared.serving.Served.TheVariants.{PeerClosed, Truncated, CacheEnded, Limit}
 use Rattle.rtr_ends.specs.declared.streams.StreamFault.{StreamFault}
 use Rattle.rtr_ends.specs.declared.streams.StreamFault.TheVariants.{ReadFailed, WriteFailed, Memory}
-use Rattle.rtr_ends.proofs.CacheStateLaws.{with_conn_at}
+use Rattle.rtr_ends.proofs.CacheStateLaws.{conn_twice, same_conn, with_conn_at}
 use Rattle.rtr_ends.proofs.FeedingLaws.{none_fed}
 use Rattle.rtr_ends.proofs.ServingLaws.{serves_history}
 use Rattle.rtr_ends.proofs.TableLaws.{false_true}
-use Rattle.prefixes.proofs.Basics.{eq_of, false_of_not, true_of_not}
+use Rattle.prefixes.proofs.Basics.{false_of_not, true_of_not}
 use Rattle.std.proofs.Math.Bool.{or-false}
 
 -- A call is counted, or it is not made.
@@ -105,19 +105,11 @@ module _ {S : Type 0} (holds : ℕ → Instance → S → Type 0) (m : CacheStat
 
   -- what is set twice is what it was set to last
   set_twice : (x y z : Option Conn) (cache : Cache S) → x ≡ z → ShowsCache holds (with_conn c x (with_conn c y m)) cache → ShowsCache holds (with_conn c z m) cache
-  set_twice x y z cache e shows = record { timing = shows.timing; session0 = shows.session0; store = shows.store; slots = λ d. by_test d (d == c) (shows.slots d); numbers = shows.numbers }
-    where
-      by_test : (d : ℕ) (b : Bool) → ShowsSlot m.timing m.cache (if b then x else if b then y else m.at d) (peer_at cache.peers.items d) → ShowsSlot m.timing m.cache (if b then z else m.at d) (peer_at cache.peers.items d)
-      by_test d true h = subst (λ a. ShowsSlot m.timing m.cache a (peer_at cache.peers.items d)) e h
-      by_test d false h = h
+  set_twice x y z cache e shows = rw (conn_twice c x y m, e) at shows
 
   -- A connection that is closed, and had not been open, leaves all as it was.
   pub closes : (calls : List ConnCall) (cache : Cache S) → m.at c ≡ None → ShowsCache holds (with_conn c None (standing calls)) cache → ShowsCache holds m cache
-  closes calls cache free shows = record { timing = shows.timing; session0 = shows.session0; store = shows.store; slots = λ d. by_test d (d == c) refl (shows.slots d); numbers = shows.numbers }
-    where
-      by_test : (d : ℕ) (b : Bool) → (d == c) ≡ b → ShowsSlot m.timing m.cache (if b then None else if b then Some (stood m calls).conn else m.at d) (peer_at cache.peers.items d) → ShowsSlot m.timing m.cache (m.at d) (peer_at cache.peers.items d)
-      by_test d true is h = subst (λ a. ShowsSlot m.timing m.cache a (peer_at cache.peers.items d)) (sym (ap m.at (eq_of d c is) ∙ free)) h
-      by_test d false is h = h
+  closes calls cache free shows = rw (conn_twice c None (Some (stood m calls).conn) m, same_conn c None m free) at shows
 
   module _ (calls : List ConnCall) (had has : Option (List ℕ)) (cache : Cache S) where
     -- Bytes are pulled, and go out.

@@ -1,5 +1,5 @@
 -- What records that are staged lead to, record by record.
-use Rattle.std.proofs.Common.{◌≡◌, ℕ, ◌+◌, ◌-◌, ◌≤◌, ◌<◌, Bool, true, false, not, ◌&&◌, ◌||◌, nat_lt, if◌then◌else◌, List, [], ◌∷◌, Some, Result, Ok, Err, IfOk, IsErrOf, refl, sym, ap, ◌∙◌, subst, arith}
+use Rattle.std.proofs.Common.{◌≡◌, ℕ, ◌+◌, ◌-◌, ◌≤◌, ◌<◌, Bool, true, false, not, ◌&&◌, ◌||◌, nat_lt, List, [], ◌∷◌, Some, Result, Ok, Err, IfOk, IsErrOf, refl, sym, ap, ◌∙◌, subst, arith}
 use Rattle.std.proofs.Math.Bool.{or-true, and-false}
 use Rattle.std.proofs.lemmas.Bool.Decides.{nat_tests}
 use Rattle.std.proofs.lemmas.Map.Views.{tells_apart}
@@ -12,10 +12,9 @@ use Rattle.vrps.specs.declared.set.SetFault.{SetFault}
 use Rattle.vrps.specs.declared.set.SetFault.TheVariants.{TooMany, Memory}
 use Rattle.vrps.proofs.SetLaws.{has-empty, has-set_of, has-union, has-with_member, has-without, same_set, same_vrp}
 use Rattle.rtr_ends.specs.RouterLink as linked
-use Rattle.rtr_ends.specs.LinkRules as rules
 use Rattle.rtr_ends.specs.LinkRules.{Router}
 use Rattle.rtr_ends.specs.Seen.{Does, IsStaged, ShowsRouter, begun_with, seen_question}
-use Rattle.rtr_ends.specs.Staging.{StagesRecord, GoesTo, LeadsToSet}
+use Rattle.rtr_ends.specs.Staging.{GoesTo, LeadsToSet}
 use Rattle.rtr_ends.specs.Transcript.{Begun, acts_once, base_of, is_among, led_to, may_announce, may_withdraw}
 use Rattle.rtr_ends.specs.declared.machine.Machine.{Machine}
 use Rattle.rtr_ends.specs.declared.machine.State.TheVariants as states
@@ -23,7 +22,7 @@ use Rattle.rtr_ends.specs.declared.question.Question.{Question}
 use Rattle.rtr_ends.specs.declared.staging.Staging.{Staging}
 use Rattle.rtr_ends.specs.declared.staging.Staged.TheVariants.{Stays, Wrong}
 use Rattle.rtr_ends.proofs.TableLaws.{acts_exactly, false_true}
-use Rattle.prefixes.proofs.Basics.{false_of_not, or_swap, true_of_not}
+use Rattle.prefixes.proofs.Basics.{lt_true, false_of_not, or_swap, true_of_not}
 use Rattle.vrps.proofs.Sizes.{size_le, size_more}
 
 -- what a staged set has
@@ -109,32 +108,16 @@ module _ (base : VrpSet) (b : Begun) (v : Payload) (s : Staging) (st : IsStaged 
   listed_announced : (found : Bool) → found ≡ has s.announced v → is_among v b.announced ≡ found
   listed_announced found is = sym (is ∙ ap (λ x. has x v) st.announced_are ∙ has-set_of b.announced v)
 
-  -- by the two tests
-  abbrev by_withdrawn : Bool → Bool → rules.Staged
-  by_withdrawn known listed = if known && not listed then rules.Stays (record b { withdrawn = v ∷ b.withdrawn }) else rules.Wrong 6
-
-  abbrev by_announced : Bool → Bool → rules.Staged
-  by_announced known listed =
-      if known || listed then rules.Wrong 7
-      else if nat_lt 16777215 (size (led_to base b.withdrawn (v ∷ b.announced))) then rules.Over
-      else rules.Stays (record b { announced = v ∷ b.announced })
-
   pub twice_withdrawn : (new : Staging) → has s.withdrawn v ≡ true → GoesTo base b false v (Ok (Wrong 6)) new
-  twice_withdrawn new found =
-      subst (λ x. StagesRecord base b x (Ok (Wrong 6)) new)
-      (sym (ap (λ l. by_withdrawn (has base v) l) (listed_withdrawn true (sym found))
-      ∙ ap (λ k. if k then rules.Stays (record b { withdrawn = v ∷ b.withdrawn }) else rules.Wrong 6) (and-false (has base v)))) refl
-
-  goes_withdrawn : has base v ≡ true → has s.withdrawn v ≡ false → rules.stage base b false v ≡ rules.Stays (record b { withdrawn = v ∷ b.withdrawn })
-  goes_withdrawn known fresh = λ i. by_withdrawn (known i) (listed_withdrawn false (sym fresh) i)
+  twice_withdrawn new found = rw (listed_withdrawn true (sym found), and-false (has base v)) refl
 
   pub lacks_withdrawn : (new : Staging) → has base v ≡ true → has s.withdrawn v ≡ false → GoesTo base b false v (Err Memory) new
-  lacks_withdrawn new known fresh = subst (λ x. StagesRecord base b x (Err Memory) new) (sym (goes_withdrawn known fresh)) tt
+  lacks_withdrawn new known fresh = rw (known, listed_withdrawn false (sym fresh)) tt
 
   pub stays_withdrawn : (set : VrpSet) (count : ℕ) → has base v ≡ true → has s.withdrawn v ≡ false → set ≡ with_member s.withdrawn v → count ≡ s.count - 1
       → GoesTo base b false v (Ok Stays) (record s { withdrawn = set; count = count })
   stays_withdrawn set count known fresh more less =
-      subst (λ x. StagesRecord base b x (Ok Stays) (record s { withdrawn = set; count = count })) (sym (goes_withdrawn known fresh)) (staged, refl, refl)
+      rw (known, unlisted) (staged, refl, refl)
     where
       unlisted : is_among v b.withdrawn ≡ false
       unlisted = listed_withdrawn false (sym fresh)
@@ -152,10 +135,7 @@ module _ (base : VrpSet) (b : Begun) (v : Payload) (s : Staging) (st : IsStaged 
       }
 
   pub twice_announced : (new : Staging) → has s.announced v ≡ true → GoesTo base b true v (Ok (Wrong 7)) new
-  twice_announced new found =
-      subst (λ x. StagesRecord base b x (Ok (Wrong 7)) new)
-      (sym (ap (λ l. by_announced (has base v) l) (listed_announced true (sym found))
-      ∙ ap (λ k. if k then rules.Wrong 7 else if nat_lt 16777215 (size (led_to base b.withdrawn (v ∷ b.announced))) then rules.Over else rules.Stays (record b { announced = v ∷ b.announced })) (or-true (has base v)))) refl
+  twice_announced new found = rw (listed_announced true (sym found), or-true (has base v)) refl
 
   module _ (out : has base v ≡ false) (fresh : has s.announced v ≡ false) where
     unlisted_so : is_among v b.announced ≡ false
@@ -164,24 +144,19 @@ module _ (base : VrpSet) (b : Begun) (v : Payload) (s : Staging) (st : IsStaged 
     more_so : size (led_to base b.withdrawn (v ∷ b.announced)) ≡ s.count + 1
     more_so = size_announced base b.withdrawn b.announced v out unlisted_so ∙ ap (λ n. n + 1) (sym st.count)
 
-    by_size : (full : Bool) → nat_lt 16777215 (s.count + 1) ≡ full → rules.stage base b true v ≡ (if full then rules.Over else rules.Stays (record b { announced = v ∷ b.announced }))
-    by_size full is =
-        (λ i. by_announced (out i) (unlisted_so i))
-        ∙ ap (λ t. if t then rules.Over else rules.Stays (record b { announced = v ∷ b.announced })) (ap (λ n. nat_lt 16777215 n) more_so ∙ is)
-
     pub over_announced : (new : Staging) → 16777215 ≤ s.count → GoesTo base b true v (Err TooMany) new
-    over_announced new full = subst (λ x. StagesRecord base b x (Err TooMany) new) (sym (by_size true (grind (arith, nat_tests)))) tt
+    over_announced new full = rw (out, unlisted_so, more_so, lt_true 16777215 (s.count + 1) (omega (arith, full))) tt
 
-    goes_announced : s.count < 16777215 → rules.stage base b true v ≡ rules.Stays (record b { announced = v ∷ b.announced })
-    goes_announced room = by_size false (grind (arith, nat_tests))
+    fits_so : s.count < 16777215 → nat_lt 16777215 (size (led_to base b.withdrawn (v ∷ b.announced))) ≡ false
+    fits_so room = rw more_so (grind (arith, nat_tests))
 
     pub lacks_announced : (new : Staging) → s.count < 16777215 → GoesTo base b true v (Err Memory) new
-    lacks_announced new room = subst (λ x. StagesRecord base b x (Err Memory) new) (sym (goes_announced room)) tt
+    lacks_announced new room = rw (out, unlisted_so, fits_so room) tt
 
     pub stays_announced : (set : VrpSet) (count : ℕ) → s.count < 16777215 → set ≡ with_member s.announced v → count ≡ s.count + 1
         → GoesTo base b true v (Ok Stays) (record s { announced = set; count = count })
     stays_announced set count room more one =
-        subst (λ x. StagesRecord base b x (Ok Stays) (record s { announced = set; count = count })) (sym (goes_announced room)) (staged, refl, refl)
+        rw (out, unlisted_so, fits_so room) (staged, refl, refl)
       where
         once : (w : Bool) → (w && may_announce base b.announced) ≡ true → (w && ((not (has base v) && not (is_among v b.announced)) && may_announce base b.announced)) ≡ true
         once w h = (λ i. w && ((not (out i) && not (unlisted_so i)) && may_announce base b.announced)) ∙ h
