@@ -1,5 +1,5 @@
 -- Lists of bytes, and parts of them.
-use Rattle.std.proofs.Common.{◌≡◌, ℕ, zero, suc, ◌-◌, ◌<◌, List, [], ◌∷◌, ◌++◌, length, take, drop, ◌∙◌, ap, arith, subst}
+use Rattle.std.proofs.Common.{◌≡◌, refl, ℕ, zero, suc, ◌-◌, ◌<◌, List, [], ◌∷◌, ◌++◌, length, take, drop, ◌∙◌, ap, arith, subst}
 use Rattle.std.proofs.Math.Seq.{drop-nil, take-append_seam}
 use Rattle.std.proofs.lemmas.List.{length-append}
 use Rattle.rtr_pdu.specs.Payloads.{AreBytes}
@@ -31,3 +31,8 @@ front_of piece taken rest e =
 -- nothing is left of nothing
 pub drop_none : (most : ℕ) (out : List ℕ) → out ≡ [] → drop most out ≡ []
 drop_none most out e = ap (drop most) e ∙ drop-nil most
+
+-- a list that cannot have an element
+pub no_rest : (xs : List ℕ) → (0 < length xs → ⊥) → xs ≡ []
+no_rest [] h = refl
+no_rest (x ∷ xs) h = absurd (h (omega arith))

@@ -45,14 +45,15 @@ module _ (P : Router → List Item → Type 0) where
     pub closes : (r : Router) (items : List Item) → P r items → P (close r) (Shut ∷ items)
     pub asks_it : (r : Router) (items : List Item) → is_idle r.link ≡ true → P r items → P (ask r) (Asks (choose (of_version r.spoken r.version) r.mark) ∷ items)
 
-  module _ (s : StepsKeep) where
-    -- A piece is handed in.
-    pub by_piece : BytesKeep → (now : ℕ) (wanting : Option ℕ) (piece : List ℕ) (r : Router) (items : List Item) → P r items → Kept (called (Receives now wanting piece) r) items
-    unfolding receives
-    by_piece keeps now wanting piece r items p =
-        feed_keeps (λ (m : Receiving). router_stops m.router) router_byte (λ rest m. P m.router (m.items ++ items)) (λ b rest m goes_on h. by_next keeps items m b goes_on h)
-        (record { router = clocked now r; items = At now ∷ []; wanting = wanting }) piece (s.clock now r items p)
+  -- A piece is handed in.
+  pub by_piece : ((now : ℕ) (r : Router) (items : List Item) → P r items → P (clocked now r) (At now ∷ items)) → BytesKeep → (now : ℕ) (wanting : Option ℕ) (piece : List ℕ) (r : Router) (items : List Item) → P r items
+      → Kept (called (Receives now wanting piece) r) items
+  unfolding receives
+  by_piece clock keeps now wanting piece r items p =
+      feed_keeps (λ (m : Receiving). router_stops m.router) router_byte (λ rest m. P m.router (m.items ++ items)) (λ b rest m goes_on h. by_next keeps items m b goes_on h)
+      (record { router = clocked now r; items = At now ∷ []; wanting = wanting }) piece (clock now r items p)
 
+  module _ (s : StepsKeep) where
     -- calls that do not look into it
     abbrev pub is_plain : RouterCall → Bool
     is_plain (Closes now) = true

@@ -1,19 +1,19 @@
 -- One connection of a router over a reader and a writer, from call to call.
 use Rattle.std.proofs.Common.{◌≡◌, ℕ, ◌+◌, ◌-◌, ◌*◌, ◌<◌, ◌≤◌, Bool, true, false, not, ◌&&◌, min, List, [], ◌∷◌, ◌++◌, length, take, drop, Option, Some, None, Result, Ok, Err, refl, sym, ap, ◌∙◌, subst, arith, append_assoc}
 use Rattle.std.proofs.Math.Seq.{take-add}
-use Rattle.std.proofs.lemmas.List.{append-nil, length-append, length-take, take-append-drop, take-append-le, take_all}
+use Rattle.std.proofs.lemmas.List.{append-nil, nil_from_length, take_at, length-append, length-take, take-append-drop}
 use Rattle.std.specs.List.{AllByRecursion}
 use Rattle.std.specs.Io.KnownBytes.{Appends, Consumes, IsAtEnd, Keeps}
 use Rattle.std.proofs.KnownBytes.{Appends-nil, Appends-trans, Consumes-kept, Consumes-nil, Consumes-trans}
 use Rattle.rtr_pdu.specs.Device.{GoesOutInPart}
-use Rattle.rtr_pdu.specs.Judging.{Judgement, Begins, Whole, Faulty, judge}
+use Rattle.rtr_pdu.specs.Judging.{Begins, Whole, Faulty}
 use Rattle.rtr_pdu.specs.Payloads.{AreBytes}
 use Rattle.rtr_pdu.specs.declared.device.WriteFailed.{WriteFailed as Failed}
-use Rattle.rtr_ends.specs.Cache.{finds_memory, is_none}
+use Rattle.rtr_ends.specs.Cache.{is_none}
 use Rattle.rtr_ends.specs.Consumed.{came}
 use Rattle.rtr_ends.specs.FetchStream.{AllAsked, Awaits, FetchEnds, FetchedAs, IsFetchCall, StillAsks, Taken, TakenPart, is_asking, pulled_by, reached_by, calls_since}
 use Rattle.rtr_ends.specs.LinkRules.{Router}
-use Rattle.rtr_ends.specs.Router.{RouterCall, Connects, Receives, Pulls, Receiving, clocked, connects_at, played, receives, router_byte, router_pulled, router_stops, with_bytes}
+use Rattle.rtr_ends.specs.Router.{RouterCall, Connects, Receives, Pulls, Receiving, clocked, connects_at, played, receives, router_byte, router_pulled, router_stops}
 use Rattle.rtr_ends.specs.RouterLink.{Link, Closed, Idle, Ended, is_closed, is_reading}
 use Rattle.rtr_ends.specs.RouterShown.{IsShown, CallsLead, LeadsOn, ReceivesSo}
 use Rattle.rtr_ends.specs.Transcript.{At}
@@ -22,22 +22,18 @@ use Rattle.rtr_ends.specs.declared.fetching.Fetched.TheVariants as outcomes
 use Rattle.rtr_ends.specs.declared.router.Router as code
 use Rattle.rtr_ends.specs.declared.streams.StreamFault.{StreamFault}
 use Rattle.rtr_ends.specs.declared.streams.StreamFault.TheVariants.{ReadFailed, WriteFailed}
-use Rattle.rtr_ends.proofs.Effects.{by_whole, clocked_keeps, goes_so, unit_keeps, reading_open_so}
-use Rattle.rtr_ends.proofs.FeedingLaws.{feed_keeps, none_fed}
+use Rattle.rtr_ends.proofs.Effects.{by_whole, clocked_keeps, unit_keeps, reading_open_so}
+use Rattle.rtr_ends.proofs.FeedingLaws.{none_fed}
+use Rattle.rtr_ends.proofs.CallSteps.{BytesKeep, by_piece}
 use Rattle.rtr_ends.proofs.ServeStreamLaws.{drop_none, part_after}
-use Rattle.rtr_ends.proofs.TableLaws.{false_true}
-use Rattle.prefixes.proofs.Basics.{all_both, false_of_not}
+use Rattle.rtr_ends.proofs.ByteLists.{no_rest}
+use Rattle.rtr_ends.proofs.TableLaws.{false_true, inside}
+use Rattle.prefixes.proofs.Basics.{all_both, false_of_not, not_both}
 use Rattle.std.proofs.Math.Bool.{and-true}
 
 -- What is pulled into room stands at its front.
 pub pulled_front : (out room now : List ℕ) (count : ℕ) → (count ≡ min (length room) (length out)) × (now ≡ take (length room) out ++ drop (length out) room) → take count now ≡ take (length room) out
-pulled_front out room now count h =
-    let l = length-take (length room) out in
-    ap (take count) h.1 ∙ take-append-le count (take (length room) out) (drop (length out) room) (omega (arith, l, h.0)) ∙ take_all count (take (length room) out) (omega (arith, l, h.0))
-
-none_out : (out room now : List ℕ) (count : ℕ) → (count ≡ min (length room) (length out)) × (now ≡ take (length room) out ++ drop (length out) room) → count ≡ 0 → 0 < length room → out ≡ []
-none_out [] room now count h none size = refl
-none_out (b ∷ out) room now count h none size = absurd (let c = h.0 in omega (arith, c, none, size))
+pulled_front out room now count h = ap (take count) h.1 ∙ take_at (take (length room) out) (drop (length out) room) count (length-take (length room) out ∙ sym h.0)
 
 -- A router that has nothing to be pulled, and takes nothing, puts nothing out; and reads no more where there was a piece.
 pub none_received : (now : ℕ) (wanting : Option ℕ) (piece : List ℕ) (r : Router) → r.out ≡ [] → 0 ≡ length piece - length (receives now wanting piece r).rest
@@ -52,24 +48,15 @@ none_received now wanting piece r out none =
 pub open_link : (l : Link) → is_reading l ≡ true → is_closed l ≡ false
 open_link l h = reading_open_so l h
 
-open_after : (memory : Bool) (bytes : List ℕ) (r : Router) (j : Judgement) → is_reading r.link ≡ true → is_closed (with_bytes memory bytes r j).router.link ≡ false
-open_after memory bytes r Begins h = open_link r.link h
-open_after memory bytes r (Faulty fault) h = refl
-open_after memory bytes r (Whole u) h = by_whole (λ n. is_closed n.router.link ≡ false) memory bytes r u refl ((unit_keeps r.link u (record r { held = [] })).connected (open_link r.link h))
-
-byte_open : (b : ℕ) (rest : List ℕ) (m : Receiving) → router_stops m.router ≡ false → is_closed m.router.link ≡ false → is_closed (router_byte m b).router.link ≡ false
-unfolding router_byte
-byte_open b rest m on h = open_after (finds_memory m.wanting) (m.router.held ++ b ∷ []) m.router (judge m.router.spoken (not m.router.agreed) (m.router.held ++ b ∷ [])) (goes_so m.router on).0
-
-receives_open : (now : ℕ) (wanting : Option ℕ) (piece : List ℕ) (r : Router) → is_closed r.link ≡ false → is_closed (receives now wanting piece r).machine.router.link ≡ false
-unfolding receives
-receives_open now wanting piece r h =
-    feed_keeps (λ m. router_stops m.router) router_byte (λ rest m. is_closed m.router.link ≡ false) byte_open (record { router = clocked now r; items = At now ∷ []; wanting = wanting }) piece ((clocked_keeps now r).closed_on ∙ h)
+open_after : BytesKeep (λ r items. is_closed r.link ≡ false)
+open_after memory bytes r Begins items some live none h = h
+open_after memory bytes r (Faulty fault) items some live none h = refl
+open_after memory bytes r (Whole u) items some live none h = by_whole (λ n. is_closed n.router.link ≡ false) memory bytes r u refl ((unit_keeps r.link u (record r { held = [] })).connected h)
 
 pub stays_open : (now : ℕ) (calls turns : List RouterCall) → AllByRecursion (IsFetchCall now) turns → is_closed (played (calls_since turns now calls)).router.link ≡ false
 unfolding connects_at router_pulled
 stays_open now calls [] h = refl
-stays_open now calls (Receives at wanting piece ∷ turns) h = receives_open at wanting piece (played (calls_since turns now calls)).router (stays_open now calls turns h.1)
+stays_open now calls (Receives at wanting piece ∷ turns) h = by_piece (λ r items. is_closed r.link ≡ false) (λ now r items open_so. (clocked_keeps now r).closed_on ∙ open_so) open_after at wanting piece (played (calls_since turns now calls)).router [] (stays_open now calls turns h.1)
 stays_open now calls (Pulls most ∷ turns) h = stays_open now calls turns h.1
 stays_open now calls _ h = absurd h.0
 
@@ -102,7 +89,8 @@ module _ (now : ℕ) (calls : List RouterCall) (had has : Option (List ℕ)) (ol
       → count ≡ 0 → 0 < length room → (q : TakenPart now calls piece had has new) × ((played (q.more ++ calls)).router.out ≡ [])
   unfolding pulls_more router_pulled
   pulls_none piece p room bytes count new on tells none size =
-      let out = none_out (played (p.more ++ calls)).router.out room bytes count (tells (played (p.more ++ calls)).router p.leads) none size in
+      let told = tells (played (p.more ++ calls)).router p.leads in
+      let out = nil_from_length (played (p.more ++ calls)).router.out (omega (arith, told.0, none, size)) in
       (pulls_more piece p room bytes count has new on tells (subst (λ n. Appends has has (take n bytes)) (sym none) (Appends-nil has)), ap (drop (length room)) out ∙ drop_none (length room))
 
   -- Bytes are handed in.
@@ -172,10 +160,6 @@ module _ (now : ℕ) (calls : List RouterCall) (had has : Option (List ℕ)) (ol
     takes_end stop =
         subst (λ x. Taken now calls x had has (Ok tt) new) (take-append-drop at piece)
         (receives_none now calls had has mid (take at piece) quiet.0 (drop at piece) taken new quiet.1 are (subst (λ x. ReceivesSo now x taken mid new) is so) stop)
-
-no_rest : (xs : List ℕ) (b : Bool) → b ≡ true → (0 < length xs → b ≡ false) → xs ≡ []
-no_rest [] b is h = refl
-no_rest (x ∷ xs) b is h = false_true (sym (h (omega arith)) ∙ is)
 
 module _ (now : ℕ) (calls : List RouterCall) (before : Option (List ℕ)) (had : Option (List ℕ)) where
   -- a router that was connected, all of whose bytes so far are consumed, and whose pulled bytes have gone out
@@ -251,45 +235,30 @@ module _ (now : ℕ) (calls : List RouterCall) (before : Option (List ℕ)) (had
       pub reached_there : (more : ℕ) (fetched : Fetched) → reads ≤ more → ((r : Router) → IsShown r router → Some fetched ≡ reached_by r.link r.no_data) → FetchedAs now calls before left more had has (Ok fetched) router
       reached_there more fetched most told = ends_after left more (Ok fetched) most w.consumed (by_link led_to.link led_to.no_data refl refl (told led_to w.leads))
         where
-          same : {x : Fetched} → Some fetched ≡ Some x → x ≡ fetched
-          same h = cc
-
-          none : ◌≡◌ {A = Option Fetched} (Some fetched) None → ⊥
-          none h = cc
-
           by_link : (l : Link) (b : Bool) → led_to.link ≡ l → led_to.no_data ≡ b → Some fetched ≡ reached_by l b → FetchEnds (calls_since w.turns now calls) w.unread left had has (Ok fetched)
-          by_link Idle true il ib h =
-              subst (λ x. FetchEnds (calls_since w.turns now calls) w.unread left had has (Ok x)) (same h) (w.asked, no_rest w.unread (is_reading led_to.link) (ap is_reading il) w.all_read, il, ib)
-          by_link Idle false il ib h =
-              subst (λ x. FetchEnds (calls_since w.turns now calls) w.unread left had has (Ok x)) (same h) (w.asked, no_rest w.unread (is_reading led_to.link) (ap is_reading il) w.all_read, il, ib)
-          by_link (Ended end) b il ib h = subst (λ x. FetchEnds (calls_since w.turns now calls) w.unread left had has (Ok x)) (same h) (w.asked, il)
-          by_link _ b il ib h = absurd (none h)
+          by_link Idle true il ib h = rw (inside h) (w.asked, no_rest w.unread (λ some. not_both (is_reading led_to.link) (ap is_reading il) (w.all_read some)), il, ib)
+          by_link Idle false il ib h = rw (inside h) (w.asked, no_rest w.unread (λ some. not_both (is_reading led_to.link) (ap is_reading il) (w.all_read some)), il, ib)
+          by_link (Ended end) b il ib h = rw (inside h) (w.asked, il)
+          by_link _ b il ib h = absurd (let e : ◌≡◌ {A = Option Fetched} (Some fetched) None = h in cc)
 
       -- One is.
       module _ (told : (r : Router) → IsShown r router → ◌≡◌ {A = Option Fetched} None (reached_by r.link r.no_data)) where
         asks : is_asking led_to.link ≡ true
         asks = by_link led_to.link led_to.no_data (stays_open now calls w.turns w.each) (told led_to w.leads)
           where
-            none : {x : Fetched} → ◌≡◌ {A = Option Fetched} None (Some x) → ⊥
-            none h = cc
-
             by_link : (l : Link) (b : Bool) → is_closed l ≡ false → ◌≡◌ {A = Option Fetched} None (reached_by l b) → is_asking l ≡ true
             by_link Closed b open_so h = false_true (sym open_so)
-            by_link Idle b open_so h = absurd (none h)
-            by_link (Ended end) b open_so h = absurd (none h)
+            by_link Idle b open_so h = absurd (let e : ◌≡◌ {A = Option Fetched} None (Some _) = h in cc)
+            by_link (Ended end) b open_so h = absurd (let e : ◌≡◌ {A = Option Fetched} None (Some (outcomes.Ended end)) = h in cc)
             by_link _ b open_so h = refl
 
-        reads_so : is_reading led_to.link ≡ true
-        reads_so = by_link led_to.link asks
-          where
-            by_link : (l : Link) → is_asking l ≡ true → is_reading l ≡ true
-            by_link Closed h = h
-            by_link Idle h = refl
-            by_link (Ended end) h = h
-            by_link _ h = refl
+        asking_reads : (l : Link) → is_asking l ≡ true → is_reading l ≡ true
+        asking_reads Closed h = h
+        asking_reads (Ended end) h = h
+        asking_reads _ h = refl
 
         pub all_consumed : w.unread ≡ []
-        all_consumed = no_rest w.unread (is_reading led_to.link) reads_so w.all_read
+        all_consumed = no_rest w.unread (λ some. not_both (is_reading led_to.link) (asking_reads led_to.link asks) (w.all_read some))
 
         still : StillAsks (calls_since w.turns now calls) w.unread
         still = (all_consumed, asks)

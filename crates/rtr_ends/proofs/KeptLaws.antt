@@ -114,7 +114,7 @@ unfolding connects_at router_pulled
 called_tells (Connects now) r items t =
     let c = clocked_tells now r items t in
     opened_tells (close (clocked now r)) (At now ∷ items) (choose (of_version (close (clocked now r)).speaks (close (clocked now r)).version) (close (clocked now r)).mark) (closing (clocked now r).link (clocked now r) (At now ∷ items) refl c c.link)
-called_tells (Receives now wanting piece) r items t = by_piece Tells steps_tell bytes_keep now wanting piece r items t
+called_tells (Receives now wanting piece) r items t = by_piece Tells clocked_tells bytes_keep now wanting piece r items t
 called_tells (Pulls most) r items t = record { kept_is = t.kept_is; due_is = t.due_is; now_is = t.now_is; spoken_is = t.spoken_is; link = t.link }
 called_tells (Speaks version) r items t = record { kept_is = t.kept_is; due_is = t.due_is; now_is = t.now_is; spoken_is = t.spoken_is; link = t.link }
 called_tells call r items t = by_call Tells steps_tell call refl r items t

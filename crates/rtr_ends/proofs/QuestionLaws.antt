@@ -220,7 +220,7 @@ called_chooses (Connects now) r items c =
       asked = (choose_same (record (close (clocked now r)) { spoken = (close (clocked now r)).speaks }) (Opened (close (clocked now r)).speaks ∷ At now ∷ items) tells.kept_is refl m, c.asked);
       not_reset = λ h. false_true h;
     }
-called_chooses (Receives now wanting piece) r items c = by_piece Chooses steps_choose bytes_choose now wanting piece r items c
+called_chooses (Receives now wanting piece) r items c = by_piece Chooses clocked_chooses bytes_choose now wanting piece r items c
 called_chooses (Pulls most) r items c = record { tells = called_tells (Pulls most) r items c.tells; mark = c.mark; asked = c.asked; not_reset = c.not_reset }
 called_chooses (Speaks version) r items c = record { tells = called_tells (Speaks version) r items c.tells; mark = c.mark; asked = c.asked; not_reset = c.not_reset }
 called_chooses call r items c = by_call Chooses steps_choose call refl r items c

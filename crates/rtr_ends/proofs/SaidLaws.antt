@@ -250,7 +250,7 @@ called_says (Connects now) given r items s = record {
   said = record { report = []; reported = refl; dropped = []; said = refl; whole = λ k. refl };
   idle = λ k. false_true k;
 }
-called_says (Receives now wanting piece) given r items s = by_piece (Says given) (steps_say given) (bytes_say given) now wanting piece r items s
+called_says (Receives now wanting piece) given r items s = by_piece (Says given) (clocked_says given) (bytes_say given) now wanting piece r items s
 called_says (Pulls most) given r items s = record {
   said = record {
     report = s.said.report;

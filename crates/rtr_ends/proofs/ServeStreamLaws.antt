@@ -1,8 +1,8 @@
 -- One connection of a cache over a reader and a writer, from call to call.
 use Rattle.std.proofs.Common.{◌≡◌, ◌⊎◌, ℕ, ◌+◌, ◌-◌, ◌*◌, ◌^◌, ◌<◌, ◌≤◌, true, false, not, ◌||◌, min, List, [], ◌∷◌, ◌++◌, length, take, drop, Option, Some, None, Result, Ok, Err, option_map, refl, sym, ap, ◌∙◌, subst, arith, append_assoc, inl, inr}
 use Rattle.std.proofs.Math.Seq.{drop-nil, take-add, take-append-add}
-use Rattle.std.proofs.lemmas.Bool.{cases_eq, cases_lt}
-use Rattle.std.proofs.lemmas.List.{append-nil, length-append, take-append-drop, take-append-le, length-take-le, take_all}
+use Rattle.std.proofs.lemmas.Bool.{cases_eq}
+use Rattle.std.proofs.lemmas.List.{append-nil, nil_from_length, take_at, take_min, length-append, take-append-drop, length-take-le}
 use Rattle.std.specs.List.{AllByRecursion}
 use Rattle.std.specs.Io.KnownBytes.{Appends, Consumes, IsAtEnd, Keeps}
 use Rattle.std.proofs.KnownBytes.{Appends-nil, Appends-trans, Consumes-kept, Consumes-nil, Consumes-trans}
@@ -23,6 +23,7 @@ use Rattle.rtr_ends.specs.declared.serving.Served.TheVariants.{PeerClosed, Trunc
 use Rattle.rtr_ends.specs.declared.streams.StreamFault.{StreamFault}
 use Rattle.rtr_ends.specs.declared.streams.StreamFault.TheVariants.{ReadFailed, WriteFailed, Memory}
 use Rattle.rtr_ends.proofs.CacheStateLaws.{conn_twice, same_conn, with_conn_at}
+use Rattle.rtr_ends.proofs.ByteLists.{no_rest}
 use Rattle.rtr_ends.proofs.FeedingLaws.{none_fed}
 use Rattle.rtr_ends.proofs.ServingLaws.{serves_history}
 use Rattle.rtr_ends.proofs.TableLaws.{false_true}
@@ -45,20 +46,9 @@ ends_in limit before now served ends least most = elim ends [
 
 -- What is pulled into a buffer stands at its front.
 pub pulled_is : (due out : List ℕ) (count : ℕ) (now rest : List ℕ) → PullsBytes due out count now rest → take count now ≡ take (length out) due
-pulled_is due out count now rest g = elim (cases_lt (length out) (length due)) [
-  | inl more ↦ (let n : count ≡ length out = omega (arith, g.count_is, more) in here (omega (arith, n, more)) ∙ ap (λ k. take k due) n)
-  | inr all ↦ (let n : count ≡ length due = omega (arith, g.count_is, all) in here (omega (arith, n)) ∙ take_all count due (omega (arith, n)) ∙ sym (take_all (length out) due all))
-]
-  where
-    here : count ≤ length due → take count now ≡ take count due
-    here fits =
-        let l = length-take-le count due fits in
-        ap (take count) g.now_is ∙ take-append-le count (take count due) (drop count out) (omega (arith, l)) ∙ take_all count (take count due) (omega (arith, l))
-
--- Nothing is due where nothing is pulled into room.
-none_due : (due out : List ℕ) (now rest : List ℕ) → PullsBytes due out 0 now rest → 0 < length out → due ≡ []
-none_due [] out now rest g room = refl
-none_due (b ∷ due) out now rest g room = absurd (let c = g.count_is in omega (arith, c, room))
+pulled_is due out count now rest g =
+    let fits : count ≤ length due = omega (arith, g.count_is) in
+    ap (take count) g.now_is ∙ take_at (take count due) (drop count out) count (length-take-le count due fits) ∙ ap (λ n. take n due) g.count_is ∙ take_min (length out) due
 
 pub drop_none : (n : ℕ) → drop {A = ℕ} n [] ≡ []
 drop_none n = drop-nil n
@@ -133,7 +123,7 @@ module _ {S : Type 0} (holds : ℕ → Instance → S → Type 0) (m : CacheStat
         → (q : Partly holds m c calls piece had has new) × ((stood m q.later).conn.state.due ≡ [])
     unfolding conn_pulled pulls_more
     pulls_none piece p room now new size g =
-        let due = none_due (due_at ((standing p.later).at c)) room now _ g.gives size in
+        let due = nil_from_length (due_at ((standing p.later).at c)) (let none = g.gives.count_is in omega (arith, none, size)) in
         let is : (stood m p.later).conn.state.due ≡ [] = sym (ap due_at (stood_at p.later)) ∙ due in
         (pulls_more piece p room now 0 has new g (Appends-nil has), (λ i. drop (min (length room) (length (stood m p.later).conn.state.due)) (is i)) ∙ drop_none (min (length room) (length (stood m p.later).conn.state.due)))
 
@@ -291,10 +281,6 @@ module _ {S : Type 0} (holds : ℕ → Instance → S → Type 0) (m : CacheStat
             goes_on = on;
             all_out = out_all a;
           }
-        where
-          no_rest : (xs : List ℕ) → (0 < length xs → ⊥) → xs ≡ []
-          no_rest [] h = refl
-          no_rest (x ∷ xs) h = absurd (h (omega arith))
 
     -- The input has ended.
     pub input_ends : (after : Option (List ℕ)) (served : Served) (count more : ℕ) (buf : List ℕ) → count ≡ 0 → reads ≤ more → 0 < length buf → Consumes left after (take count buf) × (count ≡ 0 → 0 < length buf → IsAtEnd after)

@@ -25,6 +25,7 @@ use Rattle.rtr_ends.specs.Connection.{Connection, ConnMoment, Read, Wanting, Fau
 use Rattle.rtr_ends.specs.Timing.{Intervals}
 use Rattle.rtr_ends.proofs.ByteLists.{drop_none, more_bytes, none_bytes}
 use Rattle.rtr_ends.proofs.FeedingLaws.{fed_keeps}
+use Rattle.rtr_ends.proofs.Effects.{either}
 use Rattle.rtr_ends.proofs.HistoryLaws.{pulled_are_replies, read_plainly}
 use Rattle.rtr_ends.proofs.TableLaws.{false_true}
 use Rattle.prefixes.proofs.Basics.{false_of_not}
@@ -63,13 +64,9 @@ module _ (keep : ℕ) (t : Intervals) where
       (come_longer c came more m r.0, (r.1.0 ++ more, ap (λ x. x ++ more) r.1.1 ∙ append_assoc (bytes_of m) r.1.0 more, runs_longer (conn_after keep t c m) later r.1.0 new held more r.1.2))
 
   -- with what is held, it is a history
-  runs_history : (c : Connection) (moments : List ConnMoment) (came held : List ℕ) (new : Connection) → Runs keep t c moments came new held → MayHold new held → IsHistory keep t c moments came
-  runs_history c [] came held new r h = subst (λ x. MayHold c x) (sym r.0) (subst (λ x. MayHold x held) r.1 h)
-  runs_history c (m ∷ later) came held new r h = (r.0, (r.1.0, r.1.1, runs_history (conn_after keep t c m) later r.1.0 held new r.1.2 h))
-
-  runs_after : (c : Connection) (moments : List ConnMoment) (came : List ℕ) (new : Connection) (held : List ℕ) → Runs keep t c moments came new held → new ≡ after_all keep t c moments
-  runs_after c [] came new held r = r.1
-  runs_after c (m ∷ later) came new held r = runs_after (conn_after keep t c m) later r.1.0 new held r.1.2
+  runs_history : (c : Connection) (moments : List ConnMoment) (came held : List ℕ) (new : Connection) → Runs keep t c moments came new held → MayHold new held → IsHistory keep t c moments came × (new ≡ after_all keep t c moments)
+  runs_history c [] came held new r h = (subst (λ x. MayHold c x) (sym r.0) (subst (λ x. MayHold x held) r.1 h), r.1)
+  runs_history c (m ∷ later) came held new r h = let more = runs_history (conn_after keep t c m) later r.1.0 held new r.1.2 h in ((r.0, (r.1.0, r.1.1, more.0)), more.1)
 
   -- what a moment pulls
   abbrev pulled_by : Connection → ConnMoment → List ℕ
@@ -99,13 +96,12 @@ module _ (keep : ℕ) (t : Intervals) where
 
   served : (i : Instance) (s : Serving) → Goes i s.conn s.moments s.came s.given → IsServed keep t i s
   served i s g =
-      let history = runs_history (opened i) s.moments s.came s.conn.held s.conn.state g.runs g.holds in
-      let state = runs_after (opened i) s.moments s.came s.conn.state s.conn.held g.runs in
+      let all = runs_history (opened i) s.moments s.came s.conn.held s.conn.state g.runs g.holds in
       record {
-        history = history;
-        state = state;
+        history = all.0;
+        state = all.1;
         given = g.given_is;
-        replies = (λ j. g.given_is j ++ (state j).due) ∙ pulled_are_replies keep t i s.moments s.came history;
+        replies = (λ j. g.given_is j ++ (all.1 j).due) ∙ pulled_are_replies keep t i s.moments s.came all.0;
       }
 
   -- nothing is held behind a moment
@@ -219,14 +215,11 @@ module _ (keep : ℕ) (t : Intervals) where
                   stands_moment m b came (Whole u) (Read version i u bytes) (ap (λ x. Some (if x then Wanting version i u bytes else Read version i u bytes)) e)
                   (tests.0, at_rest, is, s.later, (refl, h)) refl refl refl is (same_later i) s
 
-          so : (j : Judgement) → judge version false bytes ≡ j → Stands i before (next m b j) (came ++ b ∷ []) given → Stands i before (next m b (judge version false bytes)) (came ++ b ∷ []) given
-          so j e h = subst (λ x. Stands i before (next m b x) (came ++ b ∷ []) given) (sym e) h
-
           by_case : judging.Case version (as_read version false bytes) (judge version false bytes) → Stands i before (next m b (judge version false bytes)) (came ++ b ∷ []) given
-          by_case (judging.begins e partial) = so Begins e (begins e (subst (λ x. IsPartial version x) (read_plainly version bytes) partial))
-          by_case (judging.shows fault e h) = so (Faulty fault) e (shows fault (subst (λ x. Shows version x fault) (read_plainly version bytes) h))
+          by_case (judging.begins e partial) = rw e (begins e (subst (λ x. IsPartial version x) (read_plainly version bytes) partial))
+          by_case (judging.shows fault e h) = rw e (shows fault (subst (λ x. Shows version x fault) (read_plainly version bytes) h))
           by_case (judging.whole e w sound) =
-              so (Whole (unit_in version (as_read version false bytes))) e
+              rw e
               (reads (unit_in version (as_read version false bytes)) (subst (λ x. Reads version (unit_in version (as_read version false bytes)) x) (read_plainly version bytes)
               ((whole_exactly version false bytes (unit_in version (as_read version false bytes)) each (next_size version false m.conn.held b part w)).0 e)))
 
@@ -299,20 +292,13 @@ module _ (keep : ℕ) (t : Intervals) where
 
     -- what is published is later
     published_later : (c i : Instance) (set : VrpSet) → IsLater c i → IsLater c (published set i)
-    published_later c i set l = by_current (is_current i.sets set)
-      where
-        by_current : (b : Bool) → IsLater c (if b then i else record i { sets = set ∷ i.sets })
-        by_current true = l
-        by_current false = record { session = l.session; session0 = l.session0; start = l.start; more = set ∷ l.more; sets = ap (λ x. set ∷ x) l.sets }
+    published_later c i set l = either (IsLater c) (is_current i.sets set) i (record i { sets = set ∷ i.sets }) (λ known. l)
+        (λ new. record { session = l.session; session0 = l.session0; start = l.start; more = set ∷ l.more; sets = ap (λ x. set ∷ x) l.sets })
 
     pub record Served (s : Serving) : Type 0 where
       pub goes : Goes opened_at s.conn s.moments s.came s.given
       pub later : IsLater s.conn.state.cache s.cache
       pub cache : IsInstance s.cache
-
-    later_by : (i : Instance) (s : Serving) (b : Bool) → IsLater s.conn.state.cache i → IsLater (if b then record s.conn { state = conn_after keep t s.conn.state (Notify (speaks_in s.conn) i s.conn.held) } else s.conn).state.cache i
-    later_by i s true l = same_later i
-    later_by i s false l = l
 
     serve_served : (call : ConnCall) (s : Serving) → IsConnCall call → Served s → Served (serve keep t call s)
     unfolding conn_pulled conn_notified
@@ -322,7 +308,7 @@ module _ (keep : ℕ) (t : Intervals) where
     serve_served (Gives most) s fits h = record { goes = pulled_goes most s h.goes; later = h.later; cache = h.cache }
     serve_served Notifies s fits h = record {
       goes = notified_goes s.cache h.cache s h.later h.goes (can_notify s.cache s.conn) refl;
-      later = later_by s.cache s (can_notify s.cache s.conn) h.later;
+      later = either (λ (o : Conn). IsLater o.state.cache s.cache) (can_notify s.cache s.conn) _ _ (λ may. same_later s.cache) (λ not_so. h.later);
       cache = h.cache;
     }
 

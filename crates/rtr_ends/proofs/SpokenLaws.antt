@@ -54,7 +54,7 @@ called_tells (Connects now) calls t =
     let e = close_speaks (clocked now (played calls).router) ∙ (clocked_keeps now (played calls).router).speaks ∙ t.speaks in
     record { speaks = e; spoken = e }
 called_tells (Receives now wanting piece) calls t =
-    by_piece (Told (told_version calls) (connected_version calls)) (steps_tell (told_version calls) (connected_version calls)) (bytes_tell (told_version calls) (connected_version calls)) now wanting piece (played calls).router (played calls).items t
+    by_piece (Told (told_version calls) (connected_version calls)) (steps_tell (told_version calls) (connected_version calls)).clock (bytes_tell (told_version calls) (connected_version calls)) now wanting piece (played calls).router (played calls).items t
 called_tells (Pulls most) calls t = record { speaks = t.speaks; spoken = t.spoken }
 called_tells (Speaks version) calls t = record { speaks = refl; spoken = t.spoken }
 called_tells call calls t = by_call (Told (told_version calls) (connected_version calls)) (steps_tell (told_version calls) (connected_version calls)) call refl (played calls).router (played calls).items t
