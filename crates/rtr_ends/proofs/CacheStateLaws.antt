@@ -10,9 +10,9 @@ use Rattle.vrps.specs.Store.{is_current, published}
 use Rattle.vrps.specs.Stores.{newest}
 use Rattle.vrps.specs.VrpSet.{VrpSet}
 use Rattle.rtr_ends.specs.Cache.{Conn, can_notify, conn_notified}
-use Rattle.rtr_ends.specs.CacheState.{AllHaveRoom, Brings, CacheState, can_notify_at, GivesBytes, HandsOut, is_wanted_at, IsLeastFree, joined, notified, OffersAt, Opens, peer_at, ShowsCache, ShowsSlot, TakesPiece, unboxed, with_conn, taken_numbers}
+use Rattle.rtr_ends.specs.CacheState.{Brings, CacheState, can_notify_at, GivesBytes, HandsOut, is_wanted_at, IsLeastFree, joined, notified, OffersAt, Opens, peer_at, ShowsCache, ShowsSlot, TakesPiece, unboxed, with_conn, taken_numbers}
 use Rattle.rtr_ends.specs.Numbers.{AreFree, TakesNumber}
-use Rattle.rtr_ends.specs.Peer.{HasBufferRoom, Pulls, Receives, ShowsPeer, held_by_peer}
+use Rattle.rtr_ends.specs.Peer.{Pulls, Receives, ShowsPeer}
 use Rattle.rtr_ends.specs.Sender.{numbered_of}
 use Rattle.rtr_ends.specs.Timing.{Intervals}
 use Rattle.std.specs.declared.alloc.AllocError.{AllocError}
@@ -206,15 +206,6 @@ module _ {S : Type 0} (holds : ℕ → Instance → S → Type 0) (m : CacheStat
     pub notifies : (result : Bool) → ((o : Conn) → ShowsPeer m.timing m.cache o p → (result ≡ can_notify m.cache o) × ShowsPeer m.timing m.cache (conn_notified m.keep m.timing m.cache o) b.value)
         → (result ≡ can_notify_at m.cache (m.at c)) × ShowsCache holds (notified c m) new
     notifies result told = let r = told there.conn there.shows in (rw there.is r.0, sets _ (Some b) items numbers (rw there.is r.1))
-
--- Each connection that is shown has room.
-pub all_have_room : {S : Type 0} (holds : ℕ → Instance → S → Type 0) (m : CacheState) (cache : Cache S) → ShowsCache holds m cache → AllHaveRoom cache
-all_have_room holds m cache shows c = slot_has_room (m.at c) (peer_at cache.peers.items c) (shows.slots c)
-  where
-    slot_has_room : (a : Option Conn) (q : Option Peer) → ShowsSlot m.timing m.cache a q → IfSome q (λ p. HasBufferRoom (held_by_peer p))
-    slot_has_room a None h = tt
-    slot_has_room (Some o) (Some p) h = h.room
-    slot_has_room None (Some p) h = absurd h
 
 -- the least number of the list is the least of the machine
 pub least_shown : {A : Type 0} (t : Intervals) (i : Instance) (at : ℕ → Option Conn) (peers : List (Option (Box Peer A))) (n : ℕ) → ((c : ℕ) → ShowsSlot t i (at c) (peer_at peers c)) → peer_at peers n ≡ None

@@ -6,7 +6,7 @@ use Rattle.std.proofs.lemmas.Map.Keys.{IsDistinct-from_sorted}
 use Rattle.prefixes.specs.Payload.{vrp_cmp}
 use Rattle.vrps.specs.VrpSet.{union, without}
 use Rattle.vrps.proofs.SetLaws.{all_of_members, apply-between, has-without, listing_ascends, set_of-listing}
-use Rattle.rtr_ends.specs.Commit.{ChangeCommits, OneCommit}
+use Rattle.rtr_ends.specs.Commit.{ChangeCommits}
 
 pub change_commits : ChangeCommits
 change_commits s t = record {
@@ -16,6 +16,3 @@ change_commits s t = record {
   announced_once = IsDistinct-from_sorted vrp_cmp _ (listing_ascends (without t s));
   leads = sym ((λ i. union (without s (set_of-listing (without s t) i)) (set_of-listing (without t s) i)) ∙ apply-between s t);
 }
-
-pub one_commit : OneCommit
-one_commit base new other withdrawn announced a b = a.leads ∙ sym b.leads

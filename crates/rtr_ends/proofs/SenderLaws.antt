@@ -1,10 +1,8 @@
 -- What is due of an answer under way.
-use Rattle.std.proofs.Common.{◌≡◌, Bool, true, false, ℕ, ◌+◌, ◌-◌, ◌<◌, ◌≤◌, not, List, [], ◌∷◌, ◌++◌, length, take, drop, min, Option, Some, None, option_map, slice_get, get_or, refl, sym, ap, ◌∙◌, subst, arith, append_assoc, add-one, inl, inr, suc, zero}
+use Rattle.std.proofs.Common.{◌≡◌, Bool, true, false, ℕ, ◌+◌, ◌-◌, ◌<◌, ◌≤◌, not, List, [], ◌∷◌, ◌++◌, length, take, drop, Option, Some, None, option_map, slice_get, get_or, refl, sym, ap, ◌∙◌, subst, arith, append_assoc, add-one, inl, inr, suc, zero}
 use Rattle.std.proofs.Math.Seq.{drop-append_seam, drop-cons, drop-append-add, take-add}
 use Rattle.std.specs.Option.{is_some}
-use Rattle.std.proofs.lemmas.List.{length-append, length-drop, length-take, drop_all, drop_min, drop-drop, length-map, take-append-drop, take_at}
-use Rattle.std.proofs.lemmas.Slice.{take-put_mid, drop-put_mid}
-use borrow.Rule.Slice.PartMut.{put_mid}
+use Rattle.std.proofs.lemmas.List.{length-append, length-drop, length-take, drop_all, drop-drop, length-map, take-append-drop, take_at}
 use Rattle.std.proofs.lemmas.Option.{slice_get-map, slice_get_within, slice_get_cases, get_or_from_slice_get, slice_get_read}
 use Rattle.prefixes.specs.Payload.{Payload}
 use Rattle.vrps.specs.Instance.{NumberedSet}
@@ -145,27 +143,6 @@ hands_end s w mid new at bytes same_version same_sessions same_timing same_ready
         newest = ap (newest_in new.ready) k.answer ∙ k.ready ∙ ap (λ x. newest_in x (Some (record { records = w.records; place = 0 }))) same_ready ∙ newest_same s.ready _ _ refl;
         room = λ before. unit_ready s.version new end fits (k.pulled ∙ pulled) (ap (λ b. b.items) k.buffer ∙ bytes);
       };
-    }
-
-pub gives_from : (s : Sender) (out back mid : List ℕ) (filled count len : ℕ) → filled ≤ length out → len ≡ length s.buffer.items → back ≡ drop (min s.pulled len) s.buffer.items → count ≡ min (length back) (length out - filled)
-    → mid ≡ take count back → GivesFrom s out filled (filled + count) (put_mid filled (filled + count - filled) out mid) (record s { pulled = len - (length back - count) })
-gives_from s out back mid filled count len low size is count_is mid_is =
-    let same : back ≡ drop s.pulled s.buffer.items = is ∙ ap (λ n. drop (min s.pulled n) s.buffer.items) size ∙ drop_min s.pulled s.buffer.items in
-    let given : length mid ≡ count = omega (arith, ap length mid_is, length-take count back, count_is) in
-    let place : len - (length back - count) ≡ min s.pulled len + count = omega (arith, ap length is, length-drop (min s.pulled len) s.buffer.items, size, count_is) in
-    record {
-      count = count;
-      count_is = count_is ∙ ap (λ x. min (length x) (length out - filled)) same;
-      result_is = refl;
-      now_is = sym (take-append-drop (filled + count) (put_mid filled (filled + count - filled) out mid))
-          ∙ (λ i. take-put_mid filled (filled + count - filled) out mid (filled + count) (omega (arith, given)) low i ++ drop-put_mid filled (filled + count - filled) out mid (filled + count) (omega arith) low (omega (arith, given)) i)
-          ∙ ap (λ x. take filled out ++ x ++ drop (filled + count) out) (mid_is ∙ ap (take count) same);
-      left = ap (λ n. drop n s.buffer.items) place ∙ sym (drop-drop count (min s.pulled len) s.buffer.items) ∙ ap (drop count) (sym is ∙ same);
-      version = refl;
-      sessions = refl;
-      timing = refl;
-      ready = refl;
-      answer = refl;
     }
 
 -- Of an answer that is pulled, so many bytes are filled.
