@@ -1,7 +1,7 @@
 -- Records that are written straight into what goes out.
 use Rattle.std.proofs.Common.{◌≡◌, ℕ, ◌+◌, ◌<◌, ◌≤◌, List, [], ◌∷◌, ◌++◌, length, take, drop, get_or, Option, Some, None, refl, sym, ap, ◌∙◌, arith, append_assoc}
 use Rattle.std.proofs.Math.Seq.{drop-append-add}
-use Rattle.std.proofs.lemmas.List.{append-nil, drop-drop, flat_map_more, length-append, length-drop, length-take, take-append-drop, take-append-le, take_at, take_more}
+use Rattle.std.proofs.lemmas.List.{append-nil, drop-drop, flat_map_more, length-append, length-take, take-append-drop, take-append-le, take_at, take_more}
 use Rattle.std.proofs.lemmas.List.Concat.{flat_map-append}
 use Rattle.rtr_pdu.specs.declared.version.Version.{Version}
 use Rattle.rtr_pdu.specs.declared.unit.Unit.{Unit}
@@ -47,18 +47,6 @@ module _ (start : Sender) (given : List ℕ) (s : Sender) (out : List ℕ) (fill
   pub none_stays : drop new.pulled new.buffer.items ≡ []
   none_stays = (λ i. drop (g.pulled i) (g.buffer i).items) ∙ none
 
-  room_stays : ready_in s ≤ 4096 → ready_in new ≤ 4096
-  unfolding ready_in
-  room_stays before = omega (arith, ap length none_stays)
-
-  due_is : due_of s ≡ sent_all s.version (left s)
-  unfolding due_of
-  due_is = ap (λ x. x ++ sent_all s.version (left s)) none
-
-  due_now : due_of new ≡ sent_all s.version (left new)
-  unfolding due_of
-  due_now = (λ i. none_stays i ++ sent_all (g.version i) (left new))
-
   left_is : (a : Option AnswerCursor) → s.answer ≡ a → left s ≡ left_in s.version (own_session s) s.timing a
   unfolding left
   left_is a e = ap (left_in s.version (own_session s) s.timing) e
@@ -71,58 +59,57 @@ module _ (start : Sender) (given : List ℕ) (s : Sender) (out : List ℕ) (fill
   unfolding newest_of
   newest_is a b was is same = (λ i. newest_in (g.ready i) (is i)) ∙ same ∙ ap (newest_in s.ready) (sym was)
 
-  -- bytes that were due first are written
-  written : (bytes : List ℕ) → due_of s ≡ bytes ++ due_of new → result ≡ filled + length bytes → result ≤ length out → now ≡ take filled out ++ bytes ++ drop result out → newest_of new ≡ newest_of s → IsFilled start given new now result
-  written bytes due_was result_is low now_is newest =
-      fills_first start given s out filled result now new bytes f due_was result_is low now_is (record { version = g.version; sessions = g.sessions; timing = g.timing; newest = newest; room = room_stays })
+  -- The first PDUs of what was left are written, and the others are left.
+  record FillsUnits : Type 0 where
+    pub first : List Unit
+    pub was : left s ≡ first ++ left new
+    pub result_is : result ≡ filled + length (sent_all s.version first)
+    pub low : result ≤ length out
+    pub now_is : now ≡ take filled out ++ sent_all s.version first ++ drop result out
+    pub newest : newest_of new ≡ newest_of s
 
-  by_answer : (a b : Option AnswerCursor) → s.answer ≡ a → new.answer ≡ b → FillsAnswer s.version a out filled result now b → IsFilled start given new now result
-  by_answer None b was is h =
-      let due : due_of s ≡ due_of new = due_is ∙ ap (sent_all s.version) (left_is None was ∙ sym (left_now None (is ∙ h.2))) ∙ sym due_now in
-      written [] due (omega (arith, h.0)) (omega (arith, h.0, f.low))
-      (h.1 ∙ sym (ap (λ x. x ++ drop result out) (append-nil (take filled out)) ∙ ap (λ n. take n out ++ drop result out) (sym h.0) ∙ take-append-drop result out))
-      (newest_is None None was (is ∙ h.2) refl)
+  by_answer : (a b : Option AnswerCursor) → s.answer ≡ a → new.answer ≡ b → FillsAnswer s.version a out filled result now b → FillsUnits
+  by_answer None b was is h = record {
+    first = [];
+    was = left_is None was ∙ sym (left_now None (is ∙ h.2));
+    result_is = omega (arith, h.0);
+    low = omega (arith, h.0, f.low);
+    now_is = h.1 ∙ sym (ap (λ x. x ++ drop result out) (append-nil (take filled out)) ∙ ap (λ n. take n out ++ drop result out) (sym h.0) ∙ take-append-drop result out);
+    newest = newest_is None None was (is ∙ h.2) refl;
+  }
   by_answer (Some old) b was is h =
       let cursor : AnswerCursor = h.0 in
       let goes : FillsFrom s.version old out filled result now cursor = h.2 in
       let units : List Unit = drop old.place (units_in old.records) in
       let end : List Unit = end_of_data s.version (own_session s) (serial_in old.records) s.timing ∷ [] in
-      let parted : units ++ end ≡ take goes.count units ++ (drop goes.count units ++ end) =
-      ap (λ x. x ++ end) (sym (take-append-drop goes.count units)) ∙ append_assoc (take goes.count units) (drop goes.count units) end in
       let later : drop goes.count units ++ end ≡ left new =
       ap (λ x. x ++ end) (drop-drop goes.count old.place (units_in old.records))
       ∙ sym (left_now (Some cursor) (is ∙ h.1) ∙ (λ i. drop (goes.place i) (units_in (goes.records i)) ++ end_of_data s.version (own_session s) (serial_in (goes.records i)) s.timing ∷ [])) in
-      let due : due_of s ≡ sent_all s.version (take goes.count units) ++ due_of new =
-      due_is ∙ ap (sent_all s.version) (left_is (Some old) was ∙ parted) ∙ flat_map-append (sent s.version) (take goes.count units) (drop goes.count units ++ end)
-      ∙ ap (λ x. sent_all s.version (take goes.count units) ++ x) (ap (sent_all s.version) later ∙ sym due_now) in
-      written (sent_all s.version (take goes.count units)) due goes.fills.result_is goes.fills.low goes.fills.now_is
-      (newest_is (Some old) (Some cursor) was (is ∙ h.1) (same_newest s.ready cursor old goes.records))
+      record {
+        first = take goes.count units;
+        was = left_is (Some old) was ∙ ap (λ x. x ++ end) (sym (take-append-drop goes.count units)) ∙ append_assoc (take goes.count units) (drop goes.count units) end ∙ ap (λ x. take goes.count units ++ x) later;
+        result_is = goes.fills.result_is;
+        low = goes.fills.low;
+        now_is = goes.fills.now_is;
+        newest = newest_is (Some old) (Some cursor) was (is ∙ h.1) (same_newest s.ready cursor old goes.records);
+      }
     where
       same_newest : (ready : _) (x y : AnswerCursor) → x.records ≡ y.records → newest_in ready (Some x) ≡ newest_in ready (Some y)
       same_newest None x y e = ap (λ r. newest_in None (Some (record { records = r; place = 0 }))) e
       same_newest (Some share) x y e = refl
 
+  units_filled : FillsUnits
+  units_filled = by_answer s.answer new.answer refl refl g.answer
+
   pub fills_more : IsFilled start given new now result
-  fills_more = by_answer s.answer new.answer refl refl g.answer
+  unfolding due_of ready_in
+  fills_more =
+      let u = units_filled in
+      fills_first start given s out filled result now new (sent_all s.version u.first) f
+      (ap (λ x. x ++ sent_all s.version (left s)) none ∙ ap (sent_all s.version) u.was ∙ flat_map-append (sent s.version) u.first (left new)
+      ∙ ap (λ x. sent_all s.version u.first ++ x) (sym (λ i. none_stays i ++ sent_all (g.version i) (left new))))
+      u.result_is u.low u.now_is (record { version = g.version; sessions = g.sessions; timing = g.timing; newest = u.newest; room = λ before. omega (arith, ap length none_stays) })
 
   -- and no more PDUs are left than were
-  fewer : (a b : Option AnswerCursor) → s.answer ≡ a → new.answer ≡ b → FillsAnswer s.version a out filled result now b → length (left new) ≤ length (left s)
-  fewer None b was is h = omega (arith, ap length (left_is None was), ap length (left_now None (is ∙ h.2)))
-  fewer (Some old) b was is h =
-      let cursor : AnswerCursor = h.0 in
-      let goes : FillsFrom s.version old out filled result now cursor = h.2 in
-      let end : List Unit = end_of_data s.version (own_session s) (serial_in old.records) s.timing ∷ [] in
-      let later : left new ≡ drop (old.place + goes.count) (units_in old.records) ++ end =
-      left_now (Some cursor) (is ∙ h.1) ∙ (λ i. drop (goes.place i) (units_in (goes.records i)) ++ end_of_data s.version (own_session s) (serial_in (goes.records i)) s.timing ∷ []) in
-      omega (
-        arith,
-        ap length (left_is (Some old) was),
-        ap length later,
-        length-append (drop old.place (units_in old.records)) end,
-        length-append (drop (old.place + goes.count) (units_in old.records)) end,
-        length-drop old.place (units_in old.records),
-        length-drop (old.place + goes.count) (units_in old.records),
-      )
-
   pub none_more : length (left new) ≤ length (left s)
-  none_more = fewer s.answer new.answer refl refl g.answer
+  none_more = let u = units_filled in omega (arith, ap length u.was, length-append u.first (left new))

@@ -145,6 +145,11 @@ hands_end s w mid new at bytes same_version same_sessions same_timing same_ready
       };
     }
 
+-- What two steps leave, both leave.
+stays_on : (a b c : Sender) → Stays a b → Stays b c → Stays a c
+stays_on a b c x y =
+    record { version = y.version ∙ x.version; sessions = y.sessions ∙ x.sessions; timing = y.timing ∙ x.timing; newest = y.newest ∙ x.newest; room = λ before. y.room (x.room before) }
+
 -- Of an answer that is pulled, so many bytes are filled.
 pub record IsFilled (start : Sender) (given : List ℕ) (s : Sender) (out : List ℕ) (filled : ℕ) : Type 0 where
   pub low : filled ≤ length out
@@ -176,13 +181,7 @@ fills_first start given s out filled result now new bytes f due_was result_is lo
       within = all;
       now = is;
       due = sym (ap (drop (length bytes)) rest ∙ drop-append_seam bytes (due_of new)) ∙ drop-drop (length bytes) filled (due_of start) ∙ ap (λ n. drop n (due_of start)) (sym result_is);
-      stays = record {
-        version = stays.version ∙ f.stays.version;
-        sessions = stays.sessions ∙ f.stays.sessions;
-        timing = stays.timing ∙ f.stays.timing;
-        newest = stays.newest ∙ f.stays.newest;
-        room = λ before. stays.room (f.stays.room before);
-      };
+      stays = stays_on start s new f.stays stays;
     }
 
 module _ (start : Sender) (given : List ℕ) (s : Sender) (out : List ℕ) (filled result : ℕ) (now : List ℕ) (new : Sender) (f : IsFilled start given s out filled) (g : GivesFrom s out filled result now new) where
@@ -191,33 +190,23 @@ module _ (start : Sender) (given : List ℕ) (s : Sender) (out : List ℕ) (fill
   unfolding left
   left_stays = λ i. left_in (g.version i) (session_by (g.version i) (g.sessions i)) (g.timing i) (g.answer i)
 
-  due_is : due_of s ≡ drop s.pulled s.buffer.items ++ sent_all s.version (left s)
-  unfolding due_of
-  due_is = refl
-
-  due_now : due_of new ≡ drop new.pulled new.buffer.items ++ sent_all new.version (left new)
-  unfolding due_of
-  due_now = refl
-
-  newest_stays : newest_of new ≡ newest_of s
-  unfolding newest_of
-  newest_stays = λ i. newest_in (g.ready i) (g.answer i)
-
-  room_stays : ready_in s ≤ 4096 → ready_in new ≤ 4096
-  unfolding ready_in
-  room_stays before = omega (arith, ap length g.left, length-drop g.count (drop s.pulled s.buffer.items), before)
-
   abbrev back : List ℕ
   back = drop s.pulled s.buffer.items
 
   pub gives_more : IsFilled start given new now result
+  unfolding due_of newest_of ready_in
   gives_more =
-      let later : due_of new ≡ drop g.count back ++ sent_all s.version (left s) = due_now ∙ (λ i. g.left i ++ sent_all (g.version i) (left_stays i)) in
+      let later : due_of new ≡ drop g.count back ++ sent_all s.version (left s) = λ i. g.left i ++ sent_all (g.version i) (left_stays i) in
       fills_first start given s out filled result now new (take g.count back) f
-      (due_is ∙ ap (λ x. x ++ sent_all s.version (left s)) (sym (take-append-drop g.count back)) ∙ append_assoc (take g.count back) (drop g.count back) (sent_all s.version (left s))
-      ∙ ap (λ x. take g.count back ++ x) (sym later))
+      (ap (λ x. x ++ sent_all s.version (left s)) (sym (take-append-drop g.count back)) ∙ append_assoc (take g.count back) (drop g.count back) (sent_all s.version (left s)) ∙ ap (λ x. take g.count back ++ x) (sym later))
       (omega (arith, g.result_is, g.count_is, length-take g.count back)) (omega (arith, g.result_is, g.count_is, f.low)) (g.now_is ∙ ap (λ n. take filled out ++ take g.count back ++ drop n out) (sym g.result_is))
-      (record { version = g.version; sessions = g.sessions; timing = g.timing; newest = newest_stays; room = room_stays })
+      (record {
+        version = g.version;
+        sessions = g.sessions;
+        timing = g.timing;
+        newest = λ i. newest_in (g.ready i) (g.answer i);
+        room = λ before. omega (arith, ap length g.left, length-drop g.count back, before);
+      })
 
   -- where not all is filled, the buffer is empty
   pub all_given : result < length out → drop new.pulled new.buffer.items ≡ []
@@ -258,13 +247,7 @@ hands_more start given s out filled w new e none h f =
       within = f.within;
       now = f.now;
       due = hands_due (record s { answer = Some w }) new none h ∙ ap due_of same ∙ f.due;
-      stays = record {
-        version = h.stays.version ∙ f.stays.version;
-        sessions = h.stays.sessions ∙ f.stays.sessions;
-        timing = h.stays.timing ∙ f.stays.timing;
-        newest = h.stays.newest ∙ ap newest_of same ∙ f.stays.newest;
-        room = λ before. h.stays.room (subst (λ x. ready_in x ≤ 4096) (sym same) (f.stays.room before));
-      };
+      stays = stays_on start s new f.stays (subst (λ x. Stays x new) same h.stays);
     }
 
 pub hands_less : (s : Sender) (w : AnswerCursor) (new : Sender) → s.answer ≡ Some w → Hands (record s { answer = Some w }) new → length (left new) < length (left s)
