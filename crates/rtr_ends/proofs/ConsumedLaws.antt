@@ -1,17 +1,16 @@
 -- The transcript of a router has the split of what it consumed.
-use Rattle.std.proofs.Common.{◌≡◌, ℕ, ◌<◌, Bool, true, false, not, List, [], ◌∷◌, ◌++◌, drop, Option, refl, sym, ap, ◌∙◌, subst, subst₂}
+use Rattle.std.proofs.Common.{◌≡◌, ℕ, ◌<◌, Bool, true, false, List, [], ◌∷◌, ◌++◌, drop, Option, refl, sym, ◌∙◌, subst, subst₂}
 use Rattle.std.proofs.lemmas.List.{append-nil}
 use Rattle.std.specs.List.{AllByRecursion}
 use Rattle.rtr_pdu.specs.declared.version.Version.TheVariants.{V1}
 use Rattle.rtr_pdu.specs.Payloads.{AreBytes}
-use Rattle.rtr_pdu.specs.Stream.{AreRead, IsPartial, Splits, any_after, as_read}
 use Rattle.rtr_pdu.proofs.ReaderLaws.{partial_empty}
 use Rattle.rtr_ends.specs.Cache.{finds_memory}
-use Rattle.rtr_ends.specs.Consumed.{units_read_in, fault_in, consumed, came, IsRouterCall, IsSplit, RouterSplits}
+use Rattle.rtr_ends.specs.Consumed.{consumed, came, IsRouterCall, IsSplit, RouterSplits}
 use Rattle.rtr_ends.specs.LinkRules.{Router, ask}
 use Rattle.rtr_ends.specs.Router.{Receiving, called, RouterCall, Connects, Receives, Pulls, Speaks, clocked, close, connects_at, played, receives, router_byte, router_pulled, router_stops}
 use Rattle.rtr_ends.specs.RouterLink.{is_closed, is_reading}
-use Rattle.rtr_ends.specs.Transcript.{choose, Item, At, Opened, Asks, Shut, has_agreed, later, of_version, spoken}
+use Rattle.rtr_ends.specs.Transcript.{choose, Item, At, Opened, Asks, later, of_version}
 use Rattle.rtr_ends.proofs.ByteLists.{none_bytes, drop_none}
 use Rattle.rtr_ends.proofs.Effects.{by_byte, by_close, clocked_keeps, goes_so}
 use Rattle.rtr_ends.proofs.FeedingLaws.{fed_keeps}
@@ -19,7 +18,7 @@ use Rattle.rtr_ends.proofs.KeptUnits.{Tells}
 use Rattle.rtr_ends.proofs.KeptLaws.{called_tells, clocked_tells, new_tells, steps_tell}
 use Rattle.rtr_ends.proofs.CallSteps.{StepsKeep, by_call, idle_reads}
 use Rattle.rtr_ends.proofs.TableLaws.{false_true}
-use Rattle.rtr_ends.proofs.ConsumedUnits.{Live, Quiet, Split, Comes, live_splits, live_split, reading_open, bytes_come}
+use Rattle.rtr_ends.proofs.ConsumedUnits.{Live, Split, Comes, live_splits, view, reading_open, bytes_come}
 
 -- a piece, byte by byte
 abbrev MComes : Receiving → List Item → List ℕ → Type 0
@@ -40,36 +39,19 @@ record Told (r n : Router) : Type 0 where
 clocked_told : (now : ℕ) (r : Router) → Told r (clocked now r)
 clocked_told now r = let k = clocked_keeps now r in record { held = k.held; reads = k.reads_on; closed = λ h. sym k.closed_on ∙ h; out = λ h. k.out }
 
-quiet_split : (items later : List Item) (bytes : List ℕ) → Quiet items later → Split items bytes → Split later bytes
-quiet_split items later bytes q s = (s.0, subst (λ v. Splits v true bytes (units_read_in later) s.0 (fault_in later)) (sym q.version) (subst₂ (λ us f. Splits (spoken items) true bytes us s.0 f) (sym q.units) (sym q.fault) s.1))
-
-quiet_live : (r n : Router) (items later : List Item) (bytes : List ℕ) → Quiet items later → n.held ≡ r.held → Live r items bytes → Live n later bytes
-quiet_live r n items later bytes q held l = record {
-  front = l.front;
-  whole = l.whole ∙ ap (λ x. l.front ++ x) (sym held);
-  read = subst₂ (λ v us. AreRead v true us l.front) (sym q.version) (sym q.units) l.read;
-  any_is = ap (any_after true) q.units ∙ l.any_is ∙ ap not (sym q.agreed);
-  sound = q.fault ∙ l.sound;
-  partial = subst (λ v. IsPartial v (as_read v (not (has_agreed later)) n.held)) (sym q.version) (subst₂ (λ b x. IsPartial (spoken items) (as_read (spoken items) (not b) x)) (sym q.agreed) (sym held) l.partial);
-  each = subst (λ x. AreBytes x) (sym held) l.each;
-}
-
 -- Where nothing of that is noted, the split stays.
-still_comes : (r n : Router) (items later : List Item) (bytes : List ℕ) → Told r n → Quiet items later → Tells n later → Comes r items bytes → Comes n later bytes
+still_comes : (r n : Router) (items later : List Item) (bytes : List ℕ) → Told r n → view later ≡ view items → Tells n later → Comes r items bytes → Comes n later bytes
 still_comes r n items later bytes t q tells c = record {
   tells = tells;
-  live = λ h. quiet_live r n items later bytes q t.held (c.live (t.reads h));
-  split = quiet_split items later bytes q c.split;
+  live = λ h. subst₂ (λ held v. Live held v bytes) (sym t.held) (sym q) (c.live (t.reads h));
+  split = subst (λ v. Split v bytes) (sym q) c.split;
   none_held = λ h. t.held ∙ c.none_held (t.closed h);
   none_out = λ h. t.out h (c.none_out (t.closed h));
 }
 
-abbrev same_items : (items : List Item) → Quiet items items
-same_items items = record { units = refl; fault = refl; agreed = refl; version = refl }
-
 clocked_comes : (now : ℕ) (r : Router) (items : List Item) (bytes : List ℕ) → Comes r items bytes → Comes (clocked now r) (At now ∷ items) bytes
 clocked_comes now r items bytes c =
-    still_comes r (clocked now r) items (At now ∷ items) bytes (clocked_told now r) (record { units = refl; fault = refl; agreed = refl; version = refl }) (clocked_tells now r items c.tells) c
+    still_comes r (clocked now r) items (At now ∷ items) bytes (clocked_told now r) refl (clocked_tells now r items c.tells) c
 
 -- a link that is closed
 record Shuts (r : Router) : Type 0 where
@@ -89,12 +71,12 @@ steps_come bytes = record {
       record {
         tells = steps_tell.closes r items c.tells;
         live = λ h. absurd (reading_open (close r).link h shut.closed);
-        split = quiet_split items (Shut ∷ items) bytes (record { units = refl; fault = refl; agreed = refl; version = refl }) c.split;
+        split = c.split;
         none_held = λ h. shut.held;
         none_out = λ h. shut.out;
       };
   asks_it = λ r items idle c. still_comes r (ask r) items (Asks (choose (of_version r.spoken r.version) r.mark) ∷ items) bytes
-      (record { held = refl; reads = λ h. idle_reads r.link idle; closed = λ h. false_true h; out = λ h. false_true h }) (record { units = refl; fault = refl; agreed = refl; version = refl })
+      (record { held = refl; reads = λ h. idle_reads r.link idle; closed = λ h. false_true h; out = λ h. false_true h }) refl
       (steps_tell.asks_it r items idle c.tells) c;
 }
 
@@ -104,19 +86,12 @@ connect_comes now r items bytes c tells =
     let k = clocked_comes now r items bytes c in
     let shut = closing_link (clocked now r) k.none_held k.none_out in
     let later : List Item = Asks (choose (of_version (close (clocked now r)).speaks (close (clocked now r)).version) (close (clocked now r)).mark) ∷ Opened (close (clocked now r)).speaks ∷ At now ∷ items in
-    let goes : Live (ask (record (close (clocked now r)) { spoken = (close (clocked now r)).speaks })) later [] = record {
-      front = [];
-      whole = sym shut.held;
-      read = refl;
-      any_is = refl;
-      sound = refl;
-      partial = subst (λ x. IsPartial (close (clocked now r)).speaks (as_read (close (clocked now r)).speaks true x)) (sym shut.held) (partial_empty (close (clocked now r)).speaks true);
-      each = subst (λ x. AreBytes x) (sym shut.held) none_bytes;
-    } in
+    let goes : Live (close (clocked now r)).held (view later) [] = subst (λ held. Live held (view later) []) (sym shut.held)
+    (record { front = []; whole = refl; read = refl; any_is = refl; sound = refl; partial = partial_empty (close (clocked now r)).speaks true; each = none_bytes }) in
     record {
       tells = tells;
       live = λ h. goes;
-      split = live_split (ask (record (close (clocked now r)) { spoken = (close (clocked now r)).speaks })) later [] goes;
+      split = ((close (clocked now r)).held, live_splits (close (clocked now r)).held (view later) [] goes);
       none_held = λ h. false_true h;
       none_out = λ h. false_true h;
     }
@@ -140,12 +115,12 @@ called_comes (Pulls most) calls each c =
     let r : Router = (played calls).router in
     same_bytes (record r { out = drop most r.out }) (played calls).items (came calls)
     (still_comes r (record r { out = drop most r.out }) (played calls).items (played calls).items (came calls) (record { held = refl; reads = λ h. h; closed = λ h. h; out = λ h none. drop_none most r.out none })
-    (same_items (played calls).items) (called_tells (Pulls most) r (played calls).items c.tells) c)
+    refl (called_tells (Pulls most) r (played calls).items c.tells) c)
 called_comes (Speaks version) calls each c =
     let r : Router = (played calls).router in
     same_bytes (record r { speaks = version }) (played calls).items (came calls)
     (still_comes r (record r { speaks = version }) (played calls).items (played calls).items (came calls) (record { held = refl; reads = λ h. h; closed = λ h. h; out = λ h none. none })
-    (same_items (played calls).items) (called_tells (Speaks version) r (played calls).items c.tells) c)
+    refl (called_tells (Speaks version) r (played calls).items c.tells) c)
 called_comes call calls each c =
     same_bytes (called call (played calls).router).router ((called call (played calls).router).items ++ (played calls).items) (came calls)
     (by_call (λ r items. Comes r items (came calls)) (steps_come (came calls)) call refl (played calls).router (played calls).items c)
@@ -175,7 +150,7 @@ router_splits calls each = by_link (is_reading (played calls).router.link) refl
         let l = c.live live in
         record {
           rest = (played calls).router.held;
-          split = live_splits (played calls).router (played calls).items (came calls) l;
+          split = live_splits (played calls).router.held (view (played calls).items) (came calls) l;
           held = λ h. refl;
           sound = λ h. l.sound;
           none_held = c.none_held;

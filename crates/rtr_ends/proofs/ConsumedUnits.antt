@@ -7,6 +7,7 @@ use Rattle.rtr_pdu.specs.Judging.{Judgement, Begins, Whole, Faulty, judge, unit_
 use Rattle.rtr_pdu.specs.Payloads.{AreBytes}
 use Rattle.rtr_pdu.specs.Stream.{AreRead, IsPartial, Shows, Splits, any_after, as_read, is_notify}
 use Rattle.rtr_pdu.specs.Unit as units
+use Rattle.rtr_pdu.specs.declared.version.Version.{Version}
 use Rattle.rtr_pdu.specs.declared.unit.Unit.{Unit}
 use Rattle.rtr_pdu.specs.declared.unit.Unit.TheVariants.{SerialNotify}
 use Rattle.rtr_pdu.specs.declared.unit.UnitFault.{UnitFault}
@@ -20,39 +21,44 @@ use Rattle.rtr_ends.specs.LinkRules.{Router, on_unit}
 use Rattle.rtr_ends.specs.Router.{Noted, asked_by, reads, with_bytes}
 use Rattle.rtr_ends.specs.RouterLaws.{LinkTells}
 use Rattle.rtr_ends.specs.RouterLink.{Link, Closed, Asked, Ended, is_closed, is_reading}
-use Rattle.rtr_ends.specs.Transcript.{Item, Reads, Lacks, has_agreed, later, spoken}
+use Rattle.rtr_ends.specs.Transcript.{Item, Reads, has_agreed, spoken}
 use Rattle.rtr_ends.proofs.ByteLists.{none_bytes, more_bytes}
 use Rattle.rtr_ends.proofs.Effects.{by_whole, unit_keeps, reading_open_so}
 use Rattle.rtr_ends.proofs.KeptUnits.{Tells, bytes_add}
 use Rattle.rtr_ends.proofs.TableLaws.{false_true}
 
--- What a router that reads has consumed
-pub record Live (r : Router) (items : List Item) (bytes : List ℕ) : Type 0 where
-  pub front : List ℕ
-  pub whole : bytes ≡ front ++ r.held
-  pub read : AreRead (spoken items) true (units_read_in items) front
-  pub any_is : any_after true (units_read_in items) ≡ not (has_agreed items)
-  pub sound : fault_in items ≡ None
-  pub partial : IsPartial (spoken items) (as_read (spoken items) (not (has_agreed items)) r.held)
-  pub each : AreBytes r.held
+-- What a transcript says of what came on the latest connection
+pub record View : Type 0 where
+  pub version : Version
+  pub units : List Unit
+  pub agreed : Bool
+  pub fault : Option UnitFault
 
-abbrev pub Split : List Item → List ℕ → Type 0
-Split items bytes = (rest : List ℕ) × Splits (spoken items) true bytes (units_read_in items) rest (fault_in items)
+abbrev pub view : List Item → View
+view items = record { version = spoken items; units = units_read_in items; agreed = has_agreed items; fault = fault_in items }
+
+-- What a router that reads has consumed, where it holds these bytes
+pub record Live (held : List ℕ) (v : View) (bytes : List ℕ) : Type 0 where
+  pub front : List ℕ
+  pub whole : bytes ≡ front ++ held
+  pub read : AreRead v.version true v.units front
+  pub any_is : any_after true v.units ≡ not v.agreed
+  pub sound : v.fault ≡ None
+  pub partial : IsPartial v.version (as_read v.version (not v.agreed) held)
+  pub each : AreBytes held
+
+abbrev pub Split : View → List ℕ → Type 0
+Split v bytes = (rest : List ℕ) × Splits v.version true bytes v.units rest v.fault
 
 pub record Comes (r : Router) (items : List Item) (bytes : List ℕ) : Type 0 where
   pub tells : Tells r items
-  pub live : is_reading r.link ≡ true → Live r items bytes
-  pub split : Split items bytes
+  pub live : is_reading r.link ≡ true → Live r.held (view items) bytes
+  pub split : Split (view items) bytes
   pub none_held : is_closed r.link ≡ true → r.held ≡ []
   pub none_out : is_closed r.link ≡ true → r.out ≡ []
 
-pub live_splits : (r : Router) (items : List Item) (bytes : List ℕ) → Live r items bytes → Splits (spoken items) true bytes (units_read_in items) r.held (fault_in items)
-live_splits r items bytes l =
-    subst (λ f. Splits (spoken items) true bytes (units_read_in items) r.held f) (sym l.sound)
-    (record { front = l.front; whole = l.whole; read = l.read; after = subst (λ b. IsPartial (spoken items) (as_read (spoken items) b r.held)) (sym l.any_is) l.partial })
-
-pub live_split : (r : Router) (items : List Item) (bytes : List ℕ) → Live r items bytes → Split items bytes
-live_split r items bytes l = (r.held, live_splits r items bytes l)
+pub live_splits : (held : List ℕ) (v : View) (bytes : List ℕ) → Live held v bytes → Splits v.version true bytes v.units held v.fault
+live_splits held v bytes l = rw l.sound (record { front = l.front; whole = l.whole; read = l.read; after = rw l.any_is l.partial })
 
 -- tests of links
 pub reading_open : (l : Link) → is_reading l ≡ true → is_closed l ≡ true → ⊥
@@ -66,17 +72,10 @@ agreed_of Closed agreed session table items live t = false_true live
 agreed_of (Ended end) agreed session table items live t = false_true live
 agreed_of _ agreed session table items live t = t.3
 
--- what is noted of no PDU, no fault and no connection
-pub record Quiet (items later : List Item) : Type 0 where
-  pub units : units_read_in later ≡ units_read_in items
-  pub fault : fault_in later ≡ fault_in items
-  pub agreed : has_agreed later ≡ has_agreed items
-  pub version : spoken later ≡ spoken items
-
--- A question that is noted behind a PDU is none of that.
-pub asked_quiet : (l : Link) (out : List ℕ) (u : Unit) (items : List Item) → Quiet (Reads u ∷ items) ((asked_by l out ++ Reads u ∷ []) ++ items)
-asked_quiet (Asked q) (b ∷ out) u items = record { units = refl; fault = refl; agreed = refl; version = refl }
-asked_quiet _ _ u items = record { units = refl; fault = refl; agreed = refl; version = refl }
+-- A question that is noted behind a PDU says nothing of what came.
+pub asked_view : (l : Link) (out : List ℕ) (u : Unit) (items : List Item) → view ((asked_by l out ++ Reads u ∷ []) ++ items) ≡ view (Reads u ∷ items)
+asked_view (Asked q) (b ∷ out) u items = refl
+asked_view _ _ u items = refl
 
 -- A PDU agrees where it is no notify.
 agreed_more : (u : Unit) (items : List Item) → (not (has_agreed items) && is_notify u) ≡ not (has_agreed (Reads u ∷ items))
@@ -99,38 +98,29 @@ record UnitRead (u : Unit) (items : List Item) (bytes : List ℕ) : Type 0 where
   pub read : AreRead (spoken items) true (units_read_in items ++ u ∷ []) bytes
   pub sound : fault_in items ≡ None
 
--- What was read is so by a transcript of the same version.
-later_read : (u : Unit) (items later : List Item) (bytes : List ℕ) → units_read_in later ≡ units_read_in items ++ u ∷ [] → spoken later ≡ spoken items → AreRead (spoken items) true (units_read_in items ++ u ∷ []) bytes
-    → AreRead (spoken later) true (units_read_in later) bytes
-later_read u items later bytes us vs read = subst₂ (λ v x. AreRead v true x bytes) (sym vs) (sym us) read
-
 -- Nothing follows it yet.
-unit_split : (u : Unit) (items later : List Item) (bytes : List ℕ) → UnitRead u items bytes → units_read_in later ≡ units_read_in items ++ u ∷ [] → fault_in later ≡ fault_in items → spoken later ≡ spoken items → Split later bytes
-unit_split u items later bytes h us fs vs = (
-  [],
-  subst (λ f. Splits (spoken later) true bytes (units_read_in later) [] f) (sym (fs ∙ h.sound))
-      (record { front = bytes; whole = sym (append-nil bytes); read = later_read u items later bytes us vs h.read; after = partial_empty (spoken later) (any_after true (units_read_in later)) }),
-)
+unit_split : (u : Unit) (items : List Item) (bytes : List ℕ) → UnitRead u items bytes → Split (view (Reads u ∷ items)) bytes
+unit_split u items bytes h =
+    ([], rw h.sound (record { front = bytes; whole = sym (append-nil bytes); read = h.read; after = partial_empty (spoken items) (any_after true (units_read_in items ++ u ∷ [])) }))
 
 -- the router after a PDU
-read_live : (r n : Router) (u : Unit) (items later : List Item) (bytes : List ℕ) → n.held ≡ [] → UnitRead u items bytes → any_after true (units_read_in items) ≡ not (has_agreed items)
-    → units_read_in later ≡ units_read_in items ++ u ∷ [] → fault_in later ≡ fault_in items → has_agreed later ≡ has_agreed (Reads u ∷ items) → spoken later ≡ spoken items → Live n later bytes
-read_live r n u items later bytes none h any us fs agreed vs = record {
+read_live : (u : Unit) (items : List Item) (bytes : List ℕ) → UnitRead u items bytes → any_after true (units_read_in items) ≡ not (has_agreed items) → Live [] (view (Reads u ∷ items)) bytes
+read_live u items bytes h any = record {
   front = bytes;
-  whole = sym (append-nil bytes) ∙ ap (λ x. bytes ++ x) (sym none);
-  read = later_read u items later bytes us vs h.read;
-  any_is = ap (any_after true) us ∙ any_after-push true (units_read_in items) u ∙ ap (λ b. b && is_notify u) any ∙ agreed_more u items ∙ ap not (sym agreed);
-  sound = fs ∙ h.sound;
-  partial = subst (λ x. IsPartial (spoken later) (as_read (spoken later) (not (has_agreed later)) x)) (sym none) (partial_empty (spoken later) (not (has_agreed later)));
-  each = subst (λ x. AreBytes x) (sym none) none_bytes;
+  whole = sym (append-nil bytes);
+  read = h.read;
+  any_is = any_after-push true (units_read_in items) u ∙ ap (λ b. b && is_notify u) any ∙ agreed_more u items;
+  sound = h.sound;
+  partial = partial_empty (spoken items) (not (has_agreed (Reads u ∷ items)));
+  each = none_bytes;
 }
 
 reads_come : (r : Router) (u : Unit) (items : List Item) (bytes : List ℕ) → r.held ≡ [] → is_reading r.link ≡ true → Tells r items → UnitRead u items bytes → any_after true (units_read_in items) ≡ not (has_agreed items)
     → Tells (reads u r).router ((reads u r).items ++ items) → Comes (reads u r).router ((reads u r).items ++ items) bytes
 reads_come r u items bytes none live before h any tells = record {
   tells = tells;
-  live = λ goes_on. read_live r n u items later bytes n_held h any q.units q.fault q.agreed q.version;
-  split = unit_split u items later bytes h q.units q.fault q.version;
+  live = λ goes_on. subst₂ (λ held v. Live held v bytes) (sym n_held) (sym (asked_view n.link n.out u items)) (read_live u items bytes h any);
+  split = subst (λ v. Split v bytes) (sym (asked_view n.link n.out u items)) (unit_split u items bytes h);
   none_held = λ c. n_held;
   none_out = λ c. false_true (sym ((unit_keeps r.link u r).connected (reading_open_so r.link live)) ∙ c);
 }
@@ -138,17 +128,11 @@ reads_come r u items bytes none live before h any tells = record {
     n : Router
     n = on_unit r.link u r
 
-    later : List Item
-    later = (asked_by n.link n.out ++ Reads u ∷ []) ++ items
-
-    q : Quiet (Reads u ∷ items) later
-    q = asked_quiet n.link n.out u items
-
     n_held : n.held ≡ []
     n_held = (unit_keeps r.link u r).held ∙ none
 
 -- the next byte, as it is judged
-pub bytes_come : (memory : Bool) (b : ℕ) (r : Router) (items : List Item) (bytes : List ℕ) → b < 256 → is_reading r.link ≡ true → r.out ≡ [] → Tells r items → Live r items bytes
+pub bytes_come : (memory : Bool) (b : ℕ) (r : Router) (items : List Item) (bytes : List ℕ) → b < 256 → is_reading r.link ≡ true → r.out ≡ [] → Tells r items → Live r.held (view items) bytes
     → let n : Noted = with_bytes memory (r.held ++ b ∷ []) r (judge r.spoken (not r.agreed) (r.held ++ b ∷ [])) in Comes n.router (n.items ++ items) (bytes ++ b ∷ [])
 bytes_come memory b r items bytes byte live none t l =
     subst (λ v. let n : Noted = with_bytes memory (r.held ++ b ∷ []) r (judge v (not r.agreed) (r.held ++ b ∷ [])) in Comes n.router (n.items ++ items) (bytes ++ b ∷ [])) t.spoken_is
@@ -174,7 +158,7 @@ bytes_come memory b r items bytes byte live none t l =
 
     begins : IsPartial (spoken items) (as_read (spoken items) (not r.agreed) seen) → NowComes Begins
     begins partial =
-        let goes : Live (record r { held = seen }) items (bytes ++ b ∷ []) = record {
+        let goes : Live seen (view items) (bytes ++ b ∷ []) = record {
           front = l.front;
           whole = more_whole bytes l.front r.held b l.whole;
           read = l.read;
@@ -186,7 +170,7 @@ bytes_come memory b r items bytes byte live none t l =
         record {
           tells = added Begins;
           live = λ h. goes;
-          split = live_split (record r { held = seen }) items (bytes ++ b ∷ []) goes;
+          split = (seen, live_splits seen (view items) (bytes ++ b ∷ []) goes);
           none_held = λ c. absurd (reading_open r.link live c);
           none_out = λ c. absurd (reading_open r.link live c);
         }
@@ -220,7 +204,7 @@ bytes_come memory b r items bytes byte live none t l =
         (λ tells. record {
           tells = tells;
           live = λ live. false_true live;
-          split = unit_split u items (Lacks u ∷ items) (bytes ++ b ∷ []) (unit_read u h) refl refl refl;
+          split = unit_split u items (bytes ++ b ∷ []) (unit_read u h);
           none_held = λ c. false_true c;
           none_out = λ c. false_true c;
         })

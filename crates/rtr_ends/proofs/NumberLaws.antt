@@ -68,18 +68,13 @@ module _ (taken : List Bool) (old new : FreeNumbers) (was : AreFree taken old) w
       counts = sum_by-set one taken n false true low
 
       each : (k : ℕ) → times k (heap_items new.numbers) ≡ times_free (slice_get (slice_set taken n false) k)
-      each k = elim (cases_Bool (n == k)) [ inl is ↦ here is | inr other ↦ there other ]
-        where
-          more : times k (heap_items new.numbers) ≡ one (n == k) + times k (heap_items old.numbers)
-          more = sum_by_pushed (λ (r : Reverse ℕ). cond (r.0 == k) 1 0) (record { 0 = n }) (heap_items old.numbers) (heap_items new.numbers) same
-
-          here : (n == k) ≡ true → times k (heap_items new.numbers) ≡ times_free (slice_get (slice_set taken n false) k)
-          here is =
-              let k_is : k ≡ n = sym (eq_of n k is) in
-              omega (arith, more, ap one is, was.each k, ap times_free (ap (slice_get taken) k_is ∙ at), ap times_free (ap (slice_get (slice_set taken n false)) k_is ∙ set_same taken n false low))
-
-          there : (n == k) ≡ false → times k (heap_items new.numbers) ≡ times_free (slice_get (slice_set taken n false) k)
-          there other = omega (arith, more, ap one other, was.each k, ap times_free (set_other taken n k false (λ e. not_eq_of n k other (sym e))))
+      each k =
+          let more = sum_by_pushed (λ (r : Reverse ℕ). cond (r.0 == k) 1 0) (record { 0 = n }) (heap_items old.numbers) (heap_items new.numbers) same in
+          elim (cases_Bool (n == k)) [
+            | inl is ↦ (let k_is : k ≡ n = sym (eq_of n k is) in
+                omega (arith, more, ap one is, was.each k, ap times_free (ap (slice_get taken) k_is ∙ at), ap times_free (ap (slice_get (slice_set taken n false)) k_is ∙ set_same taken n false low)))
+            | inr other ↦ omega (arith, more, ap one other, was.each k, ap times_free (set_other taken n k false (λ e. not_eq_of n k other (sym e))))
+          ]
 
   -- None is free: all are taken.
   pub takes_none : heap_len old.numbers ≡ 0 → length (heap_items old.numbers) ≡ heap_len old.numbers → heap_items new.numbers ≡ heap_items old.numbers → heap_len new.numbers ≡ heap_len old.numbers → heap_capacity new.numbers ≡ heap_capacity old.numbers
@@ -117,15 +112,11 @@ module _ (taken : List Bool) (old new : FreeNumbers) (was : AreFree taken old) w
       counts = sum_by-set one taken n true false low
 
       each : (k : ℕ) → times k (heap_items new.numbers) ≡ times_free (slice_get (slice_set taken n true) k)
-      each k = elim (cases_Bool (n == k)) [ inl is ↦ here is | inr other ↦ there other ]
-        where
-          here : (n == k) ≡ true → times k (heap_items new.numbers) ≡ times_free (slice_get (slice_set taken n true) k)
-          here is =
-              let k_is : k ≡ n = sym (eq_of n k is) in
-              omega (arith, less k, ap one is, was.each k, ap times_free (ap (slice_get taken) k_is ∙ at), ap times_free (ap (slice_get (slice_set taken n true)) k_is ∙ set_same taken n true low))
-
-          there : (n == k) ≡ false → times k (heap_items new.numbers) ≡ times_free (slice_get (slice_set taken n true) k)
-          there other = omega (arith, less k, ap one other, was.each k, ap times_free (set_other taken n k true (λ e. not_eq_of n k other (sym e))))
+      each k = elim (cases_Bool (n == k)) [
+        | inl is ↦ (let k_is : k ≡ n = sym (eq_of n k is) in
+            omega (arith, less k, ap one is, was.each k, ap times_free (ap (slice_get taken) k_is ∙ at), ap times_free (ap (slice_get (slice_set taken n true)) k_is ∙ set_same taken n true low)))
+        | inr other ↦ omega (arith, less k, ap one other, was.each k, ap times_free (set_other taken n k true (λ e. not_eq_of n k other (sym e))))
+      ]
 
   -- Room is made for one more that is taken.
   pub adds_taken : (count : ℕ) → heap_items new.numbers ≡ heap_items old.numbers → heap_len new.numbers + count ≤ heap_capacity new.numbers → length taken < count → AreFree (taken ++ true ∷ []) new

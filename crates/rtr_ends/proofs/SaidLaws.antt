@@ -55,10 +55,8 @@ reading_quiet Closed version live = false_true live
 reading_quiet (Ended end) version live = false_true live
 reading_quiet _ version live = (refl, refl)
 
-stays : (r : Router) (l : Link) → r.link ≡ l → is_reading l ≡ true → r.out ≡ [] → UnitSays r.spoken r
-stays r l is live none =
-    let k = reading_quiet l r.spoken live in
-    quiet r none (subst (λ x. SaysLast x r.spoken []) (sym is) k.0) (ap is_cut is ∙ k.1)
+stays : (r : Router) → is_reading r.link ≡ true → r.out ≡ [] → UnitSays r.spoken r
+stays r live none = let k = reading_quiet r.link r.spoken live in quiet r none k.0 k.1
 
 -- a report
 says_report : (code : ℕ) (u : Unit) (r : Router) → UnitSays r.spoken (reports code u r)
@@ -72,9 +70,9 @@ put_it version (AskSerial session serial) = sym (append-nil (sent version (query
 says_question : (q : Question) (r : Router) → UnitSays r.spoken (asking q r)
 says_question q r = record { spoken = refl; report = []; reported = refl; out = put_it r.spoken q; whole = refl }
 
-unit_says : (l : Link) (u : Unit) (r : Router) → r.link ≡ l → is_reading l ≡ true → r.out ≡ [] → UnitSays r.spoken (on_unit l u r)
-unit_says l u r is live none = by_unit (UnitSays r.spoken) l u r (record {
-  stays = stays r l is live none;
+unit_says : (u : Unit) (r : Router) → is_reading r.link ≡ true → r.out ≡ [] → UnitSays r.spoken (on_unit r.link u r)
+unit_says u r live none = by_unit (UnitSays r.spoken) r.link u r (record {
+  stays = stays r live none;
   asks = λ agreed h. says_question (put_by u r) (record r { agreed = agreed });
   begins = λ q session. quiet (record r { agreed = true; session = Some session; link = Answering (record { question = q; session = session; withdrawn = []; announced = [] }) }) none refl refl;
   reported = says_report 0 u r;
@@ -100,13 +98,11 @@ no_report (Ended end) version report live e = false_true live
 no_report _ version report live e = e
 
 -- where bytes are read all that was said was given
-given_all : (given : List ℕ) (r : Router) (items : List Item) (l : Link) → r.link ≡ l → is_reading l ≡ true → r.out ≡ [] → HasSaid r items given → given ≡ questions_in r.spoken items
-given_all given r items l is live none h =
-    sym (append-nil given)
-    ∙ ap (λ x. given ++ x) (sym (ap (λ o. o ++ h.dropped) none ∙ h.whole (ap is_cut is ∙ (reading_quiet l r.spoken live).1)))
-    ∙ h.said
-    ∙ ap (λ x. questions_in r.spoken items ++ x) (no_report l r.spoken h.report live (subst (λ x. SaysLast x r.spoken h.report) is h.reported))
-    ∙ append-nil (questions_in r.spoken items)
+given_all : (given : List ℕ) (r : Router) (items : List Item) → is_reading r.link ≡ true → r.out ≡ [] → HasSaid r items given → given ≡ questions_in r.spoken items
+given_all given r items live none h =
+    let dropped = h.whole (reading_quiet r.link r.spoken live).1 in
+    let silent = no_report r.link r.spoken h.report live h.reported in
+    sym (append-nil given) ∙ (λ i. given ++ (sym none i ++ sym dropped i)) ∙ h.said ∙ ap (λ x. questions_in r.spoken items ++ x) silent ∙ append-nil (questions_in r.spoken items)
 
 -- what a PDU adds to the questions
 put_adds : (version : Version) (l : Link) (out : List ℕ) (items : List Item) → questions_in version (asked_by l out ++ items) ≡ questions_in version items ++ put version l out
@@ -127,12 +123,12 @@ reads_says given u r items live none h = record {
     n = on_unit r.link u r
 
     s : UnitSays r.spoken n
-    s = unit_says r.link u r refl live none
+    s = unit_says u r live none
 
     said : given ++ (n.out ++ []) ≡ questions_in n.spoken ((asked_by n.link n.out ++ Reads u ∷ []) ++ items) ++ s.report
     said =
         ap (λ x. given ++ x) (append-nil n.out ∙ s.out)
-        ∙ ap (λ x. x ++ (put r.spoken n.link n.out ++ s.report)) (given_all given r items r.link refl live none h)
+        ∙ ap (λ x. x ++ (put r.spoken n.link n.out ++ s.report)) (given_all given r items live none h)
         ∙ sym (append_assoc (questions_in r.spoken items) (put r.spoken n.link n.out) s.report)
         ∙ ap (λ x. x ++ s.report) (sym (put_adds r.spoken n.link n.out (Reads u ∷ items)))
         ∙ ap (λ x. questions_in r.spoken x ++ s.report) (sym (append_assoc (asked_by n.link n.out) (Reads u ∷ []) items))
@@ -165,7 +161,7 @@ bytes_say given memory bytes r (Faulty fault) items some live none s =
         report = out;
         reported = f.reported;
         dropped = [];
-        said = ap (λ x. given ++ x) (append-nil out) ∙ ap (λ x. x ++ out) (given_all given r items r.link refl live none s.said);
+        said = ap (λ x. given ++ x) (append-nil out) ∙ ap (λ x. x ++ out) (given_all given r items live none s.said);
         whole = λ k. refl;
       };
       idle = λ k. false_true k;
@@ -176,7 +172,7 @@ bytes_say given memory bytes r (Whole u) items some live none s = by_whole (λ n
         report = [];
         reported = refl;
         dropped = [];
-        said = ap (λ x. given ++ x) (append-nil r.out ∙ none) ∙ append-nil given ∙ given_all given r items r.link refl live none s.said ∙ sym (append-nil (questions_in r.spoken items));
+        said = ap (λ x. given ++ x) (append-nil r.out ∙ none) ∙ append-nil given ∙ given_all given r items live none s.said ∙ sym (append-nil (questions_in r.spoken items));
         whole = λ k. refl;
       };
       idle = λ k. false_true k;
@@ -229,7 +225,7 @@ asks_say given r items idle s =
         report = [];
         reported = refl;
         dropped = [];
-        said = ap (λ x. given ++ x) (append-nil out) ∙ ap (λ x. x ++ out) (given_all given r items r.link refl (idle_reads r.link idle) (s.idle idle) s.said) ∙ sym (append-nil (questions_in r.spoken items ++ out));
+        said = ap (λ x. given ++ x) (append-nil out) ∙ ap (λ x. x ++ out) (given_all given r items (idle_reads r.link idle) (s.idle idle) s.said) ∙ sym (append-nil (questions_in r.spoken items ++ out));
         whole = λ k. refl;
       };
       idle = λ k. false_true k;

@@ -1,5 +1,5 @@
 -- A router speaks what it was told, from the next connection on.
-use Rattle.std.proofs.Common.{◌≡◌, List, [], ◌∷◌, ◌++◌, refl, ◌∙◌}
+use Rattle.std.proofs.Common.{◌≡◌, List, [], ◌∷◌, ◌++◌, refl, ◌∙◌, ap}
 use Rattle.rtr_pdu.specs.declared.version.Version.{Version}
 use Rattle.rtr_pdu.specs.declared.unit.Unit.{Unit}
 use Rattle.rtr_pdu.specs.Judging.{Begins, Whole, Faulty}
@@ -7,7 +7,7 @@ use Rattle.rtr_ends.specs.LinkRules.{Router, on_unit}
 use Rattle.rtr_ends.specs.Router.{RouterCall, Connects, Receives, Pulls, Speaks, clocked, close, connects_at, played, reads, router_pulled}
 use Rattle.rtr_ends.specs.RouterLaws.{RouterSpeaks, connected_version, told_version}
 use Rattle.rtr_ends.specs.Transcript.{Item, spoken}
-use Rattle.rtr_ends.proofs.ConsumedUnits.{asked_quiet}
+use Rattle.rtr_ends.proofs.ConsumedUnits.{asked_view}
 use Rattle.rtr_ends.proofs.Effects.{by_close, by_whole, clocked_keeps, unit_keeps}
 use Rattle.rtr_ends.proofs.CallSteps.{BytesKeep, StepsKeep, by_call, by_piece}
 
@@ -20,7 +20,7 @@ module _ (next latest : Version) where
   reads_tell : (r : Router) (u : Unit) (items : List Item) → Told next latest r items → Told next latest (reads u r).router ((reads u r).items ++ items)
   reads_tell r u items t = record {
     speaks = (unit_keeps r.link u r).speaks ∙ t.speaks;
-    spoken = (asked_quiet n.link n.out u items).version ∙ t.spoken;
+    spoken = ap (λ v. v.version) (asked_view n.link n.out u items) ∙ t.spoken;
   }
     where
       n : Router
