@@ -1,20 +1,17 @@
 -- What the answers of a connection are.
-use Rattle.std.proofs.Common.{◌≡◌, ℕ, ◌==◌, Bool, true, false, not, List, [], ◌∷◌, ◌++◌, length, take, Option, Some, None, option_map, if◌then◌else◌, refl, sym, ap, ◌∙◌, subst, arith}
-use Rattle.std.proofs.lemmas.Bool.Decides.{nat_tests}
-use Rattle.vrps.specs.Instance.{Instance, NumberedSet, versions, versions_from, with_serial}
+use Rattle.std.proofs.lemmas.Grind.{common_steps}
+use Rattle.std.proofs.Common.{◌≡◌, ℕ, Bool, true, false, List, [], ◌∷◌, ◌++◌, take, Option, Some, None, option_map, if◌then◌else◌, refl, sym, ap, ◌∙◌, subst, arith, rules}
+use Rattle.vrps.specs.Instance.{Instance, NumberedSet, versions, with_serial}
 use Rattle.vrps.specs.Store.{Known, NoData, Unknown, since, step_from}
 use Rattle.vrps.specs.Stores.{newest}
-use Rattle.vrps.specs.VrpSet.{VrpSet}
 use Rattle.vrps.specs.declared.change.Change.{Change}
 use Rattle.rtr_pdu.specs.declared.unit.Unit.{Unit}
 use Rattle.rtr_pdu.specs.declared.unit.Unit.TheVariants.{SerialQuery, ResetQuery, ErrorReport}
 use Rattle.rtr_pdu.specs.declared.version.Version.{Version}
-use Rattle.rtr_pdu.specs.declared.version.Version.TheVariants.{V0, V1}
 use Rattle.rtr_ends.specs.Answer.{and_end, announcements, answer, report, response, sent, sent_all, serial_answer, session_in, step_answer, withdrawals}
 use Rattle.rtr_ends.specs.Connection.{is_published, takes_memory}
 use Rattle.rtr_ends.specs.Peer.{SendsReply, EndsConnection, Knows, no_memory, read_reply, since_reply}
-use Rattle.rtr_ends.specs.Sender.{Sends, Stays, StaysBut, newest_of, own_session, session_by}
-use Rattle.rtr_ends.specs.declared.sessions.Sessions.{Sessions}
+use Rattle.rtr_ends.specs.Sender.{Sends, Stays, StaysBut, newest_of, own_session}
 use Rattle.rtr_ends.specs.Timing.{Intervals}
 use Rattle.rtr_ends.specs.declared.peer.Peer.{Peer}
 use Rattle.rtr_ends.specs.declared.sender.Sender.{Sender}
@@ -24,23 +21,14 @@ pub stays_but : (old new : Sender) → Stays old new → StaysBut old new
 stays_but old new s = record { sessions = s.sessions; timing = s.timing; newest = s.newest; room = s.room }
 
 pub knows_but : (t : Intervals) (i : Instance) (old new : Sender) → StaysBut old new → Knows t i old → Knows t i new
-knows_but t i old new s k = record {
-  session = ap (λ (x : Sessions). x.v1) s.sessions ∙ k.session;
-  session0 = ap (λ (x : Sessions). x.v0) s.sessions ∙ k.session0;
-  timing = s.timing ∙ k.timing;
-  newest = s.newest ∙ k.newest;
-}
+knows_but t i old new s k = search rules
 
 pub knows_stays : (t : Intervals) (i : Instance) (old new : Sender) → Stays old new → Knows t i old → Knows t i new
 knows_stays t i old new s k = knows_but t i old new (stays_but old new s) k
 
 -- the session in which it is answered
 pub own_is : (t : Intervals) (i : Instance) (s : Sender) → Knows t i s → own_session s ≡ session_in s.version i
-own_is t i s k = by_version s.version
-  where
-    by_version : (version : Version) → session_by version s.sessions ≡ session_in version i
-    by_version V0 = k.session0
-    by_version V1 = k.session
+own_is t i s k = search rules
 
 -- the change that is known is answered
 pub record IsStep (version : Version) (session keep : ℕ) (t : Intervals) (serial : ℕ) (vs : List NumberedSet) (change : Change) : Type 0 where
@@ -59,11 +47,7 @@ known_step version session keep t serial [] change h = absurd (let e : Known cha
 known_step version session keep t serial (now ∷ older) change h = record { now = now; newest_is = refl; answer_is = stepped version session t now (with_serial serial (now ∷ take keep older)) change h }
 
 pub published_some : (i : Instance) (v : NumberedSet) → newest (versions i) ≡ Some v → is_published i ≡ true
-published_some i v h = by_sets i.sets h
-  where
-    by_sets : (sets : List VrpSet) → newest (versions_from i.start sets) ≡ Some v → not (length sets == 0) ≡ true
-    by_sets [] h = absurd (let e : None ≡ Some v = h in cc)
-    by_sets (set ∷ older) h = let test : (length (set ∷ older) == 0) ≡ false = grind (arith, nat_tests) in ap not test
+published_some i v h = grind (arith, common_steps)
 
 module _ (keep : ℕ) (t : Intervals) (i : Instance) where
   -- What `answer_since` does at each outcome of the store
@@ -95,19 +79,7 @@ module _ (keep : ℕ) (t : Intervals) (i : Instance) where
 
   pub serial_since : (session serial current : ℕ) (old new : Peer) → Knows t i old.sender → session ≡ own_session old.sender → Some current ≡ option_map (λ (v : NumberedSet). v.serial) (newest_of old.sender)
       → Since serial old new → Serial session serial old new
-  serial_since session serial current old new k same some s =
-      let own : session ≡ session_in old.sender.version i = same ∙ own_is t i old.sender k in
-      let test : (session == session_in old.sender.version i) ≡ true = grind (arith, nat_tests) in
-      let published : is_published i ≡ true = some_published (newest (versions i)) refl (some ∙ ap (option_map (λ (v : NumberedSet). v.serial)) k.newest) in
-      (s.0, subst (λ r. SendsReply t i r old new) (sym (by_memory test published s.0)) s.1)
-    where
-      some_published : (o : Option NumberedSet) → newest (versions i) ≡ o → Some current ≡ option_map (λ (v : NumberedSet). v.serial) o → is_published i ≡ true
-      some_published None h e = absurd (let k : Some current ≡ None = e in cc)
-      some_published (Some v) h e = published_some i v h
-
-      by_memory : (session == session_in old.sender.version i) ≡ true → is_published i ≡ true → (memory : Bool) → read_reply old.sender.version keep t i memory (SerialQuery session serial) ≡ since_reply old.sender.version keep t i memory serial
-      by_memory test published true = rw (and-false (takes_memory old.sender.version i (SerialQuery session serial)), test)
-      by_memory test published false = rw (test, published)
+  serial_since session serial current old new k same some s = grind (arith, common_steps)
 
   abbrev pub Unitwise : Unit → Peer → Peer → Type 0
   Unitwise u old new = (memory : Bool) × SendsReply t i (read_reply old.sender.version keep t i memory u) old new

@@ -1,7 +1,7 @@
 -- Lists of bytes, and parts of them.
+use Rattle.std.proofs.lemmas.Grind.{common_steps}
 use Rattle.std.proofs.Common.{◌≡◌, refl, ℕ, zero, suc, ◌-◌, ◌<◌, List, [], ◌∷◌, ◌++◌, length, take, drop, ◌∙◌, ap, arith, subst}
 use Rattle.std.proofs.Math.Seq.{drop-nil, take-append_seam}
-use Rattle.std.proofs.lemmas.List.{length-append}
 use Rattle.rtr_pdu.specs.Payloads.{AreBytes}
 use Rattle.rtr_pdu.proofs.ReadLaws.{AreBytes-take}
 
@@ -24,9 +24,7 @@ bytes_front piece taken rest e each = subst AreBytes (ap (take (length taken)) e
 
 -- what is left tells what was taken
 pub front_of : (piece taken rest : List ℕ) → piece ≡ taken ++ rest → take (length piece - length rest) piece ≡ taken
-front_of piece taken rest e =
-    let size : length piece - length rest ≡ length taken = omega (arith, ap length e, length-append taken rest) in
-    (λ j. take (size j) (e j)) ∙ take-append_seam taken rest
+front_of piece taken rest e = grind (arith, common_steps)
 
 -- nothing is left of nothing
 pub drop_none : (most : ℕ) (out : List ℕ) → out ≡ [] → drop most out ≡ []

@@ -1,6 +1,6 @@
 -- One connection of many.
-use Rattle.std.proofs.Common.{◌≡◌, ℕ, ◌+◌, ◌<◌, ◌≤◌, ◌==◌, Bool, true, false, List, [], ◌∷◌, ◌++◌, length, map, Box, Option, Some, None, IsSome, IfSome, is_some, slice_get, slice_set, get_or, option_map, unwrap_or, Result, Ok, Err, IsErr, if◌then◌else◌, refl, Global, sym, ap, ◌∙◌, subst, arith, inl, inr, zero, suc}
-use Rattle.std.proofs.lemmas.Bool.{cases_Bool, cases_eq, cases_lt}
+use Rattle.std.proofs.Common.{◌≡◌, ℕ, ◌+◌, ◌<◌, ◌≤◌, ◌==◌, Bool, true, false, List, [], ◌∷◌, ◌++◌, length, map, Box, Option, Some, None, IsSome, IfSome, is_some, slice_get, slice_set, get_or, option_map, unwrap_or, Result, Ok, Err, IsErr, if◌then◌else◌, refl, Global, sym, ap, ◌∙◌, subst, arith, inl, inr, zero, suc, rules}
+use Rattle.std.proofs.lemmas.Bool.{cases_eq, cases_lt}
 use Rattle.std.proofs.lemmas.Option.{slice_get_past, slice_get_read}
 use Rattle.std.proofs.lemmas.List.{length-append, length-map, length-set, map-append, set-get_or}
 use Rattle.std.specs.List.{AllByRecursion}
@@ -22,7 +22,7 @@ use Rattle.rtr_ends.specs.declared.numbers.FreeNumbers.{FreeNumbers}
 use Rattle.rtr_ends.proofs.NumberLaws.{takes_below, takes_next}
 use Rattle.rtr_ends.specs.declared.peer.Peer.{Peer}
 use Rattle.rtr_ends.specs.declared.sender.Share.{Share}
-use Rattle.prefixes.proofs.Basics.{eq_self, eq_of, not_eq_of, set_same, set_other}
+use Rattle.prefixes.proofs.Basics.{eq_self, set_same, set_other}
 use Rattle.rtr_ends.proofs.TableLaws.{inside}
 
 -- what stands under a number that is set
@@ -31,18 +31,10 @@ with_conn_at c o m = ap (λ b. if b then o else m.at c) (eq_self c)
 
 -- A number that is set to what it has is as it was, and one that is set twice is what it was set to last.
 pub same_conn : (c : ℕ) (o : Option Conn) (m : CacheState) → m.at c ≡ o → with_conn c o m ≡ m
-same_conn c o m is = λ i. record m { at = λ d. by_test d (d == c) refl i }
-  where
-    by_test : (d : ℕ) (b : Bool) → (d == c) ≡ b → (if b then o else m.at d) ≡ m.at d
-    by_test d true e = sym (ap m.at (eq_of d c e) ∙ is)
-    by_test d false e = refl
+same_conn c o m is = search rules
 
 pub conn_twice : (c : ℕ) (x y : Option Conn) (m : CacheState) → with_conn c x (with_conn c y m) ≡ with_conn c x m
-conn_twice c x y m = λ i. record m { at = λ d. by_test d (d == c) i }
-  where
-    by_test : (d : ℕ) (b : Bool) → (if b then x else if b then y else m.at d) ≡ (if b then x else m.at d)
-    by_test d true = refl
-    by_test d false = refl
+conn_twice c x y m = search rules
 
 -- what is found
 pub record Found (t : Intervals) (i : Instance) (a : Option Conn) (p : Peer) : Type 0 where
@@ -59,10 +51,7 @@ found t i None None q e h = absurd (let k : ◌≡◌ {A = Option Peer} None (So
 -- What is shown under a number that is set, and under another
 slot_by : {A : Type 0} (t : Intervals) (i : Instance) (at : ℕ → Option Conn) (now : List (Option (Box Peer A))) (c d : ℕ) (o : Option Conn) (here there : Option Peer) → (d ≡ c → peer_at now d ≡ here) → (¬ (d ≡ c) → peer_at now d ≡ there)
     → ShowsSlot t i o here → ShowsSlot t i (at d) there → ShowsSlot t i (if d == c then o else at d) (peer_at now d)
-slot_by t i at now c d o here there same other set left = elim (cases_Bool (d == c)) [
-  | inl h ↦ subst (λ q. ShowsSlot t i (if d == c then o else at d) q) (sym (same (eq_of d c h))) (subst (λ b. ShowsSlot t i (if b then o else at d) here) (sym h) set)
-  | inr h ↦ subst (λ q. ShowsSlot t i (if d == c then o else at d) q) (sym (other (not_eq_of d c h))) (subst (λ b. ShowsSlot t i (if b then o else at d) there) (sym h) left)
-]
+slot_by t i at now c d o here there same other set left = search rules
 
 slots_set : {A : Type 0} (t : Intervals) (i : Instance) (at : ℕ → Option Conn) (peers : List (Option (Box Peer A))) (c : ℕ) (o : Option Conn) (x : Option (Box Peer A)) → c < length peers
     → ((d : ℕ) → ShowsSlot t i (at d) (peer_at peers d)) → ShowsSlot t i o (unboxed x) → (d : ℕ) → ShowsSlot t i (if d == c then o else at d) (peer_at (slice_set peers c x) d)
@@ -144,13 +133,7 @@ slot_none peers c cell low at is =
 -- What leaves the connections of a cache leaves what it shows.
 shows_same : {S : Type 0} (holds : ℕ → Instance → S → Type 0) (m : CacheState) (old new : Cache S) → ShowsCache holds m old → new.timing ≡ old.timing → new.session0 ≡ old.session0 → new.store ≡ old.store → new.peers.items ≡ old.peers.items
     → AreFree (taken_numbers old.peers.items) new.free → ShowsCache holds m new
-shows_same holds m old new shows same_timing same_session0 same_store items numbers = record {
-  timing = same_timing ∙ shows.timing;
-  session0 = same_session0 ∙ shows.session0;
-  store = rw same_store shows.store;
-  slots = λ d. rw items (shows.slots d);
-  numbers = rw items numbers;
-}
+shows_same holds m old new shows same_timing same_session0 same_store items numbers = search rules
 
 -- Where a number has no connection, nothing changes.
 module _ {S : Type 0} (holds : ℕ → Instance → S → Type 0) (m : CacheState) (old new : Cache S) (c : ℕ) (shows : ShowsCache holds m old) (same_timing : new.timing ≡ old.timing) (same_session0 : new.session0 ≡ old.session0) (same_store : new.store ≡ old.store) (same_free : new.free ≡ old.free) (none : peer_at old.peers.items c ≡ None) (items : new.peers.items ≡ old.peers.items) where
@@ -341,16 +324,7 @@ module _ {X : Type 0} (f : X → VrpSet) (serial : ℕ) (start : List (Option (B
 pub publishes : {S : Type 0} (holds : ℕ → Instance → S → Type 0) (m : CacheState) (old new : Cache S) (set : VrpSet) (serial : ℕ) → ShowsCache holds m old → new.timing ≡ old.timing → new.session0 ≡ old.session0 → holds m.keep (published set m.cache) new.store
     → is_current m.cache.sets set ≡ false → serial ≡ serial_at m.cache.start (length m.cache.sets) → ((c : ℕ) → Brings (record { serial = serial; set = set }) (peer_at old.peers.items c) (peer_at new.peers.items c))
     → taken_numbers new.peers.items ≡ taken_numbers old.peers.items → new.free ≡ old.free → ShowsCache holds (record m { cache = published set m.cache }) new
-publishes holds m old new set serial shows timing session0 store other serial_is brings same_taken same_free =
-    let is : published set m.cache ≡ record m.cache { sets = set ∷ m.cache.sets } = ap (λ b. if b then m.cache else record m.cache { sets = set ∷ m.cache.sets }) other in
-    record {
-      timing = timing ∙ shows.timing;
-      session0 = session0 ∙ shows.session0 ∙ ap (λ (i : Instance). i.session0) (sym is);
-      store = store;
-      slots = λ c. brings c m.timing m.cache (published set m.cache) (m.at c) (ap (λ (i : Instance). i.session) (sym is)) (ap (λ (i : Instance). i.session0) (sym is))
-          (ap (λ n. Some (record { serial = n; set = set })) serial_is ∙ ap (λ i. newest (versions i)) (sym is)) (shows.slots c);
-      numbers = subst (λ free. AreFree (taken_numbers new.peers.items) free) (sym same_free) (subst (λ (taken : List Bool). AreFree taken old.free) (sym same_taken) shows.numbers);
-    }
+publishes holds m old new set serial shows timing session0 store other serial_is brings same_taken same_free = search rules
 
 -- what is all one set is all the same one
 pub all_same : (sets : List VrpSet) (a b : VrpSet) → a ≡ b → AllByRecursion (λ s. s ≡ a) sets → AllByRecursion (λ s. s ≡ b) sets

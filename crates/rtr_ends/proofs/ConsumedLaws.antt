@@ -1,5 +1,5 @@
 -- The transcript of a router has the split of what it consumed.
-use Rattle.std.proofs.Common.{◌≡◌, ℕ, ◌<◌, Bool, true, false, List, [], ◌∷◌, ◌++◌, drop, Option, refl, sym, ◌∙◌, subst, subst₂}
+use Rattle.std.proofs.Common.{◌≡◌, ℕ, ◌<◌, Bool, true, false, List, [], ◌∷◌, ◌++◌, drop, Option, refl, sym, ◌∙◌, subst, rules}
 use Rattle.std.proofs.lemmas.List.{append-nil}
 use Rattle.std.specs.List.{AllByRecursion}
 use Rattle.rtr_pdu.specs.declared.version.Version.TheVariants.{V1}
@@ -18,7 +18,7 @@ use Rattle.rtr_ends.proofs.KeptUnits.{Tells}
 use Rattle.rtr_ends.proofs.KeptLaws.{called_tells, clocked_tells, new_tells, steps_tell}
 use Rattle.rtr_ends.proofs.CallSteps.{StepsKeep, by_call, idle_reads}
 use Rattle.rtr_ends.proofs.TableLaws.{false_true}
-use Rattle.rtr_ends.proofs.ConsumedUnits.{Live, Split, Comes, live_splits, view, reading_open, bytes_come}
+use Rattle.rtr_ends.proofs.ConsumedUnits.{Live, Comes, live_splits, view, reading_open, bytes_come}
 
 -- a piece, byte by byte
 abbrev MComes : Receiving → List Item → List ℕ → Type 0
@@ -41,13 +41,7 @@ clocked_told now r = let k = clocked_keeps now r in record { held = k.held; read
 
 -- Where nothing of that is noted, the split stays.
 still_comes : (r n : Router) (items later : List Item) (bytes : List ℕ) → Told r n → view later ≡ view items → Tells n later → Comes r items bytes → Comes n later bytes
-still_comes r n items later bytes t q tells c = record {
-  tells = tells;
-  live = λ h. subst₂ (λ held v. Live held v bytes) (sym t.held) (sym q) (c.live (t.reads h));
-  split = subst (λ v. Split v bytes) (sym q) c.split;
-  none_held = λ h. t.held ∙ c.none_held (t.closed h);
-  none_out = λ h. t.out h (c.none_out (t.closed h));
-}
+still_comes r n items later bytes t q tells c = search rules
 
 clocked_comes : (now : ℕ) (r : Router) (items : List Item) (bytes : List ℕ) → Comes r items bytes → Comes (clocked now r) (At now ∷ items) bytes
 clocked_comes now r items bytes c =

@@ -1,5 +1,5 @@
 -- What a step does to a router is one of few effects. A law of each effect is one of the step.
-use Rattle.std.proofs.Common.{◌≡◌, ℕ, Bool, true, false, not, ◌&&◌, ◌==◌, List, [], ◌∷◌, ◌++◌, Some, None, if◌then◌else◌, refl, sym, ap, ◌∙◌, subst, append_assoc}
+use Rattle.std.proofs.Common.{◌≡◌, ℕ, Bool, true, false, not, ◌&&◌, ◌==◌, List, [], ◌∷◌, ◌++◌, Some, None, if◌then◌else◌, refl, sym, rules}
 use Rattle.std.proofs.lemmas.Bool.{and_parts}
 use Rattle.rtr_pdu.specs.Judging.{Whole, judge}
 use Rattle.rtr_pdu.specs.declared.unit.Unit.{Unit}
@@ -7,7 +7,7 @@ use Rattle.rtr_pdu.specs.declared.unit.Unit.TheVariants.{SerialNotify, CacheResp
 use Rattle.rtr_ends.specs.declared.link.End.TheVariants as ends
 use Rattle.rtr_ends.specs.LinkRules.{Router, Staged, Stays, Wrong, Over, asking, commit, emptied, ended_by, fails, is_news, is_strange, may_lack, on_unit, reports, stage, staged, told_off}
 use Rattle.rtr_ends.specs.Cache.{finds_memory, is_none}
-use Rattle.rtr_ends.specs.Router.{Noted, Receiving, clocked, close, expired, lacks, reads, router_byte, router_stops, with_bytes}
+use Rattle.rtr_ends.specs.Router.{Noted, Receiving, clocked, close, lacks, reads, router_byte, router_stops, with_bytes}
 use Rattle.rtr_ends.specs.RouterLink.{Link, Closed, Idle, Asked, Answering, Ended, is_closed, is_reading}
 use Rattle.rtr_ends.specs.Transcript.{Question, AskReset, AskSerial, Begun, Committed, Item, base_of, choose, is_over, is_serial, is_wrong, later, of_version, retry_of, sum_of}
 use Rattle.prefixes.proofs.Basics.{true_of_not}
@@ -122,14 +122,7 @@ pub by_clock : (P : Router → Type 0) (now : ℕ) (r : Router) → (is_over r.v
     → (is_over r.version (later r.now now) ≡ true → goes_on r.link ≡ true → P (record (emptied r) { now = later r.now now }))
     → (is_over r.version (later r.now now) ≡ true → is_reading r.link ≡ true → is_closed r.link ≡ false → P (record (emptied r) { now = later r.now now; link = Ended ends.Expired; out = [] })) → P (clocked now r)
 unfolding clocked
-by_clock P now r same gone ended = either P (is_over r.version (later r.now now)) _ _ (λ over. by_link over r.link refl) same
-  where
-    by_link : is_over r.version (later r.now now) ≡ true → (l : Link) → r.link ≡ l → P (expired l (record r { now = later r.now now }))
-    by_link over (Asked (AskSerial session serial)) is = ended over (ap is_reading is) (ap is_closed is)
-    by_link over (Answering a) is =
-        either P (is_serial (Some a.question)) _ _ (λ changes. ended over (ap is_reading is) (ap is_closed is)) (λ all. gone over (ap goes_on is ∙ ap not all))
-    by_link over (Asked AskReset) is = gone over (ap goes_on is)
-    by_link over _ is = gone over (ap goes_on is)
+by_clock P now r same gone ended = search rules
 
 -- It leaves what is held, agreement and the versions, opens and closes nothing, and puts nothing out.
 pub record Clocks (r n : Router) : Type 0 where
@@ -161,9 +154,7 @@ pub by_byte : (P : Router → List Item → Type 0) (items : List Item) (m : Rec
     → (let n : Noted = with_bytes (finds_memory m.wanting) (m.router.held ++ b ∷ []) m.router (judge m.router.spoken (not m.router.agreed) (m.router.held ++ b ∷ [])) in P n.router (n.items ++ (m.items ++ items)))
     → P (router_byte m b).router ((router_byte m b).items ++ items)
 unfolding router_byte
-by_byte P items m b h =
-    let n : Noted = with_bytes (finds_memory m.wanting) (m.router.held ++ b ∷ []) m.router (judge m.router.spoken (not m.router.agreed) (m.router.held ++ b ∷ [])) in
-    subst (λ x. P n.router x) (sym (append_assoc n.items m.items items)) h
+by_byte P items m b h = search rules
 
 -- A router that does not stop reads, and has nothing to be pulled.
 pub nothing_out : (out : List ℕ) → is_none out ≡ true → out ≡ []

@@ -1,7 +1,8 @@
 -- One connection of a router over a reader and a writer, from call to call.
+use Rattle.std.proofs.lemmas.Grind.{common_steps}
 use Rattle.std.proofs.Common.{◌≡◌, ℕ, ◌+◌, ◌-◌, ◌*◌, ◌<◌, ◌≤◌, Bool, true, false, not, ◌&&◌, min, List, [], ◌∷◌, ◌++◌, length, take, drop, Option, Some, None, Result, Ok, Err, refl, sym, ap, ◌∙◌, subst, arith, append_assoc}
 use Rattle.std.proofs.Math.Seq.{take-add}
-use Rattle.std.proofs.lemmas.List.{append-nil, nil_from_length, take_at, length-append, length-take, take-append-drop}
+use Rattle.std.proofs.lemmas.List.{append-nil, nil_from_length, take_at, length-take, take-append-drop}
 use Rattle.std.specs.List.{AllByRecursion}
 use Rattle.std.specs.Io.KnownBytes.{Appends, Consumes, IsAtEnd, Keeps}
 use Rattle.std.proofs.KnownBytes.{Appends-nil, Appends-trans, Consumes-kept, Consumes-nil, Consumes-trans}
@@ -175,10 +176,7 @@ module _ (now : ℕ) (calls : List RouterCall) (before : Option (List ℕ)) (had
     -- A piece was read and taken.
     module _ (w : Pending left reads has router) (piece : List ℕ) (after : Option (List ℕ)) (written : Option (List ℕ)) (new : code.Router) (more : ℕ) (read : Consumes left after piece) (size : reads ≤ more) (fits : length piece + 4096 * reads ≤ 4096 * more) where
       came_all : (x : List RouterCall) (unread : List ℕ) → came x ++ unread ≡ came (calls_since w.turns now calls) ++ piece → Consumes before after (came x ++ unread) × (length (came x ++ unread) ≤ 4096 * more)
-      came_all x unread is = (
-        subst (Consumes before after) (sym is) (Consumes-trans before left after (came (calls_since w.turns now calls)) piece w.consumed read),
-        (let l = length-append (came (calls_since w.turns now calls)) piece in omega (arith, ap length is, l, w.few, fits)),
-      )
+      came_all x unread is = grind (arith, common_steps)
 
       -- The writer failed.
       pub fails_there : (e : Failed) → Taken now (calls_since w.turns now calls) piece has written (Err e) new → FetchedAs now calls before after more had written (Err WriteFailed) new

@@ -1,7 +1,8 @@
 -- Records that are written straight into what goes out.
+use Rattle.std.proofs.lemmas.Grind.{common_steps}
 use Rattle.std.proofs.Common.{◌≡◌, ℕ, ◌+◌, ◌<◌, ◌≤◌, List, [], ◌∷◌, ◌++◌, length, take, drop, get_or, Option, Some, None, refl, sym, ap, ◌∙◌, arith, append_assoc}
 use Rattle.std.proofs.Math.Seq.{drop-append-add}
-use Rattle.std.proofs.lemmas.List.{append-nil, drop-drop, flat_map_more, length-append, length-take, take-append-drop, take-append-le, take_at, take_more}
+use Rattle.std.proofs.lemmas.List.{append-nil, drop-drop, flat_map_more, length-append, length-take, take-append-drop, take_at, take_more}
 use Rattle.std.proofs.lemmas.List.Concat.{flat_map-append}
 use Rattle.rtr_pdu.specs.declared.version.Version.{Version}
 use Rattle.rtr_pdu.specs.declared.unit.Unit.{Unit}
@@ -33,14 +34,7 @@ one_written version units given out now filled i end next u start f less is now_
 
 -- further PDUs behind them change nothing
 pub of_longer : (version : Version) (units more : List Unit) (out : List ℕ) (filled count result : ℕ) (now : List ℕ) → FillsWith version units out filled count result now → FillsWith version (units ++ more) out filled count result now
-of_longer version units more out filled count result now f =
-    let same : take count (units ++ more) ≡ take count units = take-append-le count units more f.within in
-    record {
-      within = omega (arith, f.within, length-append units more);
-      result_is = f.result_is ∙ ap (λ x. filled + length (sent_all version x)) (sym same);
-      low = f.low;
-      now_is = f.now_is ∙ ap (λ x. take filled out ++ sent_all version x ++ drop result out) (sym same);
-    }
+of_longer version units more out filled count result now f = grind (arith, common_steps)
 
 module _ (start : Sender) (given : List ℕ) (s : Sender) (out : List ℕ) (filled result : ℕ) (now : List ℕ) (new : Sender) (f : IsFilled start given s out filled) (none : drop s.pulled s.buffer.items ≡ []) (g : FillsOn s out filled result now new) where
   -- the buffer stays as it was

@@ -1,5 +1,5 @@
 -- A router holds what its transcript keeps.
-use Rattle.std.proofs.Common.{◌≡◌, ℕ, Bool, true, false, List, [], ◌∷◌, ◌++◌, Option, Some, None, if◌then◌else◌, refl, sym, ap, ◌∙◌, subst}
+use Rattle.std.proofs.Common.{◌≡◌, ℕ, Bool, true, false, List, [], ◌∷◌, ◌++◌, Option, Some, None, if◌then◌else◌, refl, sym, ap, ◌∙◌, subst, rules}
 use Rattle.vrps.specs.VrpSet.{VrpSet, empty}
 use Rattle.rtr_ends.specs.Cache.{is_none}
 use Rattle.rtr_ends.specs.LinkRules.{Router, asking, ask}
@@ -135,13 +135,7 @@ router_keeps calls = is_kept (played calls).router (played calls).items (played_
 
 -- A refused event that is noted changes nothing of a closed link, and of no link that is closed then.
 pub refused_closed : (r : Router) (items : List Item) → r.link ≡ Closed → Tells r items → Tells r (Refused ∷ items)
-refused_closed r items is t = record {
-  kept_is = t.kept_is;
-  due_is = t.due_is;
-  now_is = t.now_is;
-  spoken_is = t.spoken_is;
-  link = subst (λ l. LinkTells l r.agreed r.session r.table (Refused ∷ items)) (sym is) (subst (λ l. LinkTells l r.agreed r.session r.table items) is t.link);
-}
+refused_closed r items is t = search rules
 
 pub refused_closes : (now : ℕ) (r : Router) (items : List Item) → Tells r items → Tells (closed_at now r).router ((closed_at now r).items ++ Refused ∷ items)
 unfolding closed_at

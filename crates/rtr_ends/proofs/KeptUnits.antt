@@ -1,5 +1,5 @@
 -- What a router keeps after each PDU is what its transcript keeps.
-use Rattle.std.proofs.Common.{◌≡◌, ℕ, Bool, true, false, not, ◌&&◌, ◌||◌, ◌==◌, nat_lt, List, [], ◌∷◌, ◌++◌, Option, Some, if◌then◌else◌, refl, sym, ap, ◌∙◌, subst, arith, append_assoc}
+use Rattle.std.proofs.Common.{◌≡◌, ℕ, Bool, true, false, not, ◌&&◌, ◌||◌, ◌==◌, nat_lt, List, [], ◌∷◌, ◌++◌, Option, Some, if◌then◌else◌, refl, sym, subst, arith, append_assoc, rules}
 use Rattle.std.proofs.Math.Bool.{and-false}
 use Rattle.std.proofs.lemmas.Bool.{or_parts}
 use Rattle.std.proofs.lemmas.Bool.Decides.{nat_tests}
@@ -10,14 +10,14 @@ use Rattle.rtr_pdu.specs.declared.unit.Unit.{Unit}
 use Rattle.rtr_pdu.specs.declared.unit.Unit.TheVariants.{SerialNotify, CacheResponse, Prefix, EndOfData, EndOfData0, CacheReset, RouterKey, ErrorReport}
 use Rattle.rtr_pdu.specs.declared.version.Version.{Version}
 use Rattle.rtr_ends.specs.Answer.{sent}
-use Rattle.rtr_ends.specs.LinkRules.{Router, Stays, Wrong, Over, asking, ask, emptied, ended_by, fails, is_strange, is_news, staged, commit, told_off, on_unit}
+use Rattle.rtr_ends.specs.LinkRules.{Router, Stays, Wrong, Over, asking, ask, ended_by, fails, is_strange, is_news, staged, commit, told_off, on_unit}
 use Rattle.rtr_ends.specs.Router.{Noted, asked_by, reads, with_bytes}
 use Rattle.rtr_ends.specs.RouterLaws.{LinkTells}
 use Rattle.rtr_ends.specs.RouterLink.{Link, Closed, Idle, Asked, Answering, Ended, is_reading, is_closed}
 use Rattle.rtr_ends.specs.Timing.{default_intervals}
 use Rattle.rtr_ends.proofs.TableLaws.{false_true}
 use Rattle.rtr_ends.proofs.Effects.{by_whole, either, reading_open_so}
-use Rattle.rtr_ends.specs.Transcript.{choose, of_version, spoken, Question, AskReset, AskSerial, query, Item, Asks, Reads, Begun, outstanding, question_of, has_agreed, responded, is_connected, moment, is_among, led_to, Kept, bounded, base_of, is_serial, is_wrong, kept, sum_of, retry_of, due}
+use Rattle.rtr_ends.specs.Transcript.{choose, of_version, spoken, Question, AskReset, AskSerial, query, Item, Asks, Reads, Begun, outstanding, question_of, has_agreed, responded, is_connected, moment, is_among, led_to, Kept, bounded, base_of, is_wrong, kept, due}
 
 abbrev pub holds : Router → Kept
 holds r = record { version = r.version; table = r.table }
@@ -45,16 +45,10 @@ pub record Leaves (r : Router) (u : Unit) (items : List Item) : Type 0 where
 
 -- a router that keeps its link
 no_question : (l : Link) (out : List ℕ) → out ≡ [] → asked_by l out ≡ []
-no_question l out e = ap (asked_by l) e ∙ none l
-  where
-    none : (l : Link) → asked_by l [] ≡ []
-    none (Asked q) = refl
-    none _ = refl
+no_question l out e = search rules
 
 stays_after : (r : Router) (u : Unit) (items : List Item) (l : Link) → r.link ≡ l → r.out ≡ [] → Leaves r u items → LinkTells l r.agreed r.session r.table (Reads u ∷ items) → After r u items
-stays_after r u items l is none h t =
-    subst (λ x. Tells r (x ++ Reads u ∷ items)) (sym (no_question r.link r.out none))
-    (record { kept_is = h.kept_is; due_is = h.due_is; now_is = h.now_is; spoken_is = h.spoken_is; link = subst (λ x. LinkTells x r.agreed r.session r.table (Reads u ∷ items)) (sym is) t })
+stays_after r u items l is none h t = search rules
 
 -- a question that is put stands in the transcript
 put_asks : (version : Version) (q : Question) → asked_by (Asked q) (sent version (query q)) ≡ Asks q ∷ []
@@ -62,9 +56,7 @@ put_asks version AskReset = refl
 put_asks version (AskSerial session serial) = refl
 
 asking_after : (r : Router) (q : Question) (u : Unit) (items : List Item) → is_connected items ≡ true → Leaves r u items → has_agreed (Reads u ∷ items) ≡ r.agreed → responded (Reads u ∷ items) ≡ r.session → After (asking q r) u items
-asking_after r q u items c h a s =
-    subst (λ x. Tells (asking q r) (x ++ Reads u ∷ items)) (sym (put_asks r.spoken q))
-    (record { kept_is = h.kept_is; due_is = h.due_is; now_is = h.now_is; spoken_is = h.spoken_is; link = (c, refl, refl, a, s) })
+asking_after r q u items c h a s = search rules
 
 -- before a PDU
 pub record Before (r : Router) (items : List Item) : Type 0 where
@@ -77,24 +69,11 @@ pub record Before (r : Router) (items : List Item) : Type 0 where
 -- A notify ends the link where it is of another session.
 notified : (r own : Router) (items : List Item) (session serial : ℕ) → is_connected items ≡ true → Before r items → has_agreed items ≡ r.agreed → responded items ≡ r.session
     → (Leaves r (SerialNotify session serial) items → After own (SerialNotify session serial) items) → After (if is_strange r session then fails (SerialNotify session serial) r else own) (SerialNotify session serial) items
-notified r own items session serial c h a s stays = either (λ n. After n (SerialNotify session serial) items) (is_strange r session) (fails (SerialNotify session serial) r) own
-    (λ strange. record { kept_is = rw (a, s, h.spoken_is, h.kept_is, strange); due_is = h.due_is; now_is = h.now_is; spoken_is = h.spoken_is; link = c })
-    (λ same. stays (record { kept_is = rw (a, s, h.spoken_is, h.kept_is, same); due_is = h.due_is; now_is = h.now_is; spoken_is = h.spoken_is }))
+notified r own items session serial c h a s stays = search rules
 
 -- an Error Report to the question that is outstanding
 told_unit : (r : Router) (q : Question) (e : Report) (items : List Item) → r.agreed ≡ true → is_connected items ≡ true → Before r items → outstanding items ≡ Some q → responded items ≡ r.session → After (told_off q e.code r) (ErrorReport e) items
-told_unit r q e items agreed c h asked session =
-    either (λ n. After n (ErrorReport e) items) (e.code == 2) (record r { link = Idle; due = Some (sum_of r.now (retry_of r.version)); no_data = true }) (if e.code == 0 && is_serial (Some q) then ended_by e.code (emptied r) else ended_by e.code r)
-    (λ two. record {
-      kept_is = rw (asked, two_not_zero e.code two, h.kept_is);
-      due_is = rw (asked, two, h.now_is, h.kept_is);
-      now_is = h.now_is;
-      spoken_is = h.spoken_is;
-      link = (c, refl, refl, sym agreed, session, agreed);
-    })
-    (λ other. either (λ n. After n (ErrorReport e) items) (e.code == 0 && is_serial (Some q)) (ended_by e.code (emptied r)) (ended_by e.code r)
-    (λ zero. record { kept_is = rw (asked, zero); due_is = rw (asked, other, h.due_is); now_is = h.now_is; spoken_is = h.spoken_is; link = c })
-    (λ more. record { kept_is = rw (asked, more, h.kept_is); due_is = rw (asked, other, h.due_is); now_is = h.now_is; spoken_is = h.spoken_is; link = c }))
+told_unit r q e items agreed c h asked session = search rules
 
 -- the link is idle
 idle_unit : (r : Router) (u : Unit) (items : List Item) → r.link ≡ Idle → Before r items → LinkTells Idle r.agreed r.session r.table items → After (on_unit Idle u r) u items

@@ -1,6 +1,6 @@
 -- What a machine does at a PDU, cell by cell of the protocol's table.
 use Rattle.std.specs.Prelude.{⊤, ◌≡◌, ◌==◌, ◌+◌, min, max, ℕ, Bool, true, false, List, [], Some, None, Result, Ok, Err, if◌then◌else◌, refl}
-use Rattle.std.proofs.Common.{sym, ap, ◌∙◌, subst, arith}
+use Rattle.std.proofs.Common.{sym, ap, ◌∙◌, subst, arith, rules}
 use Rattle.std.proofs.lemmas.Bool.Decides.{nat_tests}
 use Rattle.prefixes.specs.Payload.{Payload}
 use Rattle.vrps.specs.VrpSet.{VrpSet, empty, has}
@@ -12,7 +12,7 @@ use Rattle.rtr_ends.specs.declared.link.End.TheVariants as ends
 use Rattle.rtr_ends.specs.Answer.{report, sent}
 use Rattle.rtr_ends.specs.LinkRules as rules
 use Rattle.rtr_ends.specs.LinkRules.{Router, ask, asking, commit, fails, is_news, is_staged, is_strange, may_lack, on_unit, reports, stage, staged, ended_by, told_off}
-use Rattle.rtr_ends.specs.Router.{asks, asks_if, clocked, expired, judged_by_clock}
+use Rattle.rtr_ends.specs.Router.{asks, clocked, expired}
 use Rattle.rtr_ends.specs.RouterLink.{Link, Idle, Answering, Ended, is_due, is_idle}
 use Rattle.rtr_ends.specs.Transcript.{Question, AskReset, Begun, base_of, is_over, later, query, sum_of, within}
 use Rattle.rtr_ends.specs.Seen.{Does, EndsLink, IsStaged, UnitIsRead, ShowsRouter, Stages, begun_with, seen, seen_link, seen_question, seen_version, seen_versions}
@@ -26,7 +26,7 @@ use Rattle.rtr_ends.specs.declared.question.CommittedVersion.{CommittedVersion}
 use Rattle.rtr_ends.specs.declared.machine.Machine.{Machine}
 use Rattle.rtr_ends.specs.declared.machine.State.{State}
 use Rattle.rtr_ends.specs.declared.machine.State.TheVariants as states
-use Rattle.rtr_ends.proofs.SeenLaws.{does_from, shown, shown_as, seen_in}
+use Rattle.rtr_ends.proofs.SeenLaws.{shown_as, seen_in}
 use Rattle.prefixes.proofs.Basics.{eq_of, eq_self, false_if_never}
 
 -- What a step does in one state, whatever was staged
@@ -35,9 +35,7 @@ Steps s u step old = (withdrawn announced : List Payload) (held : List ℕ) → 
 
 -- A PDU does in a state what a step does.
 pub does_so : (u : Unit) (s : State) (step : Router → Router) (old new : Machine) → old.state ≡ s → Steps s u step old → Does step old new → Does (λ r. on_unit r.link u r) old new
-does_so u s step old new is steps does = seen_in (λ l r. ShowsRouter (on_unit l u r) new) s old is (λ withdrawn announced held staged.
-    subst (λ x. ShowsRouter x new) (sym (steps withdrawn announced held))
-    (does (seen old withdrawn announced held) (shown old withdrawn announced held (subst (λ x. Stages x old.table withdrawn announced old.staging) (sym is) staged))))
+does_so u s step old new is steps does = search rules
 
 -- Nothing happens.
 pub stays_so : (u : Unit) (s : State) (old : Machine) → old.state ≡ s → Steps s u (λ r. r) old → Does (λ r. on_unit r.link u r) old old
@@ -79,9 +77,7 @@ no_code ended_by code n e h = false_if_never (code == n) (λ is. h (e ∙ eq_of 
 
 -- A Reset Query is asked, after agreement.
 pub asks_again : (old new : Machine) → new ≡ record old { agreed = true; state = states.Asked questions.Reset; out = sent old.spoken (query AskReset) } → Does (λ r. asking AskReset (record r { agreed = true })) old new
-asks_again old new e r s =
-    subst (λ n. ShowsRouter (asking AskReset (record r { agreed = true })) n) (sym e)
-    (record { withdrawn = s.withdrawn; announced = s.announced; staged = tt; is = ap (λ (x : Router). asking AskReset (record x { agreed = true })) s.is })
+asks_again old new e r s = search rules
 
 -- A machine whose staged records are others, and whose link ends
 pub ends_so : (old : Machine) (s : Staging) → EndsLink old (record old { staging = s })
@@ -121,15 +117,7 @@ module _ (old : Machine) (q : Question.Question) (session : ℕ) (is : old.state
   pub wrong_staged : (s : Staging) (n : ℕ) (new : Machine) → Goes (Ok (code.Wrong n)) s → new ≡ record old { staging = s; state = states.Ended (ends.Reported n); out = sent old.spoken (report n (sent old.spoken (Prefix announce v))) }
       → Does (λ r. on_unit r.link (Prefix announce v) r) old (record new { mark = true })
   unfolding on_unit
-  wrong_staged s n new g e = by_record (λ l r. ShowsRouter (on_unit l (Prefix announce v) r) (record new { mark = true })) (Ok (code.Wrong n)) s g
-      (λ withdrawn announced held. by_staged withdrawn announced held (stage base (a_of withdrawn announced) announce v))
-    where
-      by_staged : (withdrawn announced : List Payload) (held : List ℕ) (x : rules.Staged) → StagesRecord base (a_of withdrawn announced) x (Ok (code.Wrong n)) s
-          → ShowsRouter (staged (Prefix announce v) x (seen old withdrawn announced held)) (record new { mark = true })
-      by_staged withdrawn announced held (rules.Wrong m) h =
-          subst (λ y. ShowsRouter (staged (Prefix announce v) (rules.Wrong m) (seen old withdrawn announced held)) (record y { mark = true })) (sym e)
-          (shown_as (staged (Prefix announce v) (rules.Wrong m) (seen old withdrawn announced held)) _ withdrawn announced held (ap (λ c. staged (Prefix announce v) (rules.Wrong c) (seen old withdrawn announced held)) (sym h)) tt)
-      by_staged withdrawn announced held _ h = absurd h
+  wrong_staged s n new g e = search rules
 
   pub refused_staged : (s : Staging) (fault : SetFault) → Goes (Err fault) s → UnitIsRead (Err fault) (Prefix announce v) old (record old { staging = s })
   unfolding on_unit
@@ -199,10 +187,7 @@ later_max a b n e = grind (arith, nat_tests)
 
 pub clocks_so : (old new : Machine) (now clock : ℕ) (over : Bool) → clock ≡ later old.clock now → is_over (seen_versions old.version) clock ≡ over → Does (λ r. if over then expired r.link r else r) (record old { clock = clock }) new → Does (clocked now) old new
 unfolding clocked
-clocks_so old new now clock over is test does = does_from (λ r. judged_by_clock (record r { now = later r.now now })) old new (λ withdrawn announced held st.
-    let r : Router = seen (record old { clock = clock }) withdrawn announced held in
-    subst (λ x. ShowsRouter (judged_by_clock (record r { now = x })) new) is
-    (subst (λ x. ShowsRouter (if x then expired r.link r else r) new) (sym test) (does r (shown (record old { clock = clock }) withdrawn announced held st))))
+clocks_so old new now clock over is test does = search rules
 
 -- A connection is of the version that was told last.
 abbrev pub opens : Router → Router
@@ -223,12 +208,8 @@ due_of m r s = ap (λ (x : Router). is_due x.link x.due x.now) s.is ∙ seen_so 
 -- what is asked by a link
 pub asks_idle : (old new : Machine) → old.state ≡ states.Idle → Does ask old new → Does (λ r. (asks r).router) old new
 unfolding asks
-asks_idle old new is does = does_from (λ r. (asks r).router) old new (λ withdrawn announced held st.
-    let r : Router = seen old withdrawn announced held in
-    subst (λ x. ShowsRouter ((asks_if (is_idle (seen_link x withdrawn announced)) r).router) new) (sym is) (does r (shown old withdrawn announced held st)))
+asks_idle old new is does = search rules
 
 pub asks_not : (old : Machine) → is_idle (seen_link old.state [] []) ≡ false → Does (λ r. (asks r).router) old old
 unfolding asks
-asks_not old busy = does_from (λ r. (asks r).router) old old (λ withdrawn announced held st.
-    let r : Router = seen old withdrawn announced held in
-    subst (λ x. ShowsRouter ((asks_if x r).router) old) (sym (seen_so is_idle (λ a b. refl) old.state withdrawn announced ∙ busy)) (shown old withdrawn announced held st))
+asks_not old busy = search rules

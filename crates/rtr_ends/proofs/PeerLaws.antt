@@ -1,7 +1,7 @@
 -- What the calls of a connection do to what it shows.
-use Rattle.std.proofs.Common.{nat_lt, ◌≡◌, ℕ, ◌-◌, ◌<◌, ◌≤◌, ◌==◌, Bool, true, false, not, ◌&&◌, ◌||◌, List, [], ◌∷◌, ◌++◌, length, take, drop, min, Option, Some, None, option_map, if◌then◌else◌, refl, append_assoc, sym, ap, ◌∙◌, subst, arith, inl, inr}
+use Rattle.std.proofs.lemmas.Grind.{common_steps}
+use Rattle.std.proofs.Common.{nat_lt, ◌≡◌, ℕ, ◌-◌, ◌<◌, ◌≤◌, ◌==◌, Bool, true, false, not, ◌&&◌, ◌||◌, List, [], ◌∷◌, ◌++◌, length, take, Option, Some, None, option_map, if◌then◌else◌, refl, append_assoc, sym, ap, ◌∙◌, subst, arith, inl, inr, rules}
 use Rattle.std.specs.List.{list_any}
-use Rattle.std.proofs.lemmas.Bool.{or_parts}
 use Rattle.std.proofs.lemmas.List.{append-nil}
 use Rattle.vrps.specs.Instance.{Instance, NumberedSet, versions, versions_from, with_serial}
 use Rattle.vrps.specs.Serial.{serial_at}
@@ -23,17 +23,16 @@ use Rattle.rtr_pdu.specs.declared.unit.UnitFault.{UnitFault}
 use Rattle.rtr_pdu.proofs.DeviceLaws.{partial_most}
 use Rattle.rtr_ends.specs.Answer.{Reply, and_end, and_on, answer, report, sent, sent_all, serial_answer, session_in, step_answer, whole_answer}
 use Rattle.rtr_ends.specs.Cache.{Conn, Taking, can_notify, conn_notified, conn_pulled, conn_stops, conn_takes, is_none, conn_judged, speaks_in, version_at}
-use Rattle.rtr_ends.specs.Connection.{Connection, Read, Wanting, Notify, conn_after, fault_report, is_published, is_wanting, notice, spoken_in, takes_memory}
+use Rattle.rtr_ends.specs.Connection.{Connection, Read, Wanting, Notify, conn_after, fault_report, is_published, is_wanting, spoken_in, takes_memory}
 use Rattle.rtr_ends.specs.Peer.{SendsReply, ReportsFault, HasBufferRoom, Knows, Pulls, Receives, ShowsPeer, held_by_peer, no_memory, read_reply}
 use Rattle.rtr_ends.specs.Sender.{PullsBytes, Sends, Speaks, Stays, due_of, newest_of, own_session, ready_in}
 use Rattle.rtr_ends.specs.Timing.{Intervals}
 use Rattle.rtr_ends.specs.declared.peer.Peer.{Peer}
 use Rattle.rtr_ends.specs.declared.sender.Sender.{Sender}
-use Rattle.rtr_ends.proofs.AnsweringLaws.{knows_but, knows_stays, own_is, published_some}
+use Rattle.rtr_ends.proofs.AnsweringLaws.{knows_but}
 use Rattle.rtr_ends.proofs.ReceivingLaws.{start, takes_more, takes_none, takes_shown}
 use Rattle.rtr_ends.proofs.UnitByUnit.{fault_judged, unit_judged}
 use Rattle.std.proofs.Math.Bool.{and-false}
-use Rattle.rtr_ends.proofs.TableLaws.{inside}
 
 -- Nothing is held by a reader that is new.
 fresh_room : (version : Option Version) (p : Peer) → p.reader ≡ fresh version false → ready_in p.sender ≤ 4096 → HasBufferRoom (held_by_peer p)
@@ -48,18 +47,7 @@ record HasNewest (serial : ℕ) (vs : List NumberedSet) : Type 0 where
 module _ (keep : ℕ) (t : Intervals) (i : Instance) (o : Conn) where
   pub pulls : (out : List ℕ) (count : ℕ) (now : List ℕ) (old : Peer) (sender : Sender) → PullsBytes (due_of old.sender) out count now (due_of sender) → Stays old.sender sender → ShowsPeer t i o old → Pulls keep t i o out count now (record old { sender = sender })
   unfolding conn_pulled
-  pulls out count now old sender g s shows =
-      let count_is : count ≡ min (length out) (length o.state.due) = g.count_is ∙ ap (λ x. min (length out) (length x)) shows.due in
-      record {
-        gives = record { count_is = count_is; now_is = g.now_is ∙ ap (λ x. take count x ++ drop count out) shows.due; rest_is = ap (λ n. drop n o.state.due) (sym count_is) };
-        shows = record {
-          reader = shows.reader;
-          ended = shows.ended;
-          due = g.rest_is ∙ (λ j. drop (count_is j) (shows.due j));
-          knows = knows_stays t i old.sender sender s shows.knows;
-          room = record { received = shows.room.received; ready = s.room shows.room.ready };
-        };
-      }
+  pulls out count now old sender g s shows = search rules
 
   pub stops_as : (p : Peer) → ShowsPeer t i o p → (p.ended || not (is_none (due_of p.sender))) ≡ conn_stops o
   stops_as p shows = λ j. shows.ended j || not (is_none (shows.due j))
@@ -284,27 +272,4 @@ module _ (keep : ℕ) (t : Intervals) (i : Instance) (o : Conn) where
       → session ≡ own_session mid.sender → Some serial ≡ option_map (λ (v : NumberedSet). v.serial) (newest_of p.sender) → ShowsPeer t i o p
       → Sends mid.sender (SerialNotify session serial ∷ []) sender → (true ≡ can_notify i o) × ShowsPeer t i (conn_notified keep t i o) (record mid { sender = sender })
   unfolding conn_notified
-  notified_some p mid session serial sender runs reader ended speaks own some shows sends =
-      let now : HasNewest serial (versions i) = has_newest (newest (versions i)) refl (some ∙ ap (option_map (λ (v : NumberedSet). v.serial)) shows.knows.newest) in
-      let may : can_notify i o ≡ true = λ j. published_some i now.version now.is j && not (runs j) in
-      let knows : Knows t i mid.sender = knows_but t i p.sender mid.sender speaks.stays shows.knows in
-      let version : mid.sender.version ≡ speaks_in o = speaks.version_is ∙ ap (λ r. spoken_in (known_version r)) shows.reader in
-      let named : session ≡ session_in (speaks_in o) i = own ∙ own_is t i mid.sender knows ∙ ap (λ v. session_in v i) version in (
-        sym may,
-        subst (λ c. ShowsPeer t i c (record mid { sender = sender })) (sym (ap (λ b. if b then record o { state = conn_after keep t o.state (Notify (speaks_in o) i o.held) } else o) may))
-            (record {
-              reader = reader ∙ shows.reader;
-              ended = ended ∙ shows.ended ∙ (or_parts o.state.ended (not (is_none o.state.due)) runs).0;
-              due = sends.due ∙ (λ j. sent_all (version j) (SerialNotify (named j) (sym now.serial_is j) ∷ [])) ∙ ap (sent_all (speaks_in o)) (sym (notices (session_in (speaks_in o) i) (versions i) now.version now.is));
-              knows = knows_stays t i mid.sender sender sends.stays knows;
-              room = record { received = subst (λ r. length r.held ≤ 4096) (sym reader) shows.room.received; ready = sends.stays.room (speaks.stays.room shows.room.ready) };
-            }),
-      )
-    where
-      has_newest : (v : Option NumberedSet) → newest (versions i) ≡ v → Some serial ≡ option_map (λ (v : NumberedSet). v.serial) v → HasNewest serial (versions i)
-      has_newest None h e = absurd (let k : Some serial ≡ None = e in cc)
-      has_newest (Some v) h e = record { version = v; is = h; serial_is = inside (sym e) }
-
-      notices : (session : ℕ) (vs : List NumberedSet) (v : NumberedSet) → newest vs ≡ Some v → notice session vs ≡ SerialNotify session v.serial ∷ []
-      notices session [] v h = absurd (let e : None ≡ Some v = h in cc)
-      notices session (now ∷ older) v h = ap (λ (x : NumberedSet). SerialNotify session x.serial ∷ []) (inside h)
+  notified_some p mid session serial sender runs reader ended speaks own some shows sends = grind (arith, common_steps)

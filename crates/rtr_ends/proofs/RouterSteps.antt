@@ -1,6 +1,6 @@
 -- What a router's value does at what its reader answers.
 use Rattle.std.specs.List.{list_any}
-use Rattle.std.proofs.Common.{◌≡◌, ℕ, zero, ◌-◌, drop, Bool, true, false, not, ◌&&◌, List, [], ◌∷◌, ◌++◌, length, Option, Some, None, IfSome, if◌then◌else◌, refl, sym, ap, ◌∙◌, subst, inl, inr}
+use Rattle.std.proofs.Common.{◌≡◌, ℕ, zero, ◌-◌, drop, Bool, true, false, not, ◌&&◌, List, [], ◌∷◌, ◌++◌, length, Option, Some, None, IfSome, if◌then◌else◌, refl, sym, ap, ◌∙◌, subst, inl, inr, rules}
 use Rattle.std.proofs.Math.Bool.{and-false}
 use Rattle.rtr_pdu.specs.declared.version.Version.{Version}
 use Rattle.rtr_pdu.specs.Judging.{Whole, Faulty}
@@ -75,9 +75,7 @@ module _ (old : code.Router) (piece rest : List ℕ) (takes : (is_reading (seen_
 
     -- It is of the version of the connection.
     same_machine : (r : Router) → IsShown r old → mid ≡ old.machine
-    same_machine r s =
-        follows r.spoken (ap (λ (x : Reader). x.version) (made_so r s))
-        ∙ (λ i. record old.machine { spoken = ap (λ (x : Router). x.spoken) s.machine.is i })
+    same_machine r s = search rules
 
     followed : (r : Router) → IsShown r old → (n : Router) → ShowsRouter n old.machine → ShowsRouter n mid
     followed r s n shows = subst (λ x. ShowsRouter n x) (sym (same_machine r s)) shows
@@ -246,11 +244,7 @@ goes_stop v piece h = (
 -- A step that leaves what is held and agreed on and the version, and opens and closes nothing
 pub keeps_shown : (old new : code.Router) (r n : Router) → ShowsRouter n new.machine → new.reader ≡ old.reader → IsShown r old → n.held ≡ r.held → n.agreed ≡ r.agreed → n.spoken ≡ r.spoken → (is_reading n.link ≡ true → is_reading r.link ≡ true)
     → (is_closed n.link ≡ true → is_closed r.link ≡ true) → IsShown n new
-keeps_shown old new r n machine same s held agreed spoken reads_on closed_on = record {
-  machine = machine;
-  reader = λ h. same ∙ s.reader (reads_on h) ∙ (λ i. reading (sym spoken i) (sym agreed i) (sym held i));
-  closed = λ h. let was = s.closed (closed_on h) in (held ∙ was.0, agreed ∙ was.1);
-}
+keeps_shown old new r n machine same s held agreed spoken reads_on closed_on = search rules
 
 -- The clock
 pub told_shown : (old new : code.Router) (now : ℕ) (r : Router) → ShowsRouter (clocked now r) new.machine → new.reader ≡ old.reader → IsShown r old → IsShown (clocked now r) new
@@ -289,18 +283,11 @@ idle_shown old new r s machine same =
 -- Bytes are pulled.
 pub pulls_shown : (old new : code.Router) (r : Router) (most : ℕ) → new ≡ record old { machine = record old.machine { out = drop most old.machine.out } } → IsShown r old → IsShown (router_pulled most r) new
 unfolding router_pulled
-pulls_shown old new r most e s =
-    subst (λ v. IsShown (record r { out = drop most r.out }) v) (sym e)
-    (keeps_shown old (record old { machine = record old.machine { out = drop most old.machine.out } }) r (record r { out = drop most r.out })
-    (record { withdrawn = s.machine.withdrawn; announced = s.machine.announced; staged = s.machine.staged; is = ap (λ (x : Router). record x { out = drop most x.out }) s.machine.is })
-    refl s refl refl refl (λ h. h) (λ h. h))
+pulls_shown old new r most e s = search rules
 
 -- The version of the next connection is told.
 pub speaks_shown : (old : code.Router) (r : Router) (version : Version) → IsShown r old → IsShown (record r { speaks = version }) (record old { machine = record old.machine { speaks = version } })
-speaks_shown old r version s =
-    keeps_shown old (record old { machine = record old.machine { speaks = version } }) r (record r { speaks = version })
-    (record { withdrawn = s.machine.withdrawn; announced = s.machine.announced; staged = s.machine.staged; is = ap (λ (x : Router). record x { speaks = version }) s.machine.is })
-    refl s refl refl refl (λ h. h) (λ h. h)
+speaks_shown old r version s = search rules
 
 -- A moment is told, and an idle link asks where it is due.
 pub ticks_shown : (old new : code.Router) (now : ℕ) (r : Router) → IsShown r old → ShowsRouter (ticks_at now r).router new.machine → new.reader ≡ old.reader → IsShown (ticks_at now r).router new

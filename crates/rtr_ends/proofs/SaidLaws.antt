@@ -1,5 +1,5 @@
 -- What a router gave are its questions and its report.
-use Rattle.std.proofs.Common.{◌≡◌, ℕ, Bool, true, false, List, [], ◌∷◌, ◌++◌, take, drop, Some, None, if◌then◌else◌, refl, sym, ap, ◌∙◌, subst, append_assoc, inl, inr}
+use Rattle.std.proofs.Common.{◌≡◌, ℕ, Bool, true, false, List, [], ◌∷◌, ◌++◌, take, drop, Some, None, if◌then◌else◌, refl, sym, ap, ◌∙◌, subst, append_assoc, inl, inr, rules}
 use Rattle.std.proofs.lemmas.List.{append-nil, take-append-drop}
 use Rattle.rtr_pdu.specs.Judging.{Begins, Whole, Faulty}
 use Rattle.rtr_pdu.specs.Stream.{is_kind}
@@ -19,7 +19,7 @@ use Rattle.rtr_ends.specs.RouterLink.{Link, Closed, Idle, Asked, Answering, Ende
 use Rattle.rtr_ends.specs.Transcript.{Question, AskReset, AskSerial, Asks, Item, At, Reads, Shut, choose, later, of_version, query, retry_of, sum_of}
 use Rattle.rtr_ends.proofs.ByteLists.{drop_none}
 use Rattle.rtr_ends.proofs.Effects.{by_clock, by_close, by_unit, by_whole, put_by}
-use Rattle.rtr_ends.proofs.CallSteps.{BytesKeep, StepsKeep, by_call, by_piece, idle_reads}
+use Rattle.rtr_ends.proofs.CallSteps.{BytesKeep, StepsKeep, by_call, by_piece}
 use Rattle.rtr_ends.proofs.TableLaws.{false_true}
 
 -- the bytes of the question that a PDU made the router put
@@ -41,13 +41,7 @@ record UnitSays (version : Version) (n : Router) : Type 0 where
 
 -- nothing
 quiet : (n : Router) → n.out ≡ [] → SaysLast n.link n.spoken [] → is_cut n.link ≡ false → UnitSays n.spoken n
-quiet n none last whole = record {
-  spoken = refl;
-  report = [];
-  reported = last;
-  out = none ∙ sym (ap (λ o. put n.spoken n.link o ++ []) none ∙ ap (λ x. x ++ []) (put_none n.spoken n.link));
-  whole = whole;
-}
+quiet n none last whole = search rules
 
 -- nothing, and the link is as it was
 reading_quiet : (l : Link) (version : Version) → is_reading l ≡ true → SaysLast l version [] × (is_cut l ≡ false)
@@ -218,18 +212,7 @@ close_says given r items s = by_close (λ n. Says given n (Shut ∷ items)) r
 
 -- an idle link asks
 asks_say : (given : List ℕ) (r : Router) (items : List Item) → is_idle r.link ≡ true → Says given r items → Says given (ask r) (Asks (choose (of_version r.spoken r.version) r.mark) ∷ items)
-asks_say given r items idle s =
-    let out : List ℕ = sent r.spoken (query (choose (of_version r.spoken r.version) r.mark)) in
-    record {
-      said = record {
-        report = [];
-        reported = refl;
-        dropped = [];
-        said = ap (λ x. given ++ x) (append-nil out) ∙ ap (λ x. x ++ out) (given_all given r items (idle_reads r.link idle) (s.idle idle) s.said) ∙ sym (append-nil (questions_in r.spoken items ++ out));
-        whole = λ k. refl;
-      };
-      idle = λ k. false_true k;
-    }
+asks_say given r items idle s = search rules
 
 steps_say : (given : List ℕ) → StepsKeep (Says given)
 steps_say given = record { clock = clocked_says given; closes = close_says given; asks_it = asks_say given }

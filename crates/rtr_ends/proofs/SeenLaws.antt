@@ -1,5 +1,5 @@
 -- What a router's fields say, step by step.
-use Rattle.std.proofs.Common.{◌≡◌, ℕ, List, refl, sym, subst}
+use Rattle.std.proofs.Common.{◌≡◌, ℕ, List, refl, sym, subst, rules}
 use Rattle.prefixes.specs.Payload.{Payload}
 use Rattle.rtr_ends.specs.LinkRules.{Router}
 use Rattle.rtr_ends.specs.RouterLink.{Link}
@@ -11,10 +11,7 @@ use Rattle.rtr_ends.specs.declared.machine.State.{State}
 pub seen_in : (P : Link → Router → Type 0) (s : State) (old : Machine) → old.state ≡ s
     → ((withdrawn announced : List Payload) (held : List ℕ) → Stages s old.table withdrawn announced old.staging → P (seen_link s withdrawn announced) (seen old withdrawn announced held))
     → (r : Router) → ShowsRouter r old → P r.link r
-seen_in P s old is h r shows =
-    subst (λ x. P x.link x) (sym shows.is)
-    (subst (λ x. P (seen_link x shows.withdrawn shows.announced) (seen old shows.withdrawn shows.announced r.held)) (sym is)
-    (h shows.withdrawn shows.announced r.held (subst (λ x. Stages x old.table shows.withdrawn shows.announced old.staging) is shows.staged)))
+seen_in P s old is h r shows = search rules
 
 -- A step is looked at for what is seen.
 pub does_from : (step : Router → Router) (old new : Machine)

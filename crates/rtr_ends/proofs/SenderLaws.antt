@@ -1,5 +1,5 @@
 -- What is due of an answer under way.
-use Rattle.std.proofs.Common.{◌≡◌, Bool, true, false, ℕ, ◌+◌, ◌-◌, ◌<◌, ◌≤◌, not, List, [], ◌∷◌, ◌++◌, length, take, drop, Option, Some, None, option_map, slice_get, get_or, refl, sym, ap, ◌∙◌, subst, arith, append_assoc, add-one, inl, inr, suc, zero}
+use Rattle.std.proofs.Common.{◌≡◌, Bool, true, false, ℕ, ◌+◌, ◌-◌, ◌<◌, ◌≤◌, not, List, [], ◌∷◌, ◌++◌, length, take, drop, Option, Some, None, option_map, slice_get, get_or, refl, sym, ap, ◌∙◌, subst, arith, append_assoc, add-one, inl, inr, suc, zero, rules}
 use Rattle.std.proofs.Math.Seq.{drop-append_seam, drop-cons, drop-append-add, take-add}
 use Rattle.std.specs.Option.{is_some}
 use Rattle.std.proofs.lemmas.List.{length-append, length-drop, length-take, drop_all, drop-drop, length-map, take-append-drop, take_at}
@@ -251,9 +251,7 @@ hands_more start given s out filled w new e none h f =
     }
 
 pub hands_less : (s : Sender) (w : AnswerCursor) (new : Sender) → s.answer ≡ Some w → Hands (record s { answer = Some w }) new → length (left new) < length (left s)
-hands_less s w new e h =
-    let same : record s { answer = Some w } ≡ s = λ i. record s { answer = sym e i } in
-    omega (arith, ap length (sym (ap left same) ∙ h.was))
+hands_less s w new e h = search rules
 
 -- where nothing is due no answer is under way
 no_answer : (s : Sender) → due_of s ≡ [] → s.answer ≡ None
@@ -301,10 +299,7 @@ resets_none s new ready e h k sends = record {
 pub resets_some : (s new : Sender) (share : Share) (ready : Option Share) → s.ready ≡ Some share → ready ≡ None → BeginsAnswer (record s { ready = ready }) (Whole share) new
     → Sends s (whole_answer s.version (own_session s) s.timing (as_list (newest_of s))) new
 unfolding newest_of
-resets_some s new share ready h k b = record {
-  due = b.due ∙ ap (λ v. sent_all s.version (whole_answer s.version (own_session s) s.timing (as_list v))) (sym (newest_ready s share h));
-  stays = record { version = b.version; sessions = b.sessions; timing = b.timing; newest = (λ i. newest_in ((b.ready ∙ k) i) (b.answer i)) ∙ sym (newest_ready s share h); room = λ before. b.room };
-}
+resets_some s new share ready h k b = search rules
 
 pub steps : (s new : Sender) (serial : Serial) (change : Change) (v : NumberedSet) → due_of s ≡ [] → Some serial.0 ≡ option_map (λ (v : NumberedSet). v.serial) (newest_of s) → newest_of s ≡ Some v → BeginsAnswer s (Step serial change) new
     → Sends s (response s.version (own_session s) s.timing v (withdrawals change.withdraw ++ announcements change.announce)) new

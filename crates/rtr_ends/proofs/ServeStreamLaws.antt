@@ -1,11 +1,11 @@
 -- One connection of a cache over a reader and a writer, from call to call.
-use Rattle.std.proofs.Common.{◌≡◌, ◌⊎◌, ℕ, ◌+◌, ◌-◌, ◌*◌, ◌^◌, ◌<◌, ◌≤◌, true, false, not, ◌||◌, min, List, [], ◌∷◌, ◌++◌, length, take, drop, Option, Some, None, Result, Ok, Err, option_map, refl, sym, ap, ◌∙◌, subst, arith, append_assoc, inl, inr}
+use Rattle.std.proofs.lemmas.Grind.{common_steps}
+use Rattle.std.proofs.Common.{◌≡◌, ◌⊎◌, ℕ, ◌+◌, ◌-◌, ◌*◌, ◌<◌, ◌≤◌, true, false, not, ◌||◌, min, List, [], ◌∷◌, ◌++◌, length, take, drop, Option, Some, None, Result, Ok, Err, option_map, refl, sym, ap, ◌∙◌, subst, arith, append_assoc, rules}
 use Rattle.std.proofs.Math.Seq.{drop-nil, take-add, take-append-add}
-use Rattle.std.proofs.lemmas.Bool.{cases_eq}
-use Rattle.std.proofs.lemmas.List.{append-nil, nil_from_length, take_at, take_min, length-append, take-append-drop, length-take-le}
+use Rattle.std.proofs.lemmas.List.{append-nil, nil_from_length, length-append, take-append-drop}
 use Rattle.std.specs.List.{AllByRecursion}
 use Rattle.std.specs.Io.KnownBytes.{Appends, Consumes, IsAtEnd, Keeps}
-use Rattle.std.proofs.KnownBytes.{Appends-nil, Appends-trans, Consumes-kept, Consumes-nil, Consumes-trans}
+use Rattle.std.proofs.KnownBytes.{Appends-nil, Appends-trans, Consumes-kept, Consumes-trans}
 use Rattle.vrps.specs.Instance.{Instance, IsInstance}
 use Rattle.rtr_pdu.specs.declared.counted.Counted.{Counted}
 use Rattle.rtr_pdu.specs.Counted.{IsSpent, calls_of}
@@ -32,23 +32,15 @@ use Rattle.std.proofs.Math.Bool.{or-false}
 
 -- A call is counted, or it is not made.
 pub not_less : {D A : Type 0} (old new : Counted D) → (¬ (IsSpent old) → calls_of new ≡ calls_of old + 1) → (IsSpent old → A × (new ≡ old)) → calls_of old ≤ calls_of new
-not_less old new counted spent = elim (cases_eq (calls_of old) (2 ^ 64 - 1)) [
-  | inl is ↦ (let e = ap calls_of (spent is).1 in omega (arith, e))
-  | inr not_so ↦ (let e = counted not_so in omega (arith, e))
-]
+not_less old new counted spent = search rules
 
 -- Where the input ends, something was read.
 pub ends_in : (limit before now : ℕ) (served : Served) → (served ≡ Truncated) ⊎ (served ≡ PeerClosed) → before < now → now ≤ before + limit → ReadsWithin limit before now (Ok served)
-ends_in limit before now served ends least most = elim ends [
-  | inl is ↦ subst (λ x. ReadsWithin limit before now (Ok x)) (sym is) (least, most)
-  | inr is ↦ subst (λ x. ReadsWithin limit before now (Ok x)) (sym is) (least, most)
-]
+ends_in limit before now served ends least most = search rules
 
 -- What is pulled into a buffer stands at its front.
 pub pulled_is : (due out : List ℕ) (count : ℕ) (now rest : List ℕ) → PullsBytes due out count now rest → take count now ≡ take (length out) due
-pulled_is due out count now rest g =
-    let fits : count ≤ length due = omega (arith, g.count_is) in
-    ap (take count) g.now_is ∙ take_at (take count due) (drop count out) count (length-take-le count due fits) ∙ ap (λ n. take n due) g.count_is ∙ take_min (length out) due
+pulled_is due out count now rest g = grind (arith, common_steps)
 
 pub drop_none : (n : ℕ) → drop {A = ℕ} n [] ≡ []
 drop_none n = drop-nil n
@@ -225,10 +217,7 @@ module _ {S : Type 0} (holds : ℕ → Instance → S → Type 0) (m : CacheStat
     -- A piece was read and answered.
     module _ (piece : List ℕ) (after : Option (List ℕ)) (written : Option (List ℕ)) (new : Cache S) (size : length piece ≤ 4096) (read : Consumes left after piece) (more : ℕ) (grows : reads + 1 ≤ more) where
       came_all : (later : List ConnCall) (unread : List ℕ) → (stood m later).came ++ unread ≡ (stood m w.calls).came ++ piece → Consumes before after ((stood m later).came ++ unread) × (length ((stood m later).came ++ unread) ≤ 4096 * more)
-      came_all later unread is = (
-        subst (Consumes before after) (sym is) (Consumes-trans before left after (stood m w.calls).came piece w.consumed read),
-        (let l = length-append (stood m w.calls).came piece in omega (arith, ap length is, l, size, w.few, grows)),
-      )
+      came_all later unread is = grind (arith, common_steps)
 
       -- The writer failed.
       pub fails_there : (e : Failed) → Answered holds m c w.calls piece has written (Err e) new → EndedAs holds m c before after more had written (Err WriteFailed) new
@@ -306,12 +295,4 @@ module _ {S : Type 0} (holds : ℕ → Instance → S → Type 0) (m : CacheStat
 
 -- Without a connection nothing happens.
 pub nothing_served : (m : CacheState) (before had : Option (List ℕ)) (reads : ℕ) → ServesConnection m before before reads had had (Err Memory)
-nothing_served m before had reads = record {
-  calls = [];
-  turns = tt;
-  served = λ is. serves_history m.keep m.timing m.cache [] is tt;
-  unread = [];
-  consumed = Consumes-nil before;
-  few = omega arith;
-  ends = (refl, refl, refl);
-}
+nothing_served m before had reads = search rules

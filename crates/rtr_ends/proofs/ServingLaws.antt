@@ -1,5 +1,5 @@
 -- A connection at the cache makes the history of what is called on it.
-use Rattle.std.proofs.Common.{◌≡◌, ◌⊎◌, ℕ, ◌-◌, ◌<◌, Bool, true, false, not, ◌&&◌, List, [], ◌∷◌, ◌++◌, length, take, drop, Option, Some, None, if◌then◌else◌, MatchBool, refl, sym, ap, ◌∙◌, subst, append_assoc, inl, inr}
+use Rattle.std.proofs.Common.{◌≡◌, ◌⊎◌, ℕ, ◌-◌, ◌<◌, Bool, true, false, not, ◌&&◌, List, [], ◌∷◌, ◌++◌, length, take, drop, Option, Some, None, if◌then◌else◌, MatchBool, refl, sym, ap, ◌∙◌, subst, append_assoc, inl, inr, rules}
 use Rattle.std.specs.List.{AllByRecursion}
 use Rattle.std.proofs.lemmas.Bool.{and_parts, or_parts}
 use Rattle.std.proofs.Math.Nat.{min-le_right}
@@ -19,7 +19,7 @@ use Rattle.rtr_pdu.specs.declared.unit.UnitFault.{UnitFault}
 use Rattle.rtr_pdu.proofs.JudgingLaws.{judge_case, whole_exactly}
 use Rattle.rtr_pdu.proofs.JudgingLaws as judging
 use Rattle.rtr_pdu.proofs.NextLaws.{next_shortest, next_size}
-use Rattle.rtr_pdu.proofs.ReaderLaws.{partial_empty, reader_with}
+use Rattle.rtr_pdu.proofs.ReaderLaws.{reader_with}
 use Rattle.rtr_ends.specs.Cache.{Conn, Taking, is_none, conn_stops, conn_moment_of, with_moment, finds_memory, and_moment, conn_judged, conn_byte, conn_takes, can_notify, conn_notified, pulled_count, conn_pulled, ConnCall, Publishes, Takes, Gives, Notifies, Serving, serve, serving, IsConnCall, IsServed, ServesHistory, new_conn, speaks_in, version_at}
 use Rattle.rtr_ends.specs.Connection.{Connection, ConnMoment, Read, Wanting, Fault, Notify, Pull, bytes_of, IsLater, IsHistory, HadCome, MayCome, MayHold, conn_after, after_all, opened, pulled, is_published, takes_memory}
 use Rattle.rtr_ends.specs.Timing.{Intervals}
@@ -106,11 +106,7 @@ module _ (keep : ℕ) (t : Intervals) where
 
   -- nothing is held behind a moment
   holds_none : (c : Connection) → MayHold c []
-  holds_none c = by_end c.ended
-    where
-      by_end : (b : Bool) → MatchBool b (◌≡◌ {A = List ℕ} [] []) (IsPartial (version_in c.version []) [] × ((◌≡◌ {A = List ℕ} [] []) ⊎ ((c.due ≡ []) ⊎ (c.notified ≡ true))))
-      by_end true = refl
-      by_end false = (subst (λ x. IsPartial (version_in c.version []) x) (read_plainly (version_in c.version []) []) (partial_empty (version_in c.version []) false), inl refl)
+  holds_none c = search rules
 
   -- what is held on a connection that goes on is the beginning of a PDU
   holds_part : (c : Connection) (held : List ℕ) → c.ended ≡ false → MayHold c held → IsPartial (version_in c.version held) held
@@ -313,11 +309,7 @@ module _ (keep : ℕ) (t : Intervals) where
     }
 
     new_served : IsInstance opened_at → Served (record { cache = opened_at; conn = new_conn opened_at; moments = []; came = []; given = [] })
-    new_served is = record {
-      goes = record { runs = (refl, refl); more = []; since = refl; given_is = refl; holds = holds_none (opened opened_at); bytes = none_bytes; cache = is };
-      later = same_later opened_at;
-      cache = is;
-    }
+    new_served is = search rules
 
     all_served : (calls : List ConnCall) → IsInstance opened_at → AllByRecursion IsConnCall calls → Served (serving keep t opened_at calls)
     all_served [] is all = new_served is

@@ -1,6 +1,6 @@
 -- A machine that judges behind each byte what it holds takes a piece PDU by PDU, as a reader of PDUs does. The cache and the
 -- router are such machines.
-use Rattle.std.proofs.Common.{◌≡◌, ℕ, ◌<◌, Bool, true, false, List, [], ◌∷◌, ◌++◌, length, Option, refl, sym, ap, ◌∙◌, subst, arith, append_assoc}
+use Rattle.std.proofs.Common.{◌≡◌, ℕ, ◌<◌, Bool, true, false, List, [], ◌∷◌, ◌++◌, length, Option, refl, sym, ap, ◌∙◌, subst, arith, append_assoc, rules}
 use Rattle.std.proofs.lemmas.List.{append-nil, length-append}
 use Rattle.rtr_pdu.specs.declared.version.Version.{Version}
 use Rattle.rtr_pdu.specs.Version.{version_in}
@@ -13,7 +13,7 @@ use Rattle.rtr_pdu.specs.declared.unit.UnitFault.{UnitFault}
 use Rattle.rtr_pdu.proofs.JudgingLaws.{begins_exactly, reads_judged, shows_judged}
 use Rattle.rtr_pdu.proofs.NextLaws.{next_shortest}
 use Rattle.rtr_ends.specs.Feeding.{FedPiece, feed}
-use Rattle.rtr_ends.proofs.FeedingLaws.{goes_on, stopped}
+use Rattle.rtr_ends.proofs.FeedingLaws.{stopped}
 
 -- The machine: what it holds of a PDU, whether that may show any version, and the version that is expected; the machine that holds
 -- these bytes; and what comes of bytes of a version that are so judged. The beginning of a PDU is held, and nothing else changes by it.
@@ -78,11 +78,7 @@ module _ {M : Type 0} (w : ByteMachine M) where
     -- one byte
     byte_taken : (held : List ℕ) (b : ℕ) (piece : List ℕ) (j : Judgement) → version ≡ version_in (w.start m) (held ++ b ∷ []) → judge version (w.any m) (held ++ b ∷ []) ≡ j
         → fed (w.holding m held) (b ∷ piece) ≡ fed (w.judged (w.holding m held) version (held ++ b ∷ []) j) piece
-    byte_taken held b piece j of is =
-        goes_on w.stops w.step (w.holding m held) b piece (w.same_stop m held ∙ on)
-        ∙ ap (λ n. fed n piece)
-        (w.byte m held b ∙ ap (λ v. w.judged (w.holding m held) v (held ++ b ∷ []) (judge v (w.any m) (held ++ b ∷ []))) (sym of)
-        ∙ ap (w.judged (w.holding m held) version (held ++ b ∷ [])) is)
+    byte_taken held b piece j of is = search rules
 
     -- Behind these bytes each beginning of those is one of a PDU.
     abbrev AllBegin : List ℕ → List ℕ → Type 0
