@@ -9,7 +9,7 @@ use Rattle.rtr_pdu.specs.declared.unit.Unit.{Unit}
 use Rattle.rtr_pdu.specs.declared.unit.Unit.TheVariants.{SerialQuery, ResetQuery, ErrorReport}
 use Rattle.rtr_pdu.specs.declared.version.Version.{Version}
 use Rattle.rtr_ends.specs.Answer.{and_end, announcements, answer, report, response, sent, sent_all, serial_answer, session_in, step_answer, withdrawals}
-use Rattle.rtr_ends.specs.Connection.{is_published, takes_memory}
+use Rattle.rtr_ends.specs.Connection.{takes_memory}
 use Rattle.rtr_ends.specs.Peer.{SendsReply, EndsConnection, Knows, no_memory, read_reply, since_reply}
 use Rattle.rtr_ends.specs.Sender.{Sends, Stays, StaysBut, newest_of, own_session}
 use Rattle.rtr_ends.specs.Timing.{Intervals}
@@ -45,9 +45,6 @@ stepped version session t now (Some before) change h =
 known_step : (version : Version) (session keep : ℕ) (t : Intervals) (serial : ℕ) (vs : List NumberedSet) (change : Change) → Known change ≡ since keep serial vs → IsStep version session keep t serial vs change
 known_step version session keep t serial [] change h = absurd (let e : Known change ≡ NoData = h in cc)
 known_step version session keep t serial (now ∷ older) change h = record { now = now; newest_is = refl; answer_is = stepped version session t now (with_serial serial (now ∷ take keep older)) change h }
-
-pub published_some : (i : Instance) (v : NumberedSet) → newest (versions i) ≡ Some v → is_published i ≡ true
-published_some i v h = grind (arith, common_steps)
 
 module _ (keep : ℕ) (t : Intervals) (i : Instance) where
   -- What `answer_since` does at each outcome of the store

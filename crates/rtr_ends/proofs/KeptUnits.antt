@@ -1,15 +1,12 @@
 -- What a router keeps after each PDU is what its transcript keeps.
-use Rattle.std.proofs.Common.{◌≡◌, ℕ, Bool, true, false, not, ◌&&◌, ◌||◌, ◌==◌, nat_lt, List, [], ◌∷◌, ◌++◌, Option, Some, if◌then◌else◌, refl, sym, subst, arith, append_assoc, rules}
+use Rattle.std.proofs.Common.{◌≡◌, ℕ, Bool, true, false, not, ◌&&◌, ◌||◌, ◌==◌, nat_lt, List, [], ◌∷◌, ◌++◌, Option, Some, if◌then◌else◌, refl, sym, subst, append_assoc, rules}
 use Rattle.std.proofs.Math.Bool.{and-false}
 use Rattle.std.proofs.lemmas.Bool.{or_parts}
-use Rattle.std.proofs.lemmas.Bool.Decides.{nat_tests}
 use Rattle.vrps.specs.VrpSet.{VrpSet, has, size}
 use Rattle.rtr_pdu.specs.Judging.{Judgement, Begins, Whole, Faulty}
 use Rattle.rtr_pdu.specs.Payloads.{Report}
 use Rattle.rtr_pdu.specs.declared.unit.Unit.{Unit}
 use Rattle.rtr_pdu.specs.declared.unit.Unit.TheVariants.{SerialNotify, CacheResponse, Prefix, EndOfData, EndOfData0, CacheReset, RouterKey, ErrorReport}
-use Rattle.rtr_pdu.specs.declared.version.Version.{Version}
-use Rattle.rtr_ends.specs.Answer.{sent}
 use Rattle.rtr_ends.specs.LinkRules.{Router, Stays, Wrong, Over, asking, ask, ended_by, fails, is_strange, is_news, staged, commit, told_off, on_unit}
 use Rattle.rtr_ends.specs.Router.{Noted, asked_by, reads, with_bytes}
 use Rattle.rtr_ends.specs.RouterLaws.{LinkTells}
@@ -17,7 +14,7 @@ use Rattle.rtr_ends.specs.RouterLink.{Link, Closed, Idle, Asked, Answering, Ende
 use Rattle.rtr_ends.specs.Timing.{default_intervals}
 use Rattle.rtr_ends.proofs.TableLaws.{false_true}
 use Rattle.rtr_ends.proofs.Effects.{by_whole, either, reading_open_so}
-use Rattle.rtr_ends.specs.Transcript.{choose, of_version, spoken, Question, AskReset, AskSerial, query, Item, Asks, Reads, Begun, outstanding, question_of, has_agreed, responded, is_connected, moment, is_among, led_to, Kept, bounded, base_of, is_wrong, kept, due}
+use Rattle.rtr_ends.specs.Transcript.{choose, of_version, spoken, Question, AskReset, AskSerial, Item, Reads, Begun, outstanding, question_of, has_agreed, responded, is_connected, moment, is_among, led_to, Kept, bounded, base_of, is_wrong, kept, due}
 
 abbrev pub holds : Router → Kept
 holds r = record { version = r.version; table = r.table }
@@ -28,9 +25,6 @@ pub record Tells (r : Router) (items : List Item) : Type 0 where
   pub now_is : moment items ≡ r.now
   pub spoken_is : spoken items ≡ r.spoken
   pub link : LinkTells r.link r.agreed r.session r.table items
-
-two_not_zero : (n : ℕ) → (n == 2) ≡ true → (n == 0) ≡ false
-two_not_zero n h = grind (arith, nat_tests)
 
 -- the router after a PDU, and the transcript
 abbrev After : Router → Unit → List Item → Type 0
@@ -44,17 +38,10 @@ pub record Leaves (r : Router) (u : Unit) (items : List Item) : Type 0 where
   pub spoken_is : spoken items ≡ r.spoken
 
 -- a router that keeps its link
-no_question : (l : Link) (out : List ℕ) → out ≡ [] → asked_by l out ≡ []
-no_question l out e = search rules
-
 stays_after : (r : Router) (u : Unit) (items : List Item) (l : Link) → r.link ≡ l → r.out ≡ [] → Leaves r u items → LinkTells l r.agreed r.session r.table (Reads u ∷ items) → After r u items
 stays_after r u items l is none h t = search rules
 
 -- a question that is put stands in the transcript
-put_asks : (version : Version) (q : Question) → asked_by (Asked q) (sent version (query q)) ≡ Asks q ∷ []
-put_asks version AskReset = refl
-put_asks version (AskSerial session serial) = refl
-
 asking_after : (r : Router) (q : Question) (u : Unit) (items : List Item) → is_connected items ≡ true → Leaves r u items → has_agreed (Reads u ∷ items) ≡ r.agreed → responded (Reads u ∷ items) ≡ r.session → After (asking q r) u items
 asking_after r q u items c h a s = search rules
 

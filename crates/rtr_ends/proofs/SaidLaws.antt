@@ -27,10 +27,6 @@ abbrev put : Version → Link → List ℕ → List ℕ
 put version (Asked q) (b ∷ out) = sent version (query q)
 put version link out = []
 
-put_none : (version : Version) (l : Link) → put version l [] ≡ []
-put_none version Closed = refl
-put_none version _ = refl
-
 -- what a PDU makes a router say that had nothing to be pulled
 record UnitSays (version : Version) (n : Router) : Type 0 where
   pub spoken : n.spoken ≡ version

@@ -3,7 +3,7 @@ use Rattle.std.proofs.Common.{◌≡◌, ℕ, List, refl, sym, subst, rules}
 use Rattle.prefixes.specs.Payload.{Payload}
 use Rattle.rtr_ends.specs.LinkRules.{Router}
 use Rattle.rtr_ends.specs.RouterLink.{Link}
-use Rattle.rtr_ends.specs.Seen.{Does, ShowsRouter, Stages, seen, seen_link}
+use Rattle.rtr_ends.specs.Seen.{ShowsRouter, Stages, seen, seen_link}
 use Rattle.rtr_ends.specs.declared.machine.Machine.{Machine}
 use Rattle.rtr_ends.specs.declared.machine.State.{State}
 
@@ -12,12 +12,6 @@ pub seen_in : (P : Link → Router → Type 0) (s : State) (old : Machine) → o
     → ((withdrawn announced : List Payload) (held : List ℕ) → Stages s old.table withdrawn announced old.staging → P (seen_link s withdrawn announced) (seen old withdrawn announced held))
     → (r : Router) → ShowsRouter r old → P r.link r
 seen_in P s old is h r shows = search rules
-
--- A step is looked at for what is seen.
-pub does_from : (step : Router → Router) (old new : Machine)
-    → ((withdrawn announced : List Payload) (held : List ℕ) → Stages old.state old.table withdrawn announced old.staging → ShowsRouter (step (seen old withdrawn announced held)) new)
-    → Does step old new
-does_from step old new h = seen_in (λ l r. ShowsRouter (step r) new) old.state old refl h
 
 -- What is seen of a machine is shown by it.
 pub shown : (m : Machine) (withdrawn announced : List Payload) (held : List ℕ) → Stages m.state m.table withdrawn announced m.staging → ShowsRouter (seen m withdrawn announced held) m
