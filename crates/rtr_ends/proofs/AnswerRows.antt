@@ -1,14 +1,5 @@
 -- The codes of faults, and the PDUs at which memory may run out at a cache, worked out.
-use Rattle.std.proofs.Common.{Bool, None, Some, [], false, refl, true, ℕ, ◌≡◌, ◌∷◌}
-use Rattle.prefixes.specs.Payload.{Payload}
-use Rattle.vrps.specs.Instance.{Instance}
-use Rattle.vrps.specs.VrpSet.{VrpSet}
-use Rattle.rtr_pdu.specs.Payloads.{Key, Report}
-use Rattle.rtr_pdu.specs.declared.unit.Unit.{Unit}
-use Rattle.rtr_pdu.specs.declared.unit.Unit.TheVariants.{CacheReset, CacheResponse, EndOfData, EndOfData0, ErrorReport, Prefix, ResetQuery, RouterKey, SerialNotify, SerialQuery}
-use Rattle.rtr_pdu.specs.declared.unit.UnitFault.{UnitFault}
-use Rattle.rtr_pdu.specs.declared.version.Version.{Version}
-use Rattle.rtr_pdu.specs.declared.version.Version.TheVariants.{V0, V1}
+use Rattle.rtr_ends.proofs.Words.{Bool, None, Some, [], false, refl, true, ℕ, ◌≡◌, ◌∷◌, Payload, Instance, VrpSet, Key, Report, Unit, CacheReset, CacheResponse, EndOfData, EndOfData0, ErrorReport, Prefix, ResetQuery, RouterKey, SerialNotify, SerialQuery, UnitFault, Version, V0, V1}
 use Rattle.rtr_ends.specs.Connection.{agreed_version, fault_code, takes_memory}
 use Rattle.rtr_ends.proofs.WholeAnswerRows.{cache}
 use Rattle.rtr_pdu.specs.declared.unit.UnitFault.TheVariants as faults

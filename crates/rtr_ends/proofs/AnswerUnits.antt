@@ -1,35 +1,10 @@
 -- What a cache sends are PDUs that can be sent.
-use Rattle.std.proofs.Common.{◌≡◌, ℕ, suc, zero, ◌+◌, ◌*◌, ◌/◌, ◌%◌, ◌<◌, ◌^◌, ◌==◌, Bool, true, false, List, [], ◌∷◌, ◌++◌, map, length, take, Option, Some, None, if◌then◌else◌, refl, subst, arith}
-use Rattle.std.specs.Int.{byte_at}
-use Rattle.std.specs.List.{AllByRecursion, All}
-use Rattle.std.proofs.lemmas.List.{length-take}
-use Rattle.std.proofs.lemmas.List.Elements.{All-head, All-tail}
-use Rattle.std.proofs.lemmas.Str.{IsUtf8-nil}
-use Rattle.std.proofs.Math.Nat.{min-le_left}
-use Rattle.prefixes.specs.Payload.{Payload, IsPayload}
-use Rattle.prefixes.specs.declared.prefix.IpPrefix.{IpPrefix}
-use Rattle.prefixes.specs.declared.prefix.IpPrefix.TheVariants.{V4, V6}
-use Rattle.vrps.specs.Instance.{Instance, IsInstance, NumberedSet, versions, versions_from, with_serial}
-use Rattle.vrps.specs.Serial.{serial_at}
-use Rattle.vrps.specs.VrpSet.{VrpSet, IsVrpSet, listing, without}
-use Rattle.vrps.proofs.Listed.{part_is_set}
-use Rattle.byteorder.specs.Endian.{big_bytes}
-use Rattle.rtr_pdu.specs.Payloads.{AreBytes}
-use Rattle.rtr_pdu.specs.Stream.{type_of}
-use Rattle.rtr_pdu.specs.Unit.{IsUnit, IsUnitOf}
-use Rattle.rtr_pdu.specs.declared.unit.Unit.{Unit}
-use Rattle.rtr_pdu.specs.declared.unit.Unit.TheVariants.{SerialQuery, ResetQuery, Prefix, RouterKey, ErrorReport}
-use Rattle.rtr_pdu.specs.declared.unit.UnitFault.{UnitFault}
+use Rattle.rtr_ends.proofs.Words.{◌≡◌, ℕ, suc, zero, ◌+◌, ◌*◌, ◌/◌, ◌%◌, ◌<◌, ◌^◌, ◌==◌, Bool, true, false, List, [], ◌∷◌, ◌++◌, map, length, take, Option, Some, None, if◌then◌else◌, refl, subst, arith, byte_at, AllByRecursion, All, length-take, All-head, All-tail, IsUtf8-nil, min-le_left, Payload, IsPayload, IpPrefix, V4, V6, Instance, IsInstance, NumberedSet, versions, versions_from, with_serial, serial_at, VrpSet, IsVrpSet, listing, without, part_is_set, big_bytes, AreBytes, type_of, IsUnit, IsUnitOf, Unit, SerialQuery, ResetQuery, Prefix, RouterKey, ErrorReport, UnitFault, AreBytes-take, is_byte, Version, V0, V1, all_both}
 use Rattle.rtr_pdu.specs.declared.unit.UnitFault.TheVariants as faults
-use Rattle.rtr_pdu.proofs.ReadLaws.{AreBytes-take}
-use Rattle.rtr_pdu.proofs.VersionLaws.{is_byte}
-use Rattle.rtr_pdu.specs.declared.version.Version.{Version}
-use Rattle.rtr_pdu.specs.declared.version.Version.TheVariants.{V0, V1}
 use Rattle.rtr_ends.specs.Answer.{and_end, and_on, announcements, answer, end_of_data, report, response, sent, serial_answer, session_in, step_answer, whole_answer, withdrawals}
 use Rattle.rtr_ends.specs.Connection.{Connection, IsHistory, MayCome, ConnMoment, Read, Wanting, Fault, Notify, Pull, conn_after, Sent, bytes_of, in_version, fault_code, fault_report, notice, replies_from, reply, sent_by, version_after}
 use Rattle.rtr_ends.specs.Timing.{default_intervals}
 use Rattle.rtr_ends.proofs.ByteLists.{bytes_front, none_bytes}
-use Rattle.prefixes.proofs.Basics.{all_both}
 
 -- bytes, one behind the other
 abbrev Bytes : List ℕ → Type 0

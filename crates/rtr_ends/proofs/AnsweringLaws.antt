@@ -1,13 +1,5 @@
 -- What the answers of a connection are.
-use Rattle.std.proofs.lemmas.Grind.{common_steps}
-use Rattle.std.proofs.Common.{◌≡◌, ℕ, Bool, true, false, List, [], ◌∷◌, ◌++◌, take, Option, Some, None, option_map, if◌then◌else◌, refl, sym, ap, ◌∙◌, subst, arith, rules}
-use Rattle.vrps.specs.Instance.{Instance, NumberedSet, versions, with_serial}
-use Rattle.vrps.specs.Store.{Known, NoData, Unknown, since, step_from}
-use Rattle.vrps.specs.Stores.{newest}
-use Rattle.vrps.specs.declared.change.Change.{Change}
-use Rattle.rtr_pdu.specs.declared.unit.Unit.{Unit}
-use Rattle.rtr_pdu.specs.declared.unit.Unit.TheVariants.{SerialQuery, ResetQuery, ErrorReport}
-use Rattle.rtr_pdu.specs.declared.version.Version.{Version}
+use Rattle.rtr_ends.proofs.Words.{common_steps, ◌≡◌, ℕ, Bool, true, false, List, [], ◌∷◌, ◌++◌, take, Option, Some, None, option_map, if◌then◌else◌, refl, sym, ap, ◌∙◌, subst, arith, rules, Instance, NumberedSet, versions, with_serial, Known, NoData, Unknown, since, step_from, newest, Change, Unit, SerialQuery, ResetQuery, ErrorReport, Version, and-false}
 use Rattle.rtr_ends.specs.Answer.{and_end, announcements, answer, report, response, sent, sent_all, serial_answer, session_in, step_answer, withdrawals}
 use Rattle.rtr_ends.specs.Connection.{takes_memory}
 use Rattle.rtr_ends.specs.Peer.{SendsReply, EndsConnection, Knows, no_memory, read_reply, since_reply}
@@ -15,7 +7,6 @@ use Rattle.rtr_ends.specs.Sender.{Sends, Stays, StaysBut, newest_of, own_session
 use Rattle.rtr_ends.specs.Timing.{Intervals}
 use Rattle.rtr_ends.specs.declared.peer.Peer.{Peer}
 use Rattle.rtr_ends.specs.declared.sender.Sender.{Sender}
-use Rattle.std.proofs.Math.Bool.{and-false}
 
 pub stays_but : (old new : Sender) → Stays old new → StaysBut old new
 stays_but old new s = record { sessions = s.sessions; timing = s.timing; newest = s.newest; room = s.room }

@@ -1,9 +1,5 @@
 -- Lists of bytes, and parts of them.
-use Rattle.std.proofs.lemmas.Grind.{common_steps}
-use Rattle.std.proofs.Common.{◌≡◌, refl, ℕ, zero, suc, ◌-◌, ◌<◌, List, [], ◌∷◌, ◌++◌, length, take, drop, ◌∙◌, ap, arith, subst}
-use Rattle.std.proofs.Math.Seq.{drop-nil, take-append_seam}
-use Rattle.rtr_pdu.specs.Payloads.{AreBytes}
-use Rattle.rtr_pdu.proofs.ReadLaws.{AreBytes-take}
+use Rattle.rtr_ends.proofs.Words.{common_steps, ◌≡◌, refl, ℕ, zero, suc, ◌-◌, ◌<◌, List, [], ◌∷◌, ◌++◌, length, take, drop, ◌∙◌, ap, arith, subst, drop-nil, take-append_seam, AreBytes, AreBytes-take}
 
 -- no bytes, and one more
 pub none_bytes : AreBytes []

@@ -1,8 +1,5 @@
 -- The version of a connection in the definition of its history, worked out.
-use Rattle.std.proofs.Common.{List, [], arith, drop, inl, inr, refl, ℕ, ◌++◌, ◌∷◌, ◌≡◌}
-use Rattle.vrps.specs.Instance.{Instance, IsInstance}
-use Rattle.vrps.specs.VrpSet.{set_of}
-use Rattle.rtr_pdu.specs.declared.version.Version.TheVariants.{V0, V1}
+use Rattle.rtr_ends.proofs.Words.{List, [], arith, drop, inl, inr, refl, ℕ, ◌++◌, ◌∷◌, ◌≡◌, Instance, IsInstance, set_of, V0, V1}
 use Rattle.rtr_ends.specs.Connection.{IsConnMoment, IsHistory, IsLater, Notify, Pull, opened}
 use Rattle.rtr_ends.specs.Timing.{default_intervals}
 use Rattle.rtr_ends.proofs.WholeAnswerRows.{v}

@@ -1,28 +1,17 @@
 -- One connection of many.
-use Rattle.std.proofs.Common.{◌≡◌, ℕ, ◌+◌, ◌<◌, ◌≤◌, ◌==◌, Bool, true, false, List, [], ◌∷◌, ◌++◌, length, map, Box, Option, Some, None, IsSome, IfSome, is_some, slice_get, slice_set, get_or, option_map, unwrap_or, Result, Ok, Err, IsErr, if◌then◌else◌, refl, Global, sym, ap, ◌∙◌, subst, arith, inl, inr, zero, suc, rules}
-use Rattle.std.proofs.lemmas.Bool.{cases_eq, cases_lt}
-use Rattle.std.proofs.lemmas.Option.{slice_get_past, slice_get_read}
-use Rattle.std.proofs.lemmas.List.{length-append, length-map, length-set, map-append, set-get_or}
-use Rattle.std.specs.List.{AllByRecursion}
-use Rattle.vrps.specs.Instance.{Instance, NumberedSet, versions}
-use Rattle.vrps.specs.Serial.{serial_at}
-use Rattle.vrps.specs.Store.{is_current, published}
-use Rattle.vrps.specs.Stores.{newest}
-use Rattle.vrps.specs.VrpSet.{VrpSet}
+use Rattle.rtr_ends.proofs.Words.{◌≡◌, ℕ, ◌+◌, ◌<◌, ◌≤◌, ◌==◌, Bool, true, false, List, [], ◌∷◌, ◌++◌, length, map, Box, Option, Some, None, IsSome, IfSome, is_some, slice_get, slice_set, get_or, option_map, unwrap_or, Result, Ok, Err, IsErr, if◌then◌else◌, refl, Global, sym, ap, ◌∙◌, subst, arith, inl, inr, zero, suc, rules, cases_eq, cases_lt, slice_get_past, slice_get_read, length-append, length-map, length-set, map-append, set-get_or, AllByRecursion, Instance, NumberedSet, versions, serial_at, is_current, published, newest, VrpSet, AllocError, eq_self, set_same, set_other}
 use Rattle.rtr_ends.specs.Cache.{Conn, can_notify, conn_notified}
 use Rattle.rtr_ends.specs.CacheState.{Brings, CacheState, can_notify_at, GivesBytes, HandsOut, is_wanted_at, IsLeastFree, joined, notified, OffersAt, Opens, peer_at, ShowsCache, ShowsSlot, TakesPiece, unboxed, with_conn, taken_numbers}
 use Rattle.rtr_ends.specs.Numbers.{AreFree, TakesNumber}
 use Rattle.rtr_ends.specs.Peer.{Pulls, Receives, ShowsPeer}
 use Rattle.rtr_ends.specs.Sender.{numbered_of}
 use Rattle.rtr_ends.specs.Timing.{Intervals}
-use Rattle.std.specs.declared.alloc.AllocError.{AllocError}
 use Rattle.rtr_ends.specs.declared.cache.Cache.{Cache}
 use Rattle.rtr_ends.specs.declared.cache.Conn.{Conn as Number}
 use Rattle.rtr_ends.specs.declared.numbers.FreeNumbers.{FreeNumbers}
 use Rattle.rtr_ends.proofs.NumberLaws.{takes_below, takes_next}
 use Rattle.rtr_ends.specs.declared.peer.Peer.{Peer}
 use Rattle.rtr_ends.specs.declared.sender.Share.{Share}
-use Rattle.prefixes.proofs.Basics.{eq_self, set_same, set_other}
 use Rattle.rtr_ends.proofs.TableLaws.{inside}
 
 -- what stands under a number that is set

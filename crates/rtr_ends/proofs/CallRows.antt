@@ -1,6 +1,5 @@
 -- The life of a connection among others, worked out.
-use Rattle.std.proofs.Common.{List, None, Option, Some, [], refl, ℕ, ◌∷◌, ◌≡◌}
-use Rattle.vrps.specs.VrpSet.{VrpSet, set_of}
+use Rattle.rtr_ends.proofs.Words.{List, None, Option, Some, [], refl, ℕ, ◌∷◌, ◌≡◌, VrpSet, set_of}
 use Rattle.rtr_ends.specs.Cache.{Gives, Notifies, Publishes, Takes, serving}
 use Rattle.rtr_ends.specs.CacheState.{CacheCall, Close, Life, Notify, Open, Publish, Pull, Receive, life, without_conns}
 use Rattle.rtr_ends.specs.Timing.{default_intervals}

@@ -1,6 +1,5 @@
 -- What bytes that are judged, the clock, a close and a question keep of a router and its transcript, calls keep.
-use Rattle.std.proofs.Common.{◌≡◌, ℕ, Bool, true, false, not, List, [], ◌∷◌, ◌++◌, Option, refl}
-use Rattle.rtr_pdu.specs.Judging.{Judgement, Faulty, judge}
+use Rattle.rtr_ends.proofs.Words.{◌≡◌, ℕ, Bool, true, false, not, List, [], ◌∷◌, ◌++◌, Option, refl, Judgement, Faulty, judge}
 use Rattle.rtr_pdu.specs.declared.unit.UnitFault.TheVariants as faults
 use Rattle.rtr_pdu.proofs.JudgingLaws as judging
 use Rattle.rtr_ends.specs.Cache.{finds_memory}

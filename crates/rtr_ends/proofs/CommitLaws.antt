@@ -1,11 +1,5 @@
 -- What commits satisfy.
-use Rattle.std.proofs.Common.{◌∙◌, sym}
-use Rattle.std.proofs.lemmas.Bool.{and_parts}
-use Rattle.prefixes.proofs.Basics.{false_of_not}
-use Rattle.std.proofs.lemmas.Map.Keys.{IsDistinct-from_sorted}
-use Rattle.prefixes.specs.Payload.{vrp_cmp}
-use Rattle.vrps.specs.VrpSet.{union, without}
-use Rattle.vrps.proofs.SetLaws.{all_of_members, apply-between, has-without, listing_ascends, set_of-listing}
+use Rattle.rtr_ends.proofs.Words.{◌∙◌, sym, and_parts, false_of_not, IsDistinct-from_sorted, vrp_cmp, union, without, all_of_members, apply-between, has-without, listing_ascends, set_of-listing}
 use Rattle.rtr_ends.specs.Commit.{ChangeCommits}
 
 pub change_commits : ChangeCommits

@@ -1,10 +1,5 @@
 -- The transcript of a router has the split of what it consumed.
-use Rattle.std.proofs.Common.{◌≡◌, ℕ, ◌<◌, Bool, true, false, List, [], ◌∷◌, ◌++◌, drop, Option, refl, sym, ◌∙◌, subst, rules}
-use Rattle.std.proofs.lemmas.List.{append-nil}
-use Rattle.std.specs.List.{AllByRecursion}
-use Rattle.rtr_pdu.specs.declared.version.Version.TheVariants.{V1}
-use Rattle.rtr_pdu.specs.Payloads.{AreBytes}
-use Rattle.rtr_pdu.proofs.ReaderLaws.{partial_empty}
+use Rattle.rtr_ends.proofs.Words.{◌≡◌, ℕ, ◌<◌, Bool, true, false, List, [], ◌∷◌, ◌++◌, drop, Option, refl, sym, ◌∙◌, subst, rules, append-nil, AllByRecursion, V1, AreBytes, partial_empty}
 use Rattle.rtr_ends.specs.Cache.{finds_memory}
 use Rattle.rtr_ends.specs.Consumed.{consumed, came, IsRouterCall, IsSplit, RouterSplits}
 use Rattle.rtr_ends.specs.LinkRules.{Router, ask}

@@ -1,21 +1,7 @@
 -- The transcript of a router has the split of what it consumed, after each PDU and fault.
-use Rattle.std.proofs.Common.{◌≡◌, ℕ, ◌<◌, Bool, true, false, not, ◌&&◌, List, [], ◌∷◌, ◌++◌, Option, None, refl, sym, ap, ◌∙◌, subst, subst₂, append_assoc}
-use Rattle.std.proofs.Math.Bool.{and-false, and-true}
-use Rattle.std.proofs.lemmas.List.{append-nil}
-use Rattle.vrps.specs.VrpSet.{VrpSet}
-use Rattle.rtr_pdu.specs.Judging.{Judgement, Begins, Whole, Faulty, judge, unit_in}
-use Rattle.rtr_pdu.specs.Payloads.{AreBytes}
-use Rattle.rtr_pdu.specs.Stream.{AreRead, IsPartial, Shows, Splits, any_after, as_read, is_notify}
+use Rattle.rtr_ends.proofs.Words.{◌≡◌, ℕ, ◌<◌, Bool, true, false, not, ◌&&◌, List, [], ◌∷◌, ◌++◌, Option, None, refl, sym, ap, ◌∙◌, subst, subst₂, append_assoc, and-false, and-true, append-nil, VrpSet, Judgement, Begins, Whole, Faulty, judge, unit_in, AreBytes, AreRead, IsPartial, Shows, Splits, any_after, as_read, is_notify, Version, Unit, SerialNotify, UnitFault, judge_case, whole_exactly, next_size, partial_empty, AreRead-push, any_after-push}
 use Rattle.rtr_pdu.specs.Unit as units
-use Rattle.rtr_pdu.specs.declared.version.Version.{Version}
-use Rattle.rtr_pdu.specs.declared.unit.Unit.{Unit}
-use Rattle.rtr_pdu.specs.declared.unit.Unit.TheVariants.{SerialNotify}
-use Rattle.rtr_pdu.specs.declared.unit.UnitFault.{UnitFault}
-use Rattle.rtr_pdu.proofs.JudgingLaws.{judge_case, whole_exactly}
 use Rattle.rtr_pdu.proofs.JudgingLaws as judging
-use Rattle.rtr_pdu.proofs.NextLaws.{next_size}
-use Rattle.rtr_pdu.proofs.ReaderLaws.{partial_empty}
-use Rattle.rtr_pdu.proofs.RunLaws.{AreRead-push, any_after-push}
 use Rattle.rtr_ends.specs.Consumed.{units_read_in, fault_in}
 use Rattle.rtr_ends.specs.LinkRules.{Router, on_unit}
 use Rattle.rtr_ends.specs.Router.{Noted, asked_by, reads, with_bytes}

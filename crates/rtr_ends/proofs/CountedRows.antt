@@ -1,7 +1,5 @@
 -- What a device counts, worked out.
-use Rattle.std.proofs.Common.{arith, inl, refl, ℕ, ⊎_elim, ◌≤◌}
-use Rattle.rtr_pdu.specs.Counted.{HasFailed}
-use Rattle.rtr_pdu.specs.declared.counted.Counted.{Counted}
+use Rattle.rtr_ends.proofs.Words.{arith, inl, refl, ℕ, ⊎_elim, ◌≤◌, HasFailed, Counted}
 
 -- a device after so many calls and failures
 abbrev counted : (calls failures : ℕ) → failures ≤ calls → Counted (Unit {0})

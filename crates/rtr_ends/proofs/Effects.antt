@@ -1,16 +1,11 @@
 -- What a step does to a router is one of few effects. A law of each effect is one of the step.
-use Rattle.std.proofs.Common.{◌≡◌, ℕ, Bool, true, false, not, ◌&&◌, ◌==◌, List, [], ◌∷◌, ◌++◌, Some, None, if◌then◌else◌, refl, sym, rules}
-use Rattle.std.proofs.lemmas.Bool.{and_parts}
-use Rattle.rtr_pdu.specs.Judging.{Whole, judge}
-use Rattle.rtr_pdu.specs.declared.unit.Unit.{Unit}
-use Rattle.rtr_pdu.specs.declared.unit.Unit.TheVariants.{SerialNotify, CacheResponse, Prefix, EndOfData, EndOfData0, CacheReset, RouterKey, ErrorReport}
+use Rattle.rtr_ends.proofs.Words.{◌≡◌, ℕ, Bool, true, false, not, ◌&&◌, ◌==◌, List, [], ◌∷◌, ◌++◌, Some, None, if◌then◌else◌, refl, sym, rules, and_parts, Whole, judge, Unit, SerialNotify, CacheResponse, Prefix, EndOfData, EndOfData0, CacheReset, RouterKey, ErrorReport, true_of_not}
 use Rattle.rtr_ends.specs.declared.link.End.TheVariants as ends
 use Rattle.rtr_ends.specs.LinkRules.{Router, Staged, Stays, Wrong, Over, asking, commit, emptied, ended_by, fails, is_news, is_strange, may_lack, on_unit, reports, stage, staged, told_off}
 use Rattle.rtr_ends.specs.Cache.{finds_memory, is_none}
 use Rattle.rtr_ends.specs.Router.{Noted, Receiving, clocked, close, lacks, reads, router_byte, router_stops, with_bytes}
 use Rattle.rtr_ends.specs.RouterLink.{Link, Closed, Idle, Asked, Answering, Ended, is_closed, is_reading}
 use Rattle.rtr_ends.specs.Transcript.{Question, AskReset, AskSerial, Begun, Committed, Item, base_of, choose, is_over, is_serial, is_wrong, later, of_version, retry_of, sum_of}
-use Rattle.prefixes.proofs.Basics.{true_of_not}
 
 -- Either way a test goes
 pub either : {A : Type 0} (P : A → Type 0) (b : Bool) (x y : A) → (b ≡ true → P x) → (b ≡ false → P y) → P (if b then x else y)

@@ -1,6 +1,5 @@
 -- What a machine takes of a piece.
-use Rattle.std.proofs.Common.{◌≡◌, ℕ, ◌-◌, ◌<◌, Bool, true, false, List, [], ◌∷◌, ◌++◌, length, suc, take, refl, sym, ap, subst, append_assoc, append-nil, arith, length-append}
-use Rattle.rtr_pdu.specs.Payloads.{AreBytes}
+use Rattle.rtr_ends.proofs.Words.{◌≡◌, ℕ, ◌-◌, ◌<◌, Bool, true, false, List, [], ◌∷◌, ◌++◌, length, suc, take, refl, sym, ap, subst, append_assoc, append-nil, arith, length-append, AreBytes}
 use Rattle.rtr_ends.specs.Feeding.{FedPiece, feed, run, IsTaken, Takes}
 use Rattle.rtr_ends.proofs.ByteLists.{bytes_front, front_of}
 

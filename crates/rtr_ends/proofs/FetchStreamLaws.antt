@@ -1,14 +1,5 @@
 -- One connection of a router over a reader and a writer, from call to call.
-use Rattle.std.proofs.lemmas.Grind.{common_steps}
-use Rattle.std.proofs.Common.{◌≡◌, ℕ, ◌+◌, ◌-◌, ◌*◌, ◌<◌, ◌≤◌, Bool, true, false, not, ◌&&◌, min, List, [], ◌∷◌, ◌++◌, length, take, drop, Option, Some, None, Result, Ok, Err, refl, sym, ap, ◌∙◌, subst, arith, append_assoc}
-use Rattle.std.proofs.Math.Seq.{take-add}
-use Rattle.std.proofs.lemmas.List.{append-nil, nil_from_length, take_at, length-take, take-append-drop}
-use Rattle.std.specs.List.{AllByRecursion}
-use Rattle.std.specs.Io.KnownBytes.{Appends, Consumes, IsAtEnd, Keeps}
-use Rattle.std.proofs.KnownBytes.{Appends-nil, Appends-trans, Consumes-kept, Consumes-nil, Consumes-trans}
-use Rattle.rtr_pdu.specs.Device.{GoesOutInPart}
-use Rattle.rtr_pdu.specs.Judging.{Begins, Whole, Faulty}
-use Rattle.rtr_pdu.specs.Payloads.{AreBytes}
+use Rattle.rtr_ends.proofs.Words.{common_steps, ◌≡◌, ℕ, ◌+◌, ◌-◌, ◌*◌, ◌<◌, ◌≤◌, Bool, true, false, not, ◌&&◌, min, List, [], ◌∷◌, ◌++◌, length, take, drop, Option, Some, None, Result, Ok, Err, refl, sym, ap, ◌∙◌, subst, arith, append_assoc, take-add, append-nil, nil_from_length, take_at, length-take, take-append-drop, AllByRecursion, Appends, Consumes, IsAtEnd, Keeps, Appends-nil, Appends-trans, Consumes-kept, Consumes-nil, Consumes-trans, GoesOutInPart, Begins, Whole, Faulty, AreBytes, all_both, false_of_not, not_both, and-true}
 use Rattle.rtr_pdu.specs.declared.device.WriteFailed.{WriteFailed as Failed}
 use Rattle.rtr_ends.specs.Cache.{is_none}
 use Rattle.rtr_ends.specs.Consumed.{came}
@@ -29,8 +20,6 @@ use Rattle.rtr_ends.proofs.CallSteps.{BytesKeep, by_piece}
 use Rattle.rtr_ends.proofs.ServeStreamLaws.{drop_none, part_after}
 use Rattle.rtr_ends.proofs.ByteLists.{no_rest}
 use Rattle.rtr_ends.proofs.TableLaws.{false_true, inside}
-use Rattle.prefixes.proofs.Basics.{all_both, false_of_not, not_both}
-use Rattle.std.proofs.Math.Bool.{and-true}
 
 -- What is pulled into room stands at its front.
 pub pulled_front : (out room now : List ℕ) (count : ℕ) → (count ≡ min (length room) (length out)) × (now ≡ take (length room) out ++ drop (length out) room) → take count now ≡ take (length room) out

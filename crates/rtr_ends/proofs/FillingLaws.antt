@@ -1,11 +1,5 @@
 -- Records that are written straight into what goes out.
-use Rattle.std.proofs.lemmas.Grind.{common_steps}
-use Rattle.std.proofs.Common.{◌≡◌, ℕ, ◌+◌, ◌<◌, ◌≤◌, List, [], ◌∷◌, ◌++◌, length, take, drop, get_or, Option, Some, None, refl, sym, ap, ◌∙◌, arith, append_assoc}
-use Rattle.std.proofs.Math.Seq.{drop-append-add}
-use Rattle.std.proofs.lemmas.List.{append-nil, drop-drop, flat_map_more, length-append, length-take, take-append-drop, take_at, take_more}
-use Rattle.std.proofs.lemmas.List.Concat.{flat_map-append}
-use Rattle.rtr_pdu.specs.declared.version.Version.{Version}
-use Rattle.rtr_pdu.specs.declared.unit.Unit.{Unit}
+use Rattle.rtr_ends.proofs.Words.{common_steps, ◌≡◌, ℕ, ◌+◌, ◌<◌, ◌≤◌, List, [], ◌∷◌, ◌++◌, length, take, drop, get_or, Option, Some, None, refl, sym, ap, ◌∙◌, arith, append_assoc, drop-append-add, append-nil, drop-drop, flat_map_more, length-append, length-take, take-append-drop, take_at, take_more, flat_map-append, Version, Unit}
 use Rattle.rtr_ends.specs.Answer.{end_of_data, sent, sent_all}
 use Rattle.rtr_ends.specs.Sender.{FillsAnswer, FillsFrom, FillsOn, FillsWith, due_of, left, left_in, newest_in, newest_of, own_session, ready_in, serial_in, session_by, units_in}
 use Rattle.rtr_ends.specs.declared.sender.AnswerCursor.{AnswerCursor}

@@ -1,20 +1,8 @@
 -- What the histories of connections satisfy.
-use Rattle.std.proofs.Common.{◌≡◌, ◌∙◌, sym, ap, refl, subst, arith, ℕ, ◌⊎◌, Bool, true, false, not, List, [], ◌∷◌, ◌++◌, take, drop, length, ◌<◌, append_assoc, append-nil, Option, Some, None, if◌then◌else◌, inl}
-use Rattle.std.specs.Bool.{MatchBool}
-use Rattle.std.proofs.lemmas.List.{take-append-drop}
-use Rattle.std.proofs.lemmas.List.Concat.{flat_map-append}
-use Rattle.rtr_pdu.specs.Version.{version_in}
-use Rattle.rtr_pdu.proofs.RunLaws.{shows_long, unit_long}
-use Rattle.rtr_pdu.proofs.VersionLaws.{version_in-append}
-use Rattle.rtr_pdu.specs.declared.version.Version.{Version}
-use Rattle.rtr_pdu.specs.Stream.{IsPartial, Shows, Splits, as_read}
-use Rattle.rtr_pdu.specs.Unit.{Reads}
-use Rattle.rtr_pdu.specs.declared.unit.Unit.{Unit}
-use Rattle.rtr_pdu.specs.declared.unit.UnitFault.{UnitFault}
+use Rattle.rtr_ends.proofs.Words.{◌≡◌, ◌∙◌, sym, ap, refl, subst, arith, ℕ, ◌⊎◌, Bool, true, false, not, List, [], ◌∷◌, ◌++◌, take, drop, length, ◌<◌, append_assoc, append-nil, Option, Some, None, if◌then◌else◌, inl, MatchBool, take-append-drop, flat_map-append, version_in, shows_long, unit_long, version_in-append, Version, IsPartial, Shows, Splits, as_read, Reads, Unit, UnitFault, not_both}
 use Rattle.rtr_ends.specs.Answer.{Reply, sent, sent_all}
 use Rattle.rtr_ends.specs.Connection.{ConnMoment, Read, Wanting, Fault, Pull, Connection, IsHistory, MayHold, PulledAreReplies, HistorySplits, conn_after, after_all, Sent, bytes_sent, in_version, opened, pulled, replies_from, reply, sent_by, units_of, version_after}
 use Rattle.rtr_ends.specs.Timing.{Intervals}
-use Rattle.prefixes.proofs.Basics.{not_both}
 
 -- what is still to be sent
 abbrev to_come : ℕ → Intervals → Connection → List ConnMoment → List ℕ

@@ -1,6 +1,5 @@
 -- A router holds what its transcript keeps.
-use Rattle.std.proofs.Common.{◌≡◌, ℕ, Bool, true, false, List, [], ◌∷◌, ◌++◌, Option, Some, None, if◌then◌else◌, refl, sym, ap, ◌∙◌, subst, rules}
-use Rattle.vrps.specs.VrpSet.{VrpSet, empty}
+use Rattle.rtr_ends.proofs.Words.{◌≡◌, ℕ, Bool, true, false, List, [], ◌∷◌, ◌++◌, Option, Some, None, if◌then◌else◌, refl, sym, ap, ◌∙◌, subst, rules, VrpSet, empty, false_of_not}
 use Rattle.rtr_ends.specs.Cache.{is_none}
 use Rattle.rtr_ends.specs.LinkRules.{Router, asking, ask}
 use Rattle.rtr_ends.specs.Router.{Receiving, router_stops, router_byte, clocked, close, connects_at, closed_at, router_pulled, RouterCall, Connects, Receives, Pulls, Speaks, called, played}
@@ -11,7 +10,6 @@ use Rattle.rtr_ends.proofs.CallSteps.{BytesKeep, StepsKeep, by_call, by_next, by
 use Rattle.rtr_ends.proofs.TableLaws.{false_true}
 use Rattle.rtr_ends.proofs.Effects.{by_clock, goes_on, nothing_out}
 use Rattle.rtr_ends.proofs.KeptUnits.{holds, Tells, bytes_add, connected}
-use Rattle.prefixes.proofs.Basics.{false_of_not}
 
 -- a piece
 pub none_is : (out : List ℕ) → is_none out ≡ true → out ≡ []

@@ -1,12 +1,5 @@
 -- What a router keeps after each PDU is what its transcript keeps.
-use Rattle.std.proofs.Common.{◌≡◌, ℕ, Bool, true, false, not, ◌&&◌, ◌||◌, ◌==◌, nat_lt, List, [], ◌∷◌, ◌++◌, Option, Some, if◌then◌else◌, refl, sym, subst, append_assoc, rules}
-use Rattle.std.proofs.Math.Bool.{and-false}
-use Rattle.std.proofs.lemmas.Bool.{or_parts}
-use Rattle.vrps.specs.VrpSet.{VrpSet, has, size}
-use Rattle.rtr_pdu.specs.Judging.{Judgement, Begins, Whole, Faulty}
-use Rattle.rtr_pdu.specs.Payloads.{Report}
-use Rattle.rtr_pdu.specs.declared.unit.Unit.{Unit}
-use Rattle.rtr_pdu.specs.declared.unit.Unit.TheVariants.{SerialNotify, CacheResponse, Prefix, EndOfData, EndOfData0, CacheReset, RouterKey, ErrorReport}
+use Rattle.rtr_ends.proofs.Words.{◌≡◌, ℕ, Bool, true, false, not, ◌&&◌, ◌||◌, ◌==◌, nat_lt, List, [], ◌∷◌, ◌++◌, Option, Some, if◌then◌else◌, refl, sym, subst, append_assoc, rules, and-false, or_parts, VrpSet, has, size, Judgement, Begins, Whole, Faulty, Report, Unit, SerialNotify, CacheResponse, Prefix, EndOfData, EndOfData0, CacheReset, RouterKey, ErrorReport}
 use Rattle.rtr_ends.specs.LinkRules.{Router, Stays, Wrong, Over, asking, ask, ended_by, fails, is_strange, is_news, staged, commit, told_off, on_unit}
 use Rattle.rtr_ends.specs.Router.{Noted, asked_by, reads, with_bytes}
 use Rattle.rtr_ends.specs.RouterLaws.{LinkTells}

@@ -39,3 +39,4 @@ pub mod TakenLaws
 pub mod TranscriptRows
 pub mod UnitByUnit
 pub mod WholeAnswerRows
+pub mod Words

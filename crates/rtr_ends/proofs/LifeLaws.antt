@@ -1,15 +1,10 @@
 -- Each connection of a cache makes its history.
-use Rattle.std.proofs.Common.{◌≡◌, ℕ, ◌==◌, Bool, true, false, List, [], ◌∷◌, Option, Some, None, IfSome, option_map, if◌then◌else◌, refl, sym, ap, ◌∙◌, subst}
-use Rattle.std.specs.List.{AllByRecursion}
-use Rattle.vrps.specs.Instance.{Instance, IsInstance}
-use Rattle.vrps.specs.Store.{published}
-use Rattle.vrps.proofs.SetVersions.{published_is_instance}
+use Rattle.rtr_ends.proofs.Words.{◌≡◌, ℕ, ◌==◌, Bool, true, false, List, [], ◌∷◌, Option, Some, None, IfSome, option_map, if◌then◌else◌, refl, sym, ap, ◌∙◌, subst, AllByRecursion, Instance, IsInstance, published, published_is_instance, eq_of}
 use Rattle.rtr_ends.specs.Cache.{ConnCall, Conn, Gives, IsConnCall, IsServed, Notifies, Publishes, Takes, conn_notified, conn_pulled, conn_takes, serve, serving}
 use Rattle.rtr_ends.specs.declared.cache.Cache.{Cache}
 use Rattle.rtr_ends.specs.CacheState.{CacheCall, CacheIsServed, CacheState, Close, EachIsServed, Pull, IsCacheCall, IsLife, Life, Open, Publish, Receive, Notify, cache_called, life, life_after, ran, serves, without_conns}
 use Rattle.rtr_ends.specs.Timing.{Intervals}
 use Rattle.rtr_ends.proofs.ServingLaws.{serves_history}
-use Rattle.prefixes.proofs.Basics.{eq_of}
 
 -- what a connection is, by its own calls
 record Stands (keep : ℕ) (t : Intervals) (i : Instance) (x : Life) : Type 0 where

@@ -1,12 +1,5 @@
 -- What no test of a router shows, worked out: tables that are too large, memory, the mark of what is emptied, and transcripts.
-use Rattle.std.proofs.Common.{Bool, List, None, Some, [], ap, drop, false, if◌then◌else◌, nat_lt, not, refl, take, true, ℕ, ◌&&◌, ◌++◌, ◌||◌, ◌∙◌, ◌∷◌, ◌≡◌}
-use Rattle.prefixes.specs.Payload.{Payload}
-use Rattle.vrps.specs.VrpSet.{VrpSet, empty, has, set_of, size}
-use Rattle.vrps.proofs.SetLaws.{has-empty}
-use Rattle.rtr_pdu.specs.Judging.{judge}
-use Rattle.rtr_pdu.specs.Stream.{as_read}
-use Rattle.rtr_pdu.specs.declared.unit.Unit.TheVariants.{CacheReset, CacheResponse, EndOfData, EndOfData0, Prefix, SerialNotify}
-use Rattle.rtr_pdu.specs.declared.version.Version.TheVariants.{V0, V1}
+use Rattle.rtr_ends.proofs.Words.{Bool, List, None, Some, [], ap, drop, false, if◌then◌else◌, nat_lt, not, refl, take, true, ℕ, ◌&&◌, ◌++◌, ◌||◌, ◌∙◌, ◌∷◌, ◌≡◌, Payload, VrpSet, empty, has, set_of, size, has-empty, judge, as_read, CacheReset, CacheResponse, EndOfData, EndOfData0, Prefix, SerialNotify, V0, V1}
 use Rattle.rtr_ends.specs.Answer.{report, sent}
 use Rattle.rtr_ends.specs.LinkRules.{Over, Router, Staged, Stays, Wrong, is_staged, may_lack, new_router, on_unit, stage, staged}
 use Rattle.rtr_ends.specs.Router.{Closes, Connects, Noted, Pulls, Receives, Speaks, Ticks, asked_by, called, clocked, closed_at, connects_at, lacks, played, receives, router_byte, router_pulled, ticks_at}

@@ -1,13 +1,5 @@
 -- What a machine does at a PDU, cell by cell of the protocol's table.
-use Rattle.std.specs.Prelude.{⊤, ◌≡◌, ◌==◌, ◌+◌, min, max, ℕ, Bool, true, false, List, [], Some, None, Result, Ok, Err, if◌then◌else◌, refl}
-use Rattle.std.proofs.Common.{sym, ap, ◌∙◌, subst, arith, rules}
-use Rattle.std.proofs.lemmas.Bool.Decides.{nat_tests}
-use Rattle.prefixes.specs.Payload.{Payload}
-use Rattle.vrps.specs.VrpSet.{VrpSet, empty, has}
-use Rattle.vrps.specs.declared.set.SetFault.{SetFault}
-use Rattle.vrps.specs.declared.set.SetFault.TheVariants.{TooMany, Memory}
-use Rattle.rtr_pdu.specs.declared.unit.Unit.{Unit}
-use Rattle.rtr_pdu.specs.declared.unit.Unit.TheVariants.{Prefix, EndOfData, EndOfData0}
+use Rattle.rtr_ends.proofs.Words.{⊤, ◌≡◌, ◌==◌, ◌+◌, min, max, ℕ, Bool, true, false, List, [], Some, None, Result, Ok, Err, if◌then◌else◌, refl, sym, ap, ◌∙◌, subst, arith, rules, nat_tests, Payload, VrpSet, empty, has, SetFault, TooMany, Memory, Unit, Prefix, EndOfData, EndOfData0, eq_of, eq_self, false_if_never}
 use Rattle.rtr_ends.specs.declared.link.End.TheVariants as ends
 use Rattle.rtr_ends.specs.Answer.{report, sent}
 use Rattle.rtr_ends.specs.LinkRules as rules
@@ -27,7 +19,6 @@ use Rattle.rtr_ends.specs.declared.machine.Machine.{Machine}
 use Rattle.rtr_ends.specs.declared.machine.State.{State}
 use Rattle.rtr_ends.specs.declared.machine.State.TheVariants as states
 use Rattle.rtr_ends.proofs.SeenLaws.{shown_as, seen_in}
-use Rattle.prefixes.proofs.Basics.{eq_of, eq_self, false_if_never}
 
 -- What a step does in one state, whatever was staged
 abbrev Steps : State → Unit → (Router → Router) → Machine → Type 0

@@ -1,19 +1,7 @@
 -- The free numbers after one is taken or freed.
-use Rattle.std.proofs.Common.{◌≡◌, ℕ, ◌+◌, ◌<◌, ◌≤◌, ◌==◌, Bool, true, false, List, [], ◌∷◌, ◌++◌, length, Option, None, Some, slice_get, slice_set, get_or, unwrap_or, refl, Result, Ok, Err, IsOk, OnOk, sym, ap, ◌∙◌, subst, arith, inl, inr, zero, suc, cond}
-use Rattle.std.proofs.lemmas.Bool.{cases_Bool}
-use Rattle.std.proofs.lemmas.Bool.Decides.{nat_tests}
-use Rattle.std.proofs.lemmas.List.{nil_from_length}
-use Rattle.std.proofs.lemmas.List.Elements.{All-head}
-use Rattle.std.proofs.lemmas.List.Sorted.{le_from_greatest, sum_by_popped, sum_by_pushed}
-use Rattle.std.proofs.lemmas.List.Sums.{count_by-le-length, get_or-le-sum_by, sum_by-cons, sum_by-set, sum_by_push}
-use Rattle.std.proofs.lemmas.Option.{get_or_from_slice_get, slice_get-get_or, slice_get_within}
-use Rattle.std.specs.BinaryHeap.{IsHeap, IsUpperBound, heap_capacity, heap_items, heap_len}
-use Rattle.std.specs.List.Sorted.{IsPermutation}
-use Rattle.std.specs.Ordering.{nat_cmp}
-use Rattle.std.specs.declared.cmp.Reverse.{Reverse}
+use Rattle.rtr_ends.proofs.Words.{◌≡◌, ℕ, ◌+◌, ◌<◌, ◌≤◌, ◌==◌, Bool, true, false, List, [], ◌∷◌, ◌++◌, length, Option, None, Some, slice_get, slice_set, get_or, unwrap_or, refl, Result, Ok, Err, IsOk, OnOk, sym, ap, ◌∙◌, subst, arith, inl, inr, zero, suc, cond, cases_Bool, nat_tests, nil_from_length, All-head, le_from_greatest, sum_by_popped, sum_by_pushed, count_by-le-length, get_or-le-sum_by, sum_by-cons, sum_by-set, sum_by_push, get_or_from_slice_get, slice_get-get_or, slice_get_within, IsHeap, IsUpperBound, heap_capacity, heap_items, heap_len, IsPermutation, nat_cmp, Reverse, eq_of, eq_self, not_eq_of, set_other, set_same}
 use Rattle.rtr_ends.specs.Numbers.{AreFree, TakesNumber, taken_count, times, times_free}
 use Rattle.rtr_ends.specs.declared.numbers.FreeNumbers.{FreeNumbers}
-use Rattle.prefixes.proofs.Basics.{eq_of, eq_self, not_eq_of, set_other, set_same}
 
 -- what a success gives, where there is one
 pub when_ok : {T E : Type 0} (r : Result T E) (P : Type 0) → IsOk r → OnOk r P → P

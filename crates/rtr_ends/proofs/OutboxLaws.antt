@@ -1,8 +1,6 @@
 -- Bytes to be pulled from an outbox.
-use Rattle.std.proofs.Common.{◌≡◌, ℕ, ◌≤◌, nat_eq, List, [], ◌∷◌, length, drop, ap, arith}
-use Rattle.std.proofs.lemmas.List.{length-drop}
+use Rattle.rtr_ends.proofs.Words.{◌≡◌, ℕ, ◌≤◌, nat_eq, List, [], ◌∷◌, length, drop, ap, arith, length-drop, eq_of, eq_true, false_if_never}
 use Rattle.rtr_ends.specs.Cache.{is_none}
-use Rattle.prefixes.proofs.Basics.{eq_of, eq_true, false_if_never}
 
 -- all was pulled where so many were as there are
 pub all_pulled : (n len : ℕ) (bytes out : List ℕ) → drop n bytes ≡ out → n ≤ length bytes → len ≡ length bytes → nat_eq n len ≡ is_none out

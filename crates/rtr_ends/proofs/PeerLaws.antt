@@ -1,26 +1,6 @@
 -- What the calls of a connection do to what it shows.
-use Rattle.std.proofs.lemmas.Grind.{common_steps}
-use Rattle.std.proofs.Common.{nat_lt, ◌≡◌, ℕ, ◌-◌, ◌<◌, ◌≤◌, ◌==◌, Bool, true, false, not, ◌&&◌, ◌||◌, List, [], ◌∷◌, ◌++◌, length, take, Option, Some, None, option_map, if◌then◌else◌, refl, append_assoc, sym, ap, ◌∙◌, subst, arith, inl, inr, rules}
-use Rattle.std.specs.List.{list_any}
-use Rattle.std.proofs.lemmas.List.{append-nil}
-use Rattle.vrps.specs.Instance.{Instance, NumberedSet, versions, versions_from, with_serial}
-use Rattle.vrps.specs.Serial.{serial_at}
-use Rattle.vrps.specs.VrpSet.{VrpSet}
-use Rattle.vrps.specs.Stores.{newest}
-use Rattle.rtr_pdu.specs.declared.version.Version.{Version}
-use Rattle.rtr_pdu.specs.Version.{first_version, header_version, version_in}
-use Rattle.rtr_pdu.proofs.ModeLaws.{length-as_read}
-use Rattle.rtr_pdu.proofs.RunLaws.{shows_long, unit_long}
-use Rattle.rtr_pdu.proofs.VersionLaws.{version_in-append}
-use Rattle.std.proofs.lemmas.Bool.Decides.{nat_tests}
-use Rattle.rtr_pdu.specs.Judging.{Faulty, Whole}
-use Rattle.rtr_pdu.specs.Reader.{IsFaulty, IsRead, ReaderGives, IsReader, Reader, ReaderTakes, fresh, known_version, version_with}
-use Rattle.rtr_pdu.specs.Stream.{as_read, IsPartial}
+use Rattle.rtr_ends.proofs.Words.{common_steps, nat_lt, ◌≡◌, ℕ, ◌-◌, ◌<◌, ◌≤◌, ◌==◌, Bool, true, false, not, ◌&&◌, ◌||◌, List, [], ◌∷◌, ◌++◌, length, take, Option, Some, None, option_map, if◌then◌else◌, refl, append_assoc, sym, ap, ◌∙◌, subst, arith, inl, inr, rules, list_any, append-nil, Instance, NumberedSet, versions, versions_from, with_serial, serial_at, VrpSet, newest, Version, first_version, header_version, version_in, length-as_read, shows_long, unit_long, version_in-append, nat_tests, Faulty, Whole, IsFaulty, IsRead, ReaderGives, IsReader, Reader, ReaderTakes, fresh, known_version, version_with, as_read, IsPartial, Unit, SerialNotify, SerialQuery, ResetQuery, ErrorReport, UnitFault, partial_most, and-false}
 use Rattle.rtr_pdu.specs.declared.unit.Next.TheVariants as next
-use Rattle.rtr_pdu.specs.declared.unit.Unit.{Unit}
-use Rattle.rtr_pdu.specs.declared.unit.Unit.TheVariants.{SerialNotify, SerialQuery, ResetQuery, ErrorReport}
-use Rattle.rtr_pdu.specs.declared.unit.UnitFault.{UnitFault}
-use Rattle.rtr_pdu.proofs.DeviceLaws.{partial_most}
 use Rattle.rtr_ends.specs.Answer.{Reply, and_end, and_on, answer, report, sent, sent_all, serial_answer, session_in, step_answer, whole_answer}
 use Rattle.rtr_ends.specs.Cache.{Conn, Taking, can_notify, conn_notified, conn_pulled, conn_stops, conn_takes, is_none, conn_judged, speaks_in, version_at}
 use Rattle.rtr_ends.specs.Connection.{Connection, Read, Wanting, Notify, conn_after, fault_report, is_published, is_wanting, spoken_in, takes_memory}
@@ -32,7 +12,6 @@ use Rattle.rtr_ends.specs.declared.sender.Sender.{Sender}
 use Rattle.rtr_ends.proofs.AnsweringLaws.{knows_but}
 use Rattle.rtr_ends.proofs.ReceivingLaws.{start, takes_more, takes_none, takes_shown}
 use Rattle.rtr_ends.proofs.UnitByUnit.{fault_judged, unit_judged}
-use Rattle.std.proofs.Math.Bool.{and-false}
 
 -- Nothing is held by a reader that is new.
 fresh_room : (version : Option Version) (p : Peer) → p.reader ≡ fresh version false → ready_in p.sender ≤ 4096 → HasBufferRoom (held_by_peer p)

@@ -1,10 +1,5 @@
 -- A router's questions are those that its transcript calls for.
-use Rattle.std.specs.Prelude.{◌≡◌, ◌⊎◌, ℕ, Bool, true, false, not, ◌&&◌, ◌||◌, ◌==◌, nat_lt, List, [], ◌∷◌, ◌++◌, Some, None, ⊤, refl}
-use Rattle.std.proofs.Common.{sym, ap, ◌∙◌, subst, append_assoc, inl, inr}
-use Rattle.vrps.specs.VrpSet.{has, size}
-use Rattle.rtr_pdu.specs.Judging.{Begins, Whole, Faulty}
-use Rattle.rtr_pdu.specs.declared.unit.Unit.{Unit}
-use Rattle.rtr_pdu.specs.declared.unit.Unit.TheVariants.{Prefix, EndOfData, EndOfData0, CacheReset}
+use Rattle.rtr_ends.proofs.Words.{◌≡◌, ◌⊎◌, ℕ, Bool, true, false, not, ◌&&◌, ◌||◌, ◌==◌, nat_lt, List, [], ◌∷◌, ◌++◌, Some, None, ⊤, refl, sym, ap, ◌∙◌, subst, append_assoc, inl, inr, has, size, Begins, Whole, Faulty, Unit, Prefix, EndOfData, EndOfData0, CacheReset}
 use Rattle.rtr_ends.specs.Answer.{sent}
 use Rattle.rtr_ends.specs.LinkRules.{Router, asking, on_unit, staged}
 use Rattle.rtr_ends.specs.Router.{RouterCall, Connects, Receives, Pulls, Speaks, called, played, clocked, close, connects_at, router_pulled, asked_by, reads}

@@ -1,9 +1,5 @@
 -- What a connection takes of a piece, PDU by PDU.
-use Rattle.std.proofs.Common.{◌≡◌, ℕ, true, false, List, [], ◌++◌, Option, refl, sym, ap, ◌∙◌}
-use Rattle.std.proofs.lemmas.List.{append-nil}
-use Rattle.vrps.specs.Instance.{Instance}
-use Rattle.rtr_pdu.specs.Judging.{Judgement}
-use Rattle.rtr_pdu.specs.Stream.{as_read, IsPartial}
+use Rattle.rtr_ends.proofs.Words.{◌≡◌, ℕ, true, false, List, [], ◌++◌, Option, refl, sym, ap, ◌∙◌, append-nil, Instance, Judgement, as_read, IsPartial}
 use Rattle.rtr_ends.specs.Cache.{Conn, Taking, conn_byte, conn_stops, conn_takes, conn_judged, version_at}
 use Rattle.rtr_ends.specs.Timing.{Intervals}
 use Rattle.rtr_ends.proofs.UnitByUnit.{ByteMachine, IsJudged, but_last, fed, more_taken, none_taken, shown_taken}

@@ -1,8 +1,5 @@
 -- What a router takes byte by byte is what its reader takes PDU by PDU.
-use Rattle.std.specs.Prelude.{◌≡◌, ℕ, suc, Bool, true, false, not, List, [], ◌++◌, Option, Some, None, refl}
-use Rattle.rtr_pdu.specs.Judging.{Judgement, Whole}
-use Rattle.rtr_pdu.specs.Stream.{IsPartial, as_read}
-use Rattle.rtr_pdu.specs.declared.unit.Unit.{Unit}
+use Rattle.rtr_ends.proofs.Words.{◌≡◌, ℕ, suc, Bool, true, false, not, List, [], ◌++◌, Option, Some, None, refl, Judgement, Whole, IsPartial, as_read, Unit}
 use Rattle.rtr_ends.specs.Cache.{counted, finds_memory}
 use Rattle.rtr_ends.specs.Feeding.{feed}
 use Rattle.rtr_ends.specs.LinkRules.{Router}

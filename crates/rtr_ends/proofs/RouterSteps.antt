@@ -1,16 +1,7 @@
 -- What a router's value does at what its reader answers.
-use Rattle.std.specs.List.{list_any}
-use Rattle.std.proofs.Common.{◌≡◌, ℕ, zero, ◌-◌, drop, Bool, true, false, not, ◌&&◌, List, [], ◌∷◌, ◌++◌, length, Option, Some, None, IfSome, if◌then◌else◌, refl, sym, ap, ◌∙◌, subst, inl, inr, rules}
-use Rattle.std.proofs.Math.Bool.{and-false}
-use Rattle.rtr_pdu.specs.declared.version.Version.{Version}
-use Rattle.rtr_pdu.specs.Judging.{Whole, Faulty}
+use Rattle.rtr_ends.proofs.Words.{list_any, ◌≡◌, ℕ, zero, ◌-◌, drop, Bool, true, false, not, ◌&&◌, List, [], ◌∷◌, ◌++◌, length, Option, Some, None, IfSome, if◌then◌else◌, refl, sym, ap, ◌∙◌, subst, inl, inr, rules, and-false, Version, Whole, Faulty, Reader, IsReader, after_agreed, fresh, version_with, IsPartial, as_read, Next, Unit, UnitFault, false_if_never}
 use Rattle.rtr_pdu.specs.Reader as reader
-use Rattle.rtr_pdu.specs.Reader.{Reader, IsReader, after_agreed, fresh, version_with}
-use Rattle.rtr_pdu.specs.Stream.{IsPartial, as_read}
-use Rattle.rtr_pdu.specs.declared.unit.Next.{Next}
 use Rattle.rtr_pdu.specs.declared.unit.Next.TheVariants as next
-use Rattle.rtr_pdu.specs.declared.unit.Unit.{Unit}
-use Rattle.rtr_pdu.specs.declared.unit.UnitFault.{UnitFault}
 use Rattle.rtr_ends.specs.declared.link.End.TheVariants as ends
 use Rattle.rtr_ends.specs.Cache.{finds_memory, is_none}
 use Rattle.rtr_ends.specs.Feeding.{FedPiece, feed}
@@ -31,7 +22,6 @@ use Rattle.rtr_ends.proofs.QuestionLaws.{router_asks}
 use Rattle.rtr_ends.proofs.RouterBytes.{counts_back, has_memory, more_taken, shifted, shown_taken, stopped, stops}
 use Rattle.rtr_ends.proofs.UnitByUnit.{but_last, fault_judged, unit_judged}
 use Rattle.rtr_ends.proofs.TableLaws.{false_true}
-use Rattle.prefixes.proofs.Basics.{false_if_never}
 use Rattle.rtr_ends.proofs.ConsumedUnits.{reading_open}
 
 -- What is held is not looked at.

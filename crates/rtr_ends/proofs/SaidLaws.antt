@@ -1,13 +1,7 @@
 -- What a router gave are its questions and its report.
-use Rattle.std.proofs.Common.{◌≡◌, ℕ, Bool, true, false, List, [], ◌∷◌, ◌++◌, take, drop, Some, None, if◌then◌else◌, refl, sym, ap, ◌∙◌, subst, append_assoc, inl, inr, rules}
-use Rattle.std.proofs.lemmas.List.{append-nil, take-append-drop}
-use Rattle.rtr_pdu.specs.Judging.{Begins, Whole, Faulty}
-use Rattle.rtr_pdu.specs.Stream.{is_kind}
+use Rattle.rtr_ends.proofs.Words.{◌≡◌, ℕ, Bool, true, false, List, [], ◌∷◌, ◌++◌, take, drop, Some, None, if◌then◌else◌, refl, sym, ap, ◌∙◌, subst, append_assoc, inl, inr, rules, append-nil, take-append-drop, Begins, Whole, Faulty, is_kind, Unit, UnitFault, Version}
 use Rattle.rtr_pdu.specs.declared.kind.Kind.TheVariants as kinds
-use Rattle.rtr_pdu.specs.declared.unit.Unit.{Unit}
-use Rattle.rtr_pdu.specs.declared.unit.UnitFault.{UnitFault}
 use Rattle.rtr_pdu.specs.declared.unit.UnitFault.TheVariants as faults
-use Rattle.rtr_pdu.specs.declared.version.Version.{Version}
 use Rattle.rtr_ends.specs.declared.link.End.{End}
 use Rattle.rtr_ends.specs.declared.link.End.TheVariants as ends
 use Rattle.rtr_ends.specs.Answer.{report, sent, sent_all}

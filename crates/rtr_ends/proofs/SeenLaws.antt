@@ -1,6 +1,5 @@
 -- What a router's fields say, step by step.
-use Rattle.std.proofs.Common.{◌≡◌, ℕ, List, refl, sym, subst, rules}
-use Rattle.prefixes.specs.Payload.{Payload}
+use Rattle.rtr_ends.proofs.Words.{◌≡◌, ℕ, List, refl, sym, subst, rules, Payload}
 use Rattle.rtr_ends.specs.LinkRules.{Router}
 use Rattle.rtr_ends.specs.RouterLink.{Link}
 use Rattle.rtr_ends.specs.Seen.{ShowsRouter, Stages, seen, seen_link}

@@ -1,20 +1,5 @@
 -- What is due of an answer under way.
-use Rattle.std.proofs.Common.{◌≡◌, Bool, true, false, ℕ, ◌+◌, ◌-◌, ◌<◌, ◌≤◌, not, List, [], ◌∷◌, ◌++◌, length, take, drop, Option, Some, None, option_map, slice_get, get_or, refl, sym, ap, ◌∙◌, subst, arith, append_assoc, add-one, inl, inr, suc, zero, rules}
-use Rattle.std.proofs.Math.Seq.{drop-append_seam, drop-cons, drop-append-add, take-add}
-use Rattle.std.specs.Option.{is_some}
-use Rattle.std.proofs.lemmas.List.{length-append, length-drop, length-take, drop_all, drop-drop, length-map, take-append-drop, take_at}
-use Rattle.std.proofs.lemmas.Option.{slice_get-map, slice_get_within, slice_get_cases, get_or_from_slice_get, slice_get_read}
-use Rattle.prefixes.specs.Payload.{Payload}
-use Rattle.vrps.specs.Instance.{NumberedSet}
-use Rattle.vrps.specs.VrpSet.{VrpSet, listing}
-use Rattle.vrps.specs.declared.change.Change.{Change}
-use Rattle.vrps.specs.declared.serial.Serial.{Serial}
-use Rattle.rtr_pdu.specs.declared.version.Version.{Version}
-use Rattle.rtr_pdu.specs.declared.version.Version.TheVariants.{V0, V1}
-use Rattle.rtr_pdu.specs.declared.unit.Unit.{Unit}
-use Rattle.rtr_pdu.specs.declared.unit.Unit.TheVariants.{CacheResponse, Prefix, ResetQuery}
-use Rattle.rtr_pdu.specs.Unit.{IsUnitOf}
-use Rattle.rtr_pdu.proofs.NextLaws.{sent_most, some_sent}
+use Rattle.rtr_ends.proofs.Words.{◌≡◌, Bool, true, false, ℕ, ◌+◌, ◌-◌, ◌<◌, ◌≤◌, not, List, [], ◌∷◌, ◌++◌, length, take, drop, Option, Some, None, option_map, slice_get, get_or, refl, sym, ap, ◌∙◌, subst, arith, append_assoc, add-one, inl, inr, suc, zero, rules, drop-append_seam, drop-cons, drop-append-add, take-add, is_some, length-append, length-drop, length-take, drop_all, drop-drop, length-map, take-append-drop, take_at, slice_get-map, slice_get_within, slice_get_cases, get_or_from_slice_get, slice_get_read, Payload, NumberedSet, VrpSet, listing, Change, Serial, Version, V0, V1, Unit, CacheResponse, Prefix, ResetQuery, IsUnitOf, sent_most, some_sent}
 use Rattle.rtr_ends.specs.Answer.{announcements, end_of_data, report, response, sent, sent_all, whole_answer, withdrawals}
 use Rattle.rtr_ends.specs.Cache.{is_none}
 use Rattle.rtr_ends.specs.Sender.{Speaks, BeginsAnswer, PullsBytes, GivesFrom, Hands, KeepsRecords, Sends, Stays, Writes, as_list, left_in, left, due_of, newest_in, newest_of, ready_in, serial_in, units_in, numbered_of, own_session, session_by}

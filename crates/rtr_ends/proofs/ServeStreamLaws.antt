@@ -1,16 +1,5 @@
 -- One connection of a cache over a reader and a writer, from call to call.
-use Rattle.std.proofs.lemmas.Grind.{common_steps}
-use Rattle.std.proofs.Common.{◌≡◌, ◌⊎◌, ℕ, ◌+◌, ◌-◌, ◌*◌, ◌<◌, ◌≤◌, true, false, not, ◌||◌, min, List, [], ◌∷◌, ◌++◌, length, take, drop, Option, Some, None, Result, Ok, Err, option_map, refl, sym, ap, ◌∙◌, subst, arith, append_assoc, rules}
-use Rattle.std.proofs.Math.Seq.{drop-nil, take-add, take-append-add}
-use Rattle.std.proofs.lemmas.List.{append-nil, nil_from_length, length-append, take-append-drop}
-use Rattle.std.specs.List.{AllByRecursion}
-use Rattle.std.specs.Io.KnownBytes.{Appends, Consumes, IsAtEnd, Keeps}
-use Rattle.std.proofs.KnownBytes.{Appends-nil, Appends-trans, Consumes-kept, Consumes-trans}
-use Rattle.vrps.specs.Instance.{Instance, IsInstance}
-use Rattle.rtr_pdu.specs.declared.counted.Counted.{Counted}
-use Rattle.rtr_pdu.specs.Counted.{IsSpent, calls_of}
-use Rattle.rtr_pdu.specs.Device.{GoesOutInPart}
-use Rattle.rtr_pdu.specs.Payloads.{AreBytes}
+use Rattle.rtr_ends.proofs.Words.{common_steps, ◌≡◌, ◌⊎◌, ℕ, ◌+◌, ◌-◌, ◌*◌, ◌<◌, ◌≤◌, true, false, not, ◌||◌, min, List, [], ◌∷◌, ◌++◌, length, take, drop, Option, Some, None, Result, Ok, Err, option_map, refl, sym, ap, ◌∙◌, subst, arith, append_assoc, rules, drop-nil, take-add, take-append-add, append-nil, nil_from_length, length-append, take-append-drop, AllByRecursion, Appends, Consumes, IsAtEnd, Keeps, Appends-nil, Appends-trans, Consumes-kept, Consumes-trans, Instance, IsInstance, Counted, IsSpent, calls_of, GoesOutInPart, AreBytes, false_of_not, true_of_not, or-false}
 use Rattle.rtr_pdu.specs.declared.device.WriteFailed.{WriteFailed as Failed}
 use Rattle.rtr_ends.specs.Cache.{ConnCall, Conn, Gives as Pulled, IsConnCall, IsServed, Notifies, Publishes, Takes, Taking, conn_byte, conn_pulled, conn_stops, conn_takes, is_none}
 use Rattle.rtr_ends.specs.CacheState.{CacheState, GivesBytes, ShowsCache, TakesPiece, conn_consumed, due_at, is_open_at, with_conn}
@@ -27,8 +16,6 @@ use Rattle.rtr_ends.proofs.ByteLists.{no_rest}
 use Rattle.rtr_ends.proofs.FeedingLaws.{none_fed}
 use Rattle.rtr_ends.proofs.ServingLaws.{serves_history}
 use Rattle.rtr_ends.proofs.TableLaws.{false_true}
-use Rattle.prefixes.proofs.Basics.{false_of_not, true_of_not}
-use Rattle.std.proofs.Math.Bool.{or-false}
 
 -- A call is counted, or it is not made.
 pub not_less : {D A : Type 0} (old new : Counted D) → (¬ (IsSpent old) → calls_of new ≡ calls_of old + 1) → (IsSpent old → A × (new ≡ old)) → calls_of old ≤ calls_of new

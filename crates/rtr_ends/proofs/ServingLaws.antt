@@ -1,25 +1,6 @@
 -- A connection at the cache makes the history of what is called on it.
-use Rattle.std.proofs.Common.{◌≡◌, ◌⊎◌, ℕ, ◌-◌, ◌<◌, Bool, true, false, not, ◌&&◌, List, [], ◌∷◌, ◌++◌, length, take, drop, Option, Some, None, if◌then◌else◌, MatchBool, refl, sym, ap, ◌∙◌, subst, append_assoc, inl, inr, rules}
-use Rattle.std.specs.List.{AllByRecursion}
-use Rattle.std.proofs.lemmas.Bool.{and_parts, or_parts}
-use Rattle.std.proofs.Math.Nat.{min-le_right}
-use Rattle.std.proofs.lemmas.List.{append-nil, take_min}
-use Rattle.vrps.specs.Instance.{Instance, IsInstance}
-use Rattle.vrps.specs.Store.{is_current, published}
-use Rattle.vrps.specs.VrpSet.{VrpSet}
-use Rattle.vrps.proofs.SetVersions.{published_is_instance}
-use Rattle.rtr_pdu.specs.declared.version.Version.{Version}
-use Rattle.rtr_pdu.specs.Version.{version_in}
-use Rattle.rtr_pdu.specs.Judging.{Judgement, Begins, Whole, Faulty, judge, unit_in}
-use Rattle.rtr_pdu.specs.Payloads.{AreBytes}
-use Rattle.rtr_pdu.specs.Stream.{as_read, IsPartial, IsShortest, Shows}
-use Rattle.rtr_pdu.specs.Unit.{Reads}
-use Rattle.rtr_pdu.specs.declared.unit.Unit.{Unit}
-use Rattle.rtr_pdu.specs.declared.unit.UnitFault.{UnitFault}
-use Rattle.rtr_pdu.proofs.JudgingLaws.{judge_case, whole_exactly}
+use Rattle.rtr_ends.proofs.Words.{◌≡◌, ◌⊎◌, ℕ, ◌-◌, ◌<◌, Bool, true, false, not, ◌&&◌, List, [], ◌∷◌, ◌++◌, length, take, drop, Option, Some, None, if◌then◌else◌, MatchBool, refl, sym, ap, ◌∙◌, subst, append_assoc, inl, inr, rules, AllByRecursion, and_parts, or_parts, min-le_right, append-nil, take_min, Instance, IsInstance, is_current, published, VrpSet, published_is_instance, Version, version_in, Judgement, Begins, Whole, Faulty, judge, unit_in, AreBytes, as_read, IsPartial, IsShortest, Shows, Reads, Unit, UnitFault, judge_case, whole_exactly, next_shortest, next_size, reader_with, false_of_not}
 use Rattle.rtr_pdu.proofs.JudgingLaws as judging
-use Rattle.rtr_pdu.proofs.NextLaws.{next_shortest, next_size}
-use Rattle.rtr_pdu.proofs.ReaderLaws.{reader_with}
 use Rattle.rtr_ends.specs.Cache.{Conn, Taking, is_none, conn_stops, conn_moment_of, with_moment, finds_memory, and_moment, conn_judged, conn_byte, conn_takes, can_notify, conn_notified, pulled_count, conn_pulled, ConnCall, Publishes, Takes, Gives, Notifies, Serving, serve, serving, IsConnCall, IsServed, ServesHistory, new_conn, speaks_in, version_at}
 use Rattle.rtr_ends.specs.Connection.{Connection, ConnMoment, Read, Wanting, Fault, Notify, Pull, bytes_of, IsLater, IsHistory, HadCome, MayCome, MayHold, conn_after, after_all, opened, pulled, is_published, takes_memory}
 use Rattle.rtr_ends.specs.Timing.{Intervals}
@@ -28,7 +9,6 @@ use Rattle.rtr_ends.proofs.FeedingLaws.{fed_keeps}
 use Rattle.rtr_ends.proofs.Effects.{either}
 use Rattle.rtr_ends.proofs.HistoryLaws.{pulled_are_replies, read_plainly}
 use Rattle.rtr_ends.proofs.TableLaws.{false_true}
-use Rattle.prefixes.proofs.Basics.{false_of_not}
 
 nothing_due : (due : List ℕ) → not (is_none due) ≡ false → due ≡ []
 nothing_due [] h = refl

@@ -1,8 +1,5 @@
 -- A router speaks what it was told, from the next connection on.
-use Rattle.std.proofs.Common.{◌≡◌, List, [], ◌∷◌, ◌++◌, refl, ◌∙◌, ap}
-use Rattle.rtr_pdu.specs.declared.version.Version.{Version}
-use Rattle.rtr_pdu.specs.declared.unit.Unit.{Unit}
-use Rattle.rtr_pdu.specs.Judging.{Begins, Whole, Faulty}
+use Rattle.rtr_ends.proofs.Words.{◌≡◌, List, [], ◌∷◌, ◌++◌, refl, ◌∙◌, ap, Version, Unit, Begins, Whole, Faulty}
 use Rattle.rtr_ends.specs.LinkRules.{Router, on_unit}
 use Rattle.rtr_ends.specs.Router.{RouterCall, Connects, Receives, Pulls, Speaks, clocked, close, connects_at, played, reads, router_pulled}
 use Rattle.rtr_ends.specs.RouterLaws.{RouterSpeaks, connected_version, told_version}

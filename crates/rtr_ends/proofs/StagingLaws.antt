@@ -1,16 +1,5 @@
 -- What records that are staged lead to, record by record.
-use Rattle.std.proofs.Common.{◌≡◌, ℕ, ◌+◌, ◌-◌, ◌≤◌, ◌<◌, Bool, true, false, not, ◌&&◌, ◌||◌, nat_lt, List, [], ◌∷◌, Some, Result, Ok, Err, IfOk, IsErrOf, refl, sym, ap, ◌∙◌, subst, arith}
-use Rattle.std.proofs.Math.Bool.{or-true, and-false}
-use Rattle.std.proofs.lemmas.Bool.Decides.{nat_tests}
-use Rattle.std.proofs.lemmas.Map.Views.{tells_apart}
-use Rattle.std.specs.Cmp.{eq_by_cmp_equiv}
-use Rattle.std.specs.List.{AllByRecursion}
-use Rattle.prefixes.specs.Payload.{Payload}
-use Rattle.prefixes.specs.Orders.{vrp_total, vrp_exact}
-use Rattle.vrps.specs.VrpSet.{VrpSet, empty, has, set_of, size, union, with_member, without}
-use Rattle.vrps.specs.declared.set.SetFault.{SetFault}
-use Rattle.vrps.specs.declared.set.SetFault.TheVariants.{TooMany, Memory}
-use Rattle.vrps.proofs.SetLaws.{has-empty, has-set_of, has-union, has-with_member, has-without, same_set, same_vrp}
+use Rattle.rtr_ends.proofs.Words.{◌≡◌, ℕ, ◌+◌, ◌-◌, ◌≤◌, ◌<◌, Bool, true, false, not, ◌&&◌, ◌||◌, nat_lt, List, [], ◌∷◌, Some, Result, Ok, Err, IfOk, IsErrOf, refl, sym, ap, ◌∙◌, subst, arith, or-true, and-false, nat_tests, tells_apart, eq_by_cmp_equiv, AllByRecursion, Payload, vrp_total, vrp_exact, VrpSet, empty, has, set_of, size, union, with_member, without, SetFault, TooMany, Memory, has-empty, has-set_of, has-union, has-with_member, has-without, same_set, same_vrp, lt_true, false_of_not, or_swap, true_of_not, size_le, size_more}
 use Rattle.rtr_ends.specs.RouterLink as linked
 use Rattle.rtr_ends.specs.LinkRules.{Router}
 use Rattle.rtr_ends.specs.Seen.{Does, IsStaged, ShowsRouter, begun_with, seen_question}
@@ -22,8 +11,6 @@ use Rattle.rtr_ends.specs.declared.question.Question.{Question}
 use Rattle.rtr_ends.specs.declared.staging.Staging.{Staging}
 use Rattle.rtr_ends.specs.declared.staging.Staged.TheVariants.{Stays, Wrong}
 use Rattle.rtr_ends.proofs.TableLaws.{acts_exactly, false_true}
-use Rattle.prefixes.proofs.Basics.{lt_true, false_of_not, or_swap, true_of_not}
-use Rattle.vrps.proofs.Sizes.{size_le, size_more}
 
 -- what a staged set has
 module _ (base : VrpSet) (w a : List Payload) where

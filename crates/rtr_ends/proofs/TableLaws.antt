@@ -1,14 +1,8 @@
 -- What the staged records of an answer do to a table.
-use Rattle.std.proofs.Common.{◌≡◌, Bool, true, false, not, ◌&&◌, ◌||◌, List, [], ◌∷◌, Some, refl, ap, ◌∙◌}
-use Rattle.std.specs.List.{AllByRecursion, IsDistinct}
-use Rattle.std.specs.Ordering.{eq_by_cmp}
-use Rattle.std.proofs.lemmas.Bool.{and_parts, or_parts}
-use Rattle.prefixes.specs.Payload.{Payload, vrp_cmp}
-use Rattle.vrps.specs.VrpSet.{VrpSet, empty, has, set_of, without}
-use Rattle.vrps.proofs.SetLaws.{same_set, has-empty, has-union, has-without}
+use Rattle.rtr_ends.proofs.Words.{◌≡◌, Bool, true, false, not, ◌&&◌, ◌||◌, List, [], ◌∷◌, Some, refl, ap, ◌∙◌, AllByRecursion, eq_by_cmp, and_parts, or_parts, Payload, vrp_cmp, VrpSet, empty, has, set_of, without, same_set, has-empty, has-union, has-without, false_of_not}
+use Rattle.std.specs.List.{IsDistinct}
 use Rattle.rtr_ends.specs.Commit.{Commits}
 use Rattle.rtr_ends.specs.Transcript.{is_among, may_withdraw, may_announce, acts_once, led_to, ActsExactly}
-use Rattle.prefixes.proofs.Basics.{false_of_not}
 
 pub false_true : {P : Type 0} → false ≡ true → P
 false_true h = absurd (let e : false ≡ true = h in cc)

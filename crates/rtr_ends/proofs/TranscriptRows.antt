@@ -1,11 +1,5 @@
 -- What a transcript says behind each item that ends something, whatever was before.
-use Rattle.std.proofs.Common.{◌≡◌, ℕ, false, List, ◌∷◌, Some, None, refl}
-use Rattle.rtr_pdu.specs.Payloads.{Report}
-use Rattle.rtr_pdu.specs.declared.version.Version.{Version}
-use Rattle.rtr_pdu.specs.declared.version.Version.TheVariants.{V1}
-use Rattle.rtr_pdu.specs.declared.unit.Unit.{Unit}
-use Rattle.rtr_pdu.specs.declared.unit.Unit.TheVariants.{CacheReset, EndOfData, ErrorReport}
-use Rattle.rtr_pdu.specs.declared.unit.UnitFault.{UnitFault}
+use Rattle.rtr_ends.proofs.Words.{◌≡◌, ℕ, false, List, ◌∷◌, Some, None, refl, Report, Version, V1, Unit, CacheReset, EndOfData, ErrorReport, UnitFault}
 use Rattle.rtr_ends.specs.Transcript.{Question, AskReset, Item, Asks, Breaks, Lacks, Opened, Reads, Refused, Restarts, Shut, has_agreed, is_connected, marked, moment, next_question, outstanding, responded, spoken, waiting}
 
 module _ (items : List Item) where

@@ -1,17 +1,6 @@
 -- A machine that judges behind each byte what it holds takes a piece PDU by PDU, as a reader of PDUs does. The cache and the
 -- router are such machines.
-use Rattle.std.proofs.Common.{◌≡◌, ℕ, ◌<◌, Bool, true, false, List, [], ◌∷◌, ◌++◌, length, Option, refl, sym, ap, ◌∙◌, subst, arith, append_assoc, rules}
-use Rattle.std.proofs.lemmas.List.{append-nil, length-append}
-use Rattle.rtr_pdu.specs.declared.version.Version.{Version}
-use Rattle.rtr_pdu.specs.Version.{version_in}
-use Rattle.rtr_pdu.proofs.VersionLaws.{version_in-append}
-use Rattle.rtr_pdu.specs.Judging.{Judgement, Begins, Whole, Faulty, judge}
-use Rattle.rtr_pdu.specs.Reader.{IsFaulty, IsRead}
-use Rattle.rtr_pdu.specs.Stream.{IsPartial, IsShortest, as_read}
-use Rattle.rtr_pdu.specs.declared.unit.Unit.{Unit}
-use Rattle.rtr_pdu.specs.declared.unit.UnitFault.{UnitFault}
-use Rattle.rtr_pdu.proofs.JudgingLaws.{begins_exactly, reads_judged, shows_judged}
-use Rattle.rtr_pdu.proofs.NextLaws.{next_shortest}
+use Rattle.rtr_ends.proofs.Words.{◌≡◌, ℕ, ◌<◌, Bool, true, false, List, [], ◌∷◌, ◌++◌, length, Option, refl, sym, ap, ◌∙◌, subst, arith, append_assoc, rules, append-nil, length-append, Version, version_in, version_in-append, Judgement, Begins, Whole, Faulty, judge, IsFaulty, IsRead, IsPartial, IsShortest, as_read, Unit, UnitFault, begins_exactly, reads_judged, shows_judged, next_shortest}
 use Rattle.rtr_ends.specs.Feeding.{FedPiece, feed}
 use Rattle.rtr_ends.proofs.FeedingLaws.{stopped}
 

@@ -1,14 +1,6 @@
 -- PDUs and answers, byte by byte, and a history of a connection.
-use Rattle.std.proofs.Common.{List, [], arith, inl, map, refl, true, ℕ, ◌++◌, ◌∷◌, ◌≡◌}
+use Rattle.rtr_ends.proofs.Words.{List, [], arith, inl, map, refl, true, ℕ, ◌++◌, ◌∷◌, ◌≡◌, Payload, vrp_cmp, V4, Instance, IsInstance, VrpSet, set_of, V1, Reads, zeros, Unit, Prefix, ResetQuery}
 use Rattle.std.specs.List.Sorted.{IsStrictlySortedBy}
-use Rattle.prefixes.specs.Payload.{Payload, vrp_cmp}
-use Rattle.prefixes.specs.declared.prefix.IpPrefix.TheVariants.{V4}
-use Rattle.vrps.specs.Instance.{Instance, IsInstance}
-use Rattle.vrps.specs.VrpSet.{VrpSet, set_of}
-use Rattle.rtr_pdu.specs.declared.version.Version.TheVariants.{V1}
-use Rattle.rtr_pdu.specs.Unit.{Reads, zeros}
-use Rattle.rtr_pdu.specs.declared.unit.Unit.{Unit}
-use Rattle.rtr_pdu.specs.declared.unit.Unit.TheVariants.{Prefix, ResetQuery}
 use Rattle.rtr_ends.specs.Answer.{response}
 use Rattle.rtr_ends.specs.Connection.{IsHistory, IsLater, Pull, Read, Wanting, opened, replies}
 use Rattle.rtr_ends.specs.Timing.{default_intervals}

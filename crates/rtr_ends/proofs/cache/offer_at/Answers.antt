@@ -1,5 +1,4 @@
-use Rattle.std.proofs.Common.{◌≡◌, ◌∙◌, ap, sym, Some}
-use Rattle.std.specs.Box.{with_value}
+use Rattle.rtr_ends.proofs.Words.{◌≡◌, ◌∙◌, ap, sym, Some, with_value}
 use Rattle.rtr_ends.specs.CacheState.{peer_at}
 use Rattle.rtr_ends.proofs.CacheStateLaws.{slot_of, offers_at, offers_none}
 use Rattle.rtr_ends.proofs.cache.offer_at.Goals as goal

@@ -1,7 +1,4 @@
-use Rattle.std.proofs.Common.{[], refl, ◌+◌, ◌∙◌, arith, take}
-use Rattle.std.proofs.KnownBytes.{Consumes-nil}
-use Rattle.std.proofs.lemmas.List.{length-take-le}
-use Rattle.rtr_pdu.proofs.DeviceLaws.{was_counted}
+use Rattle.rtr_ends.proofs.Words.{[], refl, ◌+◌, ◌∙◌, arith, take, Consumes-nil, length-take-le, was_counted}
 use Rattle.rtr_ends.proofs.FetchStreamLaws as laws
 use Rattle.rtr_ends.proofs.ServeStreamLaws.{not_less}
 use Rattle.rtr_ends.proofs.fetching.fetch.Goals as goal

@@ -1,6 +1,5 @@
 -- The router awaits what is read next, and no call failed.
-use Rattle.std.proofs.Common.{◌≡◌, ◌+◌, List, ◌∷◌, length}
-use Rattle.rtr_pdu.specs.Counted.{calls_of, device_of, failures_of}
+use Rattle.rtr_ends.proofs.Words.{◌≡◌, ◌+◌, List, ◌∷◌, length, calls_of, device_of, failures_of}
 use Rattle.rtr_ends.specs.FetchStream.{Awaits}
 use Rattle.rtr_ends.specs.Router.{RouterCall, Connects}
 use Rattle.rtr_ends.specs.RouterShown.{CallsLead}

@@ -1,7 +1,4 @@
-use Rattle.std.proofs.Common.{length, refl, ◌∙◌, ap, arith}
-use Rattle.std.proofs.lemmas.List.{length-drop, take_rest}
-use Rattle.std.proofs.lemmas.Result.{err_from_is_err_and}
-use Rattle.rtr_pdu.proofs.ReadLaws.{AreBytes-drop}
+use Rattle.rtr_ends.proofs.Words.{length, refl, ◌∙◌, ap, arith, length-drop, take_rest, err_from_is_err_and, AreBytes-drop}
 use Rattle.rtr_ends.proofs.FetchStreamLaws as laws
 use Rattle.rtr_ends.proofs.fetching.take.Goals as goal
 

@@ -1,6 +1,5 @@
 -- The piece is taken so far, all that was pulled has gone out, and no call failed.
-use Rattle.std.proofs.Common.{◌≡◌, ◌-◌, ◌+◌, ◌≤◌, List, length, take}
-use Rattle.rtr_pdu.specs.Counted.{calls_of, device_of, failures_of}
+use Rattle.rtr_ends.proofs.Words.{◌≡◌, ◌-◌, ◌+◌, ◌≤◌, List, length, take, calls_of, device_of, failures_of}
 use Rattle.rtr_ends.specs.FetchStream.{TakenPart}
 use Rattle.rtr_ends.specs.Router.{RouterCall}
 use Rattle.rtr_ends.specs.RouterShown.{CallsLead}

@@ -1,6 +1,4 @@
-use Rattle.std.proofs.Common.{min, ◌≡◌, ◌∙◌, ap, arith, [], length, take}
-use Rattle.std.proofs.lemmas.List.{take_min}
-use Rattle.rtr_pdu.specs.declared.unit.Unit.TheVariants.{ErrorReport}
+use Rattle.rtr_ends.proofs.Words.{min, ◌≡◌, ◌∙◌, ap, arith, [], length, take, take_min, ErrorReport}
 use Rattle.rtr_ends.proofs.reports.report.Goals as goal
 
 pub returns : goal.returns

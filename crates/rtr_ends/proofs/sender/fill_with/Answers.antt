@@ -1,8 +1,4 @@
-use Rattle.std.proofs.Common.{get_or, ◌≡◌, ◌≤◌, ◌∙◌, sym, ap, arith, length, map, take, drop, ◌++◌, List, ℕ}
-use Rattle.std.proofs.lemmas.List.{length-append, length-drop, length-map, length-take, get_or-map}
-use Rattle.prefixes.specs.Payload.{Payload}
-use Rattle.rtr_pdu.specs.declared.unit.Unit.{Unit}
-use Rattle.rtr_pdu.specs.declared.unit.Unit.TheVariants.{Prefix}
+use Rattle.rtr_ends.proofs.Words.{get_or, ◌≡◌, ◌≤◌, ◌∙◌, sym, ap, arith, length, map, take, drop, ◌++◌, List, ℕ, length-append, length-drop, length-map, length-take, get_or-map, Payload, Unit, Prefix}
 use Rattle.rtr_ends.specs.Answer.{sent}
 use Rattle.rtr_ends.proofs.FillingLaws.{one_written}
 use Rattle.rtr_ends.proofs.sender.fill_with.Goals as goal

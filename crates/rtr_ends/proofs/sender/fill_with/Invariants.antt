@@ -1,5 +1,4 @@
-use Rattle.std.proofs.Common.{map}
-use Rattle.rtr_pdu.specs.declared.unit.Unit.TheVariants.{Prefix}
+use Rattle.rtr_ends.proofs.Words.{map, Prefix}
 use Rattle.rtr_ends.specs.Sender.{FillsWith}
 use Rattle.rtr_ends.proofs.sender.fill_with.Given as goal
 

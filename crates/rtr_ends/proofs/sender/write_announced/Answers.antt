@@ -1,6 +1,4 @@
-use Rattle.std.proofs.Common.{nat_lt, ◌≡◌, ap, arith, length, true, ◌<◌}
-use Rattle.std.proofs.lemmas.Bool.Decides.{nat_tests}
-use Rattle.vrps.proofs.Listed.{size_of_listing}
+use Rattle.rtr_ends.proofs.Words.{nat_lt, ◌≡◌, ap, arith, length, true, ◌<◌, nat_tests, size_of_listing}
 use Rattle.rtr_ends.proofs.sender.write_announced.Goals as goal
 
 pub returns-in-Some-clause-low : goal.returns-in-Some-clause-low

@@ -1,7 +1,4 @@
-use Rattle.std.proofs.Common.{length, ◌∙◌, ap, arith}
-use Rattle.std.proofs.lemmas.List.{length-drop, length-take-le, take_rest}
-use Rattle.std.proofs.lemmas.Result.{err_from_is_err_and}
-use Rattle.rtr_pdu.proofs.ReadLaws.{AreBytes-drop}
+use Rattle.rtr_ends.proofs.Words.{length, ◌∙◌, ap, arith, length-drop, length-take-le, take_rest, err_from_is_err_and, AreBytes-drop}
 use Rattle.rtr_ends.proofs.ServeStreamLaws as laws
 use Rattle.rtr_ends.proofs.serving.answer.Goals as goal
 

@@ -1,7 +1,5 @@
 -- The piece is consumed so far, all that was pulled has gone out, and no call failed.
-use Rattle.std.proofs.Common.{◌≡◌, ◌-◌, ◌+◌, ◌≤◌, List, length, take}
-use Rattle.std.specs.List.{AllByRecursion}
-use Rattle.rtr_pdu.specs.Counted.{calls_of, device_of, failures_of}
+use Rattle.rtr_ends.proofs.Words.{◌≡◌, ◌-◌, ◌+◌, ◌≤◌, List, length, take, AllByRecursion, calls_of, device_of, failures_of}
 use Rattle.rtr_ends.specs.Cache.{ConnCall}
 use Rattle.rtr_ends.specs.CacheState.{CacheState}
 use Rattle.rtr_ends.specs.ServeStream.{IsTurn, Partly, StandsAt}

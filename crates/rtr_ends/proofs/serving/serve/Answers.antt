@@ -1,6 +1,4 @@
-use Rattle.std.proofs.Common.{◌∙◌, sym, arith, take}
-use Rattle.std.proofs.lemmas.List.{length-take-le}
-use Rattle.rtr_pdu.proofs.DeviceLaws.{was_counted}
+use Rattle.rtr_ends.proofs.Words.{◌∙◌, sym, arith, take, length-take-le, was_counted}
 use Rattle.rtr_ends.proofs.ServeStreamLaws as laws
 use Rattle.rtr_ends.proofs.serving.serve.Goals as goal
 

@@ -1,6 +1,5 @@
 -- The connection waits for what is read next, and no call failed.
-use Rattle.std.proofs.Common.{◌≡◌, ◌+◌, [], length}
-use Rattle.rtr_pdu.specs.Counted.{calls_of, device_of, failures_of}
+use Rattle.rtr_ends.proofs.Words.{◌≡◌, ◌+◌, [], length, calls_of, device_of, failures_of}
 use Rattle.rtr_ends.specs.CacheState.{CacheState}
 use Rattle.rtr_ends.specs.ServeStream.{StandsAt, Waits}
 use Rattle.rtr_ends.proofs.serving.serve.Given as goal

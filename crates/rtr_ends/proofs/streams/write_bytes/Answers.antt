@@ -1,9 +1,5 @@
 -- What this call took goes on after what had gone out before it.
-use Rattle.std.proofs.Common.{rules, take, ◌++◌, sym, ap, ◌∙◌, subst}
-use Rattle.std.proofs.lemmas.List.{take_rest}
-use Rattle.std.proofs.Math.Seq.{take-add}
-use Rattle.std.specs.Io.KnownBytes.{Appends}
-use Rattle.std.proofs.KnownBytes.{Appends-trans}
+use Rattle.rtr_ends.proofs.Words.{rules, take, ◌++◌, sym, ap, ◌∙◌, subst, take_rest, take-add, Appends, Appends-trans}
 use Rattle.rtr_ends.proofs.streams.write_bytes.Goals as goal
 
 pub loop-at-preserved : goal.loop-at-preserved

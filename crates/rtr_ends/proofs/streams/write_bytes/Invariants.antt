@@ -1,7 +1,5 @@
 -- A beginning of the bytes has gone out, and no call failed.
-use Rattle.std.proofs.Common.{length, ◌-◌, ◌≡◌, ◌<◌, ◌≤◌, take}
-use Rattle.std.specs.Io.KnownBytes.{Appends}
-use Rattle.rtr_pdu.specs.Counted.{calls_of, device_of, failures_of}
+use Rattle.rtr_ends.proofs.Words.{length, ◌-◌, ◌≡◌, ◌<◌, ◌≤◌, take, Appends, calls_of, device_of, failures_of}
 use Rattle.rtr_ends.proofs.streams.write_bytes.Given as goal
 
 abbrev pub invariant-loop-at : goal.invariant-loop-at

@@ -1,5 +1,4 @@
-use Rattle.std.proofs.Common.{is_some, unwrap_or, ◌∙◌, ap, subst, sym, refl, arith}
-use Rattle.std.proofs.lemmas.List.{length-map}
+use Rattle.rtr_ends.proofs.Words.{is_some, unwrap_or, ◌∙◌, ap, subst, sym, refl, arith, length-map}
 use Rattle.rtr_ends.specs.Cache.{new_conn}
 use Rattle.rtr_ends.specs.CacheState.{taken_numbers}
 use Rattle.rtr_ends.specs.Peer.{ShowsPeer}

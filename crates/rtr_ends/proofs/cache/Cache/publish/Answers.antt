@@ -1,9 +1,4 @@
-use Rattle.std.proofs.Common.{map, Global, Ok, subst, refl}
-use Rattle.std.specs.declared.rc.Rc.{Rc}
-use Rattle.vrps.specs.Stores.{Publishes}
-use Rattle.vrps.specs.VrpSet.{VrpSet}
-use Rattle.vrps.specs.declared.store.Published.{Published}
-use Rattle.vrps.specs.declared.store.Published.TheVariants.{New}
+use Rattle.rtr_ends.proofs.Words.{map, Global, Ok, subst, refl, Rc, Publishes, VrpSet, Published, New}
 use Rattle.rtr_ends.proofs.CacheStateLaws.{all_same, publishes}
 use Rattle.rtr_ends.proofs.cache.Cache.publish.Goals as goal
 

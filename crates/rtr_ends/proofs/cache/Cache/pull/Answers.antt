@@ -1,5 +1,4 @@
-use Rattle.std.proofs.Common.{◌≡◌, ◌∙◌, ap, sym, refl, arith, Some}
-use Rattle.std.specs.Box.{with_value}
+use Rattle.rtr_ends.proofs.Words.{◌≡◌, ◌∙◌, ap, sym, refl, arith, Some, with_value}
 use Rattle.rtr_ends.specs.CacheState.{peer_at}
 use Rattle.rtr_ends.proofs.CacheStateLaws.{slot_none, slot_of, gives_nothing, gives_bytes}
 use Rattle.rtr_ends.proofs.cache.Cache.pull.Goals as goal

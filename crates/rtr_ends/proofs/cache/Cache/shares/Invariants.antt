@@ -1,5 +1,4 @@
-use Rattle.std.proofs.Common.{map, ◌≡◌, length}
-use Rattle.std.specs.List.{AllByRecursion}
+use Rattle.rtr_ends.proofs.Words.{map, ◌≡◌, length, AllByRecursion}
 use Rattle.rtr_ends.proofs.cache.Cache.shares.Given as goal
 
 abbrev pub invariant-loop-number : goal.invariant-loop-number

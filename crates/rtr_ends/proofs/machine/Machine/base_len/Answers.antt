@@ -1,6 +1,4 @@
-use Rattle.std.proofs.Common.{sym}
-use Rattle.prefixes.specs.Payload.{vrp_cmp}
-use Rattle.std.specs.FinMap.{len-empty}
+use Rattle.rtr_ends.proofs.Words.{sym, vrp_cmp, len-empty}
 use Rattle.rtr_ends.proofs.machine.Machine.base_len.Goals as goal
 
 pub returns-in-Reset-clause-count : goal.returns-in-Reset-clause-count

@@ -1,5 +1,4 @@
-use Rattle.std.proofs.Common.{sym}
-use Rattle.vrps.proofs.SetLaws.{has-empty}
+use Rattle.rtr_ends.proofs.Words.{sym, has-empty}
 use Rattle.rtr_ends.proofs.machine.Machine.is_in_base.Goals as goal
 
 pub returns-in-Reset : goal.returns-in-Reset

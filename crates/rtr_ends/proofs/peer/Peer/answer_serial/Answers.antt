@@ -1,5 +1,4 @@
-use Rattle.std.proofs.Common.{option_map, ◌∙◌, ap, sym}
-use Rattle.vrps.specs.declared.serial.Serial.{Serial}
+use Rattle.rtr_ends.proofs.Words.{option_map, ◌∙◌, ap, sym, Serial}
 use Rattle.rtr_ends.proofs.AnsweringLaws.{serial_since}
 use Rattle.rtr_ends.proofs.peer.Peer.answer_serial.Goals as goal
 

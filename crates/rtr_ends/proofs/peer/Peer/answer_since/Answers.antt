@@ -1,5 +1,4 @@
-use Rattle.std.proofs.Common.{◌∙◌, ap, sym}
-use Rattle.vrps.specs.Stores.{told_since}
+use Rattle.rtr_ends.proofs.Words.{◌∙◌, ap, sym, told_since}
 use Rattle.rtr_ends.proofs.AnsweringLaws.{since_change}
 use Rattle.rtr_ends.proofs.peer.Peer.answer_since.Goals as goal
 

@@ -1,5 +1,4 @@
-use Rattle.std.proofs.Common.{option_map, ◌∙◌, ap, sym}
-use Rattle.vrps.specs.declared.serial.Serial.{Serial}
+use Rattle.rtr_ends.proofs.Words.{option_map, ◌∙◌, ap, sym, Serial}
 use Rattle.rtr_ends.proofs.PeerLaws.{stops_as, notified_stops, notified_none, notified_some}
 use Rattle.rtr_ends.proofs.peer.Peer.notify.Goals as goal
 

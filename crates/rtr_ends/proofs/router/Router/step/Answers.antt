@@ -1,7 +1,4 @@
-use Rattle.std.proofs.Common.{sym, ◌∙◌, subst, true}
-use Rattle.rtr_pdu.specs.declared.unit.Unit.TheVariants.{Prefix}
-use Rattle.rtr_pdu.specs.Reader.{version_with}
-use Rattle.rtr_pdu.proofs.RunLaws.{takes_some}
+use Rattle.rtr_ends.proofs.Words.{sym, ◌∙◌, subst, true, Prefix, version_with, takes_some}
 use Rattle.rtr_ends.specs.RouterShown.{TakesOn}
 use Rattle.rtr_ends.proofs.RouterSteps.{unit_goes}
 use Rattle.rtr_ends.proofs.router.Router.step.Goals as goal

@@ -1,6 +1,4 @@
-use Rattle.std.proofs.Common.{sym, ◌∙◌, subst, true}
-use Rattle.rtr_pdu.specs.Reader.{version_with}
-use Rattle.rtr_pdu.proofs.RunLaws.{takes_some}
+use Rattle.rtr_ends.proofs.Words.{sym, ◌∙◌, subst, true, version_with, takes_some}
 use Rattle.rtr_ends.specs.RouterShown.{TakesOn}
 use Rattle.rtr_ends.proofs.RouterSteps.{fault_goes, more_goes, unit_goes}
 use Rattle.rtr_ends.proofs.router.Router.step_unit.Goals as goal

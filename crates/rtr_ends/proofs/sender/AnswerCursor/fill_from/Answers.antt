@@ -1,10 +1,4 @@
-use Rattle.std.proofs.Common.{◌≡◌, ◌≤◌, ◌+◌, ◌-◌, ◌∙◌, sym, ap, subst, true, false, arith, length, map, drop, ◌++◌, List}
-use Rattle.std.proofs.Math.Seq.{drop-append-add}
-use Rattle.std.proofs.lemmas.List.{drop-append-le, drop-map, length-map}
-use Rattle.prefixes.specs.Payload.{Payload}
-use Rattle.vrps.specs.VrpSet.{listing}
-use Rattle.rtr_pdu.specs.declared.unit.Unit.{Unit}
-use Rattle.rtr_pdu.specs.declared.unit.Unit.TheVariants.{Prefix}
+use Rattle.rtr_ends.proofs.Words.{◌≡◌, ◌≤◌, ◌+◌, ◌-◌, ◌∙◌, sym, ap, subst, true, false, arith, length, map, drop, ◌++◌, List, drop-append-add, drop-append-le, drop-map, length-map, Payload, listing, Unit, Prefix}
 use Rattle.rtr_ends.specs.Answer.{announcements, withdrawals}
 use Rattle.rtr_ends.specs.Sender.{FillsWith, units_in}
 use Rattle.rtr_ends.proofs.FillingLaws.{of_longer}

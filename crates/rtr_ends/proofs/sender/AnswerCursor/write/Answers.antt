@@ -1,7 +1,4 @@
-use Rattle.std.proofs.Common.{slice_get, get_or, ◌≡◌, ◌∙◌, ap, arith, false, length, refl, subst, sym, true, Some}
-use Rattle.rtr_pdu.specs.declared.unit.Unit.TheVariants.{Prefix}
-use Rattle.vrps.proofs.Listed.{size_of_listing}
-use Rattle.vrps.specs.VrpSet.{listing}
+use Rattle.rtr_ends.proofs.Words.{slice_get, get_or, ◌≡◌, ◌∙◌, ap, arith, false, length, refl, subst, sym, true, Some, Prefix, size_of_listing, listing}
 use Rattle.rtr_ends.specs.Sender.{Writes, units_in}
 use Rattle.rtr_ends.proofs.SenderLaws.{withdrawn_at}
 use Rattle.rtr_ends.proofs.sender.AnswerCursor.write.Goals as goal

@@ -1,6 +1,4 @@
-use Rattle.rtr_pdu.specs.Unit.{fits}
-use Rattle.std.proofs.Common.{◌∙◌, ap, sym, [], ◌∷◌, subst}
-use Rattle.rtr_pdu.specs.declared.unit.Unit.{Unit}
+use Rattle.rtr_ends.proofs.Words.{fits, ◌∙◌, ap, sym, [], ◌∷◌, subst, Unit}
 use Rattle.rtr_ends.specs.Sender.{Sends}
 use Rattle.rtr_ends.specs.declared.sender.Sender.{Sender}
 use Rattle.rtr_ends.proofs.SenderLaws.{same_due, resets_none, resets_some}

@@ -1,7 +1,6 @@
-use Rattle.std.proofs.Common.{ap, ◌∙◌, refl}
+use Rattle.rtr_ends.proofs.Words.{ap, ◌∙◌, refl, CacheResponse}
 use Rattle.rtr_ends.specs.Answer.{sent}
 use Rattle.rtr_ends.specs.Sender.{own_session}
-use Rattle.rtr_pdu.specs.declared.unit.Unit.TheVariants.{CacheResponse}
 use Rattle.rtr_ends.proofs.SenderLaws.{due_begins, unit_ready}
 use Rattle.rtr_ends.proofs.sender.Sender.begin.Goals as goal
 

@@ -1,5 +1,4 @@
-use Rattle.std.proofs.Common.{option_map, ap, sym}
-use Rattle.vrps.specs.Instance.{NumberedSet}
+use Rattle.rtr_ends.proofs.Words.{option_map, ap, sym, NumberedSet}
 use Rattle.rtr_ends.proofs.SenderLaws.{newest_none, newest_ready}
 use Rattle.rtr_ends.proofs.sender.Sender.current.Goals as goal
 

@@ -1,5 +1,4 @@
-use Rattle.std.proofs.Common.{nat_lt, ◌≡◌, ◌∙◌, true, arith}
-use Rattle.std.proofs.lemmas.Bool.Decides.{nat_tests}
+use Rattle.rtr_ends.proofs.Words.{nat_lt, ◌≡◌, ◌∙◌, true, arith, nat_tests}
 use Rattle.rtr_ends.proofs.SenderLaws.{due_some, due_answer}
 use Rattle.rtr_ends.proofs.sender.Sender.is_due.Goals as goal
 

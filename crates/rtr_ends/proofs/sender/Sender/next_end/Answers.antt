@@ -1,5 +1,4 @@
-use Rattle.std.proofs.Common.{◌≡◌, ◌∙◌, ap, subst, refl}
-use Rattle.rtr_pdu.specs.Unit.{IsUnitOf}
+use Rattle.rtr_ends.proofs.Words.{◌≡◌, ◌∙◌, ap, subst, refl, IsUnitOf}
 use Rattle.rtr_ends.specs.Answer.{end_of_data, sent}
 use Rattle.rtr_ends.specs.Sender.{own_session, serial_in}
 use Rattle.rtr_ends.proofs.SenderLaws.{hands_end}

@@ -1,6 +1,4 @@
-use Rattle.std.proofs.Common.{arith}
-use Rattle.std.proofs.lemmas.Result.{err_from_is_err_and}
-use Rattle.vrps.specs.declared.set.SetFault.TheVariants.{TooMany}
+use Rattle.rtr_ends.proofs.Words.{arith, err_from_is_err_and, TooMany}
 use Rattle.rtr_ends.proofs.StagingLaws.{announced_fit, led_fits, same_error, withdrawn_fit}
 use Rattle.rtr_ends.proofs.staging.Staging.lead.Goals as goal
 

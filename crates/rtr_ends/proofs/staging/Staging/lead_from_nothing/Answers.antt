@@ -1,5 +1,4 @@
-use Rattle.std.proofs.Common.{arith}
-use Rattle.vrps.specs.VrpSet.{empty}
+use Rattle.rtr_ends.proofs.Words.{arith, empty}
 use Rattle.rtr_ends.proofs.StagingLaws.{announced_fit}
 use Rattle.rtr_ends.proofs.staging.Staging.lead_from_nothing.Goals as goal
 
