@@ -1,7 +1,7 @@
 -- What the cache reads and sends keeps the invariant.
 use Rattle.std.specs.Prelude.{◌≡◌, ◌⊎◌, ℕ, ◌+◌, Bool, true, false, not, ◌&&◌, ◌||◌, nat_lt, List, [], ◌∷◌, ◌++◌, length, Option, Some, None, IsSome, if◌then◌else◌, refl}
 use Rattle.std.specs.List.{AllByRecursion, list_any}
-use Rattle.std.proofs.Common.{sym, ap, ◌∙◌, subst, arith, inl, inr}
+use Rattle.std.proofs.Common.{sym, ap, ◌∙◌, subst, subst₂, arith, inl, inr}
 use Rattle.std.proofs.lemmas.Bool.{and_parts, or_parts}
 use Rattle.std.proofs.lemmas.Bool.Decides.{nat_tests}
 use Rattle.std.proofs.lemmas.List.{append-nil, length-append}
@@ -14,25 +14,26 @@ use Rattle.rtr_pdu.specs.Judging.{Judgement, judge}
 use Rattle.rtr_pdu.specs.Unit.{IsUnitOf}
 use Rattle.rtr_pdu.specs.Version.{first_version, header_version}
 use Rattle.rtr_pdu.specs.declared.unit.Unit.{Unit}
-use Rattle.rtr_pdu.specs.declared.unit.Unit.TheVariants.{SerialNotify}
 use Rattle.rtr_ends.specs.Answer.{answer, report, sent_all, session_in}
 use Rattle.rtr_ends.specs.Cache.{Conn, Taking, and_moment, is_none, conn_stops, conn_moment_of, with_moment, counted, finds_memory, conn_byte, can_notify, conn_notified, speaks_in, version_at}
-use Rattle.rtr_ends.specs.Connection.{Connection, ConnMoment, Read, Wanting, Notify, conn_after, notice, is_published, spoken_in, takes_memory, in_version}
+use Rattle.rtr_ends.specs.Connection.{Connection, ConnMoment, Read, Wanting, Notify, conn_after, notice, is_published, spoken_in, takes_memory, Sent, in_version}
 use Rattle.rtr_ends.specs.Feeding.{feed}
 use Rattle.rtr_ends.specs.LinkRules.{Router}
 use Rattle.rtr_ends.specs.RouterLink.{Link, Closed, Asked, Ended, is_reading}
 use Rattle.rtr_ends.specs.Transcript.{Question, query, base_of, of_version}
 use Rattle.rtr_ends.proofs.TableLaws.{false_true}
 use Rattle.rtr_ends.proofs.FeedingLaws.{feed_keeps}
-use Rattle.rtr_world.specs.OneAnswer.{IsOfNow, NotifiesOf, without_notifies}
+use Rattle.rtr_world.specs.OneAnswer.{IsOfNow, NotifiesOf, OwnNotifies, units_in, without_notifies}
 use Rattle.rtr_world.specs.World.{is_read, timing}
 use Rattle.rtr_world.proofs.RouterCases.{none_counted}
-use Rattle.rtr_world.proofs.AnswerLaws.{plain_stays, plain_notifies, without-append, notifies-append}
+use Rattle.rtr_world.proofs.AnswerLaws.{plain_stays, plain_notifies, without-append}
 use Rattle.rtr_world.proofs.CacheSteps.{from_now, is_now, IsAnswered, answered_report, answer_answers, serial_low, session_low}
-use Rattle.rtr_world.proofs.Invariant.{OneReply, QuestionFits, Replies, no_memory, Shape, Open, Unheard, Flow, Live, GoodLink, GoodRouter}
-use Rattle.rtr_world.proofs.UnitsAtRouters.{live_link, no_unit}
+use Rattle.rtr_world.proofs.Invariant.{OneReply, QuestionFits, Replies, no_memory, Shape, IsEarly, Open, Unheard, Flow, Live, GoodLink, GoodRouter}
+use Rattle.rtr_world.proofs.UnitsAtRouters.{live_link}
+use Rattle.rtr_world.proofs.SentLaws.{early_notice, early_own, own-append, units_more}
+use Rattle.prefixes.proofs.Basics.{all_both}
 use Rattle.rtr_world.proofs.SideSteps.{live_of}
-use Rattle.rtr_world.proofs.UnitStreams.{MaySpeak, Stream, byte_version, held_version, ByteCase, partly, notified, wholly, behind_early, byte_case, stream-append, stream-early, all_bytes}
+use Rattle.rtr_world.proofs.UnitStreams.{MaySpeak, Stream, byte_version, held_version, ByteCase, FirstIn, first_in, partly, wholly, one_case, stream-append, all_bytes}
 use Rattle.rtr_world.proofs.Versions.{TableAt, Present, held_at, Seen, reads_now, seen_after}
 
 none_is : (out : List ℕ) → not (is_none out) ≡ false → out ≡ []
@@ -50,29 +51,20 @@ more_bytes : (down due lost sent : List ℕ) → due ≡ [] → lost ≡ [] → 
 more_bytes down due lost sent de le =
     ap (λ x. (down ++ (x ++ lost)) ++ sent) de ∙ ap (λ x. (down ++ x) ++ sent) le ∙ ap (λ x. x ++ sent) (append-nil down) ∙ ap (λ x. down ++ x) (sym (append-nil sent) ∙ ap (λ x. sent ++ x) (sym le))
 
-stream_more : (pv : Version) (held down due lost : List ℕ) (early coming units : List Unit) → due ≡ [] → lost ≡ [] → AllByRecursion (IsUnitOf pv) units → Stream held (down ++ (due ++ lost)) (behind_early pv early coming)
-    → Stream held (down ++ (sent_all pv units ++ lost)) (behind_early pv early (coming ++ units))
-stream_more pv held down due lost early coming units de le fit s =
-    subst (λ x. Stream held x (behind_early pv early (coming ++ units))) (more_bytes down due lost (sent_all pv units) de le) (stream-append pv held (down ++ (due ++ lost)) early coming units s fit)
-
--- notifies of version 1, where no others came
-stream_earlier : (pv : Version) (held down due lost : List ℕ) (early coming units : List Unit) → coming ≡ [] → due ≡ [] → lost ≡ [] → AllByRecursion (IsUnitOf V1) units → Stream held (down ++ (due ++ lost)) (behind_early pv early coming)
-    → Stream held (down ++ (sent_all V1 units ++ lost)) (behind_early pv (early ++ units) coming)
-stream_earlier pv held down due lost early coming units none de le fit s =
-    let before : Stream held (down ++ (due ++ lost)) (behind_early pv early []) = subst (λ x. Stream held (down ++ (due ++ lost)) (behind_early pv early x)) none s in
-    subst (λ x. Stream held (down ++ (sent_all V1 units ++ lost)) (behind_early pv (early ++ units) x)) (sym none)
-    (subst (λ x. Stream held x (behind_early pv (early ++ units) [])) (more_bytes down due lost (sent_all V1 units) de le) (stream-early pv held (down ++ (due ++ lost)) early units before fit))
+stream_more : (pv : Version) (held down due lost : List ℕ) (coming : List Sent) (units : List Unit) → due ≡ [] → lost ≡ [] → AllByRecursion (IsUnitOf pv) units → Stream held (down ++ (due ++ lost)) coming → Stream held (down ++ (sent_all pv units ++ lost)) (coming ++ in_version pv units)
+stream_more pv held down due lost coming units de le fit s =
+    subst (λ x. Stream held x (coming ++ in_version pv units)) (more_bytes down due lost (sent_all pv units) de le) (stream-append pv held (down ++ (due ++ lost)) coming units s fit)
 
 -- Where a header has not come whole by the next byte, none had.
-unheard_more : (agreed : Option Version) (held more : List ℕ) (coming : List Unit) (agrees : Bool) → Unheard (header_version agreed held) coming agrees → Unheard (header_version agreed (held ++ more)) coming agrees
-unheard_more (Some version) held more coming agrees u = tt
-unheard_more None held more coming agrees u = by_length (nat_lt (length (held ++ more)) 8) refl
+unheard_more : (agreed : Option Version) (held more : List ℕ) (home : Instance) (coming : List Sent) (agrees : Bool) → Unheard (header_version agreed held) home coming agrees → Unheard (header_version agreed (held ++ more)) home coming agrees
+unheard_more (Some version) held more home coming agrees u = tt
+unheard_more None held more home coming agrees u = by_length (nat_lt (length (held ++ more)) 8) refl
   where
     shorter : (n m k : ℕ) → k ≡ n + m → nat_lt k 8 ≡ true → nat_lt n 8 ≡ true
     shorter n m k e h = grind (arith, nat_tests)
 
-    by_length : (b : Bool) → nat_lt (length (held ++ more)) 8 ≡ b → Unheard (if b then None else Some (first_version (held ++ more))) coming agrees
-    by_length true e = subst (λ b. Unheard (if b then None else Some (first_version held)) coming agrees) (shorter (length held) (length more) (length (held ++ more)) (length-append held more) e) u
+    by_length : (b : Bool) → nat_lt (length (held ++ more)) 8 ≡ b → Unheard (if b then None else Some (first_version (held ++ more))) home coming agrees
+    by_length true e = subst (λ b. Unheard (if b then None else Some (first_version held)) home coming agrees) (shorter (length held) (length more) (length (held ++ more)) (length-append held more) e) u
     by_length false e = tt
 
 -- a PDU was read at this moment, if there is one
@@ -106,31 +98,30 @@ module _ (all : List Instance) (i : Instance) (p : Present all i) (keep : ℕ) (
 
   -- The cache has read the question, and these PDUs are the answer.
   answered : (o : Conn) (up bs : List ℕ) (h : Seen) (f : Flow all i h r (Some o) up down) (q : Question) (units : List Unit) (st : Connection) → st.version ≡ Some r.spoken → o.state.due ≡ [] → st.due ≡ sent_all r.spoken units → Stream [] (bs ++ r.out) [] → r.link ≡ Asked q
-      → without_notifies f.coming ≡ [] → QuestionFits h.session q (of_version r.spoken r.version) → IsAnswered r.spoken units → Replies all r.spoken (record h { read = Some i }) q (base_of q r.table) units → OneReply all r.spoken (record h { read = Some i }) q units → Live all i (Some (record h { read = Some i })) r (Some (record { state = st; held = [] })) bs down
+      → without_notifies (units_in f.coming) ≡ [] → QuestionFits h.session q (of_version r.spoken r.version) → IsAnswered r.spoken units → Replies all r.spoken (record h { read = Some i }) q (base_of q r.table) units → OneReply all r.spoken (record h { read = Some i }) q units → Live all i (Some (record h { read = Some i })) r (Some (record { state = st; held = [] })) bs down
   answered o up bs h f q units st spoken eo due up_stream link rest fits is replies one =
       let op : Open i r.spoken h r.out up f.wanted f.coming r.agreed f.lost o = f.open_at in
-      let whole : without_notifies (f.coming ++ units) ≡ units = without-append f.coming units ∙ ap (λ x. x ++ without_notifies units) rest ∙ plain_stays units is.plain in (
+      let whole : without_notifies (units_in (f.coming ++ in_version r.spoken units)) ≡ units =
+      ap without_notifies (units_more r.spoken f.coming units) ∙ without-append (units_in f.coming) units ∙ ap (λ x. x ++ without_notifies units) rest ∙ plain_stays units is.plain in (
         record h { read = Some i },
         refl,
         record {
-          early = f.early;
-          coming = f.coming ++ units;
-          lost = f.lost;
-          wanted = [];
           said = record {
+            wanted = [];
+            coming = f.coming ++ in_version r.spoken units;
             version = f.version;
-            are_early = f.are_early;
-            early_notifies = f.early_notifies;
-            notifies = notifies-append h.session f.coming units f.notifies (plain_notifies h.session units is.plain);
+            session = f.session;
+            notifies = own-append r.agreed r.spoken h.made f.coming units f.notifies (plain_notifies (session_in r.spoken h.made) units is.plain);
             own = f.own;
             mine = f.mine;
-            shape = subst (λ x. Shape all r.spoken (record h { read = Some i }) x r.agreed r.version r.table [] (without_notifies (f.coming ++ units))) (sym link) (fits, inr (refl, subst (λ x. Replies all r.spoken (record h { read = Some i }) q (base_of q r.table) x) (sym whole) replies, subst (λ x. OneReply all r.spoken (record h { read = Some i }) q x) (sym whole) one));
+            shape = subst₂ (λ x y. Shape all r.spoken (record h { read = Some i }) x r.agreed r.version r.table [] y) (sym link) (sym whole) (fits, inr (refl, replies, one));
           };
-          downward = subst (λ x. Stream r.held (down ++ (x ++ f.lost)) (behind_early r.spoken f.early (f.coming ++ units))) (sym due) (stream_more r.spoken r.held down o.state.due f.lost f.early f.coming units eo op.whole is.fit f.downward);
+          lost = f.lost;
+          downward = subst (λ x. Stream r.held (down ++ (x ++ f.lost)) (f.coming ++ in_version r.spoken units)) (sym due) (stream_more r.spoken r.held down o.state.due f.lost f.coming units eo op.whole is.fit f.downward);
           open_at = record {
             upward = up_stream;
             spoken = subst (MaySpeak r.spoken) (sym spoken) refl;
-            unheard = subst (λ v. Unheard (header_version v []) (f.coming ++ units) r.agreed) (sym spoken) tt;
+            unheard = subst (λ v. Unheard (header_version v []) h.made (f.coming ++ in_version r.spoken units) r.agreed) (sym spoken) tt;
             linked = record { whole = op.whole; session = op.session; made = op.made; later = op.later };
           };
         },
@@ -143,42 +134,44 @@ module _ (all : List Instance) (i : Instance) (p : Present all i) (keep : ℕ) (
       Live all i (seen_after i (moment_reads (conn_moment_of i memory r.spoken bytes j)) home) r (Some (with_moment keep timing bytes m.conn (conn_moment_of i memory r.spoken bytes j))) bs down
 
   byte_live : (m : Taking) (b : ℕ) (bs : List ℕ) (h : Seen) (f : Flow all i h r (Some m.conn) (b ∷ bs) down) → home ≡ Some h → m.conn.state.due ≡ [] → is_reading r.link ≡ true → TableAt all r.version r.table
-      → ByteCase r.spoken true m.conn.held b (bs ++ r.out) [] f.wanted → (memory : Bool) → LiveBy m bs memory (m.conn.held ++ b ∷ []) (judge r.spoken false (m.conn.held ++ b ∷ []))
+      → ByteCase r.spoken false m.conn.held b (bs ++ r.out) (in_version r.spoken f.wanted) → (memory : Bool) → LiveBy m bs memory (m.conn.held ++ b ∷ []) (judge r.spoken false (m.conn.held ++ b ∷ []))
   byte_live m b bs h f eh eo live table (partly e s) memory =
       let op : Open i r.spoken h r.out (b ∷ bs) f.wanted f.coming r.agreed f.lost m.conn = f.open_at in
       subst (λ j. LiveBy m bs memory (m.conn.held ++ b ∷ []) j) (sym e) (
         h,
         eh,
         record {
-          early = f.early;
-          coming = f.coming;
-          lost = f.lost;
-          wanted = f.wanted;
           said = f.said;
+          lost = f.lost;
           downward = f.downward;
           open_at = record {
             upward = s;
             spoken = op.spoken;
-            unheard = unheard_more m.conn.state.version m.conn.held (b ∷ []) f.coming r.agreed op.unheard;
+            unheard = unheard_more m.conn.state.version m.conn.held (b ∷ []) h.made f.coming r.agreed op.unheard;
             linked = op.linked;
           };
         },
       )
-  byte_live m b bs h f eh eo live table (notified session serial rest none e s) memory = absurd (no_unit (SerialNotify session serial) rest (sym none))
-  byte_live m b bs h f eh eo live table (wholly none u more is e fit s) memory =
+  byte_live m b bs h f eh eo live table (wholly x more is e s) memory =
       subst (λ j. LiveBy m bs memory bytes j) (sym e) (by_memory (takes_memory r.spoken i u && not memory) refl)
     where
       bytes : List ℕ
       bytes = m.conn.held ++ b ∷ []
 
+      u : Unit
+      u = x.unit
+
+      first : FirstIn r.spoken f.wanted x more
+      first = first_in r.spoken f.wanted x more is
+
       op : Open i r.spoken h r.out (b ∷ bs) f.wanted f.coming r.agreed f.lost m.conn
       op = f.open_at
 
-      w : IsWhole h r.link u more (without_notifies f.coming)
-      w = whole_question h r.link u more (without_notifies f.coming) live (subst (λ x. Shape all r.spoken h r.link r.agreed r.version r.table x (without_notifies f.coming)) is f.shape)
+      w : IsWhole h r.link x.unit first.rest (without_notifies (units_in f.coming))
+      w = whole_question h r.link x.unit first.rest (without_notifies (units_in f.coming)) live (subst (λ y. Shape all r.spoken h r.link r.agreed r.version r.table y (without_notifies (units_in f.coming))) first.is f.shape)
 
       up_stream : Stream [] (bs ++ r.out) []
-      up_stream = subst (λ x. Stream [] (bs ++ r.out) (in_version r.spoken x)) w.no_more s
+      up_stream = subst (λ y. Stream [] (bs ++ r.out) y) (first.more_is ∙ ap (in_version r.spoken) w.no_more) s
 
       k : Seen
       k = record h { read = Some i }
@@ -224,7 +217,7 @@ module _ (all : List Instance) (i : Instance) (p : Present all i) (keep : ℕ) (
           let version : version_at m.conn (b ∷ []) ≡ r.spoken = byte_version r.spoken m.conn.state.version m.conn.held b (bs ++ r.out) l.2.wanted op.spoken op.upward in
           subst (λ v. GoodLink all i (seen_after i (moment_reads (came v)) home) r.link r (Some (behind v)) bs down) (sym version)
           (live_link all i (seen_after i (moment_reads (came r.spoken)) home) (Some (behind r.spoken)) bs down r r.link refl live
-          (byte_live m b bs l.0 l.2 l.1 due live g.table (byte_case r.spoken true m.conn.held b (bs ++ r.out) [] l.2.wanted (refl, λ e. refl) op.upward) (finds_memory m.wanting)))
+          (byte_live m b bs l.0 l.2 l.1 due live g.table (one_case r.spoken false m.conn.held b (bs ++ r.out) l.2.wanted op.upward) (finds_memory m.wanting)))
 
   -- What is due then is what was, or the answer to the question as the cache is now.
   abbrev pub DueNow : List ℕ → Option ℕ → Conn → Type 0
@@ -243,7 +236,7 @@ module _ (all : List Instance) (i : Instance) (p : Present all i) (keep : ℕ) (
   byte_now : (old : List ℕ) (wanting : Option ℕ) (m : Taking) (b : ℕ) (bs : List ℕ) → conn_stops m.conn ≡ false → is_reading r.link ≡ true → (wanting ≡ None → m.wanting ≡ None) → GoodC m.conn (b ∷ bs) → DueNow old wanting m.conn → DueNow old wanting (conn_byte keep timing i m b).conn
   unfolding conn_byte
   byte_now old wanting m b bs goes_on live same g now =
-      subst (λ v. DueNow old wanting (with_moment keep timing bytes m.conn (conn_moment_of i memory v bytes (judge v false bytes)))) (sym version) (by_case (byte_case r.spoken true m.conn.held b (bs ++ r.out) [] l.2.wanted (refl, λ e. refl) op.upward))
+      subst (λ v. DueNow old wanting (with_moment keep timing bytes m.conn (conn_moment_of i memory v bytes (judge v false bytes)))) (sym version) (by_case (one_case r.spoken false m.conn.held b (bs ++ r.out) l.2.wanted op.upward))
     where
       l : Live all i home r (Some m.conn) (b ∷ bs) down
       l = live_of r.link all i home r (Some m.conn) (b ∷ bs) down g.link live
@@ -260,14 +253,19 @@ module _ (all : List Instance) (i : Instance) (p : Present all i) (keep : ℕ) (
       version : version_at m.conn (b ∷ []) ≡ r.spoken
       version = byte_version r.spoken m.conn.state.version m.conn.held b (bs ++ r.out) l.2.wanted op.spoken op.upward
 
-      by_case : ByteCase r.spoken true m.conn.held b (bs ++ r.out) [] l.2.wanted → DueNow old wanting (with_moment keep timing bytes m.conn (conn_moment_of i memory r.spoken bytes (judge r.spoken false bytes)))
+      by_case : ByteCase r.spoken false m.conn.held b (bs ++ r.out) (in_version r.spoken l.2.wanted) → DueNow old wanting (with_moment keep timing bytes m.conn (conn_moment_of i memory r.spoken bytes (judge r.spoken false bytes)))
       by_case (partly e s) = subst (λ j. DueNow old wanting (with_moment keep timing bytes m.conn (conn_moment_of i memory r.spoken bytes j))) (sym e) now
-      by_case (notified session serial rest none e s) = absurd (no_unit (SerialNotify session serial) rest (sym none))
-      by_case (wholly none u more is e fit s) =
-          subst (λ j. DueNow old wanting (with_moment keep timing bytes m.conn (conn_moment_of i memory r.spoken bytes j))) (sym e) (inr (subst (λ x. IsOfNow r.spoken i keep wanting x (read (takes_memory r.spoken i u && not memory)).due) (sym w.asks) (by_memory (takes_memory r.spoken i u && not memory) refl)))
+      by_case (wholly x more is e s) =
+          subst (λ j. DueNow old wanting (with_moment keep timing bytes m.conn (conn_moment_of i memory r.spoken bytes j))) (sym e) (inr (subst (λ y. IsOfNow r.spoken i keep wanting y (read (takes_memory r.spoken i u && not memory)).due) (sym w.asks) (by_memory (takes_memory r.spoken i u && not memory) refl)))
         where
-          w : IsWhole l.0 r.link u more (without_notifies l.2.coming)
-          w = whole_question l.0 r.link u more (without_notifies l.2.coming) live (subst (λ x. Shape all r.spoken l.0 r.link r.agreed r.version r.table x (without_notifies l.2.coming)) is l.2.shape)
+          u : Unit
+          u = x.unit
+
+          first : FirstIn r.spoken l.2.wanted x more
+          first = first_in r.spoken l.2.wanted x more is
+
+          w : IsWhole l.0 r.link x.unit first.rest (without_notifies (units_in l.2.coming))
+          w = whole_question l.0 r.link x.unit first.rest (without_notifies (units_in l.2.coming)) live (subst (λ y. Shape all r.spoken l.0 r.link r.agreed r.version r.table y (without_notifies (units_in l.2.coming))) first.is l.2.shape)
 
           read : Bool → Connection
           read t = conn_after keep timing m.conn.state (if t then Wanting r.spoken i u bytes else Read r.spoken i u bytes)
@@ -294,58 +292,21 @@ module _ (all : List Instance) (i : Instance) (p : Present all i) (keep : ℕ) (
   abbrev told : Conn → Version → Conn
   told o v = record o { state = conn_after keep timing o.state (Notify v i o.held) }
 
-  -- in the version of a header that has come,
-  notified_live : (o : Conn) (up : List ℕ) → o.state.due ≡ [] → header_version o.state.version o.held ≡ Some r.spoken → Live all i home r (Some o) up down → Live all i home r (Some (told o r.spoken)) up down
-  notified_live o up due heard l =
-      let f = l.2 in
-      let op : Open i r.spoken l.0 r.out up f.wanted f.coming r.agreed f.lost o = f.open_at in
-      let whole : without_notifies (f.coming ++ notice (session_in r.spoken i) (versions i)) ≡ without_notifies f.coming =
-      without-append f.coming (notice (session_in r.spoken i) (versions i)) ∙ ap (λ x. without_notifies f.coming ++ x) (notice_silent (session_in r.spoken i) i.sets) ∙ append-nil (without_notifies f.coming) in (
-        l.0,
-        l.1,
+  -- It lives, where the notify may come.
+  notified_live : (o : Conn) (up : List ℕ) (v : Version) (h : Seen) (f : Flow all i h r (Some o) up down) → home ≡ Some h → o.state.due ≡ [] → let now : List Sent = f.coming ++ in_version v (notice (session_in v i) (versions i)) in
+      OwnNotifies r.agreed r.spoken h.made now → Unheard (header_version o.state.version o.held) h.made now r.agreed → Live all i home r (Some (told o v)) up down
+  notified_live o up v h f eh due own unheard =
+      let op : Open i r.spoken h r.out up f.wanted f.coming r.agreed f.lost o = f.open_at in
+      let units : List Unit = notice (session_in v i) (versions i) in
+      let whole : without_notifies (units_in (f.coming ++ in_version v units)) ≡ without_notifies (units_in f.coming) =
+      ap without_notifies (units_more v f.coming units) ∙ without-append (units_in f.coming) units ∙ ap (λ x. without_notifies (units_in f.coming) ++ x) (notice_silent (session_in v i) i.sets) ∙ append-nil (without_notifies (units_in f.coming)) in (
+        h,
+        eh,
         record {
-          early = f.early;
-          coming = f.coming ++ notice (session_in r.spoken i) (versions i);
+          said = record f.said { coming = f.coming ++ in_version v units; notifies = own; shape = subst (λ x. Shape all r.spoken h r.link r.agreed r.version r.table f.wanted x) (sym whole) f.shape };
           lost = f.lost;
-          wanted = f.wanted;
-          said = record { version = f.version; are_early = f.are_early; early_notifies = f.early_notifies; notifies = notifies-append l.0.session f.coming (notice (session_in r.spoken i) (versions i)) f.notifies (notice_own l.0.session (session_in r.spoken i) op.session i.sets); own = f.own; mine = f.mine; shape = subst (λ x. Shape all r.spoken l.0 r.link r.agreed r.version r.table f.wanted x) (sym whole) f.shape };
-          downward = stream_more r.spoken r.held down o.state.due f.lost f.early f.coming (notice (session_in r.spoken i) (versions i)) due op.whole (notice_fit r.spoken i.sets) f.downward;
-          open_at = record {
-            upward = op.upward;
-            spoken = op.spoken;
-            unheard = subst (λ v. Unheard v (f.coming ++ notice (session_in r.spoken i) (versions i)) r.agreed) (sym heard) tt;
-            linked = op.linked;
-          };
-        },
-      )
-
-  -- or in version 1, where none has
-  notified_early : (o : Conn) (up : List ℕ) → o.state.due ≡ [] → header_version o.state.version o.held ≡ None → Live all i home r (Some o) up down → Live all i home r (Some (told o V1)) up down
-  notified_early o up due unheard l =
-      let f = l.2 in
-      let op : Open i r.spoken l.0 r.out up f.wanted f.coming r.agreed f.lost o = f.open_at in
-      let nothing : Unheard None f.coming r.agreed = subst (λ v. Unheard v f.coming r.agreed) unheard op.unheard in (
-        l.0,
-        l.1,
-        record {
-          early = f.early ++ notice i.session (versions i);
-          coming = f.coming;
-          lost = f.lost;
-          wanted = f.wanted;
-          said = record {
-            version = f.version;
-            are_early = (
-              without-append f.early (notice i.session (versions i)) ∙ ap (λ x. x ++ without_notifies (notice i.session (versions i))) f.are_early.0 ∙ notice_silent i.session i.sets,
-              λ e. false_true (sym nothing.1 ∙ e),
-            );
-            early_notifies = notifies-append l.0.made.session f.early (notice i.session (versions i)) f.early_notifies (notice_own l.0.made.session i.session op.later.session i.sets);
-            notifies = f.notifies;
-            own = f.own;
-            mine = f.mine;
-            shape = f.shape;
-          };
-          downward = stream_earlier r.spoken r.held down o.state.due f.lost f.early f.coming (notice i.session (versions i)) nothing.0 due op.whole (notice_fit V1 i.sets) f.downward;
-          open_at = record { upward = op.upward; spoken = op.spoken; unheard = op.unheard; linked = op.linked };
+          downward = stream_more v r.held down o.state.due f.lost f.coming units due op.whole (notice_fit v i.sets) f.downward;
+          open_at = record { upward = op.upward; spoken = op.spoken; unheard = unheard; linked = op.linked };
         },
       )
 
@@ -372,10 +333,17 @@ module _ (all : List Instance) (i : Instance) (p : Present all i) (keep : ℕ) (
           op = l.2.open_at
 
           by_header : (v : Option Version) → header_version o.state.version o.held ≡ v → MaySpeak r.spoken v → GoodLink all i home r.link r (Some (told o (spoken_in v))) up down
-          by_header None e speaks = live_link all i home (Some (told o V1)) up down r r.link refl live (notified_early o up due e l)
+          by_header None e speaks =
+              let n : Unheard None l.0.made l.2.coming r.agreed = subst (λ v. Unheard v l.0.made l.2.coming r.agreed) e op.unheard in
+              let early = all_both (IsEarly l.0.made) l.2.coming (in_version V1 (notice i.session (versions i))) n.0 (early_notice l.0.made i i.sets op.later) in
+              live_link all i home (Some (told o V1)) up down r r.link refl live (notified_live o up V1 l.0 l.2 l.1 due
+              (subst (λ b. OwnNotifies b r.spoken l.0.made (l.2.coming ++ in_version V1 (notice i.session (versions i)))) (sym n.1) (early_own r.spoken l.0.made (l.2.coming ++ in_version V1 (notice i.session (versions i))) early))
+              (subst (λ v. Unheard v l.0.made (l.2.coming ++ in_version V1 (notice i.session (versions i))) r.agreed) (sym e) (early, n.1)))
           by_header (Some v) e speaks =
               subst (λ v. GoodLink all i home r.link r (Some (told o v)) up down) (sym speaks)
-              (live_link all i home (Some (told o r.spoken)) up down r r.link refl live (notified_live o up due (e ∙ ap Some speaks) l))
+              (live_link all i home (Some (told o r.spoken)) up down r r.link refl live (notified_live o up r.spoken l.0 l.2 l.1 due
+              (own-append r.agreed r.spoken l.0.made l.2.coming (notice (session_in r.spoken i) (versions i)) l.2.notifies (notice_own (session_in r.spoken l.0.made) (session_in r.spoken i) (sym l.2.session ∙ op.session) i.sets))
+              (subst (λ v. Unheard v l.0.made (l.2.coming ++ in_version r.spoken (notice (session_in r.spoken i) (versions i))) r.agreed) (sym e) tt)))
 
       by_test : (b : Bool) → can_notify i o ≡ b → GoodC (if b then o' else o) up
       by_test false e = g

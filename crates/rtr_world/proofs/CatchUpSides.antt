@@ -1,5 +1,5 @@
 -- A router that connected holds the newest version where its link is idle: its own moves keep that.
-use Rattle.std.specs.Prelude.{◌≡◌, ℕ, ◌≤◌, Bool, true, false, not, ◌&&◌, nat_lt, List, [], ◌∷◌, ◌++◌, length, take, drop, Option, Some, if◌then◌else◌, refl, ◌+◌, ◌-◌, ◌<◌, ◌==◌, None, ⊤, map}
+use Rattle.std.specs.Prelude.{◌≡◌, ℕ, ◌≤◌, Bool, true, false, not, ◌&&◌, nat_lt, List, [], ◌∷◌, ◌++◌, length, take, drop, Option, Some, if◌then◌else◌, refl, ◌+◌, ◌-◌, None, ⊤, map}
 use Rattle.std.specs.List.{AllByRecursion}
 use Rattle.std.proofs.Common.{sym, ap, ◌∙◌, subst, subst₂, arith, inl, inr, zero, suc}
 use Rattle.std.proofs.lemmas.Bool.{and_parts}
@@ -9,31 +9,30 @@ use Rattle.vrps.specs.Instance.{Instance, versions, versions_from}
 use Rattle.vrps.specs.VrpSet.{VrpSet}
 use Rattle.vrps.specs.Serial.{serial_at}
 use Rattle.rtr_pdu.specs.Judging.{Judgement, Whole, judge}
-use Rattle.rtr_pdu.specs.declared.unit.Unit.TheVariants.{SerialNotify, CacheResponse, Prefix, EndOfData, EndOfData0, CacheReset, ErrorReport}
+use Rattle.rtr_pdu.specs.declared.unit.Unit.TheVariants.{SerialNotify, ErrorReport}
 use Rattle.rtr_pdu.specs.declared.version.Version.{Version}
 use Rattle.rtr_pdu.specs.declared.unit.Unit.{Unit}
 use Rattle.rtr_ends.specs.Answer.{session_in, report, whole_answer}
 use Rattle.rtr_ends.specs.Cache.{Conn, is_none, finds_memory}
 use Rattle.rtr_ends.specs.Feeding.{feed}
-use Rattle.rtr_ends.specs.LinkRules.{Router, emptied, may_lack, Staged, Stays, ask, fails, is_strange, is_news, stage, staged, commit, on_unit}
+use Rattle.rtr_ends.specs.LinkRules.{Router, emptied, may_lack, is_strange, on_unit}
 use Rattle.rtr_ends.specs.Router.{Receiving, clocked, close, connects_at, expired, receives, router_byte, router_pulled, router_stops, with_bytes}
-use Rattle.rtr_ends.specs.RouterLink.{Link, Closed, Idle, Asked, Answering, Ended, is_closed, is_reading}
-use Rattle.rtr_ends.specs.Transcript.{Committed, is_over, later, At, Begun, Question, AskReset, AskSerial, base_of, bounded, is_wrong, led_to, of_version}
-use Rattle.rtr_ends.specs.Timing.{Intervals, default_intervals}
+use Rattle.rtr_ends.specs.RouterLink.{Link, Closed, Idle, Ended, is_closed, is_reading}
+use Rattle.rtr_ends.specs.Transcript.{Committed, is_over, later, At, AskReset, base_of, led_to, of_version}
 use Rattle.rtr_ends.proofs.ConsumedUnits.{unit_held}
 use Rattle.rtr_ends.proofs.FeedingLaws.{feed_keeps}
 use Rattle.rtr_ends.proofs.TableLaws.{false_true}
 use Rattle.rtr_world.specs.CatchUp.{IsMove, HoldsNewest, AreMoves, IdleIsCurrent, IsFresh, IsMoveOf}
 use Rattle.rtr_world.specs.History.{conn_due, Outcome, Done, Memory, after, Entry, LeadsFrom, side_at}
-use Rattle.rtr_world.specs.OneAnswer.{without_notifies}
+use Rattle.rtr_world.specs.OneAnswer.{OwnNotifies, units_in, without_notifies}
 use Rattle.rtr_world.specs.World.{Side, World, instances, SideEvent, Connect, RouterSends, CacheGets, CacheSends, RouterGets, Cut, connects, router_sends, cache_sends, cache_gets, router_gets, cut, side_step, side_part, side_refused, settle, tell_closed, timing, Event, On, goes_through, is_refused, new_world, on_side, settled}
 use Rattle.rtr_world.proofs.RouterCases.{expired_by, close_by}
 use Rattle.rtr_world.proofs.EventCalls.{told_closes, gets_keep, sends_keep, settle_keeps, lesser, part_by}
-use Rattle.rtr_world.proofs.Invariant.{Flow, Good, GoodRouter, Live, Shape, Mine, OneReply, QuestionFits, OfAnswer, Replies, no_data, not_kept, other_session, no_memory, response, nothing_yet}
-use Rattle.rtr_world.proofs.SideSteps.{byte_good, clocked_good, live_of, HeadCase, a_notify, another, head_case}
-use Rattle.rtr_world.proofs.UnitStreams.{ByteCase, byte_case, either_by, case_by}
-use Rattle.rtr_world.proofs.Versions.{Present, TableAt, some_is, Seen, IsSeen, HeldAt, Stands, find_session, has_sets, held_at, of_present}
-use Rattle.rtr_world.proofs.UnitsAtRouters.{first_is, no_unit}
+use Rattle.rtr_world.proofs.Invariant.{Flow, Good, GoodRouter, Live, Shape, Mine, OneReply}
+use Rattle.rtr_world.proofs.SideSteps.{byte_good, clocked_good, live_of}
+use Rattle.rtr_world.proofs.UnitStreams.{byte_case, either_by, case_by, head_is}
+use Rattle.rtr_world.proofs.Versions.{Present, TableAt, some_is, Seen, IsSeen, HeldAt, Stands, has_sets, held_at, of_present}
+use Rattle.rtr_world.proofs.UnitEffects.{by_shape, not_strange}
 use Rattle.rtr_world.proofs.SideLaws.{all_new}
 use Rattle.rtr_world.proofs.KeptTables.{AllTell, SideTells, after_tells, new_side_tells}
 use Rattle.rtr_world.proofs.WorldSteps.{GoodWorld, after_good, new_good}
@@ -79,144 +78,59 @@ if_current pv i true x y h k = h
 if_current pv i false x y h k = k
 
 -- on a connection that was made at the present instance as it is
-module _ (all : List Instance) (i : Instance) (p : Present all i) (pv : Version) (h : Seen) (made : h.made ≡ i) (own : h.session ≡ session_in pv i) (sets : length i.sets ≤ length h.sets) where
+module _ (all : List Instance) (i : Instance) (p : Present all i) (r : Router) (h : Seen) (made : h.made ≡ i) (own : h.session ≡ session_in r.spoken i) (sets : length i.sets ≤ length h.sets) where
   abbrev C : Router → Type 0
-  C r = IsCurrent pv i r
+  C k = IsCurrent r.spoken i k
 
-  newest_stands : (version : Committed) (set : VrpSet) (a : Stands all pv version.session version.serial set) → version.version ≡ pv → version.session ≡ session_in pv i → length i.sets ≤ length a.older + 1
-      → HoldsNewest pv (session_in pv i) (versions i) (Some version) set
+  newest_stands : (version : Committed) (set : VrpSet) (a : Stands all r.spoken version.session version.serial set) → version.version ≡ r.spoken → version.session ≡ session_in r.spoken i → length i.sets ≤ length a.older + 1
+      → HoldsNewest r.spoken (session_in r.spoken i) (versions i) (Some version) set
   newest_stands version set a of e since =
-      let same = of_present all i p pv version.session version.serial set a e in
+      let same = of_present all i p r.spoken version.session version.serial set a e in
       let is : i.sets ≡ a.newer ++ set ∷ a.older = ap (λ x. x.sets) (sym same) ∙ a.sets in
       let size = length-append a.newer (set ∷ a.older) in
       let whole = ap length is in
       let none : a.newer ≡ [] = no_elements a.newer (omega (arith, size, whole, since)) in
       let one : i.sets ≡ set ∷ a.older = is ∙ ap (λ x. x ++ set ∷ a.older) none in
-      subst (λ x. HoldsNewest pv (session_in pv i) (versions_from i.start x) (Some version) set) (sym one) (of, e, a.serial_is ∙ ap (λ x. serial_at x.start (length a.older)) same, refl)
+      subst (λ x. HoldsNewest r.spoken (session_in r.spoken i) (versions_from i.start x) (Some version) set) (sym one) (of, e, a.serial_is ∙ ap (λ x. serial_at x.start (length a.older)) same, refl)
 
   -- Where nothing is published, nothing of this session is held.
-  none_of : (version : Option Committed) (table : VrpSet) → HeldAt all pv version table → Mine h.session version → i.sets ≡ [] → version ≡ None
+  none_of : (version : Option Committed) (table : VrpSet) → HeldAt all r.spoken version table → Mine h.session version → i.sets ≡ [] → version ≡ None
   none_of None table t mine e = refl
-  none_of (Some version) table t mine e = absurd (has_sets all i p pv version.session version.serial table t (mine ∙ own) e)
+  none_of (Some version) table t mine e = absurd (has_sets all i p r.spoken version.session version.serial table t (mine ∙ own) e)
 
-  none_held : (version : Option Committed) (table : VrpSet) (now : ℕ) → TableAt all version table → Mine h.session (of_version pv version) → i.sets ≡ [] → is_over version now ≡ false → Current pv i Idle version table now
+  none_held : (version : Option Committed) (table : VrpSet) (now : ℕ) → TableAt all version table → Mine h.session (of_version r.spoken version) → i.sets ≡ [] → is_over version now ≡ false → Current r.spoken i Idle version table now
   none_held version table now t mine e fresh = (
-    subst (λ x. HoldsNewest pv (session_in pv i) (versions_from i.start x) version table) (sym e)
-        (none_of (of_version pv version) table (held_at all pv version table t) mine e, λ none. subst (λ v. TableAt all v table) none t),
+    subst (λ x. HoldsNewest r.spoken (session_in r.spoken i) (versions_from i.start x) version table) (sym e)
+        (none_of (of_version r.spoken version) table (held_at all r.spoken version table t) mine e, λ none. subst (λ v. TableAt all v table) none t),
     fresh,
   )
 
-  no_sets : (units : List Unit) (copy : List ℕ) → units ≡ report 2 copy ∷ [] → OneReply all pv h AskReset units → i.sets ≡ []
+  no_sets : (units : List Unit) (copy : List ℕ) → units ≡ report 2 copy ∷ [] → OneReply all r.spoken h AskReset units → i.sets ≡ []
   no_sets units copy e (inl from) =
-      let none : from.cache.sets ≡ [] = no_versions pv (session_in pv from.cache) from.cache.start from.cache.sets copy (sym e ∙ from.are) in
+      let none : from.cache.sets ≡ [] = no_versions r.spoken (session_in r.spoken from.cache) from.cache.start from.cache.sets copy (sym e ∙ from.are) in
       sym (ap (λ x. x.sets) made) ∙ nothing_right from.was.since.more h.made.sets (sym from.was.since.sets ∙ none)
   no_sets units copy e (inr other) =
-      let same : report 2 copy ≡ report 1 [] = first_is (report 2 copy) (report 1 []) [] [] (sym e ∙ other.1) in
+      let same : report 2 copy ≡ report 1 [] = head_is (report 2 copy) (report 1 []) [] [] (sym e ∙ other.1) in
       let code : 2 ≡ 1 = ap code_of same in absurd (omega (arith, code))
 
-  -- a notify
-  pub on_notice : (r : Router) (l : Link) (one serial : ℕ) → r.link ≡ l → is_reading l ≡ true → Current pv i l r.version r.table r.now → C (on_unit l (SerialNotify one serial) r)
-  unfolding on_unit
-  on_notice r Idle one serial is live c =
-      if_current pv i (is_strange r one) (fails (SerialNotify one serial) r) (if is_news (of_version r.spoken r.version) serial then ask r else r) tt
-      (if_current pv i (is_news (of_version r.spoken r.version) serial) (ask r) r c.1 (subst (λ l. Current pv i l r.version r.table r.now) (sym is) c))
-  on_notice r (Asked q) one serial is live c =
-      if_current pv i (is_strange r one) (fails (SerialNotify one serial) r) r tt (subst (λ l. Current pv i l r.version r.table r.now) (sym is) c)
-  on_notice r (Answering a) one serial is live c =
-      if_current pv i (is_strange r one) (fails (SerialNotify one serial) r) r tt (subst (λ l. Current pv i l r.version r.table r.now) (sym is) c)
-  on_notice r _ one serial is live c = false_true live
-
-  -- the reply to a question
-  data_current : (r : Router) (copy : List ℕ) → Current pv i Idle r.version r.table r.now → C (on_unit (Asked AskReset) (report 2 copy) r)
-  unfolding on_unit
-  data_current r copy c = c
-
-  reset_current : (r : Router) (session serial : ℕ) → is_over r.version r.now ≡ false → C (on_unit (Asked (AskSerial session serial)) CacheReset r)
-  unfolding on_unit
-  reset_current r session serial fresh = fresh
-
-  other_current : (r : Router) (session serial : ℕ) (copy : List ℕ) → C (on_unit (Asked (AskSerial session serial)) (report 0 copy) r)
-  unfolding on_unit
-  other_current r session serial copy = tt
-
-  memory_current : (r : Router) (q : Question) → C (on_unit (Asked q) (report 1 []) r)
-  unfolding on_unit
-  memory_current r q = tt
-
-  response_current : (r : Router) (q : Question) (session : ℕ) → is_over r.version r.now ≡ false → C (on_unit (Asked q) (CacheResponse session) r)
-  unfolding on_unit
-  response_current r q session fresh = if_current pv i (is_wrong (Some q) (of_version r.spoken r.version) session) (fails (CacheResponse session) r) (record r { agreed = true; session = Some session; link = Answering (nothing_yet q session) }) tt fresh
-
-  replied : (r : Router) (q : Question) (u : Unit) (rest : List Unit) (base : VrpSet) → QuestionFits h.session q (of_version pv r.version) → TableAt all r.version r.table → Replies all pv h q base (u ∷ rest) → OneReply all pv h q (u ∷ rest) → is_over r.version r.now ≡ false → C (on_unit (Asked q) u r)
-  replied r q u rest base f t (no_data copy qe e) one fresh =
-      let mine : Mine h.session (of_version pv r.version) = subst (λ x. QuestionFits h.session x (of_version pv r.version)) qe f in
-      subst₂ (λ a b. C (on_unit (Asked a) b r)) (sym qe) (sym (first_is u (report 2 copy) rest [] e))
-      (data_current r copy (none_held r.version r.table r.now t mine (no_sets (u ∷ rest) copy e (subst (λ x. OneReply all pv h x (u ∷ rest)) qe one)) fresh))
-  replied r q u rest base f t (not_kept serial qe e) one fresh = subst₂ (λ a b. C (on_unit (Asked a) b r)) (sym qe) (sym (first_is u CacheReset rest [] e)) (reset_current r h.session serial fresh)
-  replied r q u rest base f t (other_session session serial copy qe differs e) one fresh =
-      subst₂ (λ a b. C (on_unit (Asked a) b r)) (sym qe) (sym (first_is u (report 0 copy) rest [] e)) (other_current r session serial copy)
-  replied r q u rest base f t (no_memory e) one fresh = subst (λ b. C (on_unit (Asked q) b r)) (sym (first_is u (report 1 []) rest [] e)) (memory_current r q)
-  replied r q u rest base f t (response tail e o a) one fresh = subst (λ b. C (on_unit (Asked q) b r)) (sym (first_is u (CacheResponse h.session) rest tail e)) (response_current r q h.session fresh)
-
-  -- a record, or the end of an answer
-  staged_current : (r : Router) (u : Unit) (st : Staged) → is_over r.version r.now ≡ false → C (staged u st r)
-  staged_current r u (Stays a) fresh = fresh
-  staged_current r u _ fresh = tt
-
-  ended_current : (r : Router) (a : Begun) (u : Unit) (one number : ℕ) (intervals : Intervals) → r.spoken ≡ pv → one ≡ h.session → (stands : Stands all pv one number (led_to (base_of a.question r.table) a.withdrawn a.announced)) → length h.sets ≤ length stands.older + 1
-      → C (if one == a.session then commit a (record { version = r.spoken; session = one; serial = number; moment = r.now; intervals = intervals }) r else fails u r)
-  ended_current r a u one number intervals of e stands since =
-      if_current pv i (one == a.session) (commit a (record { version = r.spoken; session = one; serial = number; moment = r.now; intervals = intervals }) r) (fails u r) (
-        newest_stands (record { version = r.spoken; session = one; serial = number; moment = r.now; intervals = intervals }) (led_to (base_of a.question r.table) a.withdrawn a.announced) stands of (e ∙ own) (omega (arith, since, sets)),
-        lasts intervals.expire r.now,
-      )
-      tt
-
-  led_stands : (one number session serial : ℕ) (led set : VrpSet) → one ≡ session → number ≡ serial → led ≡ set → (s : Stands all pv session serial set) → (t : Stands all pv one number led) × (t.older ≡ s.older)
-  led_stands one number session serial led set own number_is led_is s = (
-    record {
-      i = s.i;
-      found = ap (λ x. find_session pv x all) own ∙ s.found;
-      newer = s.newer;
-      older = s.older;
-      sets = s.sets ∙ ap (λ x. s.newer ++ x ∷ s.older) (sym led_is);
-      serial_is = number_is ∙ s.serial_is;
-      young = s.young;
-      low = subst (λ x. x < 65536) (sym own) s.low;
-    },
-    refl,
-  )
-
-  answered : (r : Router) (a : Begun) (u : Unit) (rest : List Unit) → r.spoken ≡ pv → OfAnswer all pv h (base_of a.question r.table) a (u ∷ rest) → is_over r.version r.now ≡ false → C (on_unit (Answering a) u r)
-  unfolding on_unit
-  answered r a (Prefix announce v) rest of o fresh = staged_current r (Prefix announce v) (stage (base_of a.question r.table) a announce v) fresh
-  answered r a (EndOfData one number refresh retry expire) rest of o fresh =
-      let leads = o.leads in
-      let s = led_stands one number h.session o.serial (led_to (base_of a.question r.table) a.withdrawn a.announced) o.set leads.1 leads.2 leads.3 o.stands in
-      ended_current r a (EndOfData one number refresh retry expire) one number (bounded refresh retry expire) of leads.1 s.0 (subst (λ x. length h.sets ≤ length x + 1) (sym s.1) o.since)
-  answered r a (EndOfData0 one number) rest of o fresh =
-      let leads = o.leads in
-      let s = led_stands one number h.session o.serial (led_to (base_of a.question r.table) a.withdrawn a.announced) o.set leads.1 leads.2 leads.3 o.stands in
-      ended_current r a (EndOfData0 one number) one number default_intervals of leads.1 s.0 (subst (λ x. length h.sets ≤ length x + 1) (sym s.1) o.since)
-  answered r a u rest of o fresh = absurd o.leads
-
-  others : (r : Router) (l : Link) (u : Unit) (more wanted : List Unit) → r.spoken ≡ pv → is_reading l ≡ true → TableAt all r.version r.table → Shape all pv h l r.agreed r.version r.table wanted (u ∷ without_notifies more) → Current pv i l r.version r.table r.now → C (on_unit l u r)
-  others r Idle u more wanted of live t s c = absurd (no_unit u (without_notifies more) s.1)
-  others r (Asked q) u more wanted of live t s c =
-      elim (s.1) [
-        | inl w ↦ absurd (no_unit u (without_notifies more) w.1)
-        | inr w ↦ replied r q u (without_notifies more) (base_of q r.table) s.0 t w.1 w.2 c
-      ]
-  others r (Answering a) u more wanted of live t s c = answered r a u (without_notifies more) of s.4 c
-  others r _ u more wanted of live t s c = false_true live
-
   -- every PDU
-  pub unit_current : (r : Router) (l : Link) (u : Unit) (more wanted : List Unit) → r.spoken ≡ pv → r.link ≡ l → is_reading l ≡ true → TableAt all r.version r.table → Shape all pv h l r.agreed r.version r.table wanted (without_notifies (u ∷ more)) → Current pv i l r.version r.table r.now → C (on_unit l u r)
-  unit_current r l u more wanted of is live t shape c = by_head (head_case u more)
-    where
-      by_head : HeadCase u more → C (on_unit l u r)
-      by_head (a_notify session serial e) = subst (λ x. C (on_unit l x r)) (sym e) (on_notice r l session serial is live c)
-      by_head (another e) = others r l u more wanted of live t (subst (λ x. Shape all pv h l r.agreed r.version r.table wanted x) e shape) c
+  unit_current : (u : Unit) (more wanted : List Unit) → is_reading r.link ≡ true → ((one serial : ℕ) → u ≡ SerialNotify one serial → is_strange r one ≡ false) → TableAt all r.version r.table → Shape all r.spoken h r.link r.agreed r.version r.table wanted (without_notifies (u ∷ more)) → C r → C (on_unit r.link u r)
+  unit_current u more wanted live quiet t shape = by_shape all h r (λ l v k. Current r.spoken i l r.version r.table r.now → C k) r.link u more wanted refl live quiet shape (record {
+    asks = λ one serial w e ag c. c.1;
+    stays = λ l one serial is live s c. subst (λ x. Current r.spoken i x r.version r.table r.now) (sym is) c;
+    replies = λ w. record {
+      idles = λ copy e f one c. none_held r.version r.table r.now t f (no_sets (report 2 copy ∷ without_notifies more) copy (ap (λ x. report 2 copy ∷ x) e) one) c;
+      again = λ serial e f one c. c;
+      other = λ session serial copy differs f one c. tt;
+      lacks = λ q e f one c. tt;
+      begins = λ q own a f one c. c;
+    };
+    stages = λ a announce v b w ag se f o e c. c;
+    commits = λ a v one number intervals w e ag mine stands since c. (
+      newest_stands (record { version = r.spoken; session = one; serial = number; moment = r.now; intervals = intervals }) (led_to (base_of a.question r.table) a.withdrawn a.announced) stands refl (mine ∙ own) (omega (arith, since, sets)),
+      lasts intervals.expire r.now,
+    );
+  })
 
 -- A link that lives is of the version that the router speaks, and was made at this instance; an idle one holds its newest version.
 abbrev pub FreshLink : Instance → Option Instance → Router → Type 0
@@ -323,13 +237,11 @@ seen_made keep i pv home seen h of he se is =
 
 module _ (all : List Instance) (i : Instance) (p : Present all i) (keep : ℕ) (home : Option Instance) (seen : Option Seen) (is_seen : IsSeen keep home seen) (conn : Option Conn) (up : List ℕ) where
   byte_current : (down : List ℕ) (r : Router) (b : ℕ) (memory : Bool) (h : Seen) (m : Made i r.spoken h) (f : Flow all i h r conn up (b ∷ down)) → is_reading r.link ≡ true → TableAt all r.version r.table → IsCurrent r.spoken i r
-      → ByteCase r.spoken r.agreed r.held b (down ++ (conn_due conn ++ f.lost)) f.early f.coming → IsCurrent r.spoken i (with_bytes memory (r.held ++ b ∷ []) r (judge r.spoken (not r.agreed) (r.held ++ b ∷ []))).router
-  byte_current down r b memory h m f live table c case =
-      let k : Router = record r { held = [] } in
-      case_by (λ n. IsCurrent r.spoken i n.router) r b memory (down ++ (conn_due conn ++ f.lost)) f.early f.coming case (λ s. c) (λ u w. tt)
-      (λ session serial left is s. on_notice all i p r.spoken h m.made m.session m.sets k r.link session serial refl live c)
-      (λ u more alone is s. unit_current all i p r.spoken h m.made m.session m.sets k r.link u more f.wanted refl refl live table
-      (subst (λ x. Shape all r.spoken h r.link r.agreed r.version r.table f.wanted (without_notifies x)) is f.shape) c)
+      → IsCurrent r.spoken i (with_bytes memory (r.held ++ b ∷ []) r (judge r.spoken (not r.agreed) (r.held ++ b ∷ []))).router
+  byte_current down r b memory h m f live table c =
+      case_by (λ n. IsCurrent r.spoken i n.router) r b memory (down ++ (conn_due conn ++ f.lost)) f.coming (byte_case r.agreed r.spoken h.made r.held b (down ++ (conn_due conn ++ f.lost)) f.coming f.notifies f.downward) (λ s. c) (λ u w. tt)
+      (λ u more is s. unit_current all i p (record r { held = [] }) h m.made m.session m.sets u.unit (units_in more) f.wanted live (λ one serial e. not_strange h r u more one serial f.session (subst (OwnNotifies r.agreed r.spoken h.made) is f.notifies) e f.own f.mine) table
+      (subst (λ x. Shape all r.spoken h r.link r.agreed r.version r.table f.wanted (without_notifies (units_in x))) is f.shape) c)
 
   abbrev StaysFresh : List ℕ → Receiving → Type 0
   StaysFresh down m = GoodRouter all i seen conn up down m.router × FreshLink i home m.router
@@ -351,7 +263,6 @@ module _ (all : List Instance) (i : Instance) (p : Present all i) (keep : ℕ) (
   unfolding router_byte
   read_current down m b l live s =
       byte_current down m.router b (finds_memory m.wanting) l.0 (seen_made keep i m.router.spoken home seen l.0 l.2.version (s.1.0 live).1 l.1 is_seen) l.2 live s.0.table s.1.1
-      (byte_case m.router.spoken m.router.agreed m.router.held b (down ++ (conn_due conn ++ l.2.lost)) l.2.early l.2.coming l.2.are_early l.2.downward)
 
   stays_byte : (tail : List ℕ) (b : ℕ) (rest : List ℕ) (m : Receiving) → router_stops m.router ≡ false → StaysFresh (b ∷ rest ++ tail) m → StaysFresh (rest ++ tail) (router_byte m b)
   stays_byte tail b rest m on s =

@@ -4,7 +4,6 @@ use Rattle.std.specs.List.{list_any}
 use Rattle.std.proofs.Common.{sym, ap, ◌∙◌, subst, arith, append_assoc, inl}
 use Rattle.std.proofs.lemmas.List.{append-nil, take-append-drop, take_min}
 use Rattle.vrps.specs.Instance.{Instance}
-use Rattle.rtr_pdu.specs.declared.unit.Unit.{Unit}
 use Rattle.rtr_pdu.specs.declared.version.Version.{Version}
 use Rattle.rtr_ends.specs.Answer.{sent, session_in}
 use Rattle.rtr_ends.specs.Cache.{Conn, Taking, new_conn, conn_byte, conn_pulled, conn_stops, conn_takes, pulled_count}
@@ -17,7 +16,7 @@ use Rattle.rtr_ends.specs.Transcript.{choose, of_version, At, Item, query}
 use Rattle.rtr_ends.proofs.KeptLaws.{clocked_tells}
 use Rattle.rtr_ends.proofs.ByteLists.{drop_none}
 use Rattle.rtr_ends.proofs.KeptLaws.{not_due}
-use Rattle.rtr_world.specs.OneAnswer.{IsOfNow}
+use Rattle.rtr_world.specs.OneAnswer.{IsOfNow, OwnNotifies}
 use Rattle.rtr_world.specs.VersionPlaces.{VersionPlace}
 use Rattle.rtr_world.specs.History.{conn_due}
 use Rattle.rtr_world.specs.World.{Side, World, instances, is_read, timing, SideEvent, RouterRestart, Speak, Connect, RouterSends, CacheGets, CacheSends, RouterGets, Cut, NotifyRouter, Ask, Tick, places_of, connects, router_restarts, speaks, router_sends, sends_from, cache_sends, gets_at, cache_gets, router_gets, cut, notifies_at, side_step, side_part, side_refused, tell_closed, close_ended, settle_conn, settle_link, settle_rest, settle_wire, settle}
@@ -25,21 +24,18 @@ use Rattle.rtr_world.proofs.RouterCases.{asks_by}
 use Rattle.rtr_world.proofs.EventCalls.{closed_by, closed_link, part_by, lesser}
 use Rattle.rtr_world.proofs.CacheMoves as cache
 use Rattle.rtr_world.proofs.UnitCases.{goes_fed}
-use Rattle.rtr_world.proofs.Invariant.{OwnSession, IfOpen, Open, GoodLink, GoodRouter, Good, Flow}
+use Rattle.rtr_world.proofs.Invariant.{OwnSession, IfOpen, Open, GoodLink, GoodRouter, Good, Flow, if_open}
+use Rattle.rtr_ends.proofs.TableLaws.{false_true}
 use Rattle.rtr_world.proofs.Places.{Ordered, ordered_connects, ordered_none, ordered_read}
 use Rattle.rtr_world.proofs.UnitsAtRouters.{first_fits, query_unit}
 use Rattle.rtr_world.proofs.SideSteps.{live_map, clocked_good, Shut, close_shut, asks_good}
-use Rattle.rtr_world.proofs.UnitStreams.{Stream, behind_early}
+use Rattle.rtr_world.proofs.UnitStreams.{Stream}
 use Rattle.rtr_world.proofs.KeptTables.{SideTells}
 use Rattle.rtr_world.proofs.Versions.{Present, held_at, Seen, IsReadAt, IsSeen, seen_after, seen_at}
 
 -- what is sent, and what is left of it
 sent_first : (most : ℕ) (held up out : List ℕ) (units : List Sent) → Stream held (up ++ out) units → Stream held ((up ++ take most out) ++ drop most out) units
 sent_first most held up out units s = subst (λ x. Stream held x units) (ap (λ x. up ++ x) (sym (take-append-drop most out)) ∙ sym (append_assoc up (take most out) (drop most out))) s
-
-open_sent : (i : Instance) (pv : Version) (h : Seen) (most : ℕ) (out up : List ℕ) (wanted coming : List Unit) (agreed : Bool) (lost : List ℕ) (conn : Option Conn) → IfOpen conn (Open i pv h out up wanted coming agreed lost) → IfOpen conn (Open i pv h (drop most out) (up ++ take most out) wanted coming agreed lost)
-open_sent i pv h most out up wanted coming agreed lost None op = tt
-open_sent i pv h most out up wanted coming agreed lost (Some o) op = record { upward = sent_first most o.held up out (in_version pv wanted) op.upward; spoken = op.spoken; unheard = op.unheard; linked = op.linked }
 
 -- what was seen, where the cache read a PDU or not
 seen_read : (i : Instance) (keep : ℕ) (home : Option Instance) (read : Bool) (seen : Option Seen) → IsSeen keep home seen → IsSeen keep home (seen_after i read seen)
@@ -71,13 +67,11 @@ module _ (w : World) (p : Present (instances w) w.present) where
         l.0,
         l.1,
         record {
-          early = l.2.early;
-          coming = l.2.coming;
-          lost = l.2.lost;
-          wanted = l.2.wanted;
           said = l.2.said;
+          lost = l.2.lost;
           downward = l.2.downward;
-          open_at = open_sent w.present s.router.spoken l.0 most s.router.out s.up l.2.wanted l.2.coming s.router.agreed l.2.lost s.conn l.2.open_at;
+          open_at = if_open (Open w.present s.router.spoken l.0 s.router.out s.up l.2.wanted l.2.coming s.router.agreed l.2.lost) (Open w.present s.router.spoken l.0 (drop most s.router.out) (s.up ++ take most s.router.out) l.2.wanted l.2.coming s.router.agreed l.2.lost) s.conn
+              (λ o op. record { linked = op.linked; upward = sent_first most o.held s.up s.router.out (in_version s.router.spoken l.2.wanted) op.upward; spoken = op.spoken; unheard = op.unheard }) l.2.open_at;
         },
       ));
     };
@@ -111,12 +105,9 @@ module _ (w : World) (p : Present (instances w) w.present) where
       ∙ ap (λ x. s.down ++ x) (append_assoc (take most o.state.due) (drop (pulled_count most o) o.state.due) f.lost)
       ∙ sym (append_assoc s.down (take most o.state.due) (drop (pulled_count most o) o.state.due ++ f.lost)) in
       record {
-        early = f.early;
-        coming = f.coming;
-        lost = f.lost;
-        wanted = f.wanted;
         said = f.said;
-        downward = subst (λ x. Stream s.router.held x (behind_early s.router.spoken f.early f.coming)) bytes f.downward;
+        lost = f.lost;
+        downward = subst (λ x. Stream s.router.held x f.coming) bytes f.downward;
         open_at = record { upward = op.upward; spoken = op.spoken; unheard = op.unheard; linked = op.linked };
       })
 
@@ -173,7 +164,7 @@ module _ (w : World) (p : Present (instances w) w.present) where
       let after : List ℕ = conn_due s.conn ++ f.lost in
       let bytes : s.down ++ (conn_due s.conn ++ f.lost) ≡ take left s.down ++ ([] ++ (drop left s.down ++ (conn_due s.conn ++ f.lost))) =
       ap (λ x. x ++ (conn_due s.conn ++ f.lost)) (sym (take-append-drop left s.down)) ∙ append_assoc (take left s.down) (drop left s.down) (conn_due s.conn ++ f.lost) in
-      record { early = f.early; coming = f.coming; lost = drop left s.down ++ (conn_due s.conn ++ f.lost); wanted = f.wanted; said = f.said; downward = subst (λ x. Stream s.router.held x (behind_early s.router.spoken f.early f.coming)) bytes f.downward; open_at = tt })
+      record { said = f.said; lost = drop left s.down ++ (conn_due s.conn ++ f.lost); downward = subst (λ x. Stream s.router.held x f.coming) bytes f.downward; open_at = tt })
 
   -- a connection is made
   fresh_session : (session : ℕ) (o : Option ℕ) → o ≡ None → OwnSession session o
@@ -191,11 +182,17 @@ module _ (w : World) (p : Present (instances w) w.present) where
           seen_at w.keep c.speaks w.present,
           refl,
           record {
-            early = [];
-            coming = [];
+            said = record {
+              wanted = query (choose (of_version c.speaks c.version) c.mark) ∷ [];
+              coming = [];
+              version = refl;
+              session = refl;
+              notifies = subst (λ b. OwnNotifies b c.speaks w.present []) (sym shut.agreed) tt;
+              own = fresh_session (session_in c.speaks w.present) c.session shut.session;
+              mine = λ e. false_true (sym shut.agreed ∙ e);
+              shape = (fits, inl (refl, refl));
+            };
             lost = [];
-            wanted = query (choose (of_version c.speaks c.version) c.mark) ∷ [];
-            said = record { version = refl; are_early = (refl, λ e. refl); early_notifies = tt; notifies = tt; own = fresh_session (session_in c.speaks w.present) c.session shut.session; mine = λ e. absurd (let h : false ≡ true = sym shut.agreed ∙ e in cc); shape = (fits, inl (refl, refl)) };
             downward = record { whole = append-nil c.held ∙ shut.held; partial = inl shut.held; fit = tt };
             open_at = record {
               upward = record {
@@ -204,7 +201,7 @@ module _ (w : World) (p : Present (instances w) w.present) where
                 fit = (query_unit (instances w) c.speaks (session_in c.speaks w.present) (choose (of_version c.speaks c.version) c.mark) (of_version c.speaks c.version) c.table fits (held_at (instances w) c.speaks c.version c.table shut.table), tt);
               };
               spoken = tt;
-              unheard = (refl, shut.agreed);
+              unheard = (tt, shut.agreed);
               linked = record { whole = refl; session = refl; made = omega arith; later = record { session = refl; session0 = refl; start = refl; more = []; sets = refl } };
             };
           },
@@ -307,7 +304,7 @@ module _ (w : World) (p : Present (instances w) w.present) where
   ended_good : (s : Side) (o : Conn) (ended : Bool) (due : List ℕ) → s.conn ≡ Some o → o.state.due ≡ due → GoodS s → GoodS (close_ended s ended due)
   ended_good s o true [] e de g = wired_good s None s.up s.down g (λ h f.
       let bytes : s.down ++ (conn_due s.conn ++ f.lost) ≡ s.down ++ ([] ++ f.lost) = ap (λ x. s.down ++ (conn_due x ++ f.lost)) e ∙ ap (λ x. s.down ++ (x ++ f.lost)) de in
-      record { early = f.early; coming = f.coming; lost = f.lost; wanted = f.wanted; said = f.said; downward = subst (λ x. Stream s.router.held x (behind_early s.router.spoken f.early f.coming)) bytes f.downward; open_at = tt })
+      record { said = f.said; lost = f.lost; downward = subst (λ x. Stream s.router.held x f.coming) bytes f.downward; open_at = tt })
   ended_good s o _ _ e de g = g
 
   conn_good : (s : Side) (o : Option Conn) → s.conn ≡ o → GoodS s → GoodS (settle_conn s o)

@@ -5,21 +5,22 @@ use Rattle.vrps.specs.Instance.{Instance}
 use Rattle.vrps.specs.VrpSet.{VrpSet}
 use Rattle.rtr_pdu.specs.declared.unit.Unit.{Unit}
 use Rattle.rtr_pdu.specs.Version.{header_version}
-use Rattle.rtr_pdu.specs.declared.unit.Unit.TheVariants.{CacheResponse, Prefix, EndOfData, EndOfData0, CacheReset}
+use Rattle.rtr_pdu.specs.declared.unit.Unit.TheVariants.{SerialNotify, CacheResponse, Prefix, EndOfData, EndOfData0, CacheReset}
 use Rattle.rtr_pdu.specs.declared.version.Version.{Version}
 use Rattle.rtr_pdu.specs.declared.version.Version.TheVariants.{V1}
 use Rattle.rtr_ends.specs.Answer.{answer, report, session_in}
 use Rattle.rtr_ends.specs.Cache.{Conn}
 use Rattle.rtr_ends.specs.Commit.{Commits}
-use Rattle.rtr_ends.specs.Connection.{IsLater, in_version, takes_memory}
+use Rattle.rtr_ends.specs.Connection.{IsLater, Sent, in_version, takes_memory}
+use Rattle.std.specs.List.{AllByRecursion}
 use Rattle.rtr_ends.specs.LinkRules.{Router, Staged, Stays, stage}
 use Rattle.rtr_ends.specs.RouterLink.{Link, Closed, Idle, Asked, Answering, Ended}
 use Rattle.rtr_ends.specs.Transcript.{Begun, Committed, Question, AskReset, AskSerial, query, base_of, led_to, of_version}
 use Rattle.rtr_world.specs.History.{conn_due}
-use Rattle.rtr_world.specs.OneAnswer.{EndsWith, NotifiesOf, announced_in, withdrawn_in, without_notifies}
+use Rattle.rtr_world.specs.OneAnswer.{EndsWith, OwnNotifies, announced_in, units_in, withdrawn_in, without_notifies}
 use Rattle.rtr_world.specs.World.{Side, timing}
 use Rattle.rtr_world.proofs.Places.{Ordered}
-use Rattle.rtr_world.proofs.UnitStreams.{AreEarly, MaySpeak, Stream, behind_early}
+use Rattle.rtr_world.proofs.UnitStreams.{MaySpeak, Stream}
 use Rattle.rtr_world.proofs.Versions.{Stands, TableAt, find_session, Seen, IsReadAt, IsSeen}
 
 abbrev pub after_stage : Staged → (Begun → Type 0) → Type 0
@@ -138,10 +139,18 @@ abbrev pub IfOpen : Option Conn → (Conn → Type 0) → Type 0
 IfOpen None P = ⊤
 IfOpen (Some o) P = P o
 
--- where no header has come whole, nothing has been sent but notifies of version 1
-abbrev pub Unheard : Option Version → List Unit → Bool → Type 0
-Unheard None coming agreed = (coming ≡ []) × (agreed ≡ false)
-Unheard (Some version) coming agreed = ⊤
+pub if_open : (P Q : Conn → Type 0) (o : Option Conn) → ((c : Conn) → P c → Q c) → IfOpen o P → IfOpen o Q
+if_open P Q None f h = tt
+if_open P Q (Some o) f h = f o h
+
+-- a notify of version 1, which is all that the cache sends before it has read a header
+abbrev pub IsEarly : Instance → Sent → Type 0
+IsEarly home s = (serial : ℕ) × (s ≡ record { version = V1; unit = SerialNotify (session_in V1 home) serial })
+
+-- where no header has come whole, nothing else comes, and no version is agreed on
+abbrev pub Unheard : Option Version → Instance → List Sent → Bool → Type 0
+Unheard None home coming agreed = AllByRecursion (IsEarly home) coming × (agreed ≡ false)
+Unheard (Some version) home coming agreed = ⊤
 
 -- The connection is to this instance, as it was or as it is, and nothing of what it sent is lost.
 pub record Linked (i : Instance) (pv : Version) (home : Seen) (lost : List ℕ) : Type 0 where
@@ -151,12 +160,12 @@ pub record Linked (i : Instance) (pv : Version) (home : Seen) (lost : List ℕ) 
   pub later : IsLater home.made i
 
 -- Open at the cache: what the router asked and the cache has not read whole are these PDUs.
-pub record Open (i : Instance) (pv : Version) (home : Seen) (out up : List ℕ) (wanted coming : List Unit) (agreed : Bool) (lost : List ℕ) (o : Conn) : Type 0 where
+pub record Open (i : Instance) (pv : Version) (home : Seen) (out up : List ℕ) (wanted : List Unit) (coming : List Sent) (agreed : Bool) (lost : List ℕ) (o : Conn) : Type 0 where
   pub linked : Linked i pv home lost
   pub open linked use *
   pub upward : Stream o.held (up ++ out) (in_version pv wanted)
   pub spoken : MaySpeak pv o.state.version
-  pub unheard : Unheard (header_version o.state.version o.held) coming agreed
+  pub unheard : Unheard (header_version o.state.version o.held) home.made coming agreed
 
 -- What of a router stays where only bytes move.
 pub record Talk : Type 0 where
@@ -170,24 +179,22 @@ pub record Talk : Type 0 where
 abbrev pub talk : Router → Talk
 talk r = record { spoken = r.spoken; link = r.link; agreed = r.agreed; session = r.session; version = r.version; table = r.table }
 
--- What holds of the units to come, however they lie on the wires.
-pub record Said (all : List Instance) (home : Seen) (t : Talk) (early wanted coming : List Unit) : Type 0 where
+-- What the router asked and has not been read whole, and what comes, however they lie on the wires
+pub record Said (all : List Instance) (home : Seen) (t : Talk) : Type 0 where
+  pub wanted : List Unit
+  pub coming : List Sent
   pub version : home.version ≡ t.spoken
-  pub are_early : AreEarly t.agreed early
-  pub early_notifies : NotifiesOf home.made.session early
-  pub notifies : NotifiesOf home.session coming
+  pub session : home.session ≡ session_in t.spoken home.made
+  pub notifies : OwnNotifies t.agreed t.spoken home.made coming
   pub own : OwnSession home.session t.session
   pub mine : t.agreed ≡ true → Mine home.session (of_version t.spoken t.version)
-  pub shape : Shape all t.spoken home t.link t.agreed t.version t.table wanted (without_notifies coming)
+  pub shape : Shape all t.spoken home t.link t.agreed t.version t.table wanted (without_notifies (units_in coming))
 
 pub record FlowOf (all : List Instance) (i : Instance) (home : Seen) (t : Talk) (held out : List ℕ) (conn : Option Conn) (up down : List ℕ) : Type 0 where
-  pub early : List Unit
-  pub coming : List Unit
-  pub lost : List ℕ
-  pub wanted : List Unit
-  pub said : Said all home t early wanted coming
+  pub said : Said all home t
   pub open said use *
-  pub downward : Stream held (down ++ (conn_due conn ++ lost)) (behind_early t.spoken early coming)
+  pub lost : List ℕ
+  pub downward : Stream held (down ++ (conn_due conn ++ lost)) coming
   pub open_at : IfOpen conn (Open i t.spoken home out up wanted coming t.agreed lost)
 
 abbrev pub Flow : List Instance → Instance → Seen → Router → Option Conn → List ℕ → List ℕ → Type 0

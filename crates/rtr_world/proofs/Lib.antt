@@ -33,11 +33,13 @@ pub mod RouterCases
 pub mod Routers
 pub mod Runs
 pub mod Showing
+pub mod SentLaws
 pub mod SideLaws
 pub mod SideSteps
 pub mod Stepping
 pub mod ToldVersions
 pub mod UnitCases
+pub mod UnitEffects
 pub mod UnitStreams
 pub mod UnitsAtRouters
 pub mod Versions

@@ -7,10 +7,8 @@ use Rattle.vrps.specs.VrpSet.{VrpSet}
 use Rattle.rtr_pdu.specs.declared.unit.Unit.{Unit}
 use Rattle.rtr_pdu.specs.declared.version.Version.{Version}
 use Rattle.rtr_pdu.specs.declared.unit.Unit.TheVariants.{SerialNotify, Prefix}
-use Rattle.rtr_pdu.specs.declared.version.Version.TheVariants.{V1}
-use Rattle.rtr_ends.specs.Answer.{answer, session_in}
+use Rattle.rtr_ends.specs.Answer.{answer}
 use Rattle.rtr_ends.specs.Cache.{Conn}
-use Rattle.rtr_ends.specs.Connection.{Sent, in_version}
 use Rattle.rtr_ends.specs.RouterLaws.{LinkTells}
 use Rattle.rtr_ends.specs.RouterLink.{Link, Closed, Idle, Asked, Answering, Ended, is_closed, is_reading, is_due, is_idle}
 use Rattle.rtr_ends.specs.Transcript.{AskReset, AskSerial, Begun, Committed, Question, base_of, of_version, query, under_way, Item, At, Reads, Shut}
@@ -18,13 +16,13 @@ use Rattle.rtr_ends.specs.LinkRules.{Router, on_unit}
 use Rattle.rtr_ends.specs.Router.{asked_by, clocked, close, asks_if, connects_at, closed_at, ticks_at, asks, router_pulled, Connects, Closes, called, Ticks, Receives, AsksNow, RouterCall}
 use Rattle.rtr_ends.proofs.TableLaws.{false_true}
 use Rattle.rtr_world.specs.Claims.{OneAnswerAlways}
-use Rattle.rtr_world.specs.OneAnswer.{AreIn, Between, ComesOn, Fits, IfResponse, IsAnswer, IsReply, IsWholeAnswer, LeadsToPublished, NotifiesOf, OneAnswer, OwnNotifies, WasSo, answered, units_in, without_notifies}
+use Rattle.rtr_world.specs.OneAnswer.{Between, ComesOn, Fits, IfResponse, IsAnswer, IsReply, IsWholeAnswer, LeadsToPublished, OneAnswer, WasSo, answered, units_in, without_notifies}
 use Rattle.rtr_world.specs.World.{Side, World, instances, is_ended, timing, noted, router_restarts, tell_closed}
 use Rattle.rtr_world.proofs.WorldSteps.{Known, history_known, history_keeps, KeptAlways, received}
 use Rattle.rtr_world.proofs.Invariant.{FromCache, Flow, Good, GoodLink, IfOpen, OfAnswer, OneReply, Open, QuestionFits, Replies, Shape, WasCache, no_data, not_kept, other_session, no_memory, read_of, records_of, response}
 use Rattle.rtr_world.proofs.Rests.{Rests, history_rests}
 use Rattle.rtr_world.proofs.SideSteps.{live_of}
-use Rattle.rtr_world.proofs.UnitStreams.{AreEarly, behind_early, part_of}
+use Rattle.rtr_world.proofs.UnitStreams.{part_of}
 use Rattle.rtr_world.proofs.KeptTables.{SideTells}
 use Rattle.rtr_world.proofs.Versions.{named_at, IsReadAt, IsSeen, Seen}
 use Rattle.rtr_world.proofs.RouterCases.{asks_by, clocked_by}
@@ -119,77 +117,14 @@ kept_reads = record {
 }
 
 -- the instance of the connection
-record Home (keep : ℕ) (home : Option Instance) (h : Seen) : Type 0 where
-  is : home ≡ Some h.made
-  session : h.session ≡ session_in h.version h.made
-  keeps : h.keep ≡ keep
-
-home_of : (keep : ℕ) (home : Option Instance) (h : Seen) → IsSeen keep home (Some h) → Home keep home h
+home_of : (keep : ℕ) (home : Option Instance) (h : Seen) → IsSeen keep home (Some h) → (home ≡ Some h.made) × (h.keep ≡ keep)
 home_of keep None h s = absurd s
-home_of keep (Some home) h s = record { is = ap Some (sym s.0); session = s.2 ∙ ap (λ x. session_in h.version x) (sym s.0); keeps = s.1 }
+home_of keep (Some home) h s = (ap Some (sym s.0), s.1)
 
 -- a cut alone takes bytes away
-whole_of : (i : Instance) (pv : Version) (h : Seen) (out up : List ℕ) (wanted coming : List Unit) (agreed : Bool) (lost : List ℕ) (o : Option Conn) → IfOpen o (Open i pv h out up wanted coming agreed lost) → IsSome o → lost ≡ []
-whole_of i pv h out up wanted coming agreed lost None op some = false_true some
-whole_of i pv h out up wanted coming agreed lost (Some o) op some = op.whole
-
--- What comes is notifies of version 1, none once a version is agreed on, and then PDUs in the version of the connection.
-pub record EarlyFirst (agreed : Bool) (version : Version) (home : Instance) (sent : List Sent) : Type 0 where
-  pub early : List Unit
-  pub coming : List Unit
-  pub are : sent ≡ behind_early version early coming
-  pub are_early : AreEarly agreed early
-  pub early_notifies : NotifiesOf (session_in V1 home) early
-  pub notifies : NotifiesOf (session_in version home) coming
-
-units_are : (version : Version) (coming : List Unit) → units_in (in_version version coming) ≡ coming
-units_are version [] = refl
-units_are version (u ∷ coming) = ap (λ x. u ∷ x) (units_are version coming)
-
-are_in : (version : Version) (home : Instance) (coming : List Unit) → NotifiesOf (session_in version home) coming → AreIn version home (in_version version coming)
-are_in version home coming own = (each coming, subst (NotifiesOf (session_in version home)) (sym (units_are version coming)) own)
-  where
-    each : (coming : List Unit) → AllByRecursion (λ (p : Sent). p.version ≡ version) (in_version version coming)
-    each [] = tt
-    each (u ∷ coming) = (refl, each coming)
-
-pub own_notifies : (agreed : Bool) (version : Version) (home : Instance) (early coming : List Unit) → AreEarly agreed early → NotifiesOf (session_in V1 home) early → NotifiesOf (session_in version home) coming
-    → OwnNotifies agreed version home (behind_early version early coming)
-own_notifies true version home early coming none one own = subst (λ x. AreIn version home (behind_early version x coming)) (sym (none.1 refl)) (are_in version home coming own)
-own_notifies false version home [] [] none one own = tt
-own_notifies false version home [] (u ∷ coming) none one own = inl (are_in version home (u ∷ coming) own)
-own_notifies false version home (SerialNotify session serial ∷ early) coming none one own =
-    inr (serial, ap (λ x. record { version = V1; unit = SerialNotify x serial }) one.0, own_notifies false version home early coming (none.0, λ e. false_true e) one.1 own)
-own_notifies false version home (u ∷ early) coming none one own = absurd (let e : u ∷ without_notifies early ≡ [] = none.0 in cc)
-
-pub rest_behind : (version : Version) (early coming : List Unit) → without_notifies early ≡ [] → without_notifies (units_in (behind_early version early coming)) ≡ without_notifies coming
-rest_behind version [] coming none = ap without_notifies (units_are version coming)
-rest_behind version (SerialNotify session serial ∷ early) coming none = rest_behind version early coming none
-rest_behind version (u ∷ early) coming none = absurd (let e : u ∷ without_notifies early ≡ [] = none in cc)
-
--- What comes so is told apart again.
-in_one : (version : Version) (coming : List Sent) → AllByRecursion (λ (p : Sent). p.version ≡ version) coming → coming ≡ in_version version (units_in coming)
-in_one version [] all = refl
-in_one version (p ∷ coming) all = λ i. record { version = all.0 i; unit = p.unit } ∷ in_one version coming all.1 i
-
-all_late : (agreed : Bool) (version : Version) (home : Instance) (sent : List Sent) → AreIn version home sent → EarlyFirst agreed version home sent
-all_late agreed version home sent all =
-    record { early = []; coming = units_in sent; are = in_one version sent all.0; are_early = (refl, λ a. refl); early_notifies = tt; notifies = all.1 }
-
-pub early_first : (agreed : Bool) (version : Version) (home : Instance) (sent : List Sent) → OwnNotifies agreed version home sent → EarlyFirst agreed version home sent
-early_first true version home sent own = all_late true version home sent own
-early_first false version home [] own = record { early = []; coming = []; are = refl; are_early = (refl, λ a. refl); early_notifies = tt; notifies = tt }
-early_first false version home (first ∷ sent) (inl all) = all_late false version home (first ∷ sent) all
-early_first false version home (first ∷ sent) (inr early) =
-    let e : EarlyFirst false version home sent = early_first false version home sent early.2 in
-    record {
-      early = SerialNotify (session_in V1 home) early.0 ∷ e.early;
-      coming = e.coming;
-      are = λ i. early.1 i ∷ e.are i;
-      are_early = (e.are_early.0, λ a. false_true a);
-      early_notifies = (refl, e.early_notifies);
-      notifies = e.notifies;
-    }
+whole_of : (P : Conn → Type 0) (lost : List ℕ) (o : Option Conn) → ((c : Conn) → P c → lost ≡ []) → IfOpen o P → IsSome o → lost ≡ []
+whole_of P lost None whole op some = false_true some
+whole_of P lost (Some o) whole op some = whole o op
 
 -- a question is of what is committed
 fits_of : (session : ℕ) (q : Question) (version : Option Committed) → QuestionFits session q version → Fits q version
@@ -252,18 +187,17 @@ live_answer w s live g t k =
     let l = live_of s.router.link (instances w) w.present g.seen s.router s.conn s.up s.down g.router.link live in
     let h : Seen = l.0 in
     let f : Flow (instances w) w.present h s.router s.conn s.up s.down = l.2 in
-    let home : Home w.keep s.home h = home_of w.keep s.home h (subst (λ x. IsSeen w.keep s.home x) l.1 g.is_seen) in
+    let home = home_of w.keep s.home h (subst (λ x. IsSeen w.keep s.home x) l.1 g.is_seen) in
     record {
       home = h.made;
-      home_is = home.is;
-      coming = behind_early s.router.spoken f.early f.coming;
+      home_is = home.0;
+      coming = f.coming;
       lost = f.lost;
       bytes = f.downward.whole;
-      part = part_of s.router.held (behind_early s.router.spoken f.early f.coming) f.downward.partial;
-      whole = whole_of w.present s.router.spoken h s.router.out s.up f.wanted f.coming s.router.agreed f.lost s.conn f.open_at;
-      notifies = own_notifies s.router.agreed s.router.spoken h.made f.early f.coming f.are_early f.early_notifies (subst (λ x. NotifiesOf x f.coming) (home.session ∙ ap (λ v. session_in v h.made) f.version) f.notifies);
-      rest = subst (ComesOn w h.made s s.router.link) (sym (rest_behind s.router.spoken f.early f.coming f.are_early.0))
-          (comes_on w s.router.spoken h home.keeps s s.router.link f.wanted (without_notifies f.coming) (subst (λ x. IsReadAt s.read_at x) l.1 g.is_read) refl refl t k f.shape);
+      part = part_of s.router.held f.coming f.downward.partial;
+      whole = whole_of (Open w.present s.router.spoken h s.router.out s.up f.wanted f.coming s.router.agreed f.lost) f.lost s.conn (λ o op. op.whole) f.open_at;
+      notifies = f.notifies;
+      rest = comes_on w s.router.spoken h home.1 s s.router.link f.wanted (without_notifies (units_in f.coming)) (subst (λ x. IsReadAt s.read_at x) l.1 g.is_read) refl refl t k f.shape;
     }
 
 between : (w : World) (s : Side) → Good w.keep w.past w.present s → SideTells s → SideReads s → Rests s → Between w s s.router.link

@@ -21,7 +21,7 @@ use Rattle.rtr_world.specs.World.{Side, World, instances, noted, router_restarts
 use Rattle.rtr_world.proofs.RouterCases.{asks_by, clocked_by}
 use Rattle.rtr_world.proofs.WorldSteps.{Known, history_keeps, KeptAlways, GoodWorld, known_leads, known_sides, first}
 use Rattle.rtr_world.proofs.SideSteps.{live_of}
-use Rattle.rtr_world.proofs.UnitStreams.{all_bytes, behind_early, either_by}
+use Rattle.rtr_world.proofs.UnitStreams.{all_bytes, either_by}
 use Rattle.rtr_world.proofs.WireBytes.{low_front, low_stream, low_take, Low, low-append, low_drop, low_rest}
 use Rattle.rtr_world.proofs.EventCalls.{refused_at, IsOwnCall, closed_by, Lessens, settle_keeps}
 use Rattle.rtr_world.proofs.Invariant.{GoodLink, IfOpen, Live, Open}
@@ -116,7 +116,7 @@ gets_run w s most wanting known h = by_link (is_reading s.router.link) refl
     by_link : (live : Bool) → is_reading s.router.link ≡ live → IsRun (receives s.router.now wanting (take most s.down) s.router).machine.router ((receives s.router.now wanting (take most s.down) s.router).machine.items ++ s.items)
     by_link true live =
         let l = live_of s.router.link (instances w) w.present known.0.seen s.router s.conn s.up s.down known.0.router.link live in
-        let low = low_stream s.router.held (s.down ++ (conn_due s.conn ++ l.2.lost)) (behind_early s.router.spoken l.2.early l.2.coming) l.2.downward in
+        let low = low_stream s.router.held (s.down ++ (conn_due s.conn ++ l.2.lost)) l.2.coming l.2.downward in
         one_more (Receives s.router.now wanting (take most s.down)) s.router s.items (all_bytes (take most s.down) (low_take most s.down (low_front s.down (conn_due s.conn ++ l.2.lost) low))) h
     by_link false dead =
         subst (λ (m : Receiving). IsRun m.router (m.items ++ s.items)) (sym (takes_none s.router.now wanting (take most s.down) s.router dead)) (one_more (Receives s.router.now wanting []) s.router s.items none_bytes h)

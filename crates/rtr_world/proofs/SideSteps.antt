@@ -1,6 +1,6 @@
 -- What happens at one router, its connection and its wires keeps the invariant.
 use Rattle.std.specs.Prelude.{◌≡◌, ℕ, Bool, true, false, not, ◌&&◌, List, [], ◌∷◌, ◌++◌, Option, Some, None, if◌then◌else◌, refl}
-use Rattle.std.proofs.Common.{sym, ap, ◌∙◌, subst, subst₂, inl}
+use Rattle.std.proofs.Common.{sym, ap, ◌∙◌, subst, inl}
 use Rattle.std.proofs.lemmas.Bool.{and_parts}
 use Rattle.vrps.specs.Instance.{Instance}
 use Rattle.vrps.specs.VrpSet.{empty}
@@ -8,9 +8,8 @@ use Rattle.rtr_pdu.specs.Version.{header_version}
 use Rattle.rtr_pdu.specs.declared.version.Version.{Version}
 use Rattle.rtr_pdu.specs.Judging.{judge}
 use Rattle.rtr_pdu.specs.declared.unit.Unit.{Unit}
-use Rattle.rtr_pdu.specs.declared.unit.Unit.TheVariants.{SerialNotify}
 use Rattle.rtr_ends.specs.declared.link.End.TheVariants as ends
-use Rattle.rtr_ends.specs.Connection.{bytes_sent, in_version}
+use Rattle.rtr_ends.specs.Connection.{Sent, bytes_sent, in_version}
 use Rattle.rtr_ends.specs.Cache.{Conn, is_none, finds_memory}
 use Rattle.rtr_ends.specs.LinkRules.{Router, emptied, on_unit}
 use Rattle.rtr_ends.specs.Router.{Receiving, with_bytes, router_stops, router_byte, expired, clocked, close, asks_if}
@@ -19,10 +18,14 @@ use Rattle.rtr_ends.specs.Transcript.{choose, Question, AskReset, AskSerial, que
 use Rattle.rtr_ends.proofs.KeptLaws.{none_is, same_base}
 use Rattle.rtr_ends.proofs.TableLaws.{false_true}
 use Rattle.rtr_world.specs.History.{conn_due}
-use Rattle.rtr_world.specs.OneAnswer.{NotifiesOf, without_notifies}
-use Rattle.rtr_world.proofs.Invariant.{OfAnswer, Shape, QuestionFits, IfOpen, Open, Unheard, Flow, Live, GoodLink, GoodRouter}
-use Rattle.rtr_world.proofs.UnitsAtRouters.{Reads, on_early, on_notify, on_other, live_link, question_fits, query_unit, open_asking}
-use Rattle.rtr_world.proofs.UnitStreams.{Stream, ByteCase, byte_case, early_open, case_by, behind_early}
+use Rattle.rtr_world.specs.OneAnswer.{OwnNotifies, units_in, without_notifies}
+use Rattle.rtr_pdu.specs.Stream.{is_notify}
+use Rattle.rtr_ends.specs.Answer.{sent}
+use Rattle.rtr_world.proofs.Invariant.{OfAnswer, Shape, QuestionFits, Open, Unheard, Flow, Live, GoodLink, GoodRouter, if_open}
+use Rattle.rtr_world.proofs.UnitsAtRouters.{Reads, asked_on, live_link, question_fits, query_unit, unit_good}
+use Rattle.rtr_world.proofs.UnitEffects.{not_strange}
+use Rattle.rtr_world.proofs.SentLaws.{own_rest}
+use Rattle.rtr_world.proofs.UnitStreams.{Stream, byte_case, case_by}
 use Rattle.rtr_world.proofs.Versions.{TableAt, held_at, Seen}
 use Rattle.prefixes.proofs.Basics.{true_of_not}
 
@@ -38,23 +41,6 @@ live_of Closed all i home r conn up down g live = false_true live
 live_of (Ended end) all i home r conn up down g live = false_true live
 live_of _ all i home r conn up down g live = g
 
--- A PDU is a notify, or stands among those that are none.
-pub data HeadCase (u : Unit) (more : List Unit) : Type 0 where
-  a_notify : (session serial : ℕ) → u ≡ SerialNotify session serial → HeadCase u more
-  another : without_notifies (u ∷ more) ≡ u ∷ without_notifies more → HeadCase u more
-
-pub head_case : (u : Unit) (more : List Unit) → HeadCase u more
-head_case (SerialNotify session serial) more = a_notify session serial refl
-head_case u more = another refl
-
-pub notifies_rest : (session : ℕ) (u : Unit) (units : List Unit) → NotifiesOf session (u ∷ units) → NotifiesOf session units
-notifies_rest session (SerialNotify one serial) units h = h.1
-notifies_rest session u units h = h
-
-nothing_left : {A : Type 0} (xs ys : List A) → xs ++ ys ≡ [] → xs ≡ []
-nothing_left [] ys e = refl
-nothing_left (x ∷ xs) ys e = cc
-
 nothing_right : {A : Type 0} (xs ys : List A) → xs ++ ys ≡ [] → ys ≡ []
 nothing_right [] ys e = e
 nothing_right (x ∷ xs) ys e = cc
@@ -65,81 +51,53 @@ fits_nothing session AskReset h = tt
 fits_nothing session (AskSerial one serial) h = false_true (sym h)
 
 module _ (all : List Instance) (i : Instance) (home : Option Seen) (conn : Option Conn) (up : List ℕ) where
-  -- the router reads a PDU
-  unit_read : (down : List ℕ) (r : Router) (more : List Unit) (u : Unit) → HeadCase u more → (d : Reads all i home conn up down r more) → is_reading r.link ≡ true → NotifiesOf d.h.session (u ∷ more)
-      → Shape all r.spoken d.h r.link r.agreed r.version r.table d.wanted (without_notifies (u ∷ more)) → GoodRouter all i home conn up down (on_unit r.link u r)
-  unit_read down r more u (a_notify session serial e) d live notes shape =
-      let n : (session ≡ d.h.session) × NotifiesOf d.h.session more = subst (λ x. NotifiesOf d.h.session (x ∷ more)) e notes in
-      let s : Shape all r.spoken d.h r.link r.agreed r.version r.table d.wanted (without_notifies more) = subst (λ x. Shape all r.spoken d.h r.link r.agreed r.version r.table d.wanted (without_notifies (x ∷ more))) e shape in
-      subst (λ x. GoodRouter all i home conn up down (on_unit r.link x r)) (sym e) (on_notify all i home conn up down r more r.link session serial d refl live n.0 s)
-  unit_read down r more u (another e) d live notes shape =
-      on_other all i home conn up down r more r.link u d live (subst (λ x. Shape all r.spoken d.h r.link r.agreed r.version r.table d.wanted x) e shape)
-
-  -- What was to come is more than notifies before agreement: the cache has read a header.
-  heard : (h : Seen) (pv : Version) (out : List ℕ) (wanted : List Unit) (u : Unit) (more : List Unit) (agreed now : Bool) (lost : List ℕ) (o : Option Conn) → IfOpen o (Open i pv h out up wanted (u ∷ more) agreed lost) → IfOpen o (Open i pv h out up wanted more now lost)
-  heard h pv out wanted u more agreed now lost None op = tt
-  heard h pv out wanted u more agreed now lost (Some o) op = record {
-    upward = op.upward;
-    spoken = op.spoken;
-    unheard = by_header (header_version o.state.version o.held) op.unheard;
-    linked = op.linked;
-  }
-    where
-      by_header : (known : Option Version) → Unheard known (u ∷ more) agreed → Unheard known more now
-      by_header None n = absurd (let e : u ∷ more ≡ [] = n.0 in cc)
-      by_header (Some version) n = tt
-
   -- it reads a byte
   byte_read : (down : List ℕ) (r : Router) (b : ℕ) (memory : Bool) (h : Seen) (f : Flow all i h r conn up (b ∷ down)) → home ≡ Some h → is_reading r.link ≡ true → r.out ≡ [] → TableAt all r.version r.table → r.mark ≡ false
-      → ByteCase r.spoken r.agreed r.held b (down ++ (conn_due conn ++ f.lost)) f.early f.coming → GoodRouter all i home conn up down (with_bytes memory (r.held ++ b ∷ []) r (judge r.spoken (not r.agreed) (r.held ++ b ∷ []))).router
-  byte_read down r b memory h f eh live none table mark case =
-      case_by (λ n. GoodRouter all i home conn up down n.router) r b memory (down ++ (conn_due conn ++ f.lost)) f.early f.coming case (λ s. record {
+      → GoodRouter all i home conn up down (with_bytes memory (r.held ++ b ∷ []) r (judge r.spoken (not r.agreed) (r.held ++ b ∷ []))).router
+  byte_read down r b memory h f eh live none table mark =
+      case_by (λ n. GoodRouter all i home conn up down n.router) r b memory (down ++ (conn_due conn ++ f.lost)) f.coming (byte_case r.agreed r.spoken h.made r.held b (down ++ (conn_due conn ++ f.lost)) f.coming f.notifies f.downward) (λ s. record {
         table = table;
         unmarked = mark;
-        link = live_link all i home conn up down (record r { held = r.held ++ b ∷ [] }) r.link refl live (
-          h,
-          eh,
-          record { early = f.early; coming = f.coming; lost = f.lost; wanted = f.wanted; said = f.said; downward = s; open_at = f.open_at },
-        );
-      }) (λ u w. record { table = table; unmarked = mark; link = none }) early read
+        link = live_link all i home conn up down (record r { held = r.held ++ b ∷ [] }) r.link refl live (h, eh, record { said = f.said; lost = f.lost; downward = s; open_at = f.open_at });
+      }) (λ u w. record { table = table; unmarked = mark; link = none }) read
     where
-      k : Router
-      k = record r { held = [] }
+      read : (u : Sent) (more : List Sent) → f.coming ≡ u ∷ more → Stream [] (down ++ (conn_due conn ++ f.lost)) more → GoodRouter all i home conn up down (on_unit r.link u.unit (record r { held = [] }))
+      read u more is s = unit_good all i home conn up down (λ now. is_notify u.unit ≡ true → now ≡ r.agreed) k more u.unit d (λ none e. false_true (sym none ∙ e)) live (λ one serial e. not_strange h k u more one serial f.session comes e f.own f.mine) shape
+        where
+          k : Router
+          k = record r { held = [] }
 
-      early : (session serial : ℕ) (rest : List Unit) → f.early ≡ SerialNotify session serial ∷ rest → Stream [] (down ++ (conn_due conn ++ f.lost)) (behind_early r.spoken rest f.coming) → GoodRouter all i home conn up down (on_unit r.link (SerialNotify session serial) k)
-      early session serial rest is s =
-          let open_yet : r.agreed ≡ false = early_open r.agreed session serial rest (λ a. sym is ∙ f.are_early.1 a) in
-          on_early all i home conn up down k r.link session serial h (record {
-            early = rest;
-            coming = f.coming;
-            lost = f.lost;
-            wanted = f.wanted;
-            said = record { version = f.version; are_early = (subst (λ x. without_notifies x ≡ []) is f.are_early.0, λ a. false_true (sym open_yet ∙ a)); early_notifies = (subst (λ x. NotifiesOf h.made.session x) is f.early_notifies).1; notifies = f.notifies; own = f.own; mine = f.mine; shape = f.shape };
-            downward = s;
-            open_at = f.open_at;
-          }) eh refl live open_yet table mark
+          comes : OwnNotifies r.agreed r.spoken h.made (u ∷ more)
+          comes = subst (OwnNotifies r.agreed r.spoken h.made) is f.notifies
 
-      read : (u : Unit) (more : List Unit) → f.early ≡ [] → f.coming ≡ u ∷ more → Stream [] (down ++ (conn_due conn ++ f.lost)) (behind_early r.spoken [] more) → GoodRouter all i home conn up down (on_unit r.link u k)
-      read u more alone is s =
-          let notes : NotifiesOf h.session (u ∷ more) = subst (λ x. NotifiesOf h.session x) is f.notifies in
-          unit_read down k more u (head_case u more) (record {
+          shape : Shape all r.spoken h r.link r.agreed r.version r.table f.wanted (without_notifies (u.unit ∷ units_in more))
+          shape = subst (λ x. Shape all r.spoken h r.link r.agreed r.version r.table f.wanted (without_notifies (units_in x))) is f.shape
+
+          -- What was to come is more than notifies before agreement: the cache has read a header.
+          heard : (known : Option Version) (now : Bool) → (is_notify u.unit ≡ true → now ≡ r.agreed) → Unheard known h.made (u ∷ more) r.agreed → Unheard known h.made more now
+          heard None now same n = (n.0.1, same (ap (λ (x : Sent). is_notify x.unit) n.0.0.1) ∙ n.1)
+          heard (Some version) now same n = tt
+
+          d : Reads all i home conn up down (λ now. is_notify u.unit ≡ true → now ≡ r.agreed) k more
+          d = record {
             comes = record {
               h = h;
               is_home = eh;
               lost = f.lost;
               wanted = f.wanted;
               version = f.version;
+              session = f.session;
               downward = s;
-              open_at = λ agreed. heard h r.spoken [] f.wanted u more r.agreed agreed f.lost conn (subst₂ (λ x y. IfOpen conn (Open i r.spoken h x up f.wanted y r.agreed f.lost)) none is f.open_at);
-              notifies = notifies_rest h.session u more notes;
+              open_at = λ now same. if_open (Open i r.spoken h r.out up f.wanted f.coming r.agreed f.lost) (Open i r.spoken h [] up f.wanted more now f.lost) conn
+                  (λ o op. record { linked = op.linked; upward = subst (λ x. Stream o.held (up ++ x) (in_version r.spoken f.wanted)) none op.upward; spoken = op.spoken; unheard = heard (header_version o.state.version o.held) now same (subst (λ x. Unheard (header_version o.state.version o.held) h.made x r.agreed) is op.unheard) })
+                  f.open_at;
+              notifies = λ now same. own_rest r.agreed now r.spoken h.made u more same comes;
             };
+            kept = record { held = refl; none = none; table = table; unmarked = mark };
+            may = λ e. refl;
             own = f.own;
             mine = f.mine;
-            none = none;
-            held = refl;
-            table = table;
-            unmarked = mark;
-          }) live notes (subst (λ x. Shape all r.spoken h r.link r.agreed r.version r.table f.wanted (without_notifies x)) is f.shape)
+          }
 
   pub byte_good : (down : List ℕ) (m : Receiving) (b : ℕ) → router_stops m.router ≡ false → GoodRouter all i home conn up (b ∷ down) m.router → GoodRouter all i home conn up down (router_byte m b).router
   unfolding router_byte
@@ -147,7 +105,6 @@ module _ (all : List Instance) (i : Instance) (home : Option Seen) (conn : Optio
       let parts = and_parts (is_reading m.router.link) (is_none m.router.out) (true_of_not (is_reading m.router.link && is_none m.router.out) goes_on) in
       let l = live_of m.router.link all i home m.router conn up (b ∷ down) g.link parts.0 in
       byte_read down m.router b (finds_memory m.wanting) l.0 l.2 l.1 parts.0 (none_is m.router.out parts.1) g.table g.unmarked
-      (byte_case m.router.spoken m.router.agreed m.router.held b (down ++ (conn_due conn ++ l.2.lost)) l.2.early l.2.coming l.2.are_early l.2.downward)
 
   module _ (down : List ℕ) where
     abbrev GoodR : Router → Type 0
@@ -159,11 +116,8 @@ module _ (all : List Instance) (i : Instance) (home : Option Seen) (conn : Optio
       l.0,
       l.1,
       record {
-        early = l.2.early;
-        coming = l.2.coming;
+        said = record { wanted = l.2.wanted; coming = l.2.coming; version = l.2.version; session = l.2.session; notifies = l.2.notifies; own = l.2.own; mine = λ e. tt; shape = k l.0 l.2.wanted (without_notifies (units_in l.2.coming)) l.2.shape };
         lost = l.2.lost;
-        wanted = l.2.wanted;
-        said = record { version = l.2.version; are_early = l.2.are_early; early_notifies = l.2.early_notifies; notifies = l.2.notifies; own = l.2.own; mine = λ e. tt; shape = k l.0 l.2.wanted (without_notifies l.2.coming) l.2.shape };
         downward = l.2.downward;
         open_at = l.2.open_at;
       },
@@ -234,19 +188,17 @@ module _ (all : List Instance) (i : Instance) (home : Option Seen) (conn : Optio
         by_link _ is h = open_link (ap is_closed is)
 
     -- an idle link asks
-    open_quiet : (h : Seen) (pv : Version) (out : List ℕ) (wanted coming : List Unit) (agreed : Bool) (lost : List ℕ) (o : Option Conn) → wanted ≡ [] → IfOpen o (Open i pv h out up wanted coming agreed lost) → IfOpen o (Open i pv h [] up wanted coming agreed lost)
-    open_quiet h pv out wanted coming agreed lost None e op = tt
-    open_quiet h pv out wanted coming agreed lost (Some o) e op =
-        let none : o.held ++ (up ++ out) ≡ [] = op.upward.whole ∙ ap (λ x. bytes_sent (in_version pv x)) e in
-        let empty_out : out ≡ [] = nothing_right up out (nothing_right o.held (up ++ out) none) in
-        record { upward = subst (λ x. Stream o.held (up ++ x) (in_version pv wanted)) empty_out op.upward; spoken = op.spoken; unheard = op.unheard; linked = op.linked }
+    quiet_out : (out held : List ℕ) (pv : Version) (wanted : List Unit) → wanted ≡ [] → Stream held (up ++ out) (in_version pv wanted) → out ≡ []
+    quiet_out out held pv wanted e s = nothing_right up out (nothing_right held (up ++ out) (s.whole ∙ ap (λ x. bytes_sent (in_version pv x)) e))
 
     pub asks_good : (l : Link) (r : Router) (b : Bool) → r.link ≡ l → (is_idle l ≡ false → b ≡ false) → GoodR r → GoodLink all i home l r conn up down → GoodR (asks_if b r).router
     asks_good l r false is idle g k = g
     asks_good Closed r true is idle g k = false_true (sym (idle refl))
     asks_good Idle r true is idle g k =
-        let s = subst (λ x. Shape all r.spoken k.0 x r.agreed r.version r.table k.2.wanted (without_notifies k.2.coming)) is k.2.shape in
+        let s = subst (λ x. Shape all r.spoken k.0 x r.agreed r.version r.table k.2.wanted (without_notifies (units_in k.2.coming))) is k.2.shape in
+        let q : Question = choose (of_version r.spoken r.version) r.mark in
         let fits = question_fits k.0.session (of_version r.spoken r.version) r.mark g.unmarked (k.2.mine s.2) in
+        let f : Flow all i k.0 r conn up down = k.2 in
         record {
           table = g.table;
           unmarked = g.unmarked;
@@ -254,15 +206,17 @@ module _ (all : List Instance) (i : Instance) (home : Option Seen) (conn : Optio
             k.0,
             k.1,
             record {
-              early = k.2.early;
-              coming = k.2.coming;
-              lost = k.2.lost;
-              wanted = query (choose (of_version r.spoken r.version) r.mark) ∷ [];
-              said = record { version = k.2.version; are_early = k.2.are_early; early_notifies = k.2.early_notifies; notifies = k.2.notifies; own = k.2.own; mine = k.2.mine; shape = (fits, inl (refl, s.1)) };
-              downward = k.2.downward;
-              open_at = open_asking all i home conn up down r.spoken k.0 k.2.wanted k.2.coming r.agreed k.2.lost (choose (of_version r.spoken r.version) r.mark) conn s.0
-                  (query_unit all r.spoken k.0.session (choose (of_version r.spoken r.version) r.mark) (of_version r.spoken r.version) r.table fits (held_at all r.spoken r.version r.table g.table))
-                  (open_quiet k.0 r.spoken r.out k.2.wanted k.2.coming r.agreed k.2.lost conn s.0 k.2.open_at);
+              said = record { wanted = query q ∷ []; coming = f.coming; version = f.version; session = f.session; notifies = f.notifies; own = f.own; mine = f.mine; shape = (fits, inl (refl, s.1)) };
+              lost = f.lost;
+              downward = f.downward;
+              open_at = if_open (Open i r.spoken k.0 r.out up f.wanted f.coming r.agreed f.lost) (Open i r.spoken k.0 (sent r.spoken (query q)) up (query q ∷ []) f.coming r.agreed f.lost) conn
+                  (λ o op. record {
+                    linked = op.linked;
+                    upward = asked_on up r.spoken q f.wanted o.held s.0 (query_unit all r.spoken k.0.session q (of_version r.spoken r.version) r.table fits (held_at all r.spoken r.version r.table g.table)) (subst (λ x. Stream o.held (up ++ x) (in_version r.spoken f.wanted)) (quiet_out r.out o.held r.spoken f.wanted s.0 op.upward) op.upward);
+                    spoken = op.spoken;
+                    unheard = op.unheard;
+                  })
+                  f.open_at;
             },
           );
         }

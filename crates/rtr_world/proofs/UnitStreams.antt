@@ -26,9 +26,10 @@ use Rattle.rtr_pdu.proofs.ReaderLaws.{partial_short}
 use Rattle.rtr_pdu.proofs.StreamLaws.{written_is_read}
 use Rattle.rtr_ends.specs.Router.{Noted, silent, reads, lacks, with_bytes}
 use Rattle.rtr_ends.specs.LinkRules.{Router, may_lack}
-use Rattle.rtr_ends.specs.Answer.{sent, sent_all}
+use Rattle.rtr_ends.specs.Answer.{sent, sent_all, session_in}
 use Rattle.rtr_ends.specs.Connection.{Sent, bytes_sent, in_version}
-use Rattle.rtr_world.specs.OneAnswer.{IsPart, without_notifies}
+use Rattle.rtr_world.specs.OneAnswer.{IsPart, OwnNotifies}
+use Rattle.vrps.specs.Instance.{Instance}
 use Rattle.prefixes.proofs.Basics.{all_both}
 
 -- A notify of another version, which a router reads where it has not agreed on a version.
@@ -75,14 +76,6 @@ pub record Stream (held after : List ℕ) (units : List Sent) : Type 0 where
   pub whole : held ++ after ≡ bytes_sent units
   pub partial : (held ≡ []) ⊎ Begun held units
   pub fit : AllByRecursion IsSent units
-
--- these are notifies alone, and there are none once a version is agreed on
-abbrev pub AreEarly : Bool → List Unit → Type 0
-AreEarly agreed units = (without_notifies units ≡ []) × (agreed ≡ true → units ≡ [])
-
--- notifies of version 1 that were sent before the cache had read a header, and the PDUs behind them
-abbrev pub behind_early : Version → List Unit → List Unit → List Sent
-behind_early version early coming = in_version V1 early ++ in_version version coming
 
 -- The next byte goes on with the first PDU.
 record Next (held : List ℕ) (b : ℕ) (after : List ℕ) (units : List Sent) : Type 0 where
@@ -135,68 +128,60 @@ part_judged version any s part rest b (inr early) fit e =
     (judge_notify_part version s.version early.1.0 early.1.1 part rest b (subst IsUnit is fit.0) (e ∙ ap (λ u. sent s.version u) is))
 
 -- After the next byte no PDU is whole, or the first one is.
-data SentCase (version : Version) (any : Bool) (held : List ℕ) (b : ℕ) (after : List ℕ) (units : List Sent) : Type 0 where
-  sent_partly : judge version any (held ++ b ∷ []) ≡ Begins → Stream (held ++ b ∷ []) after units → SentCase version any held b after units
-  sent_wholly : (u : Sent) (more : List Sent) → units ≡ u ∷ more → judge version any (held ++ b ∷ []) ≡ Whole u.unit → IsSent u → Stream [] after more → SentCase version any held b after units
+pub data ByteCase (version : Version) (any : Bool) (held : List ℕ) (b : ℕ) (after : List ℕ) (units : List Sent) : Type 0 where
+  partly : judge version any (held ++ b ∷ []) ≡ Begins → Stream (held ++ b ∷ []) after units → ByteCase version any held b after units
+  wholly : (u : Sent) (more : List Sent) → units ≡ u ∷ more → judge version any (held ++ b ∷ []) ≡ Whole u.unit → Stream [] after more → ByteCase version any held b after units
 
 case_of : (version : Version) (any : Bool) (held : List ℕ) (b : ℕ) (after : List ℕ) (units : List Sent) (u : Sent) (more : List Sent) (rest : List ℕ) → MayRead version any u → held ++ b ∷ after ≡ bytes_sent units → AllByRecursion IsSent units → units ≡ u ∷ more → held ++ b ∷ rest ≡ bytes_in u
-    → after ≡ rest ++ bytes_sent more → SentCase version any held b after units
+    → after ≡ rest ++ bytes_sent more → ByteCase version any held b after units
 case_of version any held b after units u more [] may h fit is begins on =
     let fits : AllByRecursion IsSent (u ∷ more) = subst (AllByRecursion IsSent) is fit in
-    sent_wholly u more is (ap (judge version any) begins ∙ sent_judged version any u may fits.0) fits.0 (record { whole = on; partial = inl refl; fit = fits.1 })
+    wholly u more is (ap (judge version any) begins ∙ sent_judged version any u may fits.0) (record { whole = on; partial = inl refl; fit = fits.1 })
 case_of version any held b after units u more (c ∷ rest) may h fit is begins on =
     let fits : AllByRecursion IsSent (u ∷ more) = subst (AllByRecursion IsSent) is fit in
     let begun : (held ++ b ∷ []) ++ c ∷ rest ≡ bytes_in u = append_assoc held (b ∷ []) (c ∷ rest) ∙ begins in
-    sent_partly (part_judged version any u (held ++ b ∷ []) rest c may fits.0 begun) (record {
+    partly (part_judged version any u (held ++ b ∷ []) rest c may fits.0 begun) (record {
       whole = append_assoc held (b ∷ []) after ∙ h;
       partial = inr (record { first = u; more = more; is = is; byte = c; rest = rest; begins = begun });
       fit = fit;
     })
 
-sent_case : (version : Version) (any : Bool) (held : List ℕ) (b : ℕ) (after : List ℕ) (units : List Sent) → ((u : Sent) (more : List Sent) → units ≡ u ∷ more → MayRead version any u) → Stream held (b ∷ after) units → SentCase version any held b after units
-sent_case version any held b after units may s =
+case_by_first : (version : Version) (any : Bool) (held : List ℕ) (b : ℕ) (after : List ℕ) (units : List Sent) → ((u : Sent) (more : List Sent) → units ≡ u ∷ more → MayRead version any u) → Stream held (b ∷ after) units → ByteCase version any held b after units
+case_by_first version any held b after units may s =
     let n = next held b after units s.whole s.partial in
     case_of version any held b after units n.first n.more n.rest (may n.first n.more n.is) s.whole s.fit n.is n.begins n.goes_on
 
--- After the next byte no PDU is whole; or a notify of version 1 is, where no version is agreed on; or the first PDU of the expected
--- version is.
-pub data ByteCase (version : Version) (agreed : Bool) (held : List ℕ) (b : ℕ) (after : List ℕ) (early coming : List Unit) : Type 0 where
-  partly : judge version (not agreed) (held ++ b ∷ []) ≡ Begins → Stream (held ++ b ∷ []) after (behind_early version early coming) → ByteCase version agreed held b after early coming
-  notified : (session serial : ℕ) (rest : List Unit) → early ≡ SerialNotify session serial ∷ rest → judge version (not agreed) (held ++ b ∷ []) ≡ Whole (SerialNotify session serial) → Stream [] after (behind_early version rest coming) → ByteCase version agreed held b after early coming
-  wholly : early ≡ [] → (u : Unit) (more : List Unit) → coming ≡ u ∷ more → judge version (not agreed) (held ++ b ∷ []) ≡ Whole u → IsUnitOf version u → Stream [] after (behind_early version [] more) → ByteCase version agreed held b after early coming
+pub head_is : {X : Type 0} (x y : X) (xs ys : List X) → x ∷ xs ≡ y ∷ ys → x ≡ y
+head_is x y xs ys e = cc
 
-first_of : (a b : Sent) (us vs : List Sent) → a ∷ us ≡ b ∷ vs → a ≡ b
-first_of a b us vs e = cc
+pub tail_is : {X : Type 0} (x y : X) (xs ys : List X) → x ∷ xs ≡ y ∷ ys → xs ≡ ys
+tail_is x y xs ys e = cc
 
-rest_of : (a b : Sent) (us vs : List Sent) → a ∷ us ≡ b ∷ vs → us ≡ vs
-rest_of a b us vs e = cc
-
--- Notifies of another version come only where none is agreed on.
-pub early_open : (agreed : Bool) (session serial : ℕ) (early : List Unit) → (agreed ≡ true → SerialNotify session serial ∷ early ≡ []) → agreed ≡ false
-early_open false session serial early h = refl
-early_open true session serial early h = absurd (let e : SerialNotify session serial ∷ early ≡ [] = h refl in cc)
-
-pub byte_case : (version : Version) (agreed : Bool) (held : List ℕ) (b : ℕ) (after : List ℕ) (early coming : List Unit) → AreEarly agreed early → Stream held (b ∷ after) (behind_early version early coming) → ByteCase version agreed held b after early coming
-byte_case version agreed held b after [] [] none s = absurd (let n = next held b after [] s.whole s.partial in let e : [] ≡ n.first ∷ n.more = n.is in cc)
-byte_case version agreed held b after [] (u ∷ coming) none s =
-    by_case (sent_case version (not agreed) held b after (in_version version (u ∷ coming)) (λ v more e. inl (ap (λ x. x.version) (sym (first_of (record { version = version; unit = u }) v (in_version version coming) more e)))) s)
+-- So it is at a router, where what comes is its own,
+pub byte_case : (agreed : Bool) (version : Version) (home : Instance) (held : List ℕ) (b : ℕ) (after : List ℕ) (coming : List Sent) → OwnNotifies agreed version home coming → Stream held (b ∷ after) coming → ByteCase version (not agreed) held b after coming
+byte_case agreed version home held b after coming own s = case_by_first version (not agreed) held b after coming (λ u more e. may_read agreed u more (subst (OwnNotifies agreed version home) e own)) s
   where
-    by_case : SentCase version (not agreed) held b after (in_version version (u ∷ coming)) → ByteCase version agreed held b after [] (u ∷ coming)
-    by_case (sent_partly e t) = partly e t
-    by_case (sent_wholly v more is e fit t) =
-        let first = first_of (record { version = version; unit = u }) v (in_version version coming) more is in
-        let rest = rest_of (record { version = version; unit = u }) v (in_version version coming) more is in
-        wholly refl u coming refl (e ∙ ap (λ x. Whole x.unit) (sym first)) (subst IsSent (sym first) fit) (subst (λ x. Stream [] after x) (sym rest) t)
-byte_case version agreed held b after (SerialNotify session serial ∷ early) coming none s =
-    by_case (sent_case version (not agreed) held b after (behind_early version (SerialNotify session serial ∷ early) coming) (λ v more e. inr (ap not (early_open agreed session serial early none.1), (session, serial, ap (λ x. x.unit) (sym (first_of (record { version = V1; unit = SerialNotify session serial }) v (behind_early version early coming) more e))))) s)
-  where
-    by_case : SentCase version (not agreed) held b after (behind_early version (SerialNotify session serial ∷ early) coming) → ByteCase version agreed held b after (SerialNotify session serial ∷ early) coming
-    by_case (sent_partly e t) = partly e t
-    by_case (sent_wholly v more is e fit t) =
-        let first = first_of (record { version = V1; unit = SerialNotify session serial }) v (behind_early version early coming) more is in
-        let rest = rest_of (record { version = V1; unit = SerialNotify session serial }) v (behind_early version early coming) more is in
-        notified session serial early refl (e ∙ ap (λ x. Whole x.unit) (sym first)) (subst (λ x. Stream [] after x) (sym rest) t)
-byte_case version agreed held b after (u ∷ early) coming none s = absurd (let e : u ∷ without_notifies early ≡ [] = none.0 in cc)
+    may_read : (agreed : Bool) (u : Sent) (more : List Sent) → OwnNotifies agreed version home (u ∷ more) → MayRead version (not agreed) u
+    may_read true u more own = inl own.0.0
+    may_read false u more (inl own) = inl own.0.0
+    may_read false u more (inr early) = inr (refl, (session_in V1 home, early.0, ap (λ (x : Sent). x.unit) early.1))
+
+-- the PDUs of one version
+pub record FirstIn (version : Version) (units : List Unit) (u : Sent) (more : List Sent) : Type 0 where
+  pub own : u.version ≡ version
+  pub rest : List Unit
+  pub is : units ≡ u.unit ∷ rest
+  pub more_is : more ≡ in_version version rest
+
+pub first_in : (version : Version) (units : List Unit) (u : Sent) (more : List Sent) → in_version version units ≡ u ∷ more → FirstIn version units u more
+first_in version [] u more e = absurd (let h : [] ≡ u ∷ more = e in cc)
+first_in version (v ∷ units) u more e =
+    let same = sym (head_is (record { version = version; unit = v }) u (in_version version units) more e) in
+    record { own = ap (λ (x : Sent). x.version) same; rest = units; is = ap (λ (x : Sent). x.unit ∷ units) (sym same); more_is = sym (tail_is (record { version = version; unit = v }) u (in_version version units) more e) }
+
+-- and where it is of one version.
+pub one_case : (version : Version) (any : Bool) (held : List ℕ) (b : ℕ) (after : List ℕ) (units : List Unit) → Stream held (b ∷ after) (in_version version units) → ByteCase version any held b after (in_version version units)
+one_case version any held b after units s = case_by_first version any held b after (in_version version units) (λ u more e. inl (first_in version units u more e).own) s
 
 -- Nothing is agreed on yet, or this version is.
 abbrev pub MaySpeak : Version → Option Version → Type 0
@@ -222,15 +207,11 @@ part_version version (Some one) u held rest speaks e some = speaks
 part_version version None u held rest speaks e some =
     sym (version_in-append None held rest some) ∙ ap (version_in None) (e ∙ sym (append-nil (sent version u))) ∙ first_sent version u []
 
-of_first : (version : Version) (units : List Unit) (first : Sent) (more : List Sent) → in_version version units ≡ first ∷ more → first.version ≡ version
-of_first version [] first more e = absurd (let h : [] ≡ first ∷ more = e in cc)
-of_first version (u ∷ units) first more e = ap (λ x. x.version) (sym (first_of (record { version = version; unit = u }) first (in_version version units) more e))
-
 -- So does the next byte of a stream,
 pub byte_version : (version : Version) (agreed : Option Version) (held : List ℕ) (b : ℕ) (after : List ℕ) (units : List Unit) → MaySpeak version agreed → Stream held (b ∷ after) (in_version version units) → version_in agreed (held ++ b ∷ []) ≡ version
 byte_version version agreed held b after units speaks s =
     let n = next held b after (in_version version units) s.whole s.partial in
-    let own : n.first.version ≡ version = of_first version units n.first n.more n.is in
+    let own = (first_in version units n.first n.more n.is).own in
     part_version version agreed n.first.unit (held ++ b ∷ []) n.rest speaks (append_assoc held (b ∷ []) n.rest ∙ n.begins ∙ ap (λ v. sent v n.first.unit) own) (omega (arith, length-append held (b ∷ [])))
 
 -- and what is held of one, once a header has come whole.
@@ -241,7 +222,7 @@ held_version version None held after units speaks s = by_length (nat_lt (length 
     by_part : 0 < length held → (held ≡ []) ⊎ Begun held (in_version version units) → first_version held ≡ version
     by_part some (inl e) = absurd (let none = ap length e in omega (arith, some, none))
     by_part some (inr p) =
-        part_version version None p.first.unit held (p.byte ∷ p.rest) tt (p.begins ∙ ap (λ v. sent v p.first.unit) (of_first version units p.first p.more p.is)) some
+        part_version version None p.first.unit held (p.byte ∷ p.rest) tt (p.begins ∙ ap (λ v. sent v p.first.unit) (first_in version units p.first p.more p.is).own) some
 
     not_below : nat_lt (length held) 8 ≡ false → 0 < length held
     not_below h = grind (arith, nat_tests)
@@ -264,32 +245,13 @@ pub bytes_of_version : (version : Version) (units : List Unit) → bytes_sent (i
 bytes_of_version version [] = refl
 bytes_of_version version (u ∷ units) = ap (λ x. sent version u ++ x) (bytes_of_version version units)
 
-pub in_version-append : (version : Version) (units more : List Unit) → in_version version (units ++ more) ≡ in_version version units ++ in_version version more
-in_version-append version [] more = refl
-in_version-append version (u ∷ units) more = ap (λ x. record { version = version; unit = u } ∷ x) (in_version-append version units more)
-
-stream_and : (held after : List ℕ) (units more : List Sent) → Stream held after units → AllByRecursion IsSent more → Stream held (after ++ bytes_sent more) (units ++ more)
-stream_and held after units more s fit = record {
-  whole = sym (append_assoc held after (bytes_sent more)) ∙ ap (λ x. x ++ bytes_sent more) s.whole ∙ sym (flat_map-append bytes_in units more);
-  partial = begun-append held units more s.partial;
-  fit = all_both IsSent units more s.fit fit;
+-- of these versions
+pub stream-append : (version : Version) (held after : List ℕ) (coming : List Sent) (units : List Unit) → Stream held after coming → AllByRecursion (IsUnitOf version) units → Stream held (after ++ sent_all version units) (coming ++ in_version version units)
+stream-append version held after coming units s fit = record {
+  whole = sym (append_assoc held after (sent_all version units)) ∙ ap (λ x. x ++ sent_all version units) s.whole ∙ ap (λ x. bytes_sent coming ++ x) (sym (bytes_of_version version units)) ∙ sym (flat_map-append bytes_in coming (in_version version units));
+  partial = begun-append held coming (in_version version units) s.partial;
+  fit = all_both IsSent coming (in_version version units) s.fit (all_sent version units fit);
 }
-
--- of the version of those that come
-pub stream-append : (version : Version) (held after : List ℕ) (early coming more : List Unit) → Stream held after (behind_early version early coming) → AllByRecursion (IsUnitOf version) more
-    → Stream held (after ++ sent_all version more) (behind_early version early (coming ++ more))
-stream-append version held after early coming more s fit =
-    subst₂ (λ x y. Stream held (after ++ x) y) (bytes_of_version version more)
-    (append_assoc (in_version V1 early) (in_version version coming) (in_version version more) ∙ ap (λ x. in_version V1 early ++ x) (sym (in_version-append version coming more)))
-    (stream_and held after (behind_early version early coming) (in_version version more) s (all_sent version more fit))
-
--- notifies of version 1, where no others have come
-pub stream-early : (version : Version) (held after : List ℕ) (early more : List Unit) → Stream held after (behind_early version early []) → AllByRecursion (IsUnitOf V1) more
-    → Stream held (after ++ sent_all V1 more) (behind_early version (early ++ more) [])
-stream-early version held after early more s fit =
-    subst₂ (λ x y. Stream held (after ++ x) y) (bytes_of_version V1 more)
-    (ap (λ x. x ++ in_version V1 more) (append-nil (in_version V1 early)) ∙ sym (in_version-append V1 early more) ∙ sym (append-nil (in_version V1 (early ++ more))))
-    (stream_and held after (behind_early version early []) (in_version V1 more) s (all_sent V1 more fit))
 
 -- what is held of the first PDU
 pub part_of : (held : List ℕ) (units : List Sent) → (held ≡ []) ⊎ Begun held units → IsPart held units
@@ -308,15 +270,11 @@ either_by P u k true l d = l refl
 either_by P u k false l d = d
 
 -- What holds where a byte is kept, where memory runs out at the PDU that is whole with it, and where that is read, holds behind each byte.
-pub case_by : (P : Noted → Type 0) (r : Router) (b : ℕ) (memory : Bool) (rest : List ℕ) (early coming : List Unit) → ByteCase r.spoken r.agreed r.held b rest early coming
-    → (Stream (r.held ++ b ∷ []) rest (behind_early r.spoken early coming) → P (silent (record r { held = r.held ++ b ∷ [] })))
+pub case_by : (P : Noted → Type 0) (r : Router) (b : ℕ) (memory : Bool) (rest : List ℕ) (coming : List Sent) → ByteCase r.spoken (not r.agreed) r.held b rest coming
+    → (Stream (r.held ++ b ∷ []) rest coming → P (silent (record r { held = r.held ++ b ∷ [] })))
     → ((u : Unit) → (may_lack r.link u r && not memory) ≡ true → P (lacks u (record r { held = [] })))
-    → ((session serial : ℕ) (left : List Unit) → early ≡ SerialNotify session serial ∷ left → Stream [] rest (behind_early r.spoken left coming) → P (reads (SerialNotify session serial) (record r { held = [] })))
-    → ((u : Unit) (more : List Unit) → early ≡ [] → coming ≡ u ∷ more → Stream [] rest (behind_early r.spoken [] more) → P (reads u (record r { held = [] })))
+    → ((u : Sent) (more : List Sent) → coming ≡ u ∷ more → Stream [] rest more → P (reads u.unit (record r { held = [] })))
     → P (with_bytes memory (r.held ++ b ∷ []) r (judge r.spoken (not r.agreed) (r.held ++ b ∷ [])))
-case_by P r b memory rest early coming (partly e s) part lack notify read = subst (λ j. P (with_bytes memory (r.held ++ b ∷ []) r j)) (sym e) (part s)
-case_by P r b memory rest early coming (notified session serial left is e s) part lack notify read =
-    let u : Unit = SerialNotify session serial in
-    subst (λ j. P (with_bytes memory (r.held ++ b ∷ []) r j)) (sym e) (either_by P u (record r { held = [] }) (may_lack r.link u r && not memory) (lack u) (notify session serial left is s))
-case_by P r b memory rest early coming (wholly alone u more is e fit s) part lack notify read =
-    subst (λ j. P (with_bytes memory (r.held ++ b ∷ []) r j)) (sym e) (either_by P u (record r { held = [] }) (may_lack r.link u r && not memory) (lack u) (read u more alone is s))
+case_by P r b memory rest coming (partly e s) part lack read = subst (λ j. P (with_bytes memory (r.held ++ b ∷ []) r j)) (sym e) (part s)
+case_by P r b memory rest coming (wholly u more is e s) part lack read =
+    subst (λ j. P (with_bytes memory (r.held ++ b ∷ []) r j)) (sym e) (either_by P u.unit (record r { held = [] }) (may_lack r.link u.unit r && not memory) (lack u.unit) (read u more is s))

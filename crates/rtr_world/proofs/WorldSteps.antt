@@ -31,16 +31,16 @@ use Rattle.rtr_ends.proofs.KeptUnits.{Tells}
 use Rattle.rtr_ends.proofs.TableLaws.{acts_exactly}
 use Rattle.rtr_world.specs.Claims.{ActExactlyOnce, Always, EachOnce, HoldsNamed, IsRouteJudged, IsNamed, Headline, NoWayBack, RouteStates, AnswersNow, Tables, ActsOnce, OneWorld, EachLeads, RefusesRightly}
 use Rattle.rtr_world.specs.History.{Outcome, Done, SessionUsed, TooManyVersions, Memory, is_near, room_for, room_since, all_have_room, is_used, refusal, MayEnd, after, IsEvent, Entry, Made, IsMade, conn_due, Leads, LeadsFrom}
-use Rattle.rtr_world.specs.OneAnswer.{without_notifies}
+use Rattle.rtr_world.specs.OneAnswer.{units_in, without_notifies}
 use Rattle.rtr_world.specs.VersionPlaces.{NeverBack, position_of}
 use Rattle.rtr_world.specs.World.{Side, SideEvent, World, instances, Event, Publish, Restart, On, cache_gone, on_side, goes_through, settled, is_refused, side_step, side_refused, settle, new_world, cache_gets, new_side}
 use Rattle.rtr_world.proofs.EventSteps.{step_good, refused_good, settle_good, gets_now}
 use Rattle.rtr_world.proofs.EventCalls.{leads_keep, if_gets, refusal_keeps, KeptByCalls, each_settles, done_keeps}
-use Rattle.rtr_world.proofs.Invariant.{WasCache, OfAnswer, OneReply, Replies, no_data, not_kept, other_session, no_memory, response, Shape, IfOpen, Open, Flow, Good, GoodRouter}
+use Rattle.rtr_world.proofs.Invariant.{WasCache, OfAnswer, OneReply, Replies, no_data, not_kept, other_session, no_memory, response, Shape, IfOpen, Linked, Open, Flow, Good, GoodRouter, if_open}
 use Rattle.rtr_world.proofs.Places.{IfSeen, IsHome, ordered_published, ordered_restarted}
 use Rattle.rtr_world.proofs.SideLaws.{all_new, all_on_side, all_map, all_both, all_weaker}
 use Rattle.rtr_world.proofs.SideSteps.{live_map, live_of, byte_good, clocked_good}
-use Rattle.rtr_world.proofs.UnitStreams.{Stream, behind_early, byte_case}
+use Rattle.rtr_world.proofs.UnitStreams.{Stream}
 use Rattle.rtr_world.proofs.KeptTables.{AllTell, SideTells, after_tells, new_side_tells}
 use Rattle.rtr_world.proofs.Versions.{Stands, TableAt, Present, table_named, position_at, of_present, stands_published, stands_restarted, find_session, lt_of, same_session_in, some_is, Seen, IsSeen}
 use Rattle.rtr_world.proofs.UnitCases.{Brings, byte_by}
@@ -97,12 +97,9 @@ shape_map _ all all' pv h agreed version table wanted rest stays s = tt
 flow_map : (all all' : List Instance) (i i' : Instance) (h : Seen) (r : Router) (conn conn' : Option Conn) (up up' down : List ℕ) (f : Flow all i h r conn up down) (lost : List ℕ) → conn_due conn ++ f.lost ≡ conn_due conn' ++ lost
     → IfOpen conn' (Open i' r.spoken h r.out up' f.wanted f.coming r.agreed lost) → StaysAnswer all all' r.spoken h → Flow all' i' h r conn' up' down
 flow_map all all' i i' h r conn conn' up up' down f lost bytes opens stays = record {
-  early = f.early;
-  coming = f.coming;
+  said = record { wanted = f.wanted; coming = f.coming; version = f.version; session = f.session; notifies = f.notifies; own = f.own; mine = f.mine; shape = shape_map r.link all all' r.spoken h r.agreed r.version r.table f.wanted (without_notifies (units_in f.coming)) stays f.shape };
   lost = lost;
-  wanted = f.wanted;
-  said = record { version = f.version; are_early = f.are_early; early_notifies = f.early_notifies; notifies = f.notifies; own = f.own; mine = f.mine; shape = shape_map r.link all all' r.spoken h r.agreed r.version r.table f.wanted (without_notifies f.coming) stays f.shape };
-  downward = subst (λ x. Stream r.held (down ++ x) (behind_early r.spoken f.early f.coming)) bytes f.downward;
+  downward = subst (λ x. Stream r.held (down ++ x) f.coming) bytes f.downward;
   open_at = opens;
 }
 
@@ -173,9 +170,13 @@ module _ (keep : ℕ) (past : List Instance) (i : Instance) (y : VrpSet) (p : Pr
       let s = stands_published past i y pv h.session o.serial o.set o.stands (room_of pv h.session o.serial o.set o.stands (length h.sets - 1) low test) in
       record { serial = o.serial; set = o.set; stands = s.0; leads = o.leads; since = subst (λ x. length h.sets ≤ length x + 1) (sym s.1) o.since; from = record { cache = o.from.cache; was = was_published h o.from.cache o.from.was; are = o.from.are }; ends = o.ends; commits = o.commits; order = o.order }
 
-  open_published : (pv : Version) (h : Seen) (out up : List ℕ) (wanted coming : List Unit) (agreed : Bool) (lost : List ℕ) (conn : Option Conn) → IfOpen conn (Open i pv h out up wanted coming agreed lost) → IfOpen conn (Open next pv h out up wanted coming agreed lost)
-  open_published pv h out up wanted coming agreed lost None op = tt
-  open_published pv h out up wanted coming agreed lost (Some o) op = record { upward = op.upward; spoken = op.spoken; unheard = op.unheard; linked = record { whole = op.whole; session = op.session ∙ sym (same_session_in pv i (y ∷ i.sets)); made = (let m = op.made in omega (arith, m)); later = (let l = op.later in record { session = l.session; session0 = l.session0; start = l.start; more = y ∷ l.more; sets = ap (λ x. y ∷ x) l.sets }) } }
+  linked_published : (pv : Version) (h : Seen) (lost : List ℕ) → Linked i pv h lost → Linked next pv h lost
+  linked_published pv h lost l = record {
+    whole = l.whole;
+    session = l.session ∙ sym (same_session_in pv i (y ∷ i.sets));
+    made = (let m = l.made in omega (arith, m));
+    later = record { session = l.later.session; session0 = l.later.session0; start = l.later.start; more = y ∷ l.later.more; sets = ap (λ x. y ∷ x) l.later.sets };
+  }
 
   side_published : (s : Side) → (room_for i s.router.version && room_since i s.home) ≡ true → Good keep past i s → Good keep past next s
   side_published s room g =
@@ -191,7 +192,9 @@ module _ (keep : ℕ) (past : List Instance) (i : Instance) (y : VrpSet) (p : Pr
           link = live_map s.router.link (i ∷ past) (next ∷ past) i next g.seen g.seen s.router s.router s.conn s.conn s.up s.up s.down s.down (λ x. x) (λ x. x) refl refl g.router.link (λ l. (
             l.0,
             l.1,
-            flow_map (i ∷ past) (next ∷ past) i next l.0 s.router s.conn s.conn s.up s.up s.down l.2 l.2.lost refl (open_published s.router.spoken l.0 s.router.out s.up l.2.wanted l.2.coming s.router.agreed l.2.lost s.conn l.2.open_at)
+            flow_map (i ∷ past) (next ∷ past) i next l.0 s.router s.conn s.conn s.up s.up s.down l.2 l.2.lost refl
+                (if_open (Open i s.router.spoken l.0 s.router.out s.up l.2.wanted l.2.coming s.router.agreed l.2.lost) (Open next s.router.spoken l.0 s.router.out s.up l.2.wanted l.2.coming s.router.agreed l.2.lost) s.conn
+                (λ o op. record { linked = linked_published s.router.spoken l.0 l.2.lost op.linked; upward = op.upward; spoken = op.spoken; unheard = op.unheard }) l.2.open_at)
                 (answer_published s.router.spoken l.0 (room_seen s.home l.0 s.router.spoken (subst (λ x. IsSeen keep s.home x) l.1 g.is_seen) l.2.version (subst (λ x. IfSeen x (IsHome i)) l.1 g.order.at_home) parts.1), was_published l.0),
           ));
         };
@@ -465,7 +468,6 @@ module _ (w : World) (s : Side) (known : Known w s) (Q : Router → List Item �
       let told : Tells k (m.items ++ s.items) = record { kept_is = g.tells.kept_is; due_is = g.tells.due_is; now_is = g.tells.now_is; spoken_is = g.tells.spoken_is; link = g.tells.link } in
       let asked : Unit → List Item = λ u. asked_by (on_unit k.link u k).link (on_unit k.link u k).out in
       byte_by (instances w) w.present known.0.seen s.conn s.up (λ n. Q n.router ((n.items ++ m.items) ++ s.items)) down m.router b (finds_memory m.wanting) l.0 l.2 parts.0
-      (byte_case m.router.spoken m.router.agreed m.router.held b (down ++ (conn_due s.conn ++ l.2.lost)) l.2.early l.2.coming l.2.are_early l.2.downward)
       (part m.router (m.router.held ++ b ∷ []) (m.items ++ s.items) g.holds) (λ u. lack k u (m.items ++ s.items))
       (λ u brings. subst (λ x. Q (on_unit k.link u k) x) (sym (append_assoc (asked u ++ Reads u ∷ []) m.items s.items ∙ append_assoc (asked u) (Reads u ∷ []) (m.items ++ s.items)))
       (read l.0 k u (m.items ++ s.items) l.1 l.2.version told (part m.router [] (m.items ++ s.items) g.holds) brings))
