@@ -1,17 +1,15 @@
 -- A whole answer leads from its base to its version.
-use Rattle.std.specs.Prelude.{◌≡◌, ℕ, ◌+◌, ◌≤◌, Bool, true, false, not, ◌&&◌, ◌||◌, cond, nat_lt, List, [], ◌∷◌, ◌++◌, map, if◌then◌else◌, refl, ⊤}
+use Rattle.std.specs.Prelude.{◌≡◌, ℕ, ◌≤◌, Bool, true, false, not, ◌&&◌, ◌||◌, nat_lt, List, [], ◌∷◌, ◌++◌, map, if◌then◌else◌, refl, ⊤}
 use Rattle.std.proofs.Common.{sym, ap, ◌∙◌, subst, arith, append_assoc}
 use Rattle.std.specs.List.{AllByRecursion, IsDistinct}
 use Rattle.std.specs.Ordering.{eq_by_cmp}
-use Rattle.std.specs.FinMap as map
 use Rattle.std.proofs.lemmas.Bool.{and_parts}
 use Rattle.std.proofs.lemmas.Bool.Decides.{nat_tests}
 use Rattle.std.proofs.lemmas.Map.Keys.{IsDistinct-from_sorted}
 use Rattle.std.proofs.Math.Bool.{and-true}
 use Rattle.prefixes.specs.Payload.{Payload, vrp_cmp}
-use Rattle.prefixes.specs.Orders.{vrp_total}
 use Rattle.vrps.specs.Change.{between}
-use Rattle.vrps.specs.VrpSet.{VrpSet, empty, has, size, listing, set_of, with_all, with_member, without}
+use Rattle.vrps.specs.VrpSet.{VrpSet, empty, has, size, listing, set_of, without}
 use Rattle.vrps.proofs.SetLaws.{same_set, has-empty, has-union, has-without, has-set_of, has-listing, listing_ascends, all_of_members}
 use Rattle.vrps.proofs.SetVersions.{tied}
 use Rattle.rtr_pdu.specs.declared.unit.Unit.{Unit}
@@ -62,18 +60,6 @@ pub notifies-append : (session : ℕ) (us vs : List Unit) → NotifiesOf session
 notifies-append session [] vs h k = k
 notifies-append session (SerialNotify one serial ∷ us) vs h k = (h.0, notifies-append session us vs h.1 k)
 notifies-append session (u ∷ us) vs h k = notifies-append session us vs h k
-
--- Sets only grow by what is added.
-grows : (s : VrpSet) (v : Payload) → size s ≤ size (with_member s v)
-grows s v = by_member (has s v) (map.len-insert vrp_total s v tt)
-  where
-    by_member : (b : Bool) → size (with_member s v) ≡ cond b (size s) (size s + 1) → size s ≤ size (with_member s v)
-    by_member true e = omega (arith, e)
-    by_member false e = omega (arith, e)
-
-grows_all : (s : VrpSet) (vs : List Payload) → size s ≤ size (with_all s vs)
-grows_all s [] = omega arith
-grows_all s (v ∷ vs) = let a = grows_all s vs in let b = grows (with_all s vs) v in omega (arith, a, b)
 
 -- the members of what staged records lead to
 has-led_to : (base : VrpSet) (withdrawn announced : List Payload) (q : Payload) → has (led_to base withdrawn announced) q ≡ ((has base q && not (is_among q withdrawn)) || is_among q announced)

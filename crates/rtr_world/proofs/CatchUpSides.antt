@@ -73,10 +73,6 @@ Current pv i link version table now = is_over version now ≡ false
 abbrev pub IsCurrent : Version → Instance → Router → Type 0
 IsCurrent pv i r = Current pv i r.link r.version r.table r.now
 
-pub if_current : (pv : Version) (i : Instance) (b : Bool) (x y : Router) → IsCurrent pv i x → IsCurrent pv i y → IsCurrent pv i (if b then x else y)
-if_current pv i true x y h k = h
-if_current pv i false x y h k = k
-
 -- on a connection that was made at the present instance as it is
 module _ (all : List Instance) (i : Instance) (p : Present all i) (r : Router) (h : Seen) (made : h.made ≡ i) (own : h.session ≡ session_in r.spoken i) (sets : length i.sets ≤ length h.sets) where
   abbrev C : Router → Type 0

@@ -1,4 +1,5 @@
 pub mod AnswerLaws
+pub mod Beside
 pub mod CacheMoves
 pub mod CacheSteps
 pub mod CatchUpAnswers

@@ -26,7 +26,8 @@ use Rattle.rtr_world.specs.History.{conn_readings, readings_at}
 use Rattle.rtr_world.specs.SideShown.{AloneAt, BeginsEvent, ConnIs, MadeAt, Moves, Passes, SendsSome, ShowsBoth, ShowsSide, state_of, MadeTo}
 use Rattle.rtr_world.specs.World.{World, Side, CacheGets, CacheSends, RouterGets, RouterSends, cache_gets, cache_sends, cut, gets_at, router_gets, router_sends, sends_from, side_step, timing, instances}
 use Rattle.rtr_world.specs.declared.side.Side as values
-use Rattle.rtr_world.proofs.Readings.{came, conn_wants, has, has_so, router_lacks}
+use Rattle.rtr_world.proofs.Beside.{has}
+use Rattle.rtr_world.proofs.Readings.{came, conn_wants, has_so, router_lacks}
 use Rattle.rtr_world.proofs.Moving.{OnConn, alone, and_then, clocked_same, conn_here, on_cache, on_conn, put, served_as}
 
 -- A side is shown that kept its connection and when that was made.

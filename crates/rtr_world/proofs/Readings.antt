@@ -1,6 +1,8 @@
--- Memory runs out at just those PDUs of an event that take memory, of all that it reads.
-use Rattle.std.specs.Prelude.{◌≡◌, ℕ, zero, suc, Bool, true, false, not, ◌&&◌, ◌||◌, ◌==◌, List, [], ◌∷◌, ◌++◌, Option, Some, None, slice_get, if◌then◌else◌, refl}
-use Rattle.std.proofs.Common.{sym, ap, ◌∙◌, subst, append_assoc}
+-- Memory runs out at just those PDUs of an event that take memory, of all that it reads, and then no more bytes are taken.
+use Rattle.std.specs.Prelude.{◌≡◌, ◌≤◌, ℕ, zero, suc, length, Bool, true, false, not, ◌&&◌, ◌||◌, ◌==◌, List, [], ◌∷◌, ◌++◌, Option, Some, None, slice_get, if◌then◌else◌, refl}
+use Rattle.std.proofs.Common.{sym, ap, ◌∙◌, subst, subst₂}
+use Rattle.std.proofs.lemmas.List.Concat.{flat_map-append}
+use Rattle.rtr_world.proofs.Beside.{After, Beside, Takes, beside, has, told}
 use Rattle.std.proofs.lemmas.List.{append-nil}
 use Rattle.std.proofs.lemmas.List.Folds.{list_any-append}
 use Rattle.std.specs.List.{flat_map, list_any}
@@ -9,55 +11,29 @@ use Rattle.rtr_pdu.specs.declared.unit.Unit.{Unit}
 use Rattle.rtr_pdu.specs.declared.unit.Unit.TheVariants.{SerialNotify, CacheResponse, Prefix, EndOfData, EndOfData0, CacheReset, ErrorReport}
 use Rattle.rtr_pdu.specs.declared.version.Version.{Version}
 use Rattle.rtr_pdu.specs.Judging.{Judgement, Begins, Whole, Faulty, judge}
-use Rattle.rtr_ends.specs.Cache.{Conn, Taking, and_moment, conn_byte, conn_moment_of, conn_stops, conn_takes, counted, finds_memory, version_at, with_moment}
+use Rattle.rtr_ends.specs.Cache.{Conn, Taking, conn_byte, conn_judged, conn_stops, conn_takes, counted, finds_memory, version_at, with_moment}
 use Rattle.rtr_ends.specs.Connection.{ConnMoment, Fault, Read, Wanting, is_wanting, takes_memory}
-use Rattle.rtr_ends.specs.Feeding.{FedPiece, feed}
 use Rattle.rtr_ends.specs.LinkRules.{Router, Staged, Stays, ask, commit, emptied, ended_by, fails, is_news, is_strange, may_lack, on_unit, stage, staged, told_off}
-use Rattle.rtr_ends.specs.Router.{Noted, Receiving, asked_by, breaks, clocked, lacks, reads, receives, router_byte, router_stops, with_bytes}
+use Rattle.rtr_ends.specs.Router.{Receiving, asked_by, breaks, clocked, lacks, reads, receives, router_byte, router_judged, router_stops, with_read}
 use Rattle.rtr_ends.specs.RouterLink.{Link, Closed, Idle, Asked, Answering, Ended}
-use Rattle.rtr_ends.specs.RouterShown.{fed, is_lacking, taking}
-use Rattle.rtr_ends.specs.Transcript.{Item, At, AskReset, AskSerial, Breaks, Lacks, Question, Reads, base_of, bounded, is_serial, is_wrong, of_version, retry_of, sum_of}
+use Rattle.rtr_ends.specs.RouterShown.{is_lacking, taking}
+use Rattle.rtr_ends.specs.Transcript.{Item, At, AskReset, AskSerial, Question, Reads, base_of, bounded, is_serial, is_wrong, of_version, retry_of, sum_of}
 use Rattle.rtr_ends.specs.Timing.{default_intervals}
-use Rattle.rtr_ends.proofs.FeedingLaws.{stopped}
 use Rattle.rtr_ends.proofs.TableLaws.{false_true}
 use Rattle.rtr_world.specs.History.{conn_reading, router_readings, units_read}
 use Rattle.rtr_world.specs.World.{timing}
-
--- the PDU that is named is there, and takes memory
-abbrev pub has : Option Bool → Bool
-has None = false
-has (Some takes) = takes
-
-pub has_so : (o : Option Bool) → has o ≡ true → o ≡ Some true
-has_so None e = false_true e
-has_so (Some b) e = ap Some e
 
 with_memory : {X : Type 0} (b : Bool) (m n : X) → (if b && not true then m else n) ≡ n
 with_memory true m n = refl
 with_memory false m n = refl
 
--- A router: what the next byte brings, and the PDU that it completes
+pub has_so : (o : Option Bool) → has o ≡ true → o ≡ Some true
+has_so None e = false_true e
+has_so (Some b) e = ap Some e
+
+-- A router: what the next byte brings
 abbrev pub came : Router → ℕ → Judgement
 came r b = judge r.spoken (not r.agreed) (r.held ++ b ∷ [])
-
-abbrev whole : Judgement → List Unit
-whole (Whole u) = u ∷ []
-whole j = []
-
-abbrev news : Router → List ℕ → List Unit
-news r [] = []
-news r (b ∷ bytes) = if router_stops r then [] else whole (came r b) ++ news (with_bytes true (r.held ++ b ∷ []) r (came r b)).router bytes
-
-abbrev handed : Bool → Receiving → ℕ → List ℕ → FedPiece Receiving
-handed s m b bytes = elim s [ true ↦ record { machine = m; rest = b ∷ bytes } | false ↦ feed (λ m. router_stops m.router) router_byte (router_byte m b) bytes ]
-
-still : (m : Receiving) (bytes : List ℕ) → router_stops m.router ≡ true → (feed (λ m. router_stops m.router) router_byte m bytes).machine ≡ m
-still m [] e = refl
-still m (b ∷ bytes) e = ap (λ (f : FedPiece Receiving). f.machine) (stopped (λ m. router_stops m.router) router_byte m b bytes e)
-
-no_news : (r : Router) (bytes : List ℕ) → router_stops r ≡ true → news r bytes ≡ []
-no_news r [] e = refl
-no_news r (b ∷ bytes) e = ap (λ s. if s then [] else whole (came r b) ++ news (with_bytes true (r.held ++ b ∷ []) r (came r b)).router bytes) e
 
 asked_units : (l : Link) (out : List ℕ) (u : Unit) (xs : List Item) → units_read ((asked_by l out ++ Reads u ∷ []) ++ xs) ≡ units_read xs ++ u ∷ []
 asked_units (Asked q) (b ∷ out) u xs = refl
@@ -66,35 +42,6 @@ asked_units _ out u xs = refl
 asked_lacks : (l : Link) (out : List ℕ) (u : Unit) (xs : List Item) → list_any is_lacking ((asked_by l out ++ Reads u ∷ []) ++ xs) ≡ list_any is_lacking xs
 asked_lacks (Asked q) (b ∷ out) u xs = refl
 asked_lacks _ out u xs = refl
-
--- With memory, nothing lacks it, and these are read.
-abbrev ReadsAll : List Item → List Unit → List Item → Type 0
-ReadsAll xs units items = (units_read items ≡ units_read xs ++ units) × (list_any is_lacking items ≡ list_any is_lacking xs)
-
-read_step : (bytes : List ℕ) → ((r : Router) (xs : List Item) → ReadsAll xs (news r bytes) (fed r xs None bytes).machine.items) → (b : ℕ) (r : Router) (xs : List Item) (j : Judgement) → let n : Noted = with_bytes true (r.held ++ b ∷ []) r j in
-    ReadsAll xs (whole j ++ news n.router bytes) (fed n.router (n.items ++ xs) (counted j None) bytes).machine.items
-read_step bytes on b r xs Begins = on (record r { held = r.held ++ b ∷ [] }) xs
-read_step bytes on b r xs (Whole u) =
-    let q : Router = record r { held = [] } in
-    let n : Noted = reads u q in
-    let h = on n.router (n.items ++ xs) in
-    subst (λ (n : Noted). ReadsAll xs (u ∷ news n.router bytes) (fed n.router (n.items ++ xs) None bytes).machine.items)
-    (sym (with_memory (may_lack r.link u r) (lacks u q) (reads u q)))
-    (h.0 ∙ ap (λ x. x ++ news n.router bytes) (asked_units n.router.link n.router.out u xs) ∙ append_assoc (units_read xs) (u ∷ []) (news n.router bytes), h.1 ∙ asked_lacks n.router.link n.router.out u xs)
-read_step bytes on b r xs (Faulty fault) = on (breaks fault (r.held ++ b ∷ []) r).router (Breaks fault ∷ xs)
-
-reads_all : (piece : List ℕ) (r : Router) (xs : List Item) → ReadsAll xs (news r piece) (fed r xs None piece).machine.items
-unfolding router_byte
-reads_all [] r xs = (sym (append-nil (units_read xs)), refl)
-reads_all (b ∷ bytes) r xs = by_test (router_stops r) (read_step bytes (reads_all bytes) b r xs (came r b))
-  where
-    n : Noted
-    n = with_bytes true (r.held ++ b ∷ []) r (came r b)
-
-    by_test : (s : Bool) → ReadsAll xs (whole (came r b) ++ news n.router bytes) (fed n.router (n.items ++ xs) (counted (came r b) None) bytes).machine.items
-        → ReadsAll xs (if s then [] else whole (came r b) ++ news n.router bytes) (handed s (taking r xs None) b bytes).machine.items
-    by_test true on = (sym (append-nil (units_read xs)), refl)
-    by_test false on = on
 
 -- What is held of the next PDU does not matter to what is done with one.
 either : (b : Bool) (f g : Router → Router) (r : Router) (held : List ℕ) → f (record r { held = held }) ≡ record (f r) { held = held } → g (record r { held = held }) ≡ record (g r) { held = held }
@@ -143,180 +90,163 @@ held_aside r held [] = refl
 held_aside r held (u ∷ units) =
     λ i. lack_aside r.link u r held i ∷ (ap (λ x. router_readings x units) (unit_aside r.link u r held) ∙ held_aside (on_unit r.link u r) held units) i
 
-abbrev Shows : Router → List Item → List ℕ → ℕ → Type 0
-Shows r xs piece unit = list_any is_lacking (fed r xs (Some unit) piece).machine.items ≡ has (slice_get (router_readings r (news r piece)) unit)
+-- whether the PDU that is whole takes memory
+abbrev took : Router → Judgement → Option Bool
+took r (Whole u) = Some (may_lack r.link u r)
+took r j = None
 
-lack_step : (bytes : List ℕ) → ((unit : ℕ) (r : Router) (xs : List Item) → list_any is_lacking xs ≡ false → Shows r xs bytes unit) → (b unit : ℕ) (r : Router) (xs : List Item) → list_any is_lacking xs ≡ false → (j : Judgement) →
-    let n : Noted = with_bytes (finds_memory (Some unit)) (r.held ++ b ∷ []) r j in
-    list_any is_lacking (fed n.router (n.items ++ xs) (counted j (Some unit)) bytes).machine.items ≡ has (slice_get (router_readings r (whole j ++ news (with_bytes true (r.held ++ b ∷ []) r j).router bytes)) unit)
-lack_step bytes on b unit r xs none Begins =
-    let k : Router = record r { held = r.held ++ b ∷ [] } in on unit k xs none ∙ ap (λ x. has (slice_get x unit)) (held_aside r (r.held ++ b ∷ []) (news k bytes))
-lack_step bytes on b unit r xs none (Faulty fault) =
-    let k : Router = (breaks fault (r.held ++ b ∷ []) r).router in
-    ap (λ (m : Receiving). list_any is_lacking m.items) (still (taking k (Breaks fault ∷ xs) (Some unit)) bytes refl) ∙ none ∙ ap (λ x. has (slice_get (router_readings r x) unit)) (sym (no_news k bytes refl))
-lack_step bytes on b zero r xs none (Whole u) = by_lack (may_lack r.link u r)
+-- It is the same router, at which memory is to run out at this PDU, and did not yet.
+abbrev RoutersAlike : Option ℕ → Receiving → Receiving → Type 0
+RoutersAlike wanting m n = (n.router ≡ m.router) × (m.wanting ≡ None) × (n.wanting ≡ wanting) × (list_any is_lacking n.items ≡ false)
+
+abbrev Behind : Option Bool → Option ℕ → Receiving → Receiving → Type 0
+Behind t wanting m n = After (λ (x : Receiving). router_stops x.router) (λ (x : Receiving). list_any is_lacking x.items) RoutersAlike t wanting m n
+
+judged_alike : (r : Router) (xs ys : List Item) (bytes : List ℕ) → list_any is_lacking ys ≡ false → (wanting : Option ℕ) (j : Judgement) → Behind (took r j) wanting (router_judged (taking r xs None) bytes j) (router_judged (taking r ys wanting) bytes j)
+judged_alike r xs ys bytes none wanting (Whole u) = by_lack (may_lack r.link u r) wanting
   where
     q : Router
     q = record r { held = [] }
 
-    by_lack : (m : Bool) → let n : Noted = if m && not false then lacks u q else reads u q in list_any is_lacking (fed n.router (n.items ++ xs) None bytes).machine.items ≡ m
-    by_lack true = ap (λ (m : Receiving). list_any is_lacking m.items) (still (taking (lacks u q).router (Lacks u ∷ xs) None) bytes refl)
-    by_lack false = (reads_all bytes (reads u q).router ((reads u q).items ++ xs)).1 ∙ asked_lacks (reads u q).router.link (reads u q).router.out u xs ∙ none
-lack_step bytes on b (suc unit) r xs none (Whole u) =
+    still : list_any is_lacking ((reads u q).items ++ ys) ≡ false
+    still = asked_lacks (reads u q).router.link (reads u q).router.out u ys ∙ none
+
+    by_lack : (t : Bool) (wanting : Option ℕ) → Behind (Some t) wanting (with_read (taking r xs None) (Whole u) (if t && not true then lacks u q else reads u q)) (with_read (taking r ys wanting) (Whole u) (if t && not (finds_memory wanting) then lacks u q else reads u q))
+    by_lack true (Some zero) = (refl, refl)
+    by_lack true _ = (refl, refl, refl, still)
+    by_lack false None = (refl, refl, refl, still)
+    by_lack false (Some zero) = (refl, refl, refl, still)
+    by_lack false (Some (suc unit)) = (refl, refl, refl, still)
+judged_alike r xs ys bytes none wanting j = (refl, refl, refl, none)
+
+-- the PDUs that are read at a byte, and whether those behind them take memory
+abbrev Logs : Router → List Item → Option Bool → Receiving → Type 0
+Logs r xs t m = (more : List Unit) × (units_read m.items ≡ units_read xs ++ more) × ((us : List Unit) → (router_stops m.router ≡ true → us ≡ []) → told t (router_readings m.router us) ≡ router_readings r (more ++ us))
+
+judged_logs : (r : Router) (xs : List Item) (bytes : List ℕ) (j : Judgement) → Logs r xs (took r j) (router_judged (taking r xs None) bytes j)
+judged_logs r xs bytes Begins = ([], sym (append-nil (units_read xs)), λ us h. held_aside r bytes us)
+judged_logs r xs bytes (Faulty fault) = ([], sym (append-nil (units_read xs)), λ us h. ap (router_readings (breaks fault bytes r).router) (h refl) ∙ sym (ap (router_readings r) (h refl)))
+judged_logs r xs bytes (Whole u) =
     let q : Router = record r { held = [] } in
-    let k : Noted = reads u q in
-    subst (λ (n : Noted). list_any is_lacking (fed n.router (n.items ++ xs) (Some unit) bytes).machine.items ≡ has (slice_get (router_readings (on_unit r.link u r) (news n.router bytes)) unit)) (sym (with_memory (may_lack r.link u r) (lacks u q) (reads u q)))
-    (on unit k.router (k.items ++ xs) (asked_lacks k.router.link k.router.out u xs ∙ none)
-    ∙ ap (λ x. has (slice_get x unit)) (ap (λ x. router_readings x (news k.router bytes)) (unit_aside r.link u r []) ∙ held_aside (on_unit r.link u r) [] (news k.router bytes)))
+    subst (λ n. Logs r xs (Some (may_lack r.link u r)) (with_read (taking r xs None) (Whole u) n)) (sym (with_memory (may_lack r.link u r) (lacks u q) (reads u q))) (
+      u ∷ [],
+      asked_units (reads u q).router.link (reads u q).router.out u xs,
+      λ us h. ap (λ x. may_lack r.link u r ∷ x) (ap (λ x. router_readings x us) (unit_aside r.link u r []) ∙ held_aside (on_unit r.link u r) [] us),
+    )
 
-lacks_so : (piece : List ℕ) (unit : ℕ) (r : Router) (xs : List Item) → list_any is_lacking xs ≡ false → Shows r xs piece unit
+routers : Beside Receiving Unit
 unfolding router_byte
-lacks_so [] unit r xs none = none
-lacks_so (b ∷ bytes) unit r xs none = by_test (router_stops r) (lack_step bytes (lacks_so bytes) b unit r xs none (came r b))
-  where
-    n : Noted
-    n = with_bytes (finds_memory (Some unit)) (r.held ++ b ∷ []) r (came r b)
+routers = record {
+  stops = λ m. router_stops m.router;
+  step = router_byte;
+  took = λ m b. took m.router (came m.router b);
+  lacks = λ m. list_any is_lacking m.items;
+  Alike = RoutersAlike;
+  same = λ wanting m n a. ap router_stops a.0;
+  none = λ wanting m n a. a.3;
+  goes = λ wanting m n b a.
+      subst₂ (λ x y. Behind (took m.router (came m.router b)) wanting (router_byte x b) (router_byte y b)) (λ k. taking m.router m.items (sym a.1 k)) (λ k. taking (sym a.0 k) n.items (sym a.2 k))
+      (judged_alike m.router m.items n.items (m.router.held ++ b ∷ []) a.3 wanting (came m.router b));
+  log = λ m. units_read m.items;
+  later = λ m us. router_readings m.router us;
+  nothing = λ m. refl;
+  logs = λ m b a. subst (λ x. Logs m.router m.items (took m.router (came m.router b)) (router_byte x b)) (λ k. taking m.router m.items (sym a.1 k)) (judged_logs m.router m.items (m.router.held ++ b ∷ []) (came m.router b));
+}
 
-    rest : List Unit
-    rest = whole (came r b) ++ news (with_bytes true (r.held ++ b ∷ []) r (came r b)).router bytes
+router_beside : (now : ℕ) (wanting : Option ℕ) (piece : List ℕ) (r : Router) → Takes routers None piece wanting (taking (clocked now r) (At now ∷ []) None) (taking (clocked now r) (At now ∷ []) wanting)
+unfolding routers
+router_beside now wanting piece r = beside routers piece wanting (taking (clocked now r) (At now ∷ []) None) (taking (clocked now r) (At now ∷ []) wanting) (refl, refl, refl, refl) (refl, refl, refl, refl)
 
-    by_test : (s : Bool) → list_any is_lacking (fed n.router (n.items ++ xs) (counted (came r b) (Some unit)) bytes).machine.items ≡ has (slice_get (router_readings r rest) unit)
-        → list_any is_lacking (handed s (taking r xs (Some unit)) b bytes).machine.items ≡ has (slice_get (router_readings r (if s then [] else rest)) unit)
-    by_test true on = none
-    by_test false on = on
+pub router_leaves : (now : ℕ) (wanting : Option ℕ) (piece : List ℕ) (r : Router) → length (receives now None piece r).rest ≤ length (receives now wanting piece r).rest
+unfolding receives routers
+router_leaves now wanting piece r = (router_beside now wanting piece r).leaves
 
 pub router_lacks : (now : ℕ) (piece : List ℕ) (r : Router) (unit : ℕ) →
     list_any is_lacking (receives now (Some unit) piece r).machine.items ≡ has (slice_get (router_readings (clocked now r) (units_read (receives now None piece r).machine.items)) unit)
-unfolding receives
-router_lacks now piece r unit =
-    lacks_so piece unit (clocked now r) (At now ∷ []) refl ∙ ap (λ x. has (slice_get (router_readings (clocked now r) x) unit)) (sym (reads_all piece (clocked now r) (At now ∷ [])).0)
+unfolding receives routers
+router_lacks now piece r unit = let k = router_beside now (Some unit) piece r in k.lacks ∙ ap (λ x. has (slice_get (router_readings (clocked now r) x) unit)) (sym k.log)
 
 -- A connection at the cache
 module _ (keep : ℕ) (i : Instance) where
-  abbrev taken : Conn → List ConnMoment → Option ℕ → List ℕ → FedPiece Taking
-  taken o ms wanting piece = feed (λ m. conn_stops m.conn) (conn_byte keep timing i) (record { conn = o; moments = ms; wanting = wanting }) piece
+  abbrev takes : Version → Judgement → Option Bool
+  takes version (Whole u) = Some (takes_memory version i u)
+  takes version j = None
 
-  abbrev takes : Version → Judgement → List Bool
-  takes version (Whole u) = takes_memory version i u ∷ []
-  takes version j = []
+  abbrev brought : Taking → ℕ → Judgement
+  brought m b = judge (version_at m.conn (b ∷ [])) false (m.conn.held ++ b ∷ [])
 
-  abbrev next : Conn → Bool → Version → List ℕ → Judgement → Conn
-  next o memory version bytes j = with_moment keep timing bytes o (conn_moment_of i memory version bytes j)
+  abbrev conn_of : Conn → List ConnMoment → Option ℕ → Taking
+  conn_of o moments wanting = record { conn = o; moments = moments; wanting = wanting }
 
-  abbrev brought : Conn → ℕ → Judgement
-  brought o b = judge (version_at o (b ∷ [])) false (o.held ++ b ∷ [])
+  -- It is the same connection, at which memory is to run out at this PDU, and did not yet.
+  abbrev ConnsAlike : Option ℕ → Taking → Taking → Type 0
+  ConnsAlike wanting m n = (n.conn ≡ m.conn) × (m.wanting ≡ None) × (n.wanting ≡ wanting) × (list_any is_wanting n.moments ≡ false)
 
-  abbrev flags : Conn → List ℕ → List Bool
-  flags o [] = []
-  flags o (b ∷ bytes) = if conn_stops o then [] else takes (version_at o (b ∷ [])) (brought o b) ++ flags (next o true (version_at o (b ∷ [])) (o.held ++ b ∷ []) (brought o b)) bytes
-
-  abbrev handed_conn : Bool → Taking → ℕ → List ℕ → FedPiece Taking
-  handed_conn s m b bytes = elim s [ true ↦ record { machine = m; rest = b ∷ bytes } | false ↦ feed (λ m. conn_stops m.conn) (conn_byte keep timing i) (conn_byte keep timing i m b) bytes ]
-
-  still_conn : (m : Taking) (bytes : List ℕ) → conn_stops m.conn ≡ true → (feed (λ m. conn_stops m.conn) (conn_byte keep timing i) m bytes).machine ≡ m
-  still_conn m [] e = refl
-  still_conn m (b ∷ bytes) e = ap (λ (f : FedPiece Taking). f.machine) (stopped (λ m. conn_stops m.conn) (conn_byte keep timing i) m b bytes e)
-
-  no_flags : (o : Conn) (bytes : List ℕ) → conn_stops o ≡ true → flags o bytes ≡ []
-  no_flags o [] e = refl
-  no_flags o (b ∷ bytes) e = ap (λ s. if s then [] else takes (version_at o (b ∷ [])) (brought o b) ++ flags (next o true (version_at o (b ∷ [])) (o.held ++ b ∷ []) (brought o b)) bytes) e
-
-  one_more : (ms : List ConnMoment) (m : ConnMoment) → flat_map conn_reading (ms ++ m ∷ []) ≡ flat_map conn_reading ms ++ conn_reading m
-  one_more [] m = append-nil (conn_reading m)
-  one_more (x ∷ ms) m = ap (λ y. conn_reading x ++ y) (one_more ms m) ∙ sym (append_assoc (conn_reading x) (flat_map conn_reading ms) (conn_reading m))
+  abbrev ConnsBehind : Option Bool → Option ℕ → Taking → Taking → Type 0
+  ConnsBehind t wanting m n = After (λ (x : Taking). conn_stops x.conn) (λ (x : Taking). list_any is_wanting x.moments) ConnsAlike t wanting m n
 
   wants_one : (ms : List ConnMoment) (m : ConnMoment) → list_any is_wanting ms ≡ false → list_any is_wanting (ms ++ m ∷ []) ≡ (is_wanting m || false)
   wants_one ms m none = list_any-append is_wanting ms (m ∷ []) ∙ ap (λ b. b || (is_wanting m || false)) none
 
-  abbrev AllTaken : List ConnMoment → List Bool → List ConnMoment → Type 0
-  AllTaken ms flags moments = (flat_map conn_reading moments ≡ flat_map conn_reading ms ++ flags) × (list_any is_wanting ms ≡ false → list_any is_wanting moments ≡ false)
+  conn_judged_alike : (o : Conn) (xs ys : List ConnMoment) (version : Version) (bytes : List ℕ) → list_any is_wanting ys ≡ false → (wanting : Option ℕ) (j : Judgement)
+      → ConnsBehind (takes version j) wanting (conn_judged keep timing i (conn_of o xs None) version bytes j) (conn_judged keep timing i (conn_of o ys wanting) version bytes j)
+  conn_judged_alike o xs ys version bytes none wanting Begins = (refl, refl, refl, none)
+  conn_judged_alike o xs ys version bytes none wanting (Faulty fault) = (refl, refl, refl, wants_one ys (Fault version fault bytes) none)
+  conn_judged_alike o xs ys version bytes none wanting (Whole u) = by_takes (takes_memory version i u) wanting
+    where
+      behind : Bool → List ConnMoment → Option ℕ → Taking
+      behind t moments now =
+          let m : ConnMoment = if t then Wanting version i u bytes else Read version i u bytes in conn_of (with_moment keep timing bytes o (Some m)) (moments ++ m ∷ []) (counted (Whole u) now)
 
-  take_step : (bytes : List ℕ) → ((o : Conn) (ms : List ConnMoment) → AllTaken ms (flags o bytes) (taken o ms None bytes).machine.moments) → (b : ℕ) (o : Conn) (ms : List ConnMoment) (version : Version) (j : Judgement) →
-      let n : Conn = next o true version (o.held ++ b ∷ []) j in
-      AllTaken ms (takes version j ++ flags n bytes) (taken n (and_moment ms (conn_moment_of i true version (o.held ++ b ∷ []) j)) (counted j None) bytes).machine.moments
-  take_step bytes on b o ms version Begins = on (record o { held = o.held ++ b ∷ [] }) ms
-  take_step bytes on b o ms version (Whole u) =
-      let all : List ℕ = o.held ++ b ∷ [] in
-      let m : ConnMoment = Read version i u all in
-      let n : Conn = with_moment keep timing all o (Some m) in
-      let h = on n (ms ++ m ∷ []) in
-      subst (λ (m : ConnMoment). let n : Conn = with_moment keep timing all o (Some m) in AllTaken ms (takes_memory version i u ∷ flags n bytes) (taken n (ms ++ m ∷ []) None bytes).machine.moments)
-      (sym (with_memory (takes_memory version i u) (Wanting version i u all) m))
-      (h.0 ∙ ap (λ x. x ++ flags n bytes) (one_more ms m) ∙ append_assoc (flat_map conn_reading ms) (takes_memory version i u ∷ []) (flags n bytes), λ none. h.1 (wants_one ms m none))
-  take_step bytes on b o ms version (Faulty fault) =
-      let all : List ℕ = o.held ++ b ∷ [] in
-      let m : ConnMoment = Fault version fault all in
-      let n : Conn = with_moment keep timing all o (Some m) in
-      let h = on n (ms ++ m ∷ []) in
-      (h.0 ∙ ap (λ x. x ++ flags n bytes) (one_more ms m) ∙ append_assoc (flat_map conn_reading ms) [] (flags n bytes), λ none. h.1 (wants_one ms m none))
+      by_takes : (t : Bool) (wanting : Option ℕ) → ConnsBehind (Some t) wanting (behind (t && not true) xs None) (behind (t && not (finds_memory wanting)) ys wanting)
+      by_takes true (Some zero) = (refl, wants_one ys (Wanting version i u bytes) none)
+      by_takes true _ = (refl, refl, refl, wants_one ys (Read version i u bytes) none)
+      by_takes false None = (refl, refl, refl, wants_one ys (Read version i u bytes) none)
+      by_takes false (Some zero) = (refl, refl, refl, wants_one ys (Read version i u bytes) none)
+      by_takes false (Some (suc unit)) = (refl, refl, refl, wants_one ys (Read version i u bytes) none)
 
-  takes_all : (piece : List ℕ) (o : Conn) (ms : List ConnMoment) → AllTaken ms (flags o piece) (taken o ms None piece).machine.moments
+  abbrev ConnLogs : List ConnMoment → Option Bool → Taking → Type 0
+  ConnLogs xs t m = (more : List Bool) × (flat_map conn_reading m.moments ≡ flat_map conn_reading xs ++ more) × ((us : List Bool) → (conn_stops m.conn ≡ true → us ≡ []) → told t us ≡ more ++ us)
+
+  one_more : (xs : List ConnMoment) (m : ConnMoment) → flat_map conn_reading (xs ++ m ∷ []) ≡ flat_map conn_reading xs ++ conn_reading m
+  one_more xs m = flat_map-append conn_reading xs (m ∷ []) ∙ ap (λ x. flat_map conn_reading xs ++ x) (append-nil (conn_reading m))
+
+  conn_logs : (o : Conn) (xs : List ConnMoment) (version : Version) (bytes : List ℕ) (j : Judgement) → ConnLogs xs (takes version j) (conn_judged keep timing i (conn_of o xs None) version bytes j)
+  conn_logs o xs version bytes Begins = ([], sym (append-nil (flat_map conn_reading xs)), λ us h. refl)
+  conn_logs o xs version bytes (Faulty fault) = ([], one_more xs (Fault version fault bytes), λ us h. refl)
+  conn_logs o xs version bytes (Whole u) =
+      subst (λ m. ConnLogs xs (Some (takes_memory version i u)) (conn_of (with_moment keep timing bytes o (Some m)) (xs ++ m ∷ []) None)) (sym (with_memory (takes_memory version i u) (Wanting version i u bytes) (Read version i u bytes)))
+      (takes_memory version i u ∷ [], one_more xs (Read version i u bytes), λ us h. refl)
+
+  conns : Beside Taking Bool
   unfolding conn_byte
-  takes_all [] o ms = (sym (append-nil (flat_map conn_reading ms)), λ none. none)
-  takes_all (b ∷ bytes) o ms = by_test (conn_stops o) (take_step bytes (takes_all bytes) b o ms (version_at o (b ∷ [])) (brought o b))
-    where
-      n : Conn
-      n = next o true (version_at o (b ∷ [])) (o.held ++ b ∷ []) (brought o b)
+  conns = record {
+    stops = λ m. conn_stops m.conn;
+    step = conn_byte keep timing i;
+    took = λ m b. takes (version_at m.conn (b ∷ [])) (brought m b);
+    lacks = λ m. list_any is_wanting m.moments;
+    Alike = ConnsAlike;
+    same = λ wanting m n a. ap conn_stops a.0;
+    none = λ wanting m n a. a.3;
+    goes = λ wanting m n b a.
+        subst₂ (λ x y. ConnsBehind (takes (version_at m.conn (b ∷ [])) (brought m b)) wanting (conn_byte keep timing i x b) (conn_byte keep timing i y b)) (λ k. conn_of m.conn m.moments (sym a.1 k)) (λ k. conn_of (sym a.0 k) n.moments (sym a.2 k))
+        (conn_judged_alike m.conn m.moments n.moments (version_at m.conn (b ∷ [])) (m.conn.held ++ b ∷ []) a.3 wanting (brought m b));
+    log = λ m. flat_map conn_reading m.moments;
+    later = λ m us. us;
+    nothing = λ m. refl;
+    logs = λ m b a.
+        subst (λ x. ConnLogs m.moments (takes (version_at m.conn (b ∷ [])) (brought m b)) (conn_byte keep timing i x b)) (λ k. conn_of m.conn m.moments (sym a.1 k)) (conn_logs m.conn m.moments (version_at m.conn (b ∷ [])) (m.conn.held ++ b ∷ []) (brought m b));
+  }
 
-      rest : List Bool
-      rest = takes (version_at o (b ∷ [])) (brought o b) ++ flags n bytes
+  conn_beside : (wanting : Option ℕ) (piece : List ℕ) (o : Conn) → Takes conns None piece wanting (conn_of o [] None) (conn_of o [] wanting)
+  unfolding conns
+  conn_beside wanting piece o = beside conns piece wanting (conn_of o [] None) (conn_of o [] wanting) (refl, refl, refl, refl) (refl, refl, refl, refl)
 
-      by_test : (s : Bool) → AllTaken ms rest (taken n (and_moment ms (conn_moment_of i true (version_at o (b ∷ [])) (o.held ++ b ∷ []) (brought o b))) (counted (brought o b) None) bytes).machine.moments
-          → AllTaken ms (if s then [] else rest) (handed_conn s (record { conn = o; moments = ms; wanting = None }) b bytes).machine.moments
-      by_test true on = (sym (append-nil (flat_map conn_reading ms)), λ none. none)
-      by_test false on = on
-
-  abbrev WantsSo : Conn → List ConnMoment → List ℕ → ℕ → Type 0
-  WantsSo o ms piece unit = list_any is_wanting (taken o ms (Some unit) piece).machine.moments ≡ has (slice_get (flags o piece) unit)
-
-  want_step : (bytes : List ℕ) → ((unit : ℕ) (o : Conn) (ms : List ConnMoment) → list_any is_wanting ms ≡ false → WantsSo o ms bytes unit) → (b unit : ℕ) (o : Conn) (ms : List ConnMoment) → list_any is_wanting ms ≡ false → (version : Version) (j : Judgement) →
-      let memory : Bool = finds_memory (Some unit) in
-      list_any is_wanting (taken (next o memory version (o.held ++ b ∷ []) j) (and_moment ms (conn_moment_of i memory version (o.held ++ b ∷ []) j)) (counted j (Some unit)) bytes).machine.moments
-      ≡ has (slice_get (takes version j ++ flags (next o true version (o.held ++ b ∷ []) j) bytes) unit)
-  want_step bytes on b unit o ms none version Begins = on unit (record o { held = o.held ++ b ∷ [] }) ms none
-  want_step bytes on b unit o ms none version (Faulty fault) =
-      let all : List ℕ = o.held ++ b ∷ [] in
-      let m : ConnMoment = Fault version fault all in
-      let n : Conn = with_moment keep timing all o (Some m) in
-      ap (λ (x : Taking). list_any is_wanting x.moments) (still_conn (record { conn = n; moments = ms ++ m ∷ []; wanting = Some unit }) bytes refl) ∙ wants_one ms m none ∙ ap (λ x. has (slice_get x unit)) (sym (no_flags n bytes refl))
-  want_step bytes on b zero o ms none version (Whole u) = by_want (takes_memory version i u)
-    where
-      all : List ℕ
-      all = o.held ++ b ∷ []
-
-      by_want : (t : Bool) → let m : ConnMoment = if t && not false then Wanting version i u all else Read version i u all in list_any is_wanting (taken (with_moment keep timing all o (Some m)) (ms ++ m ∷ []) None bytes).machine.moments ≡ t
-      by_want true =
-          let m : ConnMoment = Wanting version i u all in
-          ap (λ (x : Taking). list_any is_wanting x.moments) (still_conn (record { conn = with_moment keep timing all o (Some m); moments = ms ++ m ∷ []; wanting = None }) bytes refl) ∙ wants_one ms m none
-      by_want false =
-          let m : ConnMoment = Read version i u all in
-          (takes_all bytes (with_moment keep timing all o (Some m)) (ms ++ m ∷ [])).1 (wants_one ms m none)
-  want_step bytes on b (suc unit) o ms none version (Whole u) =
-      let all : List ℕ = o.held ++ b ∷ [] in
-      let m : ConnMoment = Read version i u all in
-      subst (λ (m : ConnMoment). let n : Conn = with_moment keep timing all o (Some m) in list_any is_wanting (taken n (ms ++ m ∷ []) (Some unit) bytes).machine.moments ≡ has (slice_get (flags n bytes) unit))
-      (sym (with_memory (takes_memory version i u) (Wanting version i u all) m)) (on unit (with_moment keep timing all o (Some m)) (ms ++ m ∷ []) (wants_one ms m none))
-
-  wants_so : (piece : List ℕ) (unit : ℕ) (o : Conn) (ms : List ConnMoment) → list_any is_wanting ms ≡ false → WantsSo o ms piece unit
-  unfolding conn_byte
-  wants_so [] unit o ms none = none
-  wants_so (b ∷ bytes) unit o ms none = by_test (conn_stops o) (want_step bytes (wants_so bytes) b unit o ms none (version_at o (b ∷ [])) (brought o b))
-    where
-      memory : Bool
-      memory = finds_memory (Some unit)
-
-      version : Version
-      version = version_at o (b ∷ [])
-
-      rest : List Bool
-      rest = takes version (brought o b) ++ flags (next o true version (o.held ++ b ∷ []) (brought o b)) bytes
-
-      by_test : (s : Bool) → list_any is_wanting (taken (next o memory version (o.held ++ b ∷ []) (brought o b)) (and_moment ms (conn_moment_of i memory version (o.held ++ b ∷ []) (brought o b))) (counted (brought o b) (Some unit)) bytes).machine.moments ≡ has (slice_get rest unit)
-          → list_any is_wanting (handed_conn s (record { conn = o; moments = ms; wanting = Some unit }) b bytes).machine.moments ≡ has (slice_get (if s then [] else rest) unit)
-      by_test true on = none
-      by_test false on = on
+  pub conn_leaves : (wanting : Option ℕ) (piece : List ℕ) (o : Conn) → length (conn_takes keep timing i None piece o).rest ≤ length (conn_takes keep timing i wanting piece o).rest
+  unfolding conn_takes conns
+  conn_leaves wanting piece o = (conn_beside wanting piece o).leaves
 
   pub conn_wants : (piece : List ℕ) (o : Conn) (unit : ℕ) →
       list_any is_wanting (conn_takes keep timing i (Some unit) piece o).machine.moments ≡ has (slice_get (flat_map conn_reading (conn_takes keep timing i None piece o).machine.moments) unit)
-  unfolding conn_takes
-  conn_wants piece o unit = wants_so piece unit o [] refl ∙ ap (λ x. has (slice_get x unit)) (sym (takes_all piece o []).0)
+  unfolding conn_takes conns
+  conn_wants piece o unit = let k = conn_beside (Some unit) piece o in k.lacks ∙ ap (λ x. has (slice_get x unit)) (sym k.log)
