@@ -112,7 +112,7 @@ module _ (all : List Instance) (i : Instance) (p : Present all i) (r : Router) (
   -- every PDU
   unit_current : (u : Unit) (more wanted : List Unit) → is_reading r.link ≡ true → ((one serial : ℕ) → u ≡ SerialNotify one serial → is_strange r one ≡ false) → TableAt all r.version r.table → Shape all r.spoken h r.link r.agreed r.version r.table wanted (without_notifies (u ∷ more)) → C r → C (on_unit r.link u r)
   unit_current u more wanted live quiet t shape = by_shape all h r (λ l v k. Current r.spoken i l r.version r.table r.now → C k) r.link u more wanted refl live quiet shape (record {
-    asks = λ one serial w e ag c. c.1;
+    asks = λ one serial is s c. c.1;
     stays = λ l one serial is live s c. subst (λ x. Current r.spoken i x r.version r.table r.now) (sym is) c;
     replies = λ w. record {
       idles = λ copy e f one c. none_held r.version r.table r.now t f (no_sets (report 2 copy ∷ without_notifies more) copy (ap (λ x. report 2 copy ∷ x) e) one) c;

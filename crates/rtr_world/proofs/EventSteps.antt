@@ -228,13 +228,13 @@ module _ (w : World) (p : Present (instances w) w.present) where
 
   asks_so : (s : Side) (g : GoodS s) → GoodRouter (instances w) w.present g.seen s.conn s.up s.down (asks s.router).router
   unfolding asks
-  asks_so s g = asks_good (instances w) w.present g.seen s.conn s.up s.down s.router.link s.router (is_idle s.router.link) refl (λ h. h) g.router g.router.link
+  asks_so s g = asks_good (instances w) w.present g.seen s.conn s.up s.down s.router.link s.router (is_idle s.router.link) refl (λ h. h) g.router
 
   ticks_so : (now : ℕ) (s : Side) (g : GoodS s) → GoodRouter (instances w) w.present g.seen s.conn s.up s.down (ticks_at now s.router).router
   unfolding ticks_at
   ticks_so now s g =
       let told = clocked_good (instances w) w.present g.seen s.conn s.up s.down now s.router g.router in
-      asks_good (instances w) w.present g.seen s.conn s.up s.down (clocked now s.router).link (clocked now s.router) (is_due (clocked now s.router).link (clocked now s.router).due (clocked now s.router).now) refl (not_due (clocked now s.router).link (clocked now s.router).due (clocked now s.router).now) told told.link
+      asks_good (instances w) w.present g.seen s.conn s.up s.down (clocked now s.router).link (clocked now s.router) (is_due (clocked now s.router).link (clocked now s.router).due (clocked now s.router).now) refl (not_due (clocked now s.router).link (clocked now s.router).due (clocked now s.router).now) told
 
   notifies_good : (s : Side) (o : Option Conn) → s.conn ≡ o → GoodS s → GoodS (notifies_at w s o)
   notifies_good s None e g = g

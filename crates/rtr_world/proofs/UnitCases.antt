@@ -66,7 +66,7 @@ live_on _ live = refl
 unit_brings : (all : List Instance) (h : Seen) (r : Router) (u : Unit) (more wanted : List Unit) → is_reading r.link ≡ true → ((one serial : ℕ) → u ≡ SerialNotify one serial → is_strange r one ≡ false)
     → Shape all r.spoken h r.link r.agreed r.version r.table wanted (without_notifies (u ∷ more)) → Brings all h r r.link u (on_unit r.link u r)
 unit_brings all h r u more wanted live quiet shape = by_shape all h r (Brings all h r) r.link u more wanted refl live quiet shape (record {
-  asks = λ one serial w e ag. goes_on refl refl (leaves refl);
+  asks = λ one serial is s. goes_on refl refl (leaves refl);
   stays = λ l one serial is live s. goes_on (ap is_ended is ∙ live_on l live) refl (stays one serial refl is);
   replies = λ w. record {
     idles = λ copy e f one. goes_on refl refl (leaves refl);

@@ -111,7 +111,7 @@ module _ (all : List Instance) (h : Seen) (r : Router) where
 
   -- every PDU that may come to a link that reads, with what comes behind it
   pub record Does (P : Link → Unit → Router → Type 0) (wanted rest : List Unit) : Type 0 where
-    pub asks : (one serial : ℕ) → wanted ≡ [] → rest ≡ [] → r.agreed ≡ true → P Idle (SerialNotify one serial) (ask r)
+    pub asks : (one serial : ℕ) → r.link ≡ Idle → Shape all r.spoken h Idle r.agreed r.version r.table wanted rest → P Idle (SerialNotify one serial) (ask r)
     pub stays : (l : Link) (one serial : ℕ) → r.link ≡ l → is_reading l ≡ true → Shape all r.spoken h l r.agreed r.version r.table wanted rest → P l (SerialNotify one serial) r
     pub replies : wanted ≡ [] → ReplyDoes (λ q u k. QuestionFits h.session q (of_version r.spoken r.version) → OneReply all r.spoken h q (u ∷ rest) → P (Asked q) u k) rest
     pub stages : (a : Begun) (announce : Bool) (v : Payload) (b : Begun) → wanted ≡ [] → r.agreed ≡ true → a.session ≡ h.session → QuestionFits h.session a.question (of_version r.spoken r.version) → OfAnswer all r.spoken h (base_of a.question r.table) a (Prefix announce v ∷ rest)
@@ -124,7 +124,7 @@ module _ (all : List Instance) (h : Seen) (r : Router) where
   unfolding on_unit
   by_notify P Idle one serial rest wanted is live quiet s d =
       subst (λ b. P Idle (SerialNotify one serial) (if b then fails (SerialNotify one serial) r else if is_news (of_version r.spoken r.version) serial then ask r else r)) (sym quiet)
-      (either (P Idle (SerialNotify one serial)) (is_news (of_version r.spoken r.version) serial) (ask r) r (λ news. d.asks one serial s.0 s.1 s.2) (λ old. d.stays Idle one serial is live s))
+      (either (P Idle (SerialNotify one serial)) (is_news (of_version r.spoken r.version) serial) (ask r) r (λ news. d.asks one serial is s) (λ old. d.stays Idle one serial is live s))
   by_notify P (Asked q) one serial rest wanted is live quiet s d =
       subst (λ b. P (Asked q) (SerialNotify one serial) (if b then fails (SerialNotify one serial) r else r)) (sym quiet) (d.stays (Asked q) one serial is live s)
   by_notify P (Answering a) one serial rest wanted is live quiet s d =

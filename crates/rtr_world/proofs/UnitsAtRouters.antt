@@ -9,7 +9,7 @@ use Rattle.rtr_pdu.specs.Unit.{IsUnitOf}
 use Rattle.rtr_pdu.specs.declared.unit.Unit.{Unit}
 use Rattle.rtr_pdu.specs.declared.unit.Unit.TheVariants.{SerialNotify, CacheResponse, Prefix}
 use Rattle.rtr_pdu.specs.declared.version.Version.{Version}
-use Rattle.rtr_ends.specs.Connection.{Sent, in_version}
+use Rattle.rtr_ends.specs.Connection.{Sent, bytes_sent, in_version}
 use Rattle.rtr_ends.specs.Answer.{sent, sent_all, session_in}
 use Rattle.rtr_ends.specs.Cache.{Conn}
 use Rattle.rtr_ends.specs.Commit.{Commits}
@@ -22,7 +22,7 @@ use Rattle.rtr_ends.specs.Transcript.{choose, Begun, Committed, Question, AskRes
 use Rattle.rtr_ends.proofs.TableLaws.{false_true}
 use Rattle.rtr_world.specs.History.{conn_due}
 use Rattle.rtr_world.specs.OneAnswer.{EndsWith, OwnNotifies, announced_in, units_in, withdrawn_in, without_notifies}
-use Rattle.rtr_world.proofs.Invariant.{after_stage, FromCache, InOrder, Leads, NoneWithdrawn, WithdrawsFirst, read_of, records_of, Mine, OwnSession, QuestionFits, OfAnswer, nothing_yet, Shape, IfOpen, Open, Live, GoodLink, GoodRouter, if_open}
+use Rattle.rtr_world.proofs.Invariant.{after_stage, FromCache, InOrder, Leads, NoneWithdrawn, WithdrawsFirst, read_of, records_of, Mine, OwnSession, QuestionFits, OfAnswer, nothing_yet, Shape, IfOpen, Open, Live, Flow, GoodLink, GoodRouter, if_open}
 use Rattle.rtr_world.proofs.UnitStreams.{Stream, stream-append}
 use Rattle.rtr_world.proofs.Versions.{HeldAt, TableAt, held_at, Seen}
 
@@ -49,6 +49,10 @@ pub asked_on : (up : List ℕ) (pv : Version) (q : Question) (wanted : List Unit
 asked_on up pv q wanted held e fit s =
     subst (λ x. Stream held x (in_version pv (query q ∷ []))) (ap (λ x. x ++ sent_all pv (query q ∷ [])) (append-nil up) ∙ ap (λ x. up ++ x) (append-nil (sent pv (query q))))
     (stream-append pv held (up ++ []) [] (query q ∷ []) (subst (λ x. Stream held (up ++ []) (in_version pv x)) e s) (fit, tt))
+
+nothing_right : {A : Type 0} (xs ys : List A) → xs ++ ys ≡ [] → ys ≡ []
+nothing_right [] ys e = e
+nothing_right (x ∷ xs) ys e = cc
 
 -- what is staged belongs to the same question and session
 pub stage_keeps : (base : VrpSet) (a : Begun) (announce : Bool) (v : Payload) (b : Begun) → stage base a announce v ≡ Stays b → (b.question ≡ a.question) × (b.session ≡ a.session)
@@ -180,32 +184,43 @@ module _ (all : List Instance) (i : Instance) (home : Option Seen) (conn : Optio
     );
   }
 
-  asking_good : (May : Bool → Type 0) (r : Router) (more : List Sent) (q : Question) (d : Reads May r more) → d.wanted ≡ [] → without_notifies (units_in more) ≡ [] → QuestionFits d.h.session q (of_version r.spoken r.version) → GoodR (asking q r)
-  asking_good May r more q d wanted rest fits = record {
-    table = d.table;
-    unmarked = d.unmarked;
-    link = (
-      d.h,
-      d.is_home,
+  quiet_out : (out held : List ℕ) (pv : Version) (wanted : List Unit) → wanted ≡ [] → Stream held (up ++ out) (in_version pv wanted) → out ≡ []
+  quiet_out out held pv wanted e s = nothing_right up out (nothing_right held (up ++ out) (s.whole ∙ ap (λ x. bytes_sent (in_version pv x)) e))
+
+  -- An idle link asks.
+  pub asking_good : (r : Router) (q : Question) → r.link ≡ Idle → ((session : ℕ) → Mine session (of_version r.spoken r.version) → QuestionFits session q (of_version r.spoken r.version)) → GoodR r → GoodR (asking q r)
+  asking_good r q is may g =
+      let l : Live all i home r conn up down = subst (λ x. GoodLink all i home x r conn up down) is g.link in
+      let f : Flow all i l.0 r conn up down = l.2 in
+      let s = subst (λ x. Shape all r.spoken l.0 x r.agreed r.version r.table f.wanted (without_notifies (units_in f.coming))) is f.shape in
+      let fits = may l.0.session (f.mine s.2) in
+      let fit = query_unit all r.spoken l.0.session q (of_version r.spoken r.version) r.table fits (held_at all r.spoken r.version r.table g.table) in
       record {
-        said = record { wanted = query q ∷ []; coming = more; version = d.version; session = d.session; notifies = d.notifies r.agreed d.may; own = d.own; mine = d.mine; shape = (fits, inl (refl, rest)) };
-        lost = d.lost;
-        downward = subst (λ x. Stream x (down ++ (conn_due conn ++ d.lost)) more) (sym d.held) d.downward;
-        open_at = if_open (Open i r.spoken d.h [] up d.wanted more r.agreed d.lost) (Open i r.spoken d.h (sent r.spoken (query q)) up (query q ∷ []) more r.agreed d.lost) conn
-            (λ o op. record { linked = op.linked; upward = asked_on up r.spoken q d.wanted o.held wanted (query_unit all r.spoken d.h.session q (of_version r.spoken r.version) r.table fits (held_at all r.spoken r.version r.table d.table)) op.upward; spoken = op.spoken; unheard = op.unheard }) (d.open_at r.agreed d.may);
-      },
-    );
-  }
+        table = g.table;
+        unmarked = g.unmarked;
+        link = (
+          l.0,
+          l.1,
+          record {
+            said = record { wanted = query q ∷ []; coming = f.coming; version = f.version; session = f.session; notifies = f.notifies; own = f.own; mine = f.mine; shape = (fits, inl (refl, s.1)) };
+            lost = f.lost;
+            downward = f.downward;
+            open_at = if_open (Open i r.spoken l.0 r.out up f.wanted f.coming r.agreed f.lost) (Open i r.spoken l.0 (sent r.spoken (query q)) up (query q ∷ []) f.coming r.agreed f.lost) conn
+                (λ o op. record { linked = op.linked; upward = asked_on up r.spoken q f.wanted o.held s.0 fit (subst (λ x. Stream o.held (up ++ x) (in_version r.spoken f.wanted)) (quiet_out r.out o.held r.spoken f.wanted s.0 op.upward) op.upward); spoken = op.spoken; unheard = op.unheard }) f.open_at;
+          },
+        );
+      }
 
   -- every PDU that may come
   pub unit_good : (May : Bool → Type 0) (r : Router) (more : List Sent) (u : Unit) (d : Reads May r more) → (is_notify u ≡ false → May true) → is_reading r.link ≡ true → ((one serial : ℕ) → u ≡ SerialNotify one serial → is_strange r one ≡ false)
       → Shape all r.spoken d.h r.link r.agreed r.version r.table d.wanted (without_notifies (u ∷ units_in more)) → GoodR (on_unit r.link u r)
   unit_good May r more u d agrees live quiet shape = by_shape all d.h r (λ l v k. (is_notify v ≡ false → May true) → GoodR k) r.link u (units_in more) d.wanted refl live quiet shape (record {
-    asks = λ one serial w e ag may. asking_good May r more (choose v r.mark) d w e (question_fits d.h.session v r.mark d.unmarked (d.mine ag));
+    asks = λ one serial is s may. asking_good r (choose v r.mark) is (λ session mine. question_fits session v r.mark d.unmarked mine) (same_good May r more Idle d is refl s);
     stays = λ l one serial is live s may. same_good May r more l d is live s;
     replies = λ w. record {
       idles = λ copy e f one may. same_good May (record r { agreed = true; link = Idle; due = Some (sum_of r.now (retry_of r.version)); no_data = true }) more Idle (record { comes = d.comes; kept = d.kept; may = may refl; own = d.own; mine = λ a. f }) refl refl (w, e, refl);
-      again = λ serial e f one may. asking_good May (record r { agreed = true }) more AskReset (record { comes = d.comes; kept = d.kept; may = may refl; own = d.own; mine = λ a. fits_mine d.h.session (AskSerial d.h.session serial) v f refl }) w e (fits_mine d.h.session (AskSerial d.h.session serial) v f refl);
+      again = λ serial e f one may. asking_good (record r { agreed = true; link = Idle }) AskReset refl (λ session mine. mine)
+          (same_good May (record r { agreed = true; link = Idle }) more Idle (record { comes = d.comes; kept = d.kept; may = may refl; own = d.own; mine = λ a. fits_mine d.h.session (AskSerial d.h.session serial) v f refl }) refl refl (w, e, refl));
       other = λ session serial copy differs f one may. record { table = refl; unmarked = refl; link = d.none };
       lacks = λ q e f one may. record { table = d.table; unmarked = d.unmarked; link = d.none };
       begins = λ q own a f one may. same_good May (record r { agreed = true; session = Some d.h.session; link = Answering (nothing_yet q d.h.session) }) more (Answering (nothing_yet q d.h.session))

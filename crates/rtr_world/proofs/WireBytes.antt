@@ -1,5 +1,5 @@
 -- What is on a wire are bytes.
-use Rattle.std.specs.Prelude.{◌≡◌, ℕ, zero, suc, ◌+◌, ◌*◌, ◌/◌, ◌%◌, ◌<◌, ◌^◌, nat_lt, Bool, true, false, List, [], ◌∷◌, ◌++◌, drop, take, length, if◌then◌else◌, refl}
+use Rattle.std.specs.Prelude.{◌≡◌, ℕ, zero, suc, ◌+◌, ◌*◌, ◌/◌, ◌%◌, ◌<◌, ◌^◌, nat_lt, Bool, true, false, List, [], ◌∷◌, ◌++◌, drop, take, length, if◌then◌else◌}
 use Rattle.std.proofs.Common.{sym, subst, arith, inl, inr}
 use Rattle.std.proofs.Math.Utf8.{encode, encodes, scalar, scalars, scalar_cases}
 use Rattle.std.proofs.lemmas.Bool.{and_parts}
@@ -22,6 +22,8 @@ use Rattle.rtr_ends.specs.Answer.{sent}
 use Rattle.rtr_ends.specs.Connection.{Sent, bytes_sent}
 use Rattle.rtr_world.proofs.UnitStreams.{IsSent, Stream}
 use Rattle.rtr_world.proofs.Versions.{lt_of}
+use Rattle.rtr_ends.proofs.Effects.{either}
+use Rattle.std.proofs.lemmas.List.{take-append-drop}
 
 abbrev pub Low : List ℕ → Type 0
 Low bytes = AllByRecursion (λ b. b < 256) bytes
@@ -39,13 +41,10 @@ low_rest [] ys h = h
 low_rest (x ∷ xs) ys h = low_rest xs ys h.1
 
 pub low_take : (most : ℕ) (xs : List ℕ) → Low xs → Low (take most xs)
-low_take (suc most) (x ∷ xs) h = (h.0, low_take most xs h.1)
-low_take _ _ h = tt
+low_take most xs h = low_front (take most xs) (drop most xs) (subst (λ x. Low x) (sym (take-append-drop most xs)) h)
 
 pub low_drop : (most : ℕ) (xs : List ℕ) → Low xs → Low (drop most xs)
-low_drop zero xs h = h
-low_drop (suc most) [] h = tt
-low_drop (suc most) (x ∷ xs) h = low_drop most xs h.1
+low_drop most xs h = low_rest (take most xs) (drop most xs) (subst (λ x. Low x) (sym (take-append-drop most xs)) h)
 
 low_bytes : (xs : List ℕ) → AreBytes xs → Low xs
 low_bytes [] h = tt
@@ -70,27 +69,16 @@ number (suc n) x = (low_byte n x, number n x)
 -- text
 low_char : (c : ℕ) → scalar c ≡ true → Low (encode c)
 unfolding encode
-low_char c h = by_one (nat_lt c 128) refl
+low_char c h =
+    either Low (nat_lt c 128) _ _ (λ e. let l = lt_of c 128 e in (omega (arith, l), tt))
+    (λ n. either Low (nat_lt c 2048) _ _ (λ e. let l = lt_of c 2048 e in (omega (arith, l), (next c, tt)))
+    (λ n. either Low (nat_lt c 65536) _ _ (λ e. let l = lt_of c 65536 e in (omega (arith, l), (next (c / 64), (next c, tt)))) (λ n. (omega (arith, high), (next (c / 4096), (next (c / 64), (next c, tt)))))))
   where
     high : c < 1114112
     high = elim (scalar_cases c h) [ inl a ↦ omega (arith, a) | inr a ↦ a.1 ]
 
     next : (x : ℕ) → 128 + x % 64 < 256
     next x = omega arith
-
-    by_three : (a : Bool) → nat_lt c 65536 ≡ a → Low (if a then (224 + c / 4096) ∷ (128 + (c / 64) % 64) ∷ (128 + c % 64) ∷ [] else (240 + c / 262144) ∷ (128 + (c / 4096) % 64) ∷ (128 + (c / 64) % 64) ∷ (128 + c % 64) ∷ [])
-    by_three true e = let l = lt_of c 65536 e in (omega (arith, l), (next (c / 64), (next c, tt)))
-    by_three false e = (omega (arith, high), (next (c / 4096), (next (c / 64), (next c, tt))))
-
-    by_two : (a : Bool) → nat_lt c 2048 ≡ a
-        → Low (if a then (192 + c / 64) ∷ (128 + c % 64) ∷ [] else if nat_lt c 65536 then (224 + c / 4096) ∷ (128 + (c / 64) % 64) ∷ (128 + c % 64) ∷ [] else (240 + c / 262144) ∷ (128 + (c / 4096) % 64) ∷ (128 + (c / 64) % 64) ∷ (128 + c % 64) ∷ [])
-    by_two true e = let l = lt_of c 2048 e in (omega (arith, l), (next c, tt))
-    by_two false e = by_three (nat_lt c 65536) refl
-
-    by_one : (a : Bool) → nat_lt c 128 ≡ a
-        → Low (if a then c ∷ [] else if nat_lt c 2048 then (192 + c / 64) ∷ (128 + c % 64) ∷ [] else if nat_lt c 65536 then (224 + c / 4096) ∷ (128 + (c / 64) % 64) ∷ (128 + c % 64) ∷ [] else (240 + c / 262144) ∷ (128 + (c / 4096) % 64) ∷ (128 + (c / 64) % 64) ∷ (128 + c % 64) ∷ [])
-    by_one true e = let l = lt_of c 128 e in (omega (arith, l), tt)
-    by_one false e = by_two (nat_lt c 2048) refl
 
 low_chars : (cs : List ℕ) → scalars cs ≡ true → Low (encodes cs)
 low_chars [] h = tt
