@@ -28,7 +28,7 @@ use Rattle.rtr_ends.proofs.CommitLaws.{change_commits}
 use Rattle.rtr_world.specs.OneAnswer.{EndsWith, announced_in, withdrawn_in}
 use Rattle.rtr_ends.specs.Transcript.{Committed, Question, AskReset, AskSerial, query, base_of}
 use Rattle.rtr_world.specs.World.{timing}
-use Rattle.rtr_world.proofs.AnswerLaws.{Plain, plain-append, plain_records, change_leads, whole_leads}
+use Rattle.rtr_world.proofs.AnswerLaws.{Plain, plain-append, plain_records, commits_lead}
 use Rattle.rtr_world.proofs.Invariant.{FromCache, WasCache, Leads, NoneWithdrawn, WithdrawsFirst, QuestionFits, IsOwn, Replies, nothing_yet, no_data, not_kept, other_session, response}
 use Rattle.rtr_world.proofs.UnitStreams.{all_bytes}
 use Rattle.rtr_world.proofs.Versions.{HeldAt, Stands, Present, kept_at, has_sets, of_present, find_session, Seen}
@@ -154,30 +154,6 @@ module _ (all : List Instance) (i : Instance) (p : Present all i) (pv : Version)
     pub commits : Commits base (withdrawn_in (tail_of records session serial)) (announced_in (tail_of records session serial)) x
     pub order : WithdrawsFirst (tail_of records session serial)
 
-  responds : (q : Question) (base x : VrpSet) (older : List VrpSet) (records : List Unit) → IsOwn home.session q → i.sets ≡ x ∷ older → IsAnswered pv records
-      → ((session : ℕ) → Leads base (nothing_yet q home.session) (tail_of records session (serial_at i.start (length older))) session (serial_at i.start (length older)) x)
-      → Ends base x (session_in pv i) (serial_at i.start (length older)) records → FromCache all pv home q (response_of pv (session_in pv i) timing (record { serial = serial_at i.start (length older); set = x }) records)
-      → Answers all pv home q base (response_of pv (session_in pv i) timing (record { serial = serial_at i.start (length older); set = x }) records)
-  unfolding newest
-  responds q base x older records own e h leads ends from =
-      let serial : ℕ = serial_at i.start (length older) in
-      let tail : List Unit = tail_of records (session_in pv i) (serial_at i.start (length older)) in
-      record {
-        replies = response tail (ap (λ s. CacheResponse s ∷ tail) (sym same)) own (record {
-          serial = serial_at i.start (length older);
-          set = x;
-          stands = newest x older e;
-          leads = subst (λ s. Leads base (nothing_yet q home.session) tail s (serial_at i.start (length older)) x) (sym same) (leads (session_in pv i));
-          since = since x older e;
-          from = subst (λ s. FromCache all pv home q (CacheResponse s ∷ tail)) (sym same) from;
-          ends = subst (λ s. EndsWith s (serial_at i.start (length older)) tail) (sym same) ends.ends;
-          commits = ends.commits;
-          order = (ends.order, inl refl);
-        });
-        from = from;
-        answered = answered_response pv (session_in pv i) (serial_at i.start (length older)) x records low (serial_low i.start (length older)) h;
-      }
-
   -- the records of a change
   ends_after : (session serial : ℕ) (announce : Bool) (vs : List Payload) (tail : List Unit) → EndsWith session serial tail → EndsWith session serial (map (λ v. Prefix announce v) vs ++ tail)
   ends_after session serial announce [] tail h = h
@@ -221,35 +197,51 @@ module _ (all : List Instance) (i : Instance) (p : Present all i) (pv : Version)
     leads = same_set _ _ (λ q. sym (has-union (without empty (set_of [])) (set_of (listing x)) q ∙ (λ j. has-without empty (set_of []) q j || has (set_of-listing x j) q) ∙ ap (λ b. (b && not (has (set_of []) q)) || has x q) (has-empty q)));
   }
 
-  whole_ends : (x : VrpSet) (session serial : ℕ) → Ends empty x session serial (announcements x)
-  whole_ends x session serial = record {
-    ends = ends_after session serial true (listing x) (last_of pv session serial) (is_last pv session serial).ends;
-    commits = subst₂ (λ w a. Commits empty w a x) (sym (none_withdrawn (listing x) (last_of pv session serial) ∙ (is_last pv session serial).withdraws)) (sym (announced_then (listing x) (last_of pv session serial) ∙ ap (λ y. listing x ++ y) (is_last pv session serial).announces ∙ append-nil (listing x))) (whole_commits x);
-    order = announces_order (listing x) (last_of pv session serial) (is_last pv session serial).none (is_last pv session serial).first;
-  }
+  abbrev records : List Payload → List Payload → List Unit
+  records ws vs = map (λ v. Prefix false v) ws ++ map (λ v. Prefix true v) vs
 
-  change_ends : (base x : VrpSet) (session serial : ℕ) → Ends base x session serial (withdrawals (without base x) ++ announcements (without x base))
-  change_ends base x session serial =
-      let gone : List Payload = listing (without base x) in
-      let come : List Payload = listing (without x base) in
+  records_end : (base x : VrpSet) (ws vs : List Payload) (session serial : ℕ) → Commits base ws vs x → Ends base x session serial (records ws vs)
+  records_end base x ws vs session serial c =
       let end : List Unit = last_of pv session serial in
       let last = is_last pv session serial in
-      let rest : List Unit = announcements (without x base) ++ last_of pv session serial in
-      let split : withdrawals (without base x) ++ rest ≡ (withdrawals (without base x) ++ announcements (without x base)) ++ end = sym (append_assoc (withdrawals (without base x)) (announcements (without x base)) (last_of pv session serial)) in
-      let w : withdrawn_in (withdrawals (without base x) ++ rest) ≡ gone = withdrawn_first gone rest ∙ ap (λ y. gone ++ y) (none_withdrawn come end ∙ last.withdraws) ∙ append-nil gone in
-      let a : announced_in (withdrawals (without base x) ++ rest) ≡ come = none_announced gone rest ∙ announced_then come end ∙ ap (λ y. come ++ y) last.announces ∙ append-nil come in
+      let rest : List Unit = map (λ v. Prefix true v) vs ++ last_of pv session serial in
+      let split : map (λ v. Prefix false v) ws ++ rest ≡ records ws vs ++ end = sym (append_assoc (map (λ v. Prefix false v) ws) (map (λ v. Prefix true v) vs) (last_of pv session serial)) in
+      let w : withdrawn_in (map (λ v. Prefix false v) ws ++ rest) ≡ ws = withdrawn_first ws rest ∙ ap (λ y. ws ++ y) (none_withdrawn vs end ∙ last.withdraws) ∙ append-nil ws in
+      let a : announced_in (map (λ v. Prefix false v) ws ++ rest) ≡ vs = none_announced ws rest ∙ announced_then vs end ∙ ap (λ y. vs ++ y) last.announces ∙ append-nil vs in
       record {
-        ends = subst (λ y. EndsWith session serial y) split (ends_after session serial false gone rest (ends_after session serial true come end last.ends));
-        commits = subst (λ y. Commits base (withdrawn_in y) (announced_in y) x) split (subst₂ (λ y z. Commits base y z x) (sym w) (sym a) (change_commits base x));
-        order = subst (λ y. WithdrawsFirst y) split (withdraws_order gone rest (announces_order come end last.none last.first));
+        ends = subst (λ y. EndsWith session serial y) split (ends_after session serial false ws rest (ends_after session serial true vs end last.ends));
+        commits = subst (λ y. Commits base (withdrawn_in y) (announced_in y) x) split (subst₂ (λ y z. Commits base y z x) (sym w) (sym a) c);
+        order = subst (λ y. WithdrawsFirst y) split (withdraws_order ws rest (announces_order vs end last.none last.first));
+      }
+
+  responds : (q : Question) (base x : VrpSet) (older : List VrpSet) (ws vs : List Payload) → IsOwn home.session q → i.sets ≡ x ∷ older → IsAnswered pv (records ws vs) → Commits base ws vs x → FromCache all pv home q (response_of pv (session_in pv i) timing (record { serial = serial_at i.start (length older); set = x }) (records ws vs))
+      → Answers all pv home q base (response_of pv (session_in pv i) timing (record { serial = serial_at i.start (length older); set = x }) (records ws vs))
+  unfolding newest
+  responds q base x older ws vs own e h commits from =
+      let serial : ℕ = serial_at i.start (length older) in
+      let tail : List Unit = tail_of (records ws vs) (session_in pv i) (serial_at i.start (length older)) in
+      let ends = records_end base x ws vs (session_in pv i) (serial_at i.start (length older)) commits in
+      let leads = commits_lead base x ws vs commits (sets_fit x older e).within_limit pv timing (session_in pv i) (serial_at i.start (length older)) q home.session in
+      record {
+        replies = response tail (ap (λ s. CacheResponse s ∷ tail) (sym same)) own (record {
+          serial = serial_at i.start (length older);
+          set = x;
+          stands = newest x older e;
+          leads = subst₂ (λ s y. Leads base (nothing_yet q home.session) y s (serial_at i.start (length older)) x) (sym same) (sym (append_assoc (map (λ v. Prefix false v) ws) (map (λ v. Prefix true v) vs) (last_of pv (session_in pv i) (serial_at i.start (length older))))) leads;
+          since = since x older e;
+          from = subst (λ s. FromCache all pv home q (CacheResponse s ∷ tail)) (sym same) from;
+          ends = subst (λ s. EndsWith s (serial_at i.start (length older)) tail) (sym same) ends.ends;
+          commits = ends.commits;
+          order = (ends.order, inl refl);
+        });
+        from = from;
+        answered = answered_response pv (session_in pv i) (serial_at i.start (length older)) x (records ws vs) low (serial_low i.start (length older)) h;
       }
 
   reset_answers : (sets : List VrpSet) → i.sets ≡ sets → FromCache all pv home AskReset (whole_answer pv (session_in pv i) timing (versions_from i.start sets)) → Answers all pv home AskReset empty (whole_answer pv (session_in pv i) timing (versions_from i.start sets))
   reset_answers [] e from = record { replies = no_data (sent pv ResetQuery) refl refl; from = from; answered = answered_report pv 2 (sent pv ResetQuery) (omega arith) (reset_bytes pv) }
   reset_answers (x ∷ older) e from =
-      responds AskReset empty x older (announcements x) tt e (answered_records pv true x (sets_fit x older e))
-      (λ session. whole_leads x (nothing_yet AskReset home.session) pv session (serial_at i.start (length older)) timing (sets_fit x older e).within_limit refl refl)
-      (whole_ends x (session_in pv i) (serial_at i.start (length older))) from
+      responds AskReset empty x older [] (listing x) tt e (answered_records pv true x (sets_fit x older e)) (whole_commits x) from
 
   abbrev answer_to : VrpSet → List VrpSet → Option NumberedSet → List Unit
   answer_to x older o = step_answer pv (session_in pv i) timing (record { serial = serial_at i.start (length older); set = x }) o
@@ -261,10 +253,9 @@ module _ (all : List Instance) (i : Instance) (p : Present all i) (pv : Version)
       (record { replies = not_kept serial (ap (λ s. AskSerial s serial) own) refl; from = subst (λ v. FromCache all pv home (AskSerial one serial) (answer_to x older v)) f from; answered = record { plain = tt; fit = ((tt, refl), tt) } })
   step_answers one serial table x older o own e fits (inr f) from =
       subst (λ v. Answers all pv home (AskSerial one serial) table (answer_to x older v)) (sym f)
-      (responds (AskSerial one serial) table x older (withdrawals (without table x) ++ announcements (without x table)) own e
+      (responds (AskSerial one serial) table x older (listing (without table x)) (listing (without x table)) own e
       (answered-append pv (withdrawals (without table x)) (announcements (without x table)) (answered_records pv false (without table x) (part_is_set table x fits)) (answered_records pv true (without x table) (part_is_set x table (sets_fit x older e))))
-      (λ session. change_leads table x (nothing_yet (AskSerial one serial) home.session) pv session (serial_at i.start (length older)) timing (sets_fit x older e).within_limit refl refl)
-      (change_ends table x (session_in pv i) (serial_at i.start (length older))) (subst (λ v. FromCache all pv home (AskSerial one serial) (answer_to x older v)) f from))
+      (change_commits table x) (subst (λ v. FromCache all pv home (AskSerial one serial) (answer_to x older v)) f from))
 
   -- a set of the instance can be published
   one_fits : (newer : List VrpSet) (set : VrpSet) (older : List VrpSet) → AllByRecursion IsVrpSet (newer ++ set ∷ older) → IsVrpSet set
