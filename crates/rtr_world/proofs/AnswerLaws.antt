@@ -144,13 +144,13 @@ module _ (base set : VrpSet) (ws vs : List Payload) (c : Commits base ws vs set)
 
   -- the withdrawals
   withdraws : (a : Begun) (rest : List Payload) → Fresh rest → AllByRecursion (λ v. has base v ≡ true) rest → NoneListed a.withdrawn rest → Together ws rest a.withdrawn → a.announced ≡ []
-      → Leads base a (map (λ v. Prefix false v) rest ++ (map (λ v. Prefix true v) vs ++ end)) session serial set
+      → Leads base a ((map (λ v. Prefix false v) rest ++ map (λ v. Prefix true v) vs) ++ end) session serial set
   unfolding IsDistinct
   withdraws a [] once known none gone nothing = announces a vs c.announced_once c.unknown (subst (λ x. NoneListed x vs) (sym nothing) (none_of vs)) gone (subst (Together vs vs) (sym nothing) (none_before vs))
   withdraws a (w ∷ rest) once known none gone nothing =
       let e : stage base a false w ≡ Stays (record a { withdrawn = w ∷ a.withdrawn }) = λ i. if known.0 i && not (none.0 i) then Stays (record a { withdrawn = w ∷ a.withdrawn }) else Wrong 6 in
-      subst (λ st. after_stage st (λ b. Leads base b (map (λ v. Prefix false v) rest ++ (map (λ v. Prefix true v) vs ++ end)) session serial set)) (sym e)
+      subst (λ st. after_stage st (λ b. Leads base b ((map (λ v. Prefix false v) rest ++ map (λ v. Prefix true v) vs) ++ end) session serial set)) (sym e)
       (withdraws (record a { withdrawn = w ∷ a.withdrawn }) rest once.1 known.1 (none_more w a.withdrawn rest once.0 none.1) (one_more ws w rest a.withdrawn gone) nothing)
 
-  pub commits_lead : (q : Question) (own : ℕ) → Leads base (nothing_yet q own) (map (λ v. Prefix false v) ws ++ (map (λ v. Prefix true v) vs ++ end)) session serial set
+  pub commits_lead : (q : Question) (own : ℕ) → Leads base (nothing_yet q own) ((map (λ v. Prefix false v) ws ++ map (λ v. Prefix true v) vs) ++ end) session serial set
   commits_lead q own = withdraws (nothing_yet q own) ws c.withdrawn_once c.known (none_of ws) (none_before ws) refl

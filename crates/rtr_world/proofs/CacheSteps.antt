@@ -1,11 +1,11 @@
 -- What the cache answers is a whole answer to the question.
 use Rattle.std.specs.Prelude.{◌≡◌, ◌⊎◌, ℕ, suc, ◌+◌, ◌<◌, ◌≤◌, ◌^◌, Bool, true, false, not, ◌&&◌, ◌||◌, ◌==◌, List, [], ◌∷◌, ◌++◌, map, length, take, min, Option, Some, None, if◌then◌else◌, refl}
-use Rattle.std.proofs.Common.{sym, ap, ◌∙◌, append_assoc, subst, subst₂, arith, inl, inr}
+use Rattle.std.proofs.Common.{sym, ap, ◌∙◌, subst, subst₂, arith, inl, inr}
 use Rattle.std.specs.List.{AllByRecursion, All, IsDistinct}
 use Rattle.std.proofs.lemmas.List.Elements.{All-head, All-tail}
 use Rattle.std.proofs.Math.Nat.{min-le_left}
 use Rattle.std.proofs.lemmas.Str.{IsUtf8-nil}
-use Rattle.std.proofs.lemmas.List.{append-nil, length-take}
+use Rattle.std.proofs.lemmas.List.{length-take}
 use Rattle.std.proofs.lemmas.Map.Keys.{IsDistinct-from_sorted}
 use Rattle.prefixes.specs.Payload.{Payload, IsPayload, vrp_cmp}
 use Rattle.vrps.specs.Instance.{Instance, IsInstance, NumberedSet, versions, versions_from, with_serial}
@@ -68,16 +68,27 @@ answered_response pv session serial set records low number h =
     let k = answered-append pv records (last_of pv session serial) h (answered_end pv session serial low number) in
     record { plain = k.plain; fit = ((low, refl), k.fit) }
 
-record IsLast (session serial : ℕ) (units : List Unit) : Type 0 where
-  ends : EndsWith session serial units
-  withdraws : withdrawn_in units ≡ []
-  announces : announced_in units ≡ []
-  none : NoneWithdrawn units
-  first : WithdrawsFirst units
+-- the records of an answer, the withdrawals first
+abbrev records : List Payload → List Payload → List Unit
+records ws vs = map (λ v. Prefix false v) ws ++ map (λ v. Prefix true v) vs
 
-is_last : (pv : Version) (session serial : ℕ) → IsLast session serial (last_of pv session serial)
-is_last V0 session serial = record { ends = (refl, refl); withdraws = refl; announces = refl; none = tt; first = tt }
-is_last V1 session serial = record { ends = (refl, refl); withdraws = refl; announces = refl; none = tt; first = tt }
+-- What is asked of them, with the End of Data behind them
+record Ends (session serial : ℕ) (ws vs : List Payload) (units : List Unit) : Type 0 where
+  ends : EndsWith session serial units
+  withdraws : withdrawn_in units ≡ ws
+  announces : announced_in units ≡ vs
+  order : WithdrawsFirst units
+
+announced_end : (pv : Version) (session serial : ℕ) (vs : List Payload) → NoneWithdrawn (records [] vs ++ last_of pv session serial) × Ends session serial [] vs (records [] vs ++ last_of pv session serial)
+announced_end V0 session serial [] = (tt, record { ends = (refl, refl); withdraws = refl; announces = refl; order = tt })
+announced_end V1 session serial [] = (tt, record { ends = (refl, refl); withdraws = refl; announces = refl; order = tt })
+announced_end pv session serial (v ∷ vs) =
+    let k = announced_end pv session serial vs in (k.0, record { ends = k.1.ends; withdraws = k.1.withdraws; announces = ap (λ x. v ∷ x) k.1.announces; order = k.0 })
+
+records_end : (pv : Version) (session serial : ℕ) (ws vs : List Payload) → Ends session serial ws vs (records ws vs ++ last_of pv session serial)
+records_end pv session serial [] vs = (announced_end pv session serial vs).1
+records_end pv session serial (w ∷ ws) vs =
+    let k = records_end pv session serial ws vs in record { ends = k.ends; withdraws = ap (λ x. w ∷ x) k.withdraws; announces = k.announces; order = k.order }
 
 -- reports
 pub answered_report : (pv : Version) (code : ℕ) (copy : List ℕ) → code < 2 ^ 16 → AreBytes copy → IsAnswered pv (report code copy ∷ [])
@@ -145,48 +156,6 @@ module _ (all : List Instance) (i : Instance) (p : Present all i) (pv : Version)
   pub from_now : (q : Question) (keep : ℕ) → home.keep ≡ keep → IsLater home.made i → home.read ≡ Some i → FromCache all pv home q (answer pv i keep timing (query q)).units
   from_now q keep kept later read = record { cache = i; was = is_now later read; are = ap (λ k. (answer pv i k timing (query q)).units) (sym kept) }
 
-  -- a response with these records
-  abbrev tail_of : List Unit → ℕ → ℕ → List Unit
-  tail_of records session serial = records ++ last_of pv session serial
-
-  pub record Ends (base x : VrpSet) (session serial : ℕ) (records : List Unit) : Type 0 where
-    pub ends : EndsWith session serial (tail_of records session serial)
-    pub commits : Commits base (withdrawn_in (tail_of records session serial)) (announced_in (tail_of records session serial)) x
-    pub order : WithdrawsFirst (tail_of records session serial)
-
-  -- the records of a change
-  ends_after : (session serial : ℕ) (announce : Bool) (vs : List Payload) (tail : List Unit) → EndsWith session serial tail → EndsWith session serial (map (λ v. Prefix announce v) vs ++ tail)
-  ends_after session serial announce [] tail h = h
-  ends_after session serial announce (v ∷ vs) tail h = ends_after session serial announce vs tail h
-
-  withdrawn_first : (vs : List Payload) (tail : List Unit) → withdrawn_in (map (λ v. Prefix false v) vs ++ tail) ≡ vs ++ withdrawn_in tail
-  withdrawn_first [] tail = refl
-  withdrawn_first (v ∷ vs) tail = ap (λ x. v ∷ x) (withdrawn_first vs tail)
-
-  none_withdrawn : (vs : List Payload) (tail : List Unit) → withdrawn_in (map (λ v. Prefix true v) vs ++ tail) ≡ withdrawn_in tail
-  none_withdrawn [] tail = refl
-  none_withdrawn (v ∷ vs) tail = none_withdrawn vs tail
-
-  announced_then : (vs : List Payload) (tail : List Unit) → announced_in (map (λ v. Prefix true v) vs ++ tail) ≡ vs ++ announced_in tail
-  announced_then [] tail = refl
-  announced_then (v ∷ vs) tail = ap (λ x. v ∷ x) (announced_then vs tail)
-
-  none_announced : (vs : List Payload) (tail : List Unit) → announced_in (map (λ v. Prefix false v) vs ++ tail) ≡ announced_in tail
-  none_announced [] tail = refl
-  none_announced (v ∷ vs) tail = none_announced vs tail
-
-  announces_only : (vs : List Payload) (tail : List Unit) → NoneWithdrawn tail → NoneWithdrawn (map (λ v. Prefix true v) vs ++ tail)
-  announces_only [] tail h = h
-  announces_only (v ∷ vs) tail h = announces_only vs tail h
-
-  announces_order : (vs : List Payload) (tail : List Unit) → NoneWithdrawn tail → WithdrawsFirst tail → WithdrawsFirst (map (λ v. Prefix true v) vs ++ tail)
-  announces_order [] tail h k = k
-  announces_order (v ∷ vs) tail h k = announces_only vs tail h
-
-  withdraws_order : (vs : List Payload) (tail : List Unit) → WithdrawsFirst tail → WithdrawsFirst (map (λ v. Prefix false v) vs ++ tail)
-  withdraws_order [] tail h = h
-  withdraws_order (v ∷ vs) tail h = withdraws_order vs tail h
-
   whole_commits : (x : VrpSet) → Commits empty [] (listing x) x
   unfolding IsDistinct
   whole_commits x = record {
@@ -197,42 +166,26 @@ module _ (all : List Instance) (i : Instance) (p : Present all i) (pv : Version)
     leads = same_set _ _ (λ q. sym (has-union (without empty (set_of [])) (set_of (listing x)) q ∙ (λ j. has-without empty (set_of []) q j || has (set_of-listing x j) q) ∙ ap (λ b. (b && not (has (set_of []) q)) || has x q) (has-empty q)));
   }
 
-  abbrev records : List Payload → List Payload → List Unit
-  records ws vs = map (λ v. Prefix false v) ws ++ map (λ v. Prefix true v) vs
-
-  records_end : (base x : VrpSet) (ws vs : List Payload) (session serial : ℕ) → Commits base ws vs x → Ends base x session serial (records ws vs)
-  records_end base x ws vs session serial c =
-      let end : List Unit = last_of pv session serial in
-      let last = is_last pv session serial in
-      let rest : List Unit = map (λ v. Prefix true v) vs ++ last_of pv session serial in
-      let split : map (λ v. Prefix false v) ws ++ rest ≡ records ws vs ++ end = sym (append_assoc (map (λ v. Prefix false v) ws) (map (λ v. Prefix true v) vs) (last_of pv session serial)) in
-      let w : withdrawn_in (map (λ v. Prefix false v) ws ++ rest) ≡ ws = withdrawn_first ws rest ∙ ap (λ y. ws ++ y) (none_withdrawn vs end ∙ last.withdraws) ∙ append-nil ws in
-      let a : announced_in (map (λ v. Prefix false v) ws ++ rest) ≡ vs = none_announced ws rest ∙ announced_then vs end ∙ ap (λ y. vs ++ y) last.announces ∙ append-nil vs in
-      record {
-        ends = subst (λ y. EndsWith session serial y) split (ends_after session serial false ws rest (ends_after session serial true vs end last.ends));
-        commits = subst (λ y. Commits base (withdrawn_in y) (announced_in y) x) split (subst₂ (λ y z. Commits base y z x) (sym w) (sym a) c);
-        order = subst (λ y. WithdrawsFirst y) split (withdraws_order ws rest (announces_order vs end last.none last.first));
-      }
-
+  -- a response with these records
   responds : (q : Question) (base x : VrpSet) (older : List VrpSet) (ws vs : List Payload) → IsOwn home.session q → i.sets ≡ x ∷ older → IsAnswered pv (records ws vs) → Commits base ws vs x → FromCache all pv home q (response_of pv (session_in pv i) timing (record { serial = serial_at i.start (length older); set = x }) (records ws vs))
       → Answers all pv home q base (response_of pv (session_in pv i) timing (record { serial = serial_at i.start (length older); set = x }) (records ws vs))
   unfolding newest
   responds q base x older ws vs own e h commits from =
       let serial : ℕ = serial_at i.start (length older) in
-      let tail : List Unit = tail_of (records ws vs) (session_in pv i) (serial_at i.start (length older)) in
-      let ends = records_end base x ws vs (session_in pv i) (serial_at i.start (length older)) commits in
-      let leads = commits_lead base x ws vs commits (sets_fit x older e).within_limit pv timing (session_in pv i) (serial_at i.start (length older)) q home.session in
+      let tail : List Unit = records ws vs ++ last_of pv (session_in pv i) serial in
+      let k = records_end pv (session_in pv i) serial ws vs in
+      let leads = commits_lead base x ws vs commits (sets_fit x older e).within_limit pv timing (session_in pv i) serial q home.session in
       record {
         replies = response tail (ap (λ s. CacheResponse s ∷ tail) (sym same)) own (record {
-          serial = serial_at i.start (length older);
+          serial = serial;
           set = x;
           stands = newest x older e;
-          leads = subst₂ (λ s y. Leads base (nothing_yet q home.session) y s (serial_at i.start (length older)) x) (sym same) (sym (append_assoc (map (λ v. Prefix false v) ws) (map (λ v. Prefix true v) vs) (last_of pv (session_in pv i) (serial_at i.start (length older))))) leads;
+          leads = subst (λ s. Leads base (nothing_yet q home.session) tail s serial x) (sym same) leads;
           since = since x older e;
           from = subst (λ s. FromCache all pv home q (CacheResponse s ∷ tail)) (sym same) from;
-          ends = subst (λ s. EndsWith s (serial_at i.start (length older)) tail) (sym same) ends.ends;
-          commits = ends.commits;
-          order = (ends.order, inl refl);
+          ends = subst (λ s. EndsWith s serial tail) (sym same) k.ends;
+          commits = subst₂ (λ w a. Commits base w a x) (sym k.withdraws) (sym k.announces) commits;
+          order = (k.order, inl refl);
         });
         from = from;
         answered = answered_response pv (session_in pv i) (serial_at i.start (length older)) x (records ws vs) low (serial_low i.start (length older)) h;
