@@ -10,7 +10,7 @@ use Rattle.vrps.specs.Instance.{Instance, versions, versions_from}
 use Rattle.vrps.specs.VrpSet.{VrpSet}
 use Rattle.rtr_pdu.specs.declared.version.Version.{Version}
 use Rattle.rtr_pdu.specs.declared.version.Version.TheVariants.{V1}
-use Rattle.rtr_pdu.specs.Judging.{Judgement, judge}
+use Rattle.rtr_pdu.specs.Judging.{Judgement, Whole, judge}
 use Rattle.rtr_pdu.specs.Unit.{IsUnitOf}
 use Rattle.rtr_pdu.specs.Version.{first_version, header_version}
 use Rattle.rtr_pdu.specs.declared.unit.Unit.{Unit}
@@ -22,6 +22,7 @@ use Rattle.rtr_ends.specs.LinkRules.{Router}
 use Rattle.rtr_ends.specs.RouterLink.{Link, Closed, Asked, Ended, is_reading}
 use Rattle.rtr_ends.specs.Transcript.{Question, query, base_of, of_version}
 use Rattle.rtr_ends.proofs.TableLaws.{false_true}
+use Rattle.rtr_ends.proofs.Effects.{either}
 use Rattle.rtr_ends.proofs.FeedingLaws.{feed_keeps}
 use Rattle.rtr_world.specs.OneAnswer.{IsOfNow, NotifiesOf, OwnNotifies, units_in, without_notifies}
 use Rattle.rtr_world.specs.World.{is_read, timing}
@@ -33,8 +34,8 @@ use Rattle.rtr_world.proofs.UnitsAtRouters.{live_link}
 use Rattle.rtr_world.proofs.SentLaws.{early_notice, early_own, own-append, units_more}
 use Rattle.prefixes.proofs.Basics.{all_both}
 use Rattle.rtr_world.proofs.SideSteps.{live_of}
-use Rattle.rtr_world.proofs.UnitStreams.{MaySpeak, Stream, byte_version, held_version, ByteCase, FirstIn, first_in, partly, wholly, one_case, stream-append, all_bytes}
-use Rattle.rtr_world.proofs.Versions.{TableAt, Present, held_at, Seen, reads_now, seen_after}
+use Rattle.rtr_world.proofs.UnitStreams.{MaySpeak, Stream, byte_version, held_version, ByteCase, first_in, head_is, partly, tail_is, wholly, one_case, stream-append, all_bytes}
+use Rattle.rtr_world.proofs.Versions.{Present, held_at, Seen, reads_now, seen_after}
 
 none_is : (out : List ℕ) → not (is_none out) ≡ false → out ≡ []
 none_is [] h = refl
@@ -78,31 +79,32 @@ brings i m b = conn_moment_of i (finds_memory m.wanting) (version_at m.conn (b �
 
 module _ (all : List Instance) (i : Instance) (p : Present all i) (keep : ℕ) (home : Option Seen) (keeps : (h : Seen) → home ≡ Some h → h.keep ≡ keep) (r : Router) (down : List ℕ) where
   -- What the router waits for, once the cache has read its question whole
-  record IsWhole (h : Seen) (l : Link) (u : Unit) (more rest : List Unit) : Type 0 where
-    q : Question
-    asks : l ≡ Asked q
-    is : u ≡ query q
-    no_more : more ≡ []
-    none : rest ≡ []
+  record IsWhole (h : Seen) (q : Question) (coming : List Unit) (up : List ℕ) : Type 0 where
+    asks : r.link ≡ Asked q
+    none : without_notifies coming ≡ []
     fits : QuestionFits h.session q (of_version r.spoken r.version)
+    out : Stream [] (up ++ r.out) []
 
-  whole_question : (h : Seen) (l : Link) (u : Unit) (more rest : List Unit) → is_reading l ≡ true → Shape all r.spoken h l r.agreed r.version r.table (u ∷ more) rest → IsWhole h l u more rest
-  whole_question h Closed u more rest live s = false_true live
-  whole_question h (Ended end) u more rest live s = false_true live
-  whole_question h (Asked q) u more rest live s =
+  whole_question : (h : Seen) (l : Link) (u : Unit) (more coming : List Unit) → r.link ≡ l → is_reading l ≡ true → Shape all r.spoken h l r.agreed r.version r.table (u ∷ more) (without_notifies coming)
+      → (q : Question) × (u ≡ query q) × ((up : List ℕ) → Stream [] (up ++ r.out) (in_version r.spoken more) → IsWhole h q coming up)
+  whole_question h Closed u more coming is live s = false_true live
+  whole_question h (Ended end) u more coming is live s = false_true live
+  whole_question h (Asked q) u more coming is live s =
       elim (s.1) [
-        | inl w ↦ (let e : u ∷ more ≡ query q ∷ [] = w.0 in record { q = q; asks = refl; is = cc; no_more = cc; none = w.1; fits = s.0 })
+        | inl w ↦ (
+            let e : u ∷ more ≡ query q ∷ [] = w.0 in
+            (q, head_is u (query q) more [] e, λ up out. record { asks = is; none = w.1; fits = s.0; out = subst (λ x. Stream [] (up ++ r.out) (in_version r.spoken x)) (tail_is u (query q) more [] e) out }))
         | inr w ↦ absurd (let e : u ∷ more ≡ [] = w.0 in cc)
       ]
-  whole_question h _ u more rest live s = absurd (let e : u ∷ more ≡ [] = s.0 in cc)
+  whole_question h _ u more coming is live s = absurd (let e : u ∷ more ≡ [] = s.0 in cc)
 
   -- The cache has read the question, and these PDUs are the answer.
-  answered : (o : Conn) (up bs : List ℕ) (h : Seen) (f : Flow all i h r (Some o) up down) (q : Question) (units : List Unit) (st : Connection) → st.version ≡ Some r.spoken → o.state.due ≡ [] → st.due ≡ sent_all r.spoken units → Stream [] (bs ++ r.out) [] → r.link ≡ Asked q
-      → without_notifies (units_in f.coming) ≡ [] → QuestionFits h.session q (of_version r.spoken r.version) → IsAnswered r.spoken units → Replies all r.spoken (record h { read = Some i }) q (base_of q r.table) units → OneReply all r.spoken (record h { read = Some i }) q units → Live all i (Some (record h { read = Some i })) r (Some (record { state = st; held = [] })) bs down
-  answered o up bs h f q units st spoken eo due up_stream link rest fits is replies one =
+  answered : (o : Conn) (up bs : List ℕ) (h : Seen) (f : Flow all i h r (Some o) up down) (q : Question) (units : List Unit) (st : Connection) → st.version ≡ Some r.spoken → o.state.due ≡ [] → st.due ≡ sent_all r.spoken units → IsWhole h q (units_in f.coming) bs → IsAnswered r.spoken units
+      → Replies all r.spoken (record h { read = Some i }) q (base_of q r.table) units → OneReply all r.spoken (record h { read = Some i }) q units → Live all i (Some (record h { read = Some i })) r (Some (record { state = st; held = [] })) bs down
+  answered o up bs h f q units st spoken eo due w is replies one =
       let op : Open i r.spoken h r.out up f.wanted f.coming r.agreed f.lost o = f.open_at in
       let whole : without_notifies (units_in (f.coming ++ in_version r.spoken units)) ≡ units =
-      ap without_notifies (units_more r.spoken f.coming units) ∙ without-append (units_in f.coming) units ∙ ap (λ x. x ++ without_notifies units) rest ∙ plain_stays units is.plain in (
+      ap without_notifies (units_more r.spoken f.coming units) ∙ without-append (units_in f.coming) units ∙ ap (λ x. x ++ without_notifies units) w.none ∙ plain_stays units is.plain in (
         record h { read = Some i },
         refl,
         record {
@@ -114,12 +116,12 @@ module _ (all : List Instance) (i : Instance) (p : Present all i) (keep : ℕ) (
             notifies = own-append r.agreed r.spoken h.made f.coming units f.notifies (plain_notifies (session_in r.spoken h.made) units is.plain);
             own = f.own;
             mine = f.mine;
-            shape = subst₂ (λ x y. Shape all r.spoken (record h { read = Some i }) x r.agreed r.version r.table [] y) (sym link) (sym whole) (fits, inr (refl, replies, one));
+            shape = subst₂ (λ x y. Shape all r.spoken (record h { read = Some i }) x r.agreed r.version r.table [] y) (sym w.asks) (sym whole) (w.fits, inr (refl, replies, one));
           };
           lost = f.lost;
           downward = subst (λ x. Stream r.held (down ++ (x ++ f.lost)) (f.coming ++ in_version r.spoken units)) (sym due) (stream_more r.spoken r.held down o.state.due f.lost f.coming units eo op.whole is.fit f.downward);
           open_at = record {
-            upward = up_stream;
+            upward = w.out;
             spoken = subst (MaySpeak r.spoken) (sym spoken) refl;
             unheard = subst (λ v. Unheard (header_version v []) h.made (f.coming ++ in_version r.spoken units) r.agreed) (sym spoken) tt;
             linked = record { whole = op.whole; session = op.session; made = op.made; later = op.later };
@@ -127,97 +129,78 @@ module _ (all : List Instance) (i : Instance) (p : Present all i) (keep : ℕ) (
         },
       )
 
-  -- it reads a byte
-  -- what lives behind a byte that is judged so
-  abbrev LiveBy : Taking → List ℕ → Bool → List ℕ → Judgement → Type 0
-  LiveBy m bs memory bytes j =
-      Live all i (seen_after i (moment_reads (conn_moment_of i memory r.spoken bytes j)) home) r (Some (with_moment keep timing bytes m.conn (conn_moment_of i memory r.spoken bytes j))) bs down
-
-  byte_live : (m : Taking) (b : ℕ) (bs : List ℕ) (h : Seen) (f : Flow all i h r (Some m.conn) (b ∷ bs) down) → home ≡ Some h → m.conn.state.due ≡ [] → is_reading r.link ≡ true → TableAt all r.version r.table
-      → ByteCase r.spoken false m.conn.held b (bs ++ r.out) (in_version r.spoken f.wanted) → (memory : Bool) → LiveBy m bs memory (m.conn.held ++ b ∷ []) (judge r.spoken false (m.conn.held ++ b ∷ []))
-  byte_live m b bs h f eh eo live table (partly e s) memory =
-      let op : Open i r.spoken h r.out (b ∷ bs) f.wanted f.coming r.agreed f.lost m.conn = f.open_at in
-      subst (λ j. LiveBy m bs memory (m.conn.held ++ b ∷ []) j) (sym e) (
-        h,
-        eh,
-        record {
-          said = f.said;
-          lost = f.lost;
-          downward = f.downward;
-          open_at = record {
-            upward = s;
-            spoken = op.spoken;
-            unheard = unheard_more m.conn.state.version m.conn.held (b ∷ []) h.made f.coming r.agreed op.unheard;
-            linked = op.linked;
-          };
-        },
-      )
-  byte_live m b bs h f eh eo live table (wholly x more is e s) memory =
-      subst (λ j. LiveBy m bs memory bytes j) (sym e) (by_memory (takes_memory r.spoken i u && not memory) refl)
+  -- A byte is kept, or the question is whole with it: then memory runs out, or it is answered.
+  conn_by : (P : Option ConnMoment → Conn → Type 0) (m : Taking) (b : ℕ) (bs : List ℕ) (h : Seen) (f : Flow all i h r (Some m.conn) (b ∷ bs) down) → is_reading r.link ≡ true → let bytes : List ℕ = m.conn.held ++ b ∷ [] in
+      (Stream bytes (bs ++ r.out) (in_version r.spoken f.wanted) → P None (record m.conn { held = bytes }))
+      → ((q : Question) → IsWhole h q (units_in f.coming) bs → takes_memory r.spoken i (query q) ≡ true → not (finds_memory m.wanting) ≡ true → let x : ConnMoment = Wanting r.spoken i (query q) bytes in P (Some x) (record { state = conn_after keep timing m.conn.state x; held = [] }))
+      → ((q : Question) → IsWhole h q (units_in f.coming) bs → let x : ConnMoment = Read r.spoken i (query q) bytes in P (Some x) (record { state = conn_after keep timing m.conn.state x; held = [] }))
+      → P (brings i m b) (conn_byte keep timing i m b).conn
+  unfolding conn_byte
+  conn_by P m b bs h f live part lack read =
+      subst (λ v. P (conn_moment_of i memory v bytes (judge v false bytes)) (with_moment keep timing bytes m.conn (conn_moment_of i memory v bytes (judge v false bytes))))
+      (sym (byte_version r.spoken m.conn.state.version m.conn.held b (bs ++ r.out) f.wanted f.open_at.spoken f.open_at.upward)) (by_case (one_case r.spoken false m.conn.held b (bs ++ r.out) f.wanted f.open_at.upward))
     where
       bytes : List ℕ
       bytes = m.conn.held ++ b ∷ []
 
-      u : Unit
-      u = x.unit
+      memory : Bool
+      memory = finds_memory m.wanting
 
-      first : FirstIn r.spoken f.wanted x more
-      first = first_in r.spoken f.wanted x more is
+      Judged : Judgement → Type 0
+      Judged j = P (conn_moment_of i memory r.spoken bytes j) (with_moment keep timing bytes m.conn (conn_moment_of i memory r.spoken bytes j))
 
-      op : Open i r.spoken h r.out (b ∷ bs) f.wanted f.coming r.agreed f.lost m.conn
-      op = f.open_at
-
-      w : IsWhole h r.link x.unit first.rest (without_notifies (units_in f.coming))
-      w = whole_question h r.link x.unit first.rest (without_notifies (units_in f.coming)) live (subst (λ y. Shape all r.spoken h r.link r.agreed r.version r.table y (without_notifies (units_in f.coming))) first.is f.shape)
-
-      up_stream : Stream [] (bs ++ r.out) []
-      up_stream = subst (λ y. Stream [] (bs ++ r.out) y) (first.more_is ∙ ap (in_version r.spoken) w.no_more) s
-
-      k : Seen
-      k = record h { read = Some i }
-
-      seen : (o : Conn) → Live all i (Some k) r (Some o) bs down → Live all i (reads_now i home) r (Some o) bs down
-      seen o l = subst (λ x. Live all i x r (Some o) bs down) (sym (ap (reads_now i) eh)) l
-
-      by_memory : (t : Bool) → (takes_memory r.spoken i u && not memory) ≡ t
-          → Live all i (seen_after i (is_read (if t then Wanting r.spoken i u bytes else Read r.spoken i u bytes)) home) r (Some (record { state = conn_after keep timing m.conn.state (if t then Wanting r.spoken i u bytes else Read r.spoken i u bytes); held = [] })) bs down
-      by_memory true wants =
-          seen (record { state = conn_after keep timing m.conn.state (Wanting r.spoken i u bytes); held = [] })
-          (answered m.conn (b ∷ bs) bs h f w.q (report 1 [] ∷ []) (conn_after keep timing m.conn.state (Wanting r.spoken i u bytes)) refl eo refl up_stream w.asks w.none w.fits
-          (answered_report r.spoken 1 [] (omega arith) (all_bytes [] tt)) (no_memory refl)
-          (inr (record { cache = i; was = is_now all i p r.spoken k op.session op.made op.later refl; takes = subst (λ x. takes_memory r.spoken i x ≡ true) w.is (and_parts (takes_memory r.spoken i u) (not memory) wants).0 }, refl)))
-      by_memory false wants =
-          let a = answer_answers all i p r.spoken k op.session op.made keep w.q (of_version r.spoken r.version) r.table w.fits (held_at all r.spoken r.version r.table table) (from_now all i p r.spoken k op.session op.made w.q keep (keeps h eh) op.later refl) in
-          seen (record { state = conn_after keep timing m.conn.state (Read r.spoken i u bytes); held = [] })
-          (answered m.conn (b ∷ bs) bs h f w.q (answer r.spoken i keep timing (query w.q)).units (conn_after keep timing m.conn.state (Read r.spoken i u bytes)) refl eo (ap (λ x. sent_all r.spoken (answer r.spoken i keep timing x).units) w.is) up_stream w.asks w.none w.fits a.answered a.replies (inl a.from))
+      by_case : ByteCase r.spoken false m.conn.held b (bs ++ r.out) (in_version r.spoken f.wanted) → Judged (judge r.spoken false bytes)
+      by_case (partly e s) = subst Judged (sym e) (part s)
+      by_case (wholly x more is e s) =
+          let first = first_in r.spoken f.wanted x more is in
+          let w = whole_question h r.link x.unit first.rest (units_in f.coming) refl live (subst (λ y. Shape all r.spoken h r.link r.agreed r.version r.table y (without_notifies (units_in f.coming))) first.is f.shape) in
+          let whole = w.2 bs (subst (Stream [] (bs ++ r.out)) first.more_is s) in
+          subst Judged (sym e) (subst (λ u. Judged (Whole u)) (sym w.1)
+          (either (λ x. P (Some x) (record { state = conn_after keep timing m.conn.state x; held = [] })) (takes_memory r.spoken i (query w.0) && not memory) (Wanting r.spoken i (query w.0) bytes) (Read r.spoken i (query w.0) bytes)
+          (λ t. let parts = and_parts (takes_memory r.spoken i (query w.0)) (not memory) t in lack w.0 whole parts.0 parts.1) (λ t. read w.0 whole)))
 
   abbrev GoodC : Conn → List ℕ → Type 0
   GoodC o up = GoodRouter all i home (Some o) up down r
 
   byte_good : (m : Taking) (b : ℕ) (bs : List ℕ) → conn_stops m.conn ≡ false → GoodC m.conn (b ∷ bs) → GoodRouter all i (seen_after i (moment_reads (brings i m b)) home) (Some (conn_byte keep timing i m b).conn) bs down r
-  unfolding conn_byte
-  byte_good m b bs goes_on g = record { table = g.table; unmarked = g.unmarked; link = by_link (is_reading r.link) refl }
+  byte_good m b bs on g = record { table = g.table; unmarked = g.unmarked; link = by_link (is_reading r.link) refl }
     where
-      due : m.conn.state.due ≡ []
-      due = none_is m.conn.state.due (or_parts m.conn.state.ended (not (is_none m.conn.state.due)) goes_on).1
-
-      -- the moment that the byte brings and the connection behind it, where it is judged by this version
-      came : Version → Option ConnMoment
-      came v = conn_moment_of i (finds_memory m.wanting) v (m.conn.held ++ b ∷ []) (judge v false (m.conn.held ++ b ∷ []))
-
-      behind : Version → Conn
-      behind v = with_moment keep timing (m.conn.held ++ b ∷ []) m.conn (came v)
-
-      by_link : (live : Bool) → is_reading r.link ≡ live → GoodLink all i (seen_after i (moment_reads (came (version_at m.conn (b ∷ [])))) home) r.link r (Some (behind (version_at m.conn (b ∷ [])))) bs down
-      by_link false dead =
-          dead_link r.link all i home (seen_after i (moment_reads (came (version_at m.conn (b ∷ [])))) home) r (Some m.conn) (Some (behind (version_at m.conn (b ∷ [])))) (b ∷ bs) bs down down dead g.link
+      by_link : (live : Bool) → is_reading r.link ≡ live → GoodLink all i (seen_after i (moment_reads (brings i m b)) home) r.link r (Some (conn_byte keep timing i m b).conn) bs down
+      by_link false dead = dead_link r.link all i home (seen_after i (moment_reads (brings i m b)) home) r (Some m.conn) (Some (conn_byte keep timing i m b).conn) (b ∷ bs) bs down down dead g.link
       by_link true live =
-          let l = live_of r.link all i home r (Some m.conn) (b ∷ bs) down g.link live in
-          let op : Open i r.spoken l.0 r.out (b ∷ bs) l.2.wanted l.2.coming r.agreed l.2.lost m.conn = l.2.open_at in
-          let version : version_at m.conn (b ∷ []) ≡ r.spoken = byte_version r.spoken m.conn.state.version m.conn.held b (bs ++ r.out) l.2.wanted op.spoken op.upward in
-          subst (λ v. GoodLink all i (seen_after i (moment_reads (came v)) home) r.link r (Some (behind v)) bs down) (sym version)
-          (live_link all i (seen_after i (moment_reads (came r.spoken)) home) (Some (behind r.spoken)) bs down r r.link refl live
-          (byte_live m b bs l.0 l.2 l.1 due live g.table (one_case r.spoken false m.conn.held b (bs ++ r.out) l.2.wanted op.upward) (finds_memory m.wanting)))
+          live_link all i (seen_after i (moment_reads (brings i m b)) home) (Some (conn_byte keep timing i m b).conn) bs down r r.link refl live
+          (conn_by (λ came o. Live all i (seen_after i (moment_reads came) home) r (Some o) bs down) m b bs l.0 l.2 live
+          (λ s. (
+            l.0,
+            l.1,
+            record {
+              said = l.2.said;
+              lost = l.2.lost;
+              downward = l.2.downward;
+              open_at = record { upward = s; spoken = op.spoken; unheard = unheard_more m.conn.state.version m.conn.held (b ∷ []) l.0.made l.2.coming r.agreed op.unheard; linked = op.linked };
+            },
+          ))
+          (λ q w takes wants. seen _
+          (answered m.conn (b ∷ bs) bs l.0 l.2 q (report 1 [] ∷ []) (conn_after keep timing m.conn.state (Wanting r.spoken i (query q) (m.conn.held ++ b ∷ []))) refl due refl w (answered_report r.spoken 1 [] (omega arith) (all_bytes [] tt)) (no_memory refl)
+          (inr (record { cache = i; was = is_now all i p r.spoken k op.session op.made op.later refl; takes = takes }, refl))))
+          (λ q w.
+          let a = answer_answers all i p r.spoken k op.session op.made keep q (of_version r.spoken r.version) r.table w.fits (held_at all r.spoken r.version r.table g.table) (from_now all i p r.spoken k op.session op.made q keep (keeps l.0 l.1) op.later refl) in
+          seen _ (answered m.conn (b ∷ bs) bs l.0 l.2 q (answer r.spoken i keep timing (query q)).units (conn_after keep timing m.conn.state (Read r.spoken i (query q) (m.conn.held ++ b ∷ []))) refl due refl w a.answered a.replies (inl a.from))))
+        where
+          due : m.conn.state.due ≡ []
+          due = none_is m.conn.state.due (or_parts m.conn.state.ended (not (is_none m.conn.state.due)) on).1
+
+          l : Live all i home r (Some m.conn) (b ∷ bs) down
+          l = live_of r.link all i home r (Some m.conn) (b ∷ bs) down g.link live
+
+          op : Open i r.spoken l.0 r.out (b ∷ bs) l.2.wanted l.2.coming r.agreed l.2.lost m.conn
+          op = l.2.open_at
+
+          k : Seen
+          k = record (l.0) { read = Some i }
+
+          seen : (o : Conn) → Live all i (Some k) r (Some o) bs down → Live all i (reads_now i home) r (Some o) bs down
+          seen o h = subst (λ x. Live all i x r (Some o) bs down) (sym (ap (reads_now i) l.1)) h
 
   -- What is due then is what was, or the answer to the question as the cache is now.
   abbrev pub DueNow : List ℕ → Option ℕ → Conn → Type 0
@@ -233,47 +216,12 @@ module _ (all : List Instance) (i : Instance) (p : Present all i) (keep : ℕ) (
   byte_counts wanting m b same none =
       ap (counted (judge (version_at m.conn (b ∷ [])) false (m.conn.held ++ b ∷ []))) (same none) ∙ none_counted (judge (version_at m.conn (b ∷ [])) false (m.conn.held ++ b ∷ []))
 
-  byte_now : (old : List ℕ) (wanting : Option ℕ) (m : Taking) (b : ℕ) (bs : List ℕ) → conn_stops m.conn ≡ false → is_reading r.link ≡ true → (wanting ≡ None → m.wanting ≡ None) → GoodC m.conn (b ∷ bs) → DueNow old wanting m.conn → DueNow old wanting (conn_byte keep timing i m b).conn
-  unfolding conn_byte
-  byte_now old wanting m b bs goes_on live same g now =
-      subst (λ v. DueNow old wanting (with_moment keep timing bytes m.conn (conn_moment_of i memory v bytes (judge v false bytes)))) (sym version) (by_case (one_case r.spoken false m.conn.held b (bs ++ r.out) l.2.wanted op.upward))
-    where
-      l : Live all i home r (Some m.conn) (b ∷ bs) down
-      l = live_of r.link all i home r (Some m.conn) (b ∷ bs) down g.link live
-
-      op : Open i r.spoken l.0 r.out (b ∷ bs) l.2.wanted l.2.coming r.agreed l.2.lost m.conn
-      op = l.2.open_at
-
-      bytes : List ℕ
-      bytes = m.conn.held ++ b ∷ []
-
-      memory : Bool
-      memory = finds_memory m.wanting
-
-      version : version_at m.conn (b ∷ []) ≡ r.spoken
-      version = byte_version r.spoken m.conn.state.version m.conn.held b (bs ++ r.out) l.2.wanted op.spoken op.upward
-
-      by_case : ByteCase r.spoken false m.conn.held b (bs ++ r.out) (in_version r.spoken l.2.wanted) → DueNow old wanting (with_moment keep timing bytes m.conn (conn_moment_of i memory r.spoken bytes (judge r.spoken false bytes)))
-      by_case (partly e s) = subst (λ j. DueNow old wanting (with_moment keep timing bytes m.conn (conn_moment_of i memory r.spoken bytes j))) (sym e) now
-      by_case (wholly x more is e s) =
-          subst (λ j. DueNow old wanting (with_moment keep timing bytes m.conn (conn_moment_of i memory r.spoken bytes j))) (sym e) (inr (subst (λ y. IsOfNow r.spoken i keep wanting y (read (takes_memory r.spoken i u && not memory)).due) (sym w.asks) (by_memory (takes_memory r.spoken i u && not memory) refl)))
-        where
-          u : Unit
-          u = x.unit
-
-          first : FirstIn r.spoken l.2.wanted x more
-          first = first_in r.spoken l.2.wanted x more is
-
-          w : IsWhole l.0 r.link x.unit first.rest (without_notifies (units_in l.2.coming))
-          w = whole_question l.0 r.link x.unit first.rest (without_notifies (units_in l.2.coming)) live (subst (λ y. Shape all r.spoken l.0 r.link r.agreed r.version r.table y (without_notifies (units_in l.2.coming))) first.is l.2.shape)
-
-          read : Bool → Connection
-          read t = conn_after keep timing m.conn.state (if t then Wanting r.spoken i u bytes else Read r.spoken i u bytes)
-
-          by_memory : (t : Bool) → (takes_memory r.spoken i u && not memory) ≡ t → IsOfNow r.spoken i keep wanting (Asked w.q) (read t).due
-          by_memory true wants =
-              let parts = and_parts (takes_memory r.spoken i u) (not memory) wants in inr (some_wants wanting m.wanting same parts.1, subst (λ x. takes_memory r.spoken i x ≡ true) w.is parts.0, refl)
-          by_memory false wants = inl (ap (λ x. sent_all r.spoken (answer r.spoken i keep timing x).units) w.is)
+  byte_now : (old : List ℕ) (wanting : Option ℕ) (m : Taking) (b : ℕ) (bs : List ℕ) → is_reading r.link ≡ true → (wanting ≡ None → m.wanting ≡ None) → GoodC m.conn (b ∷ bs) → DueNow old wanting m.conn → DueNow old wanting (conn_byte keep timing i m b).conn
+  byte_now old wanting m b bs live same g now =
+      let l = live_of r.link all i home r (Some m.conn) (b ∷ bs) down g.link live in
+      conn_by (λ came o. DueNow old wanting o) m b bs l.0 l.2 live (λ s. now)
+      (λ q w takes wants. inr (subst (λ x. IsOfNow r.spoken i keep wanting x (sent_all r.spoken (report 1 [] ∷ []))) (sym w.asks) (inr (some_wants wanting m.wanting same wants, takes, refl))))
+      (λ q w. inr (subst (λ x. IsOfNow r.spoken i keep wanting x (sent_all r.spoken (answer r.spoken i keep timing (query q)).units)) (sym w.asks) (inl refl)))
 
   -- a notify
   notice_fit : (pv : Version) (sets : List VrpSet) → AllByRecursion (IsUnitOf pv) (notice (session_in pv i) (versions_from i.start sets))
@@ -398,4 +346,4 @@ module _ (all : List Instance) (i : Instance) (p : Present all i) (keep : ℕ) (
   pub fed_now : (old tail : List ℕ) (m : Taking) (piece : List ℕ) (wanting : Option ℕ) → is_reading r.link ≡ true → (wanting ≡ None → m.wanting ≡ None) → GoodAt m (piece ++ tail) → DueBy old wanting m.conn → DueBy old wanting (feed (λ (x : Taking). conn_stops x.conn) (conn_byte keep timing i) m piece).machine.conn
   fed_now old tail m piece wanting live same g now =
       (feed_keeps (λ (x : Taking). conn_stops x.conn) (conn_byte keep timing i) (λ rest x. (wanting ≡ None → x.wanting ≡ None) × GoodAt x (rest ++ tail) × DueBy old wanting x.conn)
-      (λ b rest x on k. (byte_counts all i p keep home keeps r down wanting x b k.0, goes_good x b (rest ++ tail) on k.1, byte_now all i p keep (seen_by x) (keeps_by (list_any is_read x.moments)) r down old wanting x b (rest ++ tail) on live k.0 k.1 k.2)) m piece (same, g, now)).2
+      (λ b rest x on k. (byte_counts all i p keep home keeps r down wanting x b k.0, goes_good x b (rest ++ tail) on k.1, byte_now all i p keep (seen_by x) (keeps_by (list_any is_read x.moments)) r down old wanting x b (rest ++ tail) live k.0 k.1 k.2)) m piece (same, g, now)).2
