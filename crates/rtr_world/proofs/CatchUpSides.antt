@@ -9,13 +9,13 @@ use Rattle.vrps.specs.Instance.{Instance, versions, versions_from}
 use Rattle.vrps.specs.VrpSet.{VrpSet}
 use Rattle.vrps.specs.Serial.{serial_at}
 use Rattle.rtr_pdu.specs.Judging.{Judgement, Whole, judge}
-use Rattle.rtr_pdu.specs.declared.unit.Unit.TheVariants.{SerialNotify, ErrorReport}
+use Rattle.rtr_pdu.specs.declared.unit.Unit.TheVariants.{ErrorReport}
 use Rattle.rtr_pdu.specs.declared.version.Version.{Version}
 use Rattle.rtr_pdu.specs.declared.unit.Unit.{Unit}
 use Rattle.rtr_ends.specs.Answer.{session_in, report, whole_answer}
 use Rattle.rtr_ends.specs.Cache.{Conn, is_none, finds_memory}
 use Rattle.rtr_ends.specs.Feeding.{feed}
-use Rattle.rtr_ends.specs.LinkRules.{Router, emptied, may_lack, is_strange, on_unit}
+use Rattle.rtr_ends.specs.LinkRules.{Router, emptied, may_lack, on_unit}
 use Rattle.rtr_ends.specs.Router.{Receiving, clocked, close, connects_at, expired, receives, router_byte, router_pulled, router_stops, with_bytes}
 use Rattle.rtr_ends.specs.RouterLink.{Link, Closed, Idle, Ended, is_closed, is_reading}
 use Rattle.rtr_ends.specs.Transcript.{Committed, is_over, later, At, AskReset, base_of, led_to, of_version}
@@ -23,16 +23,16 @@ use Rattle.rtr_ends.proofs.ConsumedUnits.{unit_held}
 use Rattle.rtr_ends.proofs.FeedingLaws.{feed_keeps}
 use Rattle.rtr_ends.proofs.TableLaws.{false_true}
 use Rattle.rtr_world.specs.CatchUp.{IsMove, HoldsNewest, AreMoves, IdleIsCurrent, IsFresh, IsMoveOf}
-use Rattle.rtr_world.specs.History.{conn_due, Outcome, Done, Memory, after, Entry, LeadsFrom, side_at}
-use Rattle.rtr_world.specs.OneAnswer.{OwnNotifies, units_in, without_notifies}
+use Rattle.rtr_world.specs.History.{Outcome, Done, Memory, after, Entry, LeadsFrom, side_at}
+use Rattle.rtr_world.specs.OneAnswer.{units_in, without_notifies}
 use Rattle.rtr_world.specs.World.{Side, World, instances, SideEvent, Connect, RouterSends, CacheGets, CacheSends, RouterGets, Cut, connects, router_sends, cache_sends, cache_gets, router_gets, cut, side_step, side_part, side_refused, settle, tell_closed, timing, Event, On, goes_through, is_refused, new_world, on_side, settled}
 use Rattle.rtr_world.proofs.RouterCases.{expired_by, close_by}
 use Rattle.rtr_world.proofs.EventCalls.{told_closes, gets_keep, sends_keep, settle_keeps, lesser, part_by}
-use Rattle.rtr_world.proofs.Invariant.{Flow, Good, GoodRouter, Live, Shape, Mine, OneReply}
-use Rattle.rtr_world.proofs.SideSteps.{byte_good, clocked_good, live_of}
-use Rattle.rtr_world.proofs.UnitStreams.{byte_case, either_by, case_by, head_is}
+use Rattle.rtr_world.proofs.Invariant.{Good, GoodRouter, Live, Mine, OneReply}
+use Rattle.rtr_world.proofs.SideSteps.{byte_good, clocked_good, live_of, router_by}
+use Rattle.rtr_world.proofs.UnitStreams.{either_by, head_is}
 use Rattle.rtr_world.proofs.Versions.{Present, TableAt, some_is, Seen, IsSeen, HeldAt, Stands, has_sets, held_at, of_present}
-use Rattle.rtr_world.proofs.UnitEffects.{by_shape, not_strange}
+use Rattle.rtr_world.proofs.UnitEffects.{Belongs, by_shape}
 use Rattle.rtr_world.proofs.SideLaws.{all_new}
 use Rattle.rtr_world.proofs.KeptTables.{AllTell, SideTells, after_tells, new_side_tells}
 use Rattle.rtr_world.proofs.WorldSteps.{GoodWorld, after_good, new_good}
@@ -110,8 +110,8 @@ module _ (all : List Instance) (i : Instance) (p : Present all i) (r : Router) (
       let code : 2 ≡ 1 = ap code_of same in absurd (omega (arith, code))
 
   -- every PDU
-  unit_current : (u : Unit) (more wanted : List Unit) → is_reading r.link ≡ true → ((one serial : ℕ) → u ≡ SerialNotify one serial → is_strange r one ≡ false) → TableAt all r.version r.table → Shape all r.spoken h r.link r.agreed r.version r.table wanted (without_notifies (u ∷ more)) → C r → C (on_unit r.link u r)
-  unit_current u more wanted live quiet t shape = by_shape all h r (λ l v k. Current r.spoken i l r.version r.table r.now → C k) r.link u more wanted refl live quiet shape (record {
+  unit_current : (u : Unit) (more wanted : List Unit) → Belongs all h r u more wanted → TableAt all r.version r.table → C r → C (on_unit r.link u r)
+  unit_current u more wanted c t = by_shape all h r (λ l v k. Current r.spoken i l r.version r.table r.now → C k) u more wanted c (record {
     asks = λ one serial is s c. c.1;
     stays = λ l one serial is live s c. subst (λ x. Current r.spoken i x r.version r.table r.now) (sym is) c;
     replies = λ w. record {
@@ -232,13 +232,6 @@ seen_made keep i pv home seen h of he se is =
     record { made = k.0; session = k.2 ∙ ap (λ v. session_in v i) of; sets = k.3 }
 
 module _ (all : List Instance) (i : Instance) (p : Present all i) (keep : ℕ) (home : Option Instance) (seen : Option Seen) (is_seen : IsSeen keep home seen) (conn : Option Conn) (up : List ℕ) where
-  byte_current : (down : List ℕ) (r : Router) (b : ℕ) (memory : Bool) (h : Seen) (m : Made i r.spoken h) (f : Flow all i h r conn up (b ∷ down)) → is_reading r.link ≡ true → TableAt all r.version r.table → IsCurrent r.spoken i r
-      → IsCurrent r.spoken i (with_bytes memory (r.held ++ b ∷ []) r (judge r.spoken (not r.agreed) (r.held ++ b ∷ []))).router
-  byte_current down r b memory h m f live table c =
-      case_by (λ n. IsCurrent r.spoken i n.router) r b memory (down ++ (conn_due conn ++ f.lost)) f.coming (byte_case r.agreed r.spoken h.made r.held b (down ++ (conn_due conn ++ f.lost)) f.coming f.notifies f.downward) (λ s. c) (λ u w. tt)
-      (λ u more is s. unit_current all i p (record r { held = [] }) h m.made m.session m.sets u.unit (units_in more) f.wanted live (λ one serial e. not_strange h r u more one serial f.session (subst (OwnNotifies r.agreed r.spoken h.made) is f.notifies) e f.own f.mine) table
-      (subst (λ x. Shape all r.spoken h r.link r.agreed r.version r.table f.wanted (without_notifies (units_in x))) is f.shape) c)
-
   abbrev StaysFresh : List ℕ → Receiving → Type 0
   StaysFresh down m = GoodRouter all i seen conn up down m.router × FreshLink i home m.router
 
@@ -255,17 +248,20 @@ module _ (all : List Instance) (i : Instance) (p : Present all i) (keep : ℕ) (
           let of : n.spoken ≡ r.spoken = same_spoken down down' r n l (live_of n.link all i seen n conn up down' g.link e) in
           ((λ live. (of ∙ fresh.0 ∙ sym same, fresh.1)), subst (λ v. IsCurrent v i n) (sym of) c)
 
-  read_current : (down : List ℕ) (m : Receiving) (b : ℕ) → Live all i seen m.router conn up (b ∷ down) → is_reading m.router.link ≡ true → StaysFresh (b ∷ down) m → IsCurrent m.router.spoken i (router_byte m b).router
+  read_current : (down : List ℕ) (m : Receiving) (b : ℕ) → router_stops m.router ≡ false → StaysFresh (b ∷ down) m → IsCurrent m.router.spoken i (router_byte m b).router
   unfolding router_byte
-  read_current down m b l live s =
-      byte_current down m.router b (finds_memory m.wanting) l.0 (seen_made keep i m.router.spoken home seen l.0 l.2.version (s.1.0 live).1 l.1 is_seen) l.2 live s.0.table s.1.1
+  read_current down m b on s =
+      let r : Router = m.router in
+      router_by all i seen conn up (λ n. IsCurrent r.spoken i n.router) down r b (finds_memory m.wanting) on s.0 (λ h f e x. s.1.1) (λ h u e. tt) (λ h f e u more is x c.
+      let k = seen_made keep i r.spoken home seen h f.version (s.1.0 c.live).1 e is_seen in
+      unit_current all i p (record r { held = [] }) h k.made k.session k.sets u.unit (units_in more) f.wanted c s.0.table s.1.1)
 
   stays_byte : (tail : List ℕ) (b : ℕ) (rest : List ℕ) (m : Receiving) → router_stops m.router ≡ false → StaysFresh (b ∷ rest ++ tail) m → StaysFresh (rest ++ tail) (router_byte m b)
   stays_byte tail b rest m on s =
       let parts = and_parts (is_reading m.router.link) (is_none m.router.out) (true_of_not (is_reading m.router.link && is_none m.router.out) on) in
       let l = live_of m.router.link all i seen m.router conn up (b ∷ rest ++ tail) s.0.link parts.0 in
       let good = byte_good all i seen conn up (rest ++ tail) m b on s.0 in
-      (good, stays_fresh (b ∷ rest ++ tail) (rest ++ tail) m.router (router_byte m b).router l good (byte_speaks m b) (s.1.0 parts.0) (read_current (rest ++ tail) m b l parts.0 s))
+      (good, stays_fresh (b ∷ rest ++ tail) (rest ++ tail) m.router (router_byte m b).router l good (byte_speaks m b) (s.1.0 parts.0) (read_current (rest ++ tail) m b on s))
 
   -- it is handed a piece
   stays_fed : (tail : List ℕ) (m : Receiving) (piece : List ℕ) → StaysFresh (piece ++ tail) m

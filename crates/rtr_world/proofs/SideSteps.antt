@@ -1,7 +1,6 @@
 -- What happens at one router, its connection and its wires keeps the invariant.
-use Rattle.std.specs.Prelude.{◌≡◌, ℕ, Bool, true, false, not, ◌&&◌, List, [], ◌∷◌, ◌++◌, Option, Some, None, refl}
+use Rattle.std.specs.Prelude.{◌≡◌, ℕ, Bool, true, false, not, List, [], ◌∷◌, ◌++◌, Option, Some, None, refl}
 use Rattle.std.proofs.Common.{sym, ap, ◌∙◌, subst}
-use Rattle.std.proofs.lemmas.Bool.{and_parts}
 use Rattle.vrps.specs.Instance.{Instance}
 use Rattle.vrps.specs.VrpSet.{VrpSet, empty}
 use Rattle.rtr_pdu.specs.Version.{header_version}
@@ -9,25 +8,24 @@ use Rattle.rtr_pdu.specs.declared.version.Version.{Version}
 use Rattle.rtr_pdu.specs.Judging.{judge}
 use Rattle.rtr_pdu.specs.declared.unit.Unit.{Unit}
 use Rattle.rtr_ends.specs.Connection.{Sent, in_version}
-use Rattle.rtr_ends.specs.Cache.{Conn, is_none, finds_memory}
+use Rattle.rtr_ends.specs.Cache.{Conn, finds_memory}
 use Rattle.rtr_ends.specs.LinkRules.{Router, emptied, on_unit}
-use Rattle.rtr_ends.specs.Router.{Receiving, with_bytes, router_stops, router_byte, clocked, close, asks_if}
+use Rattle.rtr_ends.specs.Router.{Noted, Receiving, lacks, reads, silent, with_bytes, router_stops, router_byte, clocked, close, asks_if}
 use Rattle.rtr_ends.specs.RouterLink.{Link, Closed, Idle, Asked, Answering, Ended, is_reading, is_closed, is_idle}
 use Rattle.rtr_ends.specs.Transcript.{choose, Committed, Question, AskReset, AskSerial, is_serial, later, of_version}
-use Rattle.rtr_ends.proofs.KeptLaws.{none_is, same_base}
+use Rattle.rtr_ends.proofs.KeptLaws.{same_base}
 use Rattle.rtr_ends.proofs.TableLaws.{false_true}
 use Rattle.rtr_world.specs.History.{conn_due}
 use Rattle.rtr_world.specs.OneAnswer.{OwnNotifies, units_in, without_notifies}
 use Rattle.rtr_pdu.specs.Stream.{is_notify}
 use Rattle.rtr_world.proofs.Invariant.{OfAnswer, Shape, QuestionFits, Open, Unheard, Flow, Live, GoodLink, GoodRouter, if_open}
 use Rattle.rtr_world.proofs.UnitsAtRouters.{Reads, asking_good, live_link, question_fits, unit_good}
-use Rattle.rtr_ends.proofs.Effects.{by_clock, by_close, goes_on}
+use Rattle.rtr_ends.proofs.Effects.{by_clock, by_close, goes_on, goes_so}
 use Rattle.prefixes.proofs.Basics.{false_of_not}
-use Rattle.rtr_world.proofs.UnitEffects.{not_strange}
+use Rattle.rtr_world.proofs.UnitEffects.{Belongs, not_strange}
 use Rattle.rtr_world.proofs.SentLaws.{own_rest}
 use Rattle.rtr_world.proofs.UnitStreams.{Stream, byte_case, case_by}
 use Rattle.rtr_world.proofs.Versions.{TableAt, Seen}
-use Rattle.prefixes.proofs.Basics.{true_of_not}
 
 -- A link keeps its state; what lives goes on to live.
 pub live_map : (l : Link) (all all' : List Instance) (i i' : Instance) (home home' : Option Seen) (r r' : Router) (conn conn' : Option Conn) (up up' down down' : List ℕ)
@@ -47,34 +45,49 @@ fits_nothing session AskReset h = tt
 fits_nothing session (AskSerial one serial) h = false_true (sym h)
 
 module _ (all : List Instance) (i : Instance) (home : Option Seen) (conn : Option Conn) (up : List ℕ) where
-  -- it reads a byte
-  byte_read : (down : List ℕ) (r : Router) (b : ℕ) (memory : Bool) (h : Seen) (f : Flow all i h r conn up (b ∷ down)) → home ≡ Some h → is_reading r.link ≡ true → r.out ≡ [] → TableAt all r.version r.table → r.mark ≡ false
-      → GoodRouter all i home conn up down (with_bytes memory (r.held ++ b ∷ []) r (judge r.spoken (not r.agreed) (r.held ++ b ∷ []))).router
-  byte_read down r b memory h f eh live none table mark =
-      case_by (λ n. GoodRouter all i home conn up down n.router) r b memory (down ++ (conn_due conn ++ f.lost)) f.coming (byte_case r.agreed r.spoken h.made r.held b (down ++ (conn_due conn ++ f.lost)) f.coming f.notifies f.downward) (λ s. record {
-        table = table;
-        unmarked = mark;
-        link = live_link all i home conn up down (record r { held = r.held ++ b ∷ [] }) r.link refl live (h, eh, record { said = f.said; lost = f.lost; downward = s; open_at = f.open_at });
-      }) (λ u w. record { table = table; unmarked = mark; link = none }) read
+  -- A byte that comes on a link that lives is kept, or a PDU is whole with it that belongs there: that is read, or memory runs out at it.
+  pub router_by : (P : Noted → Type 0) (down : List ℕ) (r : Router) (b : ℕ) (memory : Bool) → router_stops r ≡ false → GoodRouter all i home conn up (b ∷ down) r
+      → ((h : Seen) (f : Flow all i h r conn up (b ∷ down)) → home ≡ Some h → Stream (r.held ++ b ∷ []) (down ++ (conn_due conn ++ f.lost)) f.coming → P (silent (record r { held = r.held ++ b ∷ [] })))
+      → ((h : Seen) (u : Unit) → home ≡ Some h → P (lacks u (record r { held = [] })))
+      → ((h : Seen) (f : Flow all i h r conn up (b ∷ down)) → home ≡ Some h → (u : Sent) (more : List Sent) → f.coming ≡ u ∷ more → Stream [] (down ++ (conn_due conn ++ f.lost)) more → Belongs all h (record r { held = [] }) u.unit (units_in more) f.wanted → P (reads u.unit (record r { held = [] })))
+      → P (with_bytes memory (r.held ++ b ∷ []) r (judge r.spoken (not r.agreed) (r.held ++ b ∷ [])))
+  router_by P down r b memory on g part lack read =
+      let live = (goes_so r on).0 in
+      let l = live_of r.link all i home r conn up (b ∷ down) g.link live in
+      let h : Seen = l.0 in
+      let f : Flow all i h r conn up (b ∷ down) = l.2 in
+      case_by P r b memory (down ++ (conn_due conn ++ f.lost)) f.coming (byte_case r.agreed r.spoken h.made r.held b (down ++ (conn_due conn ++ f.lost)) f.coming f.notifies f.downward) (part h f l.1) (λ u w. lack h u l.1)
+      (λ u more is s. read h f l.1 u more is s (record {
+        live = live;
+        quiet = λ one serial e. not_strange h r u more one serial f.session (subst (OwnNotifies r.agreed r.spoken h.made) is f.notifies) e f.own f.mine;
+        shape = subst (λ x. Shape all r.spoken h r.link r.agreed r.version r.table f.wanted (without_notifies (units_in x))) is f.shape;
+      }))
+
+  pub byte_good : (down : List ℕ) (m : Receiving) (b : ℕ) → router_stops m.router ≡ false → GoodRouter all i home conn up (b ∷ down) m.router → GoodRouter all i home conn up down (router_byte m b).router
+  unfolding router_byte
+  byte_good down m b on g =
+      router_by (λ n. GoodRouter all i home conn up down n.router) down r b (finds_memory m.wanting) on g (λ h f e s. record {
+        table = g.table;
+        unmarked = g.unmarked;
+        link = live_link all i home conn up down (record r { held = r.held ++ b ∷ [] }) r.link refl (goes_so r on).0 (h, e, record { said = f.said; lost = f.lost; downward = s; open_at = f.open_at });
+      }) (λ h u e. record { table = g.table; unmarked = g.unmarked; link = none }) read
     where
-      read : (u : Sent) (more : List Sent) → f.coming ≡ u ∷ more → Stream [] (down ++ (conn_due conn ++ f.lost)) more → GoodRouter all i home conn up down (on_unit r.link u.unit (record r { held = [] }))
-      read u more is s = unit_good all i home conn up down (λ now. is_notify u.unit ≡ true → now ≡ r.agreed) k more u.unit d (λ none e. false_true (sym none ∙ e)) live (λ one serial e. not_strange h k u more one serial f.session comes e f.own f.mine) shape
+      r : Router
+      r = m.router
+
+      none : r.out ≡ []
+      none = (goes_so r on).1
+
+      read : (h : Seen) (f : Flow all i h r conn up (b ∷ down)) → home ≡ Some h → (u : Sent) (more : List Sent) → f.coming ≡ u ∷ more → Stream [] (down ++ (conn_due conn ++ f.lost)) more → Belongs all h (record r { held = [] }) u.unit (units_in more) f.wanted
+          → GoodRouter all i home conn up down (on_unit r.link u.unit (record r { held = [] }))
+      read h f eh u more is s belongs = unit_good all i home conn up down (λ now. is_notify u.unit ≡ true → now ≡ r.agreed) (record r { held = [] }) more u.unit d (λ none e. false_true (sym none ∙ e)) belongs
         where
-          k : Router
-          k = record r { held = [] }
-
-          comes : OwnNotifies r.agreed r.spoken h.made (u ∷ more)
-          comes = subst (OwnNotifies r.agreed r.spoken h.made) is f.notifies
-
-          shape : Shape all r.spoken h r.link r.agreed r.version r.table f.wanted (without_notifies (u.unit ∷ units_in more))
-          shape = subst (λ x. Shape all r.spoken h r.link r.agreed r.version r.table f.wanted (without_notifies (units_in x))) is f.shape
-
           -- What was to come is more than notifies before agreement: the cache has read a header.
           heard : (known : Option Version) (now : Bool) → (is_notify u.unit ≡ true → now ≡ r.agreed) → Unheard known h.made (u ∷ more) r.agreed → Unheard known h.made more now
           heard None now same n = (n.0.1, same (ap (λ (x : Sent). is_notify x.unit) n.0.0.1) ∙ n.1)
           heard (Some version) now same n = tt
 
-          d : Reads all i home conn up down (λ now. is_notify u.unit ≡ true → now ≡ r.agreed) k more
+          d : Reads all i home conn up down (λ now. is_notify u.unit ≡ true → now ≡ r.agreed) (record r { held = [] }) more
           d = record {
             comes = record {
               h = h;
@@ -87,20 +100,13 @@ module _ (all : List Instance) (i : Instance) (home : Option Seen) (conn : Optio
               open_at = λ now same. if_open (Open i r.spoken h r.out up f.wanted f.coming r.agreed f.lost) (Open i r.spoken h [] up f.wanted more now f.lost) conn
                   (λ o op. record { linked = op.linked; upward = subst (λ x. Stream o.held (up ++ x) (in_version r.spoken f.wanted)) none op.upward; spoken = op.spoken; unheard = heard (header_version o.state.version o.held) now same (subst (λ x. Unheard (header_version o.state.version o.held) h.made x r.agreed) is op.unheard) })
                   f.open_at;
-              notifies = λ now same. own_rest r.agreed now r.spoken h.made u more same comes;
+              notifies = λ now same. own_rest r.agreed now r.spoken h.made u more same (subst (OwnNotifies r.agreed r.spoken h.made) is f.notifies);
             };
-            kept = record { held = refl; none = none; table = table; unmarked = mark };
+            kept = record { held = refl; none = none; table = g.table; unmarked = g.unmarked };
             may = λ e. refl;
             own = f.own;
             mine = f.mine;
           }
-
-  pub byte_good : (down : List ℕ) (m : Receiving) (b : ℕ) → router_stops m.router ≡ false → GoodRouter all i home conn up (b ∷ down) m.router → GoodRouter all i home conn up down (router_byte m b).router
-  unfolding router_byte
-  byte_good down m b on g =
-      let parts = and_parts (is_reading m.router.link) (is_none m.router.out) (true_of_not (is_reading m.router.link && is_none m.router.out) on) in
-      let l = live_of m.router.link all i home m.router conn up (b ∷ down) g.link parts.0 in
-      byte_read down m.router b (finds_memory m.wanting) l.0 l.2 l.1 parts.0 (none_is m.router.out parts.1) g.table g.unmarked
 
   module _ (down : List ℕ) where
     abbrev GoodR : Router → Type 0

@@ -1,7 +1,6 @@
 -- What a PDU that comes to the router does to its link.
-use Rattle.std.specs.Prelude.{◌≡◌, ℕ, ◌+◌, ◌≤◌, Bool, true, false, ◌&&◌, List, [], ◌∷◌, ◌++◌, length, Some, if◌then◌else◌, refl, not, Option, None}
+use Rattle.std.specs.Prelude.{◌≡◌, ℕ, ◌+◌, ◌≤◌, Bool, true, false, List, [], ◌∷◌, ◌++◌, length, Some, if◌then◌else◌, refl, not, Option, None}
 use Rattle.std.proofs.Common.{sym, ap, ◌∙◌, subst, arith, append_assoc}
-use Rattle.std.proofs.lemmas.Bool.{and_parts}
 use Rattle.prefixes.specs.Payload.{Payload}
 use Rattle.vrps.specs.Instance.{Instance}
 use Rattle.vrps.specs.VrpSet.{VrpSet}
@@ -10,28 +9,27 @@ use Rattle.rtr_pdu.specs.declared.unit.Unit.TheVariants.{SerialNotify, CacheResp
 use Rattle.rtr_pdu.specs.Judging.{judge}
 use Rattle.rtr_pdu.specs.declared.version.Version.{Version}
 use Rattle.rtr_ends.specs.Answer.{session_in}
-use Rattle.rtr_ends.specs.LinkRules.{Router, is_strange, on_unit}
+use Rattle.rtr_ends.specs.LinkRules.{Router, on_unit}
 use Rattle.rtr_ends.specs.RouterLink.{Link, Closed, Idle, Asked, Answering, Ended, is_reading}
 use Rattle.rtr_ends.specs.Transcript.{Begun, Committed, Question, AskSerial, base_of, led_to, Item, Reads, kept, is_commit}
-use Rattle.rtr_ends.specs.Cache.{Conn, is_none, finds_memory}
-use Rattle.rtr_ends.specs.Router.{Noted, silent, reads, lacks, with_bytes, Receiving, asked_by, router_stops, router_byte}
+use Rattle.rtr_ends.specs.Cache.{Conn, finds_memory}
+use Rattle.rtr_ends.specs.Router.{Noted, reads, with_bytes, Receiving, asked_by, router_stops, router_byte}
 use Rattle.rtr_ends.specs.Feeding.{feed}
 use Rattle.rtr_ends.specs.declared.link.End.TheVariants as ends
 use Rattle.rtr_ends.proofs.FeedingLaws.{feed_keeps}
 use Rattle.rtr_ends.proofs.KeptUnits.{Tells, live_unit}
-use Rattle.rtr_ends.proofs.KeptLaws.{byte_tells, none_is}
-use Rattle.rtr_world.specs.OneAnswer.{OwnNotifies, units_in, without_notifies}
+use Rattle.rtr_ends.proofs.KeptLaws.{byte_tells}
+use Rattle.rtr_world.specs.OneAnswer.{units_in, without_notifies}
 use Rattle.rtr_world.specs.World.{is_ended, places_of}
-use Rattle.rtr_world.specs.History.{conn_due}
 use Rattle.rtr_world.specs.VersionPlaces.{VersionPlace, version_place_of}
 use Rattle.rtr_world.proofs.Invariant.{read_of, Shape, nothing_yet, Flow, GoodLink, GoodRouter, Live, Open, if_open}
 use Rattle.rtr_world.proofs.UnitsAtRouters.{stage_reads}
-use Rattle.rtr_world.proofs.UnitEffects.{by_shape, not_strange}
-use Rattle.rtr_world.proofs.SideSteps.{live_of, byte_good}
+use Rattle.rtr_world.proofs.UnitEffects.{Belongs, by_shape}
+use Rattle.rtr_world.proofs.SideSteps.{byte_good, router_by}
+use Rattle.rtr_ends.proofs.Effects.{goes_so}
 use Rattle.rtr_world.proofs.Versions.{Stands, find_session, Seen, same_instance, some_is, IsReadAt, IsSeen}
-use Rattle.rtr_world.proofs.UnitStreams.{byte_case, case_by}
 use Rattle.rtr_world.proofs.Places.{Found, Ordered, ordered_more, place_at, stands_found, young_enough}
-use Rattle.prefixes.proofs.Basics.{eq_self, true_of_not}
+use Rattle.prefixes.proofs.Basics.{eq_self}
 
 abbrev pub is_end : Unit → Bool
 is_end (EndOfData session serial refresh retry expire) = true
@@ -63,9 +61,8 @@ live_on (Ended end) live = sym live
 live_on _ live = refl
 
 -- every PDU that may come
-unit_brings : (all : List Instance) (h : Seen) (r : Router) (u : Unit) (more wanted : List Unit) → is_reading r.link ≡ true → ((one serial : ℕ) → u ≡ SerialNotify one serial → is_strange r one ≡ false)
-    → Shape all r.spoken h r.link r.agreed r.version r.table wanted (without_notifies (u ∷ more)) → Brings all h r r.link u (on_unit r.link u r)
-unit_brings all h r u more wanted live quiet shape = by_shape all h r (Brings all h r) r.link u more wanted refl live quiet shape (record {
+pub unit_brings : (all : List Instance) (h : Seen) (r : Router) (u : Unit) (more wanted : List Unit) → Belongs all h r u more wanted → Brings all h r r.link u (on_unit r.link u r)
+unit_brings all h r u more wanted c = by_shape all h r (Brings all h r) u more wanted c (record {
   asks = λ one serial is s. goes_on refl refl (leaves refl);
   stays = λ l one serial is live s. goes_on (ap is_ended is ∙ live_on l live) refl (stays one serial refl is);
   replies = λ w. record {
@@ -79,16 +76,6 @@ unit_brings all h r u more wanted live quiet shape = by_shape all h r (Brings al
   commits = λ a v one number intervals w e ag own stands since.
       commits (record { version = r.spoken; session = one; serial = number; moment = r.now; intervals = intervals }) (led_to (base_of a.question r.table) a.withdrawn a.announced) refl refl refl own stands since;
 })
-
--- A byte that comes on a link that lives is kept, or a PDU is whole with it that belongs there, or memory runs out at that PDU.
-module _ (all : List Instance) (i : Instance) (seen : Option Seen) (conn : Option Conn) (up : List ℕ) where
-  pub byte_by : (P : Noted → Type 0) (down : List ℕ) (r : Router) (b : ℕ) (memory : Bool) (h : Seen) (f : Flow all i h r conn up (b ∷ down)) → is_reading r.link ≡ true → P (silent (record r { held = r.held ++ b ∷ [] })) → ((u : Unit) → P (lacks u (record r { held = [] })))
-      → ((u : Unit) → Brings all h (record r { held = [] }) r.link u (on_unit r.link u (record r { held = [] })) → P (reads u (record r { held = [] })))
-      → P (with_bytes memory (r.held ++ b ∷ []) r (judge r.spoken (not r.agreed) (r.held ++ b ∷ [])))
-  byte_by P down r b memory h f live part lack read =
-      case_by P r b memory (down ++ (conn_due conn ++ f.lost)) f.coming (byte_case r.agreed r.spoken h.made r.held b (down ++ (conn_due conn ++ f.lost)) f.coming f.notifies f.downward) (λ s. part) (λ u w. lack u) (λ u more is s. read u.unit
-      (unit_brings all h (record r { held = [] }) u.unit (units_in more) f.wanted live (λ one serial e. not_strange h r u more one serial f.session (subst (OwnNotifies r.agreed r.spoken h.made) is f.notifies) e f.own f.mine)
-      (subst (λ x. Shape all r.spoken h r.link r.agreed r.version r.table f.wanted (without_notifies (units_in x))) is f.shape)))
 
 -- What a router commits of a piece, and where that stands.
 -- the places of items that come after others
@@ -189,15 +176,6 @@ module _ (keep : ℕ) (past : List Instance) (i : Instance) (home read : Option 
           let same : a.i ≡ i = same_instance a.i i (find_session pv session (i ∷ past)) a.found (subst (λ s. find_session pv s (i ∷ past) ≡ Some i) (sym is) present) in
           let k = young_enough i a.newer set a.older (ap (λ x. x.sets) (sym same) ∙ a.sets) in omega (arith, k)
 
-  -- a byte is read
-  byte_read : (seen : Option Seen) (down : List ℕ) (r : Router) (b : ℕ) (memory : Bool) (items : List Item) (h : Seen) (f : Flow (i ∷ past) i h r conn up (b ∷ down)) → is_reading r.link ≡ true → r.out ≡ [] → Tells r items
-      → Adds past i h (with_bytes memory (r.held ++ b ∷ []) r (judge r.spoken (not r.agreed) (r.held ++ b ∷ []))) items
-  byte_read seen down r b memory items h f live none t =
-      let k : Router = record r { held = [] } in
-      byte_by (i ∷ past) i seen conn up (λ n. Adds past i h n items) down r b memory h f live (nothing refl) (λ u. nothing refl)
-      (λ u brings. unit_adds past i h k u items f.version
-      (live_unit k r.link u items live refl (record { kept_is = t.kept_is; due_is = t.due_is; now_is = t.now_is; spoken_is = t.spoken_is; none = none }) t.link) brings)
-
   -- what holds between two bytes
   pub record Goes (items : List Item) (places : List (Option VersionPlace)) (down : List ℕ) (m : Receiving) : Type 0 where
     pub seen : Option Seen
@@ -231,12 +209,18 @@ module _ (keep : ℕ) (past : List Instance) (i : Instance) (home read : Option 
   goes_byte : (items : List Item) (places : List (Option VersionPlace)) (tail : List ℕ) (b : ℕ) (rest : List ℕ) (m : Receiving) → router_stops m.router ≡ false → Goes items places (b ∷ rest ++ tail) m → Goes items places (rest ++ tail) (router_byte m b)
   unfolding router_byte
   goes_byte items places tail b rest m on g =
-      let parts = and_parts (is_reading m.router.link) (is_none m.router.out) (true_of_not (is_reading m.router.link && is_none m.router.out) on) in
-      let l = live_of m.router.link (i ∷ past) i g.seen m.router conn up (b ∷ rest ++ tail) g.good.link parts.0 in
-      let n : Noted = with_bytes (finds_memory m.wanting) (m.router.held ++ b ∷ []) m.router (judge m.router.spoken (not m.router.agreed) (m.router.held ++ b ∷ [])) in
-      adds_goes items places (rest ++ tail) m n (router_byte m b).wanting g.seen l.0 l.1
-      (byte_read g.seen (rest ++ tail) m.router b (finds_memory m.wanting) (m.items ++ items) l.0 l.2 parts.0 (none_is m.router.out parts.1) g.tells)
-      (byte_good (i ∷ past) i g.seen conn up (rest ++ tail) m b on g.good) (byte_tells m b items on g.tells) g.is_seen g.is_read g.order
+      let r : Router = m.router in
+      let n : Noted = with_bytes (finds_memory m.wanting) (r.held ++ b ∷ []) r (judge r.spoken (not r.agreed) (r.held ++ b ∷ [])) in
+      let adds : (h : Seen) × (g.seen ≡ Some h) × Adds past i h n (m.items ++ items) =
+      router_by (i ∷ past) i g.seen conn up (λ n. (h : Seen) × (g.seen ≡ Some h) × Adds past i h n (m.items ++ items)) (rest ++ tail) r b (finds_memory m.wanting) on g.good (λ h f e s. (h, e, nothing refl)) (λ h u e. (h, e, nothing refl))
+      (λ h f e u more is s c. (
+        h,
+        e,
+        unit_adds past i h (record r { held = [] }) u.unit (m.items ++ items) f.version
+            (live_unit (record r { held = [] }) r.link u.unit (m.items ++ items) c.live refl (record { kept_is = g.tells.kept_is; due_is = g.tells.due_is; now_is = g.tells.now_is; spoken_is = g.tells.spoken_is; none = (goes_so r on).1 }) g.tells.link)
+            (unit_brings (i ∷ past) h (record r { held = [] }) u.unit (units_in more) f.wanted c),
+      )) in
+      adds_goes items places (rest ++ tail) m n (router_byte m b).wanting g.seen adds.0 adds.1 adds.2 (byte_good (i ∷ past) i g.seen conn up (rest ++ tail) m b on g.good) (byte_tells m b items on g.tells) g.is_seen g.is_read g.order
 
   -- it is handed a piece
   pub goes_fed : (items : List Item) (places : List (Option VersionPlace)) (tail : List ℕ) (m : Receiving) (piece : List ℕ) → Goes items places (piece ++ tail) m

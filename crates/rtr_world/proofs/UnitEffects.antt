@@ -131,9 +131,14 @@ module _ (all : List Instance) (h : Seen) (r : Router) where
       subst (λ b. P (Answering a) (SerialNotify one serial) (if b then fails (SerialNotify one serial) r else r)) (sym quiet) (d.stays (Answering a) one serial is live s)
   by_notify P _ one serial rest wanted is live quiet s d = false_true live
 
-  pub by_shape : (P : Link → Unit → Router → Type 0) (l : Link) (u : Unit) (more wanted : List Unit) → r.link ≡ l → is_reading l ≡ true → ((one serial : ℕ) → u ≡ SerialNotify one serial → is_strange r one ≡ false)
-      → Shape all r.spoken h l r.agreed r.version r.table wanted (without_notifies (u ∷ more)) → Does P wanted (without_notifies more) → P l u (on_unit l u r)
-  by_shape P l u more wanted is live quiet shape d = by_head (head_case u more)
+  -- A PDU may come to a link that reads.
+  pub record Belongs (u : Unit) (more wanted : List Unit) : Type 0 where
+    pub live : is_reading r.link ≡ true
+    pub quiet : (one serial : ℕ) → u ≡ SerialNotify one serial → is_strange r one ≡ false
+    pub shape : Shape all r.spoken h r.link r.agreed r.version r.table wanted (without_notifies (u ∷ more))
+
+  pub by_shape : (P : Link → Unit → Router → Type 0) (u : Unit) (more wanted : List Unit) → Belongs u more wanted → Does P wanted (without_notifies more) → P r.link u (on_unit r.link u r)
+  by_shape P u more wanted c d = by_head (head_case u more)
     where
       others : (l : Link) → is_reading l ≡ true → Shape all r.spoken h l r.agreed r.version r.table wanted (u ∷ without_notifies more) → P l u (on_unit l u r)
       others Idle live s = absurd (no_unit u (without_notifies more) s.1)
@@ -153,7 +158,8 @@ module _ (all : List Instance) (h : Seen) (r : Router) where
           }) s.4
       others _ live s = false_true live
 
-      by_head : HeadCase u more → P l u (on_unit l u r)
+      by_head : HeadCase u more → P r.link u (on_unit r.link u r)
       by_head (a_notify one serial e) =
-          subst (λ x. P l x (on_unit l x r)) (sym e) (by_notify P l one serial (without_notifies more) wanted is live (quiet one serial e) (subst (λ x. Shape all r.spoken h l r.agreed r.version r.table wanted (without_notifies (x ∷ more))) e shape) d)
-      by_head (another none e) = others l live (subst (λ x. Shape all r.spoken h l r.agreed r.version r.table wanted x) e shape)
+          subst (λ x. P r.link x (on_unit r.link x r)) (sym e)
+          (by_notify P r.link one serial (without_notifies more) wanted refl c.live (c.quiet one serial e) (subst (λ x. Shape all r.spoken h r.link r.agreed r.version r.table wanted (without_notifies (x ∷ more))) e c.shape) d)
+      by_head (another none e) = others r.link c.live (subst (λ x. Shape all r.spoken h r.link r.agreed r.version r.table wanted x) e c.shape)

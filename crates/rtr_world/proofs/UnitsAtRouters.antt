@@ -7,16 +7,16 @@ use Rattle.vrps.specs.Instance.{Instance}
 use Rattle.vrps.specs.VrpSet.{VrpSet, has, size}
 use Rattle.rtr_pdu.specs.Unit.{IsUnitOf}
 use Rattle.rtr_pdu.specs.declared.unit.Unit.{Unit}
-use Rattle.rtr_pdu.specs.declared.unit.Unit.TheVariants.{SerialNotify, CacheResponse, Prefix}
+use Rattle.rtr_pdu.specs.declared.unit.Unit.TheVariants.{CacheResponse, Prefix}
 use Rattle.rtr_pdu.specs.declared.version.Version.{Version}
 use Rattle.rtr_ends.specs.Connection.{Sent, bytes_sent, in_version}
 use Rattle.rtr_ends.specs.Answer.{sent, sent_all, session_in}
 use Rattle.rtr_ends.specs.Cache.{Conn}
 use Rattle.rtr_ends.specs.Commit.{Commits}
-use Rattle.rtr_ends.specs.LinkRules.{Router, Stays, Wrong, Over, asking, is_strange, stage, commit, on_unit}
+use Rattle.rtr_ends.specs.LinkRules.{Router, Stays, Wrong, Over, asking, stage, commit, on_unit}
 use Rattle.rtr_ends.proofs.Effects.{either}
 use Rattle.rtr_pdu.specs.Stream.{is_notify}
-use Rattle.rtr_world.proofs.UnitEffects.{by_shape, fits_mine}
+use Rattle.rtr_world.proofs.UnitEffects.{Belongs, by_shape, fits_mine}
 use Rattle.rtr_ends.specs.RouterLink.{Link, Closed, Idle, Answering, Ended, is_reading}
 use Rattle.rtr_ends.specs.Transcript.{choose, Begun, Committed, Question, AskReset, AskSerial, query, is_among, led_to, base_of, is_same, of_version, sum_of, retry_of}
 use Rattle.rtr_ends.proofs.TableLaws.{false_true}
@@ -212,9 +212,8 @@ module _ (all : List Instance) (i : Instance) (home : Option Seen) (conn : Optio
       }
 
   -- every PDU that may come
-  pub unit_good : (May : Bool → Type 0) (r : Router) (more : List Sent) (u : Unit) (d : Reads May r more) → (is_notify u ≡ false → May true) → is_reading r.link ≡ true → ((one serial : ℕ) → u ≡ SerialNotify one serial → is_strange r one ≡ false)
-      → Shape all r.spoken d.h r.link r.agreed r.version r.table d.wanted (without_notifies (u ∷ units_in more)) → GoodR (on_unit r.link u r)
-  unit_good May r more u d agrees live quiet shape = by_shape all d.h r (λ l v k. (is_notify v ≡ false → May true) → GoodR k) r.link u (units_in more) d.wanted refl live quiet shape (record {
+  pub unit_good : (May : Bool → Type 0) (r : Router) (more : List Sent) (u : Unit) (d : Reads May r more) → (is_notify u ≡ false → May true) → Belongs all d.h r u (units_in more) d.wanted → GoodR (on_unit r.link u r)
+  unit_good May r more u d agrees c = by_shape all d.h r (λ l v k. (is_notify v ≡ false → May true) → GoodR k) u (units_in more) d.wanted c (record {
     asks = λ one serial is s may. asking_good r (choose v r.mark) is (λ session mine. question_fits session v r.mark d.unmarked mine) (same_good May r more Idle d is refl s);
     stays = λ l one serial is live s may. same_good May r more l d is live s;
     replies = λ w. record {

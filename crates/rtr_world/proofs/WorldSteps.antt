@@ -16,11 +16,11 @@ use Rattle.rtr_pdu.specs.declared.version.Version.{Version}
 use Rattle.rtr_pdu.specs.declared.version.Version.TheVariants.{V0, V1}
 use Rattle.rtr_pdu.specs.declared.unit.Unit.TheVariants.{EndOfData, EndOfData0}
 use Rattle.rtr_ends.specs.Answer.{session_in}
-use Rattle.rtr_ends.specs.Cache.{Conn, is_none, finds_memory}
+use Rattle.rtr_ends.specs.Cache.{Conn, finds_memory}
 use Rattle.rtr_ends.specs.Connection.{IsLater}
 use Rattle.rtr_ends.specs.LinkRules.{Router, on_unit}
 use Rattle.rtr_ends.specs.RouterLaws.{IsKept}
-use Rattle.rtr_ends.specs.RouterLink.{Link, Idle, Asked, Answering, Ended, is_reading}
+use Rattle.rtr_ends.specs.RouterLink.{Link, Idle, Asked, Answering, Ended}
 use Rattle.rtr_ends.specs.Transcript.{Begun, Committed, Question, base_of, kept, Item, At, Reads, Lacks, Kept, acts_once, at_end_of_data, bounded, does_commit, led_to, moment, nothing, spoken, under_way}
 use Rattle.rtr_ends.specs.Router.{Receiving, asked_by, router_stops, router_byte, clocked, receives}
 use Rattle.rtr_ends.specs.Timing.{default_intervals}
@@ -39,12 +39,12 @@ use Rattle.rtr_world.proofs.EventCalls.{leads_keep, if_gets, refusal_keeps, Kept
 use Rattle.rtr_world.proofs.Invariant.{WasCache, OfAnswer, OneReply, Replies, no_data, not_kept, other_session, no_memory, response, Shape, IfOpen, Linked, Open, Flow, Good, GoodRouter, if_open}
 use Rattle.rtr_world.proofs.Places.{IfSeen, IsHome, ordered_published, ordered_restarted}
 use Rattle.rtr_world.proofs.SideLaws.{all_new, all_on_side, all_map, all_both, all_weaker}
-use Rattle.rtr_world.proofs.SideSteps.{live_map, live_of, byte_good, clocked_good}
+use Rattle.rtr_world.proofs.SideSteps.{live_map, byte_good, clocked_good, router_by}
 use Rattle.rtr_world.proofs.UnitStreams.{Stream}
 use Rattle.rtr_world.proofs.KeptTables.{AllTell, SideTells, after_tells, new_side_tells}
 use Rattle.rtr_world.proofs.Versions.{Stands, TableAt, Present, table_named, position_at, of_present, stands_published, stands_restarted, find_session, lt_of, same_session_in, some_is, Seen, IsSeen}
-use Rattle.rtr_world.proofs.UnitCases.{Brings, byte_by}
-use Rattle.prefixes.proofs.Basics.{eq_self, eq_of, eq_true, lt_true, true_of_not}
+use Rattle.rtr_world.proofs.UnitCases.{Brings, unit_brings}
+use Rattle.prefixes.proofs.Basics.{eq_self, eq_of, eq_true, lt_true}
 
 -- What a transcript commits, acts, and acts once.
 at_end_once : (answer : Option Begun) (version : Committed) (k : Kept) → ActsOnce (does_commit answer version.session k.table) answer k.table (at_end_of_data answer version k).table
@@ -462,15 +462,13 @@ module _ (w : World) (s : Side) (known : Known w s) (Q : Router → List Item �
   byte_holds : (b : ℕ) (down : List ℕ) (m : Receiving) → router_stops m.router ≡ false → Goes (b ∷ down) m → Q (router_byte m b).router ((router_byte m b).items ++ s.items)
   unfolding router_byte
   byte_holds b down m on g =
-      let parts = and_parts (is_reading m.router.link) (is_none m.router.out) (true_of_not (is_reading m.router.link && is_none m.router.out) on) in
-      let l = live_of m.router.link (instances w) w.present known.0.seen m.router s.conn s.up (b ∷ down) g.good.link parts.0 in
       let k : Router = record m.router { held = [] } in
       let told : Tells k (m.items ++ s.items) = record { kept_is = g.tells.kept_is; due_is = g.tells.due_is; now_is = g.tells.now_is; spoken_is = g.tells.spoken_is; link = g.tells.link } in
       let asked : Unit → List Item = λ u. asked_by (on_unit k.link u k).link (on_unit k.link u k).out in
-      byte_by (instances w) w.present known.0.seen s.conn s.up (λ n. Q n.router ((n.items ++ m.items) ++ s.items)) down m.router b (finds_memory m.wanting) l.0 l.2 parts.0
-      (part m.router (m.router.held ++ b ∷ []) (m.items ++ s.items) g.holds) (λ u. lack k u (m.items ++ s.items))
-      (λ u brings. subst (λ x. Q (on_unit k.link u k) x) (sym (append_assoc (asked u ++ Reads u ∷ []) m.items s.items ∙ append_assoc (asked u) (Reads u ∷ []) (m.items ++ s.items)))
-      (read l.0 k u (m.items ++ s.items) l.1 l.2.version told (part m.router [] (m.items ++ s.items) g.holds) brings))
+      router_by (instances w) w.present known.0.seen s.conn s.up (λ n. Q n.router ((n.items ++ m.items) ++ s.items)) down m.router b (finds_memory m.wanting) on g.good
+      (λ h f e x. part m.router (m.router.held ++ b ∷ []) (m.items ++ s.items) g.holds) (λ h u e. lack k u (m.items ++ s.items))
+      (λ h f e u more is x c. subst (λ x. Q (on_unit k.link u.unit k) x) (sym (append_assoc (asked u.unit ++ Reads u.unit ∷ []) m.items s.items ∙ append_assoc (asked u.unit) (Reads u.unit ∷ []) (m.items ++ s.items)))
+      (read h k u.unit (m.items ++ s.items) e f.version told (part m.router [] (m.items ++ s.items) g.holds) (unit_brings (instances w) h k u.unit (units_in more) f.wanted c)))
 
   pub received : (most : ℕ) (wanting : Option ℕ) → Q (clocked s.router.now s.router) (At s.router.now ∷ s.items)
       → Q (receives s.router.now wanting (take most s.down) s.router).machine.router ((receives s.router.now wanting (take most s.down) s.router).machine.items ++ s.items)
