@@ -27,31 +27,26 @@ use Rattle.rtr_world.proofs.CatchUpAnswers.{other_report}
 use Rattle.rtr_world.proofs.Invariant.{after_stage, Leads, Mine, QuestionFits, Replies, no_data, not_kept, other_session, no_memory, response, nothing_yet}
 use Rattle.rtr_world.proofs.UnitsAtRouters.{stage_keeps}
 use Rattle.rtr_world.proofs.UnitEffects.{by_answer, by_reply}
-use Rattle.rtr_world.proofs.UnitStreams.{Begun as BegunUnit, Stream, case_by, first_in, head_is, one_case}
+use Rattle.rtr_world.proofs.UnitStreams.{Stream, case_by, first_in, head_is, one_case}
 use Rattle.rtr_world.proofs.Versions.{TableAt, Seen}
 use Rattle.prefixes.proofs.Basics.{true_of_not}
 
 -- Where no byte is to come, no PDU is.
-pub none_left : (pv : Version) (held : List ℕ) (units : List Unit) → Stream held [] (in_version pv units) → (units ≡ []) × (held ≡ [])
-none_left pv held units s = by_part s.partial
+none_left : (pv : Version) (held : List ℕ) (units : List Unit) → Stream held [] (in_version pv units) → units ≡ []
+none_left pv held [] s = refl
+none_left pv [] (u ∷ units) s = by_bytes (sent pv u) refl s.whole
   where
-    none : (units : List Unit) → [] ≡ bytes_sent (in_version pv units) → units ≡ []
-    none [] e = refl
-    none (u ∷ units) e = by_bytes (sent pv u) refl e
-      where
-        by_bytes : (bytes : List ℕ) → sent pv u ≡ bytes → [] ≡ bytes ++ bytes_sent (in_version pv units) → u ∷ units ≡ []
-        by_bytes [] is e = absurd (some_sent pv u is)
-        by_bytes (b ∷ bytes) is e = cc
-
-    by_part : (held ≡ []) ⊎ BegunUnit held (in_version pv units) → (units ≡ []) × (held ≡ [])
-    by_part (inl e) = (none units (ap (λ x. x ++ []) (sym e) ∙ s.whole), e)
-    by_part (inr p) =
-        let whole = ap length (s.whole ∙ ap bytes_sent p.is) in
-        let first = ap length p.begins in
-        let a = length-append held [] in
-        let b = length-append (sent p.first.version p.first.unit) (bytes_sent p.more) in
-        let c = length-append held (p.byte ∷ p.rest) in
-        absurd (omega (arith, whole, first, a, b, c))
+    by_bytes : (bytes : List ℕ) → sent pv u ≡ bytes → [] ≡ bytes ++ bytes_sent (in_version pv units) → u ∷ units ≡ []
+    by_bytes [] is e = absurd (some_sent pv u is)
+    by_bytes (b ∷ bytes) is e = cc
+none_left pv (c ∷ held) (u ∷ units) s =
+    let p = s.part in
+    let whole = ap length s.whole in
+    let first = ap length p.2 in
+    let a = length-append (c ∷ held) [] in
+    let b = length-append (sent pv u) (bytes_sent (in_version pv units)) in
+    let d = length-append (c ∷ held) (p.0 ∷ p.1) in
+    absurd (omega (arith, whole, first, a, b, d))
 
 pub none_after : (pv : Version) (rest : List ℕ) (units : List Unit) → units ≡ [] → Stream [] rest (in_version pv units) → rest ≡ []
 none_after pv rest units e s = s.whole ∙ ap (λ x. bytes_sent (in_version pv x)) e
@@ -159,10 +154,10 @@ module _ (all : List Instance) (h : Seen) (pv : Version) (q : Question) (lacking
   was_read rest r stops (rests is none e o) = is_idle is none e o
   was_read rest r stops (again serial is out held m t e o of) = asks_again serial is out held m t e o of
   was_read rest r stops (ended end is none why) = has_ended end is none why
-  was_read [] r stops (waits units is none f t s replies lacked shown of) = absurd (no_reply r.spoken (base_of q r.table) (subst (λ x. Replies all r.spoken h q (base_of q r.table) x) (none_left r.spoken r.held units s).0 replies))
+  was_read [] r stops (waits units is none f t s replies lacked shown of) = absurd (no_reply r.spoken (base_of q r.table) (subst (λ x. Replies all r.spoken h q (base_of q r.table) x) (none_left r.spoken r.held units s) replies))
   was_read (b ∷ rest) r stops (waits units is none f t s replies lacked shown of) =
       absurd (let e : true ≡ false = sym (stops (omega arith)) ∙ (λ j. not (is_reading (is j) && is_none (none j))) in cc)
-  was_read [] r stops (goes_on a units serial set is none own s leads o of) = absurd (subst (λ x. Leads (base_of a.question r.table) a x h.session serial set) (none_left r.spoken r.held units s).0 leads)
+  was_read [] r stops (goes_on a units serial set is none own s leads o of) = absurd (subst (λ x. Leads (base_of a.question r.table) a x h.session serial set) (none_left r.spoken r.held units s) leads)
   was_read (b ∷ rest) r stops (goes_on a units serial set is none own s leads o of) =
       absurd (let e : true ≡ false = sym (stops (omega arith)) ∙ (λ j. not (is_reading (is j) && is_none (none j))) in cc)
 

@@ -25,7 +25,7 @@ use Rattle.rtr_world.proofs.CatchUpReplies.{Phase, WasRead, is_idle, asks_again,
 use Rattle.rtr_world.proofs.CatchUpSettling.{Emptied, settle_closes, settle_empties, settle_full, settle_none, settle_open, clocked_emptied, clocked_none}
 use Rattle.rtr_world.proofs.Invariant.{Mine, Replies, no_memory, QuestionFits, Good}
 use Rattle.rtr_world.proofs.UnitsAtRouters.{query_unit, first_fits}
-use Rattle.rtr_world.proofs.UnitStreams.{MaySpeak, Stream, all_bytes, all_sent, bytes_of_version}
+use Rattle.rtr_world.proofs.UnitStreams.{MaySpeak, Stream, all_bytes, all_sent, none_part, bytes_of_version}
 use Rattle.rtr_world.proofs.Versions.{Present, TableAt, held_at, Seen, seen_at}
 use Rattle.vrps.specs.Instance.{Instance, NumberedSet, versions_from, with_serial}
 use Rattle.vrps.specs.Serial.{serial_at}
@@ -359,7 +359,7 @@ module _ (w : World) (p : Present (instances w) w.present) (h : Seen) where
         bytes = take_all most s.down all ∙ a.down
 
         stream : Stream s.router.held (take most s.down) (in_version s.router.spoken a.units)
-        stream = record { whole = (λ j. a.router_held j ++ bytes j) ∙ sym (bytes_of_version s.router.spoken a.units); partial = inl a.router_held; fit = all_sent s.router.spoken a.units a.reply.fit }
+        stream = record { whole = (λ j. a.router_held j ++ bytes j) ∙ sym (bytes_of_version s.router.spoken a.units); part = none_part s.router.held (in_version s.router.spoken a.units) a.router_held; fit = all_sent s.router.spoken a.units a.reply.fit }
 
         phase : Phase (instances w) h s.router.spoken q Lacking Stays (take most s.down) (clocked s.router.now s.router)
         phase = clocked_waits (instances w) h s.router.spoken Lacking Stays q s.router.now (take most s.down) s.router a.units a.link a.out a.knows.fits a.knows.table_at stream a.reply.replies a.reply.memory a.shown refl

@@ -15,8 +15,8 @@ use Rattle.rtr_pdu.specs.declared.unit.Unit.{Unit}
 use Rattle.rtr_ends.specs.Answer.{session_in, report, whole_answer}
 use Rattle.rtr_ends.specs.Cache.{Conn, is_none, finds_memory}
 use Rattle.rtr_ends.specs.Feeding.{feed}
-use Rattle.rtr_ends.specs.LinkRules.{Router, emptied, may_lack, on_unit}
-use Rattle.rtr_ends.specs.Router.{Receiving, clocked, close, connects_at, expired, receives, router_byte, router_pulled, router_stops, with_bytes}
+use Rattle.rtr_ends.specs.LinkRules.{Router, emptied, on_unit}
+use Rattle.rtr_ends.specs.Router.{Receiving, clocked, close, connects_at, receives, router_byte, router_pulled, router_stops, with_bytes}
 use Rattle.rtr_ends.specs.RouterLink.{Link, Closed, Idle, Ended, is_closed, is_reading}
 use Rattle.rtr_ends.specs.Transcript.{Committed, is_over, later, At, AskReset, base_of, led_to, of_version}
 use Rattle.rtr_ends.proofs.ConsumedUnits.{unit_held}
@@ -26,11 +26,11 @@ use Rattle.rtr_world.specs.CatchUp.{IsMove, HoldsNewest, AreMoves, IdleIsCurrent
 use Rattle.rtr_world.specs.History.{Outcome, Done, Memory, after, Entry, LeadsFrom, side_at}
 use Rattle.rtr_world.specs.OneAnswer.{units_in, without_notifies}
 use Rattle.rtr_world.specs.World.{Side, World, instances, SideEvent, Connect, RouterSends, CacheGets, CacheSends, RouterGets, Cut, connects, router_sends, cache_sends, cache_gets, router_gets, cut, side_step, side_part, side_refused, settle, tell_closed, timing, Event, On, goes_through, is_refused, new_world, on_side, settled}
-use Rattle.rtr_world.proofs.RouterCases.{expired_by, close_by}
+use Rattle.rtr_ends.proofs.Effects.{by_clock, by_close, by_whole}
 use Rattle.rtr_world.proofs.EventCalls.{told_closes, gets_keep, sends_keep, settle_keeps, lesser, part_by}
 use Rattle.rtr_world.proofs.Invariant.{Good, GoodRouter, Live, Mine, OneReply}
 use Rattle.rtr_world.proofs.SideSteps.{byte_good, clocked_good, live_of, router_by}
-use Rattle.rtr_world.proofs.UnitStreams.{either_by, head_is}
+use Rattle.rtr_world.proofs.UnitStreams.{head_is}
 use Rattle.rtr_world.proofs.Versions.{Present, TableAt, some_is, Seen, IsSeen, HeldAt, Stands, has_sets, held_at, of_present}
 use Rattle.rtr_world.proofs.UnitEffects.{Belongs, by_shape}
 use Rattle.rtr_world.proofs.SideLaws.{all_new}
@@ -171,49 +171,28 @@ same_moment now = by_test (nat_lt now now)
     by_test false = refl
 
 clocked_fresh : (i : Instance) (home : Option Instance) (r : Router) → FreshLink i home r → FreshLink i home (clocked r.now r)
-unfolding clocked
-clocked_fresh i home r h = by_clock (is_over r.version (later r.now r.now)) refl
+clocked_fresh i home r h = by_clock (FreshLink i home) r.now r (λ lasts. (h.0, current)) (λ over on. by_live over (is_reading r.link) refl) (λ over live opened. absurd (not_over over live))
   where
-    k : Router
-    k = record r { now = later r.now r.now }
-
-    current : IsCurrent r.spoken i k
+    current : Current r.spoken i r.link r.version r.table (later r.now r.now)
     current = subst (λ x. Current r.spoken i r.link r.version r.table x) (sym (same_moment r.now)) h.1
 
     not_over : is_over r.version (later r.now r.now) ≡ true → is_reading r.link ≡ true → ⊥
     not_over over live = let e : true ≡ false = sym over ∙ lasting r.spoken i r.link r.version r.table (later r.now r.now) live current in cc
 
-    live_over : (l : Link) → r.link ≡ l → is_reading l ≡ true → is_over r.version (later r.now r.now) ≡ true → ⊥
-    live_over l is live over = not_over over (ap is_reading is ∙ live)
-
-    expires : (l : Link) → r.link ≡ l → is_over r.version (later r.now r.now) ≡ true → FreshLink i home (expired l k)
-    expires Closed is over = dead_fresh i home (emptied k) (ap is_reading is)
-    expires (Ended end) is over = dead_fresh i home (emptied k) (ap is_reading is)
-    expires l is over = absurd (live_over l is refl over)
-
-    by_clock : (b : Bool) → is_over r.version (later r.now r.now) ≡ b → FreshLink i home (if b then expired k.link k else k)
-    by_clock true over = expires r.link refl over
-    by_clock false over = (h.0, current)
+    by_live : is_over r.version (later r.now r.now) ≡ true → (live : Bool) → is_reading r.link ≡ live → FreshLink i home (record (emptied r) { now = later r.now r.now })
+    by_live over true live = absurd (not_over over live)
+    by_live over false dead = dead_fresh i home (record (emptied r) { now = later r.now r.now }) dead
 
 -- What is held after the clock is not over.
 clocked_lasts : (now : ℕ) (r : Router) → is_over (close (clocked now r)).version (close (clocked now r)).now ≡ false
-unfolding clocked
-clocked_lasts now r = close_by (λ x. is_over x.version x.now ≡ false) (clocked now r) (λ e. lasts) (λ e. lasts)
+clocked_lasts now r = by_close (λ x. is_over x.version x.now ≡ false) (clocked now r) (λ e. lasts) (λ e. lasts)
   where
-    k : Router
-    k = record r { now = later r.now now }
-
-    by_clock : (b : Bool) → is_over r.version (later r.now now) ≡ b → is_over (if b then expired k.link k else k).version (if b then expired k.link k else k).now ≡ false
-    by_clock true e = expired_by (λ x. is_over x.version x.now ≡ false) k.link k refl refl
-    by_clock false e = e
-
     lasts : is_over (clocked now r).version (clocked now r).now ≡ false
-    lasts = by_clock (is_over r.version (later r.now now)) refl
+    lasts = by_clock (λ x. is_over x.version x.now ≡ false) now r (λ holds. holds) (λ over on. refl) (λ over live opened. refl)
 
 -- No byte changes the version of the next connection.
 bytes_speak : (memory : Bool) (bytes : List ℕ) (r : Router) (j : Judgement) → (with_bytes memory bytes r j).router.speaks ≡ r.speaks
-bytes_speak memory bytes r (Whole u) =
-    let k : Router = record r { held = [] } in either_by (λ n. n.router.speaks ≡ r.speaks) u k (may_lack r.link u r && not memory) (λ e. refl) (unit_held r.link u k).1
+bytes_speak memory bytes r (Whole u) = by_whole (λ n. n.router.speaks ≡ r.speaks) memory bytes r u refl (unit_held r.link u (record r { held = [] })).1
 bytes_speak memory bytes r _ = refl
 
 pub byte_speaks : (m : Receiving) (b : ℕ) → (router_byte m b).router.speaks ≡ m.router.speaks

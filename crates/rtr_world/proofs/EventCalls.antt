@@ -11,7 +11,7 @@ use Rattle.rtr_ends.specs.Transcript.{Refused}
 use Rattle.rtr_ends.proofs.TableLaws.{false_true}
 use Rattle.rtr_world.specs.World.{Side, World, instances, SideEvent, RouterRestart, Speak, Connect, RouterSends, CacheGets, CacheSends, RouterGets, Cut, NotifyRouter, Ask, Tick, is_ended, newly_ended, noted, with_end, connects, router_restarts, speaks, router_sends, sends_from, cache_sends, gets_at, cache_gets, notifies_at, router_gets, cut, on_side, side_step, side_part, side_refused, tell_closed, settle, settle_link, settle_rest, settle_wire, Event, close_ended, settle_conn}
 use Rattle.rtr_world.specs.History.{Outcome, MayEnd, after, refusal, Entry, IsEvent, LeadsFrom}
-use Rattle.rtr_world.proofs.RouterCases.{close_by}
+use Rattle.rtr_ends.proofs.Effects.{by_close}
 use Rattle.rtr_world.proofs.SideLaws.{all_map, all_on_side}
 
 -- What each event keeps holds after every list of events; what the parts of the clean-up keep, the clean-up keeps.
@@ -175,7 +175,7 @@ closed_link Closed e = refl
 closed_link _ e = false_true e
 
 pub closes : (r : Router) → is_closed (close r).link ≡ true
-closes r = close_by (λ k. is_closed k.link ≡ true) r (λ e. e) (λ e. refl)
+closes r = by_close (λ k. is_closed k.link ≡ true) r (λ e. e) (λ e. refl)
 
 pub told_closes : (all : List Instance) (s : Side) → is_closed (tell_closed all s).router.link ≡ true
 unfolding closed_at

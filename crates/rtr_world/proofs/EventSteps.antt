@@ -29,7 +29,7 @@ use Rattle.rtr_ends.proofs.TableLaws.{false_true}
 use Rattle.rtr_world.proofs.Places.{Ordered, ordered_connects, ordered_none, ordered_read}
 use Rattle.rtr_world.proofs.UnitsAtRouters.{first_fits, query_unit}
 use Rattle.rtr_world.proofs.SideSteps.{live_map, clocked_good, Shut, close_shut, asks_good}
-use Rattle.rtr_world.proofs.UnitStreams.{Stream}
+use Rattle.rtr_world.proofs.UnitStreams.{Stream, none_part}
 use Rattle.rtr_world.proofs.KeptTables.{SideTells}
 use Rattle.rtr_world.proofs.Versions.{Present, held_at, Seen, IsReadAt, IsSeen, seen_after, seen_at}
 
@@ -193,11 +193,11 @@ module _ (w : World) (p : Present (instances w) w.present) where
               shape = (fits, inl (refl, refl));
             };
             lost = [];
-            downward = record { whole = append-nil c.held ∙ shut.held; partial = inl shut.held; fit = tt };
+            downward = record { whole = append-nil c.held ∙ shut.held; part = none_part c.held [] shut.held; fit = tt };
             open_at = record {
               upward = record {
                 whole = sym (append-nil (sent c.speaks (query (choose (of_version c.speaks c.version) c.mark))));
-                partial = inl refl;
+                part = tt;
                 fit = (query_unit (instances w) c.speaks (session_in c.speaks w.present) (choose (of_version c.speaks c.version) c.mark) (of_version c.speaks c.version) c.table fits (held_at (instances w) c.speaks c.version c.table shut.table), tt);
               };
               spoken = tt;

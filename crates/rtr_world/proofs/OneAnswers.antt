@@ -22,7 +22,6 @@ use Rattle.rtr_world.proofs.WorldSteps.{Known, history_known, history_keeps, Kep
 use Rattle.rtr_world.proofs.Invariant.{FromCache, Flow, Good, GoodLink, IfOpen, OfAnswer, OneReply, Open, QuestionFits, Replies, Shape, WasCache, no_data, not_kept, other_session, no_memory, read_of, records_of, response}
 use Rattle.rtr_world.proofs.Rests.{Rests, history_rests}
 use Rattle.rtr_world.proofs.SideSteps.{live_of}
-use Rattle.rtr_world.proofs.UnitStreams.{part_of}
 use Rattle.rtr_world.proofs.KeptTables.{SideTells}
 use Rattle.rtr_world.proofs.Versions.{named_at, IsReadAt, IsSeen, Seen}
 use Rattle.rtr_world.proofs.RouterCases.{asks_by, clocked_by}
@@ -194,7 +193,7 @@ live_answer w s live g t k =
       coming = f.coming;
       lost = f.lost;
       bytes = f.downward.whole;
-      part = part_of s.router.held f.coming f.downward.partial;
+      part = f.downward.part;
       whole = whole_of (Open w.present s.router.spoken h s.router.out s.up f.wanted f.coming s.router.agreed f.lost) f.lost s.conn (λ o op. op.whole) f.open_at;
       notifies = f.notifies;
       rest = comes_on w s.router.spoken h home.1 s s.router.link f.wanted (without_notifies (units_in f.coming)) (subst (λ x. IsReadAt s.read_at x) l.1 g.is_read) refl refl t k f.shape;

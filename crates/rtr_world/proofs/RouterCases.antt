@@ -1,12 +1,13 @@
 -- What holds of each case of the clock, of a close and of a question holds of the router behind it.
 use Rattle.rtr_ends.specs.Cache.{counted}
+use Rattle.rtr_ends.proofs.Effects.{by_clock, by_close}
 use Rattle.rtr_pdu.specs.Judging.{Judgement, Begins}
 use Rattle.std.specs.Prelude.{◌≡◌, ℕ, Bool, true, false, [], ◌∷◌, Some, None, refl, if◌then◌else◌}
 use Rattle.rtr_ends.specs.declared.link.End.TheVariants as ends
 use Rattle.rtr_ends.specs.LinkRules.{Router, ask, emptied}
 use Rattle.rtr_ends.specs.Router.{Noted, asks_if, clocked, close, expired, silent}
 use Rattle.rtr_ends.specs.RouterLink.{Link, Closed, Asked, Answering, Ended, is_closed}
-use Rattle.rtr_ends.specs.Transcript.{AskSerial, Asks, choose, is_over, is_serial, later, of_version, retry_of, sum_of}
+use Rattle.rtr_ends.specs.Transcript.{AskSerial, Asks, choose, is_serial, later, of_version, retry_of, sum_of}
 
 -- What has expired is emptied, and the link goes on or ends.
 pub expired_by : (P : Router → Type 0) (l : Link) (r : Router) → P (emptied r) → P (record (emptied r) { link = Ended ends.Expired; out = [] }) → P (expired l r)
@@ -19,22 +20,10 @@ expired_by P (Answering a) r on ended = by_question (is_serial (Some a.question)
 expired_by P _ r on ended = on
 
 pub clocked_by : (P : Router → Type 0) (now : ℕ) (r : Router) → let k : Router = record r { now = later r.now now } in P k → P (emptied k) → P (record (emptied k) { link = Ended ends.Expired; out = [] }) → P (clocked now r)
-unfolding clocked
-clocked_by P now r still on ended = by_clock (is_over r.version (later r.now now))
-  where
-    k : Router
-    k = record r { now = later r.now now }
-
-    by_clock : (b : Bool) → P (if b then expired k.link k else k)
-    by_clock true = expired_by P k.link k on ended
-    by_clock false = still
+clocked_by P now r still on ended = by_clock P now r (λ lasts. still) (λ over goes. on) (λ over live opened. ended)
 
 pub close_by : (P : Router → Type 0) (r : Router) → (is_closed r.link ≡ true → P r) → (is_closed r.link ≡ false → P (record r { link = Closed; agreed = false; session = None; held = []; out = []; due = Some (sum_of r.now (retry_of r.version)) })) → P (close r)
-close_by P r same shut = by_bool (is_closed r.link) refl
-  where
-    by_bool : (b : Bool) → is_closed r.link ≡ b → P (if b then r else record r { link = Closed; agreed = false; session = None; held = []; out = []; due = Some (sum_of r.now (retry_of r.version)) })
-    by_bool true e = same e
-    by_bool false e = shut e
+close_by P r same shut = by_close P r same shut
 
 pub asks_by : (P : Noted → Type 0) (b : Bool) (r : Router) → P (record { router = ask r; items = Asks (choose (of_version r.spoken r.version) r.mark) ∷ [] }) → P (silent r) → P (asks_if b r)
 asks_by P true r asks stays = asks

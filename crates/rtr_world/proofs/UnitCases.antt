@@ -10,7 +10,7 @@ use Rattle.rtr_pdu.specs.Judging.{judge}
 use Rattle.rtr_pdu.specs.declared.version.Version.{Version}
 use Rattle.rtr_ends.specs.Answer.{session_in}
 use Rattle.rtr_ends.specs.LinkRules.{Router, on_unit}
-use Rattle.rtr_ends.specs.RouterLink.{Link, Closed, Idle, Asked, Answering, Ended, is_reading}
+use Rattle.rtr_ends.specs.RouterLink.{Link, Closed, Idle, Asked, Answering, Ended}
 use Rattle.rtr_ends.specs.Transcript.{Begun, Committed, Question, AskSerial, base_of, led_to, Item, Reads, kept, is_commit}
 use Rattle.rtr_ends.specs.Cache.{Conn, finds_memory}
 use Rattle.rtr_ends.specs.Router.{Noted, reads, with_bytes, Receiving, asked_by, router_stops, router_byte}
@@ -27,6 +27,7 @@ use Rattle.rtr_world.proofs.UnitsAtRouters.{stage_reads}
 use Rattle.rtr_world.proofs.UnitEffects.{Belongs, by_shape}
 use Rattle.rtr_world.proofs.SideSteps.{byte_good, router_by}
 use Rattle.rtr_ends.proofs.Effects.{goes_so}
+use Rattle.rtr_world.proofs.EventCalls.{reading_on}
 use Rattle.rtr_world.proofs.Versions.{Stands, find_session, Seen, same_instance, some_is, IsReadAt, IsSeen}
 use Rattle.rtr_world.proofs.Places.{Found, Ordered, ordered_more, place_at, stands_found, young_enough}
 use Rattle.prefixes.proofs.Basics.{eq_self}
@@ -56,15 +57,11 @@ pub data Brings (all : List Instance) (h : Seen) (r : Router) (l : Link) (u : Un
   commits : (version : Committed) (table : VrpSet) → k.link ≡ Idle → k.version ≡ Some version → version.version ≡ r.spoken → version.session ≡ h.session
       → (stands : Stands all version.version version.session version.serial table) → length h.sets ≤ length stands.older + 1 → Brings all h r l u k
 
-live_on : (l : Link) → is_reading l ≡ true → is_ended l ≡ false
-live_on (Ended end) live = sym live
-live_on _ live = refl
-
 -- every PDU that may come
 pub unit_brings : (all : List Instance) (h : Seen) (r : Router) (u : Unit) (more wanted : List Unit) → Belongs all h r u more wanted → Brings all h r r.link u (on_unit r.link u r)
 unit_brings all h r u more wanted c = by_shape all h r (Brings all h r) u more wanted c (record {
   asks = λ one serial is s. goes_on refl refl (leaves refl);
-  stays = λ l one serial is live s. goes_on (ap is_ended is ∙ live_on l live) refl (stays one serial refl is);
+  stays = λ l one serial is live s. goes_on (ap is_ended is ∙ reading_on l live) refl (stays one serial refl is);
   replies = λ w. record {
     idles = λ copy e f one. goes_on refl refl (leaves refl);
     again = λ serial e f one. goes_on refl refl (leaves refl);

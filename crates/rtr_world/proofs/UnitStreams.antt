@@ -62,19 +62,10 @@ bytes_in s = sent s.version s.unit
 abbrev pub IsSent : Sent → Type 0
 IsSent s = IsUnitOf s.version s.unit
 
--- What is held is a proper beginning of the first of these PDUs.
-pub record Begun (held : List ℕ) (units : List Sent) : Type 0 where
-  pub first : Sent
-  pub more : List Sent
-  pub is : units ≡ first ∷ more
-  pub byte : ℕ
-  pub rest : List ℕ
-  pub begins : held ++ byte ∷ rest ≡ bytes_in first
-
 -- What is held and what comes after it spells these PDUs, and none of them is whole in what is held.
 pub record Stream (held after : List ℕ) (units : List Sent) : Type 0 where
   pub whole : held ++ after ≡ bytes_sent units
-  pub partial : (held ≡ []) ⊎ Begun held units
+  pub part : IsPart held units
   pub fit : AllByRecursion IsSent units
 
 -- The next byte goes on with the first PDU.
@@ -92,21 +83,19 @@ next_fresh b after u more (c ∷ cs) e h =
     let same : b ≡ c = cc in
     record { first = u; more = more; is = refl; rest = cs; begins = ap (λ x. x ∷ cs) same ∙ sym e; goes_on = cc }
 
-next_start : (b : ℕ) (after : List ℕ) (units : List Sent) → b ∷ after ≡ bytes_sent units → Next [] b after units
-next_start b after [] h = absurd (let e : b ∷ after ≡ [] = h in cc)
-next_start b after (u ∷ more) h = next_fresh b after u more (bytes_in u) refl h
+next : (held : List ℕ) (b : ℕ) (after : List ℕ) (units : List Sent) → held ++ b ∷ after ≡ bytes_sent units → IsPart held units → Next held b after units
+next [] b after [] h p = absurd (let e : b ∷ after ≡ [] = h in cc)
+next [] b after (u ∷ more) h p = next_fresh b after u more (bytes_in u) refl h
+next (c ∷ held) b after [] h p = absurd p
+next (c ∷ held) b after (u ∷ more) h p =
+    let all : (c ∷ held) ++ b ∷ after ≡ (c ∷ held) ++ (p.0 ∷ (p.1 ++ bytes_sent more)) = h ∙ ap (λ x. x ++ bytes_sent more) (sym p.2) ∙ append_assoc (c ∷ held) (p.0 ∷ p.1) (bytes_sent more) in
+    let tails : b ∷ after ≡ p.0 ∷ (p.1 ++ bytes_sent more) = append_cancel_left (c ∷ held) (b ∷ after) (p.0 ∷ (p.1 ++ bytes_sent more)) all in
+    let same : b ≡ p.0 = cc in
+    record { first = u; more = more; is = refl; rest = p.1; begins = ap (λ x. (c ∷ held) ++ x ∷ p.1) same ∙ p.2; goes_on = cc }
 
-next_begun : (held : List ℕ) (b : ℕ) (after : List ℕ) (units : List Sent) → held ++ b ∷ after ≡ bytes_sent units → Begun held units → Next held b after units
-next_begun held b after units h p =
-    let all : held ++ b ∷ after ≡ held ++ (p.byte ∷ (p.rest ++ bytes_sent p.more)) =
-    h ∙ ap (λ x. bytes_sent x) p.is ∙ ap (λ x. x ++ bytes_sent p.more) (sym p.begins) ∙ append_assoc held (p.byte ∷ p.rest) (bytes_sent p.more) in
-    let tails : b ∷ after ≡ p.byte ∷ (p.rest ++ bytes_sent p.more) = append_cancel_left held (b ∷ after) (p.byte ∷ (p.rest ++ bytes_sent p.more)) all in
-    let same : b ≡ p.byte = cc in
-    record { first = p.first; more = p.more; is = p.is; rest = p.rest; begins = ap (λ x. held ++ x ∷ p.rest) same ∙ p.begins; goes_on = cc }
-
-next : (held : List ℕ) (b : ℕ) (after : List ℕ) (units : List Sent) → held ++ b ∷ after ≡ bytes_sent units → (held ≡ []) ⊎ Begun held units → Next held b after units
-next held b after units h (inl e) = subst (λ x. Next x b after units) (sym e) (next_start b after units (ap (λ x. x ++ b ∷ after) (sym e) ∙ h))
-next held b after units h (inr p) = next_begun held b after units h p
+is_part : (held : List ℕ) (b : ℕ) (rest : List ℕ) (u : Sent) (more : List Sent) → held ++ b ∷ rest ≡ bytes_in u → IsPart held (u ∷ more)
+is_part [] b rest u more e = tt
+is_part (c ∷ held) b rest u more e = (b, rest, e)
 
 -- It is of the expected version, or a notify where none is agreed on.
 abbrev MayRead : Version → Bool → Sent → Type 0
@@ -136,19 +125,19 @@ case_of : (version : Version) (any : Bool) (held : List ℕ) (b : ℕ) (after : 
     → after ≡ rest ++ bytes_sent more → ByteCase version any held b after units
 case_of version any held b after units u more [] may h fit is begins on =
     let fits : AllByRecursion IsSent (u ∷ more) = subst (AllByRecursion IsSent) is fit in
-    wholly u more is (ap (judge version any) begins ∙ sent_judged version any u may fits.0) (record { whole = on; partial = inl refl; fit = fits.1 })
+    wholly u more is (ap (judge version any) begins ∙ sent_judged version any u may fits.0) (record { whole = on; part = tt; fit = fits.1 })
 case_of version any held b after units u more (c ∷ rest) may h fit is begins on =
     let fits : AllByRecursion IsSent (u ∷ more) = subst (AllByRecursion IsSent) is fit in
     let begun : (held ++ b ∷ []) ++ c ∷ rest ≡ bytes_in u = append_assoc held (b ∷ []) (c ∷ rest) ∙ begins in
     partly (part_judged version any u (held ++ b ∷ []) rest c may fits.0 begun) (record {
       whole = append_assoc held (b ∷ []) after ∙ h;
-      partial = inr (record { first = u; more = more; is = is; byte = c; rest = rest; begins = begun });
+      part = subst (IsPart (held ++ b ∷ [])) (sym is) (is_part (held ++ b ∷ []) c rest u more begun);
       fit = fit;
     })
 
 case_by_first : (version : Version) (any : Bool) (held : List ℕ) (b : ℕ) (after : List ℕ) (units : List Sent) → ((u : Sent) (more : List Sent) → units ≡ u ∷ more → MayRead version any u) → Stream held (b ∷ after) units → ByteCase version any held b after units
 case_by_first version any held b after units may s =
-    let n = next held b after units s.whole s.partial in
+    let n = next held b after units s.whole s.part in
     case_of version any held b after units n.first n.more n.rest (may n.first n.more n.is) s.whole s.fit n.is n.begins n.goes_on
 
 pub head_is : {X : Type 0} (x y : X) (xs ys : List X) → x ∷ xs ≡ y ∷ ys → x ≡ y
@@ -210,7 +199,7 @@ part_version version None u held rest speaks e some =
 -- So does the next byte of a stream,
 pub byte_version : (version : Version) (agreed : Option Version) (held : List ℕ) (b : ℕ) (after : List ℕ) (units : List Unit) → MaySpeak version agreed → Stream held (b ∷ after) (in_version version units) → version_in agreed (held ++ b ∷ []) ≡ version
 byte_version version agreed held b after units speaks s =
-    let n = next held b after (in_version version units) s.whole s.partial in
+    let n = next held b after (in_version version units) s.whole s.part in
     let own = (first_in version units n.first n.more n.is).own in
     part_version version agreed n.first.unit (held ++ b ∷ []) n.rest speaks (append_assoc held (b ∷ []) n.rest ∙ n.begins ∙ ap (λ v. sent v n.first.unit) own) (omega (arith, length-append held (b ∷ [])))
 
@@ -219,22 +208,27 @@ pub held_version : (version : Version) (agreed : Option Version) (held after : L
 held_version version (Some one) held after units speaks s = speaks
 held_version version None held after units speaks s = by_length (nat_lt (length held) 8) refl
   where
-    by_part : 0 < length held → (held ≡ []) ⊎ Begun held (in_version version units) → first_version held ≡ version
-    by_part some (inl e) = absurd (let none = ap length e in omega (arith, some, none))
-    by_part some (inr p) =
-        part_version version None p.first.unit held (p.byte ∷ p.rest) tt (p.begins ∙ ap (λ v. sent v p.first.unit) (first_in version units p.first p.more p.is).own) some
+    by_part : (held : List ℕ) (units : List Unit) → 0 < length held → IsPart held (in_version version units) → first_version held ≡ version
+    by_part [] units some p = absurd (omega (arith, some))
+    by_part (c ∷ held) [] some p = absurd p
+    by_part (c ∷ held) (u ∷ units) some p = part_version version None u (c ∷ held) (p.0 ∷ p.1) tt p.2 some
 
     not_below : nat_lt (length held) 8 ≡ false → 0 < length held
     not_below h = grind (arith, nat_tests)
 
     by_length : (b : Bool) → nat_lt (length held) 8 ≡ b → MaySpeak version (if b then None else Some (first_version held))
     by_length true e = tt
-    by_length false e = by_part (not_below e) s.partial
+    by_length false e = by_part held units (not_below e) s.part
+
+pub none_part : (held : List ℕ) (units : List Sent) → held ≡ [] → IsPart held units
+none_part [] units e = tt
+none_part (c ∷ held) units e = absurd (let h : c ∷ held ≡ [] = e in cc)
 
 -- PDUs that are sent afterwards
-begun-append : (held : List ℕ) (units more : List Sent) → (held ≡ []) ⊎ Begun held units → (held ≡ []) ⊎ Begun held (units ++ more)
-begun-append held units more (inl e) = inl e
-begun-append held units more (inr p) = inr (record { first = p.first; more = p.more ++ more; is = ap (λ x. x ++ more) p.is; byte = p.byte; rest = p.rest; begins = p.begins })
+part-append : (held : List ℕ) (units more : List Sent) → IsPart held units → IsPart held (units ++ more)
+part-append [] units more p = tt
+part-append (c ∷ held) [] more p = absurd p
+part-append (c ∷ held) (u ∷ units) more p = p
 
 pub all_sent : (version : Version) (units : List Unit) → AllByRecursion (IsUnitOf version) units → AllByRecursion IsSent (in_version version units)
 all_sent version [] h = tt
@@ -249,15 +243,9 @@ bytes_of_version version (u ∷ units) = ap (λ x. sent version u ++ x) (bytes_o
 pub stream-append : (version : Version) (held after : List ℕ) (coming : List Sent) (units : List Unit) → Stream held after coming → AllByRecursion (IsUnitOf version) units → Stream held (after ++ sent_all version units) (coming ++ in_version version units)
 stream-append version held after coming units s fit = record {
   whole = sym (append_assoc held after (sent_all version units)) ∙ ap (λ x. x ++ sent_all version units) s.whole ∙ ap (λ x. bytes_sent coming ++ x) (sym (bytes_of_version version units)) ∙ sym (flat_map-append bytes_in coming (in_version version units));
-  partial = begun-append held coming (in_version version units) s.partial;
+  part = part-append held coming (in_version version units) s.part;
   fit = all_both IsSent coming (in_version version units) s.fit (all_sent version units fit);
 }
-
--- what is held of the first PDU
-pub part_of : (held : List ℕ) (units : List Sent) → (held ≡ []) ⊎ Begun held units → IsPart held units
-part_of [] units h = tt
-part_of (b ∷ held) units (inl e) = absurd (let k : b ∷ held ≡ [] = e in cc)
-part_of (b ∷ held) units (inr p) = subst (λ x. IsPart (b ∷ held) x) (sym p.is) (p.byte, p.rest, p.begins)
 
 -- bytes, one by one
 pub all_bytes : (bytes : List ℕ) → AllByRecursion (λ b. b < 256) bytes → AreBytes bytes
