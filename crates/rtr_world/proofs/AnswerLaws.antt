@@ -19,7 +19,7 @@ use Rattle.rtr_ends.specs.Transcript.{Begun, Question, is_among, led_to}
 use Rattle.rtr_world.specs.OneAnswer.{NotifiesOf, without_notifies}
 use Rattle.rtr_world.proofs.Invariant.{after_stage, Leads, nothing_yet}
 use Rattle.rtr_ends.specs.Commit.{Commits}
-use Rattle.std.proofs.Math.Bool.{or_assoc}
+use Rattle.std.proofs.Math.Bool.{or-false, or_assoc}
 use Rattle.std.proofs.lemmas.Cmp.{eq_by_cmp_equiv}
 use Rattle.prefixes.proofs.Basics.{or_swap}
 use Rattle.vrps.proofs.Sizes.{size_le}
@@ -90,11 +90,7 @@ one_more : (all : List Payload) (v : Payload) (rest before : List Payload) → T
 one_more all v rest before h q = or_swap (is_among q rest) (eq_by_cmp vrp_cmp q v) (is_among q before) ∙ sym (or_assoc (eq_by_cmp vrp_cmp q v) (is_among q rest) (is_among q before)) ∙ h q
 
 none_before : (vs : List Payload) → Together vs vs []
-none_before vs q = or_none (is_among q vs)
-  where
-    or_none : (b : Bool) → (b || false) ≡ b
-    or_none true = refl
-    or_none false = refl
+none_before vs q = or-false (is_among q vs)
 
 -- The records of a change, and an End of Data behind them, lead from the first set to the second.
 module _ (base set : VrpSet) (ws vs : List Payload) (c : Commits base ws vs set) (fits : size set ≤ 16777215) (pv : Version) (t : Intervals) (session serial : ℕ) where

@@ -22,7 +22,7 @@ use Rattle.rtr_ends.specs.LinkRules.{Router}
 use Rattle.rtr_ends.specs.RouterLink.{Link, Closed, Asked, Ended, is_reading}
 use Rattle.rtr_ends.specs.Transcript.{Question, query, base_of, of_version}
 use Rattle.rtr_ends.proofs.TableLaws.{false_true}
-use Rattle.rtr_ends.proofs.Effects.{either}
+use Rattle.rtr_ends.proofs.Effects.{either, nothing_out}
 use Rattle.rtr_ends.proofs.FeedingLaws.{feed_keeps}
 use Rattle.rtr_world.specs.OneAnswer.{IsOfNow, NotifiesOf, OwnNotifies, units_in, without_notifies}
 use Rattle.rtr_world.specs.World.{is_read, timing}
@@ -32,14 +32,10 @@ use Rattle.rtr_world.proofs.CacheSteps.{from_now, is_now, IsAnswered, answered_r
 use Rattle.rtr_world.proofs.Invariant.{OneReply, QuestionFits, Replies, no_memory, Shape, IsEarly, Open, Unheard, Flow, Live, GoodLink, GoodRouter}
 use Rattle.rtr_world.proofs.UnitsAtRouters.{live_link}
 use Rattle.rtr_world.proofs.SentLaws.{early_notice, early_own, own-append, units_more}
-use Rattle.prefixes.proofs.Basics.{all_both}
+use Rattle.prefixes.proofs.Basics.{all_both, false_of_not, true_of_not}
 use Rattle.rtr_world.proofs.SideSteps.{live_of}
 use Rattle.rtr_world.proofs.UnitStreams.{MaySpeak, Stream, byte_version, held_version, ByteCase, first_in, head_is, partly, tail_is, wholly, one_case, stream-append, all_bytes}
 use Rattle.rtr_world.proofs.Versions.{Present, held_at, Seen, reads_now, seen_after}
-
-none_is : (out : List ℕ) → not (is_none out) ≡ false → out ≡ []
-none_is [] h = refl
-none_is (b ∷ out) h = absurd (let e : true ≡ false = h in cc)
 
 -- A link that does not live asks for nothing, and does not look at what was seen.
 dead_link : (l : Link) (all : List Instance) (i : Instance) (home home' : Option Seen) (r : Router) (conn conn' : Option Conn) (up up' down down' : List ℕ) → is_reading l ≡ false → GoodLink all i home l r conn up down → GoodLink all i home' l r conn' up' down'
@@ -188,7 +184,7 @@ module _ (all : List Instance) (i : Instance) (p : Present all i) (keep : ℕ) (
           seen _ (answered m.conn (b ∷ bs) bs l.0 l.2 q (answer r.spoken i keep timing (query q)).units (conn_after keep timing m.conn.state (Read r.spoken i (query q) (m.conn.held ++ b ∷ []))) refl due refl w a.answered a.replies (inl a.from))))
         where
           due : m.conn.state.due ≡ []
-          due = none_is m.conn.state.due (or_parts m.conn.state.ended (not (is_none m.conn.state.due)) on).1
+          due = nothing_out m.conn.state.due (true_of_not (is_none m.conn.state.due) (or_parts m.conn.state.ended (not (is_none m.conn.state.due)) on).1)
 
           l : Live all i home r (Some m.conn) (b ∷ bs) down
           l = live_of r.link all i home r (Some m.conn) (b ∷ bs) down g.link live
@@ -262,10 +258,6 @@ module _ (all : List Instance) (i : Instance) (p : Present all i) (keep : ℕ) (
   unfolding conn_notified
   notified_good o up g = by_test (can_notify i o) refl
     where
-      not_true : (b : Bool) → not b ≡ true → b ≡ false
-      not_true true h = false_true h
-      not_true false h = refl
-
       o' : Conn
       o' = told o (speaks_in o)
 
@@ -297,8 +289,8 @@ module _ (all : List Instance) (i : Instance) (p : Present all i) (keep : ℕ) (
       by_test false e = g
       by_test true e =
           let parts = and_parts (is_published i) (not (conn_stops o)) e in
-          let stops = or_parts o.state.ended (not (is_none o.state.due)) (not_true (conn_stops o) parts.1) in
-          record { table = g.table; unmarked = g.unmarked; link = by_link (is_reading r.link) refl (none_is o.state.due stops.1) }
+          let stops = or_parts o.state.ended (not (is_none o.state.due)) (false_of_not (conn_stops o) parts.1) in
+          record { table = g.table; unmarked = g.unmarked; link = by_link (is_reading r.link) refl (nothing_out o.state.due (true_of_not (is_none o.state.due) stops.1)) }
 
 -- what was seen behind these moments
 read_once : (i : Instance) (home : Option Seen) → reads_now i (reads_now i home) ≡ reads_now i home

@@ -15,7 +15,6 @@ use Rattle.vrps.proofs.Listed.{part_is_set}
 use Rattle.vrps.proofs.SetLaws.{all_of_members, has-empty, has-union, has-without, listing_ascends, same_set, set_of-listing}
 use Rattle.rtr_pdu.specs.Payloads.{AreBytes}
 use Rattle.rtr_pdu.specs.Unit.{IsUnitOf}
-use Rattle.rtr_pdu.specs.Version.{version_number}
 use Rattle.rtr_pdu.specs.declared.unit.Unit.{Unit}
 use Rattle.rtr_pdu.specs.declared.unit.Unit.TheVariants.{SerialQuery, ResetQuery, CacheResponse, Prefix}
 use Rattle.rtr_pdu.proofs.ReadLaws.{AreBytes-take}
@@ -31,6 +30,7 @@ use Rattle.rtr_world.specs.World.{timing}
 use Rattle.rtr_world.proofs.AnswerLaws.{Plain, plain-append, plain_records, commits_lead}
 use Rattle.rtr_world.proofs.Invariant.{FromCache, WasCache, Leads, NoneWithdrawn, WithdrawsFirst, QuestionFits, IsOwn, Replies, nothing_yet, no_data, not_kept, other_session, response}
 use Rattle.rtr_world.proofs.UnitStreams.{all_bytes}
+use Rattle.rtr_world.proofs.WireBytes.{big_bytes, headed, header, number}
 use Rattle.rtr_world.proofs.Versions.{HeldAt, Stands, Present, kept_at, has_sets, of_present, find_session, Seen}
 use Rattle.prefixes.proofs.Basics.{eq_of, eq_true, all_both}
 
@@ -99,16 +99,11 @@ answered_report pv code copy low each =
     short : (n : ℕ) → n ≡ min 4080 (length copy) → n + 0 ≤ 4080
     short n e = let m = min-le_left 4080 (length copy) in omega (arith, e, m)
 
-low_version : (pv : Version) → version_number pv < 256
-low_version V0 = omega arith
-low_version V1 = omega arith
-
 reset_bytes : (pv : Version) → AreBytes (sent pv ResetQuery)
-reset_bytes pv = all_bytes (sent pv ResetQuery) (low_version pv, (omega arith, (omega arith, (omega arith, (omega arith, (omega arith, (omega arith, (omega arith, tt))))))))
+reset_bytes pv = all_bytes (sent pv ResetQuery) (header pv 2 0 8 (omega arith))
 
 serial_bytes : (pv : Version) (session serial : ℕ) → AreBytes (sent pv (SerialQuery session serial))
-serial_bytes pv session serial =
-    all_bytes (sent pv (SerialQuery session serial)) (low_version pv, (omega arith, (omega arith, (omega arith, (omega arith, (omega arith, (omega arith, (omega arith, (omega arith, (omega arith, (omega arith, (omega arith, tt))))))))))))
+serial_bytes pv session serial = all_bytes (sent pv (SerialQuery session serial)) (headed pv 1 session 12 (big_bytes 4 serial) (omega arith) (number 4 serial))
 
 -- an answer that leads on, with what is asked of its PDUs
 pub record Answers (all : List Instance) (pv : Version) (home : Seen) (q : Question) (base : VrpSet) (units : List Unit) : Type 0 where

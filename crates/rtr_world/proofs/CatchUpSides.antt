@@ -9,7 +9,6 @@ use Rattle.vrps.specs.Instance.{Instance, versions, versions_from}
 use Rattle.vrps.specs.VrpSet.{VrpSet}
 use Rattle.vrps.specs.Serial.{serial_at}
 use Rattle.rtr_pdu.specs.Judging.{Judgement, Whole, judge}
-use Rattle.rtr_pdu.specs.declared.unit.Unit.TheVariants.{ErrorReport}
 use Rattle.rtr_pdu.specs.declared.version.Version.{Version}
 use Rattle.rtr_pdu.specs.declared.unit.Unit.{Unit}
 use Rattle.rtr_ends.specs.Answer.{session_in, report, whole_answer}
@@ -30,9 +29,10 @@ use Rattle.rtr_ends.proofs.Effects.{by_clock, by_close, by_whole}
 use Rattle.rtr_world.proofs.EventCalls.{told_closes, gets_keep, sends_keep, settle_keeps, lesser, part_by}
 use Rattle.rtr_world.proofs.Invariant.{Good, GoodRouter, Live, Mine, OneReply}
 use Rattle.rtr_world.proofs.SideSteps.{byte_good, clocked_good, live_of, router_by}
-use Rattle.rtr_world.proofs.UnitStreams.{head_is}
 use Rattle.rtr_world.proofs.Versions.{Present, TableAt, some_is, Seen, IsSeen, HeldAt, Stands, has_sets, held_at, of_present}
 use Rattle.rtr_world.proofs.UnitEffects.{Belongs, by_shape}
+use Rattle.rtr_world.proofs.UnitsAtRouters.{nothing_right}
+use Rattle.rtr_world.proofs.CatchUpAnswers.{other_report}
 use Rattle.rtr_world.proofs.SideLaws.{all_new}
 use Rattle.rtr_world.proofs.KeptTables.{AllTell, SideTells, after_tells, new_side_tells}
 use Rattle.rtr_world.proofs.WorldSteps.{GoodWorld, after_good, new_good}
@@ -42,14 +42,6 @@ use Rattle.prefixes.proofs.Basics.{true_of_not}
 no_elements : {A : Type 0} (xs : List A) → length xs ≤ 0 → xs ≡ []
 no_elements [] h = refl
 no_elements (x ∷ xs) h = absurd (omega (arith, h))
-
-nothing_right : {A : Type 0} (xs ys : List A) → xs ++ ys ≡ [] → ys ≡ []
-nothing_right [] ys e = e
-nothing_right (x ∷ xs) ys e = cc
-
-abbrev code_of : Unit → ℕ
-code_of (ErrorReport e) = e.code
-code_of u = 0
 
 -- A version is not over at the moment of its commit.
 lasts : (limit now : ℕ) → nat_lt limit (now - now) ≡ false
@@ -106,8 +98,7 @@ module _ (all : List Instance) (i : Instance) (p : Present all i) (r : Router) (
       let none : from.cache.sets ≡ [] = no_versions r.spoken (session_in r.spoken from.cache) from.cache.start from.cache.sets copy (sym e ∙ from.are) in
       sym (ap (λ x. x.sets) made) ∙ nothing_right from.was.since.more h.made.sets (sym from.was.since.sets ∙ none)
   no_sets units copy e (inr other) =
-      let same : report 2 copy ≡ report 1 [] = head_is (report 2 copy) (report 1 []) [] [] (sym e ∙ other.1) in
-      let code : 2 ≡ 1 = ap code_of same in absurd (omega (arith, code))
+      absurd (other_report 2 1 copy [] (λ n. absurd (omega (arith, n))) (sym e ∙ other.1))
 
   -- every PDU
   unit_current : (u : Unit) (more wanted : List Unit) → Belongs all h r u more wanted → TableAt all r.version r.table → C r → C (on_unit r.link u r)
@@ -267,30 +258,14 @@ module _ (w : World) (p : Present (instances w) w.present) where
   unfolding connects connects_at
   connects_fresh s = ((λ live. (refl, refl)), clocked_lasts s.router.now s.router)
 
-  sends_fresh : (most : ℕ) (s : Side) → FreshS s → FreshS (router_sends most s)
-  unfolding router_sends router_pulled
-  sends_fresh most s h = h
-
-  cut_fresh : (left : ℕ) (s : Side) → FreshS s → FreshS (cut left s)
-  unfolding cut
-  cut_fresh left s h = h
-
-  cache_gets_fresh : (most : ℕ) (wanting : Option ℕ) (s : Side) → FreshS s → FreshS (cache_gets w most wanting s)
-  unfolding cache_gets
-  cache_gets_fresh most wanting s h = gets_keep FreshS (λ x conn up down read k. k) w most wanting s s.conn h
-
-  cache_sends_fresh : (most : ℕ) (s : Side) → FreshS s → FreshS (cache_sends w most s)
-  unfolding cache_sends
-  cache_sends_fresh most s h = sends_keep FreshS (λ x conn up down read k. k) w.keep most s s.conn h
-
   pub step_fresh : (event : SideEvent) (wanting : Option ℕ) (s : Side) → IsMove event → GoodS s → FreshS s → FreshS (side_step w event wanting s)
-  unfolding side_step
+  unfolding side_step router_sends router_pulled cache_gets cache_sends cut
   step_fresh Connect wanting s is g h = connects_fresh s
-  step_fresh (RouterSends most) wanting s is g h = sends_fresh most s h
-  step_fresh (CacheGets most) wanting s is g h = cache_gets_fresh most wanting s h
-  step_fresh (CacheSends most) wanting s is g h = cache_sends_fresh most s h
+  step_fresh (RouterSends most) wanting s is g h = h
+  step_fresh (CacheGets most) wanting s is g h = gets_keep FreshS (λ x conn up down read k. k) w most wanting s s.conn h
+  step_fresh (CacheSends most) wanting s is g h = sends_keep FreshS (λ x conn up down read k. k) w.keep most s s.conn h
   step_fresh (RouterGets most) wanting s is g h = router_gets_fresh most wanting s g h
-  step_fresh (Cut left) wanting s is g h = cut_fresh left s h
+  step_fresh (Cut left) wanting s is g h = h
   step_fresh _ wanting s is g h = absurd is
 
   lesser_move : (event : SideEvent) (bytes : ℕ) → IsMove event → IsMove (lesser event bytes)
@@ -301,8 +276,8 @@ module _ (w : World) (p : Present (instances w) w.present) where
   part_fresh event bytes wanting s is g h = part_by FreshS w event bytes wanting s h (λ m. step_fresh (lesser event bytes) wanting s (lesser_move event bytes is) g h)
 
   pub refused_fresh : (event : SideEvent) (bytes : ℕ) (wanting : Option ℕ) (s : Side) → IsMove event → GoodS s → FreshS s → FreshS (side_refused w event bytes wanting s)
-  unfolding side_refused
-  refused_fresh event bytes wanting s is g h = cut_fresh 0 (side_part w event bytes wanting s) (part_fresh event bytes wanting s is g h)
+  unfolding side_refused cut
+  refused_fresh event bytes wanting s is g h = part_fresh event bytes wanting s is g h
 
 -- After every list of events, a router that connected last and only moved since holds the newest version where its link is idle.
 -- a fact of the side of this number
@@ -345,20 +320,14 @@ module _ (r : ℕ) where
       settled_fresh (goes_through (On r Connect) wanting w)
       (at_on_side (Good w.keep w.past w.present) (λ s. ⊤) (Fresh w.present) r (side_step w Connect wanting) w.sides (λ s k h. connects_fresh w g.present s) g.sides (at_any r w.sides))
 
-  through_fresh : (event : SideEvent) (wanting : Option ℕ) (w : World) → IsMove event → GoodWorld w → FreshAt w → FreshAt (goes_through (On r event) wanting w)
-  unfolding goes_through
-  through_fresh event wanting w is g h =
-      at_on_side (Good w.keep w.past w.present) (Fresh w.present) (Fresh w.present) r (side_step w event wanting) w.sides (λ s k x. step_fresh w g.present event wanting s is k x) g.sides h
-
-  refused_part_fresh : (event : SideEvent) (bytes : ℕ) (wanting : Option ℕ) (w : World) → IsMove event → GoodWorld w → FreshAt w → FreshAt (is_refused (On r event) bytes wanting w)
-  unfolding is_refused
-  refused_part_fresh event bytes wanting w is g h =
+  after_fresh : (event : SideEvent) (outcome : Outcome) (w : World) → IsMove event → GoodWorld w → FreshAt w → FreshAt (after (On r event) outcome w)
+  unfolding goes_through is_refused
+  after_fresh event (Done wanting) w is g h =
+      settled_fresh (goes_through (On r event) wanting w)
+      (at_on_side (Good w.keep w.past w.present) (Fresh w.present) (Fresh w.present) r (side_step w event wanting) w.sides (λ s k x. step_fresh w g.present event wanting s is k x) g.sides h)
+  after_fresh event (Memory bytes wanting) w is g h =
       settled_fresh (record w { sides = on_side r (side_refused w event bytes wanting) w.sides })
       (at_on_side (Good w.keep w.past w.present) (Fresh w.present) (Fresh w.present) r (side_refused w event bytes wanting) w.sides (λ s k x. refused_fresh w g.present event bytes wanting s is k x) g.sides h)
-
-  after_fresh : (event : SideEvent) (outcome : Outcome) (w : World) → IsMove event → GoodWorld w → FreshAt w → FreshAt (after (On r event) outcome w)
-  after_fresh event (Done wanting) w is g h = settled_fresh (goes_through (On r event) wanting w) (through_fresh event wanting w is g h)
-  after_fresh event (Memory bytes wanting) w is g h = refused_part_fresh event bytes wanting w is g h
   after_fresh event _ w is g h = h
 
   move_fresh : (event : Event) (outcome : Outcome) (w : World) → IsMoveOf r event → GoodWorld w → FreshAt w → FreshAt (after event outcome w)

@@ -9,10 +9,10 @@ use Rattle.rtr_ends.specs.Router.{RouterCall, Connects, Receives, Pulls, Closes,
 use Rattle.rtr_ends.specs.RouterLink.{Link, Closed, Ended, is_closed, is_reading}
 use Rattle.rtr_ends.specs.Transcript.{Refused}
 use Rattle.rtr_ends.proofs.TableLaws.{false_true}
-use Rattle.rtr_world.specs.World.{Side, World, instances, SideEvent, RouterRestart, Speak, Connect, RouterSends, CacheGets, CacheSends, RouterGets, Cut, NotifyRouter, Ask, Tick, is_ended, newly_ended, noted, with_end, connects, router_restarts, speaks, router_sends, sends_from, cache_sends, gets_at, cache_gets, notifies_at, router_gets, cut, on_side, side_step, side_part, side_refused, tell_closed, settle, settle_link, settle_rest, settle_wire, Event, close_ended, settle_conn}
-use Rattle.rtr_world.specs.History.{Outcome, MayEnd, after, refusal, Entry, IsEvent, LeadsFrom}
+use Rattle.rtr_world.specs.World.{Side, World, instances, SideEvent, RouterRestart, Speak, Connect, RouterSends, CacheGets, CacheSends, RouterGets, Cut, NotifyRouter, Ask, Tick, is_ended, newly_ended, noted, with_end, connects, router_restarts, speaks, router_sends, sends_from, cache_sends, gets_at, cache_gets, notifies_at, router_gets, cut, on_side, side_step, side_part, side_refused, tell_closed, settle, settle_link, settle_rest, settle_wire, Event, Publish, Restart, On, cache_gone, goes_through, settled, is_refused, close_ended, settle_conn}
+use Rattle.rtr_world.specs.History.{Outcome, Done, Memory, MayEnd, after, refusal, Entry, IsEvent, LeadsFrom}
 use Rattle.rtr_ends.proofs.Effects.{by_close}
-use Rattle.rtr_world.proofs.SideLaws.{all_map, all_on_side}
+use Rattle.rtr_world.proofs.SideLaws.{all_map, all_on_side, all_weaker}
 
 -- What each event keeps holds after every list of events; what the parts of the clean-up keep, the clean-up keeps.
 -- a fact of worlds that each event keeps
@@ -284,3 +284,15 @@ module _ (w : World) (Comes : Side → Option ℕ → Type 0) (P : Side → Type
     refusal_keeps bytes =
         all_map (λ s. P (settle (instances w) s)) P (settle (instances w)) (on_side r (side_refused w event bytes wanting) w.sides) (λ s x. x)
         (all_on_side Is (λ s. P (settle (instances w) s)) r (side_refused w event bytes wanting) w.sides (λ s x. settles_keep s (is s x)) (λ s x. refused_keeps event bytes wanting s (comes s x) (is s x)) h)
+
+-- Every event keeps what each call and each wire keeps.
+pub world_keeps : (P : Side → Type 0) (Comes : World → Side → Option ℕ → Type 0) → ((w : World) → KeptByCalls w (Comes w) P) → (event : Event) (outcome : Outcome) (w : World) (Is : Side → Type 0) → ((s : Side) → Is s → P s)
+    → ((s : Side) (wanting : Option ℕ) → Is s → Comes w s wanting) → AllByRecursion Is w.sides → AllByRecursion P (after event outcome w).sides
+unfolding goes_through settled is_refused
+world_keeps P Comes k (Publish set) (Done wanting) w Is is comes h = let n : World = goes_through (Publish set) wanting w in each_settles n (Comes n) P (k n) w.sides (all_weaker Is P w.sides is h)
+world_keeps P Comes k (Restart session session0 start) (Done wanting) w Is is comes h =
+    let n : World = goes_through (Restart session session0 start) wanting w in
+    each_settles n (Comes n) P (k n) (map cache_gone w.sides) (all_map Is P cache_gone w.sides (λ s x. (k w).wires s (is s x) None [] s.down s.home s.read_at) h)
+world_keeps P Comes k (On r event) (Done wanting) w Is is comes h = done_keeps w (Comes w) P (k w) Is is r event wanting (λ s x. if_gets event (Comes w s wanting) (comes s wanting x)) h
+world_keeps P Comes k (On r event) (Memory bytes wanting) w Is is comes h = refusal_keeps w (Comes w) P (k w) Is is r event wanting (λ s x. if_gets event (Comes w s wanting) (comes s wanting x)) h bytes
+world_keeps P Comes k _ _ w Is is comes h = all_weaker Is P w.sides is h

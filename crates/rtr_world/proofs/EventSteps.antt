@@ -53,9 +53,10 @@ module _ (w : World) (p : Present (instances w) w.present) where
   abbrev GoodS : Side → Type 0
   GoodS s = Good w.keep w.past w.present s
 
-  router_sends_good : (most : ℕ) (s : Side) → GoodS s → GoodS (router_sends most s)
-  unfolding router_sends router_pulled
-  router_sends_good most s g = record {
+  -- Other bytes are on the wires of the same router, and others are to be pulled from it.
+  wired_good : (s : Side) (out : List ℕ) (conn : Option Conn) (up down : List ℕ) → GoodS s → (s.router.out ≡ [] → out ≡ []) → ((h : Seen) → Flow (instances w) w.present h s.router s.conn s.up s.down → Flow (instances w) w.present h (record (s.router) { out = out }) conn up down)
+      → GoodS (record s { router = record (s.router) { out = out }; conn = conn; up = up; down = down })
+  wired_good s out conn up down g none flow = record {
     seen = g.seen;
     is_seen = g.is_seen;
     is_read = g.is_read;
@@ -63,39 +64,25 @@ module _ (w : World) (p : Present (instances w) w.present) where
     router = record {
       table = g.router.table;
       unmarked = g.router.unmarked;
-      link = live_map s.router.link (instances w) (instances w) w.present w.present g.seen g.seen s.router (router_pulled most s.router) s.conn s.conn s.up (s.up ++ take most s.router.out) s.down s.down (λ e. e) (drop_none most s.router.out) refl refl g.router.link (λ l. (
-        l.0,
-        l.1,
-        record {
-          said = l.2.said;
-          lost = l.2.lost;
-          downward = l.2.downward;
-          open_at = if_open (Open w.present s.router.spoken l.0 s.router.out s.up l.2.wanted l.2.coming s.router.agreed l.2.lost) (Open w.present s.router.spoken l.0 (drop most s.router.out) (s.up ++ take most s.router.out) l.2.wanted l.2.coming s.router.agreed l.2.lost) s.conn
-              (λ o op. record { linked = op.linked; upward = sent_first most o.held s.up s.router.out (in_version s.router.spoken l.2.wanted) op.upward; spoken = op.spoken; unheard = op.unheard }) l.2.open_at;
-        },
-      ));
+      link = live_map s.router.link (instances w) (instances w) w.present w.present g.seen g.seen s.router (record (s.router) { out = out }) s.conn conn s.up up s.down down (λ x. x) none refl refl g.router.link (λ l. (l.0, l.1, flow l.0 l.2));
     };
   }
 
-  -- Other bytes are on the wires of the same router.
-  wired_good : (s : Side) (conn : Option Conn) (up down : List ℕ) → GoodS s → ((h : Seen) → Flow (instances w) w.present h s.router s.conn s.up s.down → Flow (instances w) w.present h s.router conn up down) → GoodS (record s { conn = conn; up = up; down = down })
-  wired_good s conn up down g flow = record {
-    seen = g.seen;
-    is_seen = g.is_seen;
-    is_read = g.is_read;
-    order = g.order;
-    router = record {
-      table = g.router.table;
-      unmarked = g.router.unmarked;
-      link = live_map s.router.link (instances w) (instances w) w.present w.present g.seen g.seen s.router s.router s.conn conn s.up up s.down down (λ x. x) (λ x. x) refl refl g.router.link (λ l. (l.0, l.1, flow l.0 l.2));
-    };
-  }
+  router_sends_good : (most : ℕ) (s : Side) → GoodS s → GoodS (router_sends most s)
+  unfolding router_sends router_pulled
+  router_sends_good most s g = wired_good s (drop most s.router.out) s.conn (s.up ++ take most s.router.out) s.down g (drop_none most s.router.out) (λ h f. record {
+    said = f.said;
+    lost = f.lost;
+    downward = f.downward;
+    open_at = if_open (Open w.present s.router.spoken h s.router.out s.up f.wanted f.coming s.router.agreed f.lost) (Open w.present s.router.spoken h (drop most s.router.out) (s.up ++ take most s.router.out) f.wanted f.coming s.router.agreed f.lost) s.conn
+        (λ o op. record { linked = op.linked; upward = sent_first most o.held s.up s.router.out (in_version s.router.spoken f.wanted) op.upward; spoken = op.spoken; unheard = op.unheard }) f.open_at;
+  })
 
   -- bytes are pulled from the cache
   sends_good : (most : ℕ) (s : Side) (o : Option Conn) → s.conn ≡ o → GoodS s → GoodS (sends_from w.keep most s o)
   unfolding conn_pulled
   sends_good most s None e g = g
-  sends_good most s (Some o) e g = wired_good s (Some (conn_pulled w.keep timing most o)) s.up (s.down ++ take most o.state.due) g (λ h f.
+  sends_good most s (Some o) e g = wired_good s s.router.out (Some (conn_pulled w.keep timing most o)) s.up (s.down ++ take most o.state.due) g (λ x. x) (λ h f.
       let op : Open w.present s.router.spoken h s.router.out s.up f.wanted f.coming s.router.agreed f.lost o = subst (λ x. IfOpen x (Open w.present s.router.spoken h s.router.out s.up f.wanted f.coming s.router.agreed f.lost)) e f.open_at in
       let due : List ℕ = o.state.due in
       let split : o.state.due ≡ take most o.state.due ++ drop (pulled_count most o) o.state.due =
@@ -110,10 +97,6 @@ module _ (w : World) (p : Present (instances w) w.present) where
         downward = subst (λ x. Stream s.router.held x f.coming) bytes f.downward;
         open_at = record { upward = op.upward; spoken = op.spoken; unheard = op.unheard; linked = op.linked };
       })
-
-  cache_sends_good : (most : ℕ) (s : Side) → GoodS s → GoodS (cache_sends w most s)
-  unfolding cache_sends
-  cache_sends_good most s g = sends_good most s s.conn refl g
 
   keeps_so : (home : Option Instance) (seen : Option Seen) → IsSeen w.keep home seen → (h : Seen) → seen ≡ Some h → h.keep ≡ w.keep
   keeps_so None None s h e = absurd (let k : ◌≡◌ {A = Option Seen} None (Some h) = e in cc)
@@ -136,10 +119,6 @@ module _ (w : World) (p : Present (instances w) w.present) where
         router = cache.fed_good (instances w) w.present p w.keep g.seen (keeps_so s.home g.seen g.is_seen) s.router s.down (drop most s.up) (record { conn = o; moments = []; wanting = wanting }) (take most s.up) start;
       }
 
-  cache_gets_good : (most : ℕ) (wanting : Option ℕ) (s : Side) → GoodS s → GoodS (cache_gets w most wanting s)
-  unfolding cache_gets
-  cache_gets_good most wanting s g = gets_good most wanting s s.conn refl g
-
   pub gets_now : (most : ℕ) (wanting : Option ℕ) (s : Side) (o : Option Conn) → s.conn ≡ o → is_reading s.router.link ≡ true → GoodS s
       → (conn_due (gets_at w most wanting s o).conn ≡ conn_due o) ⊎ IsOfNow s.router.spoken w.present w.keep wanting s.router.link (conn_due (gets_at w most wanting s o).conn)
   unfolding conn_takes
@@ -160,7 +139,7 @@ module _ (w : World) (p : Present (instances w) w.present) where
 
   cut_good : (left : ℕ) (s : Side) → GoodS s → GoodS (cut left s)
   unfolding cut
-  cut_good left s g = wired_good s None [] (take left s.down) g (λ h f.
+  cut_good left s g = wired_good s s.router.out None [] (take left s.down) g (λ x. x) (λ h f.
       let after : List ℕ = conn_due s.conn ++ f.lost in
       let bytes : s.down ++ (conn_due s.conn ++ f.lost) ≡ take left s.down ++ ([] ++ (drop left s.down ++ (conn_due s.conn ++ f.lost))) =
       ap (λ x. x ++ (conn_due s.conn ++ f.lost)) (sym (take-append-drop left s.down)) ∙ append_assoc (take left s.down) (drop left s.down) (conn_due s.conn ++ f.lost) in
@@ -252,13 +231,13 @@ module _ (w : World) (p : Present (instances w) w.present) where
   no_places s g more e = subst (λ x. Ordered w.past w.present (x ++ s.places) g.seen) (sym e) g.order
 
   pub step_good : (event : SideEvent) (wanting : Option ℕ) (s : Side) → GoodS s → SideTells s → GoodS (side_step w event wanting s)
-  unfolding side_step router_restarts asks ticks_at
+  unfolding side_step router_restarts asks ticks_at cache_gets cache_sends
   step_good RouterRestart wanting s g t = record { seen = None; is_seen = tt; is_read = tt; order = ordered_none w.past w.present s.places g.seen g.order; router = record { table = refl; unmarked = refl; link = (refl, refl, refl, refl) } }
   step_good (Speak version) wanting s g t = speaks_good version s g
   step_good Connect wanting s g t = connects_good s g
   step_good (RouterSends most) wanting s g t = router_sends_good most s g
-  step_good (CacheGets most) wanting s g t = cache_gets_good most wanting s g
-  step_good (CacheSends most) wanting s g t = cache_sends_good most s g
+  step_good (CacheGets most) wanting s g t = gets_good most wanting s s.conn refl g
+  step_good (CacheSends most) wanting s g t = sends_good most s s.conn refl g
   step_good (RouterGets most) wanting s g t = router_gets_good most wanting s g t
   step_good (Cut left) wanting s g t = cut_good left s g
   step_good NotifyRouter wanting s g t = notifies_good s s.conn refl g
@@ -302,7 +281,7 @@ module _ (w : World) (p : Present (instances w) w.present) where
           record { table = shut.table; unmarked = shut.unmarked; link = shut_link (close (clocked s.router.now s.router)) None conn up down shut.closed shut.held shut.agreed shut.session shut.out }
 
   ended_good : (s : Side) (o : Conn) (ended : Bool) (due : List ℕ) → s.conn ≡ Some o → o.state.due ≡ due → GoodS s → GoodS (close_ended s ended due)
-  ended_good s o true [] e de g = wired_good s None s.up s.down g (λ h f.
+  ended_good s o true [] e de g = wired_good s s.router.out None s.up s.down g (λ x. x) (λ h f.
       let bytes : s.down ++ (conn_due s.conn ++ f.lost) ≡ s.down ++ ([] ++ f.lost) = ap (λ x. s.down ++ (conn_due x ++ f.lost)) e ∙ ap (λ x. s.down ++ (x ++ f.lost)) de in
       record { said = f.said; lost = f.lost; downward = subst (λ x. Stream s.router.held x f.coming) bytes f.downward; open_at = tt })
   ended_good s o _ _ e de g = g

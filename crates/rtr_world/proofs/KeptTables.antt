@@ -1,14 +1,13 @@
 -- Each router of a world holds what its transcript keeps.
-use Rattle.std.specs.Prelude.{List, take, refl, ⊤, map}
+use Rattle.std.specs.Prelude.{List, take, refl, ⊤}
 use Rattle.std.specs.List.{AllByRecursion}
 use Rattle.vrps.specs.Instance.{Instance}
 use Rattle.rtr_ends.specs.Router.{Receives}
 use Rattle.rtr_ends.proofs.KeptUnits.{Tells}
 use Rattle.rtr_ends.proofs.KeptLaws.{called_tells, new_tells, refused_closed, refused_closes}
-use Rattle.rtr_world.specs.World.{Side, World, instances, Event, Publish, Restart, On, router_restarts, tell_closed, cache_gone, goes_through, settled, is_refused, new_side}
-use Rattle.rtr_world.specs.History.{Outcome, Done, Memory, after}
-use Rattle.rtr_world.proofs.SideLaws.{all_map}
-use Rattle.rtr_world.proofs.EventCalls.{if_gets, refusal_keeps, closed_link, KeptByCalls, refused_at, each_settles, done_keeps, closed_by}
+use Rattle.rtr_world.specs.World.{Side, World, instances, Event, router_restarts, tell_closed, new_side}
+use Rattle.rtr_world.specs.History.{Outcome, after}
+use Rattle.rtr_world.proofs.EventCalls.{world_keeps, closed_link, KeptByCalls, refused_at, closed_by}
 
 pub record SideTells (s : Side) : Type 0 where
   pub tells : Tells s.router s.items
@@ -36,15 +35,7 @@ abbrev pub AllTell : World → Type 0
 AllTell w = AllByRecursion SideTells w.sides
 
 pub after_tells : (event : Event) (outcome : Outcome) (w : World) → AllTell w → AllTell (after event outcome w)
-unfolding goes_through settled is_refused
-after_tells (Publish set) (Done wanting) w h =
-    let n : World = goes_through (Publish set) wanting w in each_settles n (λ s wanting. ⊤) SideTells (kept_tells n) w.sides h
-after_tells (Restart session session0 start) (Done wanting) w h =
-    let n : World = goes_through (Restart session session0 start) wanting w in
-    each_settles n (λ s wanting. ⊤) SideTells (kept_tells n) (map cache_gone w.sides) (all_map SideTells SideTells cache_gone w.sides (λ s t. record { tells = t.tells }) h)
-after_tells (On r event) (Done wanting) w h = done_keeps w (λ s wanting. ⊤) SideTells (kept_tells w) SideTells (λ s x. x) r event wanting (λ s x. if_gets event ⊤ tt) h
-after_tells (On r event) (Memory bytes wanting) w h = refusal_keeps w (λ s wanting. ⊤) SideTells (kept_tells w) SideTells (λ s x. x) r event wanting (λ s x. if_gets event ⊤ tt) h bytes
-after_tells _ _ w h = h
+after_tells event outcome w h = world_keeps SideTells (λ w s wanting. ⊤) kept_tells event outcome w SideTells (λ s x. x) (λ s wanting x. tt) h
 
 pub new_side_tells : SideTells new_side
 new_side_tells = record { tells = new_tells }

@@ -21,7 +21,8 @@ use Rattle.rtr_world.specs.declared.side.Side as values
 use Rattle.rtr_world.specs.declared.world.World as code
 use Rattle.rtr_world.proofs.SideLaws.{map_there}
 use Rattle.rtr_world.proofs.Showing.{used_more}
-use Rattle.rtr_world.proofs.WorldSteps.{begun, neither_so}
+use Rattle.std.proofs.lemmas.Bool.{or_parts}
+use Rattle.rtr_world.proofs.WorldSteps.{begun}
 use Rattle.prefixes.proofs.Basics.{eq_of}
 
 -- What is refused
@@ -115,7 +116,7 @@ pub gone_parts : (w : World) (session session0 start : ℕ) (at : ℕ → Option
     → ShowsCache HoldsSteps (state_of (restarted w session session0 start) (λ d. None)) later → ShowsParts (restarted w session session0 start) (λ d. None) later news
 gone_parts w session session0 start at cache later olds news free parts lost served = record {
   serves = served;
-  each = λ r. subst (λ a. ShowsAt (restarted w session session0 start) (λ d. None) a (slice_get news r)) (sym (map_there r cache_gone w.sides)) (gone_at w session session0 start at (side_at r w.sides) (slice_get olds r) (slice_get news r) (neither_so (is_used V1 (instances w) session) (is_used V0 (instances w) session0) free).0 (parts.each r) (lost r));
+  each = λ r. subst (λ a. ShowsAt (restarted w session session0 start) (λ d. None) a (slice_get news r)) (sym (map_there r cache_gone w.sides)) (gone_at w session session0 start at (side_at r w.sides) (slice_get olds r) (slice_get news r) (or_parts (is_used V1 (instances w) session) (is_used V0 (instances w) session0) free).0 (parts.each r) (lost r));
   own = λ r d k has also. absurd (lost_number (slice_get olds r) (slice_get news r) k (lost r) has);
   all = λ n some. absurd (let k : false ≡ true = some in cc);
 }

@@ -6,6 +6,11 @@ use Rattle.std.proofs.Common.{zero, suc, ap}
 use Rattle.rtr_world.specs.History.{side_at}
 use Rattle.rtr_world.specs.World.{Side, new_side, new_sides, on_side}
 
+-- what follows from a fact of each side
+pub all_weaker : (P Q : Side → Type 0) (sides : List Side) → ((s : Side) → P s → Q s) → AllByRecursion P sides → AllByRecursion Q sides
+all_weaker P Q [] f h = tt
+all_weaker P Q (s ∷ sides) f h = (f s h.0, all_weaker P Q sides f h.1)
+
 -- a fact of each side
 module _ (P : Side → Type 0) where
   pub all_new : P new_side → (routers : ℕ) → AllByRecursion P (new_sides routers)
@@ -15,11 +20,7 @@ module _ (P : Side → Type 0) where
   -- one side changes
   pub all_on_side : (Q : Side → Type 0) (r : ℕ) (f : Side → Side) (sides : List Side) → ((s : Side) → P s → Q s) → ((s : Side) → P s → Q (f s)) → AllByRecursion P sides → AllByRecursion Q (on_side r f sides)
   all_on_side Q r f [] stays goes h = tt
-  all_on_side Q zero f (s ∷ sides) stays goes h = (goes s h.0, rest sides h.1)
-    where
-      rest : (sides : List Side) → AllByRecursion P sides → AllByRecursion Q sides
-      rest [] h = tt
-      rest (s ∷ sides) h = (stays s h.0, rest sides h.1)
+  all_on_side Q zero f (s ∷ sides) stays goes h = (goes s h.0, all_weaker P Q sides stays h.1)
   all_on_side Q (suc r) f (s ∷ sides) stays goes h = (stays s h.0, all_on_side Q r f sides stays goes h.1)
 
   -- each side changes
@@ -31,11 +32,6 @@ module _ (P : Side → Type 0) where
 pub all_both : (P Q : Side → Type 0) (sides : List Side) → AllByRecursion P sides → AllByRecursion Q sides → AllByRecursion (λ s. P s × Q s) sides
 all_both P Q [] h k = tt
 all_both P Q (s ∷ sides) h k = ((h.0, k.0), all_both P Q sides h.1 k.1)
-
--- what follows from a fact of each side
-pub all_weaker : (P Q : Side → Type 0) (sides : List Side) → ((s : Side) → P s → Q s) → AllByRecursion P sides → AllByRecursion Q sides
-all_weaker P Q [] f h = tt
-all_weaker P Q (s ∷ sides) f h = (f s h.0, all_weaker P Q sides f h.1)
 
 pub inside : {A : Type 0} {a b : A} → Some a ≡ Some b → a ≡ b
 inside h = cc

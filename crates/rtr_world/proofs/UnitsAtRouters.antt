@@ -50,7 +50,7 @@ asked_on up pv q wanted held e fit s =
     subst (λ x. Stream held x (in_version pv (query q ∷ []))) (ap (λ x. x ++ sent_all pv (query q ∷ [])) (append-nil up) ∙ ap (λ x. up ++ x) (append-nil (sent pv (query q))))
     (stream-append pv held (up ++ []) [] (query q ∷ []) (subst (λ x. Stream held (up ++ []) (in_version pv x)) e s) (fit, tt))
 
-nothing_right : {A : Type 0} (xs ys : List A) → xs ++ ys ≡ [] → ys ≡ []
+pub nothing_right : {A : Type 0} (xs ys : List A) → xs ++ ys ≡ [] → ys ≡ []
 nothing_right [] ys e = e
 nothing_right (x ∷ xs) ys e = cc
 

@@ -58,11 +58,11 @@ low_byte : (n x : ℕ) → byte_at n x < 256
 low_byte zero x = omega arith
 low_byte (suc n) x = modulo (x / 256 ^ suc n)
 
-abbrev big_bytes : ℕ → ℕ → List ℕ
+abbrev pub big_bytes : ℕ → ℕ → List ℕ
 big_bytes zero x = []
 big_bytes (suc n) x = byte_at n x ∷ big_bytes n x
 
-number : (n x : ℕ) → Low (big_bytes n x)
+pub number : (n x : ℕ) → Low (big_bytes n x)
 number zero x = tt
 number (suc n) x = (low_byte n x, number n x)
 
@@ -88,10 +88,10 @@ low_text : (bytes : List ℕ) → IsUtf8 bytes → Low bytes
 low_text bytes u = subst (λ x. Low x) u.1.1 (low_chars u.0 u.1.0)
 
 -- PDUs
-header : (version : Version) (kind field size : ℕ) → kind < 256 → Low (version_number version ∷ kind ∷ big_bytes 2 field ++ big_bytes 4 size)
+pub header : (version : Version) (kind field size : ℕ) → kind < 256 → Low (version_number version ∷ kind ∷ big_bytes 2 field ++ big_bytes 4 size)
 header version kind field size h = (is_byte version, (h, low-append (big_bytes 2 field) (big_bytes 4 size) (number 2 field) (number 4 size)))
 
-headed : (version : Version) (kind field size : ℕ) (more : List ℕ) → kind < 256 → Low more → Low ((version_number version ∷ kind ∷ big_bytes 2 field ++ big_bytes 4 size) ++ more)
+pub headed : (version : Version) (kind field size : ℕ) (more : List ℕ) → kind < 256 → Low more → Low ((version_number version ∷ kind ∷ big_bytes 2 field ++ big_bytes 4 size) ++ more)
 headed version kind field size more h k = low-append (version_number version ∷ kind ∷ big_bytes 2 field ++ big_bytes 4 size) more (header version kind field size h) k
 
 low_flag : (b : Bool) → (if b then 1 else 0) + 2 * 0 < 256

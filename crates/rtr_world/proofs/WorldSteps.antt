@@ -2,7 +2,7 @@
 use Rattle.std.specs.Prelude.{◌≡◌, ℕ, suc, ◌+◌, ◌-◌, ◌<◌, ◌≤◌, ◌^◌, Bool, true, false, ◌&&◌, ◌||◌, ◌==◌, nat_lt, List, [], ◌∷◌, ◌++◌, length, Option, Some, None, is_some, if◌then◌else◌, refl, ⊤, map, take, drop}
 use Rattle.std.specs.List.{AllByRecursion}
 use Rattle.std.proofs.Common.{sym, ap, ◌∙◌, subst, arith, inl, inr, append_assoc}
-use Rattle.std.proofs.lemmas.Bool.{and_parts}
+use Rattle.std.proofs.lemmas.Bool.{and_parts, or_parts}
 use Rattle.std.proofs.lemmas.List.{length-append, take-append-drop}
 use Rattle.prefixes.specs.declared.route.Route.{Route}
 use Rattle.vrps.specs.Instance.{Instance, IsInstance, versions}
@@ -35,7 +35,7 @@ use Rattle.rtr_world.specs.OneAnswer.{units_in, without_notifies}
 use Rattle.rtr_world.specs.VersionPlaces.{NeverBack, position_of}
 use Rattle.rtr_world.specs.World.{Side, SideEvent, World, instances, Event, Publish, Restart, On, cache_gone, on_side, goes_through, settled, is_refused, side_step, side_refused, settle, new_world, cache_gets, new_side}
 use Rattle.rtr_world.proofs.EventSteps.{step_good, refused_good, settle_good, gets_now}
-use Rattle.rtr_world.proofs.EventCalls.{leads_keep, if_gets, refusal_keeps, KeptByCalls, each_settles, done_keeps}
+use Rattle.rtr_world.proofs.EventCalls.{leads_keep, KeptByCalls, world_keeps}
 use Rattle.rtr_world.proofs.Invariant.{WasCache, OfAnswer, OneReply, Replies, no_data, not_kept, other_session, no_memory, response, Shape, IfOpen, Linked, Open, Flow, Good, GoodRouter, if_open}
 use Rattle.rtr_world.proofs.Places.{IfSeen, IsHome, ordered_published, ordered_restarted}
 use Rattle.rtr_world.proofs.SideLaws.{all_new, all_on_side, all_map, all_both, all_weaker}
@@ -261,11 +261,6 @@ restarted_so : (a : Bool) (w : World) (event : Event) (wanting : Option ℕ) →
 restarted_so true w event wanting h = absurd (let e : Done wanting ≡ SessionUsed = h in cc)
 restarted_so false w event wanting h = refl
 
-pub neither_so : (a b : Bool) → (a || b) ≡ false → (a ≡ false) × (b ≡ false)
-neither_so false false h = (refl, refl)
-neither_so true b h = absurd (let e : true ≡ false = h in cc)
-neither_so false true h = absurd (let e : true ≡ false = h in cc)
-
 none_found : (o : Option Instance) → is_some o ≡ false → o ≡ None
 none_found None h = refl
 none_found (Some i) h = absurd (let e : true ≡ false = h in cc)
@@ -278,7 +273,7 @@ begun session session0 start = record { session = session; session0 = session0; 
 pub unused_so : (session session0 start : ℕ) (wanting : Option ℕ) (w : World) → MayEnd (refusal w (Restart session session0 start)) w (Restart session session0 start) (Done wanting) → (pv : Version) → find_session pv (session_in pv (begun session session0 start)) (instances w) ≡ None
 unfolding refusal
 unused_so session session0 start wanting w may =
-    let unused = neither_so (is_used V1 (instances w) session) (is_used V0 (instances w) session0) (restarted_so (is_used V1 (instances w) session || is_used V0 (instances w) session0) w (Restart session session0 start) wanting may) in
+    let unused = or_parts (is_used V1 (instances w) session) (is_used V0 (instances w) session0) (restarted_so (is_used V1 (instances w) session || is_used V0 (instances w) session0) w (Restart session session0 start) wanting may) in
     by_version unused.0 unused.1
   where
     by_version : is_used V1 (instances w) session ≡ false → is_used V0 (instances w) session0 ≡ false → (pv : Version) → find_session pv (session_in pv (begun session session0 start)) (instances w) ≡ None
@@ -431,16 +426,7 @@ module _ (P : Side → Type 0) (k : KeptAlways P) where
   known w g t h = all_both (Known w) P w.sides (known_sides w g t) h
 
   after_keeps : (event : Event) (outcome : Outcome) (w : World) → GoodWorld w → AllTell w → AllP w → AllP (after event outcome w)
-  unfolding goes_through settled is_refused
-  after_keeps (Publish set) (Done wanting) w g t h = let n : World = goes_through (Publish set) wanting w in each_settles n (λ s wanting. Known n s) P (k.keeps n) w.sides h
-  after_keeps (Restart session session0 start) (Done wanting) w g t h =
-      let n : World = goes_through (Restart session session0 start) wanting w in
-      each_settles n (λ s wanting. Known n s) P (k.keeps n) (map cache_gone w.sides) (all_map P P cache_gone w.sides (λ s x. (k.keeps w).wires s x None [] s.down s.home s.read_at) h)
-  after_keeps (On r event) (Done wanting) w g t h =
-      done_keeps w (λ s wanting. Known w s) P (k.keeps w) (KnownP w) (λ s x. x.1) r event wanting (λ s x. if_gets event (Known w s) x.0) (known w g t h)
-  after_keeps (On r event) (Memory bytes wanting) w g t h =
-      refusal_keeps w (λ s wanting. Known w s) P (k.keeps w) (KnownP w) (λ s x. x.1) r event wanting (λ s x. if_gets event (Known w s) x.0) (known w g t h) bytes
-  after_keeps _ _ w g t h = h
+  after_keeps event outcome w g t h = world_keeps P (λ w s wanting. Known w s) k.keeps event outcome w (KnownP w) (λ s x. x.1) (λ s wanting x. x.0) (known w g t h)
 
   pub history_keeps : (made : Made) (history : List Entry) (w : World) → Leads made history w → AllByRecursion P w.sides
   history_keeps made history w leads = (known_leads AllP (λ event outcome x fits may g t h. after_keeps event outcome x g t h) made history w leads (all_new P k.new made.routers)).2
