@@ -10,13 +10,14 @@ use Rattle.rtr_pdu.specs.declared.version.Version.{Version}
 use Rattle.rtr_pdu.specs.Judging.{judge}
 use Rattle.rtr_pdu.specs.Unit.{IsUnitOf}
 use Rattle.rtr_pdu.specs.declared.unit.Unit.{Unit}
-use Rattle.rtr_pdu.specs.declared.unit.Unit.TheVariants.{SerialQuery, ResetQuery, CacheReset, ErrorReport}
+use Rattle.rtr_pdu.specs.declared.unit.Unit.TheVariants.{SerialQuery, ErrorReport}
 use Rattle.rtr_pdu.proofs.NextLaws.{judge_part, judge_sent, some_sent}
 use Rattle.rtr_ends.specs.Answer.{Reply, and_end, and_on, answer, report, sent, sent_all, serial_answer, session_in, step_answer, whole_answer}
 use Rattle.rtr_ends.specs.Cache.{Conn, Taking, conn_byte, conn_stops, conn_takes, finds_memory, is_none, conn_judged, version_at, with_moment}
 use Rattle.rtr_ends.specs.Connection.{Read, Wanting, takes_memory}
 use Rattle.rtr_ends.specs.Transcript.{AskReset, AskSerial, Question, query}
 use Rattle.rtr_ends.proofs.FeedingLaws.{feed_keeps, feed_takes}
+use Rattle.rtr_ends.proofs.Effects.{either}
 use Rattle.rtr_world.specs.World.{timing}
 use Rattle.rtr_world.proofs.UnitStreams.{MaySpeak, part_version}
 
@@ -39,28 +40,31 @@ goes_or_other pv i keep (AskSerial session serial) = by_session (session == sess
     by_session true = inl refl
     by_session false = inr (sent pv (SerialQuery session serial), refl)
 
+abbrev code_at : List Unit → ℕ
+code_at [] = 0
+code_at (u ∷ units) = code_of u
+
 -- Error Report 1 is no answer.
 pub no_wanting : (pv : Version) (i : Instance) (keep : ℕ) (q : Question) → (answer pv i keep timing (query q)).units ≡ report 1 [] ∷ [] → ⊥
-no_wanting pv i keep AskReset = by_sets i.sets
+no_wanting pv i keep q e = let k : true ≡ false = ap (λ x. code_at x == 1) (sym e) ∙ never q in cc
   where
-    by_sets : (sets : List VrpSet) → whole_answer pv (session_in pv i) timing (versions_from i.start sets) ≡ report 1 [] ∷ [] → ⊥
-    by_sets [] e = other_report 2 1 (sent pv ResetQuery) [] (λ k. absurd (omega (arith, k))) e
-    by_sets (x ∷ older) e = let k : whole_answer pv (session_in pv i) timing (versions_from i.start (x ∷ older)) ≡ report 1 [] ∷ [] = e in cc
-no_wanting pv i keep (AskSerial session serial) = by_session (session == session_in pv i)
-  where
-    by_step : (now : NumberedSet) (o : Option NumberedSet) → step_answer pv (session_in pv i) timing now o ≡ report 1 [] ∷ [] → ⊥
-    by_step now None e = let k : CacheReset ∷ [] ≡ report 1 [] ∷ [] = e in cc
-    by_step now (Some before) e = let k : step_answer pv (session_in pv i) timing now (Some before) ≡ report 1 [] ∷ [] = e in cc
+    whole_never : (sets : List VrpSet) → (code_at (whole_answer pv (session_in pv i) timing (versions_from i.start sets)) == 1) ≡ false
+    whole_never [] = refl
+    whole_never (x ∷ older) = refl
 
-    by_sets : (sets : List VrpSet) → serial_answer pv (session_in pv i) keep timing serial (versions_from i.start sets) ≡ report 1 [] ∷ [] → ⊥
-    by_sets [] e = other_report 2 1 (sent pv (SerialQuery (session_in pv i) serial)) [] (λ k. absurd (omega (arith, k))) e
-    by_sets (x ∷ older) e =
-        let now : NumberedSet = record { serial = serial_at i.start (length older); set = x } in
-        by_step (record { serial = serial_at i.start (length older); set = x }) (with_serial serial (record { serial = serial_at i.start (length older); set = x } ∷ take keep (versions_from i.start older))) e
+    step_never : (now : NumberedSet) (o : Option NumberedSet) → (code_at (step_answer pv (session_in pv i) timing now o) == 1) ≡ false
+    step_never now None = refl
+    step_never now (Some before) = refl
 
-    by_session : (b : Bool) → (if b then and_on (serial_answer pv (session_in pv i) keep timing serial (versions_from i.start i.sets)) else and_end (report 0 (sent pv (SerialQuery session serial)) ∷ [])).units ≡ report 1 [] ∷ [] → ⊥
-    by_session true e = by_sets i.sets e
-    by_session false e = other_report 0 1 (sent pv (SerialQuery session serial)) [] (λ k. absurd (omega (arith, k))) e
+    serial_never : (serial : ℕ) (sets : List VrpSet) → (code_at (serial_answer pv (session_in pv i) keep timing serial (versions_from i.start sets)) == 1) ≡ false
+    serial_never serial [] = refl
+    serial_never serial (x ∷ older) =
+        let now : NumberedSet = record { serial = serial_at i.start (length older); set = x } in step_never now (with_serial serial (now ∷ take keep (versions_from i.start older)))
+
+    never : (q : Question) → (code_at (answer pv i keep timing (query q)).units == 1) ≡ false
+    never AskReset = whole_never i.sets
+    never (AskSerial session serial) =
+        either (λ (x : Reply). (code_at x.units == 1) ≡ false) (session == session_in pv i) _ _ (λ same. serial_never serial i.sets) (λ other. refl)
 
 module _ (keep : ℕ) (i : Instance) (pv : Version) (u : Unit) (fits : IsUnitOf pv u) (wanting : Option ℕ) where
   -- what is due once the PDU is read, and whether the connection has ended then: its answer, or Error Report 1 in its place

@@ -78,14 +78,18 @@ module _ (all : List Instance) (h : Seen) (pv : Version) (q : Question) (lacking
   still_open units (inl o) other = o
   still_open units (inr r) other = absurd (other r.0 r.1)
 
+  -- All of the reply is read.
+  pub data WasRead (rest : List ℕ) (r : Router) : Type 0 where
+    is_idle : r.link ≡ Idle → r.out ≡ [] → rest ≡ [] → stays → WasRead rest r
+    asks_again : is_serial (Some q) ≡ true → r.link ≡ Asked AskReset → r.out ≡ sent r.spoken (query AskReset) → r.held ≡ [] → Mine h.session (of_version r.spoken r.version) → TableAt all r.version r.table → rest ≡ [] → stays → r.spoken ≡ pv → WasRead rest r
+    has_ended : (end : End) → r.link ≡ Ended end → r.out ≡ [] → Why r → WasRead rest r
+
   -- how far a router has read
   pub data Phase (rest : List ℕ) (r : Router) : Type 0 where
     waits : (units : List Unit) → r.link ≡ Asked q → r.out ≡ [] → QuestionFits h.session q (of_version r.spoken r.version) → TableAt all r.version r.table → Stream r.held rest (in_version r.spoken units) → Replies all r.spoken h q (base_of q r.table) units
         → (units ≡ report 1 [] ∷ [] → lacking) → Shown units → r.spoken ≡ pv → Phase rest r
     goes_on : (a : Begun) (units : List Unit) (serial : ℕ) (set : VrpSet) → r.link ≡ Answering a → r.out ≡ [] → a.session ≡ h.session → Stream r.held rest (in_version r.spoken units) → Leads (base_of a.question r.table) a units h.session serial set → stays → r.spoken ≡ pv → Phase rest r
-    rests : r.link ≡ Idle → r.out ≡ [] → rest ≡ [] → stays → Phase rest r
-    again : is_serial (Some q) ≡ true → r.link ≡ Asked AskReset → r.out ≡ sent r.spoken (query AskReset) → r.held ≡ [] → Mine h.session (of_version r.spoken r.version) → TableAt all r.version r.table → rest ≡ [] → stays → r.spoken ≡ pv → Phase rest r
-    ended : (end : End) → r.link ≡ Ended end → r.out ≡ [] → Why r → Phase rest r
+    all_read : WasRead rest r → Phase rest r
 
   -- the first PDU of the reply
   replied : (rest : List ℕ) (k : Router) (u : Unit) (more : List Unit) → k.held ≡ [] → k.out ≡ [] → TableAt all k.version k.table → QuestionFits h.session q (of_version k.spoken k.version) → Stream [] rest (in_version k.spoken more) → Replies all k.spoken h q (base_of q k.table) (u ∷ more)
@@ -93,12 +97,12 @@ module _ (all : List Instance) (h : Seen) (pv : Version) (q : Question) (lacking
   replied rest k u more held none t f s replies memory shown of =
       by_reply all h k (λ p v n. q ≡ p → (v ∷ more ≡ report 1 [] ∷ [] → lacking) → Shown (v ∷ more) → Phase rest n) q u more f replies (record {
         idles = λ copy e qe memory shown.
-            rests refl none (none_after k.spoken rest more e s) (still_open (report 2 copy ∷ more) shown (λ d x. other_report 2 0 copy d (λ n. absurd (omega (arith, n))) (ap (λ x. report 2 copy ∷ x) (sym e) ∙ x)));
+            all_read (is_idle refl none (none_after k.spoken rest more e s) (still_open (report 2 copy ∷ more) shown (λ d x. other_report 2 0 copy d (λ n. absurd (omega (arith, n))) (ap (λ x. report 2 copy ∷ x) (sym e) ∙ x))));
         again = λ serial e qe memory shown.
-            again (ap (λ x. is_serial (Some x)) qe) refl refl held (mine_again h.session serial (of_version k.spoken k.version) (subst (λ x. QuestionFits h.session x (of_version k.spoken k.version)) qe f)) t (none_after k.spoken rest more e s)
-            (still_open (CacheReset ∷ more) shown (λ d x. not_report d CacheReset more refl x)) of;
-        other = λ session serial copy differs qe memory shown. ended (ends.Told 0) refl none (inr (ap (λ x. is_serial (Some x)) qe, refl, refl));
-        lacks = λ p e qe memory shown. ended (ends.Told 1) refl none (inl (memory (ap (λ x. report 1 [] ∷ x) e)));
+            all_read (asks_again (ap (λ x. is_serial (Some x)) qe) refl refl held (mine_again h.session serial (of_version k.spoken k.version) (subst (λ x. QuestionFits h.session x (of_version k.spoken k.version)) qe f)) t (none_after k.spoken rest more e s)
+            (still_open (CacheReset ∷ more) shown (λ d x. not_report d CacheReset more refl x)) of);
+        other = λ session serial copy differs qe memory shown. all_read (has_ended (ends.Told 0) refl none (inr (ap (λ x. is_serial (Some x)) qe, refl, refl)));
+        lacks = λ p e qe memory shown. all_read (has_ended (ends.Told 1) refl none (inl (memory (ap (λ x. report 1 [] ∷ x) e))));
         begins = λ p own a qe memory shown.
             goes_on (nothing_yet p h.session) more a.serial a.set refl none refl (subst (λ x. Stream x rest (in_version k.spoken more)) (sym held) s) a.leads (still_open (CacheResponse h.session ∷ more) shown (λ d x. not_report d (CacheResponse h.session) more refl x)) of;
       }) refl memory shown
@@ -111,7 +115,7 @@ module _ (all : List Instance) (h : Seen) (pv : Version) (q : Question) (lacking
             let same = stage_keeps (base_of a.question k.table) a announce v b e in
             goes_on b more serial set refl none (same.1 ∙ own) (subst (λ x. Stream x rest (in_version k.spoken more)) (sym held) s)
             (subst (λ x. Leads (base_of x k.table) b more h.session serial set) (sym same.0) (subst (λ s. after_stage s (λ b. Leads (base_of a.question k.table) b more h.session serial set)) e leads)) o of;
-        commits = λ v one number intervals says leads. rests refl none (none_after k.spoken rest more (says serial set leads).0 s) o;
+        commits = λ v one number intervals says leads. all_read (is_idle refl none (none_after k.spoken rest more (says serial set leads).0 s) o);
       }) leads
 
   wants : (may memory : Bool) → (memory ≡ false → lacking) → (may && not memory) ≡ true → lacking
@@ -121,21 +125,21 @@ module _ (all : List Instance) (h : Seen) (pv : Version) (q : Question) (lacking
   bytes_read : (rest : List ℕ) (r : Router) (b : ℕ) (memory : Bool) → (memory ≡ false → lacking) → is_reading r.link ≡ true → Phase (b ∷ rest) r → Phase rest (with_bytes memory (r.held ++ b ∷ []) r (judge r.spoken (not r.agreed) (r.held ++ b ∷ []))).router
   bytes_read rest r b memory lack live (waits units is none f t s replies lacked shown of) =
       case_by (λ n. Phase rest n.router) r b memory rest (in_version r.spoken units) (one_case r.spoken (not r.agreed) r.held b rest units s) (λ s. waits units is none f t s replies lacked shown of)
-      (λ u w. ended ends.Memory refl none (inl (wants (may_lack r.link u r) memory lack w))) (λ u more e s.
+      (λ u w. all_read (has_ended ends.Memory refl none (inl (wants (may_lack r.link u r) memory lack w)))) (λ u more e s.
       let k : Router = record r { held = [] } in
       let first = first_in r.spoken units u more e in
       subst (λ l. Phase rest (on_unit l u.unit k)) (sym is)
       (replied rest k u.unit first.rest refl none t f (subst (Stream [] rest) first.more_is s) (subst (λ x. Replies all r.spoken h q (base_of q r.table) x) first.is replies) (λ e. lacked (first.is ∙ e)) (subst Shown first.is shown) of))
   bytes_read rest r b memory lack live (goes_on a units serial set is none own s leads o of) =
       case_by (λ n. Phase rest n.router) r b memory rest (in_version r.spoken units) (one_case r.spoken (not r.agreed) r.held b rest units s) (λ s. goes_on a units serial set is none own s leads o of)
-      (λ u w. ended ends.Memory refl none (inl (wants (may_lack r.link u r) memory lack w))) (λ u more e s.
+      (λ u w. all_read (has_ended ends.Memory refl none (inl (wants (may_lack r.link u r) memory lack w)))) (λ u more e s.
       let k : Router = record r { held = [] } in
       let first = first_in r.spoken units u more e in
       subst (λ l. Phase rest (on_unit l u.unit k)) (sym is)
       (answered rest k a u.unit first.rest serial set none refl own (subst (Stream [] rest) first.more_is s) (subst (λ x. Leads (base_of a.question r.table) a x h.session serial set) first.is leads) o of))
-  bytes_read rest r b memory lack live (rests is none e o) = absurd (let k : b ∷ rest ≡ [] = e in cc)
-  bytes_read rest r b memory lack live (again serial is out held m t e o of) = absurd (let k : b ∷ rest ≡ [] = e in cc)
-  bytes_read rest r b memory lack live (ended end is none why) = false_true (ap is_reading (sym is) ∙ live)
+  bytes_read rest r b memory lack live (all_read (is_idle is none e o)) = absurd (let k : b ∷ rest ≡ [] = e in cc)
+  bytes_read rest r b memory lack live (all_read (asks_again serial is out held m t e o of)) = absurd (let k : b ∷ rest ≡ [] = e in cc)
+  bytes_read rest r b memory lack live (all_read (has_ended end is none why)) = false_true (ap is_reading (sym is) ∙ live)
 
   pub no_reply : (version : Version) (base : VrpSet) → Replies all version h q base [] → ⊥
   no_reply version base (no_data copy qe e) = let k : [] ≡ report 2 copy ∷ [] = e in cc
@@ -144,16 +148,8 @@ module _ (all : List Instance) (h : Seen) (pv : Version) (q : Question) (lacking
   no_reply version base (no_memory e) = let k : [] ≡ report 1 [] ∷ [] = e in cc
   no_reply version base (response tail e own a) = let k : [] ≡ CacheResponse h.session ∷ tail = e in cc
 
-  -- All of the reply is read.
-  pub data WasRead (rest : List ℕ) (r : Router) : Type 0 where
-    is_idle : r.link ≡ Idle → r.out ≡ [] → rest ≡ [] → stays → WasRead rest r
-    asks_again : is_serial (Some q) ≡ true → r.link ≡ Asked AskReset → r.out ≡ sent r.spoken (query AskReset) → r.held ≡ [] → Mine h.session (of_version r.spoken r.version) → TableAt all r.version r.table → rest ≡ [] → stays → r.spoken ≡ pv → WasRead rest r
-    has_ended : (end : End) → r.link ≡ Ended end → r.out ≡ [] → Why r → WasRead rest r
-
   was_read : (rest : List ℕ) (r : Router) → (0 < length rest → router_stops r ≡ true) → Phase rest r → WasRead rest r
-  was_read rest r stops (rests is none e o) = is_idle is none e o
-  was_read rest r stops (again serial is out held m t e o of) = asks_again serial is out held m t e o of
-  was_read rest r stops (ended end is none why) = has_ended end is none why
+  was_read rest r stops (all_read done) = done
   was_read [] r stops (waits units is none f t s replies lacked shown of) = absurd (no_reply r.spoken (base_of q r.table) (subst (λ x. Replies all r.spoken h q (base_of q r.table) x) (none_left r.spoken r.held units s) replies))
   was_read (b ∷ rest) r stops (waits units is none f t s replies lacked shown of) =
       absurd (let e : true ≡ false = sym (stops (omega arith)) ∙ (λ j. not (is_reading (is j) && is_none (none j))) in cc)
@@ -193,7 +189,7 @@ module _ (all : List Instance) (h : Seen) (pv : Version) (lacking stays : Type 0
   expired_waits : (q : Question) (bytes : List ℕ) (k : Router) (units : List Unit) → k.link ≡ Asked q → k.out ≡ [] → Stream k.held bytes (in_version k.spoken units) → Replies all k.spoken h q (base_of q k.table) units → (units ≡ report 1 [] ∷ [] → lacking) → Shown all h pv q lacking stays units → k.spoken ≡ pv
       → Phase all h pv q lacking stays bytes (expired (Asked q) k)
   expired_waits AskReset bytes k units is none s replies lacked shown of = waits units is none tt refl s replies lacked shown of
-  expired_waits (AskSerial session serial) bytes k units is none s replies lacked shown of = ended ends.Expired refl refl (inr (refl, refl, refl))
+  expired_waits (AskSerial session serial) bytes k units is none s replies lacked shown of = all_read (has_ended ends.Expired refl refl (inr (refl, refl, refl)))
 
   pub clocked_waits : (q : Question) (now : ℕ) (bytes : List ℕ) (r : Router) (units : List Unit) → r.link ≡ Asked q → r.out ≡ [] → QuestionFits h.session q (of_version r.spoken r.version) → TableAt all r.version r.table → Stream r.held bytes (in_version r.spoken units) → Replies all r.spoken h q (base_of q r.table) units
       → (units ≡ report 1 [] ∷ [] → lacking) → Shown all h pv q lacking stays units → r.spoken ≡ pv → Phase all h pv q lacking stays bytes (clocked now r)

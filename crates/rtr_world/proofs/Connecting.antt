@@ -1,8 +1,7 @@
 -- A connection is made.
-use Rattle.std.specs.Prelude.{◌≡◌, ℕ, ◌-◌, ◌<◌, ◌^◌, ◌==◌, true, List, [], ◌∷◌, length, find, Option, Some, None, is_some, Result, Ok, Err, if◌then◌else◌, refl, ⊤, false}
+use Rattle.std.specs.Prelude.{◌≡◌, ℕ, ◌-◌, ◌<◌, ◌^◌, ◌==◌, true, List, [], ◌∷◌, length, find, Option, Some, None, is_some, Result, Ok, Err, if◌then◌else◌, refl, ⊤}
 use Rattle.std.specs.declared.alloc.AllocError.{AllocError}
 use Rattle.std.proofs.Common.{sym, ap, ◌∙◌, subst, arith, inr, inl}
-use Rattle.std.proofs.lemmas.Bool.{cases_Bool}
 use Rattle.vrps.specs.Instance.{Instance, NumberedSet, versions_from}
 use Rattle.vrps.specs.Serial.{serial_at}
 use Rattle.vrps.specs.Steps.{HoldsSteps, Steps}
@@ -22,8 +21,8 @@ use Rattle.rtr_world.specs.SideShown.{BeginsEvent, ConnIs, Has, IsSince, MadeAt,
 use Rattle.rtr_world.specs.World.{World, Side, Connect, connects, cut, instances, side_step}
 use Rattle.rtr_world.specs.declared.side.Side as values
 use Rattle.rtr_world.proofs.SideLaws.{inside}
-use Rattle.rtr_world.proofs.Moving.{and_then, clocked_same, none_conn, none_some, put, put_here, put_there}
-use Rattle.prefixes.proofs.Basics.{eq_self, eq_of}
+use Rattle.rtr_world.proofs.Moving.{and_then, clocked_same, has_or_not, none_conn, none_some, put, put_here, put_there}
+use Rattle.prefixes.proofs.Basics.{eq_self}
 
 -- the serial that was current
 pub current_none : (start : ℕ) (sets : List VrpSet) (serial : ℕ) → start ≡ serial → serial < 2 ^ 32 → None ≡ newest (versions_from start sets) → serial ≡ serial_at start (length sets - 1)
@@ -103,9 +102,9 @@ module _ (w : World) (at : ℕ → Option Conn) (s : Side) (between later : Cach
           };
           others = λ n some other. put_there conn.0 (Some (new_conn w.present)) m.now n (λ e. none_some (m.now n) (ap m.now e ∙ opens_so.0.free) some);
           own = λ n has. inr (ap m.now (sym (subst (λ c. Has c n) conn_is has)) ∙ opens_so.0.free);
-          only = λ n some. elim (cases_Bool (conn.0 == n)) [
-            | inl here ↦ inl (subst (λ c. Has c n) (sym conn_is) (eq_of conn.0 n here))
-            | inr there ↦ inr (no_number mid.conn n (none_conn m.now mid.conn m.shows.side.conn), put_there conn.0 (Some (new_conn w.present)) m.now n (λ e. let k : false ≡ true = sym there ∙ ap (λ x. conn.0 == x) e ∙ eq_self conn.0 in cc))
+          only = λ n some. elim (has_or_not (Some conn) n) [
+            | inl here ↦ inl (subst (λ c. Has c n) (sym conn_is) here)
+            | inr there ↦ inr (no_number mid.conn n (none_conn m.now mid.conn m.shows.side.conn), put_there conn.0 (Some (new_conn w.present)) m.now n (λ e. there (sym e)))
           ];
         });
       }

@@ -204,27 +204,23 @@ pulled most count old room r v len fits bytes shown =
       fits = fits;
     }
 
-pub none_sent : (w : World) (at : ℕ → Option Conn) (s : Side) (v n : values.Side) (most count : ℕ) (room : List ℕ) → ShowsSide w at s v → Pulled most count room s.router n.router → count ≡ 0
-    → n ≡ record v { router = n.router } → Passes w at (RouterSends most) s (λ t. AloneAt w at t v n)
+sent_so : (w : World) (at : ℕ → Option Conn) (s : Side) (v n : values.Side) (most count : ℕ) (room : List ℕ) → ShowsSide w at s v → Pulled most count room s.router n.router → n ≡ record v { router = n.router; up = v.up ++ take count room } → Passes w at (RouterSends most) s (λ t. AloneAt w at t v n)
 unfolding side_step router_sends
-none_sent w at s v n most count room h p none same =
-    let nothing : take most s.router.out ≡ [] = sym p.room_is ∙ ap (λ k. take k room) none in
-    record {
-      wanting = None;
-      wanted = tt;
-      now = shown_as w at s _ v n h refl refl (ap (λ x. x.conn) same) (ap (λ x. x.made) same) (subst (λ r. IsShown r n.router) (pulled_as (min most 4096) most s.router (all_pulled most s.router.out p.fits)) p.router) (ap (λ x. x.up) same ∙ h.up ∙ sym (append-nil s.up) ∙ ap (λ x. s.up ++ x) (sym nothing))
-          (ap (λ x. x.down) same ∙ h.down);
-    }
-
-pub some_sent : (w : World) (at : ℕ → Option Conn) (s : Side) (v n : values.Side) (most count : ℕ) (room : List ℕ) (result : Result ⊤ AllocError) → ShowsSide w at s v → Pulled most count room s.router n.router → ¬ (count ≡ 0)
-    → n ≡ record v { router = n.router; up = if is_ok result then v.up ++ take count room else v.up } → BeginsEvent w at (RouterSends most) s (λ t. AloneAt w at t v n) result
-unfolding side_step router_sends cut
-some_sent w at s v n most count room (Ok done) h p some same = record {
+sent_so w at s v n most count room h p same = record {
   wanting = None;
   wanted = tt;
   now = shown_as w at s _ v n h refl refl (ap (λ x. x.conn) same) (ap (λ x. x.made) same) (subst (λ r. IsShown r n.router) (pulled_as (min most 4096) most s.router (all_pulled most s.router.out p.fits)) p.router) (ap (λ x. x.up) same ∙ (λ i. h.up i ++ p.room_is i))
       (ap (λ x. x.down) same ∙ h.down);
 }
+
+pub none_sent : (w : World) (at : ℕ → Option Conn) (s : Side) (v n : values.Side) (most count : ℕ) (room : List ℕ) → ShowsSide w at s v → Pulled most count room s.router n.router → count ≡ 0
+    → n ≡ record v { router = n.router } → Passes w at (RouterSends most) s (λ t. AloneAt w at t v n)
+none_sent w at s v n most count room h p none same = sent_so w at s v n most count room h p (same ∙ (λ i. record v { router = n.router; up = (sym (append-nil v.up) ∙ ap (λ k. v.up ++ take k room) (sym none)) i }))
+
+pub some_sent : (w : World) (at : ℕ → Option Conn) (s : Side) (v n : values.Side) (most count : ℕ) (room : List ℕ) (result : Result ⊤ AllocError) → ShowsSide w at s v → Pulled most count room s.router n.router → ¬ (count ≡ 0)
+    → n ≡ record v { router = n.router; up = if is_ok result then v.up ++ take count room else v.up } → BeginsEvent w at (RouterSends most) s (λ t. AloneAt w at t v n) result
+unfolding side_step router_sends cut
+some_sent w at s v n most count room (Ok done) h p some same = sent_so w at s v n most count room h p same
 some_sent w at s v n most count room (Err error) h p some same =
     let few : count ≡ min most (length s.router.out) = omega (arith, p.count_is, p.fits) in
     let left : drop (min most 4096) s.router.out ≡ drop count s.router.out = sym (drop_min (min most 4096) s.router.out) ∙ ap (λ k. drop k s.router.out) (sym p.count_is) in

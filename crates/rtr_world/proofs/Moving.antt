@@ -40,7 +40,7 @@ pub put_there : (c : ℕ) (o : Option Conn) (at : ℕ → Option Conn) (d : ℕ)
 put_there c o at d h = ap (λ b. if b then o else at d) (not_equal d c h)
 
 -- whether this is its number
-has_or_not : (c : Option Number) (n : ℕ) → Has c n ⊎ (Has c n → ⊥)
+pub has_or_not : (c : Option Number) (n : ℕ) → Has c n ⊎ (Has c n → ⊥)
 has_or_not None n = inr (λ h. h)
 has_or_not (Some number) n = elim (cases_Bool (number.0 == n)) [
   | inl same ↦ inl (eq_of number.0 n same)
@@ -65,14 +65,11 @@ at_number w at t cache number o new h same keeps = record {
   shows = h;
   others = λ n some other. put_there number.0 o at n (λ e. other (sym e));
   own = λ n has. inl (same n has);
-  only = λ n some. elim (cases_Bool (number.0 == n)) [
-    | inl here ↦ (let e : number.0 ≡ n = eq_of number.0 n here in inl (subst (Has new.conn) e (keeps (subst IsSome (ap (put number.0 o at) (sym e) ∙ put_here number.0 o at) some))))
-    | inr there ↦ inr (other n there, put_there number.0 o at n (λ e. other n there (sym e)))
+  only = λ n some. elim (has_or_not (Some number) n) [
+    | inl here ↦ inl (subst (Has new.conn) here (keeps (subst IsSome (ap (put number.0 o at) (sym here) ∙ put_here number.0 o at) some)))
+    | inr there ↦ inr (there, put_there number.0 o at n (λ e. there (sym e)))
   ];
 }
-  where
-    other : (n : ℕ) → (number.0 == n) ≡ false → number.0 ≡ n → ⊥
-    other n there e = let k : false ≡ true = sym there ∙ ap (λ x. x == n) e ∙ eq_self n in cc
 
 -- one after the other
 pub and_then : (w : World) (at : ℕ → Option Conn) (old : Option Number) (s t : Side) (between later : Cache Steps) (v n : values.Side) (m : Moves w at old s between v) → Moves w m.now v.conn t later n → Moves w at old t later n
@@ -90,20 +87,7 @@ and_then w at old s t between later v n m k = record {
 
     was : (c : ℕ) (o : Option Conn) → at c ≡ o → m.now c ≡ None → Has old c ⊎ (at c ≡ None)
     was c None is none = inr is
-    was c (Some x) is none = by_old old refl
-      where
-        some : IsSome (at c)
-        some = subst IsSome (sym is) refl
-
-        differs : ¬ (Has old c) → ⊥
-        differs other = none_some (at c) (sym (m.others c some other) ∙ none) some
-
-        by_old : (o : Option Number) → old ≡ o → Has old c ⊎ (at c ≡ None)
-        by_old None e = absurd (differs (λ has. subst (λ x. Has x c) e has))
-        by_old (Some number) e = elim (cases_Bool (number.0 == c)) [
-          | inl same ↦ inl (subst (λ x. Has x c) (sym e) (eq_of number.0 c same))
-          | inr other ↦ absurd (differs (λ has. let h : number.0 ≡ c = subst (λ x. Has x c) e has in let k : false ≡ true = sym other ∙ ap (λ x. x == c) h ∙ eq_self c in cc))
-        ]
+    was c (Some x) is none = elim (has_or_not old c) [ inl has ↦ inl has | inr other ↦ absurd (none_some (at c) (sym (m.others c (subst IsSome (sym is) refl) other) ∙ none) (subst IsSome (sym is) refl)) ]
 
     before : (c : ℕ) → (Has v.conn c → ⊥) × (k.now c ≡ m.now c) → IsSome (m.now c) → Has n.conn c ⊎ ((Has old c → ⊥) × (k.now c ≡ at c))
     before c left some = elim (m.only c some) [ inl mine ↦ absurd (left.0 mine) | inr was_so ↦ inr (was_so.0, left.1 ∙ was_so.1) ]
@@ -224,28 +208,16 @@ wire_cut all s None (b ∷ down) c n = absurd (let k : false ≡ true = n in cc)
 wire_cut all s (Some o) down c n = absurd (let k : ◌≡◌ {A = Option Conn} (Some o) None = c in cc)
 
 pub conn_ended : (s : Side) (o : Option Conn) (x : Conn) → o ≡ Some x → x.state.ended ≡ true → is_none x.state.due ≡ true → settle_conn s o ≡ record s { conn = None }
-conn_ended s None x e c n = absurd (let k : ◌≡◌ {A = Option Conn} None (Some x) = e in cc)
-conn_ended s (Some o) x e c n = by_due o.state.ended o.state.due (ap (λ (y : Conn). y.state.ended) same ∙ c) (ap (λ (y : Conn). is_none y.state.due) same ∙ n)
+conn_ended s o x e c n = subst (λ o. settle_conn s o ≡ record s { conn = None }) (sym e) (by_due x.state.ended x.state.due c n)
   where
-    same : o ≡ x
-    same = some_is o x e
-
     by_due : (ended : Bool) (due : List ℕ) → ended ≡ true → is_none due ≡ true → close_ended s ended due ≡ record s { conn = None }
     by_due true [] c n = refl
     by_due true (b ∷ due) c n = absurd (let k : false ≡ true = n in cc)
     by_due false due c n = absurd (let k : false ≡ true = c in cc)
 
 pub conn_goes_on : (s : Side) (o : Option Conn) (x : Conn) → o ≡ Some x → (x.state.ended ≡ false) ⊎ (is_none x.state.due ≡ false) → settle_conn s o ≡ s
-conn_goes_on s None x e h = absurd (let k : ◌≡◌ {A = Option Conn} None (Some x) = e in cc)
-conn_goes_on s (Some o) x e h = by_due o.state.ended o.state.due (both h)
+conn_goes_on s o x e h = subst (λ o. settle_conn s o ≡ s) (sym e) (by_due x.state.ended x.state.due h)
   where
-    same : o ≡ x
-    same = some_is o x e
-
-    both : (x.state.ended ≡ false) ⊎ (is_none x.state.due ≡ false) → (o.state.ended ≡ false) ⊎ (is_none o.state.due ≡ false)
-    both (inl a) = inl (ap (λ (y : Conn). y.state.ended) same ∙ a)
-    both (inr a) = inr (ap (λ (y : Conn). is_none y.state.due) same ∙ a)
-
     by_due : (ended : Bool) (due : List ℕ) → (ended ≡ false) ⊎ (is_none due ≡ false) → close_ended s ended due ≡ s
     by_due true [] (inl h) = absurd (let k : true ≡ false = h in cc)
     by_due true [] (inr h) = absurd (let k : true ≡ false = h in cc)
