@@ -1,5 +1,5 @@
 -- A whole answer leads from its base to its version.
-use Rattle.std.specs.Prelude.{◌≡◌, ℕ, ◌≤◌, Bool, true, false, not, ◌&&◌, ◌||◌, nat_lt, List, [], ◌∷◌, ◌++◌, map, if◌then◌else◌, refl, ⊤}
+use Rattle.std.specs.Prelude.{◌≡◌, ℕ, ◌≤◌, Bool, true, false, not, ◌&&◌, ◌||◌, nat_lt, List, [], ◌∷◌, ◌++◌, map, if◌then◌else◌, refl}
 use Rattle.std.proofs.Common.{sym, ap, ◌∙◌, subst, arith}
 use Rattle.std.specs.List.{AllByRecursion, IsDistinct}
 use Rattle.std.specs.Ordering.{eq_by_cmp}
@@ -9,6 +9,8 @@ use Rattle.prefixes.specs.Orders.{vrp_total}
 use Rattle.vrps.specs.VrpSet.{VrpSet, has, size, set_of, without}
 use Rattle.vrps.proofs.SetLaws.{same_set, has-union, has-without, has-set_of}
 use Rattle.rtr_pdu.specs.declared.unit.Unit.{Unit}
+use Rattle.rtr_pdu.specs.Stream.{is_notify}
+use Rattle.rtr_ends.proofs.TableLaws.{false_true}
 use Rattle.rtr_pdu.specs.declared.unit.Unit.TheVariants.{SerialNotify, Prefix}
 use Rattle.rtr_pdu.specs.declared.version.Version.{Version}
 use Rattle.rtr_pdu.specs.declared.version.Version.TheVariants.{V0, V1}
@@ -26,28 +28,21 @@ use Rattle.vrps.proofs.Sizes.{size_le}
 
 -- PDUs of which none is a notify
 abbrev pub Plain : List Unit → Type 0
-Plain [] = ⊤
-Plain (SerialNotify session serial ∷ units) = ⊥
-Plain (unit ∷ units) = Plain units
+Plain units = AllByRecursion (λ u. is_notify u ≡ false) units
 
 pub plain_stays : (units : List Unit) → Plain units → without_notifies units ≡ units
 plain_stays [] h = refl
-plain_stays (SerialNotify session serial ∷ units) h = absurd h
-plain_stays (u ∷ units) h = ap (λ x. u ∷ x) (plain_stays units h)
+plain_stays (SerialNotify session serial ∷ units) h = false_true (sym h.0)
+plain_stays (u ∷ units) h = ap (λ x. u ∷ x) (plain_stays units h.1)
 
 pub plain_notifies : (session : ℕ) (units : List Unit) → Plain units → NotifiesOf session units
 plain_notifies session [] h = tt
-plain_notifies session (SerialNotify one serial ∷ units) h = absurd h
-plain_notifies session (u ∷ units) h = plain_notifies session units h
-
-pub plain-append : (us vs : List Unit) → Plain us → Plain vs → Plain (us ++ vs)
-plain-append [] vs h k = k
-plain-append (SerialNotify session serial ∷ us) vs h k = absurd h
-plain-append (u ∷ us) vs h k = plain-append us vs h k
+plain_notifies session (SerialNotify one serial ∷ units) h = false_true (sym h.0)
+plain_notifies session (u ∷ units) h = plain_notifies session units h.1
 
 pub plain_records : (announce : Bool) (vs : List Payload) → Plain (map (λ v. Prefix announce v) vs)
 plain_records announce [] = tt
-plain_records announce (v ∷ vs) = plain_records announce vs
+plain_records announce (v ∷ vs) = (refl, plain_records announce vs)
 
 pub without-append : (us vs : List Unit) → without_notifies (us ++ vs) ≡ without_notifies us ++ without_notifies vs
 without-append [] vs = refl

@@ -15,6 +15,7 @@ use Rattle.vrps.proofs.Listed.{part_is_set}
 use Rattle.vrps.proofs.SetLaws.{all_of_members, has-empty, has-union, has-without, listing_ascends, same_set, set_of-listing}
 use Rattle.rtr_pdu.specs.Payloads.{AreBytes}
 use Rattle.rtr_pdu.specs.Unit.{IsUnitOf}
+use Rattle.rtr_pdu.specs.Stream.{is_notify}
 use Rattle.rtr_pdu.specs.declared.unit.Unit.{Unit}
 use Rattle.rtr_pdu.specs.declared.unit.Unit.TheVariants.{SerialQuery, ResetQuery, CacheResponse, Prefix}
 use Rattle.rtr_pdu.proofs.ReadLaws.{AreBytes-take}
@@ -27,15 +28,12 @@ use Rattle.rtr_ends.proofs.CommitLaws.{change_commits}
 use Rattle.rtr_world.specs.OneAnswer.{EndsWith, announced_in, withdrawn_in}
 use Rattle.rtr_ends.specs.Transcript.{Committed, Question, AskReset, AskSerial, query, base_of}
 use Rattle.rtr_world.specs.World.{timing}
-use Rattle.rtr_world.proofs.AnswerLaws.{Plain, plain-append, plain_records, commits_lead}
+use Rattle.rtr_world.proofs.AnswerLaws.{Plain, plain_records, commits_lead}
 use Rattle.rtr_world.proofs.Invariant.{FromCache, WasCache, Leads, NoneWithdrawn, WithdrawsFirst, QuestionFits, IsOwn, Replies, nothing_yet, no_data, not_kept, other_session, response}
 use Rattle.rtr_world.proofs.UnitStreams.{all_bytes}
 use Rattle.rtr_world.proofs.WireBytes.{big_bytes, headed, header, number}
 use Rattle.rtr_world.proofs.Versions.{HeldAt, Stands, Present, kept_at, has_sets, of_present, find_session, Seen}
-use Rattle.prefixes.proofs.Basics.{eq_of, eq_true, all_both}
-
-not_both : (b : Bool) → b ≡ true → b ≡ false → ⊥
-not_both b h k = let e : true ≡ false = sym h ∙ k in cc
+use Rattle.prefixes.proofs.Basics.{eq_of, eq_true, all_both, not_both}
 
 -- PDUs that are no notify, and that can be sent
 pub record IsAnswered (pv : Version) (units : List Unit) : Type 0 where
@@ -43,7 +41,7 @@ pub record IsAnswered (pv : Version) (units : List Unit) : Type 0 where
   pub fit : AllByRecursion (IsUnitOf pv) units
 
 answered-append : (pv : Version) (us vs : List Unit) → IsAnswered pv us → IsAnswered pv vs → IsAnswered pv (us ++ vs)
-answered-append pv us vs h k = record { plain = plain-append us vs h.plain k.plain; fit = all_both (IsUnitOf pv) us vs h.fit k.fit }
+answered-append pv us vs h k = record { plain = all_both (λ u. is_notify u ≡ false) us vs h.plain k.plain; fit = all_both (IsUnitOf pv) us vs h.fit k.fit }
 
 fit_records : (pv : Version) (announce : Bool) (vs : List Payload) → All IsPayload vs → AllByRecursion (IsUnitOf pv) (map (λ v. Prefix announce v) vs)
 fit_records pv announce [] h = tt
@@ -60,13 +58,13 @@ abbrev last_of : Version → ℕ → ℕ → List Unit
 last_of pv session serial = end_of_data pv session serial timing ∷ []
 
 answered_end : (pv : Version) (session serial : ℕ) → session < 2 ^ 16 → serial < 2 ^ 32 → IsAnswered pv (last_of pv session serial)
-answered_end V0 session serial low number = record { plain = tt; fit = (((low, number), refl), tt) }
-answered_end V1 session serial low number = record { plain = tt; fit = (((low, number, omega arith, omega arith, omega arith), refl), tt) }
+answered_end V0 session serial low number = record { plain = (refl, tt); fit = (((low, number), refl), tt) }
+answered_end V1 session serial low number = record { plain = (refl, tt); fit = (((low, number, omega arith, omega arith, omega arith), refl), tt) }
 
 answered_response : (pv : Version) (session serial : ℕ) (set : VrpSet) (records : List Unit) → session < 2 ^ 16 → serial < 2 ^ 32 → IsAnswered pv records → IsAnswered pv (response_of pv session timing (record { serial = serial; set = set }) records)
 answered_response pv session serial set records low number h =
     let k = answered-append pv records (last_of pv session serial) h (answered_end pv session serial low number) in
-    record { plain = k.plain; fit = ((low, refl), k.fit) }
+    record { plain = (refl, k.plain); fit = ((low, refl), k.fit) }
 
 -- the records of an answer, the withdrawals first
 abbrev records : List Payload → List Payload → List Unit
@@ -94,7 +92,7 @@ records_end pv session serial (w ∷ ws) vs =
 pub answered_report : (pv : Version) (code : ℕ) (copy : List ℕ) → code < 2 ^ 16 → AreBytes copy → IsAnswered pv (report code copy ∷ [])
 answered_report pv code copy low each =
     let size = length-take 4080 copy in
-    record { plain = tt; fit = (((low, short (length (take 4080 copy)) size, IsUtf8-nil, AreBytes-take 4080 copy each), refl), tt) }
+    record { plain = (refl, tt); fit = (((low, short (length (take 4080 copy)) size, IsUtf8-nil, AreBytes-take 4080 copy each), refl), tt) }
   where
     short : (n : ℕ) → n ≡ min 4080 (length copy) → n + 0 ≤ 4080
     short n e = let m = min-le_left 4080 (length copy) in omega (arith, e, m)
@@ -198,7 +196,7 @@ module _ (all : List Instance) (i : Instance) (p : Present all i) (pv : Version)
       → FromCache all pv home (AskSerial one serial) (answer_to x older o) → Answers all pv home (AskSerial one serial) table (answer_to x older o)
   step_answers one serial table x older o own e fits (inl f) from =
       subst (λ v. Answers all pv home (AskSerial one serial) table (answer_to x older v)) (sym f)
-      (record { replies = not_kept serial (ap (λ s. AskSerial s serial) own) refl; from = subst (λ v. FromCache all pv home (AskSerial one serial) (answer_to x older v)) f from; answered = record { plain = tt; fit = ((tt, refl), tt) } })
+      (record { replies = not_kept serial (ap (λ s. AskSerial s serial) own) refl; from = subst (λ v. FromCache all pv home (AskSerial one serial) (answer_to x older v)) f from; answered = record { plain = (refl, tt); fit = ((tt, refl), tt) } })
   step_answers one serial table x older o own e fits (inr f) from =
       subst (λ v. Answers all pv home (AskSerial one serial) table (answer_to x older v)) (sym f)
       (responds (AskSerial one serial) table x older (listing (without table x)) (listing (without x table)) own e

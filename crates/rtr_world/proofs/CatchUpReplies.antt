@@ -2,7 +2,6 @@
 use Rattle.std.specs.Prelude.{◌≡◌, ◌⊎◌, ℕ, ◌<◌, Bool, true, false, not, ◌&&◌, List, [], ◌∷◌, ◌++◌, length, Option, Some, None, if◌then◌else◌, refl}
 use Rattle.std.proofs.Common.{sym, ap, ◌∙◌, subst, arith, inl, inr}
 use Rattle.std.proofs.lemmas.Bool.{and_parts}
-use Rattle.std.proofs.Math.Bool.{and-false}
 use Rattle.std.proofs.lemmas.List.{length-append}
 use Rattle.vrps.specs.Instance.{Instance}
 use Rattle.vrps.specs.VrpSet.{VrpSet, empty}
@@ -19,17 +18,17 @@ use Rattle.rtr_ends.specs.Connection.{bytes_sent, in_version}
 use Rattle.rtr_ends.specs.LinkRules.{Router, may_lack, on_unit}
 use Rattle.rtr_ends.specs.Router.{Receiving, clocked, expired, receives, router_byte, router_stops, with_bytes}
 use Rattle.rtr_ends.specs.RouterLink.{Idle, Asked, Answering, Ended, is_reading}
-use Rattle.rtr_ends.specs.Transcript.{At, AskReset, AskSerial, Begun, Committed, Question, base_of, is_over, is_serial, later, of_version, query}
+use Rattle.rtr_ends.specs.Transcript.{At, AskReset, AskSerial, Begun, Question, base_of, is_over, is_serial, later, of_version, query}
 use Rattle.rtr_ends.proofs.FeedingLaws.{feed_keeps, feed_takes}
 use Rattle.rtr_ends.proofs.TableLaws.{false_true}
 use Rattle.rtr_world.proofs.RouterCases.{none_counted}
 use Rattle.rtr_world.proofs.CatchUpAnswers.{other_report}
 use Rattle.rtr_world.proofs.Invariant.{after_stage, Leads, Mine, QuestionFits, Replies, no_data, not_kept, other_session, no_memory, response, nothing_yet}
 use Rattle.rtr_world.proofs.UnitsAtRouters.{stage_keeps}
-use Rattle.rtr_world.proofs.UnitEffects.{by_answer, by_reply}
+use Rattle.rtr_world.proofs.UnitEffects.{by_answer, by_reply, fits_mine}
 use Rattle.rtr_world.proofs.UnitStreams.{Stream, case_by, first_in, head_is, one_case}
 use Rattle.rtr_world.proofs.Versions.{TableAt, Seen}
-use Rattle.prefixes.proofs.Basics.{true_of_not}
+use Rattle.prefixes.proofs.Basics.{false_of_not, true_of_not}
 
 -- Where no byte is to come, no PDU is.
 none_left : (pv : Version) (held : List ℕ) (units : List Unit) → Stream held [] (in_version pv units) → units ≡ []
@@ -58,11 +57,6 @@ is_report u = false
 
 not_report : (copy : List ℕ) (u : Unit) (more : List Unit) → is_report u ≡ false → u ∷ more ≡ report 0 copy ∷ [] → ⊥
 not_report copy u more is e = let k : false ≡ true = sym is ∙ ap is_report (head_is u (report 0 copy) more [] e) in cc
-
--- an open question is of what is committed, so is one that asks for all
-mine_again : (session serial : ℕ) (version : Option Committed) → QuestionFits session (AskSerial session serial) version → Mine session version
-mine_again session serial None f = absurd f
-mine_again session serial (Some version) f = sym f.0
 
 -- where memory ran out, and where the cache's side is still open
 module _ (all : List Instance) (h : Seen) (pv : Version) (q : Question) (lacking stays : Type 0) where
@@ -99,7 +93,7 @@ module _ (all : List Instance) (h : Seen) (pv : Version) (q : Question) (lacking
         idles = λ copy e qe memory shown.
             all_read (is_idle refl none (none_after k.spoken rest more e s) (still_open (report 2 copy ∷ more) shown (λ d x. other_report 2 0 copy d (λ n. absurd (omega (arith, n))) (ap (λ x. report 2 copy ∷ x) (sym e) ∙ x))));
         again = λ serial e qe memory shown.
-            all_read (asks_again (ap (λ x. is_serial (Some x)) qe) refl refl held (mine_again h.session serial (of_version k.spoken k.version) (subst (λ x. QuestionFits h.session x (of_version k.spoken k.version)) qe f)) t (none_after k.spoken rest more e s)
+            all_read (asks_again (ap (λ x. is_serial (Some x)) qe) refl refl held (fits_mine h.session (AskSerial h.session serial) (of_version k.spoken k.version) (subst (λ x. QuestionFits h.session x (of_version k.spoken k.version)) qe f) refl) t (none_after k.spoken rest more e s)
             (still_open (CacheReset ∷ more) shown (λ d x. not_report d CacheReset more refl x)) of);
         other = λ session serial copy differs qe memory shown. all_read (has_ended (ends.Told 0) refl none (inr (ap (λ x. is_serial (Some x)) qe, refl, refl)));
         lacks = λ p e qe memory shown. all_read (has_ended (ends.Told 1) refl none (inl (memory (ap (λ x. report 1 [] ∷ x) e))));
@@ -118,21 +112,17 @@ module _ (all : List Instance) (h : Seen) (pv : Version) (q : Question) (lacking
         commits = λ v one number intervals says leads. all_read (is_idle refl none (none_after k.spoken rest more (says serial set leads).0 s) o);
       }) leads
 
-  wants : (may memory : Bool) → (memory ≡ false → lacking) → (may && not memory) ≡ true → lacking
-  wants may true lack e = false_true (sym (and-false may) ∙ e)
-  wants may false lack e = lack refl
-
   bytes_read : (rest : List ℕ) (r : Router) (b : ℕ) (memory : Bool) → (memory ≡ false → lacking) → is_reading r.link ≡ true → Phase (b ∷ rest) r → Phase rest (with_bytes memory (r.held ++ b ∷ []) r (judge r.spoken (not r.agreed) (r.held ++ b ∷ []))).router
   bytes_read rest r b memory lack live (waits units is none f t s replies lacked shown of) =
       case_by (λ n. Phase rest n.router) r b memory rest (in_version r.spoken units) (one_case r.spoken (not r.agreed) r.held b rest units s) (λ s. waits units is none f t s replies lacked shown of)
-      (λ u w. all_read (has_ended ends.Memory refl none (inl (wants (may_lack r.link u r) memory lack w)))) (λ u more e s.
+      (λ u w. all_read (has_ended ends.Memory refl none (inl (lack (false_of_not memory (and_parts (may_lack r.link u r) (not memory) w).1))))) (λ u more e s.
       let k : Router = record r { held = [] } in
       let first = first_in r.spoken units u more e in
       subst (λ l. Phase rest (on_unit l u.unit k)) (sym is)
       (replied rest k u.unit first.rest refl none t f (subst (Stream [] rest) first.more_is s) (subst (λ x. Replies all r.spoken h q (base_of q r.table) x) first.is replies) (λ e. lacked (first.is ∙ e)) (subst Shown first.is shown) of))
   bytes_read rest r b memory lack live (goes_on a units serial set is none own s leads o of) =
       case_by (λ n. Phase rest n.router) r b memory rest (in_version r.spoken units) (one_case r.spoken (not r.agreed) r.held b rest units s) (λ s. goes_on a units serial set is none own s leads o of)
-      (λ u w. all_read (has_ended ends.Memory refl none (inl (wants (may_lack r.link u r) memory lack w)))) (λ u more e s.
+      (λ u w. all_read (has_ended ends.Memory refl none (inl (lack (false_of_not memory (and_parts (may_lack r.link u r) (not memory) w).1))))) (λ u more e s.
       let k : Router = record r { held = [] } in
       let first = first_in r.spoken units u more e in
       subst (λ l. Phase rest (on_unit l u.unit k)) (sym is)

@@ -1,5 +1,5 @@
 -- A router that connected holds the newest version where its link is idle: its own moves keep that.
-use Rattle.std.specs.Prelude.{◌≡◌, ℕ, ◌≤◌, Bool, true, false, not, ◌&&◌, nat_lt, List, [], ◌∷◌, ◌++◌, length, take, drop, Option, Some, if◌then◌else◌, refl, ◌+◌, ◌-◌, None, ⊤, map}
+use Rattle.std.specs.Prelude.{◌≡◌, ℕ, ◌≤◌, Bool, true, false, not, ◌&&◌, nat_lt, List, [], ◌∷◌, ◌++◌, length, take, drop, Option, Some, refl, ◌+◌, ◌-◌, None, ⊤, map}
 use Rattle.std.specs.List.{AllByRecursion}
 use Rattle.std.proofs.Common.{sym, ap, ◌∙◌, subst, subst₂, arith, inl, inr, zero, suc}
 use Rattle.std.proofs.lemmas.Bool.{and_parts}
@@ -45,10 +45,7 @@ no_elements (x ∷ xs) h = absurd (omega (arith, h))
 
 -- A version is not over at the moment of its commit.
 lasts : (limit now : ℕ) → nat_lt limit (now - now) ≡ false
-lasts limit now = none (now - now) limit (omega arith)
-  where
-    none : (past limit : ℕ) → past ≤ 0 → nat_lt limit past ≡ false
-    none past limit h = grind (arith, nat_tests, h)
+lasts limit now = grind (arith, nat_tests)
 
 -- No Data Available is answered where nothing is published.
 no_versions : (pv : Version) (session start : ℕ) (sets : List VrpSet) (copy : List ℕ) → report 2 copy ∷ [] ≡ whole_answer pv session timing (versions_from start sets) → sets ≡ []
@@ -155,11 +152,7 @@ settle_fresh i all s h = settle_keeps (λ x. Fresh i x) (λ x c u d k. k) all (t
 
 -- the clock: no later moment is told
 same_moment : (now : ℕ) → later now now ≡ now
-same_moment now = by_test (nat_lt now now)
-  where
-    by_test : (b : Bool) → (if b then now else now) ≡ now
-    by_test true = refl
-    by_test false = refl
+same_moment now = grind (arith, nat_tests)
 
 clocked_fresh : (i : Instance) (home : Option Instance) (r : Router) → FreshLink i home r → FreshLink i home (clocked r.now r)
 clocked_fresh i home r h = by_clock (FreshLink i home) r.now r (λ lasts. (h.0, current)) (λ over on. by_live over (is_reading r.link) refl) (λ over live opened. absurd (not_over over live))

@@ -47,10 +47,6 @@ made_now w serial is = subst (λ b. MadeWhere b w.present w.present (Some serial
 used_now : (w : World) → is_used V1 (instances w) w.present.session ≡ true
 used_now w = ap (λ b. is_some (if b then Some w.present else find (λ i. i.session == w.present.session) w.past)) (eq_self w.present.session)
 
-no_number : (c : Option Number) (n : ℕ) → c ≡ None → Has c n → ⊥
-no_number None n e h = h
-no_number (Some k) n e h = let x : ◌≡◌ {A = Option Number} (Some k) None = e in cc
-
 pub served : (w : World) (at : ℕ → Option Conn) (conn : Number) (opened : Result Number AllocError) (later : Cache Steps) → opened ≡ Ok conn → Opens HoldsSteps (state_of w at) opened later
     → ShowsCache HoldsSteps (state_of w (put conn.0 (Some (new_conn w.present)) at)) later
 served w at conn opened later was opens = (subst (λ r. Opens HoldsSteps (state_of w at) r later) was opens).1
@@ -104,7 +100,7 @@ module _ (w : World) (at : ℕ → Option Conn) (s : Side) (between later : Cach
           own = λ n has. inr (ap m.now (sym (subst (λ c. Has c n) conn_is has)) ∙ opens_so.0.free);
           only = λ n some. elim (has_or_not (Some conn) n) [
             | inl here ↦ inl (subst (λ c. Has c n) (sym conn_is) here)
-            | inr there ↦ inr (no_number mid.conn n (none_conn m.now mid.conn m.shows.side.conn), put_there conn.0 (Some (new_conn w.present)) m.now n (λ e. there (sym e)))
+            | inr there ↦ inr (λ has. subst (λ c. Has c n) (none_conn m.now mid.conn m.shows.side.conn) has, put_there conn.0 (Some (new_conn w.present)) m.now n (λ e. there (sym e)))
           ];
         });
       }

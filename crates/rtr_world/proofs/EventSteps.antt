@@ -146,10 +146,6 @@ module _ (w : World) (p : Present (instances w) w.present) where
       record { said = f.said; lost = drop left s.down ++ (conn_due s.conn ++ f.lost); downward = subst (λ x. Stream s.router.held x f.coming) bytes f.downward; open_at = tt })
 
   -- a connection is made
-  fresh_session : (session : ℕ) (o : Option ℕ) → o ≡ None → OwnSession session o
-  fresh_session session None e = tt
-  fresh_session session (Some x) e = absurd (let h : ◌≡◌ {A = Option ℕ} (Some x) None = e in cc)
-
   linked : (seen : Option Seen) (conn : Option Conn) (up down : List ℕ) (c : Router) → Shut (instances w) w.present seen conn up down c
       → GoodRouter (instances w) w.present (Some (seen_at w.keep c.speaks w.present)) (Some (new_conn w.present)) [] [] (ask (record c { spoken = c.speaks }))
   linked seen conn up down c shut =
@@ -167,7 +163,7 @@ module _ (w : World) (p : Present (instances w) w.present) where
               version = refl;
               session = refl;
               notifies = subst (λ b. OwnNotifies b c.speaks w.present []) (sym shut.agreed) tt;
-              own = fresh_session (session_in c.speaks w.present) c.session shut.session;
+              own = subst (OwnSession (session_in c.speaks w.present)) (sym shut.session) tt;
               mine = λ e. false_true (sym shut.agreed ∙ e);
               shape = (fits, inl (refl, refl));
             };

@@ -19,7 +19,7 @@ use Rattle.rtr_world.specs.History.{conn_due}
 use Rattle.rtr_world.specs.OneAnswer.{OwnNotifies, units_in, without_notifies}
 use Rattle.rtr_pdu.specs.Stream.{is_notify}
 use Rattle.rtr_world.proofs.Invariant.{OfAnswer, Shape, QuestionFits, Open, Unheard, Flow, Live, GoodLink, GoodRouter, if_open}
-use Rattle.rtr_world.proofs.UnitsAtRouters.{Reads, asking_good, live_link, question_fits, unit_good}
+use Rattle.rtr_world.proofs.UnitsAtRouters.{Reads, asking_good, first_fits, live_link, unit_good}
 use Rattle.rtr_ends.proofs.Effects.{by_clock, by_close, goes_on, goes_so}
 use Rattle.prefixes.proofs.Basics.{false_of_not}
 use Rattle.rtr_world.proofs.UnitEffects.{Belongs, not_strange}
@@ -159,5 +159,5 @@ module _ (all : List Instance) (i : Instance) (home : Option Seen) (conn : Optio
     pub asks_good : (l : Link) (r : Router) (b : Bool) → r.link ≡ l → (is_idle l ≡ false → b ≡ false) → GoodR r → GoodR (asks_if b r).router
     asks_good l r false is idle g = g
     asks_good Idle r true is idle g =
-        asking_good all i home conn up down r (choose (of_version r.spoken r.version) r.mark) is (λ session mine. question_fits session (of_version r.spoken r.version) r.mark g.unmarked mine) g
+        asking_good all i home conn up down r (choose (of_version r.spoken r.version) r.mark) is (λ session mine. first_fits session (of_version r.spoken r.version) r.mark g.unmarked) g
     asks_good _ r true is idle g = false_true (sym (idle refl))

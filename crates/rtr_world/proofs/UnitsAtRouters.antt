@@ -33,12 +33,7 @@ query_unit all pv session (AskSerial one serial) None table f t = absurd f
 query_unit all pv session (AskSerial one serial) (Some version) table f t =
     ((subst (λ x. x < 65536) (sym f.0) t.low, (let n = t.serial_is in let e = f.1 in omega (arith, n, e))), refl)
 
-pub question_fits : (session : ℕ) (version : Option Committed) (mark : Bool) → mark ≡ false → Mine session version → QuestionFits session (choose version mark) version
-question_fits session None mark unmarked mine = tt
-question_fits session (Some version) true unmarked mine = false_true (sym unmarked)
-question_fits session (Some version) false unmarked mine = (refl, refl)
-
--- A connection that is new asks what fits, whatever is committed.
+-- A router asks what fits, whatever is committed.
 pub first_fits : (session : ℕ) (version : Option Committed) (mark : Bool) → mark ≡ false → QuestionFits session (choose version mark) version
 first_fits session None mark unmarked = tt
 first_fits session (Some version) true unmarked = false_true (sym unmarked)
@@ -214,7 +209,7 @@ module _ (all : List Instance) (i : Instance) (home : Option Seen) (conn : Optio
   -- every PDU that may come
   pub unit_good : (May : Bool → Type 0) (r : Router) (more : List Sent) (u : Unit) (d : Reads May r more) → (is_notify u ≡ false → May true) → Belongs all d.h r u (units_in more) d.wanted → GoodR (on_unit r.link u r)
   unit_good May r more u d agrees c = by_shape all d.h r (λ l v k. (is_notify v ≡ false → May true) → GoodR k) u (units_in more) d.wanted c (record {
-    asks = λ one serial is s may. asking_good r (choose v r.mark) is (λ session mine. question_fits session v r.mark d.unmarked mine) (same_good May r more Idle d is refl s);
+    asks = λ one serial is s may. asking_good r (choose v r.mark) is (λ session mine. first_fits session v r.mark d.unmarked) (same_good May r more Idle d is refl s);
     stays = λ l one serial is live s may. same_good May r more l d is live s;
     replies = λ w. record {
       idles = λ copy e f one may. same_good May (record r { agreed = true; link = Idle; due = Some (sum_of r.now (retry_of r.version)); no_data = true }) more Idle (record { comes = d.comes; kept = d.kept; may = may refl; own = d.own; mine = λ a. f }) refl refl (w, e, refl);

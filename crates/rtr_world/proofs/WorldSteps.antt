@@ -142,18 +142,19 @@ module _ (keep : ℕ) (past : List Instance) (i : Instance) (y : VrpSet) (p : Pr
       let more = seen.3 in
       lt_true (length i.sets - (length h.sets - 1)) 2147483648 (omega (arith, few, more))
 
+  later_published : (cache : Instance) → IsLater cache i → IsLater cache next
+  later_published cache l = record { session = l.session; session0 = l.session0; start = l.start; more = y ∷ l.more; sets = ap (λ x. y ∷ x) l.sets }
+
   was_published : (h : Seen) (cache : Instance) → WasCache (i ∷ past) h cache → WasCache (next ∷ past) h cache
   was_published h cache f = by_session (i.session == h.made.session) refl f.found
     where
       by_session : (b : Bool) → (i.session == h.made.session) ≡ b → (if b then Some i else find_session V1 h.made.session past) ≡ Some f.latest → WasCache (next ∷ past) h cache
       by_session true e g =
-          let same : i ≡ f.latest = some_is i f.latest g in
-          let u : IsLater cache i = subst (λ x. IsLater cache x) (sym same) f.until in
           record {
             since = f.since;
             latest = next;
             found = ap (λ b. if b then Some next else find_session V1 h.made.session past) e;
-            until = record { session = u.session; session0 = u.session0; start = u.start; more = y ∷ u.more; sets = ap (λ x. y ∷ x) u.sets };
+            until = later_published cache (subst (λ x. IsLater cache x) (sym (some_is i f.latest g)) f.until);
             read = f.read;
           }
       by_session false e g = record {
@@ -175,7 +176,7 @@ module _ (keep : ℕ) (past : List Instance) (i : Instance) (y : VrpSet) (p : Pr
     whole = l.whole;
     session = l.session ∙ sym (same_session_in pv i (y ∷ i.sets));
     made = (let m = l.made in omega (arith, m));
-    later = record { session = l.later.session; session0 = l.later.session0; start = l.later.start; more = y ∷ l.later.more; sets = ap (λ x. y ∷ x) l.later.sets };
+    later = later_published h.made l.later;
   }
 
   side_published : (s : Side) → (room_for i s.router.version && room_since i s.home) ≡ true → Good keep past i s → Good keep past next s
