@@ -12,7 +12,7 @@ use Rattle.rtr_pdu.specs.Unit.{IsUnitOf}
 use Rattle.rtr_pdu.specs.declared.unit.Unit.{Unit}
 use Rattle.rtr_pdu.specs.declared.unit.Unit.TheVariants.{SerialQuery, ErrorReport}
 use Rattle.rtr_pdu.proofs.NextLaws.{judge_part, judge_sent, some_sent}
-use Rattle.rtr_ends.specs.Answer.{Reply, and_end, and_on, answer, report, sent, sent_all, serial_answer, session_in, step_answer, whole_answer}
+use Rattle.rtr_ends.specs.Answer.{Reply, answer, report, sent, sent_all, serial_answer, session_in, step_answer, whole_answer}
 use Rattle.rtr_ends.specs.Cache.{Conn, Taking, conn_byte, conn_stops, conn_takes, finds_memory, is_none, conn_judged, version_at, with_moment}
 use Rattle.rtr_ends.specs.Connection.{Read, Wanting, takes_memory}
 use Rattle.rtr_ends.specs.Transcript.{AskReset, AskSerial, Question, query}
@@ -31,14 +31,8 @@ other_report one other copy copied differs e = let same : report one copy ≡ re
 -- The connection goes on after an answer, save after Error Report 0.
 pub goes_or_other : (pv : Version) (i : Instance) (keep : ℕ) (q : Question) → ((answer pv i keep timing (query q)).goes_on ≡ true) ⊎ ((copy : List ℕ) × ((answer pv i keep timing (query q)).units ≡ report 0 copy ∷ []))
 goes_or_other pv i keep AskReset = inl refl
-goes_or_other pv i keep (AskSerial session serial) = by_session (session == session_in pv i)
-  where
-    reply : Bool → Reply
-    reply b = if b then and_on (serial_answer pv (session_in pv i) keep timing serial (versions_from i.start i.sets)) else and_end (report 0 (sent pv (SerialQuery session serial)) ∷ [])
-
-    by_session : (b : Bool) → ((reply b).goes_on ≡ true) ⊎ ((copy : List ℕ) × ((reply b).units ≡ report 0 copy ∷ []))
-    by_session true = inl refl
-    by_session false = inr (sent pv (SerialQuery session serial), refl)
+goes_or_other pv i keep (AskSerial session serial) =
+    either (λ (x : Reply). (x.goes_on ≡ true) ⊎ ((copy : List ℕ) × (x.units ≡ report 0 copy ∷ []))) (session == session_in pv i) _ _ (λ same. inl refl) (λ other. inr (sent pv (SerialQuery session serial), refl))
 
 abbrev code_at : List Unit → ℕ
 code_at [] = 0

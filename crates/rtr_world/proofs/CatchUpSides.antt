@@ -3,7 +3,7 @@ use Rattle.std.specs.Prelude.{◌≡◌, ℕ, ◌≤◌, Bool, true, false, not,
 use Rattle.std.specs.List.{AllByRecursion}
 use Rattle.std.proofs.Common.{sym, ap, ◌∙◌, subst, subst₂, arith, inl, inr, zero, suc}
 use Rattle.std.proofs.lemmas.Bool.{and_parts}
-use Rattle.std.proofs.lemmas.List.{take-append-drop, length-append}
+use Rattle.std.proofs.lemmas.List.{nil_from_length, take-append-drop, length-append}
 use Rattle.std.proofs.lemmas.Bool.Decides.{nat_tests}
 use Rattle.vrps.specs.Instance.{Instance, versions, versions_from}
 use Rattle.vrps.specs.VrpSet.{VrpSet}
@@ -39,10 +39,6 @@ use Rattle.rtr_world.proofs.WorldSteps.{GoodWorld, after_good, new_good}
 use Rattle.prefixes.proofs.Basics.{true_of_not}
 
 -- A PDU that makes a link idle brings the newest version.
-no_elements : {A : Type 0} (xs : List A) → length xs ≤ 0 → xs ≡ []
-no_elements [] h = refl
-no_elements (x ∷ xs) h = absurd (omega (arith, h))
-
 -- A version is not over at the moment of its commit.
 lasts : (limit now : ℕ) → nat_lt limit (now - now) ≡ false
 lasts limit now = grind (arith, nat_tests)
@@ -74,7 +70,7 @@ module _ (all : List Instance) (i : Instance) (p : Present all i) (r : Router) (
       let is : i.sets ≡ a.newer ++ set ∷ a.older = ap (λ x. x.sets) (sym same) ∙ a.sets in
       let size = length-append a.newer (set ∷ a.older) in
       let whole = ap length is in
-      let none : a.newer ≡ [] = no_elements a.newer (omega (arith, size, whole, since)) in
+      let none : a.newer ≡ [] = nil_from_length a.newer (omega (arith, size, whole, since)) in
       let one : i.sets ≡ set ∷ a.older = is ∙ ap (λ x. x ++ set ∷ a.older) none in
       subst (λ x. HoldsNewest r.spoken (session_in r.spoken i) (versions_from i.start x) (Some version) set) (sym one) (of, e, a.serial_is ∙ ap (λ x. serial_at x.start (length a.older)) same, refl)
 

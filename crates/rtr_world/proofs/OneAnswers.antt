@@ -76,42 +76,39 @@ closed_reads Closed items h = tt
 closed_reads _ items h = false_true h
 
 -- each event
-pub record SideReads (s : Side) : Type 0 where
-  pub reads_so : ReadsSo s.router.link s.items
+abbrev pub SideReads : Side → Type 0
+SideReads s = ReadsSo s.router.link s.items
 
 gets_so : (w : World) (s : Side) (most : ℕ) (wanting : Option ℕ) → Known w s → SideReads s → SideReads (noted (instances w) (called (Receives s.router.now wanting (take most s.down)) s.router) s)
-gets_so w s most wanting known h = record {
-  reads_so = received w s known (λ r items. ReadsSo r.link items) (λ r held items q. q) (λ r u items. tt) (λ e r u items is of t q brings. unit_reads (instances w) e r u items q brings) most wanting
-      (clocked_so s.router.now s.router s.items h.reads_so);
-}
+gets_so w s most wanting known h =
+    received w s known (λ r items. ReadsSo r.link items) (λ r held items q. q) (λ r u items. tt) (λ e r u items is of t q brings. unit_reads (instances w) e r u items q brings) most wanting
+    (clocked_so s.router.now s.router s.items h)
 
 own_so : (w : World) (s : Side) (call : RouterCall) → IsOwnCall call → SideReads s → SideReads (noted (instances w) (called call s.router) s)
 unfolding connects_at closed_at ticks_at asks router_pulled
 own_so w s (Receives now wanting piece) own h = absurd own
-own_so w s (Connects now) own h = record { reads_so = tt }
-own_so w s (Closes now) own h = record { reads_so = closed_reads (close (clocked now s.router)).link (Shut ∷ At now ∷ s.items) (closes (clocked now s.router)) }
-own_so w s AsksNow own h = record { reads_so = asks_so s.router (is_idle s.router.link) s.items h.reads_so }
+own_so w s (Connects now) own h = tt
+own_so w s (Closes now) own h = closed_reads (close (clocked now s.router)).link (Shut ∷ At now ∷ s.items) (closes (clocked now s.router))
+own_so w s AsksNow own h = asks_so s.router (is_idle s.router.link) s.items h
 own_so w s (Ticks now) own h =
     let r : Router = clocked now s.router in
     let b : Bool = is_due r.link r.due r.now in
-    record {
-      reads_so = subst (λ x. ReadsSo (asks_if b r).router.link x) (sym (append_assoc (asks_if b r).items (At now ∷ []) s.items)) (asks_so r b (At now ∷ s.items) (clocked_so now s.router s.items h.reads_so));
-    }
-own_so w s _ own h = record { reads_so = h.reads_so }
+    subst (λ x. ReadsSo (asks_if b r).router.link x) (sym (append_assoc (asks_if b r).items (At now ∷ []) s.items)) (asks_so r b (At now ∷ s.items) (clocked_so now s.router s.items h))
+own_so w s _ own h = h
 
 anew_so : (s : Side) → SideReads s → SideReads (router_restarts s)
 unfolding router_restarts
-anew_so s h = record { reads_so = tt }
+anew_so s h = tt
 
 pub kept_reads : KeptAlways SideReads
 kept_reads = record {
-  new = record { reads_so = tt };
+  new = tt;
   keeps = λ w. record {
-    wires = λ s h conn up down home read. record { reads_so = h.reads_so };
+    wires = λ s h conn up down home read. h;
     own = own_so w;
     gets = gets_so w;
     restart = anew_so;
-    refused = λ s h. let t : Side = tell_closed (instances w) (refused_at s) in record { reads_so = closed_reads t.router.link t.items (told_closes (instances w) (refused_at s)) };
+    refused = λ s h. let t : Side = tell_closed (instances w) (refused_at s) in closed_reads t.router.link t.items (told_closes (instances w) (refused_at s));
   };
 }
 
@@ -172,7 +169,7 @@ module _ (w : World) (pv : Version) (h : Seen) (keeps : h.keep ≡ w.keep) where
       )
   comes_on s (Answering a) wanted rest at of is t k sh =
       let told : LinkTells (Answering a) s.router.agreed s.router.session s.router.table s.items = subst (λ x. LinkTells x s.router.agreed s.router.session s.router.table s.items) is t.tells.link in
-      let read : answered s.items ≡ read_of a = subst (λ x. ReadsSo x s.items) is k.reads_so in
+      let read : answered s.items ≡ read_of a = subst (λ x. ReadsSo x s.items) is k in
       let o : OfAnswer (instances w) pv h (base_of a.question s.router.table) a rest = sh.4 in
       subst (λ v. Fits a.question (of_version v s.router.version) × (under_way s.items ≡ Some a) × IsWholeAnswer w v h.made s.read_at a.question s.router.table (answered s.items ++ rest)) (sym of) (
         fits_of h.session a.question (of_version pv s.router.version) sh.3,

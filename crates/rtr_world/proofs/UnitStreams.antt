@@ -14,7 +14,7 @@ use Rattle.rtr_pdu.specs.declared.version.Version.TheVariants.{V0, V1}
 use Rattle.rtr_pdu.specs.declared.unit.Unit.TheVariants.{SerialNotify, Prefix}
 use Rattle.rtr_pdu.specs.Judging.{Begins, Whole, judge}
 use Rattle.rtr_pdu.specs.Payloads.{AreBytes}
-use Rattle.rtr_pdu.specs.Unit.{IsUnit, IsUnitOf, prefix_bytes, zeros, Reads}
+use Rattle.rtr_pdu.specs.Unit.{IsUnit, IsUnitOf, prefix_bytes, zeros}
 use Rattle.rtr_pdu.specs.declared.unit.Unit.{Unit}
 use Rattle.rtr_pdu.specs.Stream.{as_read, IsPartial}
 use Rattle.rtr_pdu.proofs.VersionLaws.{version_in-append}
@@ -24,6 +24,7 @@ use Rattle.rtr_pdu.proofs.JudgingLaws.{begins_exactly, reads_judged}
 use Rattle.rtr_pdu.proofs.ModeLaws.{as_read-append}
 use Rattle.rtr_pdu.proofs.ReaderLaws.{partial_short}
 use Rattle.rtr_pdu.proofs.StreamLaws.{written_is_read}
+use Rattle.rtr_ends.proofs.Effects.{either}
 use Rattle.rtr_ends.specs.Router.{Noted, silent, reads, lacks, with_bytes}
 use Rattle.rtr_ends.specs.LinkRules.{Router, may_lack}
 use Rattle.rtr_ends.specs.Answer.{sent, sent_all, session_in}
@@ -32,25 +33,20 @@ use Rattle.rtr_world.specs.OneAnswer.{IsPart, OwnNotifies}
 use Rattle.vrps.specs.Instance.{Instance}
 use Rattle.prefixes.proofs.Basics.{all_both}
 
--- A notify of another version, which a router reads where it has not agreed on a version.
--- It is read as one of the expected version.
-read_as : (version other : Version) (session serial : ℕ) → as_read version true (sent other (SerialNotify session serial)) ≡ sent version (SerialNotify session serial)
-unfolding as_read
-read_as version other session serial = refl
-
+-- A notify of another version, which a router reads where it has not agreed on a version, as one of the expected version.
 pub judge_notify : (version other : Version) (session serial : ℕ) → IsUnit (SerialNotify session serial) → judge version true (sent other (SerialNotify session serial)) ≡ Whole (SerialNotify session serial)
-judge_notify version other session serial fits =
-    reads_judged version true (sent other (SerialNotify session serial)) (SerialNotify session serial)
-    (subst (λ x. Reads version (SerialNotify session serial) x) (sym (read_as version other session serial)) (written_is_read version (SerialNotify session serial) fits refl))
+unfolding as_read
+judge_notify version other session serial fits = reads_judged version true (sent other (SerialNotify session serial)) (SerialNotify session serial) (written_is_read version (SerialNotify session serial) fits refl)
 
 -- So is a beginning of it.
 pub judge_notify_part : (version other : Version) (session serial : ℕ) (part rest : List ℕ) (b : ℕ) → IsUnit (SerialNotify session serial) → part ++ b ∷ rest ≡ sent other (SerialNotify session serial) → judge version true part ≡ Begins
+unfolding as_read
 judge_notify_part version other session serial part rest b fits e =
     elim (cases_lt (length part) 8) [
       | inl short ↦ (begins_exactly version true part).1 (partial_short version true part short)
       | inr long ↦ (
           let whole : as_read version true part ++ b ∷ rest ≡ sent version (SerialNotify session serial) =
-          sym (as_read-append version true part (b ∷ rest) long) ∙ ap (as_read version true) e ∙ read_as version other session serial in
+          sym (as_read-append version true part (b ∷ rest) long) ∙ ap (as_read version true) e in
           let begun : judge version false (as_read version true part) ≡ Begins = judge_part version false (SerialNotify session serial) (as_read version true part) rest b fits refl whole in
           (begins_exactly version true part).1 (subst (IsPartial version) (strict version (as_read version true part)) ((begins_exactly version false (as_read version true part)).0 begun)))
     ]
@@ -254,8 +250,7 @@ all_bytes (b ∷ bytes) h zero = h.0
 all_bytes (b ∷ bytes) h (suc i) = all_bytes bytes h.1 i
 
 pub either_by : (P : Noted → Type 0) (u : Unit) (k : Router) (b : Bool) → (b ≡ true → P (lacks u k)) → P (reads u k) → P (if b then lacks u k else reads u k)
-either_by P u k true l d = l refl
-either_by P u k false l d = d
+either_by P u k b l d = either P b (lacks u k) (reads u k) l (λ there. d)
 
 -- What holds where a byte is kept, where memory runs out at the PDU that is whole with it, and where that is read, holds behind each byte.
 pub case_by : (P : Noted → Type 0) (r : Router) (b : ℕ) (memory : Bool) (rest : List ℕ) (coming : List Sent) → ByteCase r.spoken (not r.agreed) r.held b rest coming
