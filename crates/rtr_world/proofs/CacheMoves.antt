@@ -256,7 +256,10 @@ module _ (all : List Instance) (i : Instance) (p : Present all i) (keep : ℕ) (
 
   pub notified_good : (o : Conn) (up : List ℕ) → GoodC o up → GoodC (conn_notified keep timing i o) up
   unfolding conn_notified
-  notified_good o up g = by_test (can_notify i o) refl
+  notified_good o up g = either (λ x. GoodC x up) (can_notify i o) o' o (λ e.
+      let parts = and_parts (is_published i) (not (conn_stops o)) e in
+      let stops = or_parts o.state.ended (not (is_none o.state.due)) (false_of_not (conn_stops o) parts.1) in
+      record { table = g.table; unmarked = g.unmarked; link = by_link (is_reading r.link) refl (nothing_out o.state.due (true_of_not (is_none o.state.due) stops.1)) }) (λ e. g)
     where
       o' : Conn
       o' = told o (speaks_in o)
@@ -284,13 +287,6 @@ module _ (all : List Instance) (i : Instance) (p : Present all i) (keep : ℕ) (
               (live_link all i home (Some (told o r.spoken)) up down r r.link refl live (notified_live o up r.spoken l.0 l.2 l.1 due
               (own-append r.agreed r.spoken l.0.made l.2.coming (notice (session_in r.spoken i) (versions i)) l.2.notifies (notice_own (session_in r.spoken l.0.made) (session_in r.spoken i) (sym l.2.session ∙ op.session) i.sets))
               (subst (λ v. Unheard v l.0.made (l.2.coming ++ in_version r.spoken (notice (session_in r.spoken i) (versions i))) r.agreed) (sym e) tt)))
-
-      by_test : (b : Bool) → can_notify i o ≡ b → GoodC (if b then o' else o) up
-      by_test false e = g
-      by_test true e =
-          let parts = and_parts (is_published i) (not (conn_stops o)) e in
-          let stops = or_parts o.state.ended (not (is_none o.state.due)) (false_of_not (conn_stops o) parts.1) in
-          record { table = g.table; unmarked = g.unmarked; link = by_link (is_reading r.link) refl (nothing_out o.state.due (true_of_not (is_none o.state.due) stops.1)) }
 
 -- what was seen behind these moments
 read_once : (i : Instance) (home : Option Seen) → reads_now i (reads_now i home) ≡ reads_now i home

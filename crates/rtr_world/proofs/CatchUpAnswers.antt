@@ -87,16 +87,14 @@ module _ (keep : ℕ) (i : Instance) (pv : Version) (u : Unit) (fits : IsUnitOf 
   Reads rest m = Comes rest m ⊎ ((rest ≡ []) × IsRead m.conn)
 
   byte_whole : (m : Taking) (bytes : List ℕ) → m.wanting ≡ wanting → IsRead (with_moment keep timing bytes m.conn (Some (if takes_memory pv i u && not (finds_memory m.wanting) then Wanting pv i u bytes else Read pv i u bytes)))
-  byte_whole m bytes same = by_memory (takes_memory pv i u && not (finds_memory m.wanting)) refl
+  byte_whole m bytes same =
+      either (λ x. IsRead (with_moment keep timing bytes m.conn (Some x))) (takes_memory pv i u && not (finds_memory m.wanting)) (Wanting pv i u bytes) (Read pv i u bytes)
+      (λ e. record { units = report 1 [] ∷ []; due = refl; reply = inr (refl, lacks e); held = refl; spoken = refl }) (λ e. record { units = (answer pv i keep timing u).units; due = refl; reply = inl (refl, refl); held = refl; spoken = refl })
     where
       lacks : (takes_memory pv i u && not (finds_memory m.wanting)) ≡ true → wanting ≡ None → ⊥
       lacks e none =
           let parts = and_parts (takes_memory pv i u) (not (finds_memory m.wanting)) e in
           let finds : false ≡ true = ap (λ x. not (finds_memory x)) (sym (same ∙ none)) ∙ parts.1 in cc
-
-      by_memory : (b : Bool) → (takes_memory pv i u && not (finds_memory m.wanting)) ≡ b → IsRead (with_moment keep timing bytes m.conn (Some (if b then Wanting pv i u bytes else Read pv i u bytes)))
-      by_memory true e = record { units = report 1 [] ∷ []; due = refl; reply = inr (refl, lacks e); held = refl; spoken = refl }
-      by_memory false e = record { units = (answer pv i keep timing u).units; due = refl; reply = inl (refl, refl); held = refl; spoken = refl }
 
   byte_comes : (rest : List ℕ) (m : Taking) (b : ℕ) → m.conn.held ++ b ∷ rest ≡ sent pv u → m.conn.state.due ≡ [] → m.conn.state.ended ≡ false → m.wanting ≡ wanting → MaySpeak pv m.conn.state.version → Reads rest (conn_byte keep timing i m b)
   unfolding conn_byte

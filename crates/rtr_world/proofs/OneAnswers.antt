@@ -1,6 +1,5 @@
 -- What is on its way to a router is at most one answer, after every list of events.
 use Rattle.std.specs.Prelude.{◌≡◌, ◌⊎◌, ℕ, Bool, true, false, List, [], ◌∷◌, ◌++◌, Option, Some, None, IsSome, refl, take, ⊤}
-use Rattle.std.specs.List.{AllByRecursion}
 use Rattle.std.proofs.Common.{sym, ap, ◌∙◌, subst, inl, inr, append_assoc}
 use Rattle.vrps.specs.Instance.{Instance}
 use Rattle.vrps.specs.VrpSet.{VrpSet}
@@ -21,6 +20,7 @@ use Rattle.rtr_world.specs.World.{Side, World, instances, is_ended, timing, note
 use Rattle.rtr_world.proofs.WorldSteps.{Known, history_known, history_keeps, KeptAlways, received}
 use Rattle.rtr_world.proofs.Invariant.{FromCache, Flow, Good, GoodLink, IfOpen, OfAnswer, OneReply, Open, QuestionFits, Replies, Shape, WasCache, no_data, not_kept, other_session, no_memory, read_of, records_of, response}
 use Rattle.rtr_world.proofs.Rests.{Rests, history_rests}
+use Rattle.rtr_world.proofs.SideLaws.{all_both, all_weaker}
 use Rattle.rtr_world.proofs.SideSteps.{live_of}
 use Rattle.rtr_world.proofs.KeptTables.{SideTells}
 use Rattle.rtr_world.proofs.Versions.{named_at, IsReadAt, IsSeen, Seen}
@@ -207,8 +207,5 @@ between w s g t k rests = by_link s.router.link refl g.router.link
 -- One answer
 pub one_answer : OneAnswerAlways
 one_answer made history w leads =
-    each w.sides (history_known made history w leads) (history_keeps SideReads kept_reads made history w leads) (history_rests made history w leads)
-  where
-    each : (sides : List Side) → AllByRecursion (Known w) sides → AllByRecursion SideReads sides → AllByRecursion Rests sides → AllByRecursion (λ s. Between w s s.router.link) sides
-    each [] g k r = tt
-    each (s ∷ sides) g k r = (between w s g.0.0 g.0.1 k.0 r.0, each sides g.1 k.1 r.1)
+    all_weaker (λ s. (Known w s × SideReads s) × Rests s) (λ s. Between w s s.router.link) w.sides (λ s k. between w s k.0.0.0 k.0.0.1 k.0.1 k.1)
+    (all_both (λ s. Known w s × SideReads s) Rests w.sides (all_both (Known w) SideReads w.sides (history_known made history w leads) (history_keeps SideReads kept_reads made history w leads)) (history_rests made history w leads))

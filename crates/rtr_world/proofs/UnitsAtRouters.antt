@@ -49,19 +49,24 @@ pub nothing_right : {A : Type 0} (xs ys : List A) → xs ++ ys ≡ [] → ys ≡
 nothing_right [] ys e = e
 nothing_right (x ∷ xs) ys e = cc
 
--- what is staged belongs to the same question and session
-pub stage_keeps : (base : VrpSet) (a : Begun) (announce : Bool) (v : Payload) (b : Begun) → stage base a announce v ≡ Stays b → (b.question ≡ a.question) × (b.session ≡ a.session)
-stage_keeps base a false v b e = by_test (has base v && not (is_among v a.withdrawn)) e
+-- A record is staged before the others.
+staged_is : (base : VrpSet) (a : Begun) (announce : Bool) (v : Payload) (b : Begun) → stage base a announce v ≡ Stays b → (if announce then record a { announced = v ∷ a.announced } else record a { withdrawn = v ∷ a.withdrawn }) ≡ b
+staged_is base a false v b e = by_test (has base v && not (is_among v a.withdrawn)) e
   where
-    by_test : (t : Bool) → (if t then Stays (record a { withdrawn = v ∷ a.withdrawn }) else Wrong 6) ≡ Stays b → (b.question ≡ a.question) × (b.session ≡ a.session)
-    by_test true e = let same : record a { withdrawn = v ∷ a.withdrawn } ≡ b = cc in (ap (λ x. x.question) (sym same), ap (λ x. x.session) (sym same))
+    by_test : (t : Bool) → (if t then Stays (record a { withdrawn = v ∷ a.withdrawn }) else Wrong 6) ≡ Stays b → record a { withdrawn = v ∷ a.withdrawn } ≡ b
+    by_test true e = cc
     by_test false e = absurd (let h : Wrong 6 ≡ Stays b = e in cc)
-stage_keeps base a true v b e = by_test (has base v || is_among v a.announced) (nat_lt 16777215 (size (led_to base a.withdrawn (v ∷ a.announced)))) e
+staged_is base a true v b e = by_test (has base v || is_among v a.announced) (nat_lt 16777215 (size (led_to base a.withdrawn (v ∷ a.announced)))) e
   where
-    by_test : (t s : Bool) → (if t then Wrong 7 else if s then Over else Stays (record a { announced = v ∷ a.announced })) ≡ Stays b → (b.question ≡ a.question) × (b.session ≡ a.session)
+    by_test : (t s : Bool) → (if t then Wrong 7 else if s then Over else Stays (record a { announced = v ∷ a.announced })) ≡ Stays b → record a { announced = v ∷ a.announced } ≡ b
     by_test true s e = absurd (let h : Wrong 7 ≡ Stays b = e in cc)
     by_test false true e = absurd (let h : Over ≡ Stays b = e in cc)
-    by_test false false e = let same : record a { announced = v ∷ a.announced } ≡ b = cc in (ap (λ x. x.question) (sym same), ap (λ x. x.session) (sym same))
+    by_test false false e = cc
+
+-- what is staged belongs to the same question and session
+pub stage_keeps : (base : VrpSet) (a : Begun) (announce : Bool) (v : Payload) (b : Begun) → stage base a announce v ≡ Stays b → (b.question ≡ a.question) × (b.session ≡ a.session)
+stage_keeps base a false v b e = subst (λ x. (x.question ≡ a.question) × (x.session ≡ a.session)) (staged_is base a false v b e) (refl, refl)
+stage_keeps base a true v b e = subst (λ x. (x.question ≡ a.question) × (x.session ≡ a.session)) (staged_is base a true v b e) (refl, refl)
 
 -- what is read once a record is staged
 pub first_withdraws : (a : Begun) (announce : Bool) (v : Payload) (rest : List Unit) → InOrder a (Prefix announce v ∷ rest) → announce ≡ false → a.announced ≡ []
@@ -84,22 +89,10 @@ read_announced : (a : Begun) (v : Payload) → read_of (record a { announced = v
 read_announced a v = ap (λ x. CacheResponse a.session ∷ x) (sym (append_assoc (records_of false a.withdrawn) (records_of true a.announced) (Prefix true v ∷ [])))
 
 pub stage_reads : (base : VrpSet) (a : Begun) (announce : Bool) (v : Payload) (b : Begun) (rest : List Unit) → stage base a announce v ≡ Stays b → InOrder a (Prefix announce v ∷ rest) → (read_of b ≡ read_of a ++ Prefix announce v ∷ []) × InOrder b rest
-stage_reads base a false v b rest e h = by_test (has base v && not (is_among v a.withdrawn)) e
-  where
-    by_test : (t : Bool) → (if t then Stays (record a { withdrawn = v ∷ a.withdrawn }) else Wrong 6) ≡ Stays b → (read_of b ≡ read_of a ++ Prefix false v ∷ []) × InOrder b rest
-    by_test true e =
-        let same : record a { withdrawn = v ∷ a.withdrawn } ≡ b = cc in
-        let none : a.announced ≡ [] = first_withdraws a false v rest h refl in
-        subst (λ x. (read_of x ≡ read_of a ++ Prefix false v ∷ []) × InOrder x rest) same (read_withdrawn a v none, (h.0, inl none))
-    by_test false e = absurd (let h : Wrong 6 ≡ Stays b = e in cc)
-stage_reads base a true v b rest e h = by_test (has base v || is_among v a.announced) (nat_lt 16777215 (size (led_to base a.withdrawn (v ∷ a.announced)))) e
-  where
-    by_test : (t s : Bool) → (if t then Wrong 7 else if s then Over else Stays (record a { announced = v ∷ a.announced })) ≡ Stays b → (read_of b ≡ read_of a ++ Prefix true v ∷ []) × InOrder b rest
-    by_test true s e = absurd (let h : Wrong 7 ≡ Stays b = e in cc)
-    by_test false true e = absurd (let h : Over ≡ Stays b = e in cc)
-    by_test false false e =
-        let same : record a { announced = v ∷ a.announced } ≡ b = cc in
-        subst (λ x. (read_of x ≡ read_of a ++ Prefix true v ∷ []) × InOrder x rest) same (read_announced a v, (none_first rest h.0, inr h.0))
+stage_reads base a false v b rest e h =
+    let none : a.announced ≡ [] = first_withdraws a false v rest h refl in
+    subst (λ x. (read_of x ≡ read_of a ++ Prefix false v ∷ []) × InOrder x rest) (staged_is base a false v b e) (read_withdrawn a v none, (h.0, inl none))
+stage_reads base a true v b rest e h = subst (λ x. (read_of x ≡ read_of a ++ Prefix true v ∷ []) × InOrder x rest) (staged_is base a true v b e) (read_announced a v, (none_first rest h.0, inr h.0))
 
 -- the rest of an answer once a record is staged
 staged_answer : (all : List Instance) (pv : Version) (home : Seen) (base : VrpSet) (a : Begun) (announce : Bool) (v : Payload) (b : Begun) (rest : List Unit) → stage base a announce v ≡ Stays b → OfAnswer all pv home base a (Prefix announce v ∷ rest) → OfAnswer all pv home base b rest
