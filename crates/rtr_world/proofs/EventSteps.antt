@@ -11,7 +11,7 @@ use Rattle.rtr_ends.specs.Connection.{Sent, in_version}
 use Rattle.rtr_ends.specs.Feeding.{FedPiece, feed}
 use Rattle.rtr_ends.specs.LinkRules.{Router, ask}
 use Rattle.rtr_ends.specs.Router.{close, clocked, asks_if, connects_at, closed_at, ticks_at, asks, receives, router_pulled}
-use Rattle.rtr_ends.specs.RouterLink.{Link, Closed, Ended, is_reading, is_due, is_idle}
+use Rattle.rtr_ends.specs.RouterLink.{Link, Closed, Ended, is_reading, is_due, is_idle, is_closed}
 use Rattle.rtr_ends.specs.Transcript.{choose, of_version, At, Item, query}
 use Rattle.rtr_ends.proofs.KeptLaws.{clocked_tells}
 use Rattle.rtr_ends.proofs.ByteLists.{drop_none}
@@ -21,14 +21,14 @@ use Rattle.rtr_world.specs.VersionPlaces.{VersionPlace}
 use Rattle.rtr_world.specs.History.{conn_due}
 use Rattle.rtr_world.specs.World.{Side, World, instances, is_read, timing, SideEvent, RouterRestart, Speak, Connect, RouterSends, CacheGets, CacheSends, RouterGets, Cut, NotifyRouter, Ask, Tick, places_of, connects, router_restarts, speaks, router_sends, sends_from, cache_sends, gets_at, cache_gets, router_gets, cut, notifies_at, side_step, side_part, side_refused, tell_closed, close_ended, settle_conn, settle_link, settle_rest, settle_wire, settle}
 use Rattle.rtr_world.proofs.RouterCases.{asks_by}
-use Rattle.rtr_world.proofs.EventCalls.{closed_by, closed_link, part_by, lesser}
+use Rattle.rtr_world.proofs.EventCalls.{closed_by, part_by, lesser}
 use Rattle.rtr_world.proofs.CacheMoves as cache
 use Rattle.rtr_world.proofs.UnitCases.{goes_fed}
 use Rattle.rtr_world.proofs.Invariant.{OwnSession, IfOpen, Open, GoodLink, GoodRouter, Good, Flow, if_open}
 use Rattle.rtr_ends.proofs.TableLaws.{false_true}
 use Rattle.rtr_world.proofs.Places.{Ordered, ordered_connects, ordered_none, ordered_read}
 use Rattle.rtr_world.proofs.UnitsAtRouters.{first_fits, query_unit}
-use Rattle.rtr_world.proofs.SideSteps.{live_map, clocked_good, Shut, close_shut, asks_good}
+use Rattle.rtr_world.proofs.SideSteps.{live_map, clocked_good, Shut, close_shut, closed_shut, asks_good}
 use Rattle.rtr_world.proofs.UnitStreams.{Stream, none_part}
 use Rattle.rtr_world.proofs.KeptTables.{SideTells}
 use Rattle.rtr_world.proofs.Versions.{Present, held_at, Seen, IsReadAt, IsSeen, seen_after, seen_at}
@@ -252,29 +252,23 @@ module _ (w : World) (p : Present (instances w) w.present) where
 
   -- After each event
 
-  shut_link : (r : Router) (home : Option Seen) (conn : Option Conn) (up down : List ℕ) → r.link ≡ Closed → r.held ≡ [] → r.agreed ≡ false → r.session ≡ None → r.out ≡ [] → GoodLink (instances w) w.present home r.link r conn up down
-  shut_link r home conn up down is held agreed session out = subst (λ l. GoodLink (instances w) w.present home l r conn up down) (sym is) (held, agreed, session, out)
-
   -- a closed router is so, whatever its connection
-  shut_of : (s : Side) → s.router.link ≡ Closed → (g : GoodS s) (home : Option Seen) (conn : Option Conn) (up down : List ℕ) → GoodRouter (instances w) w.present home conn up down s.router
-  shut_of s is g home conn up down =
-      let h = subst (λ l. GoodLink (instances w) w.present g.seen l s.router s.conn s.up s.down) is g.router.link in
-      record { table = g.router.table; unmarked = g.router.unmarked; link = shut_link s.router home conn up down is h.0 h.1 h.2 h.3 }
+  shut_good : (seen : Option Seen) (c : Option Conn) (u d : List ℕ) (r : Router) → Shut (instances w) w.present seen c u d r → (home : Option Seen) (conn : Option Conn) (up down : List ℕ) → GoodRouter (instances w) w.present home conn up down r
+  shut_good seen c u d r shut home conn up down =
+      record { table = shut.table; unmarked = shut.unmarked; link = subst (λ l. GoodLink (instances w) w.present home l r conn up down) (sym shut.closed) (shut.held, shut.agreed, shut.session, shut.out) }
+
+  shut_of : (s : Side) → is_closed s.router.link ≡ true → (g : GoodS s) (home : Option Seen) (conn : Option Conn) (up down : List ℕ) → GoodRouter (instances w) w.present home conn up down s.router
+  shut_of s e g = shut_good g.seen s.conn s.up s.down s.router (closed_shut (instances w) w.present g.seen s.conn s.up s.down s.router.link s.router refl e g.router g.router.link)
 
   told_good : (s : Side) → GoodS s → (conn : Option Conn) (up down : List ℕ) → GoodS (record (tell_closed (instances w) s) { conn = conn; up = up; down = down })
   unfolding closed_at
   told_good s g conn up down =
       closed_by (λ t. GoodS (record t { conn = conn; up = up; down = down })) (instances w) s
-      (λ e. record { seen = None; is_seen = tt; is_read = tt; order = none; router = shut_of s (closed_link s.router.link e) g None conn up down })
-      (λ e. record { seen = None; is_seen = tt; is_read = tt; order = none; router = so })
+      (λ e. record { seen = None; is_seen = tt; is_read = tt; order = none; router = shut_of s e g None conn up down })
+      (λ e. record { seen = None; is_seen = tt; is_read = tt; order = none; router = shut_good g.seen s.conn s.up s.down (close (clocked s.router.now s.router)) (close_shut (instances w) w.present g.seen s.conn s.up s.down (clocked s.router.now s.router) (clocked_good (instances w) w.present g.seen s.conn s.up s.down s.router.now s.router g.router)) None conn up down })
     where
       none : Ordered w.past w.present s.places None
       none = ordered_none w.past w.present s.places g.seen g.order
-
-      so : GoodRouter (instances w) w.present None conn up down (close (clocked s.router.now s.router))
-      so =
-          let shut = close_shut (instances w) w.present g.seen s.conn s.up s.down (clocked s.router.now s.router) (clocked_good (instances w) w.present g.seen s.conn s.up s.down s.router.now s.router g.router) in
-          record { table = shut.table; unmarked = shut.unmarked; link = shut_link (close (clocked s.router.now s.router)) None conn up down shut.closed shut.held shut.agreed shut.session shut.out }
 
   ended_good : (s : Side) (o : Conn) (ended : Bool) (due : List ℕ) → s.conn ≡ Some o → o.state.due ≡ due → GoodS s → GoodS (close_ended s ended due)
   ended_good s o true [] e de g = wired_good s s.router.out None s.up s.down g (λ x. x) (λ h f.
@@ -291,8 +285,8 @@ module _ (w : World) (p : Present (instances w) w.present) where
   link_good s _ _ g = g
 
   rest_good : (s : Side) (l : Link) (up : List ℕ) → s.router.link ≡ l → GoodS s → GoodS (settle_rest s l up)
-  rest_good s Closed [] is g = record { seen = g.seen; is_seen = g.is_seen; is_read = g.is_read; order = g.order; router = shut_of s is g g.seen None s.up [] }
-  rest_good s Closed (b ∷ up) is g = record { seen = g.seen; is_seen = g.is_seen; is_read = g.is_read; order = g.order; router = shut_of s is g g.seen s.conn s.up [] }
+  rest_good s Closed [] is g = record { seen = g.seen; is_seen = g.is_seen; is_read = g.is_read; order = g.order; router = shut_of s (ap is_closed is) g g.seen None s.up [] }
+  rest_good s Closed (b ∷ up) is g = record { seen = g.seen; is_seen = g.is_seen; is_read = g.is_read; order = g.order; router = shut_of s (ap is_closed is) g g.seen s.conn s.up [] }
   rest_good s _ up is g = g
 
   wire_good : (s : Side) (o : Option Conn) (down : List ℕ) → GoodS s → GoodS (settle_wire (instances w) s o down)

@@ -148,12 +148,12 @@ module _ (all : List Instance) (i : Instance) (home : Option Seen) (conn : Optio
       pub session : r.session ≡ None
       pub out : r.out ≡ []
 
+    pub closed_shut : (l : Link) (r : Router) → r.link ≡ l → is_closed l ≡ true → GoodR r → GoodLink all i home l r conn up down → Shut r
+    closed_shut Closed r is e g h = record { table = g.table; unmarked = g.unmarked; closed = is; held = h.0; agreed = h.1; session = h.2; out = h.3 }
+    closed_shut _ r is e g h = false_true e
+
     pub close_shut : (r : Router) → GoodR r → Shut (close r)
-    close_shut r g = by_close Shut r (λ e. closed r.link refl e g.link) (λ e. record { table = g.table; unmarked = g.unmarked; closed = refl; held = refl; agreed = refl; session = refl; out = refl })
-      where
-        closed : (l : Link) → r.link ≡ l → is_closed l ≡ true → GoodLink all i home l r conn up down → Shut r
-        closed Closed is e h = record { table = g.table; unmarked = g.unmarked; closed = is; held = h.0; agreed = h.1; session = h.2; out = h.3 }
-        closed _ is e h = false_true e
+    close_shut r g = by_close Shut r (λ e. closed_shut r.link r refl e g g.link) (λ e. record { table = g.table; unmarked = g.unmarked; closed = refl; held = refl; agreed = refl; session = refl; out = refl })
 
     -- an idle link asks
     pub asks_good : (l : Link) (r : Router) (b : Bool) → r.link ≡ l → (is_idle l ≡ false → b ≡ false) → GoodR r → GoodR (asks_if b r).router

@@ -69,10 +69,6 @@ stage_keeps base a false v b e = subst (λ x. (x.question ≡ a.question) × (x.
 stage_keeps base a true v b e = subst (λ x. (x.question ≡ a.question) × (x.session ≡ a.session)) (staged_is base a true v b e) (refl, refl)
 
 -- what is read once a record is staged
-pub first_withdraws : (a : Begun) (announce : Bool) (v : Payload) (rest : List Unit) → InOrder a (Prefix announce v ∷ rest) → announce ≡ false → a.announced ≡ []
-first_withdraws a true v rest h e = absurd (let k : true ≡ false = e in cc)
-first_withdraws a false v rest h e = elim (h.1) [ inl none ↦ none | inr k ↦ absurd k ]
-
 none_first : (units : List Unit) → NoneWithdrawn units → WithdrawsFirst units
 none_first [] h = tt
 none_first (Prefix true v ∷ units) h = h
@@ -90,7 +86,7 @@ read_announced a v = ap (λ x. CacheResponse a.session ∷ x) (sym (append_assoc
 
 pub stage_reads : (base : VrpSet) (a : Begun) (announce : Bool) (v : Payload) (b : Begun) (rest : List Unit) → stage base a announce v ≡ Stays b → InOrder a (Prefix announce v ∷ rest) → (read_of b ≡ read_of a ++ Prefix announce v ∷ []) × InOrder b rest
 stage_reads base a false v b rest e h =
-    let none : a.announced ≡ [] = first_withdraws a false v rest h refl in
+    let none : a.announced ≡ [] = elim (h.1) [ inl none ↦ none | inr k ↦ absurd k ] in
     subst (λ x. (read_of x ≡ read_of a ++ Prefix false v ∷ []) × InOrder x rest) (staged_is base a false v b e) (read_withdrawn a v none, (h.0, inl none))
 stage_reads base a true v b rest e h = subst (λ x. (read_of x ≡ read_of a ++ Prefix true v ∷ []) × InOrder x rest) (staged_is base a true v b e) (read_announced a v, (none_first rest h.0, inr h.0))
 
