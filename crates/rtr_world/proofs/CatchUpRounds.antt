@@ -1,5 +1,5 @@
 -- A round of all bytes: the question is read whole, and its reply is read whole.
-use Rattle.std.specs.Prelude.{◌≡◌, ◌⊎◌, ℕ, ◌≤◌, ◌^◌, Bool, true, false, not, List, [], ◌∷◌, ◌++◌, length, take, Option, Some, None, is_some, ⊤, refl, suc, ◌*◌, ◌==◌, map, if◌then◌else◌, IsSome}
+use Rattle.std.specs.Prelude.{◌≡◌, ◌⊎◌, ℕ, ◌≤◌, Bool, true, false, not, List, [], ◌∷◌, ◌++◌, length, take, Option, Some, None, is_some, ⊤, refl, suc, ◌*◌, ◌==◌, map, IsSome}
 use Rattle.std.proofs.Common.{sym, ap, ◌∙◌, subst, arith, inl, inr, subst₂}
 use Rattle.std.specs.List.{AllByRecursion}
 use Rattle.std.proofs.Math.ListN.{drop_of_length-le}
@@ -10,19 +10,20 @@ use Rattle.rtr_pdu.specs.declared.version.Version.{Version}
 use Rattle.rtr_pdu.specs.Unit.{IsUnitOf}
 use Rattle.rtr_pdu.specs.declared.unit.Unit.{Unit}
 use Rattle.rtr_pdu.proofs.NextLaws.{sent_most, some_sent}
-use Rattle.rtr_ends.specs.Answer.{answer, report, sent, sent_all, session_in, and_end, and_on, announcements, end_of_data, response, serial_answer, step_answer, whole_answer, withdrawals}
+use Rattle.rtr_ends.proofs.Effects.{either}
+use Rattle.rtr_ends.specs.Answer.{Reply as Answered, answer, report, sent, sent_all, session_in, announcements, end_of_data, response, serial_answer, step_answer, whole_answer, withdrawals}
 use Rattle.rtr_ends.specs.Cache.{Conn, conn_pulled, conn_takes, new_conn}
 use Rattle.rtr_ends.specs.Connection.{in_version, IsLater}
 use Rattle.rtr_ends.specs.Router.{clocked, receives, router_pulled, close, connects_at}
 use Rattle.rtr_ends.specs.RouterLink.{Closed, Idle, Asked, is_reading, Link}
 use Rattle.rtr_ends.specs.Transcript.{AskReset, Committed, Question, base_of, is_serial, of_version, query, AskSerial, choose}
-use Rattle.rtr_world.specs.CatchUp.{IsAll, IsQuiet, read_up, round, sent_down, sent_up, EachCatchesUp, IdleAfter, IdleNext, IdleSoon, Rests, RestsNext, RestsSo, RestsSoon, RoundsEnd}
+use Rattle.rtr_world.specs.CatchUp.{IsAll, IsQuiet, read_up, round, sent_down, sent_up, EachCatchesUp, IdleNext, IdleSoon, RestsNext, RestsSo, RestsSoon, RoundsEnd}
 use Rattle.rtr_world.specs.History.{conn_due}
 use Rattle.rtr_world.specs.World.{Side, World, instances, timing, cache_gets, cache_sends, gets_at, router_gets, sends_from, settle, router_sends, connects}
 use Rattle.rtr_world.proofs.CacheSteps.{answer_answers, answered_report, from_now}
 use Rattle.rtr_world.proofs.CatchUpAnswers.{IsDue, goes_or_other, is_read, no_wanting}
 use Rattle.rtr_world.proofs.CatchUpReplies.{Phase, WasRead, is_idle, asks_again, has_ended, clocked_waits, no_reply, reply_read}
-use Rattle.rtr_world.proofs.CatchUpSettling.{Emptied, settle_closes, settle_empties, settle_full, settle_none, settle_open, clocked_emptied, clocked_none}
+use Rattle.rtr_world.proofs.CatchUpSettling.{Emptied, settle_closes, settle_empties, settle_full, settle_off, settle_open, clocked_emptied, clocked_none}
 use Rattle.rtr_world.proofs.Invariant.{Mine, Replies, no_memory, QuestionFits, Good}
 use Rattle.rtr_world.proofs.UnitsAtRouters.{query_unit, first_fits}
 use Rattle.rtr_world.proofs.UnitStreams.{MaySpeak, Stream, all_bytes, all_sent, none_part, bytes_of_version}
@@ -30,7 +31,7 @@ use Rattle.rtr_world.proofs.Versions.{Present, TableAt, held_at, Seen, seen_at}
 use Rattle.vrps.specs.Instance.{Instance, NumberedSet, versions_from, with_serial}
 use Rattle.vrps.specs.Serial.{serial_at}
 use Rattle.vrps.proofs.Listed.{part_is_set, size_of_listing}
-use Rattle.rtr_pdu.specs.declared.unit.Unit.TheVariants.{Prefix, SerialQuery}
+use Rattle.rtr_pdu.specs.declared.unit.Unit.TheVariants.{Prefix}
 use Rattle.rtr_ends.specs.LinkRules.{Router}
 use Rattle.rtr_ends.proofs.TableLaws.{false_true}
 use Rattle.rtr_world.proofs.SideSteps.{clocked_good, close_shut}
@@ -48,60 +49,55 @@ module _ (w : World) (p : Present (instances w) w.present) (h : Seen) where
     pub fits : QuestionFits h.session q (of_version pv version)
     pub table_at : TableAt (instances w) version table
 
+  -- The connection is open, with nothing to be pulled.
+  pub record Quiet (pv : Version) (o : Option Conn) : Type 0 where
+    pub conn : Conn
+    pub conn_is : o ≡ Some conn
+    pub held : conn.held ≡ []
+    pub spoken : MaySpeak pv conn.state.version
+    pub due : conn.state.due ≡ []
+    pub on : conn.state.ended ≡ false
+
   -- The question is still to be pulled,
   pub record Asks (q : Question) (s : Side) : Type 0 where
     pub knows : Knows s.router.spoken q s.router.version s.router.table
-    pub conn : Conn
-    pub conn_is : s.conn ≡ Some conn
-    pub held : conn.held ≡ []
-    pub spoken : MaySpeak s.router.spoken conn.state.version
-    pub due : conn.state.due ≡ []
-    pub on : conn.state.ended ≡ false
+    pub quiet : Quiet s.router.spoken s.conn
+    pub open quiet use *
     pub up : s.up ≡ []
     pub down : s.down ≡ []
     pub link : s.router.link ≡ Asked q
     pub out : s.router.out ≡ sent s.router.spoken (query q)
     pub router_held : s.router.held ≡ []
 
-  -- is on the wire,
+  -- or is on the wire.
   pub record Sent (q : Question) (s : Side) : Type 0 where
     pub knows : Knows s.router.spoken q s.router.version s.router.table
-    pub conn : Conn
-    pub conn_is : s.conn ≡ Some conn
-    pub held : conn.held ≡ []
-    pub spoken : MaySpeak s.router.spoken conn.state.version
-    pub due : conn.state.due ≡ []
-    pub on : conn.state.ended ≡ false
+    pub quiet : Quiet s.router.spoken s.conn
+    pub open quiet use *
     pub up : s.up ≡ sent s.router.spoken (query q)
     pub down : s.down ≡ []
     pub link : s.router.link ≡ Asked q
     pub out : s.router.out ≡ []
     pub router_held : s.router.held ≡ []
 
-  pub record Quiet (pv : Version) (conn : Option Conn) : Type 0 where
-    pub o : Conn
-    pub is : conn ≡ Some o
-    pub held : o.held ≡ []
-    pub spoken : MaySpeak pv o.state.version
-    pub due : o.state.due ≡ []
-    pub on : o.state.ended ≡ false
-
   pub reading : (q : Question) (l : Link) → l ≡ Asked q → is_reading l ≡ true
   reading q l e = ap is_reading e
 
+  -- a question is short
+  pub question_few : (q : Question) (most : ℕ) (s : Side) → IsAll most → Knows s.router.spoken q s.router.version s.router.table → length (sent s.router.spoken (query q)) ≤ most
+  question_few q most s enough k =
+      let unit = query_unit (instances w) s.router.spoken h.session q (of_version s.router.spoken s.router.version) s.router.table k.fits (held_at (instances w) s.router.spoken s.router.version s.router.table k.table_at) in
+      omega (arith, enough, sent_most s.router.spoken (query q) unit.0 unit.1)
+
   -- the router sends
-  pub sends_all : (q : Question) (most : ℕ) (s : Side) → length s.router.out ≤ most → Asks q s → Sent q (sent_up w most s)
+  pub sends_all : (q : Question) (most : ℕ) (s : Side) → IsAll most → Asks q s → Sent q (sent_up w most s)
   unfolding router_sends router_pulled
-  sends_all q most s all a =
+  sends_all q most s enough a =
+      let all : length s.router.out ≤ most = subst (λ x. length x ≤ most) (sym a.out) (question_few q most s enough a.knows) in
       let same : settle (instances w) (router_sends most s) ≡ router_sends most s = settle_open (instances w) (router_sends most s) a.conn a.conn_is (λ e. absurd (let k : true ≡ false = sym e ∙ a.on in cc)) (reading q s.router.link a.link) in
       subst (λ x. Sent q x) (sym same) (record {
         knows = a.knows;
-        conn = a.conn;
-        conn_is = a.conn_is;
-        held = a.held;
-        spoken = a.spoken;
-        due = a.due;
-        on = a.on;
+        quiet = a.quiet;
         up = ap (λ x. x ++ take most s.router.out) a.up ∙ take_all most s.router.out all ∙ a.out;
         down = a.down;
         link = a.link;
@@ -109,32 +105,20 @@ module _ (w : World) (p : Present (instances w) w.present) (h : Seen) where
         router_held = a.router_held;
       })
 
--- How many bytes a question and its answer have at most.
+-- A question or an answer has at most 2^25 PDUs of at most 2^12 bytes.
 bytes_of : (pv : Version) (units : List Unit) → AllByRecursion (IsUnitOf pv) units → length (sent_all pv units) ≤ length units * 4096
 bytes_of pv [] fit = omega arith
-bytes_of pv (u ∷ units) fit =
-    let rest = bytes_of pv units fit.1 in
-    let first = sent_most pv u fit.0.0 fit.0.1 in
-    let both = length-append (sent pv u) (sent_all pv units) in
-    omega (arith, rest, first, both)
+bytes_of pv (u ∷ units) fit = omega (arith, bytes_of pv units fit.1, sent_most pv u fit.0.0 fit.0.1, length-append (sent pv u) (sent_all pv units))
 
 records_few : (announce : Bool) (s : VrpSet) → IsVrpSet s → length (map (λ v. Prefix announce v) (listing s)) ≤ 16777215
-records_few announce s is =
-    let same = length-map (listing s) (λ v. Prefix announce v) in
-    let size = size_of_listing s in
-    let few = is.within_limit in
-    omega (arith, same, size, few)
+records_few announce s is = omega (arith, length-map (listing s) (λ v. Prefix announce v), size_of_listing s, is.within_limit)
 
 response_few : (pv : Version) (session : ℕ) (now : NumberedSet) (records : List Unit) → length records ≤ 33554430 → length (response pv session timing now records) ≤ 33554432
-response_few pv session now records few =
-    let all = length-append records (end_of_data pv session now.serial timing ∷ []) in
-    omega (arith, all, few)
+response_few pv session now records few = omega (arith, few, length-append records (end_of_data pv session now.serial timing ∷ []))
 
 whole_few : (pv : Version) (session start : ℕ) (sets : List VrpSet) → AllByRecursion IsVrpSet sets → length (whole_answer pv session timing (versions_from start sets)) ≤ 33554432
 whole_few pv session start [] is = omega arith
-whole_few pv session start (x ∷ older) is =
-    let few = records_few true x is.0 in
-    response_few pv session (record { serial = serial_at start (length older); set = x }) (announcements x) (omega (arith, few))
+whole_few pv session start (x ∷ older) is = response_few pv session (record { serial = serial_at start (length older); set = x }) (announcements x) (omega (arith, records_few true x is.0))
 
 abbrev IsFound : Option NumberedSet → Type 0
 IsFound None = ⊤
@@ -149,11 +133,7 @@ step_few pv session now (Some before) is found =
     response_few pv session now (withdrawals (without before.set now.set) ++ announcements (without now.set before.set)) (omega (arith, gone, come, all))
 
 found_is : (serial start kept : ℕ) (sets : List VrpSet) → AllByRecursion IsVrpSet sets → IsFound (with_serial serial (take kept (versions_from start sets)))
-found_is serial start (suc kept) (x ∷ older) is = by_serial (serial_at start (length older) == serial) (found_is serial start kept older is.1)
-  where
-    by_serial : (b : Bool) → IsFound (with_serial serial (take kept (versions_from start older))) → IsFound (if b then Some (record { serial = serial_at start (length older); set = x }) else with_serial serial (take kept (versions_from start older)))
-    by_serial true later = is.0
-    by_serial false later = later
+found_is serial start (suc kept) (x ∷ older) is = either IsFound (serial_at start (length older) == serial) _ _ (λ here. is.0) (λ there. found_is serial start kept older is.1)
 found_is serial start _ _ is = tt
 
 serial_few : (pv : Version) (session start keep serial : ℕ) (sets : List VrpSet) → AllByRecursion IsVrpSet sets → length (serial_answer pv session keep timing serial (versions_from start sets)) ≤ 33554432
@@ -163,24 +143,8 @@ serial_few pv session start keep serial (x ∷ older) is =
 
 answer_few : (pv : Version) (i : Instance) (keep : ℕ) (q : Question) → AllByRecursion IsVrpSet i.sets → length (answer pv i keep timing (query q)).units ≤ 33554432
 answer_few pv i keep AskReset is = whole_few pv (session_in pv i) i.start i.sets is
-answer_few pv i keep (AskSerial session serial) is = by_session (session == session_in pv i)
-  where
-    by_session : (b : Bool) → length (if b then and_on (serial_answer pv (session_in pv i) keep timing serial (versions_from i.start i.sets)) else and_end (report 0 (sent pv (SerialQuery session serial)) ∷ [])).units ≤ 33554432
-    by_session true = serial_few pv (session_in pv i) i.start keep serial i.sets is
-    by_session false = omega arith
-
--- at most 2^25 PDUs of at most 2^12 bytes
-pub answer_bytes : (pv : Version) (i : Instance) (keep : ℕ) (q : Question) → AllByRecursion IsVrpSet i.sets → AllByRecursion (IsUnitOf pv) (answer pv i keep timing (query q)).units → length (sent_all pv (answer pv i keep timing (query q)).units) ≤ 2 ^ 37
-answer_bytes pv i keep q is fit =
-    let few = answer_few pv i keep q is in
-    let bytes = bytes_of pv (answer pv i keep timing (query q)).units fit in
-    omega (arith, few, bytes)
-
-pub one_unit : (pv : Version) (units : List Unit) (u : Unit) → units ≡ u ∷ [] → AllByRecursion (IsUnitOf pv) units → length (sent_all pv units) ≤ 2 ^ 37
-one_unit pv units u e fit =
-    let one = ap length e in
-    let bytes = bytes_of pv units fit in
-    omega (arith, one, bytes)
+answer_few pv i keep (AskSerial session serial) is =
+    either (λ (x : Answered). length x.units ≤ 33554432) (session == session_in pv i) _ _ (λ own. serial_few pv (session_in pv i) i.start keep serial i.sets is) (λ other. omega arith)
 
 module _ (w : World) (p : Present (instances w) w.present) (h : Seen) where
   -- at these PDUs memory runs out, if at any
@@ -197,7 +161,7 @@ module _ (w : World) (p : Present (instances w) w.present) (h : Seen) where
       replies : Replies (instances w) pv h q (base_of q table) units
       fit : AllByRecursion (IsUnitOf pv) units
       memory : units ≡ report 1 [] ∷ [] → Lacking
-      few : length (sent_all pv units) ≤ 2 ^ 37
+      few : length units ≤ 33554432
 
     -- It is still to be pulled,
     record Got (q : Question) (s : Side) : Type 0 where
@@ -238,20 +202,16 @@ module _ (w : World) (p : Present (instances w) w.present) (h : Seen) where
             replies = subst (λ x. Replies (instances w) pv h q (base_of q table) x) (sym e.0) a.replies;
             fit = subst (AllByRecursion (IsUnitOf pv)) (sym e.0) a.answered.fit;
             memory = λ one. absurd (no_wanting pv w.present w.keep q (sym e.0 ∙ one));
-            few = subst (λ x. length (sent_all pv x) ≤ 2 ^ 37) (sym e.0) (answer_bytes pv w.present w.keep q p.is.sets a.answered.fit);
+            few = subst (λ x. length x ≤ 33554432) (sym e.0) (answer_few pv w.present w.keep q p.is.sets);
           },
-          by_answer (goes_or_other pv w.present w.keep q),
+          elim (goes_or_other pv w.present w.keep q) [ inl on ↦ inl (inl (e.1 ∙ ap not on)) | inr other ↦ inr (other.0, e.0 ∙ other.1) ],
         )
-      where
-        by_answer : ((answer pv w.present w.keep timing (query q)).goes_on ≡ true) ⊎ ((copy : List ℕ) × ((answer pv w.present w.keep timing (query q)).units ≡ report 0 copy ∷ [])) → Shows (ended ≡ false) units
-        by_answer (inl on) = inl (inl (e.1 ∙ ap not on))
-        by_answer (inr other) = inr (other.0, e.0 ∙ other.1)
     is_reply pv q version table unit ended units k (inr e) = (
       record {
         replies = no_memory e.0;
         fit = subst (AllByRecursion (IsUnitOf pv)) (sym e.0) (answered_report pv 1 [] (omega arith) (all_bytes [] tt)).fit;
         memory = λ one none other. e.1 none;
-        few = one_unit pv units (report 1 []) e.0 (subst (AllByRecursion (IsUnitOf pv)) (sym e.0) (answered_report pv 1 [] (omega arith) (all_bytes [] tt)).fit);
+        few = omega (arith, ap length e.0);
       },
       inl (inr (λ none other. e.1 none)),
     )
@@ -265,10 +225,11 @@ module _ (w : World) (p : Present (instances w) w.present) (h : Seen) where
         by_bytes (b ∷ bytes) is e = cc
 
     -- the cache reads
-    gets_all : (q : Question) (most : ℕ) (s : Side) → length s.up ≤ most → Sent w p h q s → Got q (settle (instances w) (cache_gets w most at_cache s))
+    gets_all : (q : Question) (most : ℕ) (s : Side) → IsAll most → Sent w p h q s → Got q (settle (instances w) (cache_gets w most at_cache s))
     unfolding cache_gets
-    gets_all q most s all a =
+    gets_all q most s enough a =
         let k = a.knows in
+        let all : length s.up ≤ most = subst (λ x. length x ≤ most) (sym a.up) (question_few w p h q most s enough k) in
         let unit = query_unit (instances w) s.router.spoken h.session q (of_version s.router.spoken s.router.version) s.router.table k.fits (held_at (instances w) s.router.spoken s.router.version s.router.table k.table_at) in
         let read = is_read w.keep w.present s.router.spoken (query q) unit at_cache (take most s.up) a.conn (take_all most s.up all ∙ a.up) a.held a.spoken a.due a.on in
         let o : Conn = (conn_takes w.keep timing w.present at_cache (take most s.up) a.conn).machine.conn in
@@ -296,9 +257,9 @@ module _ (w : World) (p : Present (instances w) w.present) (h : Seen) where
         subst (λ c. Got q (settle (instances w) (gets_at w most at_cache s c))) (sym a.conn_is) (subst (λ x. Got q x) (sym same) got)
 
     -- the cache sends
-    gives_all : (q : Question) (most : ℕ) (s : Side) → length (conn_due s.conn) ≤ most → Got q s → Given q (settle (instances w) (cache_sends w most s))
+    gives_all : (q : Question) (most : ℕ) (s : Side) → IsAll most → Got q s → Given q (settle (instances w) (cache_sends w most s))
     unfolding cache_sends conn_pulled
-    gives_all q most s all a = subst (λ c. Given q (settle (instances w) (sends_from w.keep most s c))) (sym a.conn_is) (by_bytes a.conn.state.due refl)
+    gives_all q most s enough a = subst (λ c. Given q (settle (instances w) (sends_from w.keep most s c))) (sym a.conn_is) so
       where
         o : Conn
         o = conn_pulled w.keep timing most a.conn
@@ -307,7 +268,7 @@ module _ (w : World) (p : Present (instances w) w.present) (h : Seen) where
         n = sends_from w.keep most s (Some a.conn)
 
         few : length a.conn.state.due ≤ most
-        few = subst (λ c. length (conn_due c) ≤ most) a.conn_is all
+        few = omega (arith, enough, a.reply.few, bytes_of s.router.spoken a.units a.reply.fit, ap length a.due)
 
         down : n.down ≡ sent_all s.router.spoken a.units
         down = ap (λ x. x ++ take most a.conn.state.due) a.down ∙ take_all most a.conn.state.due few ∙ a.due
@@ -320,16 +281,13 @@ module _ (w : World) (p : Present (instances w) w.present) (h : Seen) where
         shut_shows ended (inl (inr l)) = inl (inr l)
         shut_shows ended (inr r) = inr r
 
-        by_bytes : (bytes : List ℕ) → a.conn.state.due ≡ bytes → Given q (settle (instances w) n)
-        by_bytes [] e = absurd (some_bytes s.router.spoken q s.router.table a.units a.reply (sym a.due ∙ e))
-        by_bytes (b ∷ bytes) e =
-            elim (settle_full (instances w) n o b bytes refl none_due (down ∙ sym a.due ∙ e) (reading w p h q s.router.link a.link)) [
-              | inl shut ↦ subst (λ x. Given q x) (sym shut.1)
-                  (record { knows = a.knows; units = a.units; reply = a.reply; conn = inl refl; shown = shut_shows shut.0 a.shown; up = a.up; down = down; link = a.link; out = a.out; router_held = a.router_held })
-              | inr same ↦ (let c : Quiet w p h s.router.spoken n.conn = record { o = o; is = refl; held = a.held; spoken = a.spoken; due = none_due; on = same.0 } in
-                  subst (λ x. Given q x) (sym same.1)
-                  (record { knows = a.knows; units = a.units; reply = a.reply; conn = inr c; shown = inl (inl c); up = a.up; down = down; link = a.link; out = a.out; router_held = a.router_held }))
-            ]
+        so : Given q (settle (instances w) n)
+        so = elim (settle_full (instances w) n o refl none_due (λ none. some_bytes s.router.spoken q s.router.table a.units a.reply (sym down ∙ none)) (reading w p h q s.router.link a.link)) [
+          | inl shut ↦ subst (λ x. Given q x) (sym shut.1)
+              (record { knows = a.knows; units = a.units; reply = a.reply; conn = inl refl; shown = shut_shows shut.0 a.shown; up = a.up; down = down; link = a.link; out = a.out; router_held = a.router_held })
+          | inr same ↦ (let c : Quiet w p h s.router.spoken n.conn = record { conn = o; conn_is = refl; held = a.held; spoken = a.spoken; due = none_due; on = same.0 } in
+              subst (λ x. Given q x) (sym same.1) (record { knows = a.knows; units = a.units; reply = a.reply; conn = inr c; shown = inl (inl c); up = a.up; down = down; link = a.link; out = a.out; router_held = a.router_held }))
+        ]
 
     -- The link is idle, and all is quiet; or it is closed, as memory ran out or the router was emptied; or the router asks for all.
     pub data Ends (q : Question) (s : Side) : Type 0 where
@@ -345,15 +303,18 @@ module _ (w : World) (p : Present (instances w) w.present) (h : Seen) where
     has_memory (Some unit) e = inr (λ none other. let k : Some unit ≡ None = sym e ∙ other in cc)
 
     -- the router reads
-    takes_all : (q : Question) (most : ℕ) (s : Side) → length s.down ≤ most → Given q s → Ends q (settle (instances w) (router_gets w most at_router s))
+    takes_all : (q : Question) (most : ℕ) (s : Side) → IsAll most → Given q s → Ends q (settle (instances w) (router_gets w most at_router s))
     unfolding router_gets
-    takes_all q most s all a = by_read (reply_read (instances w) h s.router.spoken q Lacking Stays s.router.now at_router (take most s.down) s.router (has_memory at_router refl) phase)
+    takes_all q most s enough a = by_read (reply_read (instances w) h s.router.spoken q Lacking Stays s.router.now at_router (take most s.down) s.router (has_memory at_router refl) phase)
       where
         n : Side
         n = router_gets w most at_router s
 
         Stays : Type 0
         Stays = Quiet w p h s.router.spoken s.conn ⊎ Lacking
+
+        all : length s.down ≤ most
+        all = omega (arith, enough, a.reply.few, bytes_of s.router.spoken a.units a.reply.fit, ap length a.down)
 
         bytes : take most s.down ≡ sent_all s.router.spoken a.units
         bytes = take_all most s.down all ∙ a.down
@@ -368,28 +329,23 @@ module _ (w : World) (p : Present (instances w) w.present) (h : Seen) where
         none_down none = (λ j. none j ++ drop_of_length-le s.down all j)
 
         settled : (c : Quiet w p h s.router.spoken s.conn) → is_reading n.router.link ≡ true → settle (instances w) n ≡ n
-        settled c live = settle_open (instances w) n c.o c.is (λ e. absurd (let k : true ≡ false = sym e ∙ c.on in cc)) live
+        settled c live = settle_open (instances w) n c.conn c.conn_is (λ e. absurd (let k : true ≡ false = sym e ∙ c.on in cc)) live
 
         -- Where memory ran out the connection may be closed.
         waits_or : is_reading n.router.link ≡ true → (receives s.router.now at_router (take most s.down) s.router).rest ≡ [] → (Quiet w p h s.router.spoken s.conn → Ends q (settle (instances w) n)) → Stays → Ends q (settle (instances w) n)
         waits_or live none goes (inl c) = goes c
-        waits_or live none goes (inr l) = elim (a.conn) [ inl shut ↦ closes (settle_none (instances w) n shut (none_down none) live) (inl l) | inr c ↦ goes c ]
+        waits_or live none goes (inr l) = elim (a.conn) [ inl shut ↦ closes ((settle_off (instances w) n shut (none_down none)).link) (inl l) | inr c ↦ goes c ]
 
         by_read : WasRead (instances w) h s.router.spoken q Lacking Stays (receives s.router.now at_router (take most s.down) s.router).rest (receives s.router.now at_router (take most s.down) s.router).machine.router → Ends q (settle (instances w) n)
         by_read (is_idle is out none on) =
             waits_or (ap is_reading is) none
             (λ c. subst (λ x. Ends q x) (sym (settled c (ap is_reading is)))
-            (idles is (record { is_open = ap is_some c.is; out = out; up = a.up; due = ap conn_due c.is ∙ c.due; down = none_down none }))) on
+            (idles is (record { is_open = ap is_some c.conn_is; out = out; up = a.up; due = ap conn_due c.conn_is ∙ c.due; down = none_down none }))) on
         by_read (has_ended end is none (inl l)) = closes (settle_closes (instances w) n end is none) (inl l)
         by_read (has_ended end is none (inr e)) = closes (settle_closes (instances w) n end is none) (inr (e.0, settle_empties (instances w) n end is none e.1 e.2))
         by_read (asks_again serial is out held mine table none on same) = waits_or (ap is_reading is) none (λ c. asks_all serial (subst (λ x. Asks w p h AskReset x) (sym (settled c (ap is_reading is))) (record {
           knows = knows_again s.router.spoken n.router.spoken q s.router.version n.router.version s.router.table n.router.table mine table same a.knows;
-          conn = c.o;
-          conn_is = c.is;
-          held = c.held;
-          spoken = subst (λ v. MaySpeak v c.o.state.version) (sym same) c.spoken;
-          due = c.due;
-          on = c.on;
+          quiet = subst (λ v. Quiet w p h v s.conn) (sym same) c;
           up = a.up;
           down = none_down none;
           link = is;
@@ -397,63 +353,30 @@ module _ (w : World) (p : Present (instances w) w.present) (h : Seen) where
           router_held = held;
         }))) on
 
-    -- All bytes go.
-    question_few : (q : Question) (most : ℕ) (s : Side) → IsAll most → Knows w p h s.router.spoken q s.router.version s.router.table → length (sent s.router.spoken (query q)) ≤ most
-    question_few q most s enough k =
-        let unit = query_unit (instances w) s.router.spoken h.session q (of_version s.router.spoken s.router.version) s.router.table k.fits (held_at (instances w) s.router.spoken s.router.version s.router.table k.table_at) in
-        let few = sent_most s.router.spoken (query q) unit.0 unit.1 in
-        omega (arith, enough, few)
-
-    asks_few : (q : Question) (most : ℕ) (s : Side) → IsAll most → Asks w p h q s → length s.router.out ≤ most
-    asks_few q most s enough a = subst (λ x. length x ≤ most) (sym a.out) (question_few q most s enough a.knows)
-
-    sent_few : (q : Question) (most : ℕ) (s : Side) → IsAll most → Sent w p h q s → length s.up ≤ most
-    sent_few q most s enough a = subst (λ x. length x ≤ most) (sym a.up) (question_few q most s enough a.knows)
-
-    got_few : (q : Question) (most : ℕ) (s : Side) → IsAll most → Got q s → length (conn_due s.conn) ≤ most
-    got_few q most s enough a =
-        let few = a.reply.few in
-        let size = ap (λ c. length (conn_due c)) a.conn_is ∙ ap length a.due in
-        omega (arith, enough, few, size)
-
-    given_few : (q : Question) (most : ℕ) (s : Side) → IsAll most → Given q s → length s.down ≤ most
-    given_few q most s enough a =
-        let few = a.reply.few in
-        let size = ap length a.down in
-        omega (arith, enough, few, size)
-
     -- a round
     pub round_ends : (q : Question) (most : ℕ) (s : Side) → IsAll most → Asks w p h q s → Ends q (round w most at_cache at_router s)
     round_ends q most s enough a =
-        let sent_s : Sent w p h q (sent_up w most s) = sends_all w p h q most s (asks_few q most s enough a) a in
-        let got_s : Got q (read_up w most at_cache s) = gets_all q most (sent_up w most s) (sent_few q most (sent_up w most s) enough sent_s) sent_s in
-        let given_s : Given q (sent_down w most at_cache s) = gives_all q most (read_up w most at_cache s) (got_few q most (read_up w most at_cache s) enough got_s) got_s in
-        takes_all q most (sent_down w most at_cache s) (given_few q most (sent_down w most at_cache s) enough given_s) given_s
+        takes_all q most (sent_down w most at_cache s) enough (gives_all q most (read_up w most at_cache s) enough (gets_all q most (sent_up w most s) enough (sends_all w p h q most s enough a)))
 
 -- Rounds end at each router that connects, after every list of events, and where memory does not run out they end in an idle link.
 module _ (w : World) (p : Present (instances w) w.present) where
   -- wherever memory ran out
   rests_next : (h : Seen) (s : Side) → Asks w p h AskReset s → RestsNext w s
-  rests_next h s a most at_cache at_router m = by_end (round_ends w p h at_cache at_router AskReset most s m a)
-    where
-      n : Side
-      n = round w most at_cache at_router s
-
-      by_end : Ends w p h at_cache at_router AskReset n → Rests n
-      by_end (idles is quiet) = subst (RestsSo n) (sym is) quiet
-      by_end (closes is why) = subst (RestsSo n) (sym is) tt
-      by_end (asks_all serial b) = false_true serial
+  rests_next h s a most at_cache at_router m =
+      elim (round_ends w p h at_cache at_router AskReset most s m a) [
+        | idles is quiet ↦ subst (RestsSo (round w most at_cache at_router s)) (sym is) quiet
+        | closes is why ↦ subst (RestsSo (round w most at_cache at_router s)) (sym is) tt
+        | asks_all serial b ↦ false_true serial
+      ]
 
   rests_soon : (h : Seen) (q : Question) (s : Side) → Asks w p h q s → RestsSoon w s
-  rests_soon h q s a most at_cache at_router m = by_end (round_ends w p h at_cache at_router q most s m a)
-    where
-      n : Side
-      n = round w most at_cache at_router s
-
-      by_end : Ends w p h at_cache at_router q n → Rests n ⊎ ((n.router.link ≡ Asked AskReset) × RestsNext w n)
-      by_end (idles is quiet) = inl (subst (RestsSo n) (sym is) quiet)
-      by_end (closes is why) = inl (subst (RestsSo n) (sym is) tt)
-      by_end (asks_all serial b) = inr (b.link, rests_next h n b)
+  rests_soon h q s a most at_cache at_router m =
+      let n : Side = round w most at_cache at_router s in
+      elim (round_ends w p h at_cache at_router q most s m a) [
+        | idles is quiet ↦ inl (subst (RestsSo (round w most at_cache at_router s)) (sym is) quiet)
+        | closes is why ↦ inl (subst (RestsSo (round w most at_cache at_router s)) (sym is) tt)
+        | asks_all serial b ↦ inr (b.link, rests_next h n b)
+      ]
 
   -- a connection that is just made, as it is seen where the cache reads on it
   abbrev closed_of : Side → Router
@@ -478,12 +401,7 @@ module _ (w : World) (p : Present (instances w) w.present) where
           fits = fits;
           table_at = table;
         };
-        conn = new_conn w.present;
-        conn_is = refl;
-        held = refl;
-        spoken = tt;
-        due = refl;
-        on = refl;
+        quiet = record { conn = new_conn w.present; conn_is = refl; held = refl; spoken = tt; due = refl; on = refl };
         up = refl;
         down = refl;
         link = ap (λ x. Asked x) e;
@@ -513,34 +431,27 @@ module _ (w : World) (p : Present (instances w) w.present) where
 
   -- where memory did not run out
   idle_next : (h : Seen) (s : Side) → Asks w p h AskReset s → IdleNext w s
-  idle_next h s a most m = by_end (round_ends w p h None None AskReset most s m a)
-    where
-      by_end : Ends w p h None None AskReset (round w most None None s) → (round w most None None s).router.link ≡ Idle
-      by_end (idles is quiet) = is
-      by_end (closes is (inl lacking)) = absurd (lacking refl refl)
-      by_end (closes is (inr e)) = false_true e.0
-      by_end (asks_all serial b) = false_true serial
+  idle_next h s a most m = elim (round_ends w p h None None AskReset most s m a) [
+    | idles is quiet ↦ is
+    | closes is why ↦ elim why [ inl lacking ↦ absurd (lacking refl refl) | inr e ↦ false_true e.0 ]
+    | asks_all serial b ↦ false_true serial
+  ]
 
   idle_soon : (h : Seen) (q : Question) (held : Option Committed) (s : Side) → (is_serial (Some q) ≡ true → IsSome held) → Asks w p h q s → IdleSoon w held s
-  idle_soon h q held s some a most m = by_end (round_ends w p h None None q most s m a)
-    where
-      n : Side
-      n = round w most None None s
-
-      by_end : Ends w p h None None q n → IdleAfter w held n
-      by_end (idles is quiet) = inl is
-      by_end (asks_all serial b) = inr (inl (b.link, idle_next h n b))
-      by_end (closes is (inl lacking)) = absurd (lacking refl refl)
-      by_end (closes is (inr e)) = inr (inr (some e.0, is, e.1.version, idle_next (seen_new n) (settle (instances w) (connects w n)) (emptied_asks n e.1)))
-
-  of_rests : (s : Side) → Good w.keep w.past w.present s → RestsSoon w (settle (instances w) (connects w s))
-  of_rests s g = let a = connects_asks s g in rests_soon (seen_new s) a.0 (settle (instances w) (connects w s)) a.1.0
-
-  of_idle : (s : Side) → Good w.keep w.past w.present s → IdleSoon w s.router.version (settle (instances w) (connects w s))
-  of_idle s g = let a = connects_asks s g in idle_soon (seen_new s) a.0 s.router.version (settle (instances w) (connects w s)) a.1.1 a.1.0
+  idle_soon h q held s some a most m =
+      let n : Side = round w most None None s in
+      elim (round_ends w p h None None q most s m a) [
+        | idles is quiet ↦ inl is
+        | asks_all serial b ↦ inr (inl (b.link, idle_next h n b))
+        | closes is why ↦ elim why [
+          | inl lacking ↦ absurd (lacking refl refl)
+          | inr e ↦ inr (inr (some e.0, is, e.1.version, idle_next (seen_new n) (settle (instances w) (connects w n)) (emptied_asks n e.1)))
+        ]
+      ]
 
 pub rounds_end : RoundsEnd
-rounds_end = always (λ w s. RestsSoon w (settle (instances w) (connects w s))) (λ w p s k. of_rests w p s k.0)
+rounds_end = always (λ w s. RestsSoon w (settle (instances w) (connects w s))) (λ w p s k. let a = connects_asks w p s k.0 in rests_soon w p (seen_new w p s) a.0 (settle (instances w) (connects w s)) a.1.0)
 
 pub catches_up : EachCatchesUp
-catches_up = always (λ w s. IdleSoon w s.router.version (settle (instances w) (connects w s))) (λ w p s k. of_idle w p s k.0)
+catches_up = always (λ w s. IdleSoon w s.router.version (settle (instances w) (connects w s)))
+    (λ w p s k. let a = connects_asks w p s k.0 in idle_soon w p (seen_new w p s) a.0 s.router.version (settle (instances w) (connects w s)) a.1.1 a.1.0)

@@ -1,31 +1,31 @@
 -- Each link ends lawfully, each end is noted, where an event is refused too, and none is dropped.
-use Rattle.std.specs.Prelude.{◌≡◌, ℕ, true, false, List, [], ◌∷◌, ◌++◌, Option, Some, None, zero, suc, Bool, map, refl, take, ⊤, not, ◌&&◌, ◌==◌, if◌then◌else◌}
+use Rattle.std.specs.Prelude.{◌≡◌, ℕ, true, false, List, [], ◌∷◌, ◌++◌, Option, Some, None, zero, suc, Bool, refl, take, ⊤, not, ◌&&◌, ◌==◌}
 use Rattle.std.specs.List.{AllByRecursion}
 use Rattle.std.proofs.Common.{sym, ap, ◌∙◌, subst, inl, inr, subst₂, append_assoc}
 use Rattle.vrps.specs.Instance.{Instance}
 use Rattle.rtr_pdu.specs.declared.unit.Unit.{Unit}
 use Rattle.rtr_pdu.specs.Judging.{Judgement, Begins, Whole, Faulty, judge}
 use Rattle.rtr_pdu.specs.Stream.{type_of}
-use Rattle.rtr_pdu.specs.declared.unit.Unit.TheVariants.{SerialNotify, CacheResponse, Prefix, EndOfData, EndOfData0, CacheReset, RouterKey, ErrorReport}
 use Rattle.rtr_ends.specs.declared.link.End.{End}
-use Rattle.rtr_ends.specs.Router.{Noted, called, RouterCall, clocked, close, closed_at, Connects, Receives, Pulls, Closes, AsksNow, Ticks, Speaks, silent, router_pulled, asked_by, asks_if, connects_at, ticks_at, asks, receives, of_received, Receiving, lacks, reads, router_byte, router_stops, with_bytes}
-use Rattle.rtr_ends.specs.RouterLink.{Link, Ended, Asked, is_due, is_idle, Closed, Idle, Answering}
-use Rattle.rtr_ends.specs.Transcript.{outstanding, spoken, Item, Question, AskSerial, At, Reads, question_of, AskReset, base_of, Begun, Committed, bounded, is_serial, is_wrong, of_version, retry_of, sum_of}
-use Rattle.rtr_ends.specs.LinkRules.{Router, on_unit, Staged, Stays, ask, commit, emptied, fails, is_news, is_strange, may_lack, stage, staged, ended_by, told_off}
+use Rattle.rtr_ends.specs.Router.{Noted, called, RouterCall, clocked, close, closed_at, Connects, Receives, Pulls, Closes, AsksNow, Ticks, Speaks, router_pulled, asked_by, asks_if, connects_at, ticks_at, asks, receives, of_received, Receiving, router_byte, router_stops, with_bytes}
+use Rattle.rtr_ends.specs.RouterLink.{Link, Ended, Asked, is_due, is_idle}
+use Rattle.rtr_ends.specs.Transcript.{outstanding, spoken, Item, Question, AskSerial, At, Reads, question_of}
+use Rattle.rtr_ends.specs.LinkRules.{Router, on_unit, may_lack}
 use Rattle.rtr_ends.specs.RouterLaws.{LinkTells}
-use Rattle.rtr_ends.specs.Timing.{default_intervals}
 use Rattle.rtr_ends.specs.Cache.{counted, finds_memory}
-use Rattle.rtr_ends.specs.Connection.{agreed_version, fault_code}
 use Rattle.rtr_ends.specs.Feeding.{feed}
-use Rattle.rtr_ends.specs.declared.link.End.TheVariants as ends
 use Rattle.rtr_ends.proofs.KeptUnits.{Tells}
 use Rattle.rtr_ends.proofs.FeedingLaws.{feed_keeps}
-use Rattle.rtr_world.specs.World.{Ending, Side, World, instances, SideEvent, is_ended, ending_at, newly_ended, noted, outstanding_before_last, router_restarts, cut, side_part, side_refused, side_step, with_end, Publish, Restart, On, cache_gone, goes_through, is_refused, on_side, settle, settled, tell_closed, RouterGets, Event}
+use Rattle.rtr_world.specs.World.{Ending, Side, World, instances, SideEvent, is_ended, ending_at, newly_ended, noted, outstanding_before_last, router_restarts, cut, side_part, side_refused, side_step, with_end, Publish, Restart, On, cache_gone, settle, tell_closed, RouterGets, Event}
 use Rattle.rtr_world.specs.Claims.{EndsNoted, NotesEnds, EndsKept, NoneDropped, OneMore, IsLawfulEnd, OfAnother, LawfulEnds, NamesNone, NoneByMemory, NotByMemory}
-use Rattle.rtr_world.specs.History.{Done, Memory, Outcome, Entry, LeadsFrom, after}
-use Rattle.rtr_world.proofs.SideLaws.{all_weaker, all_map, all_new}
+use Rattle.rtr_world.specs.History.{Done, Memory, Outcome, Entry, LeadsFrom, after, side_at}
+use Rattle.std.proofs.lemmas.Bool.{and_parts}
+use Rattle.rtr_ends.proofs.TableLaws.{false_true}
+use Rattle.rtr_ends.proofs.Effects.{by_unit, either}
+use Rattle.std.specs.Option.{option_map}
+use Rattle.rtr_world.proofs.SideLaws.{after_at, all_weaker, all_new, side_after}
 use Rattle.rtr_world.proofs.Rests.{Rests, history_rests}
-use Rattle.rtr_world.proofs.EventCalls.{call_of, lesser, part_by, after_call, step_by, closed_by, settle_keeps, KeptByCalls, refused_at, IsOwnCall, closed_link, refusal_keeps, IfGets, each_settles, done_keeps}
+use Rattle.rtr_world.proofs.EventCalls.{IfComes, Rewired, told_by, each_after, call_of, lesser, part_by, after_call, step_by, closed_by, settle_keeps, KeptByCalls, refused_at, IsOwnCall, closed_link}
 use Rattle.rtr_world.proofs.RouterCases.{asks_by, clocked_by, close_by, none_counted}
 use Rattle.rtr_world.proofs.WorldSteps.{Known, always_kept, received, first}
 use Rattle.rtr_world.proofs.UnitCases.{Brings, goes_on, ends_other, ends_memory, commits}
@@ -75,13 +75,14 @@ closed_so r = close_by (λ k. is_ended k.link ≡ false) r (λ e. ap is_ended (c
 pub record SideLawful (s : Side) : Type 0 where
   pub endings : AllByRecursion (λ (e : Ending). IsLawfulEnd e.end e.question e.version e.home) s.endings
 
+-- A fact of all ends holds of one more, where it follows from what the link became.
+with_end_so : (Q : Ending → Type 0) (s : Side) (items : List Item) (So : Link → Type 0) → ((end : End) → So (Ended end) → Q (ending_at s end items)) → (l k : Link) → (is_ended l ≡ false → So k) → AllByRecursion Q s.endings → AllByRecursion Q (with_end (newly_ended l k) s items)
+with_end_so Q s items So goes (Ended end) k is h = h
+with_end_so Q s items So goes _ (Ended end) is h = (goes end (is refl), h)
+with_end_so Q s items So goes _ _ is h = h
+
 noted_lawful : (all : List Instance) (n : Noted) (s : Side) → (is_ended s.router.link ≡ false → LawfulLink n.router.link (n.items ++ s.items) s.home) → SideLawful s → SideLawful (noted all n s)
-noted_lawful all n s end h = record { endings = by_links s.router.link n.router.link end }
-  where
-    by_links : (l k : Link) → (is_ended l ≡ false → LawfulLink k (n.items ++ s.items) s.home) → AllByRecursion (λ (e : Ending). IsLawfulEnd e.end e.question e.version e.home) (with_end (newly_ended l k) s (n.items ++ s.items))
-    by_links (Ended end) k is = h.endings
-    by_links _ (Ended end) is = (is refl, h.endings)
-    by_links _ _ is = h.endings
+noted_lawful all n s end h = record { endings = with_end_so (λ e. IsLawfulEnd e.end e.question e.version e.home) s (n.items ++ s.items) (λ k. LawfulLink k (n.items ++ s.items) s.home) (λ end is. is) s.router.link n.router.link end h.endings }
 
 asks_lawful : (r : Router) (b : Bool) (items : List Item) (home : Option Instance) → LawfulLink r.link items home → LawfulLink (asks_if b r).router.link ((asks_if b r).items ++ items) home
 asks_lawful r b items home h = asks_by (λ n. LawfulLink n.router.link (n.items ++ items) home) b r tt h
@@ -95,41 +96,34 @@ gets_lawful w s most wanting known h =
 
 call_lawful : (w : World) (s : Side) (call : RouterCall) → IsOwnCall call → SideLawful s → SideLawful (noted (instances w) (called call s.router) s)
 unfolding connects_at closed_at ticks_at asks router_pulled
-call_lawful w s (Connects now) may h = noted_lawful (instances w) (connects_at now s.router) s (λ on. tt) h
-call_lawful w s (Receives now wanting piece) may h = absurd may
-call_lawful w s (Pulls most) may h = noted_lawful (instances w) (silent (router_pulled most s.router)) s (λ on. lawful_on s.router.link s.items s.home on) h
-call_lawful w s (Closes now) may h =
-    noted_lawful (instances w) (closed_at now s.router) s (λ on. lawful_on (close (clocked now s.router)).link ((closed_at now s.router).items ++ s.items) s.home (closed_so (clocked now s.router))) h
-call_lawful w s AsksNow may h = noted_lawful (instances w) (asks s.router) s (λ on. asks_lawful s.router (is_idle s.router.link) s.items s.home (lawful_on s.router.link s.items s.home on)) h
-call_lawful w s (Ticks now) may h =
-    let k : Router = clocked now s.router in
-    let b : Bool = is_due k.link k.due k.now in
-    noted_lawful (instances w) (ticks_at now s.router) s
-    (λ on. subst (λ x. LawfulLink (asks_if b k).router.link x s.home) (sym (append_assoc (asks_if b k).items (At now ∷ []) s.items))
-    (asks_lawful k b (At now ∷ s.items) s.home (clocked_lawful now s.router (At now ∷ s.items) s.home on))) h
-call_lawful w s (Speaks version) may h = noted_lawful (instances w) (silent (record s.router { speaks = version })) s (λ on. lawful_on s.router.link s.items s.home on) h
+call_lawful w s call own h = noted_lawful (instances w) (called call s.router) s (link call own) h
+  where
+    link : (call : RouterCall) → IsOwnCall call → is_ended s.router.link ≡ false → LawfulLink (called call s.router).router.link ((called call s.router).items ++ s.items) s.home
+    link (Connects now) own on = tt
+    link (Receives now wanting piece) own on = absurd own
+    link (Closes now) own on = lawful_on (close (clocked now s.router)).link ((closed_at now s.router).items ++ s.items) s.home (closed_so (clocked now s.router))
+    link AsksNow own on = asks_lawful s.router (is_idle s.router.link) s.items s.home (lawful_on s.router.link s.items s.home on)
+    link (Ticks now) own on =
+        let k : Router = clocked now s.router in
+        let b : Bool = is_due k.link k.due k.now in
+        subst (λ x. LawfulLink (asks_if b k).router.link x s.home) (sym (append_assoc (asks_if b k).items (At now ∷ []) s.items)) (asks_lawful k b (At now ∷ s.items) s.home (clocked_lawful now s.router (At now ∷ s.items) s.home on))
+    link _ own on = lawful_on s.router.link s.items s.home on
 
-lawful_anew : (s : Side) → SideLawful s → SideLawful (router_restarts s)
-unfolding router_restarts
-lawful_anew s h = record { endings = h.endings }
-
-refused_lawful : (w : World) (s : Side) → SideLawful s → SideLawful (tell_closed (instances w) (refused_at s))
-refused_lawful w s h =
-    let t : Side = refused_at s in
-    closed_by SideLawful (instances w) t (λ e. record { endings = h.endings })
-    (λ e. let n = call_lawful w t (Closes t.router.now) tt (record { endings = h.endings }) in record { endings = n.endings })
+lawful_wires : (s : Side) → SideLawful s → Rewired SideLawful s
+lawful_wires s h conn up down home read = record { endings = h.endings }
 
 -- After every list of events each link that ended did so lawfully.
 pub lawful_ends : LawfulEnds
+unfolding router_restarts
 lawful_ends = always_kept SideLawful (record { new = record { endings = tt }; keeps = keeps }) (λ w s. AllByRecursion (λ (e : Ending). IsLawfulEnd e.end e.question e.version e.home) s.endings) (λ w s h. h.endings)
   where
     keeps : (w : World) → KeptByCalls w (λ s wanting. Known w s) SideLawful
     keeps w = record {
-      wires = λ s h conn up down home read. record { endings = h.endings };
+      wires = lawful_wires;
       own = call_lawful w;
       gets = gets_lawful w;
-      restart = lawful_anew;
-      refused = refused_lawful w;
+      restart = λ s h. record { endings = h.endings };
+      refused = λ s h. told_by SideLawful (instances w) lawful_wires (λ s h. call_lawful w s (Closes s.router.now) tt h) (refused_at s) (record { endings = h.endings });
     }
 
 -- No end that was noted is dropped.
@@ -174,53 +168,45 @@ refused_after : (w : World) (event : SideEvent) (bytes : ℕ) (wanting : Option 
 unfolding side_refused cut
 refused_after w event bytes wanting s = part_by (After s.endings) w event bytes wanting s (inl refl) (λ is. step_after w (lesser event bytes) wanting s)
 
+-- What an event makes of a router's side
+side_after_more : (r : ℕ) (event : Event) (outcome : Outcome) (w : World) (s : Side) → After s.endings (side_after r event outcome w s)
+side_after_more r (On d event) (Done wanting) w s = settle_after s.endings (instances w) _ (either (After s.endings) (d == r) _ _ (λ here. step_after w event wanting s) (λ there. inl refl))
+side_after_more r (On d event) (Memory bytes wanting) w s = settle_after s.endings (instances w) _ (either (After s.endings) (d == r) _ _ (λ here. refused_after w event bytes wanting s) (λ there. inl refl))
+side_after_more r (Publish set) (Done wanting) w s = settle_after s.endings _ s (inl refl)
+side_after_more r (Restart session session0 start) (Done wanting) w s = settle_after s.endings _ (cache_gone s) (inl refl)
+side_after_more r event outcome w s = inl refl
+
 -- All routers
-all_same : (f : Side → Side) → ((s : Side) → After s.endings (f s)) → (sides : List Side) → NoneDropped sides (map f sides)
-all_same f each [] = tt
-all_same f each (s ∷ sides) = (each s, all_same f each sides)
+abbrev OneMoreAt : Option Side → Option Side → Type 0
+OneMoreAt None None = ⊤
+OneMoreAt (Some s) (Some n) = OneMore s.endings n.endings
+OneMoreAt s n = ⊥
 
-unchanged : (sides : List Side) → NoneDropped sides sides
-unchanged [] = tt
-unchanged (s ∷ sides) = (inl refl, unchanged sides)
-
-module _ (all : List Instance) where
-  stays : (s : Side) → After s.endings (settle all s)
-  stays s = settle_after s.endings all s (inl refl)
-
-  one_side : (r : ℕ) (f : Side → Side) → ((s : Side) → After s.endings (f s)) → (sides : List Side) → NoneDropped sides (map (settle all) (on_side r f sides))
-  one_side r f each [] = tt
-  one_side zero f each (s ∷ sides) = (settle_after s.endings all (f s) (each s), all_same (settle all) stays sides)
-  one_side (suc r) f each (s ∷ sides) = (stays s, one_side r f each sides)
-
-  gone : (sides : List Side) → NoneDropped sides (map (settle all) (map cache_gone sides))
-  gone [] = tt
-  gone (s ∷ sides) = (settle_after s.endings all (cache_gone s) (inl refl), gone sides)
+each_more : (sides news : List Side) → ((r : ℕ) → OneMoreAt (side_at r sides) (side_at r news)) → NoneDropped sides news
+each_more [] [] h = tt
+each_more (s ∷ sides) (n ∷ news) h = (h zero, each_more sides news (λ r. h (suc r)))
+each_more _ _ h = absurd (h zero)
 
 pub ends_kept : EndsKept
-unfolding goes_through settled is_refused
-ends_kept w (Publish set) (Done wanting) = all_same (settle (instances (goes_through (Publish set) wanting w))) (stays (instances (goes_through (Publish set) wanting w))) w.sides
-ends_kept w (Restart session session0 start) (Done wanting) = gone (instances (goes_through (Restart session session0 start) wanting w)) w.sides
-ends_kept w (On r event) (Done wanting) = one_side (instances w) r (side_step w event wanting) (step_after w event wanting) w.sides
-ends_kept w (On r event) (Memory bytes wanting) = one_side (instances w) r (side_refused w event bytes wanting) (refused_after w event bytes wanting) w.sides
-ends_kept w _ _ = unchanged w.sides
+ends_kept w event outcome = each_more w.sides (after event outcome w).sides (λ r. subst (OneMoreAt (side_at r w.sides)) (sym (after_at r event outcome w)) (by_side r (side_at r w.sides)))
+  where
+    by_side : (r : ℕ) (o : Option Side) → OneMoreAt o (option_map (side_after r event outcome w) o)
+    by_side r None = tt
+    by_side r (Some s) = side_after_more r event outcome w s
 
 no_end : {A : Type 0} (l : Link) (end : End) → is_ended l ≡ false → l ≡ Ended end → A
 no_end l end on e = absurd (let x : true ≡ false = ap is_ended (sym e) ∙ on in cc)
-
-of_noted : (all : List Instance) (n : Noted) (s : Side) → is_ended s.router.link ≡ false → (end : End) → n.router.link ≡ Ended end →
-    (noted all n s).endings ≡ ending_at s end (n.items ++ s.items) ∷ s.endings
-of_noted all n s on end e = ap (λ x. with_end x s (n.items ++ s.items)) (ap (newly_ended s.router.link) e ∙ now s.router.link on)
-  where
-    now : (l : Link) → is_ended l ≡ false → newly_ended l (Ended end) ≡ Some end
-    now (Ended end) on = absurd (let x : true ≡ false = on in cc)
-    now _ on = refl
 
 abbrev Notes : Side → Side → Type 0
 Notes s t = (end : End) → t.router.link ≡ Ended end → t.endings ≡ ending_at s end t.items ∷ s.endings
 
 call_notes : (all : List Instance) (s : Side) (o : Option RouterCall) → is_ended s.router.link ≡ false → Notes s (after_call all s o)
 call_notes all s None on end e = no_end s.router.link end on e
-call_notes all s (Some call) on end e = of_noted all (called call s.router) s on end e
+call_notes all s (Some call) on end e = ap (λ x. with_end x s ((called call s.router).items ++ s.items)) (ap (newly_ended s.router.link) e ∙ now s.router.link on)
+  where
+    now : (l : Link) → is_ended l ≡ false → newly_ended l (Ended end) ≡ Some end
+    now (Ended end) on = absurd (let x : true ≡ false = on in cc)
+    now _ on = refl
 
 notes : (w : World) (s : Side) → is_ended s.router.link ≡ false → (event : SideEvent) (wanting : Option ℕ) → Notes s (side_step w event wanting s)
 unfolding router_restarts
@@ -228,24 +214,16 @@ notes w s on event wanting =
     step_by (Notes s) w wanting s event (λ is conn up down home read. call_notes (instances w) s (call_of event wanting s) on) (λ is end e. absurd (let x : false ≡ true = ap is_ended e in cc))
 
 -- what moved before a refusal
-abbrev PartNotes : World → SideEvent → ℕ → Option ℕ → Side → Type 0
-PartNotes w event bytes wanting s =
-    let part : Side = side_part w event bytes wanting s in
-    (end : End) → part.router.link ≡ Ended end → (side_refused w event bytes wanting s).endings ≡ ending_at s end part.items ∷ s.endings
-
-notes_part : (w : World) (s : Side) → is_ended s.router.link ≡ false → (event : SideEvent) (bytes : ℕ) (wanting : Option ℕ) → PartNotes w event bytes wanting s
+notes_part : (w : World) (s : Side) → is_ended s.router.link ≡ false → (event : SideEvent) (bytes : ℕ) (wanting : Option ℕ) (end : End) → let part : Side = side_part w event bytes wanting s in part.router.link ≡ Ended end → (side_refused w event bytes wanting s).endings ≡ ending_at s end part.items ∷ s.endings
 unfolding side_refused cut
 notes_part w s on event bytes wanting = part_by (Notes s) w event bytes wanting s (λ end e. no_end s.router.link end on e) (λ is. notes w s on (lesser event bytes) wanting)
 
 -- and still is after the clean-up
-all_note : (w : World) (s : Side) → is_ended s.router.link ≡ false → NotesEnds w s
-all_note w s on = record {
-  through = λ event wanting end e. let n = notes w s on event wanting end e in (n, settled_endings (instances w) (side_step w event wanting s) ∙ n);
-  refused = λ event bytes wanting end e. let n = notes_part w s on event bytes wanting end e in (n, settled_endings (instances w) (side_refused w event bytes wanting s) ∙ n);
-}
-
 pub ends_noted : EndsNoted
-ends_noted made history w leads = all_weaker Rests (NotesEnds w) w.sides (λ s h. all_note w s h.link_on) (history_rests made history w leads)
+ends_noted made history w leads = all_weaker Rests (NotesEnds w) w.sides (λ s h. record {
+  through = λ event wanting end e. let n = notes w s h.link_on event wanting end e in (n, settled_endings (instances w) (side_step w event wanting s) ∙ n);
+  refused = λ event bytes wanting end e. let n = notes_part w s h.link_on event bytes wanting end e in (n, settled_endings (instances w) (side_refused w event bytes wanting s) ∙ n);
+}) (history_rests made history w leads)
 
 -- No link ends by running out of memory at its router where no outcome names a PDU.
 abbrev Free : Link → Type 0
@@ -253,76 +231,27 @@ Free (Ended end) = NotByMemory end
 Free _ = ⊤
 
 -- What a router does when it reads a PDU
-strange_free : (b : Bool) (u : Unit) (r : Router) → Free r.link → Free (if b then fails u r else r).link
-strange_free true u r h = tt
-strange_free false u r h = h
-
-news_free : (b : Bool) (r : Router) → Free r.link → Free (if b then ask r else r).link
-news_free true r h = tt
-news_free false r h = h
-
-notified_free : (b c : Bool) (u : Unit) (r : Router) → Free r.link → Free (if b then fails u r else if c then ask r else r).link
-notified_free true c u r h = tt
-notified_free false c u r h = news_free c r h
-
-report_free : (b : Bool) (code : ℕ) (r : Router) → Free r.link → Free (if b then r else ended_by code r).link
-report_free true code r h = h
-report_free false code r h = tt
-
-told_free : (question : Question) (code : ℕ) (r : Router) → Free (told_off question code r).link
-told_free question code r = by_code (code == 2) (code == 0 && is_serial (Some question))
-  where
-    by_code : (b c : Bool) → Free (if b then record r { link = Idle; due = Some (sum_of r.now (retry_of r.version)); no_data = true } else if c then ended_by code (emptied r) else ended_by code r).link
-    by_code true c = tt
-    by_code false true = tt
-    by_code false false = tt
-
-staged_free : (u : Unit) (st : Staged) (r : Router) → Free (staged u st r).link
-staged_free u (Stays a) r = tt
-staged_free u _ r = tt
-
-ended_free : (a : Begun) (u : Unit) (version : Committed) (r : Router) (b : Bool) → Free (if b then commit a version r else fails u r).link
-ended_free a u version r true = tt
-ended_free a u version r false = tt
-
 unit_free : (l : Link) (u : Unit) (r : Router) → Free r.link → Free (on_unit l u r).link
-unfolding on_unit
-unit_free Closed u r h = h
-unit_free (Ended end) u r h = h
-unit_free Idle (SerialNotify session serial) r h = notified_free (is_strange r session) (is_news (of_version r.spoken r.version) serial) (SerialNotify session serial) r h
-unit_free Idle (ErrorReport e) r h = report_free (e.code == 2) e.code r h
-unit_free (Asked question) (SerialNotify session serial) r h = strange_free (is_strange r session) (SerialNotify session serial) r h
-unit_free (Asked question) (CacheResponse session) r h = by_wrong (is_wrong (Some question) (of_version r.spoken r.version) session)
-  where
-    by_wrong : (b : Bool) → Free (if b then fails (CacheResponse session) r else record r { agreed = true; session = Some session; link = Answering (record { question = question; session = session; withdrawn = []; announced = [] }) }).link
-    by_wrong true = tt
-    by_wrong false = tt
-unit_free (Asked AskReset) CacheReset r h = tt
-unit_free (Asked (AskSerial session serial)) CacheReset r h = tt
-unit_free (Asked question) (ErrorReport e) r h = told_free question e.code (record r { agreed = true })
-unit_free (Answering a) (SerialNotify session serial) r h = strange_free (is_strange r session) (SerialNotify session serial) r h
-unit_free (Answering a) (Prefix announce v) r h = staged_free (Prefix announce v) (stage (base_of a.question r.table) a announce v) r
-unit_free (Answering a) (RouterKey key) r h = h
-unit_free (Answering a) (EndOfData session serial refresh retry expire) r h =
-    ended_free a (EndOfData session serial refresh retry expire) (record { version = r.spoken; session = session; serial = serial; moment = r.now; intervals = bounded refresh retry expire }) r (session == a.session)
-unit_free (Answering a) (EndOfData0 session serial) r h =
-    ended_free a (EndOfData0 session serial) (record { version = r.spoken; session = session; serial = serial; moment = r.now; intervals = default_intervals }) r (session == a.session)
-unit_free (Answering a) (ErrorReport e) r h = told_free a.question e.code r
-unit_free _ _ r h = tt
+unit_free l u r h = by_unit (λ n. Free n.link) l u r (record {
+  stays = h;
+  asks = λ agreed k. tt;
+  begins = λ question session. tt;
+  reported = tt;
+  failed = tt;
+  waits = λ agreed k. tt;
+  told = λ agreed k code. tt;
+  empties = λ agreed k code. tt;
+  stages = λ on a. tt;
+  wrong = λ on code. tt;
+  over = λ on. tt;
+  commits = λ on a version. tt;
+})
 
 -- a byte, where memory does not run out
 byte_free : (bytes : List ℕ) (r : Router) (j : Judgement) → Free r.link → Free (with_bytes true bytes r j).router.link
 byte_free bytes r Begins h = h
-byte_free bytes r (Whole u) h = by_memory (may_lack r.link u r)
-  where
-    by_memory : (b : Bool) → Free (if b && not true then lacks u (record r { held = [] }) else reads u (record r { held = [] })).router.link
-    by_memory true = unit_free r.link u (record r { held = [] }) h
-    by_memory false = unit_free r.link u (record r { held = [] }) h
-byte_free bytes r (Faulty fault) h = by_type (type_of bytes == 10)
-  where
-    by_type : (b : Bool) → NotByMemory (if b then ends.Malformed else ends.Reported (fault_code (agreed_version r.agreed r.spoken) fault))
-    by_type true = tt
-    by_type false = tt
+byte_free bytes r (Whole u) h = either (λ (n : Noted). Free n.router.link) (may_lack r.link u r && not true) _ _ (λ lacking. false_true (and_parts (may_lack r.link u r) (not true) lacking).1) (λ there. unit_free r.link u (record r { held = [] }) h)
+byte_free bytes r (Faulty fault) h = either NotByMemory (type_of bytes == 10) _ _ (λ malformed. tt) (λ reported. tt)
 
 record Goes (m : Receiving) : Type 0 where
   free : Free m.router.link
@@ -348,12 +277,7 @@ record Spared (s : Side) : Type 0 where
   endings : AllByRecursion (λ (e : Ending). NotByMemory e.end) s.endings
 
 noted_spared : (all : List Instance) (n : Noted) (s : Side) → Free n.router.link → Spared s → Spared (noted all n s)
-noted_spared all n s free h = record { free = free; endings = by_links s.router.link n.router.link free }
-  where
-    by_links : (l k : Link) → Free k → AllByRecursion (λ (e : Ending). NotByMemory e.end) (with_end (newly_ended l k) s (n.items ++ s.items))
-    by_links (Ended end) k f = h.endings
-    by_links _ (Ended end) f = (f, h.endings)
-    by_links _ _ f = h.endings
+noted_spared all n s free h = record { free = free; endings = with_end_so (λ e. NotByMemory e.end) s (n.items ++ s.items) Free (λ end is. is) s.router.link n.router.link (λ on. free) h.endings }
 
 gets_spared : (w : World) (s : Side) (most : ℕ) (wanting : Option ℕ) → wanting ≡ None → Spared s → Spared (noted (instances w) (called (Receives s.router.now wanting (take most s.down)) s.router) s)
 unfolding receives
@@ -375,47 +299,32 @@ own_spared w s call own h = noted_spared (instances w) (called call s.router) s 
     free (Ticks now) own = let k : Router = clocked now s.router in asks_by (λ n. Free n.router.link) (is_due k.link k.due k.now) k tt (clocked_free now s.router h.free)
     free (Speaks version) own = h.free
 
-anew_spared : (s : Side) → Spared s → Spared (router_restarts s)
-unfolding router_restarts
-anew_spared s h = record { free = tt; endings = h.endings }
-
-refused_spared : (w : World) (s : Side) → Spared s → Spared (tell_closed (instances w) (refused_at s))
-refused_spared w s h =
-    let k : Spared (refused_at s) = record { free = h.free; endings = h.endings } in
-    closed_by Spared (instances w) (refused_at s) (λ e. record { free = h.free; endings = h.endings })
-    (λ e. let n = own_spared w (refused_at s) (Closes s.router.now) tt k in record { free = n.free; endings = n.endings })
+spared_wires : (s : Side) → Spared s → Rewired Spared s
+spared_wires s h conn up down home read = record { free = h.free; endings = h.endings }
 
 keeps_spared : (w : World) → KeptByCalls w (λ s wanting. wanting ≡ None) Spared
+unfolding router_restarts
 keeps_spared w = record {
-  wires = λ s h conn up down home read. record { free = h.free; endings = h.endings };
+  wires = spared_wires;
   own = own_spared w;
   gets = gets_spared w;
-  restart = anew_spared;
-  refused = refused_spared w;
+  restart = λ s h. record { free = tt; endings = h.endings };
+  refused = λ s h. told_by Spared (instances w) spared_wires (λ s h. own_spared w s (Closes s.router.now) tt h) (refused_at s) (record { free = h.free; endings = h.endings });
 }
 
-none_done : (r : ℕ) (event : SideEvent) (wanting : Option ℕ) → NamesNone (On r event) (Done wanting) → IfGets event (wanting ≡ None)
-none_done r (RouterGets most) wanting none = none
-none_done r _ wanting none = tt
-
-none_refused : (r : ℕ) (event : SideEvent) (bytes : ℕ) (wanting : Option ℕ) → NamesNone (On r event) (Memory bytes wanting) → IfGets event (wanting ≡ None)
-none_refused r (RouterGets most) bytes wanting none = none
-none_refused r _ bytes wanting none = tt
+-- Where no outcome names a PDU, no bytes that come to a router do.
+none_comes : (event : Event) (outcome : Outcome) (s : Side) → NamesNone event outcome → IfComes (λ s wanting. wanting ≡ None) event outcome s
+none_comes (On r (RouterGets most)) (Done wanting) s none = none
+none_comes (On r (RouterGets most)) (Memory bytes wanting) s none = none
+none_comes (On r event) (Done wanting) s none = tt
+none_comes (On r event) (Memory bytes wanting) s none = tt
+none_comes _ _ s none = tt
 
 abbrev AllSpared : World → Type 0
 AllSpared w = AllByRecursion Spared w.sides
 
 after_spared : (event : Event) (outcome : Outcome) (w : World) → NamesNone event outcome → AllSpared w → AllSpared (after event outcome w)
-unfolding goes_through settled is_refused
-after_spared (Publish set) (Done wanting) w none h = let n : World = goes_through (Publish set) wanting w in each_settles n (λ s wanting. wanting ≡ None) Spared (keeps_spared n) w.sides h
-after_spared (Restart session session0 start) (Done wanting) w none h =
-    let n : World = goes_through (Restart session session0 start) wanting w in
-    each_settles n (λ s wanting. wanting ≡ None) Spared (keeps_spared n) (map cache_gone w.sides) (all_map Spared Spared cache_gone w.sides (λ s x. record { free = x.free; endings = x.endings }) h)
-after_spared (On r event) (Done wanting) w none h =
-    done_keeps w (λ s wanting. wanting ≡ None) Spared (keeps_spared w) Spared (λ s x. x) r event wanting (λ s x. none_done r event wanting none) h
-after_spared (On r event) (Memory bytes wanting) w none h =
-    refusal_keeps w (λ s wanting. wanting ≡ None) Spared (keeps_spared w) Spared (λ s x. x) r event wanting (λ s x. none_refused r event bytes wanting none) h bytes
-after_spared _ _ w none h = h
+after_spared event outcome w none h = each_after (λ w s wanting. wanting ≡ None) Spared keeps_spared event outcome w Spared (λ s x. x) (λ s x. none_comes event outcome s none) h
 
 from_old : (old : World) (history : List Entry) (w : World) → LeadsFrom old history w → AllByRecursion (λ (e : Entry). NamesNone e.event e.outcome) history → AllSpared old → AllSpared w
 from_old old [] w leads none h = subst AllSpared (sym leads) h

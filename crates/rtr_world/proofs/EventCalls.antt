@@ -8,8 +8,9 @@ use Rattle.rtr_ends.specs.LinkRules.{Router}
 use Rattle.rtr_ends.specs.Router.{RouterCall, Connects, Receives, Pulls, Closes, AsksNow, Ticks, Speaks, called, silent, clocked, close, router_pulled, closed_at}
 use Rattle.rtr_ends.specs.RouterLink.{Link, Closed, Ended, is_closed, is_reading}
 use Rattle.rtr_ends.specs.Transcript.{Refused}
+use Rattle.rtr_ends.proofs.Effects.{either}
 use Rattle.rtr_ends.proofs.TableLaws.{false_true}
-use Rattle.rtr_world.specs.World.{Side, World, instances, SideEvent, RouterRestart, Speak, Connect, RouterSends, CacheGets, CacheSends, RouterGets, Cut, NotifyRouter, Ask, Tick, is_ended, newly_ended, noted, with_end, connects, router_restarts, speaks, router_sends, sends_from, cache_sends, gets_at, cache_gets, notifies_at, router_gets, cut, on_side, side_step, side_part, side_refused, tell_closed, settle, settle_link, settle_rest, settle_wire, Event, Publish, Restart, On, cache_gone, goes_through, settled, is_refused, close_ended, settle_conn}
+use Rattle.rtr_world.specs.World.{Side, World, instances, SideEvent, RouterRestart, Speak, Connect, RouterSends, CacheGets, CacheSends, RouterGets, Cut, NotifyRouter, Ask, Tick, is_ended, newly_ended, noted, with_end, connects, router_restarts, speaks, router_sends, sends_from, cache_sends, gets_at, cache_gets, notifies_at, router_gets, cut, on_side, side_step, side_part, side_refused, tell_closed, settle, settle_link, settle_rest, settle_wire, Event, Publish, Restart, On, cache_gone, close_ended, goes_through, is_refused, settle_conn, settled}
 use Rattle.rtr_world.specs.History.{Outcome, Done, Memory, MayEnd, after, refusal, Entry, IsEvent, LeadsFrom}
 use Rattle.rtr_ends.proofs.Effects.{by_close}
 use Rattle.rtr_world.proofs.SideLaws.{all_map, all_on_side, all_weaker}
@@ -35,40 +36,50 @@ module _ (P : Side → Type 0) (blind : Blind P) where
   gets_keep w most wanting s None h = h
   gets_keep w most wanting s (Some o) h = blind s _ _ _ _ h
 
--- It holds too where there is less on the wires, or no connection at the cache.
-abbrev pub Lessens : (Side → Type 0) → Type 0
-Lessens P = (s : Side) (c u d : Bool) → P s → P (record s { conn = if c then s.conn else None; up = if u then s.up else []; down = if d then s.down else [] })
+-- What the parts of the clean-up keep: a connection that ended is closed, a router is told, bytes towards a closed link are gone, and where there is no connection nothing is on its way.
+module _ (P : Side → Type 0) (all : List Instance) (ended : (s : Side) (o : Conn) → s.conn ≡ Some o → o.state.due ≡ [] → P s → P (record s { conn = None })) (told : (s : Side) → P s → P (tell_closed all s))
+    (gone : (s : Side) (c : Bool) → s.router.link ≡ Closed → P s → P (record s { conn = if c then s.conn else None; down = [] })) (none : (s : Side) → P s → P (record (tell_closed all s) { up = [] })) where
+  ended_keeps : (s : Side) (o : Conn) (b : Bool) (due : List ℕ) → s.conn ≡ Some o → o.state.due ≡ due → P s → P (close_ended s b due)
+  ended_keeps s o true [] is e h = ended s o is e h
+  ended_keeps s o _ _ is e h = h
 
-module _ (P : Side → Type 0) (less : Lessens P) (all : List Instance) (told : (s : Side) → P s → P (tell_closed all s)) where
-  ended_keeps : (s : Side) (ended : Bool) (due : List ℕ) → P s → P (close_ended s ended due)
-  ended_keeps s true [] h = less s false true true h
-  ended_keeps s _ _ h = h
-
-  conn_keeps : (s : Side) (o : Option Conn) → P s → P (settle_conn s o)
-  conn_keeps s None h = h
-  conn_keeps s (Some o) h = ended_keeps s o.state.ended o.state.due h
+  conn_keeps : (s : Side) (o : Option Conn) → s.conn ≡ o → P s → P (settle_conn s o)
+  conn_keeps s None is h = h
+  conn_keeps s (Some o) is h = ended_keeps s o o.state.ended o.state.due is refl h
 
   link_keeps : (s : Side) (l : Link) (out : List ℕ) → P s → P (settle_link all s l out)
   link_keeps s (Ended end) [] h = told s h
   link_keeps s _ _ h = h
 
-  pub rest_keeps : (s : Side) (l : Link) (up : List ℕ) → P s → P (settle_rest s l up)
-  rest_keeps s Closed [] h = less s false true false h
-  rest_keeps s Closed (b ∷ up) h = less s true true false h
-  rest_keeps s _ up h = h
+  rest_keeps : (s : Side) (l : Link) (up : List ℕ) → s.router.link ≡ l → P s → P (settle_rest s l up)
+  rest_keeps s Closed [] is h = gone s false is h
+  rest_keeps s Closed (b ∷ up) is h = gone s true is h
+  rest_keeps s _ up is h = h
 
-  pub wire_keeps : (s : Side) (o : Option Conn) (down : List ℕ) → P s → P (settle_wire all s o down)
-  wire_keeps s None [] h = less (tell_closed all s) true false true (told s h)
+  wire_keeps : (s : Side) (o : Option Conn) (down : List ℕ) → P s → P (settle_wire all s o down)
+  wire_keeps s None [] h = none s h
   wire_keeps s _ _ h = h
 
-  -- the clean-up
-  pub settle_keeps : (s : Side) → P s → P (settle all s)
+  -- the second half of the clean-up, and all of it
+  pub wires_keep : (b : Side) → P b → P (let c : Side = settle_rest b b.router.link b.up in settle_wire all c c.conn c.down)
+  wires_keep b h = let c : Side = settle_rest b b.router.link b.up in wire_keeps c c.conn c.down (rest_keeps b b.router.link b.up refl h)
+
+  pub settle_by : (s : Side) → P s → P (settle all s)
   unfolding settle
-  settle_keeps s h =
+  settle_by s h =
       let a : Side = settle_conn s s.conn in
-      let b : Side = settle_link all (settle_conn s s.conn) (settle_conn s s.conn).router.link (settle_conn s s.conn).router.out in
-      let c : Side = settle_rest b b.router.link b.up in
-      wire_keeps c c.conn c.down (rest_keeps b b.router.link b.up (link_keeps a a.router.link a.router.out (conn_keeps s s.conn h)))
+      wires_keep (settle_link all (settle_conn s s.conn) (settle_conn s s.conn).router.link (settle_conn s s.conn).router.out) (link_keeps a a.router.link a.router.out (conn_keeps s s.conn refl h))
+
+-- It holds too where there is less on the wires, or no connection at the cache.
+abbrev pub Lessens : (Side → Type 0) → Type 0
+Lessens P = (s : Side) (c u d : Bool) → P s → P (record s { conn = if c then s.conn else None; up = if u then s.up else []; down = if d then s.down else [] })
+
+module _ (P : Side → Type 0) (less : Lessens P) (all : List Instance) (told : (s : Side) → P s → P (tell_closed all s)) where
+  pub behind_link : (b : Side) → P b → P (let c : Side = settle_rest b b.router.link b.up in settle_wire all c c.conn c.down)
+  behind_link = wires_keep P all (λ s o is e h. less s false true true h) told (λ s c is h. less s c true false h) (λ s h. less (tell_closed all s) true false true (told s h))
+
+  pub settle_keeps : (s : Side) → P s → P (settle all s)
+  settle_keeps = settle_by P all (λ s o is e h. less s false true true h) told (λ s c is h. less s c true false h) (λ s h. less (tell_closed all s) true false true (told s h))
 
 -- the call of an event, if any
 abbrev pub call_of : SideEvent → Option ℕ → Side → Option RouterCall
@@ -160,11 +171,7 @@ part_by P w _ bytes wanting s h k = h
 -- A router that is told that it is closed is called so, where it was not closed.
 pub closed_by : (P : Side → Type 0) (all : List Instance) (s : Side) → (is_closed s.router.link ≡ true → P (record s { home = None; read_at = None }))
     → (is_closed s.router.link ≡ false → P (record (noted all (called (Closes s.router.now) s.router) s) { home = None; read_at = None })) → P (tell_closed all s)
-closed_by P all s shut told = by_link (is_closed s.router.link) refl
-  where
-    by_link : (b : Bool) → is_closed s.router.link ≡ b → P (if b then record s { home = None; read_at = None } else record (noted all (closed_at s.router.now s.router) s) { home = None; read_at = None })
-    by_link true e = shut e
-    by_link false e = told e
+closed_by P all s shut told = either P (is_closed s.router.link) _ _ shut told
 
 pub reading_on : (l : Link) → is_reading l ≡ true → is_ended l ≡ false
 reading_on (Ended end) live = false_true live
@@ -239,6 +246,12 @@ pub record KeptByCalls (w : World) (Comes : Side → Option ℕ → Type 0) (P :
   pub restart : (s : Side) → P s → P (router_restarts s)
   pub refused : (s : Side) → P s → P (tell_closed (instances w) (refused_at s))
 
+-- A router is told that it is closed: what a close and other wires keep.
+pub told_by : (P : Side → Type 0) (all : List Instance) → ((s : Side) → P s → Rewired P s) → ((s : Side) → P s → P (noted all (called (Closes s.router.now) s.router) s)) → (s : Side) → P s → P (tell_closed all s)
+told_by P all wires closes s h =
+    let n : Side = noted all (called (Closes s.router.now) s.router) s in
+    closed_by P all s (λ e. wires s h s.conn s.up s.down None None) (λ e. wires n (closes s h) n.conn n.up n.down None None)
+
 module _ (w : World) (Comes : Side → Option ℕ → Type 0) (P : Side → Type 0) (k : KeptByCalls w Comes P) where
   call_keeps : (event : SideEvent) (wanting : Option ℕ) (s : Side) → IfGets event (Comes s wanting) → P s → P (after_call (instances w) s (call_of event wanting s))
   call_keeps (Speak version) wanting s comes h = k.own s (Speaks version) tt h
@@ -252,13 +265,8 @@ module _ (w : World) (Comes : Side → Option ℕ → Type 0) (P : Side → Type
   pub step_keeps : (event : SideEvent) (wanting : Option ℕ) (s : Side) → IfGets event (Comes s wanting) → P s → P (side_step w event wanting s)
   step_keeps event wanting s comes h = step_by P w wanting s event (λ is. k.wires (after_call (instances w) s (call_of event wanting s)) (call_keeps event wanting s comes h)) (λ e. k.restart s h)
 
-  told_keeps : (s : Side) → P s → P (tell_closed (instances w) s)
-  told_keeps s h =
-      let n : Side = noted (instances w) (called (Closes s.router.now) s.router) s in
-      closed_by P (instances w) s (λ e. k.wires s h s.conn s.up s.down None None) (λ e. k.wires n (k.own s (Closes s.router.now) tt h) n.conn n.up n.down None None)
-
   pub settles_keep : (s : Side) → P s → P (settle (instances w) s)
-  settles_keep s h = settle_keeps P (λ t c u d x. k.wires t x _ _ _ t.home t.read_at) (instances w) told_keeps s h
+  settles_keep s h = settle_keeps P (λ t c u d x. k.wires t x _ _ _ t.home t.read_at) (instances w) (told_by P (instances w) k.wires (λ s h. k.own s (Closes s.router.now) tt h)) s h
 
   part_gets : (event : SideEvent) (bytes : ℕ) (X : Type 0) → IfGets event X → IfGets (lesser event bytes) X
   part_gets (RouterGets most) bytes X x = x
@@ -285,14 +293,25 @@ module _ (w : World) (Comes : Side → Option ℕ → Type 0) (P : Side → Type
         all_map (λ s. P (settle (instances w) s)) P (settle (instances w)) (on_side r (side_refused w event bytes wanting) w.sides) (λ s x. x)
         (all_on_side Is (λ s. P (settle (instances w) s)) r (side_refused w event bytes wanting) w.sides (λ s x. settles_keep s (is s x)) (λ s x. refused_keeps event bytes wanting s (comes s x) (is s x)) h)
 
--- Every event keeps what each call and each wire keeps.
-pub world_keeps : (P : Side → Type 0) (Comes : World → Side → Option ℕ → Type 0) → ((w : World) → KeptByCalls w (Comes w) P) → (event : Event) (outcome : Outcome) (w : World) (Is : Side → Type 0) → ((s : Side) → Is s → P s)
-    → ((s : Side) (wanting : Option ℕ) → Is s → Comes w s wanting) → AllByRecursion Is w.sides → AllByRecursion P (after event outcome w).sides
+-- what is known of the bytes that an event brings to a router
+abbrev pub IfComes : (Side → Option ℕ → Type 0) → Event → Outcome → Side → Type 0
+IfComes Comes (On r event) (Done wanting) s = IfGets event (Comes s wanting)
+IfComes Comes (On r event) (Memory bytes wanting) s = IfGets event (Comes s wanting)
+IfComes Comes event outcome s = ⊤
+
+pub if_comes : (Comes : Side → Option ℕ → Type 0) (event : Event) (outcome : Outcome) (s : Side) → ((wanting : Option ℕ) → Comes s wanting) → IfComes Comes event outcome s
+if_comes Comes (On r event) (Done wanting) s h = if_gets event (Comes s wanting) (h wanting)
+if_comes Comes (On r event) (Memory bytes wanting) s h = if_gets event (Comes s wanting) (h wanting)
+if_comes Comes _ _ s h = tt
+
+-- What the calls and the wires keep, every event keeps at each router.
+pub each_after : (Comes : World → Side → Option ℕ → Type 0) (P : Side → Type 0) (k : (w : World) → KeptByCalls w (Comes w) P) (event : Event) (outcome : Outcome) (w : World) (Is : Side → Type 0) → ((s : Side) → Is s → P s)
+    → ((s : Side) → Is s → IfComes (Comes w) event outcome s) → AllByRecursion Is w.sides → AllByRecursion P (after event outcome w).sides
 unfolding goes_through settled is_refused
-world_keeps P Comes k (Publish set) (Done wanting) w Is is comes h = let n : World = goes_through (Publish set) wanting w in each_settles n (Comes n) P (k n) w.sides (all_weaker Is P w.sides is h)
-world_keeps P Comes k (Restart session session0 start) (Done wanting) w Is is comes h =
+each_after Comes P k (Publish set) (Done wanting) w Is is comes h = let n : World = goes_through (Publish set) wanting w in each_settles n (Comes n) P (k n) w.sides (all_weaker Is P w.sides is h)
+each_after Comes P k (Restart session session0 start) (Done wanting) w Is is comes h =
     let n : World = goes_through (Restart session session0 start) wanting w in
     each_settles n (Comes n) P (k n) (map cache_gone w.sides) (all_map Is P cache_gone w.sides (λ s x. (k w).wires s (is s x) None [] s.down s.home s.read_at) h)
-world_keeps P Comes k (On r event) (Done wanting) w Is is comes h = done_keeps w (Comes w) P (k w) Is is r event wanting (λ s x. if_gets event (Comes w s wanting) (comes s wanting x)) h
-world_keeps P Comes k (On r event) (Memory bytes wanting) w Is is comes h = refusal_keeps w (Comes w) P (k w) Is is r event wanting (λ s x. if_gets event (Comes w s wanting) (comes s wanting x)) h bytes
-world_keeps P Comes k _ _ w Is is comes h = all_weaker Is P w.sides is h
+each_after Comes P k (On r event) (Done wanting) w Is is comes h = done_keeps w (Comes w) P (k w) Is is r event wanting comes h
+each_after Comes P k (On r event) (Memory bytes wanting) w Is is comes h = refusal_keeps w (Comes w) P (k w) Is is r event wanting comes h bytes
+each_after Comes P k _ _ w Is is comes h = all_weaker Is P w.sides is h

@@ -5,23 +5,23 @@ use Rattle.std.proofs.Common.{sym, ap, ◌∙◌, subst, arith, append_assoc, in
 use Rattle.std.proofs.lemmas.List.{append-nil, take-append-drop, take_min}
 use Rattle.vrps.specs.Instance.{Instance}
 use Rattle.rtr_pdu.specs.declared.version.Version.{Version}
+use Rattle.rtr_pdu.specs.declared.unit.Unit.{Unit}
 use Rattle.rtr_ends.specs.Answer.{sent, session_in}
 use Rattle.rtr_ends.specs.Cache.{Conn, Taking, new_conn, conn_byte, conn_pulled, conn_stops, conn_takes, pulled_count}
 use Rattle.rtr_ends.specs.Connection.{Sent, in_version}
 use Rattle.rtr_ends.specs.Feeding.{FedPiece, feed}
 use Rattle.rtr_ends.specs.LinkRules.{Router, ask}
-use Rattle.rtr_ends.specs.Router.{close, clocked, asks_if, connects_at, closed_at, ticks_at, asks, receives, router_pulled}
-use Rattle.rtr_ends.specs.RouterLink.{Link, Closed, Ended, is_reading, is_due, is_idle, is_closed}
-use Rattle.rtr_ends.specs.Transcript.{choose, of_version, At, Item, query}
+use Rattle.rtr_ends.specs.Router.{Noted, close, clocked, connects_at, closed_at, ticks_at, asks, receives, router_pulled}
+use Rattle.rtr_ends.specs.RouterLink.{Closed, is_closed, is_reading, is_due, is_idle}
+use Rattle.rtr_ends.specs.Transcript.{choose, of_version, At, query}
 use Rattle.rtr_ends.proofs.KeptLaws.{clocked_tells}
 use Rattle.rtr_ends.proofs.ByteLists.{drop_none}
 use Rattle.rtr_ends.proofs.KeptLaws.{not_due}
 use Rattle.rtr_world.specs.OneAnswer.{IsOfNow, OwnNotifies}
-use Rattle.rtr_world.specs.VersionPlaces.{VersionPlace}
 use Rattle.rtr_world.specs.History.{conn_due}
-use Rattle.rtr_world.specs.World.{Side, World, instances, is_read, timing, SideEvent, RouterRestart, Speak, Connect, RouterSends, CacheGets, CacheSends, RouterGets, Cut, NotifyRouter, Ask, Tick, places_of, connects, router_restarts, speaks, router_sends, sends_from, cache_sends, gets_at, cache_gets, router_gets, cut, notifies_at, side_step, side_part, side_refused, tell_closed, close_ended, settle_conn, settle_link, settle_rest, settle_wire, settle}
+use Rattle.rtr_world.specs.World.{Side, World, instances, is_read, timing, SideEvent, RouterRestart, Speak, Connect, RouterSends, CacheGets, CacheSends, RouterGets, Cut, NotifyRouter, Ask, Tick, noted, places_of, connects, router_restarts, speaks, router_sends, sends_from, cache_sends, gets_at, cache_gets, router_gets, cut, notifies_at, side_step, side_part, side_refused, tell_closed, settle}
 use Rattle.rtr_world.proofs.RouterCases.{asks_by}
-use Rattle.rtr_world.proofs.EventCalls.{closed_by, part_by, lesser}
+use Rattle.rtr_world.proofs.EventCalls.{closed_by, closed_link, part_by, lesser, settle_by}
 use Rattle.rtr_world.proofs.CacheMoves as cache
 use Rattle.rtr_world.proofs.UnitCases.{goes_fed}
 use Rattle.rtr_world.proofs.Invariant.{OwnSession, IfOpen, Open, GoodLink, GoodRouter, Good, Flow, if_open}
@@ -34,8 +34,9 @@ use Rattle.rtr_world.proofs.KeptTables.{SideTells}
 use Rattle.rtr_world.proofs.Versions.{Present, held_at, Seen, IsReadAt, IsSeen, seen_after, seen_at}
 
 -- what is sent, and what is left of it
-sent_first : (most : ℕ) (held up out : List ℕ) (units : List Sent) → Stream held (up ++ out) units → Stream held ((up ++ take most out) ++ drop most out) units
-sent_first most held up out units s = subst (λ x. Stream held x units) (ap (λ x. up ++ x) (sym (take-append-drop most out)) ∙ sym (append_assoc up (take most out) (drop most out))) s
+open_sent : (i : Instance) (pv : Version) (h : Seen) (most : ℕ) (out up : List ℕ) (wanted : List Unit) (coming : List Sent) (agreed : Bool) (lost : List ℕ) (conn : Option Conn) → IfOpen conn (Open i pv h out up wanted coming agreed lost) → IfOpen conn (Open i pv h (drop most out) (up ++ take most out) wanted coming agreed lost)
+open_sent i pv h most out up wanted coming agreed lost None op = tt
+open_sent i pv h most out up wanted coming agreed lost (Some o) op = record { upward = subst (λ x. Stream o.held x (in_version pv wanted)) (ap (λ x. up ++ x) (sym (take-append-drop most out)) ∙ sym (append_assoc up (take most out) (drop most out))) op.upward; spoken = op.spoken; unheard = op.unheard; linked = op.linked }
 
 -- what was seen, where the cache read a PDU or not
 seen_read : (i : Instance) (keep : ℕ) (home : Option Instance) (read : Bool) (seen : Option Seen) → IsSeen keep home seen → IsSeen keep home (seen_after i read seen)
@@ -53,10 +54,10 @@ module _ (w : World) (p : Present (instances w) w.present) where
   abbrev GoodS : Side → Type 0
   GoodS s = Good w.keep w.past w.present s
 
-  -- Other bytes are on the wires of the same router, and others are to be pulled from it.
-  wired_good : (s : Side) (out : List ℕ) (conn : Option Conn) (up down : List ℕ) → GoodS s → (s.router.out ≡ [] → out ≡ []) → ((h : Seen) → Flow (instances w) w.present h s.router s.conn s.up s.down → Flow (instances w) w.present h (record (s.router) { out = out }) conn up down)
-      → GoodS (record s { router = record (s.router) { out = out }; conn = conn; up = up; down = down })
-  wired_good s out conn up down g none flow = record {
+  -- Other bytes are at the same router and on its wires, the same all together.
+  wired_good : (s : Side) (out : List ℕ) (conn : Option Conn) (up down : List ℕ) → (s.router.out ≡ [] → out ≡ []) → GoodS s → ((h : Seen) (f : Flow (instances w) w.present h s.router s.conn s.up s.down) →
+      (lost : List ℕ) × (s.down ++ (conn_due s.conn ++ f.lost) ≡ down ++ (conn_due conn ++ lost)) × IfOpen conn (Open w.present s.router.spoken h out up f.wanted f.coming s.router.agreed lost)) → GoodS (record s { router = record s.router { out = out }; conn = conn; up = up; down = down })
+  wired_good s out conn up down none g flow = record {
     seen = g.seen;
     is_seen = g.is_seen;
     is_read = g.is_read;
@@ -64,39 +65,27 @@ module _ (w : World) (p : Present (instances w) w.present) where
     router = record {
       table = g.router.table;
       unmarked = g.router.unmarked;
-      link = live_map s.router.link (instances w) (instances w) w.present w.present g.seen g.seen s.router (record (s.router) { out = out }) s.conn conn s.up up s.down down (λ x. x) none refl refl g.router.link (λ l. (l.0, l.1, flow l.0 l.2));
+      link = live_map s.router.link (instances w) (instances w) w.present w.present g.seen g.seen s.router (record s.router { out = out }) s.conn conn s.up up s.down down (λ x. x) none refl refl g.router.link (λ l. let f = flow l.0 l.2 in (
+        l.0,
+        l.1,
+        record { said = l.2.said; lost = f.0; downward = subst (λ x. Stream s.router.held x l.2.coming) f.1 l.2.downward; open_at = f.2 },
+      ));
     };
   }
-
-  router_sends_good : (most : ℕ) (s : Side) → GoodS s → GoodS (router_sends most s)
-  unfolding router_sends router_pulled
-  router_sends_good most s g = wired_good s (drop most s.router.out) s.conn (s.up ++ take most s.router.out) s.down g (drop_none most s.router.out) (λ h f. record {
-    said = f.said;
-    lost = f.lost;
-    downward = f.downward;
-    open_at = if_open (Open w.present s.router.spoken h s.router.out s.up f.wanted f.coming s.router.agreed f.lost) (Open w.present s.router.spoken h (drop most s.router.out) (s.up ++ take most s.router.out) f.wanted f.coming s.router.agreed f.lost) s.conn
-        (λ o op. record { linked = op.linked; upward = sent_first most o.held s.up s.router.out (in_version s.router.spoken f.wanted) op.upward; spoken = op.spoken; unheard = op.unheard }) f.open_at;
-  })
 
   -- bytes are pulled from the cache
   sends_good : (most : ℕ) (s : Side) (o : Option Conn) → s.conn ≡ o → GoodS s → GoodS (sends_from w.keep most s o)
   unfolding conn_pulled
   sends_good most s None e g = g
-  sends_good most s (Some o) e g = wired_good s s.router.out (Some (conn_pulled w.keep timing most o)) s.up (s.down ++ take most o.state.due) g (λ x. x) (λ h f.
+  sends_good most s (Some o) e g = wired_good s s.router.out (Some (conn_pulled w.keep timing most o)) s.up (s.down ++ take most o.state.due) (λ x. x) g (λ h f.
       let op : Open w.present s.router.spoken h s.router.out s.up f.wanted f.coming s.router.agreed f.lost o = subst (λ x. IfOpen x (Open w.present s.router.spoken h s.router.out s.up f.wanted f.coming s.router.agreed f.lost)) e f.open_at in
-      let due : List ℕ = o.state.due in
       let split : o.state.due ≡ take most o.state.due ++ drop (pulled_count most o) o.state.due =
       sym (take-append-drop (pulled_count most o) o.state.due) ∙ ap (λ x. x ++ drop (pulled_count most o) o.state.due) (take_min most o.state.due) in
       let bytes : s.down ++ (conn_due s.conn ++ f.lost) ≡ (s.down ++ take most o.state.due) ++ (drop (pulled_count most o) o.state.due ++ f.lost) =
       ap (λ x. s.down ++ (conn_due x ++ f.lost)) e ∙ ap (λ x. s.down ++ (x ++ f.lost)) split
       ∙ ap (λ x. s.down ++ x) (append_assoc (take most o.state.due) (drop (pulled_count most o) o.state.due) f.lost)
       ∙ sym (append_assoc s.down (take most o.state.due) (drop (pulled_count most o) o.state.due ++ f.lost)) in
-      record {
-        said = f.said;
-        lost = f.lost;
-        downward = subst (λ x. Stream s.router.held x f.coming) bytes f.downward;
-        open_at = record { upward = op.upward; spoken = op.spoken; unheard = op.unheard; linked = op.linked };
-      })
+      (f.lost, bytes, record { upward = op.upward; spoken = op.spoken; unheard = op.unheard; linked = op.linked }))
 
   keeps_so : (home : Option Instance) (seen : Option Seen) → IsSeen w.keep home seen → (h : Seen) → seen ≡ Some h → h.keep ≡ w.keep
   keeps_so None None s h e = absurd (let k : ◌≡◌ {A = Option Seen} None (Some h) = e in cc)
@@ -139,11 +128,11 @@ module _ (w : World) (p : Present (instances w) w.present) where
 
   cut_good : (left : ℕ) (s : Side) → GoodS s → GoodS (cut left s)
   unfolding cut
-  cut_good left s g = wired_good s s.router.out None [] (take left s.down) g (λ x. x) (λ h f.
-      let after : List ℕ = conn_due s.conn ++ f.lost in
-      let bytes : s.down ++ (conn_due s.conn ++ f.lost) ≡ take left s.down ++ ([] ++ (drop left s.down ++ (conn_due s.conn ++ f.lost))) =
-      ap (λ x. x ++ (conn_due s.conn ++ f.lost)) (sym (take-append-drop left s.down)) ∙ append_assoc (take left s.down) (drop left s.down) (conn_due s.conn ++ f.lost) in
-      record { said = f.said; lost = drop left s.down ++ (conn_due s.conn ++ f.lost); downward = subst (λ x. Stream s.router.held x f.coming) bytes f.downward; open_at = tt })
+  cut_good left s g = wired_good s s.router.out None [] (take left s.down) (λ x. x) g (λ h f. (
+    drop left s.down ++ (conn_due s.conn ++ f.lost),
+    ap (λ x. x ++ (conn_due s.conn ++ f.lost)) (sym (take-append-drop left s.down)) ∙ append_assoc (take left s.down) (drop left s.down) (conn_due s.conn ++ f.lost),
+    tt,
+  ))
 
   -- a connection is made
   linked : (seen : Option Seen) (conn : Option Conn) (up down : List ℕ) (c : Router) → Shut (instances w) w.present seen conn up down c
@@ -196,11 +185,6 @@ module _ (w : World) (p : Present (instances w) w.present) where
         router = linked g.seen s.conn s.up s.down (close (clocked s.router.now s.router)) shut;
       }
 
-  -- The version of the next connection changes nothing of this one.
-  speaks_good : (version : Version) (s : Side) → GoodS s → GoodS (speaks version s)
-  unfolding speaks
-  speaks_good version s g = record { seen = g.seen; is_seen = g.is_seen; is_read = g.is_read; order = g.order; router = record { table = g.router.table; unmarked = g.router.unmarked; link = g.router.link } }
-
   asks_so : (s : Side) (g : GoodS s) → GoodRouter (instances w) w.present g.seen s.conn s.up s.down (asks s.router).router
   unfolding asks
   asks_so s g = asks_good (instances w) w.present g.seen s.conn s.up s.down s.router.link s.router (is_idle s.router.link) refl (λ h. h) g.router
@@ -216,39 +200,30 @@ module _ (w : World) (p : Present (instances w) w.present) where
   notifies_good s (Some o) e g =
       record { seen = g.seen; is_seen = g.is_seen; is_read = g.is_read; order = g.order; router = cache.notified_good (instances w) w.present p w.keep g.seen (keeps_so s.home g.seen g.is_seen) s.router s.down o s.up (subst (λ x. GoodRouter (instances w) w.present g.seen x s.up s.down s.router) e g.router) }
 
-  -- asking commits nothing
-  asks_places : (b : Bool) (r : Router) (items : List Item) → places_of (instances w) (asks_if b r).items items ≡ []
-  asks_places b r items = asks_by (λ n. places_of (instances w) n.items items ≡ []) b r refl refl
-
-  ticks_places : (now : ℕ) (b : Bool) (r : Router) (items : List Item) → places_of (instances w) ((asks_if b r).items ++ At now ∷ []) items ≡ []
-  ticks_places now b r items = asks_by (λ n. places_of (instances w) (n.items ++ At now ∷ []) items ≡ []) b r refl refl
-
-  no_places : (s : Side) (g : GoodS s) (more : List (Option VersionPlace)) → more ≡ [] → Ordered w.past w.present (more ++ s.places) g.seen
-  no_places s g more e = subst (λ x. Ordered w.past w.present (x ++ s.places) g.seen) (sym e) g.order
+  -- what a call does that commits nothing
+  noted_good : (n : Noted) (s : Side) (g : GoodS s) → places_of (instances w) n.items s.items ≡ [] → GoodRouter (instances w) w.present g.seen s.conn s.up s.down n.router → GoodS (noted (instances w) n s)
+  noted_good n s g none router = record { seen = g.seen; is_seen = g.is_seen; is_read = g.is_read; order = subst (λ x. Ordered w.past w.present (x ++ s.places) g.seen) (sym none) g.order; router = router }
 
   pub step_good : (event : SideEvent) (wanting : Option ℕ) (s : Side) → GoodS s → SideTells s → GoodS (side_step w event wanting s)
-  unfolding side_step router_restarts asks ticks_at cache_gets cache_sends
+  unfolding side_step router_restarts speaks router_sends router_pulled cache_sends cache_gets asks ticks_at
   step_good RouterRestart wanting s g t = record { seen = None; is_seen = tt; is_read = tt; order = ordered_none w.past w.present s.places g.seen g.order; router = record { table = refl; unmarked = refl; link = (refl, refl, refl, refl) } }
-  step_good (Speak version) wanting s g t = speaks_good version s g
+  -- The version of the next connection changes nothing of this one.
+  step_good (Speak version) wanting s g t = record { seen = g.seen; is_seen = g.is_seen; is_read = g.is_read; order = g.order; router = record { table = g.router.table; unmarked = g.router.unmarked; link = g.router.link } }
   step_good Connect wanting s g t = connects_good s g
-  step_good (RouterSends most) wanting s g t = router_sends_good most s g
+  step_good (RouterSends most) wanting s g t = wired_good s (drop most s.router.out) s.conn (s.up ++ take most s.router.out) s.down (drop_none most s.router.out) g
+      (λ h f. (f.lost, refl, open_sent w.present s.router.spoken h most s.router.out s.up f.wanted f.coming s.router.agreed f.lost s.conn f.open_at))
   step_good (CacheGets most) wanting s g t = gets_good most wanting s s.conn refl g
   step_good (CacheSends most) wanting s g t = sends_good most s s.conn refl g
   step_good (RouterGets most) wanting s g t = router_gets_good most wanting s g t
   step_good (Cut left) wanting s g t = cut_good left s g
   step_good NotifyRouter wanting s g t = notifies_good s s.conn refl g
-  step_good Ask wanting s g t = record { seen = g.seen; is_seen = g.is_seen; is_read = g.is_read; order = no_places s g (places_of (instances w) (asks_if (is_idle s.router.link) s.router).items s.items) (asks_places (is_idle s.router.link) s.router s.items); router = asks_so s g }
+  step_good Ask wanting s g t = noted_good (asks s.router) s g (asks_by (λ n. places_of (instances w) n.items s.items ≡ []) (is_idle s.router.link) s.router refl refl) (asks_so s g)
   step_good (Tick now) wanting s g t =
-      let k : Router = clocked now s.router in
-      let b : Bool = is_due k.link k.due k.now in
-      record { seen = g.seen; is_seen = g.is_seen; is_read = g.is_read; order = no_places s g (places_of (instances w) ((asks_if b k).items ++ At now ∷ []) s.items) (ticks_places now b k s.items); router = ticks_so now s g }
-
-  part_good : (event : SideEvent) (bytes : ℕ) (wanting : Option ℕ) (s : Side) → GoodS s → SideTells s → GoodS (side_part w event bytes wanting s)
-  part_good event bytes wanting s g t = part_by GoodS w event bytes wanting s g (λ is. step_good (lesser event bytes) wanting s g t)
+      let k : Router = clocked now s.router in noted_good (ticks_at now s.router) s g (asks_by (λ n. places_of (instances w) (n.items ++ At now ∷ []) s.items ≡ []) (is_due k.link k.due k.now) k refl refl) (ticks_so now s g)
 
   pub refused_good : (event : SideEvent) (bytes : ℕ) (wanting : Option ℕ) (s : Side) → GoodS s → SideTells s → GoodS (side_refused w event bytes wanting s)
   unfolding side_refused
-  refused_good event bytes wanting s g t = let k = cut_good 0 (side_part w event bytes wanting s) (part_good event bytes wanting s g t) in record { seen = k.seen; router = k.router; is_seen = k.is_seen; is_read = k.is_read; order = k.order }
+  refused_good event bytes wanting s g t = let k = cut_good 0 (side_part w event bytes wanting s) (part_by GoodS w event bytes wanting s g (λ is. step_good (lesser event bytes) wanting s g t)) in record { seen = k.seen; router = k.router; is_seen = k.is_seen; is_read = k.is_read; order = k.order }
 
   -- After each event
 
@@ -270,33 +245,10 @@ module _ (w : World) (p : Present (instances w) w.present) where
       none : Ordered w.past w.present s.places None
       none = ordered_none w.past w.present s.places g.seen g.order
 
-  ended_good : (s : Side) (o : Conn) (ended : Bool) (due : List ℕ) → s.conn ≡ Some o → o.state.due ≡ due → GoodS s → GoodS (close_ended s ended due)
-  ended_good s o true [] e de g = wired_good s s.router.out None s.up s.down g (λ x. x) (λ h f.
-      let bytes : s.down ++ (conn_due s.conn ++ f.lost) ≡ s.down ++ ([] ++ f.lost) = ap (λ x. s.down ++ (conn_due x ++ f.lost)) e ∙ ap (λ x. s.down ++ (x ++ f.lost)) de in
-      record { said = f.said; lost = f.lost; downward = subst (λ x. Stream s.router.held x f.coming) bytes f.downward; open_at = tt })
-  ended_good s o _ _ e de g = g
-
-  conn_good : (s : Side) (o : Option Conn) → s.conn ≡ o → GoodS s → GoodS (settle_conn s o)
-  conn_good s None e g = g
-  conn_good s (Some o) e g = ended_good s o o.state.ended o.state.due e refl g
-
-  link_good : (s : Side) (l : Link) (out : List ℕ) → GoodS s → GoodS (settle_link (instances w) s l out)
-  link_good s (Ended end) [] g = let t : Side = tell_closed (instances w) s in told_good s g t.conn t.up t.down
-  link_good s _ _ g = g
-
-  rest_good : (s : Side) (l : Link) (up : List ℕ) → s.router.link ≡ l → GoodS s → GoodS (settle_rest s l up)
-  rest_good s Closed [] is g = record { seen = g.seen; is_seen = g.is_seen; is_read = g.is_read; order = g.order; router = shut_of s (ap is_closed is) g g.seen None s.up [] }
-  rest_good s Closed (b ∷ up) is g = record { seen = g.seen; is_seen = g.is_seen; is_read = g.is_read; order = g.order; router = shut_of s (ap is_closed is) g g.seen s.conn s.up [] }
-  rest_good s _ up is g = g
-
-  wire_good : (s : Side) (o : Option Conn) (down : List ℕ) → GoodS s → GoodS (settle_wire (instances w) s o down)
-  wire_good s None [] g = let t : Side = tell_closed (instances w) s in told_good s g t.conn [] t.down
-  wire_good s _ _ g = g
-
+  -- the clean-up
   pub settle_good : (s : Side) → GoodS s → GoodS (settle (instances w) s)
-  unfolding settle
-  settle_good s g =
-      let a : Side = settle_conn s s.conn in
-      let b : Side = settle_link (instances w) (settle_conn s s.conn) (settle_conn s s.conn).router.link (settle_conn s s.conn).router.out in
-      let c : Side = settle_rest b b.router.link b.up in
-      wire_good c c.conn c.down (rest_good b b.router.link b.up refl (link_good a a.router.link a.router.out (conn_good s s.conn refl g)))
+  settle_good s g = settle_by GoodS (instances w)
+      (λ s o is none g. wired_good s s.router.out None s.up s.down (λ x. x) g (λ h f. (f.lost, ap (λ x. s.down ++ (conn_due x ++ f.lost)) is ∙ ap (λ x. s.down ++ (x ++ f.lost)) none, tt)))
+      (λ s g. let t : Side = tell_closed (instances w) s in told_good s g t.conn t.up t.down)
+      (λ s c is g. record { seen = g.seen; is_seen = g.is_seen; is_read = g.is_read; order = g.order; router = shut_of s (ap is_closed is) g g.seen (if c then s.conn else None) s.up [] })
+      (λ s g. let t : Side = tell_closed (instances w) s in told_good s g t.conn [] t.down) s g

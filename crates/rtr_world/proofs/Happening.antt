@@ -48,15 +48,10 @@ module _ (w : World) (at : ℕ → Option Conn) where
     only = m.only;
   }
 
-  refused_settles : (e : model.SideEvent) (s : Side) (old mid n : values.Side) (between later : Cache Steps) (bytes : ℕ)
-      → Moves w at old.conn (record (cut 0 (side_part w e bytes None s)) { items = Refused ∷ (cut 0 (side_part w e bytes None s)).items }) between mid → Goes (λ w s. settle (instances w) s) between mid later n
-      → Moves w at old.conn (settle (instances w) (side_refused w e bytes None s)) later n
-  unfolding side_refused
-  refused_settles e s old mid n between later bytes m settles = and_then w at old.conn (side_refused w e bytes None s) _ between later mid n m (settles w m.now (side_refused w e bytes None s) m.shows)
-
   -- with the cut where memory runs out, and the clean-up
   pub happens : (e : model.SideEvent) (s : Side) (old v mid n : values.Side) (cache between later : Cache Steps) (result : Result ⊤ AllocError) → BeginsEvent w at e s (λ t. Moves w at old.conn t cache v) result
       → (is_err result ≡ true → Goes (λ w s. cut 0 s) cache v between mid) → (is_err result ≡ false → (between ≡ cache) × (mid ≡ v)) → Goes (λ w s. settle (instances w) s) between mid later n → Happens w at e s (λ t. Moves w at old.conn t later n) result
+  unfolding side_refused
   happens e s old v mid n cache between later (Ok done) b cuts stays settles =
       let same = stays refl in
       let m : Moves w at old.conn (side_step w e b.wanting s) between mid = subst (λ c. Moves w at old.conn (side_step w e b.wanting s) c mid) (sym same.0) (subst (λ x. Moves w at old.conn (side_step w e b.wanting s) cache x) (sym same.1) b.now) in
@@ -66,4 +61,4 @@ module _ (w : World) (at : ℕ → Option Conn) where
       let m = and_then w at old.conn b.part (cut 0 b.part) cache between v mid b.now c in
       let k = subst (λ t. Moves w at old.conn t between mid) b.cut_is m in
       let r = refused_shows (cut 0 (side_part w e b.bytes None s)) between old mid (Refused ∷ (cut 0 (side_part w e b.bytes None s)).items) k in
-      record { bytes = b.bytes; fewer = b.fewer; may = b.may; now = refused_settles e s old mid n between later b.bytes r settles }
+      record { bytes = b.bytes; fewer = b.fewer; may = b.may; now = and_then w at old.conn (side_refused w e b.bytes None s) _ between later mid n r (settles w r.now (side_refused w e b.bytes None s) r.shows) }

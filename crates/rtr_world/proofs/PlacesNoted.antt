@@ -2,7 +2,8 @@
 use Rattle.std.specs.Prelude.{◌≡◌, ◌⊎◌, ℕ, suc, Bool, true, false, ◌&&◌, ◌||◌, ◌==◌, List, [], ◌∷◌, ◌++◌, length, map, take, Option, Some, None, if◌then◌else◌, refl, ⊤}
 use Rattle.std.proofs.Common.{sym, ap, ◌∙◌, subst, append_assoc, inl, inr}
 use Rattle.std.specs.List.{AllByRecursion}
-use Rattle.std.proofs.lemmas.Bool.{and_parts}
+use Rattle.rtr_ends.proofs.Effects.{either}
+use Rattle.std.proofs.lemmas.Bool.{and_parts, cases_Bool}
 use Rattle.vrps.specs.Instance.{Instance}
 use Rattle.vrps.specs.Store.{is_current}
 use Rattle.vrps.specs.VrpSet.{VrpSet}
@@ -11,18 +12,18 @@ use Rattle.rtr_pdu.specs.declared.version.Version.{Version}
 use Rattle.rtr_ends.specs.Answer.{session_in}
 use Rattle.rtr_ends.specs.Timing.{default_intervals}
 use Rattle.rtr_ends.specs.Router.{Noted, Closes, called, Receives}
-use Rattle.rtr_ends.specs.Transcript.{Begun, Committed, Item, At, Reads, Refused, Restarts, Kept, acts_once, at_end_of_data, base_of, bounded, differs, does_commit, emptied_if, has_agreed, is_commit, is_over, is_serial, is_wrong, kept, later, led_to, moment, nothing, of_version, outstanding, responded, session_of, spoken, under_way, waiting}
-use Rattle.rtr_world.specs.Claims.{HasPlaces, IsLastPlace, PlacesNoted, commits_in}
+use Rattle.rtr_ends.specs.Transcript.{Begun, Committed, Item, At, Reads, Refused, Restarts, Kept, acts_once, at_end_of_data, base_of, bounded, differs, does_commit, emptied_if, has_agreed, is_commit, is_over, is_serial, is_wrong, kept, later, moment, of_version, outstanding, responded, session_of, spoken, under_way, waiting}
+use Rattle.rtr_world.specs.Claims.{HasPlaces, IsLastPlace, PlacesNoted}
 use Rattle.rtr_world.specs.History.{Outcome, Done, Memory, MayEnd, after, all_have_room, refusal, room_for, room_since}
 use Rattle.rtr_world.specs.VersionPlaces.{VersionPlace, version_place_of}
-use Rattle.rtr_world.specs.World.{Side, World, instances, Event, Publish, Restart, On, cache_gone, goes_through, is_refused, noted, places_of, router_restarts, settled, tell_closed}
+use Rattle.rtr_world.specs.World.{Side, World, instances, Event, Publish, Restart, On, cache_gone, goes_through, is_refused, noted, places_of, router_restarts, settled}
 use Rattle.rtr_world.proofs.Invariant.{Good}
 use Rattle.rtr_world.proofs.Places.{place_at, rank_of, rank_restarted, stands_found}
 use Rattle.rtr_world.proofs.SideLaws.{all_both, all_map, all_new}
 use Rattle.rtr_world.proofs.KeptTables.{AllTell, SideTells}
-use Rattle.rtr_world.proofs.Versions.{Present, TableAt, find_session, same_session_in, stands_published, stands_restarted, some_is}
+use Rattle.rtr_world.proofs.Versions.{Present, Stands, TableAt, find_session, same_session_in, stands_published, stands_restarted, some_is}
 use Rattle.rtr_world.proofs.WorldSteps.{GoodWorld, begun, or_cases, published_so, room_after, unused_so, known_leads}
-use Rattle.rtr_world.proofs.EventCalls.{if_gets, refusal_keeps, KeptByCalls, refused_at, each_settles, done_keeps, closed_by}
+use Rattle.rtr_world.proofs.EventCalls.{if_gets, refusal_keeps, KeptByCalls, refused_at, each_settles, done_keeps, told_by}
 
 -- What is no commit leaves the version, or none.
 abbrev Leaves : Option Committed → Option Committed → Type 0
@@ -34,13 +35,9 @@ emptied_leaves false k = inr refl
 
 end_leaves : (answer : Option Begun) (version : Committed) (k : Kept) → does_commit answer version.session k.table ≡ false → Leaves k.version (at_end_of_data answer version k).version
 end_leaves None version k none = inr refl
-end_leaves (Some a) version k none = by_test (version.session == a.session) (acts_once (base_of a.question k.table) a.withdrawn a.announced) none
-  where
-    by_test : (same once : Bool) → (same && once) ≡ false
-        → Leaves k.version (if same then (if once then record { version = Some version; table = led_to (base_of a.question k.table) a.withdrawn a.announced } else k) else nothing).version
-    by_test false once none = inl refl
-    by_test true false none = inr refl
-    by_test true true none = absurd (let e : true ≡ false = none in cc)
+end_leaves (Some a) version k none = either (λ (x : Kept). Leaves k.version x.version) (version.session == a.session) _ _
+    (λ same. either (λ (x : Kept). Leaves k.version x.version) (acts_once (base_of a.question k.table) a.withdrawn a.announced) _ _
+    (λ once. absurd (let e : true ≡ false = sym (λ i. same i && once i) ∙ none in cc)) (λ other. inr refl)) (λ other. inl refl)
 
 item_leaves : (item : Item) (items : List Item) → is_commit (item ∷ items) ≡ false → Leaves (kept items).version (kept (item ∷ items)).version
 item_leaves (Reads (EndOfData session serial refresh retry expire)) items none =
@@ -66,18 +63,10 @@ module _ (all : List Instance) where
 
   one_more : (item : Item) (items : List Item) (places : List (Option VersionPlace)) → HasPlaces all items places
       → HasPlaces all (item ∷ items) ((if is_commit (item ∷ items) then version_place_of all (kept (item ∷ items)).version ∷ [] else []) ++ places)
-  one_more item items places h = by_commit (is_commit (item ∷ items)) refl
-    where
-      by_commit : (b : Bool) → is_commit (item ∷ items) ≡ b → HasPlaces all (item ∷ items) ((if is_commit (item ∷ items) then version_place_of all (kept (item ∷ items)).version ∷ [] else []) ++ places)
-      by_commit true e = record {
-        count = (λ j. length ((if e j then version_place_of all (kept (item ∷ items)).version ∷ [] else []) ++ places)) ∙ ap suc h.count ∙ (λ j. if sym e j then suc (commits_in items) else commits_in items);
-        last = subst (λ b. IsLastPlace all (kept (item ∷ items)).version ((if b then version_place_of all (kept (item ∷ items)).version ∷ [] else []) ++ places)) (sym e) (last_new (kept (item ∷ items)).version places);
-      }
-      by_commit false e = record {
-        count = (λ j. length ((if e j then version_place_of all (kept (item ∷ items)).version ∷ [] else []) ++ places)) ∙ h.count ∙ (λ j. if sym e j then suc (commits_in items) else commits_in items);
-        last = subst (λ b. IsLastPlace all (kept (item ∷ items)).version ((if b then version_place_of all (kept (item ∷ items)).version ∷ [] else []) ++ places)) (sym e)
-            (last_left (kept items).version (kept (item ∷ items)).version places (item_leaves item items e) h.last);
-      }
+  one_more item items places h = elim (cases_Bool (is_commit (item ∷ items))) [
+    | inl yes_it ↦ record { count = rw yes_it (ap suc h.count); last = rw yes_it (last_new (kept (item ∷ items)).version places) }
+    | inr not_it ↦ record { count = rw not_it h.count; last = rw not_it (last_left (kept items).version (kept (item ∷ items)).version places (item_leaves item items not_it) h.last) }
+  ]
 
   more : (items before : List Item) (places : List (Option VersionPlace)) → HasPlaces all before places → HasPlaces all (items ++ before) (places_of all items before ++ places)
   more [] before places h = h
@@ -92,44 +81,38 @@ module _ (all : List Instance) where
   noted_places : (n : Noted) (s : Side) → SidePlaces s → SidePlaces (noted all n s)
   noted_places n s h = more n.items s.items s.places h
 
-  anew_places : (s : Side) → SidePlaces s → SidePlaces (router_restarts s)
-  unfolding router_restarts
-  anew_places s h = one_more Restarts s.items s.places h
-
-  refused_places : (s : Side) → SidePlaces s → SidePlaces (tell_closed all (refused_at s))
-  refused_places s h =
-      let k : SidePlaces (refused_at s) = one_more Refused s.items s.places h in closed_by SidePlaces all (refused_at s) (λ e. k) (λ e. noted_places (called (Closes s.router.now) s.router) (refused_at s) k)
-
 keeps_places : (w : World) → KeptByCalls w (λ s wanting. ⊤) (SidePlaces (instances w))
+unfolding router_restarts
 keeps_places w = record {
   wires = λ s h conn up down home read. h;
   own = λ s call own h. noted_places (instances w) (called call s.router) s h;
   gets = λ s most wanting comes h. noted_places (instances w) (called (Receives s.router.now wanting (take most s.down)) s.router) s h;
-  restart = anew_places (instances w);
-  refused = refused_places (instances w);
+  restart = λ s h. one_more (instances w) Restarts s.items s.places h;
+  refused = λ s h. told_by (SidePlaces (instances w)) (instances w) (λ s h conn up down home read. h) (λ s h. noted_places (instances w) (called (Closes s.router.now) s.router) s h) (refused_at s) (one_more (instances w) Refused s.items s.places h);
 }
 
--- A version keeps its place when another is published, and when the cache restarts.
+-- A version keeps its place where it stands behind as many and its session has the same rank: when another is published, and when the cache restarts.
+same_place : (all more : List Instance) (version : Committed) (table : VrpSet) (t : Stands all version.version version.session version.serial table) (s : Stands more version.version version.session version.serial table) → s.older ≡ t.older
+    → rank_of version.version version.session all ≡ rank_of version.version version.session more → version_place_of all (Some version) ≡ version_place_of more (Some version)
+same_place all more version table t s older ranks =
+    let f = stands_found all version.version version.session version.serial table t in
+    let g = stands_found more version.version version.session version.serial table s in
+    let same : f.rank ≡ g.rank = some_is f.rank g.rank (sym f.is ∙ ranks ∙ g.is) in
+    f.named ∙ (λ j. Some (place_at (same j) (length (sym older j)))) ∙ sym g.named
+
 place_published : (past : List Instance) (i : Instance) (y : VrpSet) → Present (i ∷ past) i → (version : Option Committed) (table : VrpSet) → room_for i version ≡ true → TableAt (i ∷ past) version table
     → version_place_of (i ∷ past) version ≡ version_place_of (record i { sets = y ∷ i.sets } ∷ past) version
 place_published past i y p None table room t = refl
 place_published past i y p (Some version) table room t =
     let s = stands_published past i y version.version version.session version.serial table t (room_after 0 past i y p version table t room) in
-    let f = stands_found (i ∷ past) version.version version.session version.serial table t in
-    let g = stands_found (record i { sets = y ∷ i.sets } ∷ past) version.version version.session version.serial table s.0 in
-    let still : rank_of version.version version.session (i ∷ past) ≡ rank_of version.version version.session (record i { sets = y ∷ i.sets } ∷ past) =
-    ap (λ n. if n == version.session then Some (length past) else rank_of version.version version.session past) (sym (same_session_in version.version i (y ∷ i.sets))) in
-    let ranks : f.rank ≡ g.rank = some_is f.rank g.rank (sym f.is ∙ still ∙ g.is) in
-    f.named ∙ (λ j. Some (place_at (ranks j) (length (sym s.1 j)))) ∙ sym g.named
+    same_place (i ∷ past) (record i { sets = y ∷ i.sets } ∷ past) version table t s.0 s.1 (ap (λ n. if n == version.session then Some (length past) else rank_of version.version version.session past) (sym (same_session_in version.version i (y ∷ i.sets))))
 
 place_restarted : (all : List Instance) (i : Instance) → ((pv : Version) → find_session pv (session_in pv i) all ≡ None) → (version : Option Committed) (table : VrpSet) → TableAt all version table → version_place_of all version ≡ version_place_of (i ∷ all) version
 place_restarted all i new None table t = refl
 place_restarted all i new (Some version) table t =
     let s = stands_restarted all i version.version version.session version.serial table (new version.version) t in
     let f = stands_found all version.version version.session version.serial table t in
-    let g = stands_found (i ∷ all) version.version version.session version.serial table s.0 in
-    let ranks : f.rank ≡ g.rank = some_is f.rank g.rank (sym (rank_restarted i all version.version version.session f.rank (new version.version) f.is) ∙ g.is) in
-    f.named ∙ (λ j. Some (place_at (ranks j) (length (sym s.1 j)))) ∙ sym g.named
+    same_place all (i ∷ all) version table t s.0 s.1 (f.is ∙ sym (rank_restarted i all version.version version.session f.rank (new version.version) f.is))
 
 last_moved : (all more : List Instance) (version : Option Committed) (places : List (Option VersionPlace)) → version_place_of all version ≡ version_place_of more version → IsLastPlace all version places → IsLastPlace more version places
 last_moved all more None places same h = tt
@@ -163,19 +146,12 @@ restarted_places keep past old i new sides h =
 
 published_all : (set : VrpSet) (wanting : Option ℕ) (w : World) → MayEnd (refusal w (Publish set)) w (Publish set) (Done wanting) → GoodWorld w → AllTell w → AllPlaces w → AllPlaces (goes_through (Publish set) wanting w)
 unfolding goes_through refusal
-published_all set wanting w may g t h = by_current (is_current w.present.sets set) refl
-  where
-    i : Instance
-    i = w.present
-
-    free : (is_current i.sets set || all_have_room i w.sides) ≡ true
-    free = published_so (is_current i.sets set || all_have_room i w.sides) w (Publish set) wanting may
-
-    by_current : (b : Bool) → is_current i.sets set ≡ b → AllByRecursion (SidePlaces ((if is_current i.sets set then i else record i { sets = set ∷ i.sets }) ∷ w.past)) w.sides
-    by_current true e = subst (λ b. AllByRecursion (SidePlaces ((if b then i else record i { sets = set ∷ i.sets }) ∷ w.past)) w.sides) (sym e) h
-    by_current false e =
-        subst (λ b. AllByRecursion (SidePlaces ((if b then i else record i { sets = set ∷ i.sets }) ∷ w.past)) w.sides) (sym e)
-        (published_places w.keep w.past i set g.present w.sides (or_cases (is_current i.sets set) (all_have_room i w.sides) free e) g.sides t h)
+published_all set wanting w may g t h =
+    let free = published_so (is_current w.present.sets set || all_have_room w.present w.sides) w (Publish set) wanting may in
+    elim (cases_Bool (is_current w.present.sets set)) [
+      | inl same ↦ rw same h
+      | inr other ↦ rw other (published_places w.keep w.past w.present set g.present w.sides (or_cases (is_current w.present.sets set) (all_have_room w.present w.sides) free other) g.sides t h)
+    ]
 
 after_places : (event : Event) (outcome : Outcome) (w : World) → MayEnd (refusal w event) w event outcome → GoodWorld w → AllTell w → AllPlaces w → AllPlaces (after event outcome w)
 unfolding goes_through settled is_refused

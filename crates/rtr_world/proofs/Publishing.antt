@@ -1,8 +1,9 @@
 -- A set is published.
-use Rattle.std.specs.Prelude.{◌≡◌, ℕ, ◌+◌, ◌-◌, ◌%◌, ◌^◌, ◌<◌, ◌==◌, ◌&&◌, ◌||◌, Bool, true, false, List, [], ◌∷◌, length, find, Option, Some, None, is_some, Result, Ok, Err, if◌then◌else◌, refl, ⊤}
+use Rattle.std.specs.Prelude.{◌≡◌, ℕ, ◌+◌, ◌-◌, ◌%◌, ◌^◌, ◌<◌, ◌==◌, ◌||◌, Bool, true, false, List, [], ◌∷◌, length, find, Option, Some, None, is_some, Result, Ok, Err, if◌then◌else◌, refl}
 use Rattle.std.specs.declared.alloc.AllocError.{AllocError}
-use Rattle.std.proofs.lemmas.Bool.{and_parts}
-use Rattle.std.proofs.Common.{sym, ap, ◌∙◌, subst, arith, zero, suc}
+use Rattle.std.proofs.lemmas.Bool.{and_parts, cases_Bool}
+use Rattle.std.proofs.lemmas.Option.{IfSome_then}
+use Rattle.std.proofs.Common.{sym, ap, ◌∙◌, subst, subst₂, arith, inl, inr}
 use Rattle.vrps.specs.Instance.{Instance, NumberedSet, versions_from}
 use Rattle.vrps.specs.Serial.{serial_at}
 use Rattle.vrps.specs.Store.{is_current, is_same, published}
@@ -16,18 +17,17 @@ use Rattle.rtr_pdu.specs.declared.version.Version.{Version}
 use Rattle.rtr_pdu.specs.declared.version.Version.TheVariants.{V0, V1}
 use Rattle.rtr_ends.specs.Cache.{Conn}
 use Rattle.rtr_ends.specs.CacheState.{ShowsCache}
-use Rattle.rtr_world.specs.History.{Done, Memory, TooManyVersions, MayEnd, Reached, after, all_have_room, is_near, is_used, refusal, room_for, room_since, side_at}
-use Rattle.rtr_world.specs.Reached.{ShowsAt, ShowsParts, ShowsRest, ShowsWorld, StepsOnce}
-use Rattle.rtr_world.specs.SideShown.{MadeAt, MadeTo, MadeWhere, state_of}
+use Rattle.rtr_world.specs.History.{Outcome, Done, Memory, TooManyVersions, MayEnd, Reached, after, all_have_room, is_used, refusal, room_for, room_since, side_at}
+use Rattle.rtr_world.specs.Reached.{ShowsAt, ShowsWorld, StepsOnce}
+use Rattle.rtr_world.specs.SideShown.{MadeAt, state_of}
 use Rattle.rtr_world.specs.World.{World, Side, Publish, goes_through, instances, is_refused, settled}
-use Rattle.rtr_world.specs.declared.event.WorldFault.{WorldFault}
 use Rattle.rtr_world.specs.declared.event.WorldFault.TheVariants as faults
 use Rattle.rtr_world.specs.declared.side.Side as values
 use Rattle.rtr_world.specs.declared.world.World as code
+use Rattle.rtr_world.proofs.Room.{each_room}
 use Rattle.rtr_world.proofs.SideLaws.{inside}
 use Rattle.rtr_world.proofs.Rests.{history_rests}
 use Rattle.rtr_world.proofs.Showing.{unsettled}
-use Rattle.rtr_world.proofs.Stepping.{same_rest}
 use Rattle.rtr_world.proofs.Versions.{lt_of}
 
 -- the current set
@@ -51,31 +51,21 @@ later_next start (now ∷ older) v h =
     ap (λ n. (n + 1) % 2 ^ 32) e ∙ (let k : ((start + length older) % 2 ^ 32 + 1) % 2 ^ 32 ≡ (start + (length older + 1)) % 2 ^ 32 = omega arith in k)
     ∙ ap (λ n. (start + n) % 2 ^ 32) (let k : length older + 1 ≡ length (now ∷ older) = omega arith in k)
 
--- What is refused
-pub not_refused : (w : World) (set : VrpSet) → (is_current w.present.sets set || all_have_room w.present w.sides) ≡ true → refusal w (Publish set) ≡ None
+-- What a Publish may end in goes by whether the set is current, or all have room.
+may_publish : (w : World) (set : VrpSet) (b : Bool) → (is_current w.present.sets set || all_have_room w.present w.sides) ≡ b → (outcome : Outcome) → MayEnd (if b then None else Some TooManyVersions) w (Publish set) outcome → MayEnd (refusal w (Publish set)) w (Publish set) outcome
 unfolding refusal
-not_refused w set h = ap (λ b. if b then None else Some TooManyVersions) h
-
-pub too_many : (w : World) (set : VrpSet) → (is_current w.present.sets set || all_have_room w.present w.sides) ≡ false → refusal w (Publish set) ≡ Some TooManyVersions
-unfolding refusal
-too_many w set h = ap (λ b. if b then None else Some TooManyVersions) h
+may_publish w set b e outcome may = subst (λ b. MayEnd (if b then None else Some TooManyVersions) w (Publish set) outcome) (sym e) may
 
 pub refuses_more : (w : World) (v : code.World) (set : VrpSet) → ShowsWorld w v → IsVrpSet set → is_current w.present.sets set ≡ false → all_have_room w.present w.sides ≡ false → StepsOnce w (Publish set) (Err faults.TooManyVersions) v
 refuses_more w v set h fits other none = record {
   outcome = TooManyVersions;
   fits = fits;
-  may = subst (λ o. MayEnd o w (Publish set) TooManyVersions) (sym (too_many w set ((λ j. other j || none j)))) refl;
+  may = may_publish w set false (λ j. other j || none j) TooManyVersions refl;
   answers = refl;
   shows = h;
 }
 
 -- The current set adds nothing.
-unchanged : (i : Instance) (set : VrpSet) → is_current i.sets set ≡ true → published set i ≡ i
-unchanged i set h = ap (λ b. if b then i else record i { sets = set ∷ i.sets }) h
-
-added : (i : Instance) (set : VrpSet) → is_current i.sets set ≡ false → published set i ≡ record i { sets = set ∷ i.sets }
-added i set h = ap (λ b. if b then i else record i { sets = set ∷ i.sets }) h
-
 abbrev pub with_set : World → VrpSet → World
 with_set w set = record w { present = record w.present { sets = set ∷ w.present.sets } }
 
@@ -85,11 +75,11 @@ publish_sides w set was = ap (λ sides. record w { present = published set w.pre
 
 pub publishes_nothing : (w : World) (v : code.World) (set : VrpSet) → Reached w → ShowsWorld w v → IsVrpSet set → is_current w.present.sets set ≡ true → StepsOnce w (Publish set) (Ok tt) v
 publishes_nothing w v set was h fits same =
-    let is : after (Publish set) (Done None) w ≡ w = publish_sides w set was ∙ ap (λ i. record w { present = i }) (unchanged w.present set same) in
+    let is : after (Publish set) (Done None) w ≡ w = publish_sides w set was ∙ rw same refl in
     record {
       outcome = Done None;
       fits = fits;
-      may = subst (λ o. MayEnd o w (Publish set) (Done None)) (sym (not_refused w set (ap (λ b. b || all_have_room w.present w.sides) same))) tt;
+      may = may_publish w set true (ap (λ b. b || all_have_room w.present w.sides) same) (Done None) tt;
       answers = refl;
       shows = subst (λ x. ShowsWorld x v) (sym is) h;
     }
@@ -98,34 +88,30 @@ or_room : (a b : Bool) → b ≡ true → (a || b) ≡ true
 or_room true b h = refl
 or_room false b h = h
 
-shows_same : (w : World) (set : VrpSet) (v : code.World) → ShowsWorld w v → ShowsWorld (after (Publish set) (Memory 0 None) w) v
+pub publish_fails : (w : World) (v n : code.World) (set : VrpSet) → (h : ShowsWorld w v) → IsVrpSet set → all_have_room w.present w.sides ≡ true → n ≡ record v { cache = n.cache }
+    → ShowsCache HoldsSteps (state_of w h.at) n.cache → StepsOnce w (Publish set) (Err faults.Memory) n
 unfolding is_refused
-shows_same w set v h = h
-
-pub publish_fails : (w : World) (v n : code.World) (set : VrpSet) (result : Result ⊤ WorldFault) → (h : ShowsWorld w v) → IsVrpSet set → all_have_room w.present w.sides ≡ true → result ≡ Err faults.Memory → n ≡ record v { cache = n.cache }
-    → ShowsCache HoldsSteps (state_of w h.at) n.cache → StepsOnce w (Publish set) result n
-publish_fails w v n set result h fits room is_err same served = record {
+publish_fails w v n set h fits room same served = record {
   outcome = Memory 0 None;
   fits = fits;
-  may = subst (λ o. MayEnd o w (Publish set) (Memory 0 None)) (sym (not_refused w set (or_room (is_current w.present.sets set) (all_have_room w.present w.sides) room))) (refl, tt, omega arith);
-  answers = is_err;
-  shows = shows_same w set n (record {
-    rest = same_rest w w.sides v n h.rest (same ∙ ap (λ l. record v { cache = n.cache; sides = l }) (sym (ap (λ x. x.sides) same)));
+  may = may_publish w set true (or_room (is_current w.present.sets set) (all_have_room w.present w.sides) room) (Memory 0 None) (refl, tt, omega arith);
+  answers = refl;
+  shows = subst (ShowsWorld w) (sym same) (record {
+    rest = record { keep = h.rest.keep; used = h.rest.used; sessions = h.rest.sessions; start = h.rest.start };
     at = h.at;
-    parts = subst (λ l. ShowsParts w h.at n.cache l.items) (sym (ap (λ x. x.sides) same)) (record { serves = served; each = h.parts.each; own = h.parts.own; all = h.parts.all });
+    parts = record { serves = served; each = h.parts.each; own = h.parts.own; all = h.parts.all };
   });
 }
 
 -- Each side is shown at one version more.
 one_more_made : (i : Instance) (set : VrpSet) (home : Option Instance) (made : Option Serial) → room_since i home ≡ true → MadeAt i home made → MadeAt (record i { sets = set ∷ i.sets }) home made
 one_more_made i set None made room h = h
-one_more_made i set (Some home) made room h = by_session (i.session == home.session) room h
-  where
-    by_session : (b : Bool) → (if b then is_near i (Some (length home.sets - 1)) else true) ≡ true → MadeWhere b i home made → MadeWhere b (record i { sets = set ∷ i.sets }) home made
-    by_session false room h = h
-    by_session true room h =
-        let low : length i.sets - (length home.sets - 1) < 2 ^ 31 = lt_of _ _ room in
-        record { serial = h.serial; behind = omega (arith, h.behind); near = omega (arith, low, h.behind) }
+one_more_made i set (Some home) made room h = elim (cases_Bool (i.session == home.session)) [
+  | inl same ↦ (let k = rw same at h in
+      let low : length i.sets - (length home.sets - 1) < 2 ^ 31 = lt_of _ _ (rw same at room) in
+      rw same (record { serial = k.serial; behind = omega (arith, k.behind); near = omega (arith, low, k.behind) }))
+  | inr other ↦ rw other (rw other at h)
+]
 
 some_either : (b : Bool) (x y : Instance) (o : Option Instance) → is_some (if b then Some x else o) ≡ is_some (if b then Some y else o)
 some_either true x y o = refl
@@ -135,45 +121,32 @@ used_still : (w : World) (set : VrpSet) (pv : Version) (session : ℕ) → is_us
 used_still w set V0 session = some_either (w.present.session0 == session) w.present (record w.present { sets = set ∷ w.present.sets }) (find (λ i. i.session0 == session) w.past)
 used_still w set V1 session = some_either (w.present.session == session) w.present (record w.present { sets = set ∷ w.present.sets }) (find (λ i. i.session == session) w.past)
 
-made_to_still : (w : World) (set : VrpSet) (home : Option Instance) → MadeTo (instances w) home → MadeTo (instances (with_set w set)) home
-made_to_still w set None h = tt
-made_to_still w set (Some home) h = sym (used_still w set V1 home.session) ∙ h
-
 one_more_shown : (w : World) (set : VrpSet) (at : ℕ → Option Conn) (a : Option Side) (q : Option values.Side) → ((s : Side) → a ≡ Some s → room_since w.present s.home ≡ true) → ShowsAt w at a q → ShowsAt (with_set w set) at a q
 one_more_shown w set at None None room h = tt
-one_more_shown w set at (Some s) (Some v) room h = record { router = h.router; conn = h.conn; up = h.up; down = h.down; made = one_more_made w.present set s.home v.made (room s refl) h.made; made_to = made_to_still w set s.home h.made_to }
+one_more_shown w set at (Some s) (Some v) room h = record { router = h.router; conn = h.conn; up = h.up; down = h.down; made = one_more_made w.present set s.home v.made (room s refl) h.made; made_to = IfSome_then s.home h.made_to (λ i k. sym (used_still w set V1 i.session) ∙ k) }
 one_more_shown w set at _ _ room h = h
-
-rooms : (i : Instance) (sides : List Side) → all_have_room i sides ≡ true → (r : ℕ) (s : Side) → side_at r sides ≡ Some s → room_since i s.home ≡ true
-rooms i [] h r s is = absurd (let k : ◌≡◌ {A = Option Side} None (Some s) = is in cc)
-rooms i (t ∷ sides) h zero s is =
-    ap (λ (x : Side). room_since i x.home) (sym (inside is)) ∙ (and_parts (room_for i t.router.version) (room_since i t.home) (and_parts (room_for i t.router.version && room_since i t.home) (all_have_room i sides) h).0).1
-rooms i (t ∷ sides) h (suc r) s is = rooms i sides (and_parts (room_for i t.router.version && room_since i t.home) (all_have_room i sides) h).1 r s is
 
 pub publishes_new : (w : World) (v n : code.World) (set : VrpSet) (result : Result Published AllocError) (published : Published) → Reached w → (h : ShowsWorld w v) → IsVrpSet set → is_current w.present.sets set ≡ false → all_have_room w.present w.sides ≡ true
     → n ≡ record v { cache = n.cache } → result ≡ Ok published → Publishes (λ i cache. ShowsCache HoldsSteps (record (state_of w h.at) { cache = i }) cache) result set w.present n.cache → StepsOnce w (Publish set) (Ok tt) n
 publishes_new w v n set result published was h fits other room same went told =
-    let is : after (Publish set) (Done None) w ≡ with_set w set = publish_sides w set was ∙ ap (λ i. record w { present = i }) (added w.present set other) in
+    let is : after (Publish set) (Done None) w ≡ with_set w set = publish_sides w set was ∙ rw other refl in
     record {
       outcome = Done None;
       fits = fits;
-      may = subst (λ o. MayEnd o w (Publish set) (Done None)) (sym (not_refused w set (or_room (is_current w.present.sets set) (all_have_room w.present w.sides) room))) tt;
+      may = may_publish w set true (or_room (is_current w.present.sets set) (all_have_room w.present w.sides) room) (Done None) tt;
       answers = refl;
-      shows = subst (λ x. ShowsWorld x n) (sym is) (record {
-        rest = again (same_rest w w.sides v n h.rest (same ∙ ap (λ l. record v { cache = n.cache; sides = l }) (sym (ap (λ x. x.sides) same))));
+      shows = subst₂ ShowsWorld (sym is) (sym same) (record {
+        rest = record { keep = h.rest.keep; used = λ session session0. h.rest.used session session0 ∙ (λ j. used_still w set V1 session j || used_still w set V0 session0 j); sessions = record { v1 = h.rest.sessions.v1; v0 = h.rest.sessions.v0 }; start = h.rest.start };
         at = h.at;
-        parts = subst (λ l. ShowsParts (with_set w set) h.at n.cache l.items) (sym (ap (λ x. x.sides) same)) (record {
+        parts = record {
           serves = by_answer published (subst (λ r. Publishes (λ i cache. ShowsCache HoldsSteps (record (state_of w h.at) { cache = i }) cache) r set w.present n.cache) went told);
-          each = λ r. one_more_shown w set h.at (side_at r w.sides) _ (λ s is. rooms w.present w.sides room r s is) (h.parts.each r);
+          each = λ r. one_more_shown w set h.at (side_at r w.sides) _ (λ s is. (and_parts (room_for w.present s.router.version) (room_since w.present s.home) (each_room w.present w.sides room r s is)).1) (h.parts.each r);
           own = h.parts.own;
           all = h.parts.all;
-        });
+        };
       });
     }
   where
-    again : ShowsRest w n → ShowsRest (with_set w set) n
-    again r = record { keep = r.keep; used = λ session session0. r.used session session0 ∙ (λ j. used_still w set V1 session j || used_still w set V0 session0 j); sessions = record { v1 = r.sessions.v1; v0 = r.sessions.v0 }; start = r.start }
-
     by_answer : (p : Published) → Publishes (λ i cache. ShowsCache HoldsSteps (record (state_of w h.at) { cache = i }) cache) (Ok p) set w.present n.cache → ShowsCache HoldsSteps (state_of (with_set w set) h.at) n.cache
-    by_answer (New serial) t = subst (λ i. ShowsCache HoldsSteps (record (state_of w h.at) { cache = i }) n.cache) (added w.present set other) t.0
+    by_answer (New serial) t = rw other at t.0
     by_answer Unchanged t = absurd (let k : false ≡ true = sym other ∙ t.1 in cc)

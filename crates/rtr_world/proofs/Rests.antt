@@ -1,8 +1,8 @@
 -- Between events no link has ended, nothing is on the way to a closed one, and the clean-up has nothing to do.
-use Rattle.std.specs.Prelude.{◌≡◌, ℕ, Bool, true, false, List, [], ◌∷◌, Option, Some, None, if◌then◌else◌, ⊤, refl, zero, suc, map}
+use Rattle.std.specs.Prelude.{◌≡◌, ◌⊎◌, ℕ, Bool, true, false, List, [], ◌∷◌, Option, Some, None, if◌then◌else◌, ⊤, refl, zero, suc, map}
 use Rattle.std.specs.List.{AllByRecursion}
 use Rattle.std.specs.Option.{option_map}
-use Rattle.std.proofs.Common.{sym, ap, ◌∙◌, subst}
+use Rattle.std.proofs.Common.{sym, ap, ◌∙◌, subst, inl, inr}
 use Rattle.vrps.specs.Instance.{Instance}
 use Rattle.rtr_ends.specs.Cache.{Conn}
 use Rattle.rtr_ends.specs.Router.{closed_at}
@@ -11,7 +11,7 @@ use Rattle.rtr_ends.proofs.TableLaws.{false_true}
 use Rattle.rtr_world.specs.Claims.{Settles, OthersStay}
 use Rattle.rtr_world.specs.History.{Entry, IsEvent, Leads, Made, MayEnd, Memory, Outcome, Done, after, refusal, side_at}
 use Rattle.rtr_world.specs.World.{Event, On, Side, World, goes_through, close_ended, instances, is_ended, is_refused, noted, on_side, settle, settle_conn, settle_link, settle_rest, settle_wire, settled, side_refused, tell_closed, side_step}
-use Rattle.rtr_world.proofs.EventCalls.{told_closes}
+use Rattle.rtr_world.proofs.EventCalls.{closed_by, told_closes}
 use Rattle.rtr_world.proofs.Invariant.{Good, GoodLink}
 use Rattle.rtr_world.proofs.SideLaws.{all_map, all_new, all_weaker, map_there, elsewhere}
 use Rattle.rtr_world.proofs.KeptTables.{AllTell}
@@ -53,30 +53,23 @@ record Tells (s n : Side) : Type 0 where
   pub read : n.read_at ≡ None
 
 tells : (all : List Instance) (s : Side) → Tells s (tell_closed all s)
-tells all s = by_link (is_closed s.router.link)
-  where
-    by_link : (b : Bool) → Tells s (if b then record s { home = None; read_at = None } else record (noted all (closed_at s.router.now s.router) s) { home = None; read_at = None })
-    by_link true = record { conn = refl; down = refl; up = refl; home = refl; read = refl }
-    by_link false = record { conn = refl; down = refl; up = refl; home = refl; read = refl }
+tells all s = closed_by (Tells s) all s (λ e. record { conn = refl; down = refl; up = refl; home = refl; read = refl }) (λ e. record { conn = refl; down = refl; up = refl; home = refl; read = refl })
 
--- step by step: a connection at the cache that ended
-ended_on : (s : Side) (o : Conn) (ended : Bool) (due : List ℕ) → s.conn ≡ Some o → o.state.ended ≡ ended → o.state.due ≡ due → GoesOn (close_ended s ended due).conn
-ended_on s o true [] is e d = tt
-ended_on s o true (b ∷ due) is e d = subst GoesOn (sym is) (λ ended none. let h : b ∷ due ≡ [] = sym d ∙ none in cc)
-ended_on s o false due is e d = subst GoesOn (sym is) (λ ended none. let h : false ≡ true = sym e ∙ ended in cc)
+-- step by step: a connection at the cache goes on, or it ended with nothing to be pulled and is closed
+conn_case : (s : Side) (o : Option Conn) → (GoesOn o × (settle_conn s o ≡ s)) ⊎ ((GoesOn o → ⊥) × (settle_conn s o ≡ record s { conn = None }))
+conn_case s None = inl (tt, refl)
+conn_case s (Some o) = by_end o.state.ended o.state.due
+  where
+    by_end : (ended : Bool) (due : List ℕ) → ((ended ≡ true → due ≡ [] → ⊥) × (close_ended s ended due ≡ s)) ⊎ (((ended ≡ true → due ≡ [] → ⊥) → ⊥) × (close_ended s ended due ≡ record s { conn = None }))
+    by_end true [] = inr ((λ on. on refl refl), refl)
+    by_end true (b ∷ due) = inl ((λ ended none. let h : b ∷ due ≡ [] = none in cc), refl)
+    by_end false due = inl ((λ ended none. let h : false ≡ true = ended in cc), refl)
 
 conn_goes_on : (s : Side) (o : Option Conn) → s.conn ≡ o → GoesOn (settle_conn s o).conn
-conn_goes_on s None is = subst GoesOn (sym is) tt
-conn_goes_on s (Some o) is = ended_on s o o.state.ended o.state.due is refl refl
+conn_goes_on s o is = elim (conn_case s o) [ inl on ↦ subst (λ (x : Side). GoesOn x.conn) (sym on.1) (subst GoesOn (sym is) on.0) | inr shut ↦ subst (λ (x : Side). GoesOn x.conn) (sym shut.1) tt ]
 
 pub conn_router : (s : Side) (o : Option Conn) → (settle_conn s o).router ≡ s.router
-conn_router s None = refl
-conn_router s (Some o) = by_end o.state.ended o.state.due
-  where
-    by_end : (ended : Bool) (due : List ℕ) → (close_ended s ended due).router ≡ s.router
-    by_end true [] = refl
-    by_end true (b ∷ due) = refl
-    by_end false due = refl
+conn_router s o = elim (conn_case s o) [ inl on ↦ ap (λ (x : Side). x.router) on.1 | inr shut ↦ ap (λ (x : Side). x.router) shut.1 ]
 
 -- a link that ended
 link_conn : (all : List Instance) (s : Side) (l : Link) (out : List ℕ) → (settle_link all s l out).conn ≡ s.conn
@@ -89,7 +82,7 @@ link_goes_on all s (Ended end) (b ∷ out) is none = absurd (let h : b ∷ out �
 link_goes_on all s _ out is none = ap is_ended is
 
 -- what is on the way to a closed link
-not_closed : (s : Side) (l : Link) → s.router.link ≡ l → is_closed l ≡ false → GoesOn s.conn → is_ended s.router.link ≡ false → Cleared s
+pub not_closed : (s : Side) (l : Link) → s.router.link ≡ l → is_closed l ≡ false → GoesOn s.conn → is_ended s.router.link ≡ false → Cleared s
 not_closed s l is differs on h = record {
   conn_on = on;
   link_on = h;
@@ -136,13 +129,7 @@ settle_rests all s none =
 
 -- Once more changes nothing.
 conn_stays : (s : Side) (o : Option Conn) → GoesOn o → settle_conn s o ≡ s
-conn_stays s None on = refl
-conn_stays s (Some o) on = by_end o.state.ended o.state.due on
-  where
-    by_end : (ended : Bool) (due : List ℕ) → (ended ≡ true → due ≡ [] → ⊥) → close_ended s ended due ≡ s
-    by_end true [] on = absurd (on refl refl)
-    by_end true (b ∷ due) on = refl
-    by_end false due on = refl
+conn_stays s o on = elim (conn_case s o) [ inl same ↦ same.1 | inr shut ↦ absurd (shut.0 on) ]
 
 link_stays : (all : List Instance) (s : Side) (l : Link) (out : List ℕ) → is_ended l ≡ false → settle_link all s l out ≡ s
 link_stays all s (Ended end) out on = false_true (sym on)

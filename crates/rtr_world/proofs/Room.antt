@@ -1,9 +1,8 @@
 -- Room for one version more.
-use Rattle.std.specs.Prelude.{◌≡◌, ℕ, ◌+◌, ◌-◌, ◌≤◌, ◌<◌, ◌^◌, ◌==◌, ◌&&◌, ◌||◌, Bool, true, false, nat_lt, List, [], ◌∷◌, length, Option, Some, None, IfSome, is_none, if◌then◌else◌, refl}
+use Rattle.std.specs.Prelude.{◌≡◌, ℕ, ◌+◌, ◌-◌, ◌≤◌, ◌<◌, ◌^◌, ◌==◌, ◌&&◌, ◌||◌, Bool, true, false, nat_lt, List, [], ◌∷◌, length, Option, Some, None, IfSome, is_none, refl}
 use Rattle.std.specs.Option.{option_map}
 use Rattle.std.proofs.Common.{sym, ap, ◌∙◌, subst, arith, inl, inr, zero, suc}
-use Rattle.std.proofs.lemmas.Bool.{cases_Bool}
-use Rattle.std.proofs.lemmas.Bool.Decides.{nat_tests}
+use Rattle.std.proofs.lemmas.Bool.{and_parts, cases_Bool, cases_eq}
 use Rattle.std.proofs.lemmas.List.{length-append}
 use Rattle.vrps.specs.Instance.{Instance, versions}
 use Rattle.vrps.specs.Serial.{serial_at}
@@ -12,13 +11,13 @@ use Rattle.rtr_ends.specs.Answer.{session_in}
 use Rattle.rtr_ends.specs.Transcript.{Committed}
 use Rattle.rtr_world.specs.History.{Reached, all_have_room, is_near, room_for, room_since, side_at}
 use Rattle.rtr_world.specs.VersionPlaces.{position_of}
-use Rattle.rtr_world.specs.SideShown.{MadeAt, MadeWhere, held_of}
+use Rattle.rtr_world.specs.SideShown.{MadeAt, held_of}
 use Rattle.rtr_world.specs.World.{World, Side, instances}
 use Rattle.rtr_world.proofs.SideLaws.{inside}
-use Rattle.rtr_world.proofs.Versions.{Present, Stands, TableAt, of_present, position_at}
+use Rattle.rtr_world.proofs.Versions.{Present, TableAt, of_present, position_at}
 use Rattle.rtr_world.proofs.WorldSteps.{GoodWorld, Known, history_known, good_world}
 use Rattle.rtr_world.proofs.Routers.{low_of, each_at}
-use Rattle.prefixes.proofs.Basics.{eq_of}
+use Rattle.prefixes.proofs.Basics.{eq_of, false_if_never, not_both}
 
 pub reached_good : (w : World) → Reached w → GoodWorld w
 reached_good w r = good_world r.made r.history w r.leads
@@ -49,32 +48,25 @@ pub room_held : (w : World) (s : Side) (held : Option Serial) (next : ℕ) (answ
     → next ≡ serial_at w.present.start (length w.present.sets) → option_map (λ x. x.0) held ≡ held_of w.present s.router.version → answer ≡ room_for w.present s.router.version
 room_held w s held next answer tests p table after is = by_version s.router.version table is
   where
-    i : Instance
-    i = w.present
-
-    by_session : (version : Committed) → Stands (instances w) version.version version.session version.serial s.router.table → (b : Bool) → (session_in version.version w.present == version.session) ≡ b
-        → option_map (λ x. x.0) held ≡ (if b then Some version.serial else None) → answer ≡ (if b then is_near w.present (position_of version.serial (versions w.present)) else true)
-    by_session version t false e h = tests_none held next answer tests (no_serial held h) w.present.start (length w.present.sets) after
-    by_session version t true e h =
-        let mine : version.session ≡ session_in version.version w.present = sym (eq_of (session_in version.version w.present) version.session e) in
-        let same : t.i ≡ w.present = of_present (instances w) w.present p version.version version.session version.serial s.router.table t mine in
-        let place : position_of version.serial (versions w.present) ≡ Some (length t.older) = ap (λ x. position_of version.serial (versions x)) (sym same) ∙ position_at (instances w) version.version version.session version.serial s.router.table t in
-        let sets : length w.present.sets ≡ length t.newer + length (s.router.table ∷ t.older) = ap (λ (x : Instance). length x.sets) (sym same) ∙ ap length t.sets ∙ length-append t.newer (s.router.table ∷ t.older) in
-        tests_some held next answer tests version.serial w.present.start (length t.older) (length w.present.sets) h (t.serial_is ∙ ap (λ (x : Instance). serial_at x.start (length t.older)) same) after (omega (arith, sets)) (omega (arith, sets, t.young))
-        ∙ ap (is_near w.present) (sym place)
-
     by_version : (version : Option Committed) → TableAt (instances w) version s.router.table → option_map (λ x. x.0) held ≡ held_of w.present version → answer ≡ room_for w.present version
     by_version None t h = tests_none held next answer tests (no_serial held h) w.present.start (length w.present.sets) after
-    by_version (Some version) t h = by_session version t (session_in version.version w.present == version.session) refl h
+    by_version (Some version) t h = elim (cases_Bool (session_in version.version w.present == version.session)) [
+      | inl e ↦ (let mine : version.session ≡ session_in version.version w.present = sym (eq_of (session_in version.version w.present) version.session e) in
+          let same : t.i ≡ w.present = of_present (instances w) w.present p version.version version.session version.serial s.router.table t mine in
+          let place : position_of version.serial (versions w.present) ≡ Some (length t.older) = ap (λ x. position_of version.serial (versions x)) (sym same) ∙ position_at (instances w) version.version version.session version.serial s.router.table t in
+          let sets : length w.present.sets ≡ length t.newer + length (s.router.table ∷ t.older) = ap (λ (x : Instance). length x.sets) (sym same) ∙ ap length t.sets ∙ length-append t.newer (s.router.table ∷ t.older) in
+          let answers = tests_some held next answer tests version.serial w.present.start (length t.older) (length w.present.sets) (rw e at h) (t.serial_is ∙ ap (λ (x : Instance). serial_at x.start (length t.older)) same) after (omega (arith, sets)) (omega (arith, sets, t.young)) in
+          rw e (answers ∙ ap (is_near w.present) (sym place)))
+      | inr e ↦ rw e (tests_none held next answer tests (no_serial held (rw e at h)) w.present.start (length w.present.sets) after)
+    ]
 
 -- of the one that was current when the connection was made
 pub room_made : (i : Instance) (home : Option Instance) (made : Option Serial) (next : ℕ) (answer : Bool) → Tests made next answer → MadeAt i home made → next ≡ serial_at i.start (length i.sets) → answer ≡ room_since i home
 room_made i None made next answer tests none after = tests_none made next answer tests none i.start (length i.sets) after
-room_made i (Some home) made next answer tests is after = by_session (i.session == home.session) is
-  where
-    by_session : (b : Bool) → MadeWhere b i home made → answer ≡ (if b then is_near i (Some (length home.sets - 1)) else true)
-    by_session false h = tests_none made next answer tests h i.start (length i.sets) after
-    by_session true h = tests_some made next answer tests (serial_at i.start (length home.sets - 1)) i.start (length home.sets - 1) (length i.sets) (ap (option_map (λ x. x.0)) h.serial) refl after (omega (arith, h.behind)) h.near
+room_made i (Some home) made next answer tests is after = elim (cases_Bool (i.session == home.session)) [
+  | inl e ↦ let h = rw e at is in rw e (tests_some made next answer tests (serial_at i.start (length home.sets - 1)) i.start (length home.sets - 1) (length i.sets) (ap (option_map (λ x. x.0)) h.serial) refl after (omega (arith, h.behind)) h.near)
+  | inr e ↦ rw e (tests_none made next answer tests (rw e at is) i.start (length i.sets) after)
+]
 
 -- The first sides have room.
 abbrev pub has_room_at : World → Side → Bool
@@ -83,17 +75,11 @@ has_room_at w s = room_for w.present s.router.version && room_since w.present s.
 abbrev pub FirstHaveRoom : World → ℕ → Type 0
 FirstHaveRoom w k = (r : ℕ) (s : Side) → r < k → side_at r w.sides ≡ Some s → has_room_at w s ≡ true
 
-pub none_first : (w : World) → FirstHaveRoom w 0
-none_first w r s low is = absurd (omega (arith, low))
-
 pub one_more : (w : World) (k : ℕ) (s : Side) → FirstHaveRoom w k → side_at k w.sides ≡ Some s → has_room_at w s ≡ true → FirstHaveRoom w (k + 1)
-one_more w k s first is room r t low found = elim (cases_Bool (r == k)) [
-  | inl same ↦ ap (has_room_at w) (inside (sym found ∙ ap (λ n. side_at n w.sides) (eq_of r k same) ∙ is)) ∙ room
-  | inr other ↦ first r t (below r k low other) found
+one_more w k s first is room r t low found = elim (cases_eq r k) [
+  | inl same ↦ ap (has_room_at w) (inside (sym found ∙ ap (λ n. side_at n w.sides) same ∙ is)) ∙ room
+  | inr other ↦ first r t (omega (arith, low, other)) found
 ]
-  where
-    below : (r k : ℕ) → r < k + 1 → (r == k) ≡ false → r < k
-    below r k low other = grind (arith, nat_tests)
 
 all_room : (i : Instance) (sides : List Side) → ((r : ℕ) (s : Side) → side_at r sides ≡ Some s → (room_for i s.router.version && room_since i s.home) ≡ true) → all_have_room i sides ≡ true
 all_room i [] h = refl
@@ -102,14 +88,12 @@ all_room i (s ∷ sides) h = (λ j. h zero s refl j && all_room i sides (λ r t 
 pub all_first : (w : World) (k : ℕ) → FirstHaveRoom w k → length w.sides ≤ k → true ≡ all_have_room w.present w.sides
 all_first w k first all = sym (all_room w.present w.sides (λ r s is. first r s (let low = low_of r w.sides s is in omega (arith, low, all)) is))
 
-one_far : (i : Instance) (r : ℕ) (sides : List Side) (s : Side) → side_at r sides ≡ Some s → (room_for i s.router.version && room_since i s.home) ≡ false → all_have_room i sides ≡ false
-one_far i r [] s is far = absurd (let k : ◌≡◌ {A = Option Side} None (Some s) = is in cc)
-one_far i zero (t ∷ sides) s is far = ap (λ b. b && all_have_room i sides) (ap (λ x. room_for i x.router.version && room_since i x.home) (inside is) ∙ far)
-one_far i (suc r) (t ∷ sides) s is far = and_false (room_for i t.router.version && room_since i t.home) (all_have_room i sides) (one_far i r sides s is far)
-  where
-    and_false : (a b : Bool) → b ≡ false → (a && b) ≡ false
-    and_false true b h = h
-    and_false false b h = refl
+-- Where all have room, each has.
+pub each_room : (i : Instance) (sides : List Side) → all_have_room i sides ≡ true → (r : ℕ) (s : Side) → side_at r sides ≡ Some s → (room_for i s.router.version && room_since i s.home) ≡ true
+each_room i [] h r s is = absurd (let k : ◌≡◌ {A = Option Side} None (Some s) = is in cc)
+each_room i (t ∷ sides) h zero s is =
+    ap (λ x. room_for i x.router.version && room_since i x.home) (sym (inside is)) ∙ (and_parts (room_for i t.router.version && room_since i t.home) (all_have_room i sides) h).0
+each_room i (t ∷ sides) h (suc r) s is = each_room i sides (and_parts (room_for i t.router.version && room_since i t.home) (all_have_room i sides) h).1 r s is
 
 pub is_far : (w : World) (r : ℕ) (s : Side) → side_at r w.sides ≡ Some s → has_room_at w s ≡ false → false ≡ all_have_room w.present w.sides
-is_far w r s is far = sym (one_far w.present r w.sides s is far)
+is_far w r s is far = sym (false_if_never (all_have_room w.present w.sides) (λ all. not_both (has_room_at w s) (each_room w.present w.sides all r s is) far))

@@ -1,6 +1,7 @@
 -- There are always as many routers.
-use Rattle.std.specs.Prelude.{◌≡◌, ℕ, ◌<◌, List, [], ◌∷◌, map, length, Option, Some, None, refl}
+use Rattle.std.specs.Prelude.{◌≡◌, ℕ, ◌<◌, List, [], ◌∷◌, length, Option, Some, None, refl}
 use Rattle.std.proofs.Common.{ap, ◌∙◌, subst, arith, zero, suc}
+use Rattle.std.proofs.lemmas.List.{length-map}
 use Rattle.std.specs.List.{AllByRecursion}
 use Rattle.rtr_world.specs.History.{Outcome, Done, Memory, Entry, Made, Leads, after, side_at}
 use Rattle.rtr_world.specs.World.{World, Side, Event, Publish, Restart, On, goes_through, is_refused, new_sides, on_side, settled}
@@ -11,29 +12,17 @@ on_length r f [] = refl
 on_length zero f (s ∷ sides) = refl
 on_length (suc r) f (s ∷ sides) = ap suc (on_length r f sides)
 
-map_length : (f : Side → Side) (sides : List Side) → length (map f sides) ≡ length sides
-map_length f [] = refl
-map_length f (s ∷ sides) = ap suc (map_length f sides)
-
 new_length : (routers : ℕ) → length (new_sides routers) ≡ routers
 new_length zero = refl
 new_length (suc routers) = ap suc (new_length routers)
 
-through_length : (event : Event) (wanting : Option ℕ) (w : World) → length (settled (goes_through event wanting w)).sides ≡ length w.sides
-unfolding settled goes_through
-through_length (Publish set) wanting w = map_length _ w.sides
-through_length (Restart session session0 start) wanting w = map_length _ _ ∙ map_length _ w.sides
-through_length (On r event) wanting w = map_length _ _ ∙ on_length r _ w.sides
-
-refused_length : (event : Event) (bytes : ℕ) (wanting : Option ℕ) (w : World) → length (is_refused event bytes wanting w).sides ≡ length w.sides
-unfolding is_refused settled
-refused_length (On r event) bytes wanting w = map_length _ _ ∙ on_length r _ w.sides
-refused_length _ bytes wanting w = refl
-
 after_length : (event : Event) (outcome : Outcome) (w : World) → length (after event outcome w).sides ≡ length w.sides
-after_length event (Done wanting) w = through_length event wanting w
-after_length event (Memory bytes wanting) w = refused_length event bytes wanting w
-after_length event _ w = refl
+unfolding settled goes_through is_refused
+after_length (Publish set) (Done wanting) w = length-map w.sides _
+after_length (Restart session session0 start) (Done wanting) w = length-map _ _ ∙ length-map w.sides _
+after_length (On r event) (Done wanting) w = length-map _ _ ∙ on_length r _ w.sides
+after_length (On r event) (Memory bytes wanting) w = length-map _ _ ∙ on_length r _ w.sides
+after_length _ _ w = refl
 
 pub routers_stay : (made : Made) (history : List Entry) (w : World) → Leads made history w → length w.sides ≡ made.routers
 routers_stay made history w leads =

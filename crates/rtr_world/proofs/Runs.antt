@@ -1,32 +1,34 @@
 -- Each router of a world is one to which calls lead.
 use Rattle.std.specs.Prelude.{◌≡◌, ℕ, Bool, true, false, not, ◌&&◌, List, [], ◌∷◌, ◌++◌, take, Option, refl, ⊤, drop, Some, None, IfSome, map}
 use Rattle.std.specs.List.{AllByRecursion}
-use Rattle.std.proofs.Common.{◌∙◌, sym, ap, subst}
+use Rattle.std.proofs.Common.{◌∙◌, sym, ap, subst, inl, inr}
 use Rattle.vrps.specs.Instance.{Instance, IsInstance}
 use Rattle.vrps.specs.Store.{published}
-use Rattle.vrps.specs.VrpSet.{IsVrpSet, VrpSet}
 use Rattle.rtr_pdu.specs.Judging.{Judgement, Begins, Whole, Faulty, judge}
-use Rattle.rtr_ends.specs.Cache.{finds_memory, is_none, Conn, Gives, Notifies, Publishes, Taking, Takes, conn_byte, conn_notified, conn_pulled, conn_stops, conn_takes, new_conn, ConnCall, IsConnCall, serving}
+use Rattle.rtr_ends.specs.Cache.{finds_memory, is_none, Conn, Gives, Notifies, Publishes, Taking, Takes, conn_byte, conn_notified, conn_pulled, conn_stops, conn_takes, ConnCall, IsConnCall, serving}
 use Rattle.rtr_ends.specs.Consumed.{IsRouterCall}
 use Rattle.rtr_ends.specs.LinkRules.{Router, on_unit, may_lack}
 use Rattle.rtr_ends.specs.Router.{Receiving, RouterCall, Connects, Receives, Closes, AsksNow, Ticks, called, asked_by, with_bytes, router_stops, router_byte, clocked, asks, asks_if, connects_at, closed_at, ticks_at, receives}
 use Rattle.rtr_ends.specs.RouterLink.{Link, Asked, is_due, is_idle, is_reading, Closed, Ended}
 use Rattle.rtr_ends.specs.Transcript.{Item, At, Reads, Refused, Restarts}
 use Rattle.rtr_ends.specs.Connection.{in_version}
+use Rattle.std.proofs.lemmas.Bool.{cases_Bool}
+use Rattle.std.proofs.lemmas.Option.{IfSome_then}
+use Rattle.prefixes.proofs.Basics.{all_both}
 use Rattle.rtr_ends.proofs.ByteLists.{none_bytes}
 use Rattle.rtr_ends.proofs.FeedingLaws.{feed_keeps, stopped, feed_takes}
 use Rattle.rtr_world.specs.Claims.{IsRun, RoutersRun, since_restart, ConnsRun, IsConnRun}
 use Rattle.rtr_world.specs.History.{conn_due, Outcome, Done, Memory, IsEvent, after}
-use Rattle.rtr_world.specs.World.{Side, World, instances, noted, router_restarts, tell_closed, timing, SideEvent, RouterRestart, Connect, RouterSends, CacheGets, CacheSends, Cut, NotifyRouter, Event, Publish, Restart, On, cache_gets, cache_gone, cache_sends, connects, cut, gets_at, goes_through, is_refused, notifies_at, on_side, router_gets, router_sends, sends_from, settle, settled, side_refused, side_step, speaks}
+use Rattle.rtr_world.specs.World.{Side, World, instances, noted, router_restarts, timing, SideEvent, RouterRestart, Connect, RouterSends, CacheGets, CacheSends, Cut, NotifyRouter, Event, Publish, Restart, On, cache_gets, cache_gone, cache_sends, connects, cut, gets_at, goes_through, is_refused, notifies_at, on_side, router_gets, router_sends, sends_from, settle, settled, side_refused, side_step, speaks}
 use Rattle.rtr_world.proofs.RouterCases.{asks_by, clocked_by}
 use Rattle.rtr_world.proofs.WorldSteps.{Known, history_keeps, KeptAlways, GoodWorld, known_leads, known_sides, first}
 use Rattle.rtr_world.proofs.SideSteps.{live_of}
 use Rattle.rtr_world.proofs.UnitStreams.{all_bytes, either_by}
 use Rattle.rtr_world.proofs.WireBytes.{low_front, low_stream, low_take, Low, low-append, low_drop, low_rest}
-use Rattle.rtr_world.proofs.EventCalls.{refused_at, IsOwnCall, closed_by, Lessens, settle_keeps}
-use Rattle.rtr_world.proofs.Invariant.{GoodLink, IfOpen, Live, Open}
+use Rattle.rtr_world.proofs.EventCalls.{refused_at, IsOwnCall, closed_by, told_by, Lessens, settle_keeps}
+use Rattle.rtr_world.proofs.Invariant.{GoodLink, IfOpen, Open}
 use Rattle.rtr_world.proofs.KeptTables.{AllTell}
-use Rattle.rtr_world.proofs.SideLaws.{all_both, all_map, all_new, all_on_side, all_weaker}
+use Rattle.rtr_world.proofs.SideLaws.{all_both as both_facts, all_map, all_new, all_on_side, all_weaker}
 
 -- an item that a call adds
 abbrev IsOfCall : Item → Type 0
@@ -37,19 +39,12 @@ IsOfCall item = ⊤
 abbrev AreOfCall : List Item → Type 0
 AreOfCall items = AllByRecursion IsOfCall items
 
-both_of_call : (xs ys : List Item) → AreOfCall xs → AreOfCall ys → AreOfCall (xs ++ ys)
-both_of_call [] ys h k = k
-both_of_call (x ∷ xs) ys h k = (h.0, both_of_call xs ys h.1 k)
-
 -- what is behind a restart and in front of these
 since_call : (xs items : List Item) → AreOfCall xs → since_restart (xs ++ items) ≡ xs ++ since_restart items
 since_call [] items h = refl
-since_call (x ∷ xs) items h = by_item x h.0 ∙ ap (λ l. x ∷ l) (since_call xs items h.1)
-  where
-    by_item : (y : Item) → IsOfCall y → since_restart (y ∷ (xs ++ items)) ≡ y ∷ since_restart (xs ++ items)
-    by_item Refused h = absurd h
-    by_item Restarts h = absurd h
-    by_item _ h = refl
+since_call (Refused ∷ xs) items h = absurd h.0
+since_call (Restarts ∷ xs) items h = absurd h.0
+since_call (x ∷ xs) items h = ap (λ l. x ∷ l) (since_call xs items h.1)
 
 -- What calls add
 
@@ -62,13 +57,13 @@ read_of_call memory bytes r Begins = tt
 read_of_call memory bytes r (Faulty fault) = (tt, tt)
 read_of_call memory bytes r (Whole u) =
     let n : Router = on_unit r.link u (record r { held = [] }) in
-    either_by (λ x. AreOfCall x.items) u (record r { held = [] }) (may_lack r.link u r && not memory) (λ e. (tt, tt)) (both_of_call (asked_by n.link n.out) (Reads u ∷ []) (asked_of_call n.link n.out) (tt, tt))
+    either_by (λ x. AreOfCall x.items) u (record r { held = [] }) (may_lack r.link u r && not memory) (λ e. (tt, tt)) (all_both IsOfCall (asked_by n.link n.out) (Reads u ∷ []) (asked_of_call n.link n.out) (tt, tt))
 
 receives_of_call : (now : ℕ) (wanting : Option ℕ) (piece : List ℕ) (r : Router) → AreOfCall (receives now wanting piece r).machine.items
 unfolding receives router_byte
 receives_of_call now wanting piece r =
     feed_keeps (λ m. router_stops m.router) router_byte (λ rest m. AreOfCall m.items)
-    (λ b rest m on h. both_of_call (with_bytes (finds_memory m.wanting) (m.router.held ++ b ∷ []) m.router (judge m.router.spoken (not m.router.agreed) (m.router.held ++ b ∷ []))).items m.items
+    (λ b rest m on h. all_both IsOfCall (with_bytes (finds_memory m.wanting) (m.router.held ++ b ∷ []) m.router (judge m.router.spoken (not m.router.agreed) (m.router.held ++ b ∷ []))).items m.items
     (read_of_call (finds_memory m.wanting) (m.router.held ++ b ∷ []) m.router (judge m.router.spoken (not m.router.agreed) (m.router.held ++ b ∷ []))) h)
     (record { router = clocked now r; items = At now ∷ []; wanting = wanting }) piece (tt, tt)
 
@@ -83,7 +78,7 @@ call_of_call (Closes now) r = (tt, (tt, tt))
 call_of_call AsksNow r = asks_of_call (is_idle r.link) r
 call_of_call (Ticks now) r =
     let told : Router = clocked now r in
-    both_of_call (asks_if (is_due told.link told.due told.now) told).items (At now ∷ []) (asks_of_call (is_due told.link told.due told.now) told) (tt, tt)
+    all_both IsOfCall (asks_if (is_due told.link told.due told.now) told).items (At now ∷ []) (asks_of_call (is_due told.link told.due told.now) told) (tt, tt)
 call_of_call _ r = tt
 
 -- one call more
@@ -100,44 +95,36 @@ abbrev RouterRuns : Side → Type 0
 RouterRuns s = IsRun s.router s.items
 
 -- What a link that does not live is handed changes nothing more than nothing would.
-clocked_dead : (now : ℕ) (r : Router) → is_reading r.link ≡ false → is_reading (clocked now r).link ≡ false
-clocked_dead now r dead = clocked_by (λ k. is_reading k.link ≡ false) now r dead dead refl
-
 takes_none : (now : ℕ) (wanting : Option ℕ) (piece : List ℕ) (r : Router) → is_reading r.link ≡ false → (receives now wanting piece r).machine ≡ (receives now wanting [] r).machine
 unfolding receives
 takes_none now wanting [] r dead = refl
 takes_none now wanting (b ∷ piece) r dead =
-    ap (λ f. f.machine) (stopped (λ (m : Receiving). router_stops m.router) router_byte (record { router = clocked now r; items = At now ∷ []; wanting = wanting }) b piece (ap (λ x. not (x && is_none (clocked now r).out)) (clocked_dead now r dead)))
+    ap (λ f. f.machine) (stopped (λ (m : Receiving). router_stops m.router) router_byte (record { router = clocked now r; items = At now ∷ []; wanting = wanting }) b piece (ap (λ x. not (x && is_none (clocked now r).out)) (clocked_by (λ k. is_reading k.link ≡ false) now r dead dead refl)))
 
 -- On one that lives they are bytes.
 gets_run : (w : World) (s : Side) (most : ℕ) (wanting : Option ℕ) → Known w s → RouterRuns s → RouterRuns (noted (instances w) (called (Receives s.router.now wanting (take most s.down)) s.router) s)
-gets_run w s most wanting known h = by_link (is_reading s.router.link) refl
-  where
-    by_link : (live : Bool) → is_reading s.router.link ≡ live → IsRun (receives s.router.now wanting (take most s.down) s.router).machine.router ((receives s.router.now wanting (take most s.down) s.router).machine.items ++ s.items)
-    by_link true live =
-        let l = live_of s.router.link (instances w) w.present known.0.seen s.router s.conn s.up s.down known.0.router.link live in
-        let low = low_stream s.router.held (s.down ++ (conn_due s.conn ++ l.2.lost)) l.2.coming l.2.downward in
-        one_more (Receives s.router.now wanting (take most s.down)) s.router s.items (all_bytes (take most s.down) (low_take most s.down (low_front s.down (conn_due s.conn ++ l.2.lost) low))) h
-    by_link false dead =
-        subst (λ (m : Receiving). IsRun m.router (m.items ++ s.items)) (sym (takes_none s.router.now wanting (take most s.down) s.router dead)) (one_more (Receives s.router.now wanting []) s.router s.items none_bytes h)
+gets_run w s most wanting known h = elim (cases_Bool (is_reading s.router.link)) [
+  | inl live ↦ (let l = live_of s.router.link (instances w) w.present known.0.seen s.router s.conn s.up s.down known.0.router.link live in
+      let low = low_stream s.router.held (s.down ++ (conn_due s.conn ++ l.2.lost)) l.2.coming l.2.downward in
+      one_more (Receives s.router.now wanting (take most s.down)) s.router s.items (all_bytes (take most s.down) (low_take most s.down (low_front s.down (conn_due s.conn ++ l.2.lost) low))) h)
+  | inr dead ↦ subst (λ (m : Receiving). IsRun m.router (m.items ++ s.items)) (sym (takes_none s.router.now wanting (take most s.down) s.router dead)) (one_more (Receives s.router.now wanting []) s.router s.items none_bytes h)
+]
 
 own_runs : (w : World) (s : Side) (call : RouterCall) → IsOwnCall call → RouterRuns s → RouterRuns (noted (instances w) (called call s.router) s)
 own_runs w s (Receives now wanting piece) own h = absurd own
 own_runs w s l own h = one_more l s.router s.items tt h
 
-runs_anew : (s : Side) → RouterRuns s → RouterRuns (router_restarts s)
-unfolding router_restarts
-runs_anew s h = record { calls = []; can_be = tt; router_is = refl; items_are = refl }
-
-shut_runs : (w : World) (s : Side) → RouterRuns s → RouterRuns (tell_closed (instances w) (refused_at s))
-shut_runs w s h =
-    let k : RouterRuns (refused_at s) = record { calls = h.calls; can_be = h.can_be; router_is = h.router_is; items_are = h.items_are } in
-    closed_by RouterRuns (instances w) (refused_at s) (λ e. k) (λ e. one_more (Closes s.router.now) s.router (Refused ∷ s.items) tt k)
-
 kept : KeptAlways RouterRuns
+unfolding router_restarts
 kept = record {
   new = record { calls = []; can_be = tt; router_is = refl; items_are = refl };
-  keeps = λ w. record { wires = λ s h conn up down home read. h; own = own_runs w; gets = gets_run w; restart = runs_anew; refused = shut_runs w };
+  keeps = λ w. record {
+    wires = λ s h conn up down home read. h;
+    own = own_runs w;
+    gets = gets_run w;
+    restart = λ s h. record { calls = []; can_be = tt; router_is = refl; items_are = refl };
+    refused = λ s h. told_by RouterRuns (instances w) (λ s h conn up down home read. h) (λ s h. own_runs w s (Closes s.router.now) tt h) (refused_at s) (record { calls = h.calls; can_be = h.can_be; router_is = h.router_is; items_are = h.items_are });
+  };
 }
 
 pub routers_run : RoutersRun
@@ -155,54 +142,29 @@ RunsAt keep present home up o = IfSome o (Runs keep present home up)
 abbrev SideRuns : ℕ → Instance → Side → Type 0
 SideRuns keep present s = RunsAt keep present s.home s.up s.conn
 
-new_run : (keep : ℕ) (i : Instance) → IsInstance i → IsConnRun keep i (Some i) (new_conn i)
-new_run keep i is = record { opened = i; can_open = is; home_is = refl; calls = []; can_be = tt; conn_is = refl; cache_is = refl }
-
 -- one call more, at the same cache
-module _ (keep : ℕ) (i : Instance) (home : Option Instance) (o : Conn) (h : IsConnRun keep i home o) where
-  called_run : (call : ConnCall) (next : Conn) (now : Instance) → IsConnCall call → (serving keep timing h.opened (call ∷ h.calls)).conn ≡ next → (serving keep timing h.opened (call ∷ h.calls)).cache ≡ now → IsConnRun keep now home next
-  called_run call next now can conn cache = record {
-    opened = h.opened;
-    can_open = h.can_open;
-    home_is = h.home_is;
-    calls = call ∷ h.calls;
-    can_be = (can, h.can_be);
-    conn_is = conn;
-    cache_is = cache;
-  }
-
-  takes_run : (wanting : Option ℕ) (piece : List ℕ) → Low piece → IsConnRun keep i home (conn_takes keep timing i wanting piece o).machine.conn
-  takes_run wanting piece low = called_run (Takes wanting piece) _ i (all_bytes piece low) (λ k. (conn_takes keep timing (h.cache_is k) wanting piece (h.conn_is k)).machine.conn) h.cache_is
-
-  gives_run : (most : ℕ) → IsConnRun keep i home (conn_pulled keep timing most o)
-  gives_run most = called_run (Gives most) _ i tt (λ k. conn_pulled keep timing most (h.conn_is k)) h.cache_is
-
-  notifies_run : IsConnRun keep i home (conn_notified keep timing i o)
-  notifies_run = called_run Notifies _ i tt (λ k. conn_notified keep timing (h.cache_is k) (h.conn_is k)) h.cache_is
-
-  publishes_run : (set : VrpSet) → IsVrpSet set → IsConnRun keep (published set i) home o
-  publishes_run set fits = called_run (Publishes set) o (published set i) fits h.conn_is (ap (published set) h.cache_is)
-
-  -- The router was told that it is closed.
-  unknown_run : IsConnRun keep i None o
-  unknown_run = record { opened = h.opened; can_open = h.can_open; home_is = tt; calls = h.calls; can_be = h.can_be; conn_is = h.conn_is; cache_is = h.cache_is }
+called_run : (keep : ℕ) (i : Instance) (home : Option Instance) (o : Conn) (h : IsConnRun keep i home o) (call : ConnCall) (next : Conn) (now : Instance) → IsConnCall call → (serving keep timing h.opened (call ∷ h.calls)).conn ≡ next
+    → (serving keep timing h.opened (call ∷ h.calls)).cache ≡ now → IsConnRun keep now home next
+called_run keep i home o h call next now can conn cache = record {
+  opened = h.opened;
+  can_open = h.can_open;
+  home_is = h.home_is;
+  calls = call ∷ h.calls;
+  can_be = (can, h.can_be);
+  conn_is = conn;
+  cache_is = cache;
+}
 
 -- What a router has to be pulled are bytes, while its connection is open.
 low_out : (w : World) (s : Side) (o : Conn) → s.conn ≡ Some o → Known w s → Low s.router.out
 low_out w s o e known = by_link s.router.link known.0.router.link
   where
-    none : s.router.out ≡ [] → Low s.router.out
-    none is = subst (λ x. Low x) (sym is) tt
-
-    live : Live (instances w) w.present known.0.seen s.router s.conn s.up s.down → Low s.router.out
-    live l =
+    by_link : (l : Link) → GoodLink (instances w) w.present known.0.seen l s.router s.conn s.up s.down → Low s.router.out
+    by_link Closed g = subst (λ x. Low x) (sym g.3) tt
+    by_link (Ended end) g = subst (λ x. Low x) (sym g) tt
+    by_link _ l =
         let op : Open w.present s.router.spoken l.0 s.router.out s.up l.2.wanted l.2.coming s.router.agreed l.2.lost o = subst (λ x. IfOpen x (Open w.present s.router.spoken l.0 s.router.out s.up l.2.wanted l.2.coming s.router.agreed l.2.lost)) e l.2.open_at in
         low_rest s.up s.router.out (low_stream o.held (s.up ++ s.router.out) (in_version s.router.spoken l.2.wanted) op.upward)
-
-    by_link : (l : Link) → GoodLink (instances w) w.present known.0.seen l s.router s.conn s.up s.down → Low s.router.out
-    by_link Closed g = none g.3
-    by_link (Ended end) g = none g
-    by_link _ g = live g
 
 -- One event
 module _ (w : World) (is : IsInstance w.present) where
@@ -220,22 +182,22 @@ module _ (w : World) (is : IsInstance w.present) where
       let t = feed_takes (λ (m : Taking). conn_stops m.conn) (conn_byte w.keep timing w.present) (record { conn = o; moments = []; wanting = wanting }) (take most s.up) in
       let rest : List ℕ = (conn_takes w.keep timing w.present wanting (take most s.up) o).rest in
       record {
-        run = takes_run w.keep w.present s.home o h.run wanting (take most s.up) (low_take most s.up h.low);
+        run = called_run w.keep w.present s.home o h.run (Takes wanting (take most s.up)) _ w.present (all_bytes (take most s.up) (low_take most s.up h.low)) (λ k. (conn_takes w.keep timing (h.run.cache_is k) wanting (take most s.up) (h.run.conn_is k)).machine.conn) h.run.cache_is;
         low = low-append (conn_takes w.keep timing w.present wanting (take most s.up) o).rest (drop most s.up) (low_rest t.0 (conn_takes w.keep timing w.present wanting (take most s.up) o).rest (subst (λ x. Low x) t.1.piece_is (low_take most s.up h.low))) (low_drop most s.up h.low);
       }
 
   given_runs : (most : ℕ) (s : Side) (o : Option Conn) → s.conn ≡ o → RunsAt w.keep w.present s.home s.up o → R (sends_from w.keep most s o)
   given_runs most s None e h = subst (λ x. RunsAt w.keep w.present s.home s.up x) (sym e) tt
-  given_runs most s (Some o) e h = record { run = gives_run w.keep w.present s.home o h.run most; low = h.low }
+  given_runs most s (Some o) e h = record { run = called_run w.keep w.present s.home o h.run (Gives most) _ w.present tt (λ k. conn_pulled w.keep timing most (h.run.conn_is k)) h.run.cache_is; low = h.low }
 
   notified_runs : (s : Side) (o : Option Conn) → s.conn ≡ o → RunsAt w.keep w.present s.home s.up o → R (notifies_at w s o)
   notified_runs s None e h = subst (λ x. RunsAt w.keep w.present s.home s.up x) (sym e) tt
-  notified_runs s (Some o) e h = record { run = notifies_run w.keep w.present s.home o h.run; low = h.low }
+  notified_runs s (Some o) e h = record { run = called_run w.keep w.present s.home o h.run Notifies _ w.present tt (λ k. conn_notified w.keep timing (h.run.cache_is k) (h.run.conn_is k)) h.run.cache_is; low = h.low }
 
   step_runs : (event : SideEvent) (wanting : Option ℕ) (s : Side) → Known w s → R s → R (side_step w event wanting s)
   unfolding side_step connects router_restarts speaks router_sends router_gets cache_sends cache_gets cut
   step_runs RouterRestart wanting s known h = tt
-  step_runs Connect wanting s known h = record { run = new_run w.keep w.present is; low = tt }
+  step_runs Connect wanting s known h = record { run = record { opened = w.present; can_open = is; home_is = refl; calls = []; can_be = tt; conn_is = refl; cache_is = refl }; low = tt }
   step_runs (RouterSends most) wanting s known h = sends_runs most s s.conn refl known h
   step_runs (CacheGets most) wanting s known h = gets_runs most wanting s s.conn refl h
   step_runs (CacheSends most) wanting s known h = given_runs most s s.conn refl h
@@ -243,67 +205,41 @@ module _ (w : World) (is : IsInstance w.present) where
   step_runs NotifyRouter wanting s known h = notified_runs s s.conn refl h
   step_runs _ wanting s known h = h
 
-  refused_runs : (event : SideEvent) (bytes : ℕ) (wanting : Option ℕ) (s : Side) → R (side_refused w event bytes wanting s)
-  unfolding side_refused cut
-  refused_runs event bytes wanting s = tt
-
--- The clean-up
+-- The clean-up: the router is told that it is closed, or there is less on the wires.
 module _ (keep : ℕ) (present : Instance) (all : List Instance) where
   unknown : (home : Option Instance) (up : List ℕ) (o : Option Conn) → RunsAt keep present home up o → RunsAt keep present None up o
-  unknown home up None h = tt
-  unknown home up (Some o) h = record { run = unknown_run keep present home o h.run; low = h.low }
-
-  emptied : (home : Option Instance) (up : List ℕ) (o : Option Conn) → RunsAt keep present home up o → RunsAt keep present home [] o
-  emptied home up None h = tt
-  emptied home up (Some o) h = record { run = h.run; low = tt }
+  unknown home up o h = IfSome_then o h (λ x r. record { run = record { opened = r.run.opened; can_open = r.run.can_open; home_is = tt; calls = r.run.calls; can_be = r.run.can_be; conn_is = r.run.conn_is; cache_is = r.run.cache_is }; low = r.low })
 
   less_runs : Lessens (SideRuns keep present)
   less_runs s false u d h = tt
   less_runs s true true d h = h
-  less_runs s true false d h = emptied s.home s.up s.conn h
-
-  told_runs : (s : Side) → SideRuns keep present s → SideRuns keep present (tell_closed all s)
-  told_runs s h = closed_by (SideRuns keep present) all s (λ e. unknown s.home s.up s.conn h) (λ e. unknown s.home s.up s.conn h)
+  less_runs s true false d h = IfSome_then s.conn h (λ o r. record { run = r.run; low = tt })
 
   settle_runs : (sides : List Side) → AllByRecursion (SideRuns keep present) sides → AllByRecursion (SideRuns keep present) (map (settle all) sides)
-  settle_runs sides h = all_map (SideRuns keep present) (SideRuns keep present) (settle all) sides (settle_keeps (SideRuns keep present) less_runs all told_runs) h
+  settle_runs sides h = all_map (SideRuns keep present) (SideRuns keep present) (settle all) sides (settle_keeps (SideRuns keep present) less_runs all (λ s h. closed_by (SideRuns keep present) all s (λ e. unknown s.home s.up s.conn h) (λ e. unknown s.home s.up s.conn h))) h
 
 -- Every event
 abbrev AllRun : World → Type 0
 AllRun w = AllByRecursion (SideRuns w.keep w.present) w.sides
 
-published_runs : (keep : ℕ) (i : Instance) (set : VrpSet) → IsVrpSet set → (s : Side) → SideRuns keep i s → SideRuns keep (published set i) s
-published_runs keep i set fits s = by_conn s.conn
-  where
-    by_conn : (o : Option Conn) → RunsAt keep i s.home s.up o → RunsAt keep (published set i) s.home s.up o
-    by_conn None h = tt
-    by_conn (Some o) h = record { run = publishes_run keep i s.home o h.run set fits; low = h.low }
-
 after_runs : (event : Event) (outcome : Outcome) (w : World) → IsEvent event → GoodWorld w → AllTell w → AllRun w → AllRun (after event outcome w)
-unfolding goes_through settled is_refused
+unfolding goes_through settled is_refused side_refused cut
 after_runs (Publish set) (Done wanting) w fits g t h =
     let i : Instance = published set w.present in
-    settle_runs w.keep i (i ∷ w.past) w.sides (all_weaker (SideRuns w.keep w.present) (SideRuns w.keep i) w.sides (published_runs w.keep w.present set fits) h)
+    settle_runs w.keep i (i ∷ w.past) w.sides (all_weaker (SideRuns w.keep w.present) (SideRuns w.keep i) w.sides (λ s h. IfSome_then s.conn h (λ o r. record { run = called_run w.keep w.present s.home o r.run (Publishes set) o (published set w.present) fits r.run.conn_is (ap (published set) r.run.cache_is); low = r.low })) h)
 after_runs (Restart session session0 start) (Done wanting) w fits g t h =
     let n : World = goes_through (Restart session session0 start) wanting w in
     settle_runs w.keep n.present (instances n) (map cache_gone w.sides) (all_map (SideRuns w.keep w.present) (SideRuns w.keep n.present) cache_gone w.sides (λ s x. tt) h)
 after_runs (On r event) (Done wanting) w fits g t h =
     settle_runs w.keep w.present (instances w) (on_side r (side_step w event wanting) w.sides)
     (all_on_side (λ s. Known w s × R w g.present.is s) (R w g.present.is) r (side_step w event wanting) w.sides (λ s x. x.1) (λ s x. step_runs w g.present.is event wanting s x.0 x.1)
-    (all_both (Known w) (R w g.present.is) w.sides (known_sides w g t) h))
+    (both_facts (Known w) (R w g.present.is) w.sides (known_sides w g t) h))
 after_runs (On r event) (Memory bytes wanting) w fits g t h =
     settle_runs w.keep w.present (instances w) (on_side r (side_refused w event bytes wanting) w.sides)
-    (all_on_side (R w g.present.is) (R w g.present.is) r (side_refused w event bytes wanting) w.sides (λ s x. x) (λ s x. refused_runs w g.present.is event bytes wanting s) h)
+    (all_on_side (R w g.present.is) (R w g.present.is) r (side_refused w event bytes wanting) w.sides (λ s x. x) (λ s x. tt) h)
 after_runs _ _ w fits g t h = h
-
-run_of : (keep : ℕ) (present : Instance) (s : Side) → SideRuns keep present s → IfSome s.conn (IsConnRun keep present s.home)
-run_of keep present s = by_conn s.conn
-  where
-    by_conn : (o : Option Conn) → RunsAt keep present s.home s.up o → IfSome o (IsConnRun keep present s.home)
-    by_conn None h = tt
-    by_conn (Some o) h = h.run
 
 pub conns_run : ConnsRun
 conns_run made history w leads =
-    all_weaker (SideRuns w.keep w.present) (λ s. IfSome s.conn (IsConnRun w.keep w.present s.home)) w.sides (run_of w.keep w.present)
+    all_weaker (SideRuns w.keep w.present) (λ s. IfSome s.conn (IsConnRun w.keep w.present s.home)) w.sides (λ s h. IfSome_then s.conn h (λ o r. r.run))
     (known_leads AllRun (λ event outcome x fits may g t h. after_runs event outcome x fits g t h) made history w leads (all_new (SideRuns (first made).keep (first made).present) tt made.routers)).2

@@ -1,9 +1,11 @@
 -- A world of the program and its model.
-use Rattle.std.specs.Prelude.{◌≡◌, ℕ, ◌+◌, ◌<◌, ◌≤◌, ◌==◌, ◌||◌, Bool, true, false, nat_lt, List, [], ◌∷◌, ◌++◌, map, length, find, Option, Some, None, is_some, IsSome, Result, slice_get, slice_set, option_map, if◌then◌else◌, refl, ⊤}
+use Rattle.std.specs.Prelude.{◌≡◌, ℕ, ◌+◌, ◌<◌, ◌≤◌, ◌==◌, ◌||◌, Bool, true, false, List, [], ◌∷◌, ◌++◌, map, length, find, Option, Some, None, is_some, IsSome, Result, slice_get, slice_set, if◌then◌else◌, refl, ⊤}
 use Rattle.std.specs.List.{AllByRecursion, list_any}
-use Rattle.std.proofs.Common.{sym, ap, ◌∙◌, subst, arith, inl, inr, zero, suc}
-use Rattle.std.proofs.lemmas.Bool.{cases_Bool}
-use Rattle.std.proofs.lemmas.Bool.Decides.{nat_tests}
+use Rattle.std.proofs.Common.{sym, ap, ◌∙◌, subst, subst₂, arith, inl, inr, zero, suc}
+use Rattle.std.proofs.Math.Bool.{or-true}
+use Rattle.std.proofs.lemmas.Bool.{cases_eq, cases_lt}
+use Rattle.std.proofs.lemmas.List.{length-set}
+use Rattle.std.proofs.lemmas.Option.{slice_get_past}
 use Rattle.std.proofs.lemmas.List.Folds.{list_any-append}
 use Rattle.vrps.specs.Instance.{Instance}
 use Rattle.vrps.specs.Steps.{Steps}
@@ -15,17 +17,16 @@ use Rattle.rtr_ends.specs.declared.cache.Cache.{Cache}
 use Rattle.rtr_ends.specs.declared.cache.Conn.{Conn as Number}
 use Rattle.rtr_ends.specs.declared.sessions.Sessions.{Sessions}
 use Rattle.rtr_world.specs.History.{Entry, Leads, LeadsFrom, Made, Reached, WorldStep, after, is_used, side_at}
-use Rattle.rtr_world.specs.Reached.{AreOwn, HasAt, LeadsTo, Lost, LostAt, SettledAll, ShowsAt, ShowsParts, StepsOnce as StepsSo, StepsTo}
+use Rattle.rtr_world.specs.Reached.{AreOwn, HasAt, LeadsTo, Lost, LostAt, SettledAll, ShowsAt, ShowsParts, ShowsWorld, StepsOnce as StepsSo, StepsTo}
 use Rattle.rtr_world.specs.SideShown.{ConnIs, Goes, Has, HasSessions, IsNewSide, Moves, ShowsSide}
-use Rattle.rtr_world.specs.World.{World, Side, Event, instances, new_side, new_sides, on_side, settle}
+use Rattle.rtr_world.specs.World.{World, Side, Event, instances, new_sides, on_side, settle}
 use Rattle.rtr_world.specs.declared.event.WorldFault.{WorldFault}
 use Rattle.rtr_world.specs.declared.side.Side as values
 use Rattle.rtr_world.specs.declared.world.World as code
-use Rattle.rtr_world.proofs.SideLaws.{inside, elsewhere}
+use Rattle.rtr_world.proofs.SideLaws.{inside, elsewhere, on_there}
 use Rattle.rtr_world.proofs.Moving.{none_some}
 use Rattle.rtr_world.proofs.Rests.{Rests, stays}
-use Rattle.rtr_world.proofs.Versions.{lt_of}
-use Rattle.prefixes.proofs.Basics.{eq_of, set_same, set_other, not_eq_of}
+use Rattle.prefixes.proofs.Basics.{set_same, set_other}
 
 -- One event more
 leads_from : (old : World) (history : List Entry) (w : World) (entry : Entry) (n : World) → LeadsFrom old history w → WorldStep w entry.event entry.outcome n → LeadsFrom old (history ++ entry ∷ []) n
@@ -36,12 +37,9 @@ pub leads_on : (made : Made) (history : List Entry) (w : World) (entry : Entry) 
 leads_on made history w entry n leads step = (leads.0, leads_from _ history w entry n leads.1 step)
 
 -- New sides
-new_shows : (w : World) (at : ℕ → Option Conn) (v : values.Side) → IsNewSide v → ShowsSide w at new_side v
-new_shows w at v h = record { router = h.router; conn = subst (λ c. ConnIs at c None) (sym h.conn) tt; up = h.up; down = h.down; made = h.made; made_to = tt }
-
 pub all_new_show : (w : World) (at : ℕ → Option Conn) (items : List values.Side) → AllByRecursion IsNewSide items → (r : ℕ) → ShowsAt w at (side_at r (new_sides (length items))) (slice_get items r)
 all_new_show w at [] h r = tt
-all_new_show w at (v ∷ items) h zero = new_shows w at v h.0
+all_new_show w at (v ∷ items) h zero = record { router = h.0.router; conn = subst (λ c. ConnIs at c None) (sym h.0.conn) tt; up = h.0.up; down = h.0.down; made = h.0.made; made_to = tt }
 all_new_show w at (v ∷ items) h (suc r) = all_new_show w at items h.1 r
 
 no_number : (items : List values.Side) → AllByRecursion IsNewSide items → (r n : ℕ) → HasAt (slice_get items r) n → ⊥
@@ -71,11 +69,6 @@ same_length w at _ _ h = absurd (h zero)
 
 pub shown_length : (w : World) (at : ℕ → Option Conn) (cache : Cache Steps) (items : List values.Side) → ShowsParts w at cache items → length w.sides ≡ length items
 shown_length w at cache items h = same_length w at w.sides items h.each
-
-on_same : (r : ℕ) (f : Side → Side) (sides : List Side) → side_at r (on_side r f sides) ≡ option_map f (side_at r sides)
-on_same r f [] = refl
-on_same zero f (s ∷ sides) = refl
-on_same (suc r) f (s ∷ sides) = on_same r f sides
 
 -- other sides do not matter to one
 pub among : (w : World) (sides : List Side) (at : ℕ → Option Conn) (s : Side) (v : values.Side) → ShowsSide w at s v → ShowsSide (record w { sides = sides }) at s v
@@ -109,20 +102,16 @@ module _ (w : World) (at : ℕ → Option Conn) (cache later : Cache Steps) (old
   had k has = subst (λ q. HasAt q k) (sym found) has
 
   there : (d : ℕ) → ¬ (d ≡ r) → ShowsAt (record w { sides = on_side r f w.sides }) m.now (side_at d (on_side r f w.sides)) (slice_get (slice_set olds r new) d)
-  there d other =
-      subst (λ a. ShowsAt (record w { sides = on_side r f w.sides }) m.now a (slice_get (slice_set olds r new) d)) (sym (elsewhere r d f w.sides other))
-      (subst (λ q. ShowsAt (record w { sides = on_side r f w.sides }) m.now (side_at d w.sides) q) (sym (set_other olds r d new other))
-      (still w at m.now (on_side r f w.sides) (side_at d w.sides) (slice_get olds d) (λ k has some. m.others k some (λ mine. other (parts.own d r k has (had k mine)))) (parts.each d)))
+  there d other = rw (elsewhere r d f w.sides other, set_other olds r d new other)
+      (still w at m.now (on_side r f w.sides) (side_at d w.sides) (slice_get olds d) (λ k has some. m.others k some (λ mine. other (parts.own d r k has (had k mine)))) (parts.each d))
 
   here : ShowsAt (record w { sides = on_side r f w.sides }) m.now (side_at r (on_side r f w.sides)) (slice_get (slice_set olds r new) r)
-  here =
-      subst (λ a. ShowsAt (record w { sides = on_side r f w.sides }) m.now a (slice_get (slice_set olds r new) r)) (sym (on_same r f w.sides ∙ ap (option_map f) is))
-      (subst (λ q. ShowsAt (record w { sides = on_side r f w.sides }) m.now (Some (f s)) q) (sym (set_same olds r new low)) (among w (on_side r f w.sides) m.now (f s) new m.shows.side))
+  here = rw (on_there r f w.sides, is, set_same olds r new low) (among w (on_side r f w.sides) m.now (f s) new m.shows.side)
 
   each : (d : ℕ) → ShowsAt (record w { sides = on_side r f w.sides }) m.now (side_at d (on_side r f w.sides)) (slice_get (slice_set olds r new) d)
-  each d = elim (cases_Bool (d == r)) [
-    | inl same ↦ subst (λ k. ShowsAt (record w { sides = on_side r f w.sides }) m.now (side_at k (on_side r f w.sides)) (slice_get (slice_set olds r new) k)) (sym (eq_of d r same)) here
-    | inr other ↦ there d (not_eq_of d r other)
+  each d = elim (cases_eq d r) [
+    | inl same ↦ subst (λ k. ShowsAt (record w { sides = on_side r f w.sides }) m.now (side_at k (on_side r f w.sides)) (slice_get (slice_set olds r new) k)) (sym same) here
+    | inr other ↦ there d other
   ]
 
   -- whose number it is now
@@ -139,25 +128,23 @@ module _ (w : World) (at : ℕ → Option Conn) (cache later : Cache Steps) (old
   ]
 
   own_now : AreOwn (slice_set olds r new)
-  own_now a b k has also = elim (cases_Bool (a == r)) [
-    | inl x ↦ elim (cases_Bool (b == r)) [
-      | inl y ↦ eq_of a r x ∙ sym (eq_of b r y)
-      | inr y ↦ absurd (clash b k (not_eq_of b r y) (theirs b k (not_eq_of b r y) also) (mine k (subst (λ d. HasAt (slice_get (slice_set olds r new) d) k) (eq_of a r x) has)))
+  own_now a b k has also = elim (cases_eq a r) [
+    | inl x ↦ elim (cases_eq b r) [
+      | inl y ↦ x ∙ sym y
+      | inr y ↦ absurd (clash b k y (theirs b k y also) (mine k (subst (λ d. HasAt (slice_get (slice_set olds r new) d) k) x has)))
     ]
-    | inr x ↦ elim (cases_Bool (b == r)) [
-      | inl y ↦ absurd (clash a k (not_eq_of a r x) (theirs a k (not_eq_of a r x) has) (mine k (subst (λ d. HasAt (slice_get (slice_set olds r new) d) k) (eq_of b r y) also)))
-      | inr y ↦ parts.own a b k (theirs a k (not_eq_of a r x) has) (theirs b k (not_eq_of b r y) also)
+    | inr x ↦ elim (cases_eq b r) [
+      | inl y ↦ absurd (clash a k x (theirs a k x has) (mine k (subst (λ d. HasAt (slice_get (slice_set olds r new) d) k) y also)))
+      | inr y ↦ parts.own a b k (theirs a k x has) (theirs b k y also)
     ]
   ]
 
   owner : (k : ℕ) → IsSome (m.now k) → (d : ℕ) × HasAt (slice_get (slice_set olds r new) d) k
   owner k some = elim (m.only k some) [
     | inl has ↦ (r, subst (λ q. HasAt q k) (sym (set_same olds r new low)) has)
-    | inr was ↦ let one = parts.all k (subst IsSome was.1 some) in (one.0, subst (λ q. HasAt q k) (sym (set_other olds r one.0 new (not_mine k one.0 was.0 one.1))) one.1)
+    | inr was ↦ let one = parts.all k (subst IsSome was.1 some) in
+        (one.0, subst (λ q. HasAt q k) (sym (set_other olds r one.0 new (λ e. was.0 (subst (λ q. HasAt q k) (ap (slice_get olds) e ∙ found) one.1)))) one.1)
   ]
-    where
-      not_mine : (k d : ℕ) → (Has old.conn k → ⊥) → HasAt (slice_get olds d) k → ¬ (d ≡ r)
-      not_mine k d none has e = none (subst (λ q. HasAt q k) found (subst (λ d. HasAt (slice_get olds d) k) e has))
 
   pub moved : ShowsParts (record w { sides = on_side r f w.sides }) m.now later (slice_set olds r new)
   moved = record { serves = m.shows.serves; each = each; own = own_now; all = owner }
@@ -200,8 +187,7 @@ or_pairs : (a b x y : Bool) → ((a || b) || ((x || y) || false)) ≡ ((x || a) 
 or_pairs true b true y = refl
 or_pairs true b false y = refl
 or_pairs false true true y = refl
-or_pairs false true false true = refl
-or_pairs false true false false = refl
+or_pairs false true false y = sym (or-true y)
 or_pairs false false true y = refl
 or_pairs false false false true = refl
 or_pairs false false false false = refl
@@ -219,46 +205,21 @@ pub record LostFirst (olds news : List values.Side) (k : ℕ) : Type 0 where
   pub lost : (r : ℕ) → r < k → LostAt (slice_get olds r) (slice_get news r)
   pub left : (r : ℕ) → k ≤ r → slice_get news r ≡ slice_get olds r
 
-pub lost_none : (olds : List values.Side) → LostFirst olds olds 0
-lost_none olds = record { len = refl; lost = λ r low. absurd (omega (arith, low)); left = λ r h. refl }
-
-pub set_length : {X : Type 0} (xs : List X) (c : ℕ) (x : X) → length (slice_set xs c x) ≡ length xs
-set_length [] c x = refl
-set_length (y ∷ xs) zero x = refl
-set_length (y ∷ xs) (suc c) x = ap suc (set_length xs c x)
-
-last_below : (r k : ℕ) → r < k + 1 → nat_lt r k ≡ false → r ≡ k
-last_below r k below h = grind (arith, nat_tests)
-
 pub lost_more : (olds news : List values.Side) (k : ℕ) (old new : values.Side) → LostFirst olds news k → k < length news → slice_get news k ≡ Some old → Lost old new → LostFirst olds (slice_set news k new) (k + 1)
 lost_more olds news k old new h low found lost = record {
-  len = set_length news k new ∙ h.len;
-  lost = λ r below. elim (cases_Bool (r == k)) [
-    | inl same ↦ subst (λ d. LostAt (slice_get olds d) (slice_get (slice_set news k new) d)) (sym (eq_of r k same)) here
-    | inr other ↦ subst (λ q. LostAt (slice_get olds r) q) (sym (set_other news k r new (not_eq_of r k other))) (h.lost r (let differs = not_eq_of r k other in below_k r k below differs))
+  len = length-set news k new ∙ h.len;
+  lost = λ r below. elim (cases_eq r k) [
+    | inl same ↦ subst (λ d. LostAt (slice_get olds d) (slice_get (slice_set news k new) d)) (sym same) (subst₂ LostAt (sym found ∙ h.left k (omega arith)) (sym (set_same news k new low)) lost)
+    | inr other ↦ subst (λ q. LostAt (slice_get olds r) q) (sym (set_other news k r new other)) (h.lost r (omega (arith, below, other)))
   ];
   left = λ r above. set_other news k r new (λ e. absurd (omega (arith, above, e))) ∙ h.left r (omega (arith, above));
 }
-  where
-    here : LostAt (slice_get olds k) (slice_get (slice_set news k new) k)
-    here = subst (λ q. LostAt (slice_get olds k) q) (sym (set_same news k new low)) (subst (λ q. LostAt q (Some new)) (sym (sym (h.left k (omega arith)) ∙ found)) lost)
-
-    below_k : (r k : ℕ) → r < k + 1 → ¬ (r ≡ k) → r < k
-    below_k r k below differs = elim (cases_Bool (nat_lt r k)) [ inl yes_it ↦ lt_of r k yes_it | inr not_it ↦ absurd (differs (last_below r k below not_it)) ]
 
 pub lost_all : (olds news : List values.Side) (k : ℕ) → LostFirst olds news k → length news ≤ k → (r : ℕ) → LostAt (slice_get olds r) (slice_get news r)
-lost_all olds news k h all r = elim (cases_Bool (nat_lt r k)) [ inl low ↦ h.lost r (lt_of r k low) | inr high ↦ behind (above r k high) ]
-  where
-    above : (r k : ℕ) → nat_lt r k ≡ false → k ≤ r
-    above r k h = grind (arith, nat_tests)
-
-    none : {X : Type 0} (xs : List X) (r : ℕ) → length xs ≤ r → slice_get xs r ≡ None
-    none [] r h = refl
-    none (x ∷ xs) zero h = absurd (omega (arith, h))
-    none (x ∷ xs) (suc r) h = none xs r (omega (arith, h))
-
-    behind : k ≤ r → LostAt (slice_get olds r) (slice_get news r)
-    behind h2 = subst (λ q. LostAt q (slice_get news r)) (sym (none olds r (omega (arith, all, h2, h.len)))) (subst (λ q. LostAt None q) (sym (none news r (omega (arith, all, h2)))) tt)
+lost_all olds news k h all r = elim (cases_lt r k) [
+  | inl low ↦ h.lost r low
+  | inr high ↦ subst₂ LostAt (sym (slice_get_past olds r (omega (arith, all, high, h.len)))) (sym (slice_get_past news r (omega (arith, all, high)))) tt
+]
 
 -- One side more is cleaned up.
 pub record SettledFirst (w : World) (k : ℕ) (cache : Cache Steps) (sides : List values.Side) : Type 0 where
@@ -281,16 +242,15 @@ settled_all w k cache sides h all = record {
 }
 
 -- The history leads on.
-pub steps_on : (made : Made) (history : List Entry) (v n : code.World) (event : Event) (result : Result ⊤ WorldFault) → (l : LeadsTo made history v) → StepsSo l.world event result n → StepsTo made history event result n
-steps_on made history v n event result l s = record {
-  outcome = s.outcome;
-  answers = s.answers;
-  leads = record {
-    world = after event s.outcome l.world;
-    leads = leads_on made history l.world (record { event = event; outcome = s.outcome }) (after event s.outcome l.world) l.leads (s.fits, s.may, refl);
-    shows = s.shows;
-  };
-}
-
-pub reached_by : (made : Made) (history : List Entry) (v : code.World) → (l : LeadsTo made history v) → Reached l.world
-reached_by made history v l = record { made = made; history = history; leads = l.leads }
+pub steps_on : (made : Made) (history : List Entry) (v n : code.World) (told event : Event) (result : Result ⊤ WorldFault) → LeadsTo made history v → told ≡ event → ((w : World) → Reached w → ShowsWorld w v → StepsSo w event result n) → StepsTo made history told result n
+steps_on made history v n told event result l is on =
+    let s = on l.world (record { made = made; history = history; leads = l.leads }) l.shows in
+    subst (λ e. StepsTo made history e result n) (sym is) (record {
+      outcome = s.outcome;
+      answers = s.answers;
+      leads = record {
+        world = after event s.outcome l.world;
+        leads = leads_on made history l.world (record { event = event; outcome = s.outcome }) (after event s.outcome l.world) l.leads (s.fits, s.may, refl);
+        shows = s.shows;
+      };
+    })

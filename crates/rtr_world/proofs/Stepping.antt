@@ -1,6 +1,8 @@
 -- One event at a router.
-use Rattle.std.specs.Prelude.{◌≡◌, ℕ, ◌<◌, ◌≤◌, ◌==◌, Bool, true, false, not, ◌||◌, nat_lt, List, [], length, Option, Some, None, is_some, IfSome, Result, Ok, Err, is_ok, slice_get, slice_set, if◌then◌else◌, refl, ⊤}
+use Rattle.std.specs.Prelude.{◌≡◌, ℕ, ◌<◌, ◌≤◌, ◌==◌, true, false, not, ◌||◌, nat_lt, List, [], length, Option, Some, None, is_some, IfSome, Result, Ok, Err, slice_get, slice_set, if◌then◌else◌, refl, ⊤}
 use Rattle.std.proofs.Common.{sym, ap, ◌∙◌, subst, arith}
+use Rattle.std.proofs.lemmas.Option.{IfSome_then}
+use Rattle.std.proofs.Math.Bool.{or-true}
 use Rattle.std.proofs.lemmas.Bool.Decides.{nat_tests}
 use Rattle.std.specs.List.{list_any}
 use Rattle.std.specs.declared.alloc.AllocError.{AllocError}
@@ -9,9 +11,8 @@ use Rattle.rtr_ends.specs.Cache.{Conn}
 use Rattle.rtr_ends.specs.RouterLink.{Link, Closed, is_closed}
 use Rattle.rtr_world.specs.History.{Done, Memory, NoSuchRouter, MayEnd, IsWanted, Reached, after, may_refuse_at, most_moved, most_of, moved_at, readings_at, refusal, side_at}
 use Rattle.rtr_world.specs.Reached.{ShowsParts, ShowsRest, ShowsWorld, StepsOnce}
-use Rattle.rtr_world.specs.SideShown.{Happens, MayFail, Moves}
+use Rattle.rtr_world.specs.SideShown.{Happens, MayFail, Moves, ShowsBoth}
 use Rattle.rtr_world.specs.World.{World, Side, SideEvent, Connect, RouterSends, CacheSends, On, goes_through, instances, is_refused, on_side, settle, settled, side_refused, side_step}
-use Rattle.rtr_world.specs.declared.event.WorldFault.{WorldFault}
 use Rattle.rtr_world.specs.declared.event.WorldFault.TheVariants as faults
 use Rattle.rtr_world.specs.declared.side.Side as values
 use Rattle.rtr_world.specs.declared.world.World as code
@@ -19,11 +20,11 @@ use Rattle.rtr_world.proofs.Invariant.{Good, GoodLink}
 use Rattle.rtr_world.proofs.Rests.{history_rests}
 use Rattle.rtr_world.proofs.Room.{reached_known}
 use Rattle.rtr_world.proofs.Versions.{Seen}
-use Rattle.rtr_world.proofs.Showing.{moved, settled_on, shown_length}
+use Rattle.rtr_world.proofs.Showing.{FoundSide, found_side, moved, settled_on, shown_length}
 use Rattle.prefixes.proofs.Basics.{lt_true}
 
 -- what the calls on sides leave alone
-pub same_rest : (w : World) (sides : List Side) (v n : code.World) → ShowsRest w v → n ≡ record v { cache = n.cache; sides = n.sides } → ShowsRest (record w { sides = sides }) n
+same_rest : (w : World) (sides : List Side) (v n : code.World) → ShowsRest w v → n ≡ record v { cache = n.cache; sides = n.sides } → ShowsRest (record w { sides = sides }) n
 same_rest w sides v n h same = record {
   keep = ap (λ x. x.keep) same ∙ h.keep;
   used = λ session session0. ap (λ x. list_any (λ y. y.v1 == session || y.v0 == session0) x.sessions.items) same ∙ h.used session session0;
@@ -40,16 +41,13 @@ pub after_memory : (w : World) (r : ℕ) (e : SideEvent) (bytes : ℕ) (wanting 
 unfolding settled is_refused
 after_memory w r e bytes wanting was = ap (λ sides. record w { sides = sides }) (settled_on (instances w) r (side_refused w e bytes wanting) w.sides (history_rests was.made was.history w was.leads))
 
-not_less : (r n : ℕ) → n ≤ r → nat_lt r n ≡ false
-not_less r n h = grind (arith, nat_tests)
-
 pub found_router : (w : World) (r : ℕ) (e : SideEvent) → r < length w.sides → refusal w (On r e) ≡ None
 unfolding refusal
 found_router w r e low = ap (λ b. if b then None else Some NoSuchRouter) (lt_true r (length w.sides) low)
 
 no_router : (w : World) (r : ℕ) (e : SideEvent) → length w.sides ≤ r → refusal w (On r e) ≡ Some NoSuchRouter
 unfolding refusal
-no_router w r e high = ap (λ b. if b then None else Some NoSuchRouter) (not_less r (length w.sides) high)
+no_router w r e high = ap (λ b. if b then None else Some NoSuchRouter) (let e : nat_lt r (length w.sides) ≡ false = grind (arith, nat_tests) in e)
 
 pub no_such : (w : World) (v : code.World) (r : ℕ) (e : SideEvent) → ShowsWorld w v → length v.sides.items ≤ r → StepsOnce w (On r e) (Err faults.NoSuchRouter) v
 no_such w v r e h high = record {
@@ -69,47 +67,54 @@ open_conn : (o : Option Conn) → ¬ (o ≡ None) → is_some o ≡ true
 open_conn None h = absurd (h refl)
 open_conn (Some o) h = refl
 
-or_true : (b : Bool) → (b || true) ≡ true
-or_true true = refl
-or_true false = refl
-
 may_fail : (w : World) (s : Side) (e : SideEvent) → Good w.keep w.past w.present s → MayFail e s → may_refuse_at e (Some s) ≡ true
 may_fail w s Connect g h = refl
 may_fail w s (RouterSends most) g h = ap (λ b. not b || is_some s.conn) (links_out s (instances w) w.present g.seen s.router.link g.router.link h)
-may_fail w s (CacheSends most) g h = ap (λ b. not (is_closed s.router.link) || b) (open_conn s.conn h) ∙ or_true (not (is_closed s.router.link))
+may_fail w s (CacheSends most) g h = ap (λ b. not (is_closed s.router.link) || b) (open_conn s.conn h) ∙ or-true (not (is_closed s.router.link))
 may_fail w s _ g h = absurd h
 
-module _ (w : World) (v n : code.World) (r : ℕ) (e : SideEvent) (s : Side) (old new : values.Side) (was : Reached w) (h : ShowsWorld w v) (low : r < length v.sides.items) (found : slice_get v.sides.items r ≡ Some old) (is : side_at r w.sides ≡ Some s)
+module _ (w : World) (v n : code.World) (r : ℕ) (e : SideEvent) (old new : values.Side) (was : Reached w) (h : ShowsWorld w v) (low : r < length v.sides.items) (found : slice_get v.sides.items r ≡ Some old)
     (same : n ≡ record v { cache = n.cache; sides = n.sides }) (items : n.sides.items ≡ slice_set v.sides.items r new) (router : ℕ) (router_is : r ≡ router) where
   in_range : r < length w.sides
   in_range = let len = shown_length w h.at v.cache v.sides.items h.parts in omega (arith, len, low)
 
-  shown_now : (f : Side → Side) → Moves w h.at old.conn (f s) n.cache new → ShowsWorld (record w { sides = on_side r f w.sides }) n
+  at_side : FoundSide w h.at (side_at r w.sides) old
+  at_side = found_side w h.at _ _ old found (h.parts.each r)
+
+  shown_now : (f : Side → Side) → Moves w h.at old.conn (f at_side.side) n.cache new → ShowsWorld (record w { sides = on_side r f w.sides }) n
   shown_now f m = record {
     rest = same_rest w (on_side r f w.sides) v n h.rest same;
     at = m.now;
-    parts = subst (λ l. ShowsParts (record w { sides = on_side r f w.sides }) m.now n.cache l) (sym items) (moved w h.at v.cache n.cache v.sides.items r s f old new h.parts low found is m);
+    parts = subst (λ l. ShowsParts (record w { sides = on_side r f w.sides }) m.now n.cache l) (sym items) (moved w h.at v.cache n.cache v.sides.items r at_side.side f old new h.parts low found at_side.is m);
   }
 
-  wanted : (wanting : Option ℕ) → IfSome wanting (λ unit. slice_get (readings_at w e (most_of e) (Some s)) unit ≡ Some true) → IsWanted w (On r e) (most_moved (On r e)) wanting
-  wanted None h = tt
-  wanted (Some unit) h = ap (λ x. slice_get (readings_at w e (most_of e) x) unit) is ∙ h
+  wanted : (wanting : Option ℕ) → IfSome wanting (λ unit. slice_get (readings_at w e (most_of e) (Some at_side.side)) unit ≡ Some true) → IsWanted w (On r e) (most_moved (On r e)) wanting
+  wanted wanting h = IfSome_then wanting h (λ unit k. ap (λ x. slice_get (readings_at w e (most_of e) x) unit) at_side.is ∙ k)
 
-  pub done : (result : Result ⊤ WorldFault) → result ≡ Ok tt → Happens w h.at e s (λ t. Moves w h.at old.conn t n.cache new) (Ok tt) → StepsOnce w (On router e) result n
-  done result ok p = subst (λ k. StepsOnce w (On k e) result n) router_is (record {
-    outcome = Done p.wanting;
-    fits = tt;
-    may = subst (λ o. MayEnd o w (On r e) (Done p.wanting)) (sym (found_router w r e in_range)) (wanted p.wanting p.wanted);
-    answers = ap is_ok ok;
-    shows = subst (λ x. ShowsWorld x n) (sym (after_done w r e p.wanting was)) (shown_now (λ s. settle (instances w) (side_step w e p.wanting s)) p.now);
-  })
+  -- what the call on a side promises
+  module _ (told : Result ⊤ AllocError) (on : (s : Side) → w.present.start ≡ v.start → ShowsBoth w h.at s v.cache old → Happens w h.at e s (λ t. Moves w h.at old.conn t n.cache new) told) where
+    happens : Happens w h.at e at_side.side (λ t. Moves w h.at old.conn t n.cache new) told
+    happens = on at_side.side h.rest.start (record { serves = h.parts.serves; side = at_side.shows })
 
-  pub refused : (result : Result ⊤ WorldFault) (error : AllocError) → result ≡ Err faults.Memory → Happens w h.at e s (λ t. Moves w h.at old.conn t n.cache new) (Err error) → StepsOnce w (On router e) result n
-  refused result error is_err p = subst (λ k. StepsOnce w (On k e) result n) router_is (record {
-    outcome = Memory p.bytes None;
-    fits = tt;
-    may = subst (λ o. MayEnd o w (On r e) (Memory p.bytes None)) (sym (found_router w r e in_range))
-        (ap (may_refuse_at e) is ∙ may_fail w s e (reached_known w r s was is).0 p.may, tt, subst (λ o. p.bytes ≤ moved_at w e None o) (sym is) p.fewer);
-    answers = is_err;
-    shows = subst (λ x. ShowsWorld x n) (sym (after_memory w r e p.bytes None was)) (shown_now (λ s. settle (instances w) (side_refused w e p.bytes None s)) p.now);
-  })
+    pub done : told ≡ Ok tt → StepsOnce w (On router e) (Ok tt) n
+    done ok =
+        let p = subst (λ x. Happens w h.at e at_side.side (λ t. Moves w h.at old.conn t n.cache new) x) ok happens in
+        subst (λ k. StepsOnce w (On k e) (Ok tt) n) router_is (record {
+          outcome = Done p.wanting;
+          fits = tt;
+          may = subst (λ o. MayEnd o w (On r e) (Done p.wanting)) (sym (found_router w r e in_range)) (wanted p.wanting p.wanted);
+          answers = refl;
+          shows = subst (λ x. ShowsWorld x n) (sym (after_done w r e p.wanting was)) (shown_now (λ s. settle (instances w) (side_step w e p.wanting s)) p.now);
+        })
+
+    pub refused : (error : AllocError) → told ≡ Err error → StepsOnce w (On router e) (Err faults.Memory) n
+    refused error failed =
+        let p = subst (λ x. Happens w h.at e at_side.side (λ t. Moves w h.at old.conn t n.cache new) x) failed happens in
+        subst (λ k. StepsOnce w (On k e) (Err faults.Memory) n) router_is (record {
+          outcome = Memory p.bytes None;
+          fits = tt;
+          may = subst (λ o. MayEnd o w (On r e) (Memory p.bytes None)) (sym (found_router w r e in_range))
+              (ap (may_refuse_at e) at_side.is ∙ may_fail w at_side.side e (reached_known w r at_side.side was at_side.is).0 p.may, tt, subst (λ o. p.bytes ≤ moved_at w e None o) (sym at_side.is) p.fewer);
+          answers = refl;
+          shows = subst (λ x. ShowsWorld x n) (sym (after_memory w r e p.bytes None was)) (shown_now (λ s. settle (instances w) (side_refused w e p.bytes None s)) p.now);
+        })

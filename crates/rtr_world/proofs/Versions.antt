@@ -2,6 +2,7 @@
 use Rattle.std.specs.Prelude.{◌≡◌, ◌⊎◌, ℕ, ◌+◌, ◌<◌, ◌^◌, Bool, true, false, ◌==◌, nat_lt, List, [], ◌∷◌, ◌++◌, length, take, find, Option, Some, None, option_and_then, if◌then◌else◌, refl, ⊤, ◌≤◌}
 use Rattle.std.proofs.Common.{sym, ap, ◌∙◌, subst, arith, inl, inr}
 use Rattle.std.specs.Option.{option_map}
+use Rattle.std.proofs.lemmas.Bool.{cases_Bool}
 use Rattle.std.proofs.lemmas.Bool.Decides.{nat_tests}
 use Rattle.std.proofs.lemmas.List.{length-append}
 use Rattle.vrps.specs.Instance.{Instance, IsInstance, NumberedSet, versions, versions_from, with_serial, named}
@@ -14,7 +15,7 @@ use Rattle.rtr_ends.specs.Answer.{session_in}
 use Rattle.rtr_ends.specs.Transcript.{Committed, is_same, of_version}
 use Rattle.rtr_world.specs.VersionPlaces.{position_of}
 use Rattle.rtr_world.specs.Claims.{IsNamed}
-use Rattle.prefixes.proofs.Basics.{eq_self, eq_of}
+use Rattle.prefixes.proofs.Basics.{eq_self, eq_of, false_if_never}
 
 pub lt_of : (a b : ℕ) → nat_lt a b ≡ true → a < b
 lt_of a b h = grind (arith, nat_tests)
@@ -67,16 +68,15 @@ HeldAt all pv (Some version) table = Stands all pv version.session version.seria
 
 pub held_at : (all : List Instance) (pv : Version) (version : Option Committed) (table : VrpSet) → TableAt all version table → HeldAt all pv (of_version pv version) table
 held_at all pv None table t = tt
-held_at all pv (Some version) table t = by_same (is_same pv version.version) refl
+held_at all pv (Some version) table t = elim (cases_Bool (is_same pv version.version)) [
+  | inl e ↦ rw e (subst (λ v. Stands all v version.session version.serial table) (sym (same_of pv version.version e)) t)
+  | inr e ↦ rw e tt
+]
   where
     same_of : (a b : Version) → is_same a b ≡ true → a ≡ b
     same_of V0 V0 e = refl
     same_of V1 V1 e = refl
     same_of _ _ e = absurd (let h : false ≡ true = e in cc)
-
-    by_same : (b : Bool) → is_same pv version.version ≡ b → HeldAt all pv (if b then Some version else None) table
-    by_same true e = subst (λ v. Stands all v version.session version.serial table) (sym (same_of pv version.version e)) t
-    by_same false e = tt
 
 pub table_named : (all : List Instance) (version : Option Committed) (table : VrpSet) → TableAt all version table → IsNamed all version table
 table_named all None table h = h
@@ -106,11 +106,8 @@ kept_at all i p kept pv session serial set a e =
 pub has_sets : (all : List Instance) (i : Instance) (p : Present all i) (pv : Version) (session serial : ℕ) (set : VrpSet) → Stands all pv session serial set → session ≡ session_in pv i → i.sets ≡ [] → ⊥
 has_sets all i p pv session serial set a e none =
     let same = of_present all i p pv session serial set a e in
-    no_sets a.newer (sym none ∙ ap (λ x. x.sets) (sym same) ∙ a.sets)
-  where
-    no_sets : (newer : List VrpSet) → [] ≡ newer ++ set ∷ a.older → ⊥
-    no_sets [] h = cc
-    no_sets (x ∷ newer) h = cc
+    let e : [] ≡ a.newer ++ set ∷ a.older = sym none ∙ ap (λ x. x.sets) (sym same) ∙ a.sets in
+    absurd (omega (arith, ap length e, length-append a.newer (set ∷ a.older)))
 
 -- the place of a version
 pub position_at : (all : List Instance) (pv : Version) (session serial : ℕ) (set : VrpSet) (a : Stands all pv session serial set) → position_of serial (versions a.i) ≡ Some (length a.older)
@@ -121,9 +118,6 @@ position_at all pv session serial set a =
     shorter [] = refl
     shorter (x ∷ older) = let h = shorter older in omega (arith, h)
 
-    differ : (x y : ℕ) → (x ≡ y → ⊥) → (x == y) ≡ false
-    differ x y h = grind (arith, nat_tests, h)
-
     found : (newer : List VrpSet) → length newer < 2 ^ 31 → position_of (serial_at a.i.start (length a.older)) (versions_from a.i.start (newer ++ set ∷ a.older)) ≡ Some (length a.older)
     found [] few =
         ap (λ b. if b then Some (length (versions_from a.i.start a.older)) else position_of (serial_at a.i.start (length a.older)) (versions_from a.i.start a.older)) (eq_self (serial_at a.i.start (length a.older)))
@@ -131,66 +125,41 @@ position_at all pv session serial set a =
     found (x ∷ newer) few =
         let size = length-append newer (set ∷ a.older) in
         let other : (serial_at a.i.start (length (newer ++ set ∷ a.older)) == serial_at a.i.start (length a.older)) ≡ false =
-        differ _ _ (λ e. absurd (omega (arith, e, size, few))) in
+        false_if_never _ (λ e. absurd (omega (arith, eq_of _ _ e, size, few))) in
         ap (λ b. if b then Some (length (versions_from a.i.start (newer ++ set ∷ a.older))) else position_of (serial_at a.i.start (length a.older)) (versions_from a.i.start (newer ++ set ∷ a.older))) other
         ∙ found newer (omega (arith, few))
+
+-- It stands wherever its instance is found.
+stands_where : (all more : List Instance) (pv : Version) (session serial : ℕ) (set : VrpSet) (a : Stands all pv session serial set) → find_session pv session more ≡ Some a.i → (s : Stands more pv session serial set) × (s.older ≡ a.older)
+stands_where all more pv session serial set a found = (record { i = a.i; found = found; newer = a.newer; older = a.older; sets = a.sets; serial_is = a.serial_is; young = a.young; low = a.low }, refl)
 
 -- A version that has room keeps its name and its place when another is published.
 pub stands_published : (past : List Instance) (i : Instance) (y : VrpSet) (pv : Version) (session serial : ℕ) (set : VrpSet) (a : Stands (i ∷ past) pv session serial set) → (session_in pv i ≡ session → length a.newer + 1 < 2 ^ 31)
     → (s : Stands (record i { sets = y ∷ i.sets } ∷ past) pv session serial set) × (s.older ≡ a.older)
-stands_published past i y pv session serial set a room = by_session (session_in pv i == session) refl a.found
-  where
-    by_session : (b : Bool) → (session_in pv i == session) ≡ b → (if b then Some i else find_session pv session past) ≡ Some a.i → (s : Stands (record i { sets = y ∷ i.sets } ∷ past) pv session serial set) × (s.older ≡ a.older)
-    by_session true e f =
-        let same : i ≡ a.i = some_is i a.i f in (
-          record {
-            i = record i { sets = y ∷ i.sets };
-            found = ap (λ b. if b then Some (record i { sets = y ∷ i.sets }) else find_session pv session past) (ap (λ n. n == session) (same_session_in pv i (y ∷ i.sets)) ∙ e);
-            newer = y ∷ a.newer;
-            older = a.older;
-            sets = ap (λ x. y ∷ x.sets) same ∙ ap (λ x. y ∷ x) a.sets;
-            serial_is = a.serial_is ∙ ap (λ x. serial_at x.start (length a.older)) (sym same);
-            young = (let few : length a.newer + 1 < 2 ^ 31 = room (eq_of (session_in pv i) session e) in omega (arith, few));
-            low = a.low;
-          },
-          refl,
-        )
-    by_session false e f = (
-      record {
-        i = a.i;
-        found = ap (λ b. if b then Some (record i { sets = y ∷ i.sets }) else find_session pv session past) (ap (λ n. n == session) (same_session_in pv i (y ∷ i.sets)) ∙ e) ∙ f;
-        newer = a.newer;
-        older = a.older;
-        sets = a.sets;
-        serial_is = a.serial_is;
-        young = a.young;
-        low = a.low;
-      },
-      refl,
-    )
+stands_published past i y pv session serial set a room = elim (cases_Bool (session_in pv i == session)) [
+  | inl e ↦ (let same : i ≡ a.i = some_is i a.i (rw e at a.found) in (
+    record {
+      i = record i { sets = y ∷ i.sets };
+      found = ap (λ b. if b then Some (record i { sets = y ∷ i.sets }) else find_session pv session past) (ap (λ n. n == session) (same_session_in pv i (y ∷ i.sets)) ∙ e);
+      newer = y ∷ a.newer;
+      older = a.older;
+      sets = ap (λ x. y ∷ x.sets) same ∙ ap (λ x. y ∷ x) a.sets;
+      serial_is = a.serial_is ∙ ap (λ x. serial_at x.start (length a.older)) (sym same);
+      young = (let few : length a.newer + 1 < 2 ^ 31 = room (eq_of (session_in pv i) session e) in omega (arith, few));
+      low = a.low;
+    },
+    refl,
+  ))
+  | inr e ↦ stands_where (i ∷ past) (record i { sets = y ∷ i.sets } ∷ past) pv session serial set a
+      (ap (λ b. if b then Some (record i { sets = y ∷ i.sets }) else find_session pv session past) (ap (λ n. n == session) (same_session_in pv i (y ∷ i.sets)) ∙ e) ∙ (rw e at a.found))
+]
 
 -- An instance of a new session hides none.
 pub stands_restarted : (all : List Instance) (i : Instance) (pv : Version) (session serial : ℕ) (set : VrpSet) → find_session pv (session_in pv i) all ≡ None → (a : Stands all pv session serial set) → (s : Stands (i ∷ all) pv session serial set) × (s.older ≡ a.older)
-stands_restarted all i pv session serial set new a = (
-  record {
-    i = a.i;
-    found = by_session (session_in pv i == session) refl;
-    newer = a.newer;
-    older = a.older;
-    sets = a.sets;
-    serial_is = a.serial_is;
-    young = a.young;
-    low = a.low;
-  },
-  refl,
-)
-  where
-    none_some : (o : Option Instance) → o ≡ None → o ≡ Some a.i → ⊥
-    none_some o p q = let h : ◌≡◌ {A = Option Instance} None (Some a.i) = sym p ∙ q in cc
-
-    by_session : (b : Bool) → (session_in pv i == session) ≡ b → find_session pv session (i ∷ all) ≡ Some a.i
-    by_session true e = absurd (none_some (find_session pv session all) (subst (λ s. find_session pv s all ≡ None) (eq_of (session_in pv i) session e) new) a.found)
-    by_session false e = ap (λ b. if b then Some i else find_session pv session all) e ∙ a.found
+stands_restarted all i pv session serial set new a = stands_where all (i ∷ all) pv session serial set a (elim (cases_Bool (session_in pv i == session)) [
+  | inl here ↦ absurd (let h : ◌≡◌ {A = Option Instance} None (Some a.i) = sym (subst (λ s. find_session pv s all ≡ None) (eq_of (session_in pv i) session here) new) ∙ a.found in cc)
+  | inr other ↦ rw other a.found
+])
 
 -- What an invariant knows of a connection.
 -- The instance as it was when the connection was made, how many versions the cache keeps, the version of the connection, and the session in

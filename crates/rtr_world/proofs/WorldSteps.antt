@@ -35,7 +35,7 @@ use Rattle.rtr_world.specs.OneAnswer.{units_in, without_notifies}
 use Rattle.rtr_world.specs.VersionPlaces.{NeverBack, position_of}
 use Rattle.rtr_world.specs.World.{Side, SideEvent, World, instances, Event, Publish, Restart, On, cache_gone, on_side, goes_through, settled, is_refused, side_step, side_refused, settle, new_world, cache_gets, new_side}
 use Rattle.rtr_world.proofs.EventSteps.{step_good, refused_good, settle_good, gets_now}
-use Rattle.rtr_world.proofs.EventCalls.{leads_keep, KeptByCalls, world_keeps}
+use Rattle.rtr_world.proofs.EventCalls.{leads_keep, KeptByCalls, each_after, if_comes}
 use Rattle.rtr_world.proofs.Invariant.{WasCache, OfAnswer, OneReply, Replies, no_data, not_kept, other_session, no_memory, response, Shape, IfOpen, Linked, Open, Flow, Good, GoodRouter, if_open}
 use Rattle.rtr_world.proofs.Places.{IfSeen, IsHome, ordered_published, ordered_restarted}
 use Rattle.rtr_world.proofs.SideLaws.{all_new, all_on_side, all_map, all_both, all_weaker}
@@ -427,7 +427,7 @@ module _ (P : Side → Type 0) (k : KeptAlways P) where
   known w g t h = all_both (Known w) P w.sides (known_sides w g t) h
 
   after_keeps : (event : Event) (outcome : Outcome) (w : World) → GoodWorld w → AllTell w → AllP w → AllP (after event outcome w)
-  after_keeps event outcome w g t h = world_keeps P (λ w s wanting. Known w s) k.keeps event outcome w (KnownP w) (λ s x. x.1) (λ s wanting x. x.0) (known w g t h)
+  after_keeps event outcome w g t h = each_after (λ w s wanting. Known w s) P k.keeps event outcome w (KnownP w) (λ s x. x.1) (λ s x. if_comes (λ s wanting. Known w s) event outcome s (λ wanting. x.0)) (known w g t h)
 
   pub history_keeps : (made : Made) (history : List Entry) (w : World) → Leads made history w → AllByRecursion P w.sides
   history_keeps made history w leads = (known_leads AllP (λ event outcome x fits may g t h. after_keeps event outcome x g t h) made history w leads (all_new P k.new made.routers)).2

@@ -1,11 +1,11 @@
 use Rattle.std.specs.Prelude.{◌<◌, length}
 use Rattle.std.proofs.Common.{arith, refl}
 use Rattle.std.proofs.lemmas.Option.{slice_get_read}
-use Rattle.rtr_world.proofs.Showing.{lost_all, lost_more, lost_none}
+use Rattle.rtr_world.proofs.Showing.{lost_all, lost_more}
 use Rattle.rtr_world.proofs.world.lose_caches.Goals as goal
 
 pub loop-number-init : goal.loop-number-init
-loop-number-init c = lost_none c.args.sides.now.items
+loop-number-init c = record { len = refl; lost = λ r low. absurd (omega (arith, low)); left = λ r h. refl }
 
 pub loop-number-preserved : goal.loop-number-preserved
 loop-number-preserved c =

@@ -1,12 +1,12 @@
 use Rattle.std.specs.Prelude.{length, slice_get}
 use Rattle.std.proofs.Common.{◌∙◌, ap, arith, refl, sym}
 use Rattle.std.proofs.lemmas.Option.{slice_get_read}
-use Rattle.rtr_world.proofs.Room.{all_first, is_far, none_first, one_more}
+use Rattle.rtr_world.proofs.Room.{all_first, is_far, one_more}
 use Rattle.rtr_world.proofs.Showing.{found_side, shown_length}
 use Rattle.rtr_world.proofs.world.World.has_room.Goals as goal
 
 pub loop-side-init : goal.loop-side-init
-loop-side-init c = λ w reached h. none_first w
+loop-side-init c = λ w reached h r s low is. absurd (omega (arith, low))
 
 pub loop-side-preserved : goal.loop-side-preserved
 loop-side-preserved c = λ w reached h.

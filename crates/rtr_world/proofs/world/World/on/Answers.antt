@@ -1,10 +1,8 @@
-use Rattle.std.specs.Prelude.{◌<◌, length, Ok, Err}
-use Rattle.std.proofs.Common.{◌∙◌, ap, arith, refl, subst}
+use Rattle.std.specs.Prelude.{◌<◌, length}
+use Rattle.std.proofs.Common.{arith, refl}
 use Rattle.std.proofs.lemmas.Option.{slice_get_read}
 use Rattle.std.proofs.lemmas.Result.{err_from_is_err_and}
 use Rattle.rtr_world.specs.Events.{side_event_of}
-use Rattle.rtr_world.specs.SideShown.{Happens, Moves}
-use Rattle.rtr_world.proofs.Showing.{found_side}
 use Rattle.rtr_world.proofs.Stepping.{done, no_such, refused}
 use Rattle.rtr_world.proofs.world.World.on.Goals as goal
 
@@ -16,16 +14,10 @@ returns-in_err-happen c = λ w reached h.
     let low : c.from-number.result < length c.args.self.now.sides.items = omega (arith, c.if-number-len.false, c.len.ensures, c.args.self.now.sides.ok.0) in
     let read = slice_get_read c.args.self.now.sides.items _ c.from-number.result c.index_mut.result.now refl low c.index_mut.ensures.value in
     let p = err_from_is_err_and c.from_residual.result c.from_residual.ensures.1 in
-    let there = found_side w h.at _ _ c.index_mut.result.now read (h.parts.each c.from-number.result) in
-    let happens = c.happen.ensures w h.at there.side h.rest.start (record { serves = h.parts.serves; side = there.shows }) in
-    refused w c.args.self.now _ c.from-number.result (side_event_of c.args.event) there.side c.index_mut.result.now c.happen.new.self reached h low read there.is refl refl c.args.router c.from-number.ensures c.from_residual.result _ (p.1 ∙ ap (λ x. Err x) p.2)
-    (subst (λ r. Happens w h.at (side_event_of c.args.event) there.side (λ t. Moves w h.at c.index_mut.result.now.conn t c.happen.new.cache c.happen.new.self) r) c.in_err-happen.was happens)
+    rw (p.1, p.2) (refused w c.args.self.now _ c.from-number.result (side_event_of c.args.event) c.index_mut.result.now c.happen.new.self reached h low read refl refl c.args.router c.from-number.ensures c.happen.result (c.happen.ensures w h.at) _ c.in_err-happen.was)
 
 pub returns : goal.returns
 returns c = λ w reached h.
     let low : c.from-number.result < length c.args.self.now.sides.items = omega (arith, c.if-number-len.false, c.len.ensures, c.args.self.now.sides.ok.0) in
     let read = slice_get_read c.args.self.now.sides.items _ c.from-number.result c.index_mut.result.now refl low c.index_mut.ensures.value in
-    let there = found_side w h.at _ _ c.index_mut.result.now read (h.parts.each c.from-number.result) in
-    let happens = c.happen.ensures w h.at there.side h.rest.start (record { serves = h.parts.serves; side = there.shows }) in
-    done w c.args.self.now _ c.from-number.result (side_event_of c.args.event) there.side c.index_mut.result.now c.happen.new.self reached h low read there.is refl refl c.args.router c.from-number.ensures (Ok tt) refl
-    (subst (λ r. Happens w h.at (side_event_of c.args.event) there.side (λ t. Moves w h.at c.index_mut.result.now.conn t c.happen.new.cache c.happen.new.self) r) c.in_ok-happen.was happens)
+    done w c.args.self.now _ c.from-number.result (side_event_of c.args.event) c.index_mut.result.now c.happen.new.self reached h low read refl refl c.args.router c.from-number.ensures c.happen.result (c.happen.ensures w h.at) c.in_ok-happen.was

@@ -1,5 +1,4 @@
-use Rattle.std.specs.Prelude.{Err}
-use Rattle.std.proofs.Common.{◌∙◌, ap, refl, subst, sym}
+use Rattle.std.proofs.Common.{◌∙◌, refl, subst, sym}
 use Rattle.std.proofs.lemmas.Result.{err_from_is_err_and}
 use Rattle.vrps.specs.Steps.{HoldsSteps}
 use Rattle.vrps.specs.Stores.{Publishes}
@@ -18,13 +17,13 @@ returns-then-not-has_room c = λ w reached h.
 pub returns-in_err-set : goal.returns-in_err-set
 returns-in_err-set c = λ w reached h.
     let p = err_from_is_err_and c.from_residual.result c.from_residual.ensures.1 in
-    publish_fails w c.args.self.now _ c.args.set.now c.from_residual.result h c.len-size.ensures.set (sym (c.has_room.ensures w reached h) ∙ c.if-not-has_room.false) (p.1 ∙ ap (λ x. Err x) p.2) refl h.parts.serves
+    rw (p.1, p.2) (publish_fails w c.args.self.now _ c.args.set.now h c.len-size.ensures.set (sym (c.has_room.ensures w reached h) ∙ c.if-not-has_room.false) refl h.parts.serves)
 
 pub returns-in_err-_published : goal.returns-in_err-_published
 returns-in_err-_published c = λ w reached h.
     let p = err_from_is_err_and c.from_residual-in_err-_published.result c.from_residual-in_err-_published.ensures.1 in
-    publish_fails w c.args.self.now _ c.args.set.now c.from_residual-in_err-_published.result h c.len-size.ensures.set (sym (c.has_room.ensures w reached h) ∙ c.if-not-has_room.false) (p.1 ∙ ap (λ x. Err x) p.2) refl
-    (subst (λ r. Publishes (λ i cache. ShowsCache HoldsSteps (record (state_of w h.at) { cache = i }) cache) r c.in_ok-set.set w.present c.publish.new.self) c.in_err-_published.was (c.publish.ensures _ h.parts.serves))
+    rw (p.1, p.2) (publish_fails w c.args.self.now _ c.args.set.now h c.len-size.ensures.set (sym (c.has_room.ensures w reached h) ∙ c.if-not-has_room.false) refl
+    (subst (λ r. Publishes (λ i cache. ShowsCache HoldsSteps (record (state_of w h.at) { cache = i }) cache) r c.in_ok-set.set w.present c.publish.new.self) c.in_err-_published.was (c.publish.ensures _ h.parts.serves)))
 
 pub returns : goal.returns
 returns c = λ w reached h.
